@@ -1,0 +1,57 @@
+//! The bench machine of grapheme clusters.
+
+ghost use Rattle.std.specs.Prelude.{◌≡◌, IfOk};
+ghost use Rattle.bench.specs.Clusters.{cluster_machine};
+
+use icu_segmenter::provider::{
+    Acceptance, ClassTable, Lookahead, SegmenterStateMachine, State, Symbol,
+};
+use std::alloc::{AllocError, Global};
+
+/// Carriage return, line feed, and what extends a cluster.
+const SYMBOLS: [(u32, u32, Symbol); 7] = [
+    (0x0A, 0x0A, 3),
+    (0x0D, 0x0D, 2),
+    (0x300, 0x36F, 4),
+    (0xE31, 0xE31, 4),
+    (0xE34, 0xE3A, 4),
+    (0xE47, 0xE4E, 4),
+    (0x200D, 0x200D, 4),
+];
+
+/// Any other character.
+const OTHER: Symbol = 1;
+
+const STATES: [(Acceptance, Option<Lookahead>); 4] = [
+    (Acceptance::Continue, None),
+    (Acceptance::Accept(0), None),
+    (Acceptance::Accept(0), None),
+    (Acceptance::Accept(0), None),
+];
+
+/// A row for each symbol from 0 on, in it what each state leads to.
+const TRANSITIONS: [State; 20] = [
+    255, 255, 255, 255, //
+    1, 255, 255, 255, //
+    2, 255, 255, 255, //
+    3, 255, 3, 255, //
+    1, 1, 255, 255,
+];
+
+/// The bench machine of grapheme clusters: CR LF, or a character with the marks after it.
+/// The only error is want of memory.
+pub fn cluster_machine(alloc: Global) -> Result<SegmenterStateMachine, AllocError>
+    ensures { IfOk result (λ machine. machine ≡ cluster_machine) }
+{
+    let Ok(symbols) = ClassTable::try_from_ranges(Vec::from_slice(alloc, &SYMBOLS)?, OTHER) else {
+        unreachable!()
+    };
+    let states = Vec::from_slice(alloc, &STATES)?;
+    let transitions = Vec::from_slice(alloc, &TRANSITIONS)?;
+    let map = Vec::new(alloc);
+    let Ok(machine) = SegmenterStateMachine::try_from_parts(symbols, states, transitions, 0, 5, map)
+    else {
+        unreachable!()
+    };
+    Ok(machine)
+}

@@ -1,0 +1,7 @@
+//! Data for tests and for the program, written by hand. No claim is made that they agree with UAX #29.
+#![tactic(auto)]
+
+pub mod clusters;
+pub mod devices;
+#[cfg(test)]
+mod tests;

@@ -1,0 +1,14 @@
+//! Text boundaries from checked data, under the names of the crate `icu_segmenter` 2.4.0.
+//!
+//! Data are checked once, where they are made (`provider`); a segmenter then gives the boundaries of any text
+//! in an encoding of `scaffold`, with no further refusal.
+#![tactic(auto)]
+
+pub use seg_clusters::grapheme::{GraphemeClusterSegmenter, GraphemeClusterSegmenterBorrowed};
+pub use seg_data::provider;
+pub use seg_text::{indices, scaffold};
+
+/// The iterators that the `segment_` calls give.
+pub mod iterators {
+    pub use seg_clusters::grapheme::GraphemeClusterBreakIterator;
+}

@@ -1,0 +1,4 @@
+//! Grapheme clusters of texts.
+#![tactic(auto)]
+
+pub mod grapheme;

@@ -1,0 +1,90 @@
+-- The faults of data that strangers hand in.
+use Rattle.std.specs.Prelude.{◌≡◌, ◌≢◌, ℕ, ◌+◌, ◌*◌, ◌<◌, ◌≤◌, ◌⊎◌, Option, Some, None, List, length, slice_get, slice_index_or, IsSomeAnd, MatchOption, Any}
+use Rattle.seg_data.specs.declared.provider.DataError.{DataError}
+use Rattle.seg_data.specs.declared.provider.DataError.TheVariants.{RangeOrder, RangePast10FFFF, StateCount, TransitionSize, TransitionOutOfRange, SymbolOutOfRange, TooManyLookaheads, LookaheadOutOfRange, EndCycle, Stalls}
+use Rattle.seg_data.specs.declared.provider.Acceptance.{Acceptance}
+use Rattle.seg_data.specs.declared.provider.Acceptance.TheVariants.{Continue, Accept, Conditional}
+use Rattle.seg_data.specs.Table.{named_values}
+use Rattle.seg_data.specs.Machine.{Machine, IsSymbolOf, IsTextSymbol, symbol_count, step, state_at}
+use Rattle.seg_data.specs.Pick.{accepted}
+
+-- the number of a fault: of several, the lowest is answered
+abbrev pub number_of : DataError → ℕ
+number_of RangeOrder = 2
+number_of RangePast10FFFF = 3
+number_of StateCount = 11
+number_of TransitionSize = 12
+number_of TransitionOutOfRange = 13
+number_of SymbolOutOfRange = 14
+number_of TooManyLookaheads = 15
+number_of LookaheadOutOfRange = 16
+number_of EndCycle = 17
+number_of Stalls = 18
+
+-- no fault is there
+abbrev pub IsFaultless : (DataError → Type 0) → Type 0
+IsFaultless Has = (fault : DataError) → Has fault → ⊥
+
+-- this fault is there, and none of a lower number
+pub record IsLowestFault (Has : DataError → Type 0) (fault : DataError) : Type 0 where
+  pub is_there : Has fault
+  pub lowest : (lower : DataError) → number_of lower < number_of fault → Has lower → ⊥
+
+-- some range begins by the end of the range before
+abbrev pub HasOverlap : List (ℕ × ℕ × ℕ) → Type 0
+HasOverlap ranges =
+    (k : ℕ) × (before after : ℕ × ℕ × ℕ) × (slice_get ranges k ≡ Some before)
+    × (slice_get ranges (k + 1) ≡ Some after) × (after.0 ≤ before.1)
+
+-- the faults of a list of ranges (first, last, value)
+abbrev pub HasRangeFault : List (ℕ × ℕ × ℕ) → DataError → Type 0
+-- a first is above its last, or isn't above the last of the range before
+HasRangeFault ranges RangeOrder = Any (λ range. range.1 < range.0) ranges ⊎ HasOverlap ranges
+-- a last is above U+10FFFF
+HasRangeFault ranges RangePast10FFFF = Any (λ range. 0x10FFFF < range.1) ranges
+HasRangeFault ranges _ = ⊥
+
+-- of so many symbols, with this shift and so many entries of the map, a value gives no symbol of a text
+abbrev pub IsStray : ℕ → ℕ → ℕ → ℕ → Type 0
+IsStray count shift entries value =
+    ((value < shift) × (IsSymbolOf count value → ⊥)) ⊎ (shift + entries ≤ value)
+
+-- a condition's lookahead isn't below the number of lookaheads
+abbrev pub IsConditionPast : ℕ → Acceptance → Type 0
+IsConditionPast count (Conditional lookahead status) = count ≤ lookahead
+IsConditionPast count (Accept status) = ⊥
+IsConditionPast count Continue = ⊥
+
+-- a lookahead that the state names, or that of its condition, isn't below the number of lookaheads
+abbrev pub NamesPast : ℕ → Acceptance × Option ℕ → Type 0
+NamesPast count state = IsSomeAnd state.1 (λ lookahead. count ≤ lookahead) ⊎ IsConditionPast count state.0
+
+-- the state that a transition of START names is none, or doesn't accept
+abbrev pub IsStallAt : List (Acceptance × Option ℕ) → ℕ → Type 0
+IsStallAt states next = (next ≡ 255) ⊎ (accepted (slice_index_or states next (Continue, None)) ≡ None)
+
+-- the faults of a machine's parts
+abbrev pub HasMachineFault : Machine → DataError → Type 0
+-- no state, or more than 255
+HasMachineFault m StateCount = (length m.states ≡ 0) ⊎ (255 < length m.states)
+-- not one transition for each state and each of 1 to 256 symbols
+HasMachineFault m TransitionSize =
+    (count : ℕ) → 0 < count → count ≤ 256 → length m.transitions ≢ length m.states * count
+-- a transition is neither 255 nor a state
+HasMachineFault m TransitionOutOfRange = Any (λ next. (next ≢ 255) × (length m.states ≤ next)) m.transitions
+-- a value that the table of symbols names is stray, or an entry of the map gives no symbol of a text
+HasMachineFault m SymbolOutOfRange =
+    Any (IsStray (symbol_count m) m.pseudo_symbol_shift (length m.pseudo_symbol_map)) (named_values m.symbols)
+    ⊎ Any (λ entry. IsTextSymbol m entry.0 → ⊥) m.pseudo_symbol_map
+-- for now no lookahead is taken
+HasMachineFault m TooManyLookaheads = 0 < m.num_lookaheads
+-- a state names a lookahead that there isn't, or is a condition on one
+HasMachineFault m LookaheadOutOfRange = Any (NamesPast m.num_lookaheads) m.states
+-- for now no transition on symbol 0 is taken
+HasMachineFault m EndCycle = (state : ℕ) × (state < length m.states) × (step m state 0 ≢ None)
+-- for now START has to lead to a state that accepts, on each symbol of a text
+HasMachineFault m Stalls =
+    (symbol : ℕ) × IsTextSymbol m symbol
+    × MatchOption (step m 0 symbol) (Unit {0}) (λ next. accepted (state_at m next) ≡ None)
+HasMachineFault m RangeOrder = ⊥
+HasMachineFault m RangePast10FFFF = ⊥

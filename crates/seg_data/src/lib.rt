@@ -1,0 +1,5 @@
+//! Checked data for text segmentation: tables of classes and symbols, and state machines.
+#![tactic(auto)]
+
+pub mod laws;
+pub mod provider;

@@ -1,0 +1,109 @@
+//! The data of segmenters, each checked once, where it is made.
+ghost use Rattle.std.specs.Prelude.{◌≡◌};
+ghost use Rattle.seg_data.specs.Faults.{number_of};
+
+mod checks;
+mod machine;
+mod table;
+#[cfg(test)]
+mod tests;
+
+pub use machine::SegmenterStateMachine;
+pub use table::ClassTable;
+use thiserror::Error;
+
+/// The script of a run of text whose words only a dictionary or a model can tell apart.
+#[derive(Clone, Copy, Debug, PartialEq, Eq, Hash)]
+pub enum ComplexScript {
+    /// None of the scripts below.
+    None = 0,
+    /// Myanmar.
+    Myanmar = 1,
+    /// Chinese or Japanese: Han, Hiragana and Katakana.
+    ChineseOrJapanese = 2,
+    /// Khmer.
+    Khmer = 3,
+    /// Lao.
+    Lao = 4,
+    /// Thai.
+    Thai = 5,
+}
+
+/// A state of a machine: its place in the list of states, from 0 on.
+pub type State = u8;
+
+/// A symbol of a machine: what its transitions are for. Symbol 0 is the end of the text.
+pub type Symbol = u8;
+
+/// A lookahead of a machine, from 0 on.
+pub type Lookahead = u8;
+
+/// What a state accepts.
+#[derive(Clone, Copy, Debug, PartialEq)]
+pub enum Acceptance {
+    /// Nothing: the scan goes on.
+    Continue,
+    /// The text up to here is a segment, with this status, unless a longer one is accepted.
+    Accept(u8),
+    /// Where a state before has named this lookahead, the text up to the last such state is the
+    /// segment, with this status.
+    Conditional(Lookahead, u8),
+}
+
+/// What is wrong with data. Each fault has a number, and of several the lowest is answered.
+#[derive(Clone, Copy, Debug, PartialEq, Eq, Error)]
+pub enum DataError {
+    /// 2: a range's first code point is above its last, or isn't above the last of the range
+    /// before it.
+    #[error("2 RangeOrder: a range's first code point is above its last, or not above the last of the range before it")]
+    RangeOrder,
+    /// 3: a range ends above U+10FFFF.
+    #[error("3 RangePast10FFFF: a range ends above U+10FFFF, the last code point")]
+    RangePast10FFFF,
+    /// 11: there is no state, or there are more than 255.
+    #[error("11 StateCount: a machine has 1 to 255 states")]
+    StateCount,
+    /// 12: the number of transitions isn't the number of states times 1 to 256 symbols.
+    #[error("12 TransitionSize: there is not one transition for each state and each of 1 to 256 symbols")]
+    TransitionSize,
+    /// 13: a transition is neither 255 nor a state.
+    #[error("13 TransitionOutOfRange: a transition is neither 255, for none, nor a state")]
+    TransitionOutOfRange,
+    /// 14: a value that the table of symbols names is neither a symbol from 1 on nor a pseudo
+    /// symbol that the map has, or the map gives symbol 0 or one that has no transitions.
+    #[error("14 SymbolOutOfRange: the table of symbols or the map gives symbol 0, or one that the transitions or the map do not have")]
+    SymbolOutOfRange,
+    /// 15: there are lookaheads, and for now no machine may have one.
+    #[error("15 TooManyLookaheads: machines with lookaheads are not taken yet")]
+    TooManyLookaheads,
+    /// 16: a state, or its condition, names a lookahead that isn't below the number of lookaheads.
+    #[error("16 LookaheadOutOfRange: a state names a lookahead that is not below the number of lookaheads")]
+    LookaheadOutOfRange,
+    /// 17: a state has a transition on symbol 0, and for now none may have one.
+    #[error("17 EndCycle: transitions on symbol 0, the end of the text, are not taken yet")]
+    EndCycle,
+    /// 18: START, state 0, doesn't lead to a state that accepts on each symbol of a text, and for
+    /// now it has to.
+    #[error("18 Stalls: on some symbol START does not lead to a state that accepts")]
+    Stalls,
+}
+
+impl DataError {
+    /// The fault's number, by which its text begins.
+    pub fn number(self) -> u8
+        ensures { result ≡ number_of self }
+    {
+        match self {
+            DataError::RangeOrder => 2,
+            DataError::RangePast10FFFF => 3,
+            DataError::StateCount => 11,
+            DataError::TransitionSize => 12,
+            DataError::TransitionOutOfRange => 13,
+            DataError::SymbolOutOfRange => 14,
+            DataError::TooManyLookaheads => 15,
+            DataError::LookaheadOutOfRange => 16,
+            DataError::EndCycle => 17,
+            DataError::Stalls => 18,
+        }
+    }
+}

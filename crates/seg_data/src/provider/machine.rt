@@ -1,0 +1,190 @@
+//! State machines over the symbols of code points.
+ghost use Rattle.std.specs.Prelude.{◌≡◌, ℕ, ◌<◌, ◌↔◌, IsTrue, IfOk, IfErr, IfSome, length};
+ghost use Rattle.seg_data.specs.Checked.{IsChecked};
+ghost use Rattle.seg_data.specs.Faults.{HasMachineFault, IsFaultless, IsLowestFault};
+ghost use Rattle.seg_data.specs.Machine.{IsTextSymbol, machine, state_at, step, symbol_and_script, symbol_count};
+ghost use Rattle.seg_data.specs.Pick.{IsStallFree};
+ghost use Rattle.seg_data.specs.Same.{same_machine, same_machine-laws};
+
+use crate::provider::checks::check_parts;
+use crate::provider::{Acceptance, ClassTable, ComplexScript, DataError, Lookahead, State, Symbol};
+use std::marker::Model;
+
+/// A state machine that finds the segments of a text, over the symbols of its code points.
+///
+/// A code point's value in `symbols` is its symbol where it is below `pseudo_symbol_shift`, and
+/// otherwise, less the shift, a place in `pseudo_symbol_map`, which has the symbol and the script.
+/// The transition of state q on symbol s is at `q + s * states.len()`; 255 stands for none.
+#[derive(Debug, Drop)]
+pub struct SegmenterStateMachine {
+    symbols: ClassTable,
+    states: Vec<(Acceptance, Option<Lookahead>)>,
+    transitions: Vec<State>,
+    num_lookaheads: usize,
+    pseudo_symbol_shift: u8,
+    pseudo_symbol_map: Vec<(Symbol, ComplexScript)>,
+}
+
+impl Model for SegmenterStateMachine {
+    ghost use Rattle.seg_data.specs.Machine.{Machine, machine};
+
+    ghost Value = { Machine };
+
+    ghost use Rattle.seg_data.specs.Checked.{IsChecked};
+
+    ghost view = { λ m. machine m.symbols m.states.items m.transitions.items m.num_lookaheads m.pseudo_symbol_shift m.pseudo_symbol_map.items };
+
+    ghost invariant = { λ m. IsChecked (machine m.symbols m.states.items m.transitions.items m.num_lookaheads m.pseudo_symbol_shift m.pseudo_symbol_map.items) };
+}
+
+impl SegmenterStateMachine {
+    /// The state that each scan begins in.
+    pub const START_STATE: State = 0;
+
+    /// What stands among the transitions for no state.
+    pub const TRASH_STATE: State = 255;
+
+    /// The symbol of the end of the text.
+    pub const EOT_SYMBOL: Symbol = 0;
+
+    /// The machine of these parts, or what is wrong with them: `StateCount` to `Stalls`, of
+    /// several faults that with the lowest number.
+    pub fn try_from_parts(
+        symbols: ClassTable,
+        states: Vec<(Acceptance, Option<Lookahead>)>,
+        transitions: Vec<State>,
+        num_lookaheads: usize,
+        pseudo_symbol_shift: u8,
+        pseudo_symbol_map: Vec<(Symbol, ComplexScript)>,
+    ) -> Result<Self, DataError>
+        ensures accepted { let parts = machine symbols states.items transitions.items num_lookaheads pseudo_symbol_shift pseudo_symbol_map.items in
+            IfOk result (λ m. (m ≡ parts) × IsFaultless (HasMachineFault parts)) }
+        ensures refused { IfErr result (IsLowestFault (HasMachineFault (machine symbols states.items transitions.items num_lookaheads pseudo_symbol_shift pseudo_symbol_map.items))) }
+        ensures stall_free { IfOk result IsStallFree }
+    {
+        check_parts(
+            &symbols,
+            states.as_slice(),
+            transitions.as_slice(),
+            num_lookaheads,
+            pseudo_symbol_shift,
+            pseudo_symbol_map.as_slice(),
+        )?;
+        Ok(SegmenterStateMachine {
+            symbols,
+            states,
+            transitions,
+            num_lookaheads,
+            pseudo_symbol_shift,
+            pseudo_symbol_map,
+        })
+    }
+
+    /// The table of the code points' symbols and pseudo symbols.
+    pub fn symbols(&self) -> &ClassTable
+        ensures { result.now ≡ self.now.symbols }
+    {
+        &self.symbols
+    }
+
+    /// What each state accepts, and the lookahead that it names.
+    pub fn states(&self) -> &[(Acceptance, Option<Lookahead>)]
+        ensures { result.now ≡ self.now.states }
+    {
+        self.states.as_slice()
+    }
+
+    /// The transitions: that of state q on symbol s is at `q + s * states().len()`.
+    pub fn transitions(&self) -> &[State]
+        ensures { result.now ≡ self.now.transitions }
+    {
+        self.transitions.as_slice()
+    }
+
+    /// How many lookaheads there are.
+    pub fn num_lookaheads(&self) -> usize
+        ensures { result ≡ self.now.num_lookaheads }
+    {
+        self.num_lookaheads
+    }
+
+    /// The first value of `symbols()` that is a pseudo symbol.
+    pub fn pseudo_symbol_shift(&self) -> u8
+        ensures { result ≡ self.now.pseudo_symbol_shift }
+    {
+        self.pseudo_symbol_shift
+    }
+
+    /// The symbol and the script of each pseudo symbol, from the shift on.
+    pub fn pseudo_symbol_map(&self) -> &[(Symbol, ComplexScript)]
+        ensures { result.now ≡ self.now.pseudo_symbol_map }
+    {
+        self.pseudo_symbol_map.as_slice()
+    }
+}
+
+// What engines read of a machine, step by step.
+impl SegmenterStateMachine {
+    /// The symbol of a code point.
+    pub fn symbol(&self, code_point: u32) -> Symbol
+        ensures value { result ≡ (symbol_and_script self.now code_point).0 }
+        ensures text { IsTextSymbol self.now result }
+    {
+        let value = self.symbols.get32(code_point);
+        if value < self.pseudo_symbol_shift {
+            value
+        } else {
+            let place = (value - self.pseudo_symbol_shift) as usize;
+            self.pseudo_symbol_map[place].0
+        }
+    }
+
+    /// The state that a symbol leads to from a state, or `None` where it leads to none.
+    pub fn next_state(&self, state: State, symbol: Symbol) -> Option<State>
+        requires state { state < length self.now.states }
+        requires symbol { symbol < symbol_count self.now }
+        ensures value { result ≡ step self.now state symbol }
+        ensures state { IfSome result (λ next. next < length self.now.states) }
+    {
+        let next = self.transitions[state as usize + symbol as usize * self.states.len()];
+        if next == SegmenterStateMachine::TRASH_STATE {
+            None
+        } else {
+            Some(next)
+        }
+    }
+
+    /// What a state accepts, and the lookahead that it names.
+    pub fn entry(&self, state: State) -> (Acceptance, Option<Lookahead>)
+        requires { state < length self.now.states }
+        ensures { result ≡ state_at self.now state }
+    {
+        self.states[state as usize]
+    }
+
+    /// Does nothing. Its contract tells what holds of each machine.
+    pub fn check(&self)
+        ensures { IsChecked self.now }
+    {
+        let _symbols = &self.symbols;
+    }
+}
+
+impl PartialEq for SegmenterStateMachine {
+    ghost eq = { same_machine };
+
+    ghost laws = { same_machine-laws };
+
+    // Whether the parts are the same.
+    fn eq(&self, other: &SegmenterStateMachine) -> bool
+        ensures value { result ≡ same_machine self.now other.now }
+        ensures same { IsTrue result ↔ (self.now ≡ other.now) }
+    {
+        self.symbols == other.symbols
+            && self.states == other.states
+            && self.transitions == other.transitions
+            && self.num_lookaheads == other.num_lookaheads
+            && self.pseudo_symbol_shift == other.pseudo_symbol_shift
+            && self.pseudo_symbol_map == other.pseudo_symbol_map
+    }
+}

@@ -1,0 +1,121 @@
+//! Tables of values by ranges of code points.
+ghost use Rattle.std.specs.Prelude.{◌≡◌, ℕ, ◌==◌, ◌<◌, ◌↔◌, IsTrue, IfOk, IfErr, OnOk, Any, length};
+ghost use Rattle.seg_data.specs.Faults.{HasOverlap, HasRangeFault, IsFaultless, IsLowestFault};
+ghost use Rattle.seg_data.specs.Same.{same_table, same_table-laws};
+ghost use Rattle.seg_data.specs.Table.{table, value_of};
+
+use crate::provider::DataError;
+use std::marker::Model;
+
+/// A table that gives each code point a value: that of the range that holds it, or a default.
+#[derive(Debug, Drop)]
+pub struct ClassTable {
+    ranges: Vec<(u32, u32, u8)>,
+    default: u8,
+}
+
+impl Model for ClassTable {
+    ghost use Rattle.seg_data.specs.Table.{Table};
+
+    ghost Value = { Table };
+
+    ghost use Rattle.seg_data.specs.Faults.{HasRangeFault, IsFaultless};
+
+    ghost view = { λ t. record { ranges = t.ranges.items; default = t.default } };
+
+    ghost invariant = { λ t. IsFaultless (HasRangeFault t.ranges.items) };
+}
+
+impl ClassTable {
+    /// The table of these ranges, each (first, last, value) with both ends in it, and of this
+    /// default. `RangeOrder` where a first is above its last or isn't above the last of the range
+    /// before, and otherwise `RangePast10FFFF` where a last is above U+10FFFF.
+    pub fn try_from_ranges(ranges: Vec<(u32, u32, u8)>, default: u8) -> Result<Self, DataError>
+        ensures accepted { IfOk result (λ t. (t ≡ table ranges.items default) × IsFaultless (HasRangeFault ranges.items)) }
+        ensures refused { IfErr result (IsLowestFault (HasRangeFault ranges.items)) }
+    {
+        check_ranges(ranges.as_slice())?;
+        Ok(ClassTable { ranges, default })
+    }
+
+    /// The value of the range that holds the code point, or else the default. Any number is
+    /// looked up, also one that is no code point.
+    pub fn get32(&self, code_point: u32) -> u8
+        ensures { result ≡ value_of self.now code_point }
+    {
+        for range in &self.ranges {
+            if range.0 <= code_point && code_point <= range.1 {
+                return range.2;
+            }
+        }
+        self.default
+    }
+
+    // The ranges, from the lowest on.
+    pub(super) fn ranges(&self) -> &[(u32, u32, u8)]
+        ensures { result.now ≡ self.now.ranges }
+    {
+        self.ranges.as_slice()
+    }
+
+    // The value of the code points that no range holds.
+    pub(super) fn default(&self) -> u8
+        ensures { result ≡ self.now.default }
+    {
+        self.default
+    }
+}
+
+impl PartialEq for ClassTable {
+    ghost eq = { same_table };
+
+    ghost laws = { same_table-laws };
+
+    // Whether the ranges and the default are the same.
+    fn eq(&self, other: &ClassTable) -> bool
+        ensures value { result ≡ same_table self.now other.now }
+        ensures same { IsTrue result ↔ (self.now ≡ other.now) }
+    {
+        self.ranges == other.ranges && self.default == other.default
+    }
+}
+
+// Whether the ranges are in order, and end by U+10FFFF.
+fn check_ranges(ranges: &[(u32, u32, u8)]) -> Result<(), DataError>
+    ensures accepted { OnOk result (IsFaultless (HasRangeFault ranges.now)) }
+    ensures refused { IfErr result (IsLowestFault (HasRangeFault ranges.now)) }
+{
+    if has_backward(ranges) || has_overlap(ranges) {
+        return Err(DataError::RangeOrder);
+    }
+    if has_past_10ffff(ranges) {
+        return Err(DataError::RangePast10FFFF);
+    }
+    Ok(())
+}
+
+// Whether a range's first code point is above its last.
+fn has_backward(ranges: &[(u32, u32, u8)]) -> bool
+    ensures { IsTrue result ↔ Any (λ range. range.1 < range.0) ranges.now }
+{
+    ranges.iter().any(|range| range.1 < range.0)
+}
+
+// Whether a range's first code point isn't above the last of the range before.
+fn has_overlap(ranges: &[(u32, u32, u8)]) -> bool
+    ensures { IsTrue result ↔ HasOverlap ranges.now }
+{
+    for k in 1..ranges.len() {
+        if ranges[k].0 <= ranges[k - 1].1 {
+            return true;
+        }
+    }
+    false
+}
+
+// Whether a range ends above U+10FFFF.
+fn has_past_10ffff(ranges: &[(u32, u32, u8)]) -> bool
+    ensures { IsTrue result ↔ Any (λ range. 0x10FFFF < range.1) ranges.now }
+{
+    ranges.iter().any(|range| 0x10FFFF < range.1)
+}

@@ -1,0 +1,5 @@
+pub mod Steps
+pub mod Scanned
+pub mod Ends
+pub mod Cover
+pub mod Engine

@@ -1,0 +1,134 @@
+//! Segments by a state machine.
+
+ghost use Rattle.std.specs.Prelude.{◌≡◌, ◌≢◌, ◌<◌, ⊤, ℕ, [], drop, length};
+ghost use Rattle.std.specs.Option.{option_map};
+ghost use Rattle.std.specs.Iterator.{YieldsFirst, MakesProgress, item_count};
+ghost use Rattle.seg_text.specs.Items.{code_points};
+ghost use Rattle.seg_data.specs.Machine.{symbols_of};
+ghost use Rattle.seg_data.specs.Pick.{pick};
+ghost use Rattle.seg_text.specs.Items.{place_of};
+ghost use Rattle.seg_machine.specs.Boundaries.{placed, boundaries, places_left, GivesNext, IsSegmented, IsCover};
+ghost use Rattle.seg_machine.specs.Scan.{accept_at};
+
+use seg_data::provider::{Acceptance, Lookahead, SegmenterStateMachine};
+use seg_text::inner::Cursor;
+use std::marker::Model;
+
+/// The boundaries of a text by a state machine: its start, and then the end of each segment.
+///
+/// Each segment is the pick of the machine for what is left of the text.
+#[derive(Drop)]
+pub struct RuleBreakIterator<'data, I: Cursor> {
+    machine: &'data SegmenterStateMachine,
+    rest: I,
+    started: bool,
+    status: u8,
+}
+
+impl<'data, I: Cursor> Model for RuleBreakIterator<'data, I> {
+    ghost use Rattle.std.specs.Prelude.{◌≡◌, false};
+    ghost use Rattle.seg_machine.specs.Boundaries.{Coming, coming};
+
+    ghost Value = { Coming };
+
+    ghost view = { λ s. coming s.started s.machine.now (I.left s.rest) (I.end s.rest) s.status };
+
+    ghost invariant = { λ s. s.started ≡ false → s.status ≡ 0 };
+}
+
+impl<'data, I: Cursor> RuleBreakIterator<'data, I> {
+    /// The boundaries of what is left of `text`. Takes no memory.
+    pub fn new(machine: &'data SegmenterStateMachine, text: I) -> Self
+        ensures left { result.left ≡ boundaries machine.now (I.left text) (I.end text) }
+        ensures segments { IsSegmented machine.now (I.left text) (I.end text) result.left }
+        ensures cover { IsCover (place_of (I.left text) (I.end text)) (I.end text) (places_left result) }
+        ensures status { result.status ≡ 0 }
+    {
+        machine.check();
+        RuleBreakIterator {
+            machine,
+            rest: text,
+            started: false,
+            status: 0,
+        }
+    }
+
+    /// The status of the boundary that was given last: 0 for the first, before it and after the end.
+    pub fn status(&self) -> u8
+        ensures { result ≡ self.now.status }
+    {
+        self.status
+    }
+}
+
+impl<'data, I: Cursor> Iterator for RuleBreakIterator<'data, I> {
+    type Item = usize;
+
+    ghost next_gives = { YieldsFirst places_left };
+
+    ghost remaining = { item_count places_left };
+
+    fn next(&mut self) -> Option<usize>
+        ensures steps { YieldsFirst places_left self.old result self.new × GivesNext self.old result self.new }
+        ensures goes { MakesProgress (λ _. ⊤) (item_count places_left) self.old result self.new }
+    {
+        if !self.started {
+            self.started = true;
+            return Some(self.rest.place());
+        }
+        if self.rest.is_at_end() {
+            self.status = 0;
+            return None;
+        }
+        self.status = next_segment(self.machine, &mut self.rest);
+        Some(self.rest.place())
+    }
+}
+
+/// Goes on to the end of the next segment, and gives its status.
+fn next_segment<I: Cursor>(machine: &SegmenterStateMachine, rest: &mut I) -> u8
+    requires { I.left rest.old ≢ [] }
+    ensures left { (n : ℕ) × (pick machine.now (symbols_of machine.now (code_points (I.left rest.old))) ≡ Some (n, result))
+        × (I.left rest.new ≡ drop n (I.left rest.old)) }
+    ensures end { I.end rest.new ≡ I.end rest.old }
+{
+    machine.check();
+    let Some((place, status)) = scan(machine, rest) else {
+        unreachable!()
+    };
+    rest.seek(place);
+    status
+}
+
+/// The pick of what is left of a text, as the place of the segment's end and its status.
+fn scan<I: Cursor>(machine: &SegmenterStateMachine, rest: &I) -> Option<(usize, u8)>
+    ensures { result ≡ option_map (placed (I.left rest.now) (I.end rest.now))
+        (pick machine.now (symbols_of machine.now (code_points (I.left rest.now)))) }
+{
+    machine.check();
+    let mut iter = rest.fork();
+    let mut last: Option<(usize, u8)> = None;
+    let mut state = SegmenterStateMachine::START_STATE;
+    'scan: while let Some((_, code_point)) = iter.next_item() {
+        let Some(next) = machine.next_state(state, machine.symbol(code_point)) else {
+            return last;
+        };
+        last = accept(machine.entry(next), iter.place(), last);
+        state = next;
+    }
+    last
+}
+
+/// The last acceptance, as a place with its status, once a state is entered at a place.
+fn accept(
+    state: (Acceptance, Option<Lookahead>),
+    place: usize,
+    last: Option<(usize, u8)>,
+) -> Option<(usize, u8)>
+    ensures { result ≡ accept_at place state last }
+{
+    match state.0 {
+        Acceptance::Accept(status) => Some((place, status)),
+        Acceptance::Continue | Acceptance::Conditional(_, _) => last,
+    }
+}

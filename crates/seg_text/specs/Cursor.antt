@@ -1,0 +1,13 @@
+-- What is seen of a cursor over a text.
+use Rattle.std.specs.Prelude.{◌≡◌, ℕ, ◌+◌, ◌≤◌, List, length, drop}
+
+-- the place that it is at, and the units that it hasn't read
+pub record Rest : Type 0 where
+  pub place : ℕ
+  pub units : List ℕ
+
+-- `later` is where a cursor at `earlier` comes to in the same text, when it goes on
+abbrev pub GoesOn : Rest → Rest → Type 0
+GoesOn earlier later =
+    (taken : ℕ) × (taken ≤ length earlier.units)
+    × (later.place ≡ earlier.place + taken) × (later.units ≡ drop taken earlier.units)

@@ -1,0 +1,6 @@
+pub mod Items
+pub mod Latin1
+pub mod Utf8
+pub mod Cursor
+pub mod Reader
+pub mod Rising

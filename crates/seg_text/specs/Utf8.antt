@@ -1,0 +1,85 @@
+-- Possibly ill-formed UTF-8, by Table 3-7 of the Unicode Standard.
+use Rattle.std.specs.Prelude.{◌≡◌, ℕ, suc, ◌+◌, ◌-◌, ◌*◌, ◌<◌, ◌≤◌, ◌⊎◌, ◌&&◌, ◌==◌, nat_le, nat_lt, List, [], ◌∷◌, length, take, find, Contains, slice_index, if◌then◌else◌}
+use Rattle.std.specs.Option.{option_map_or}
+use Rattle.seg_text.specs.Items.{items_by}
+
+-- the range of the bytes that go on a sequence, where its row says no other
+abbrev pub trail : ℕ × ℕ
+trail = (0x80, 0xBF)
+
+-- the well-formed sequences: in each row the first and last byte that may stand at each place
+abbrev pub rows : List (List (ℕ × ℕ))
+rows =
+    ((0x00, 0x7F) ∷ [])
+    ∷ ((0xC2, 0xDF) ∷ trail ∷ [])
+    ∷ ((0xE0, 0xE0) ∷ (0xA0, 0xBF) ∷ trail ∷ [])
+    ∷ ((0xE1, 0xEC) ∷ trail ∷ trail ∷ [])
+    ∷ ((0xED, 0xED) ∷ (0x80, 0x9F) ∷ trail ∷ [])
+    ∷ ((0xEE, 0xEF) ∷ trail ∷ trail ∷ [])
+    ∷ ((0xF0, 0xF0) ∷ (0x90, 0xBF) ∷ trail ∷ trail ∷ [])
+    ∷ ((0xF1, 0xF3) ∷ trail ∷ trail ∷ trail ∷ [])
+    ∷ ((0xF4, 0xF4) ∷ (0x80, 0x8F) ∷ trail ∷ trail ∷ [])
+    ∷ []
+
+-- a byte stands at an index of the text, and in a range
+abbrev pub StandsAt : List ℕ → ℕ → ℕ × ℕ → Type 0
+StandsAt bytes index range =
+    (index < length bytes) × (range.0 ≤ slice_index bytes index) × (slice_index bytes index ≤ range.1)
+
+-- the bytes stand in the first ranges of a row, one in each
+abbrev pub Fits : List (ℕ × ℕ) → List ℕ → Type 0
+Fits row [] = Unit {0}
+Fits [] (byte ∷ bytes) = ⊥
+Fits (range ∷ row) (byte ∷ bytes) = (range.0 ≤ byte) × (byte ≤ range.1) × Fits row bytes
+
+-- the beginning of a well-formed sequence
+abbrev pub IsBeginning : List ℕ → Type 0
+IsBeginning bytes = (row : List (ℕ × ℕ)) × Contains rows row × Fits row bytes
+
+-- a well-formed sequence
+abbrev pub IsWellFormed : List ℕ → Type 0
+IsWellFormed bytes = (row : List (ℕ × ℕ)) × Contains rows row × Fits row bytes × (length bytes ≡ length row)
+
+-- the code point of a well-formed sequence: the bits of its bytes that its length doesn't fix
+unfoldable pub scalar_of : List ℕ → ℕ
+scalar_of [] = 0
+scalar_of (a ∷ []) = a
+scalar_of (a ∷ b ∷ []) = (a - 0xC0) * 0x40 + (b - 0x80)
+scalar_of (a ∷ b ∷ c ∷ []) = (a - 0xE0) * 0x1000 + (b - 0x80) * 0x40 + (c - 0x80)
+scalar_of (a ∷ b ∷ c ∷ d ∷ bytes) = (a - 0xF0) * 0x40000 + (b - 0x80) * 0x1000 + (c - 0x80) * 0x40 + (d - 0x80)
+
+-- a well-formed sequence, where one begins
+pub record ReadsWellFormed (bytes : List ℕ) (taken code_point : ℕ) : Type 0 where
+  pub well_formed : IsWellFormed (take taken bytes)
+  pub scalar : code_point ≡ scalar_of (take taken bytes)
+
+-- or else, as U+FFFD, the longest beginning of any well-formed sequence that stands there, at least one byte
+pub record ReadsIllFormed (bytes : List ℕ) (taken code_point : ℕ) : Type 0 where
+  pub ill_formed : (n : ℕ) → IsWellFormed (take n bytes) → ⊥
+  pub beginning : (taken ≡ 1) ⊎ IsBeginning (take taken bytes)
+  pub longest : (n : ℕ) → taken < n → n ≤ length bytes → IsBeginning (take n bytes) → ⊥
+  pub replacement : code_point ≡ 0xFFFD
+
+abbrev pub ReadsUtf8 : List ℕ → ℕ → ℕ → Type 0
+ReadsUtf8 bytes taken code_point = ReadsWellFormed bytes taken code_point ⊎ ReadsIllFormed bytes taken code_point
+
+-- how many bytes stand in the first ranges of a row
+unfoldable pub fitting : List (ℕ × ℕ) → List ℕ → ℕ
+fitting [] bytes = 0
+fitting (range ∷ row) [] = 0
+fitting (range ∷ row) (byte ∷ bytes) =
+    if nat_le range.0 byte && nat_le byte range.1 then suc (fitting row bytes) else 0
+
+-- what begins with a byte of this row
+unfoldable pub read_row : List (ℕ × ℕ) → List ℕ → ℕ × ℕ
+read_row row bytes =
+    let taken = fitting row bytes in
+    (taken, if taken == length row then scalar_of (take taken bytes) else 0xFFFD)
+
+-- a reader of one item: the row that the first byte belongs to decides
+unfoldable pub read_utf8 : List ℕ → ℕ × ℕ
+read_utf8 bytes = option_map_or (λ row. read_row row bytes) (find (λ row. nat_lt 0 (fitting row bytes)) rows) (1, 0xFFFD)
+
+-- the items of possibly ill-formed UTF-8 from a place on
+unfoldable pub utf8_items : ℕ → List ℕ → List (ℕ × ℕ)
+utf8_items place bytes = items_by read_utf8 place bytes

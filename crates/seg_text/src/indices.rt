@@ -1,0 +1,7 @@
+//! Cursors that give the items of a text, each with its place.
+
+mod latin1;
+mod utf8;
+
+pub use latin1::Latin1Indices;
+pub use utf8::Utf8CharIndices;

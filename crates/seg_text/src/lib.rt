@@ -1,0 +1,14 @@
+//! Texts as lists of items: cursors that decode them, and the encodings that segmenters take.
+#![tactic(auto)]
+
+pub mod indices;
+pub mod inner;
+pub mod laws;
+pub mod scaffold;
+#[cfg(test)]
+mod tests;
+
+mod private {
+    /// Keeps the traits of encodings to this crate.
+    pub trait Sealed {}
+}

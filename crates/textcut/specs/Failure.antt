@@ -1,0 +1,16 @@
+-- What is said of each failure, and the exit status that it gives.
+use Rattle.std.specs.Prelude.{ℕ, List, codes, ◌∷◌, [], ◌++◌}
+use Rattle.textcut.specs.declared.failure.Failure.{Failure}
+use Rattle.textcut.specs.declared.failure.Failure.TheVariants.{Usage, ReadFailed, WriteFailed, NoMemory}
+
+abbrev pub status_of : Failure → ℕ
+status_of Usage = 2
+status_of ReadFailed = 1
+status_of WriteFailed = 1
+status_of NoMemory = 1
+
+abbrev pub message_of : Failure → List ℕ
+message_of Usage = codes "usage: textcut grapheme|sentence|word|line classic|17|neo" ++ 10 ∷ []
+message_of ReadFailed = codes "textcut: read failed" ++ 10 ∷ []
+message_of WriteFailed = codes "textcut: write failed" ++ 10 ∷ []
+message_of NoMemory = codes "textcut: no memory" ++ 10 ∷ []

@@ -1,0 +1,23 @@
+// The command line.
+ghost use Rattle.std.specs.Prelude.{◌≡◌, ◌≢◌, MatchOption};
+ghost use Rattle.textcut.specs.Command.{texts, words_of};
+ghost use Rattle.textcut.specs.declared.command.Command.{Command as AnyCommand};
+
+/// What a command line asks for.
+#[derive(Clone, Copy, Debug, PartialEq, Eq)]
+pub enum Command {
+    /// The grapheme clusters, by the machine that is built in.
+    GraphemeNeo,
+}
+
+/// The command that has these words.
+pub fn command_of(words: &[&str]) -> Option<Command>
+    ensures { MatchOption result
+        ((command : AnyCommand) → texts words.now ≢ words_of command)
+        (λ command. texts words.now ≡ words_of command) }
+{
+    match words {
+        ["grapheme", "neo"] => Some(Command::GraphemeNeo),
+        _ => None,
+    }
+}

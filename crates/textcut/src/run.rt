@@ -1,0 +1,116 @@
+// The program, over any reader and writers.
+ghost use Rattle.std.specs.Prelude.{◌≡◌, ◌≢◌, ◌≤◌, ◌↔◌, OnOk, IfOk, IfErr, IfSome, IsErrOf, length};
+ghost use Rattle.std.specs.Io.KnownBytes.{Appends, IsAtEnd};
+ghost use Rattle.icu_segmenter.specs.Utf8.{utf8_items};
+ghost use Rattle.icu_segmenter.specs.Boundaries.{boundaries, places};
+ghost use Rattle.textcut.specs.Command.{texts, words_of, IsNoCommand, boundaries_of};
+ghost use Rattle.textcut.specs.Failure.{status_of};
+ghost use Rattle.textcut.specs.Lines.{lines_of};
+ghost use Rattle.textcut.specs.declared.failure.Failure.{Failure as AnyFailure};
+ghost use Rattle.textcut.specs.declared.command.Command.{Command as AnyCommand};
+
+use crate::command::{Command, command_of};
+use crate::failure::Failure;
+use crate::lines::print_lines;
+use bench::clusters::cluster_machine;
+use icu_segmenter::GraphemeClusterSegmenterBorrowed;
+use icu_segmenter::provider::SegmenterStateMachine;
+use std::alloc::Global;
+use std::io;
+use std::io::{ErrorKind, Read, Write};
+
+#[cfg(test)]
+mod tests;
+
+/// Prints the boundaries of the text that a reader gives, as the words ask, and returns the exit
+/// status: 0, or 1 where memory, the reader or the writer failed, or 2 where the words are no command's.
+pub fn run<I: Read, O: Write, E: Write>(
+    alloc: Global,
+    words: &[&str],
+    input: &mut I,
+    out: &mut O,
+    err: &mut E,
+) -> u8
+    ensures range { result ≤ 2 }
+    ensures usage { result ≡ 2 ↔ IsNoCommand (texts words.now) }
+    ensures unread { result ≡ 2 → input.new ≡ input.old }
+    ensures unwritten { result ≡ 2 → out.new ≡ out.old }
+    ensures read_all { result ≡ 0 → IsAtEnd (I.remaining input.new) }
+    ensures printed { result ≡ 0 → (command : AnyCommand) → texts words.now ≡ words_of command
+        → IfSome (I.remaining input.old) (λ bytes.
+        Appends (O.contents out.old) (O.contents out.new) (lines_of (boundaries_of command bytes))) }
+    ensures silent { result ≡ 0 → err.new ≡ err.old }
+    ensures failed { result ≢ 0 → (failure : AnyFailure) × (status_of failure ≡ result)
+        × (failure ≢ Failure.WriteFailed → out.new ≡ out.old) }
+{
+    match try_run(alloc, words, input, out) {
+        Ok(()) => 0,
+        Err(failure) => failure.report(err),
+    }
+}
+
+fn try_run<I: Read, O: Write>(
+    alloc: Global,
+    words: &[&str],
+    input: &mut I,
+    out: &mut O,
+) -> Result<(), Failure>
+    ensures usage { IsErrOf result Failure.Usage ↔ IsNoCommand (texts words.now) }
+    ensures unread { IsErrOf result Failure.Usage → input.new ≡ input.old }
+    ensures unwritten { IfErr result (λ failure. failure ≢ Failure.WriteFailed → out.new ≡ out.old) }
+    ensures read_all { OnOk result (IsAtEnd (I.remaining input.new)) }
+    ensures printed { OnOk result ((command : AnyCommand) → texts words.now ≡ words_of command
+        → IfSome (I.remaining input.old) (λ bytes.
+        Appends (O.contents out.old) (O.contents out.new) (lines_of (boundaries_of command bytes)))) }
+{
+    let command = command_of(words).ok_or(Failure::Usage)?;
+    let text = read_text(alloc, input)?;
+    print_boundaries(alloc, command, text.as_slice(), out)
+}
+
+// All that the reader has.
+fn read_text<I: Read>(alloc: Global, input: &mut I) -> Result<Vec<u8>, Failure>
+    ensures bytes { IfOk result (λ text. IfSome (I.remaining input.old) (λ bytes. text.items ≡ bytes)) }
+    ensures end { OnOk result (IsAtEnd (I.remaining input.new)) }
+    ensures cause { result ≢ Err Failure.Usage × result ≢ Err Failure.WriteFailed }
+{
+    let mut text = Vec::new(alloc);
+    match input.read_to_end(&mut text) {
+        Ok(_) => Ok(text),
+        Err(e) if e.kind() == ErrorKind::OutOfMemory => Err(Failure::NoMemory),
+        Err(_) => Err(Failure::ReadFailed),
+    }
+}
+
+fn print_boundaries<O: Write>(
+    alloc: Global,
+    command: Command,
+    text: &[u8],
+    out: &mut O,
+) -> Result<(), Failure>
+    ensures printed { OnOk result
+        (Appends (O.contents out.old) (O.contents out.new) (lines_of (boundaries_of command text.now))) }
+    ensures unwritten { IsErrOf result Failure.NoMemory → out.new ≡ out.old }
+    ensures cause { result ≢ Err Failure.Usage × result ≢ Err Failure.ReadFailed }
+{
+    match command {
+        Command::GraphemeNeo => {
+            let machine = cluster_machine(alloc)?;
+            print_clusters(&machine, text, out).map_err(|_| Failure::WriteFailed)
+        }
+    }
+}
+
+fn print_clusters<O: Write>(
+    machine: &SegmenterStateMachine,
+    text: &[u8],
+    out: &mut O,
+) -> io::Result<()>
+    ensures { OnOk result (Appends (O.contents out.old) (O.contents out.new)
+        (lines_of (places (boundaries machine.now (utf8_items 0 text.now) (length text.now))))) }
+{
+    let Ok(segmenter) = GraphemeClusterSegmenterBorrowed::new_neo(machine) else {
+        unreachable!()
+    };
+    print_lines(segmenter.segment_utf8(text), out)
+}

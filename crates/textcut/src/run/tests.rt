@@ -1,0 +1,103 @@
+// Runs over readers and writers in memory, and over ones that fail.
+use super::run;
+use bench::devices::{FailingReader, FailingWriter};
+use std::alloc::Global;
+use std::io::{ErrorKind, Read};
+
+const USAGE: &str = "usage: textcut grapheme|sentence|word|line classic|17|neo\n";
+
+// What a run leaves behind.
+#[derive(Drop)]
+struct Outcome {
+    status: u8,
+    out: Vec<u8>,
+    err: Vec<u8>,
+}
+
+impl Outcome {
+    fn is(&self, status: u8, out: &str, err: &str) -> bool {
+        self.status == status
+            && self.out.as_slice() == out.as_bytes()
+            && self.err.as_slice() == err.as_bytes()
+    }
+}
+
+fn run_on<I: Read>(alloc: Global, words: &[&str], input: &mut I) -> Outcome {
+    let (mut out, mut err) = (Vec::new(alloc), Vec::new(alloc));
+    let status = run(alloc, words, input, &mut out, &mut err);
+    Outcome { status, out, err }
+}
+
+#[test]
+fn prints_a_line_for_each_boundary(rt: HostRuntime) {
+    for (text, lines) in [("", "0\n"), ("a", "0\n1\n"), ("ab\n", "0\n1\n2\n3\n")] {
+        let ran = run_on(rt.alloc(), &["grapheme", "neo"], &mut text.as_bytes());
+        assert!(rt; ran.is(0, lines, ""), "{text:?}");
+    }
+}
+
+#[test]
+fn refuses_other_words_and_reads_nothing(rt: HostRuntime) {
+    let wrong: [&[&str]; 6] = [
+        &[],
+        &["grapheme"],
+        &["word", "17"],
+        &["neo", "grapheme"],
+        &["grapheme", "neo "],
+        &["grapheme", "neo", "neo"],
+    ];
+    for words in wrong {
+        let mut text: &[u8] = b"ab";
+        assert!(rt; run_on(rt.alloc(), words, &mut text).is(2, "", USAGE));
+        assert_eq!(rt; text.len(), 2);
+    }
+}
+
+#[test]
+fn says_that_a_read_failed(rt: HostRuntime) {
+    for left in [0, 1, 5000] {
+        let kind = ErrorKind::TimedOut;
+        let ran = run_on(
+            rt.alloc(),
+            &["grapheme", "neo"],
+            &mut FailingReader { left, kind },
+        );
+        assert!(rt; ran.is(1, "", "textcut: read failed\n"), "after {left}");
+    }
+}
+
+#[test]
+fn says_that_memory_ran_out_while_it_read(rt: HostRuntime) {
+    let kind = ErrorKind::OutOfMemory;
+    let mut input = FailingReader { left: 3, kind };
+    let ran = run_on(rt.alloc(), &["grapheme", "neo"], &mut input);
+    assert!(rt; ran.is(1, "", "textcut: no memory\n"));
+}
+
+#[test]
+fn says_that_a_write_or_the_flush_failed(rt: HostRuntime) {
+    for (room, can_flush) in [(0, true), (1, true), (4, true), (100, false)] {
+        let mut out = FailingWriter { room, can_flush };
+        let mut err = Vec::new(rt.alloc());
+        let mut text: &[u8] = b"ab";
+        let words = ["grapheme", "neo"];
+        let status = run(rt.alloc(), &words, &mut text, &mut out, &mut err);
+        assert_eq!(rt; status, 1, "with room for {room}");
+        assert!(rt; err.as_slice() == b"textcut: write failed\n".as_slice());
+    }
+}
+
+#[test]
+fn keeps_its_status_where_nothing_can_be_said(rt: HostRuntime) {
+    for (left, second, status) in [(0, "neo", 1), (9, "17", 2)] {
+        let kind = ErrorKind::TimedOut;
+        let mut input = FailingReader { left, kind };
+        let (room, can_flush) = (0, false);
+        let mut err = FailingWriter { room, can_flush };
+        let mut out = Vec::new(rt.alloc());
+        let words = ["grapheme", second];
+        let answer = run(rt.alloc(), &words, &mut input, &mut out, &mut err);
+        assert_eq!(rt; answer, status);
+        assert!(rt; out.is_empty());
+    }
+}
