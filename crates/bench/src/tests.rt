@@ -1,4 +1,5 @@
 use crate::clusters::cluster_machine;
+use icu_segmenter::indices::{Utf8CharIndices, Utf16Indices};
 use icu_segmenter::provider::{Acceptance, ClassTable, Lookahead, SegmenterStateMachine};
 use icu_segmenter::{GraphemeClusterSegmenter, GraphemeClusterSegmenterBorrowed};
 use std::alloc::{AllocError, Global};
@@ -62,7 +63,7 @@ fn clusters_of_utf8(rt: HostRuntime) -> Result<(), Fail> {
     let alloc = rt.alloc();
     let machine = cluster_machine(alloc)?;
     let line = "Hello World. Xin chào thế giới!".as_bytes();
-    let rows: [(&[u8], &[usize]); 10] = [
+    let rows: [(&[u8], &[usize]); 12] = [
         (
             line,
             &[
@@ -79,6 +80,8 @@ fn clusters_of_utf8(rt: HostRuntime) -> Result<(), Fail> {
         (b"\xF1\x80\x80\xC2\xA9", &[0, 3, 5]),
         (b"\xE1\x80\xE2", &[0, 2, 3]),
         (b"\xED\x9F\xBF", &[0, 3]),
+        (b"\xF0\x9F\x98a\xE0\x80", &[0, 3, 4, 5, 6]),
+        (b"a\xFF\xCC\x81", &[0, 1, 4]),
     ];
     for (text, want) in rows {
         let found = utf8_boundaries(alloc, &machine, text)?;
@@ -117,6 +120,140 @@ fn the_last_acceptance_ends_a_segment(rt: HostRuntime) -> Result<(), Fail> {
     Ok(())
 }
 
+fn utf16_boundaries(
+    alloc: Global,
+    machine: &SegmenterStateMachine,
+    text: &[u16],
+) -> Result<Vec<usize>, Fail> {
+    let segmenter = GraphemeClusterSegmenterBorrowed::new_neo(machine)?;
+    Ok(segmenter.segment_utf16(text).collect(alloc)?)
+}
+
+fn str_boundaries(
+    alloc: Global,
+    machine: &SegmenterStateMachine,
+    text: &str,
+) -> Result<Vec<usize>, Fail> {
+    let segmenter = GraphemeClusterSegmenterBorrowed::new_neo(machine)?;
+    Ok(segmenter.segment_str(text).collect(alloc)?)
+}
+
+#[test]
+fn clusters_of_utf16(rt: HostRuntime) -> Result<(), Fail> {
+    let alloc = rt.alloc();
+    let machine = cluster_machine(alloc)?;
+    let rows: [(&[u16], &[usize]); 4] = [
+        (&[], &[0]),
+        (&[0xDC00, 0xD800, 0xDC00, 0xD800], &[0, 1, 3, 4]),
+        (&[0xD800, 0xD800, 0xDC00], &[0, 1, 3]),
+        (&[0xD800, 0x301], &[0, 2]),
+    ];
+    for (text, want) in rows {
+        let found = utf16_boundaries(alloc, &machine, text)?;
+        assert_eq!(rt; found.as_slice(), want, "{text:?}");
+    }
+    Ok(())
+}
+
+#[test]
+fn clusters_of_a_line(rt: HostRuntime) -> Result<(), Fail> {
+    let alloc = rt.alloc();
+    let machine = cluster_machine(alloc)?;
+    let line = "Hello World. Xin chào thế giới!";
+    let units: Vec<u16> = line.encode_utf16().collect(alloc)?;
+    let each: Vec<usize> = (0..32).collect(alloc)?;
+    assert_eq!(rt;
+        utf16_boundaries(alloc, &machine, units.as_slice())?.as_slice(),
+        each.as_slice()
+    );
+    let places = utf8_boundaries(alloc, &machine, line.as_bytes())?;
+    assert_eq!(rt;
+        str_boundaries(alloc, &machine, line)?.as_slice(),
+        places.as_slice()
+    );
+    assert_eq!(rt;
+        str_boundaries(alloc, &machine, "")?.as_slice(),
+        [0].as_slice()
+    );
+    Ok(())
+}
+
+const CODE_POINTS: [char; 10] = [
+    'a',
+    '\r',
+    '\n',
+    ' ',
+    '\u{301}',
+    '\u{E01}',
+    '\u{E34}',
+    '\u{4E00}',
+    '\u{20000}',
+    '\u{FFFD}',
+];
+
+/// The text of so many of these code points, by the digits of a number.
+fn text_of(alloc: Global, length: usize, number: usize) -> Result<String, AllocError> {
+    let mut text = String::new(alloc);
+    let mut digits = number;
+    for _ in 0..length {
+        text.push(CODE_POINTS[digits % 10])?;
+        digits /= 10;
+    }
+    Ok(text)
+}
+
+/// The ordinals of boundaries, in code points, where the items have these places.
+fn ordinals(
+    alloc: Global,
+    boundaries: &[usize],
+    items: &[usize],
+) -> Result<Vec<usize>, AllocError> {
+    let mut found = Vec::new(alloc);
+    for boundary in boundaries {
+        found.push(items.iter().filter(|place| **place < *boundary).count())?;
+    }
+    Ok(found)
+}
+
+/// Whether a text has boundaries at equal ordinals in all encodings that have it.
+fn agrees(alloc: Global, machine: &SegmenterStateMachine, text: &str) -> Result<bool, Fail> {
+    let bytes: Vec<usize> = Utf8CharIndices::new(text.as_bytes())
+        .map(|item| item.0)
+        .collect(alloc)?;
+    let of_str = str_boundaries(alloc, machine, text)?;
+    let of_utf8 = utf8_boundaries(alloc, machine, text.as_bytes())?;
+    let units: Vec<u16> = text.encode_utf16().collect(alloc)?;
+    let of_utf16 = utf16_boundaries(alloc, machine, units.as_slice())?;
+    let pairs: Vec<usize> = Utf16Indices::new(units.as_slice())
+        .map(|item| item.0)
+        .collect(alloc)?;
+    let expected = ordinals(alloc, of_str.as_slice(), bytes.as_slice())?;
+    let narrow: Vec<u8> = text
+        .chars()
+        .filter_map(|c| u8::try_from(c as u32).ok())
+        .collect(alloc)?;
+    let of_latin1 = latin1_boundaries(alloc, machine, narrow.as_slice())?;
+    Ok(
+        of_utf8.as_slice() == of_str.as_slice()
+            && ordinals(alloc, of_utf16.as_slice(), pairs.as_slice())?.as_slice()
+                == expected.as_slice()
+            && (narrow.len() < bytes.len() || of_latin1.as_slice() == expected.as_slice()),
+    )
+}
+
+#[test]
+fn equal_code_points_have_equal_ordinals(rt: HostRuntime) -> Result<(), Fail> {
+    let alloc = rt.alloc();
+    let machine = cluster_machine(alloc)?;
+    for (length, count) in [(0, 1), (1, 10), (2, 100), (3, 1000)] {
+        for number in 0..count {
+            let text = text_of(alloc, length, number)?;
+            assert!(rt; agrees(alloc, &machine, text.as_str())?, "{text:?}");
+        }
+    }
+    Ok(())
+}
+
 #[test]
 fn ends_for_ever(rt: HostRuntime) -> Result<(), Fail> {
     let owned = GraphemeClusterSegmenter::try_new_neo(cluster_machine(rt.alloc())?)?;
@@ -124,6 +261,14 @@ fn ends_for_ever(rt: HostRuntime) -> Result<(), Fail> {
     assert_eq!(rt; utf8.next(), Some(0));
     assert_eq!(rt; utf8.next(), None);
     assert_eq!(rt; utf8.next(), None);
+    let mut utf16 = owned.as_borrowed().segment_utf16(&[]);
+    assert_eq!(rt; utf16.next(), Some(0));
+    assert_eq!(rt; utf16.next(), None);
+    assert_eq!(rt; utf16.next(), None);
+    let mut str = owned.as_borrowed().segment_str("");
+    assert_eq!(rt; str.next(), Some(0));
+    assert_eq!(rt; str.next(), None);
+    assert_eq!(rt; str.next(), None);
     let mut latin1 = owned.as_borrowed().segment_latin1(b"");
     assert_eq!(rt; latin1.next(), Some(0));
     assert_eq!(rt; latin1.next(), None);

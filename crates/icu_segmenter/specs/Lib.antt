@@ -2,6 +2,7 @@
 pub use Rattle.seg_text.specs.Items
 pub use Rattle.seg_text.specs.Latin1
 pub use Rattle.seg_text.specs.Utf8
+pub use Rattle.seg_text.specs.Utf16
 pub use Rattle.seg_text.specs.Cursor
 pub use Rattle.seg_data.specs.Table
 pub use Rattle.seg_data.specs.Machine

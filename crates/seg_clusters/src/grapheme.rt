@@ -5,16 +5,18 @@ ghost use Rattle.std.specs.Iterator.{YieldsFirst, item_count};
 ghost use Rattle.seg_text.specs.Items.{place_of};
 ghost use Rattle.seg_text.specs.Latin1.{latin1_items};
 ghost use Rattle.seg_text.specs.Utf8.{utf8_items};
+ghost use Rattle.seg_text.specs.Utf16.{utf16_items};
 ghost use Rattle.seg_machine.specs.Boundaries.{boundaries, places, places_left, IsSegmented, IsCover};
 
 use seg_data::provider::{DataError, SegmenterStateMachine};
 use seg_machine::rule_segmenter_v2::RuleBreakIterator;
-use seg_text::indices::{Latin1Indices, Utf8CharIndices};
+use seg_text::indices::{Latin1Indices, StrCharIndices, Utf8CharIndices, Utf16Indices};
 use seg_text::inner::Cursor;
-use seg_text::scaffold::{Latin1, PotentiallyIllFormedUtf8, RuleBreakType};
+use seg_text::scaffold::{Latin1, PotentiallyIllFormedUtf8, RuleBreakType, Utf8, Utf16};
 use std::marker::PhantomData;
 
-/// The boundaries of grapheme clusters in a text, as places: bytes in Latin-1 and UTF-8.
+/// The boundaries of grapheme clusters in a text, as places: bytes in str, UTF-8 and Latin-1,
+/// 16-bit units in UTF-16.
 ///
 /// First 0, then the end of each cluster; the last is the text's length. After None it is None for ever.
 pub struct GraphemeClusterBreakIterator<'data, 's, Y: RuleBreakType<'s>> {
@@ -84,6 +86,18 @@ impl<'data> GraphemeClusterSegmenterBorrowed<'data> {
         Ok(GraphemeClusterSegmenterBorrowed { machine })
     }
 
+    /// The boundaries of the clusters of a `str`, in bytes: those of its bytes as UTF-8. Takes no memory.
+    pub fn segment_str<'s>(self, input: &'s str) -> GraphemeClusterBreakIterator<'data, 's, Utf8>
+        ensures boundaries { clusters_left result
+            ≡ places (boundaries (machine_of self.entry) (utf8_items 0 input.now) (length input.now)) }
+        ensures segments { (found : List (ℕ × ℕ))
+            × IsSegmented (machine_of self.entry) (utf8_items 0 input.now) (length input.now) found
+            × (clusters_left result ≡ places found) }
+        ensures cover { IsCover 0 (length input.now) (clusters_left result) }
+    {
+        segment(self.machine, StrCharIndices::new(input))
+    }
+
     /// The boundaries of the clusters of possibly ill-formed UTF-8, in bytes. Each longest beginning of a
     /// well-formed sequence that isn't one counts as U+FFFD (Unicode Table 3-7). Takes no memory.
     pub fn segment_utf8<'s>(
@@ -113,6 +127,22 @@ impl<'data> GraphemeClusterSegmenterBorrowed<'data> {
         ensures cover { IsCover 0 (length input.now) (clusters_left result) }
     {
         segment(self.machine, Latin1Indices::new(input))
+    }
+
+    /// The boundaries of the clusters of possibly ill-formed UTF-16, in 16-bit units. A surrogate that stands alone
+    /// counts as itself. Takes no memory.
+    pub fn segment_utf16<'s>(
+        self,
+        input: &'s [u16],
+    ) -> GraphemeClusterBreakIterator<'data, 's, Utf16>
+        ensures boundaries { clusters_left result
+            ≡ places (boundaries (machine_of self.entry) (utf16_items 0 input.now) (length input.now)) }
+        ensures segments { (found : List (ℕ × ℕ))
+            × IsSegmented (machine_of self.entry) (utf16_items 0 input.now) (length input.now) found
+            × (clusters_left result ≡ places found) }
+        ensures cover { IsCover 0 (length input.now) (clusters_left result) }
+    {
+        segment(self.machine, Utf16Indices::new(input))
     }
 }
 

@@ -2,3 +2,4 @@
 #![tactic(auto)]
 
 pub mod grapheme;
+pub mod laws;

@@ -4,3 +4,8 @@ pub mod Latin1
 pub mod Utf8Rows
 pub mod Utf8
 pub mod Utf8Reads
+pub mod Utf16
+pub mod Slice
+pub mod Utf8Stable
+pub mod Str
+pub mod StrTiling

@@ -1,6 +1,6 @@
 -- A text is the list of its items. An item is its place, which is where it begins, and its code point;
 -- it ends where the next one begins, and the last where the text ends.
-use Rattle.std.specs.Prelude.{◌≡◌, ℕ, zero, suc, ◌+◌, ◌<◌, ◌≤◌, List, [], ◌∷◌, length, drop, map}
+use Rattle.std.specs.Prelude.{◌≡◌, ℕ, zero, suc, ◌+◌, ◌-◌, ◌<◌, ◌≤◌, List, [], ◌∷◌, length, drop, map}
 
 -- the place of the first item, or the end of the text where there is none
 abbrev pub place_of : List (ℕ × ℕ) → ℕ → ℕ
@@ -9,6 +9,10 @@ place_of (item ∷ items) end = item.0
 
 abbrev pub code_points : List (ℕ × ℕ) → List ℕ
 code_points items = map (λ (item : ℕ × ℕ). item.1) items
+
+-- the same items in a text that begins at a place of theirs
+abbrev pub shifted_back : ℕ → List (ℕ × ℕ) → List (ℕ × ℕ)
+shifted_back from items = map (λ (item : ℕ × ℕ). (item.0 - from, item.1)) items
 
 -- the items tile the units from a place on: each takes one or more units, and is what an encoding reads in
 -- them (`Reads`: of the units that are left, so many give this code point); the last one ends with the units

@@ -1,11 +1,12 @@
 -- The reader of each encoding, and so the law that the items of its cursor rise.
 use Rattle.std.proofs.Common.{◌≡◌, ℕ, suc, ◌+◌, ◌<◌, ◌≤◌, Bool, true, false, nat_le, nat_lt, List, [], ◌∷◌, length, refl, arith}
 use Rattle.std.proofs.lemmas.Bool.{ltb-true}
-use Rattle.std.specs.Prelude.{◌&&◌, find, if◌then◌else◌}
+use Rattle.std.specs.Prelude.{◌&&◌, ◌==◌, find, bit_and, if◌then◌else◌}
 use Rattle.std.specs.Option.{option_map_or}
 use Rattle.seg_text.specs.Items.{IsRising}
 use Rattle.seg_text.specs.Latin1.{read_latin1, latin1_items}
 use Rattle.seg_text.specs.Utf8.{rows, fitting, read_row, read_utf8, utf8_items}
+use Rattle.seg_text.specs.Utf16.{pair_of, read_utf16, utf16_items}
 use Rattle.seg_text.specs.Reader.{IsReader, items_by-rises}
 
 pub read_latin1-reader : IsReader read_latin1
@@ -52,3 +53,25 @@ read_utf8-reader = record {
 pub utf8_items-rises : (place : ℕ) (bytes : List ℕ) → IsRising (utf8_items place bytes) (place + length bytes)
 unfolding utf8_items
 utf8_items-rises place bytes = items_by-rises read_utf8 read_utf8-reader place bytes
+
+-- what is read takes one unit, or two where there are two
+read_utf16-bounds : (unit : ℕ) (units : List ℕ)
+    → (0 < (read_utf16 (unit ∷ units)).0) × ((read_utf16 (unit ∷ units)).0 ≤ suc (length units))
+unfolding read_utf16
+read_utf16-bounds unit [] = (omega arith, omega arith)
+read_utf16-bounds unit (next ∷ units) = either ((bit_and unit 0xFC00 == 0xD800) && (bit_and next 0xFC00 == 0xDC00))
+  where
+    either : (b : Bool) → let found : ℕ × ℕ = if b then (2, pair_of unit next) else (1, unit) in
+        (0 < found.0) × (found.0 ≤ suc (suc (length units)))
+    either true = (omega arith, omega arith)
+    either false = (omega arith, omega arith)
+
+pub read_utf16-reader : IsReader read_utf16
+read_utf16-reader = record {
+  some = λ unit units. (read_utf16-bounds unit units).0;
+  within = λ unit units. (read_utf16-bounds unit units).1;
+}
+
+pub utf16_items-rises : (place : ℕ) (units : List ℕ) → IsRising (utf16_items place units) (place + length units)
+unfolding utf16_items
+utf16_items-rises place units = items_by-rises read_utf16 read_utf16-reader place units

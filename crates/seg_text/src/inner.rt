@@ -1,12 +1,12 @@
 //! What the crates above need of a cursor, whatever its encoding. Not part of the public surface.
 
-ghost use Rattle.std.specs.Prelude.{◌≡◌, ℕ, List, drop, length, ◌==◌};
+ghost use Rattle.std.specs.Prelude.{◌≡◌, ℕ, ◌+◌, ◌-◌, List, take, drop, length, ◌==◌};
 ghost use Rattle.std.specs.Iterator.{YieldsFirstBy};
-ghost use Rattle.seg_text.specs.Items.{IsRising, place_of};
+ghost use Rattle.seg_text.specs.Items.{IsRising, place_of, shifted_back};
 
 /// A cursor over a text, at the place of its next item.
 ///
-/// Places are units from the text's start: bytes in Latin-1 and UTF-8.
+/// Places are units from the text's start: bytes in Latin-1 and UTF-8, 16-bit units in UTF-16.
 pub trait Cursor: Drop {
     /// The items that aren't read yet: the place of each, and its code point.
     ghost left: { Self → List (ℕ × ℕ) };
@@ -37,6 +37,15 @@ pub trait Cursor: Drop {
         ensures left { (k : ℕ) → place ≡ place_of (drop k (left self.old)) (end self.old)
             → left self.new ≡ drop k (left self.old) }
         ensures end { end self.new ≡ end self.old };
+
+    /// The items from one place up to another, as a text of its own: its places start at 0 again. O(1), takes no memory.
+    fn slice(&self, from: usize, to: usize) -> Self
+        requires { (j k : ℕ) × (from ≡ place_of (drop j (left self.now)) (end self.now))
+            × (to ≡ place_of (drop (j + k) (left self.now)) (end self.now)) }
+        ensures items { (j k : ℕ) → from ≡ place_of (drop j (left self.now)) (end self.now)
+            → to ≡ place_of (drop (j + k) (left self.now)) (end self.now)
+            → left result ≡ shifted_back from (take k (drop j (left self.now))) }
+        ensures end { end result ≡ to - from };
 
     /// The items that aren't read are in order, none of them is empty, and they reach to the end.
     ghost rises: { (s : Self) → IsRising (left s) (end s) };

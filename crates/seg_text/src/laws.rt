@@ -1,9 +1,11 @@
 //! What is proved of the definitions themselves: that the items of a text are what the standards say, and no others.
 
 ghost use Rattle.std.specs.Prelude.{◌≡◌, ℕ, List};
-ghost use Rattle.seg_text.specs.Items.{IsTiling};
+ghost use Rattle.std.specs.Str.{IsUtf8, chars};
+ghost use Rattle.seg_text.specs.Items.{IsTiling, code_points};
 ghost use Rattle.seg_text.specs.Latin1.{ReadsLatin1, latin1_items};
-ghost use Rattle.seg_text.specs.Utf8.{ReadsUtf8, utf8_items};
+ghost use Rattle.seg_text.specs.Utf8.{ReadsUtf8, ReadsWellFormed, utf8_items};
+ghost use Rattle.seg_text.specs.Utf16.{ReadsUtf16, utf16_items};
 
 /// The items of Latin-1 tile the bytes, and no other items do.
 ///
@@ -22,4 +24,26 @@ pub fn utf8_items_are_one()
     ensures tiles { (place : ℕ) (bytes : List ℕ) → IsTiling ReadsUtf8 (utf8_items place bytes) place bytes }
     ensures only { (place : ℕ) (bytes : List ℕ) (items : List (ℕ × ℕ))
         → IsTiling ReadsUtf8 items place bytes → items ≡ utf8_items place bytes }
+{}
+
+/// The items of possibly ill-formed UTF-16 tile the units, and no other items do.
+///
+/// An item is a high surrogate with the low one right after it, or else one unit, which keeps its own number.
+/// This holds from any place on.
+pub fn utf16_items_are_one()
+    ensures tiles { (place : ℕ) (units : List ℕ) → IsTiling ReadsUtf16 (utf16_items place units) place units }
+    ensures only { (place : ℕ) (units : List ℕ) (items : List (ℕ × ℕ))
+        → IsTiling ReadsUtf16 items place units → items ≡ utf16_items place units }
+{}
+
+/// The items of a `str` are its characters, and none is ill-formed: well-formed sequences tile its bytes.
+pub fn str_is_well_formed(text: &str)
+    ensures well_formed { IsTiling ReadsWellFormed (utf8_items 0 text.now) 0 text.now }
+    ensures characters { code_points (utf8_items 0 text.now) ≡ chars text.now }
+{}
+
+/// And bytes that well-formed sequences tile are those of a `str`. This holds from any place on.
+pub fn well_formed_is_str()
+    ensures utf8 { (place : ℕ) (bytes : List ℕ) (items : List (ℕ × ℕ))
+        → IsTiling ReadsWellFormed items place bytes → IsUtf8 bytes }
 {}

@@ -1,17 +1,27 @@
 //! The encodings that segmenters take.
 
-ghost use Rattle.std.specs.Prelude.{◌≡◌, ℕ, Option, length, ◌==◌};
+ghost use Rattle.std.specs.Prelude.{◌≡◌, ℕ, ◌+◌, ◌-◌, ◌<◌, Bool, true, false, Option, take, drop, length, ◌==◌};
+ghost use Rattle.std.specs.List.{All};
 ghost use Rattle.std.specs.Iterator.{YieldsFirstBy, IsFinite};
-ghost use Rattle.seg_text.specs.Items.{place_of};
+ghost use Rattle.seg_text.specs.Items.{place_of, code_points, shifted_back};
 
-use crate::indices::{Latin1Indices, Utf8CharIndices};
+use crate::indices::{Latin1Indices, StrCharIndices, Utf8CharIndices, Utf16Indices};
 use crate::inner::Cursor;
 use crate::private::Sealed;
+
+/// What holds of an encoding for any lifetime of the text. Sealed, as `RuleBreakType`.
+pub trait Encoding: Sealed {
+    /// Whether its texts can contain scripts that need a dictionary or a model to break: those of Southeast Asia.
+    const CAN_CONTAIN_SA: bool;
+
+    /// The same in clauses.
+    ghost CAN_CONTAIN_SA: { Bool };
+}
 
 /// An encoding of texts: which cursor reads its items.
 ///
 /// Sealed: the encodings are those of this module. `'s` is the lifetime of the text.
-pub trait RuleBreakType<'s>: Sealed {
+pub trait RuleBreakType<'s>: Encoding {
     /// What the cursor gives for each item.
     type CharType: Copy + Into<u32>;
 
@@ -32,6 +42,20 @@ pub trait RuleBreakType<'s>: Sealed {
     /// The place of the next item, or of the text's end.
     fn offset(iter: &Self::IterAttr) -> usize
         ensures { result ≡ place_of (Self.IterAttr.left iter.now) (Self.IterAttr.end iter.now) };
+
+    /// The items from one place up to another, as a text of its own: its places start at 0 again. O(1), takes no memory.
+    fn slice(iter: &Self::IterAttr, from: usize, to: usize) -> Self::IterAttr
+        requires { (j k : ℕ) × (from ≡ place_of (drop j (Self.IterAttr.left iter.now)) (Self.IterAttr.end iter.now))
+            × (to ≡ place_of (drop (j + k) (Self.IterAttr.left iter.now)) (Self.IterAttr.end iter.now)) }
+        ensures items { (j k : ℕ) → from ≡ place_of (drop j (Self.IterAttr.left iter.now)) (Self.IterAttr.end iter.now)
+            → to ≡ place_of (drop (j + k) (Self.IterAttr.left iter.now)) (Self.IterAttr.end iter.now)
+            → Self.IterAttr.left result ≡ shifted_back from (take k (drop j (Self.IterAttr.left iter.now))) }
+        ensures end { Self.IterAttr.end result ≡ to - from };
+
+    /// Where `CAN_CONTAIN_SA` is false, the code points that are left are all below U+0100. Does nothing.
+    fn check(iter: &Self::IterAttr)
+        ensures narrow { Self.CAN_CONTAIN_SA ≡ false
+            → All (λ code_point. code_point < 0x100) (code_points (Self.IterAttr.left iter.now)) };
 
     /// `next` may always be called.
     ghost always: { (s : Self.IterAttr) → Self.IterAttr.can_next s };
@@ -54,6 +78,12 @@ pub struct Latin1;
 
 impl Sealed for Latin1 {}
 
+impl Encoding for Latin1 {
+    const CAN_CONTAIN_SA: bool = false;
+
+    ghost CAN_CONTAIN_SA = { false };
+}
+
 impl<'s> RuleBreakType<'s> for Latin1 {
     type CharType = u8;
 
@@ -73,6 +103,67 @@ impl<'s> RuleBreakType<'s> for Latin1 {
         iter.place()
     }
 
+    fn slice(iter: &Latin1Indices<'s>, from: usize, to: usize) -> Latin1Indices<'s> {
+        iter.slice(from, to)
+    }
+
+    fn check(iter: &Latin1Indices<'s>) {
+        check_bytes(iter.as_slice())
+    }
+
+    ghost always = { λ _. tt };
+
+    ghost ends = { λ s. tt };
+
+    ghost gives = { λ s r t h. h };
+
+    ghost converts = { λ c n h. h };
+}
+
+/// Each byte is below 0x100. Does nothing.
+fn check_bytes(bytes: &[u8])
+    ensures { All (λ byte. byte < 0x100) bytes.now }
+{
+    let _ = bytes;
+}
+
+/// A `str`: its items are its `char`s, and their places are bytes.
+#[derive(Debug)]
+pub struct Utf8;
+
+impl Sealed for Utf8 {}
+
+impl Encoding for Utf8 {
+    const CAN_CONTAIN_SA: bool = true;
+
+    ghost CAN_CONTAIN_SA = { true };
+}
+
+impl<'s> RuleBreakType<'s> for Utf8 {
+    type CharType = char;
+
+    type IterAttr = StrCharIndices<'s>;
+
+    ghost code_point = { λ c. c };
+
+    fn fork(iter: &StrCharIndices<'s>) -> StrCharIndices<'s> {
+        iter.fork()
+    }
+
+    fn is_empty(iter: &StrCharIndices<'s>) -> bool {
+        iter.is_at_end()
+    }
+
+    fn offset(iter: &StrCharIndices<'s>) -> usize {
+        iter.place()
+    }
+
+    fn slice(iter: &StrCharIndices<'s>, from: usize, to: usize) -> StrCharIndices<'s> {
+        iter.slice(from, to)
+    }
+
+    fn check(_iter: &StrCharIndices<'s>) {}
+
     ghost always = { λ _. tt };
 
     ghost ends = { λ s. tt };
@@ -87,6 +178,12 @@ impl<'s> RuleBreakType<'s> for Latin1 {
 pub struct PotentiallyIllFormedUtf8;
 
 impl Sealed for PotentiallyIllFormedUtf8 {}
+
+impl Encoding for PotentiallyIllFormedUtf8 {
+    const CAN_CONTAIN_SA: bool = true;
+
+    ghost CAN_CONTAIN_SA = { true };
+}
 
 impl<'s> RuleBreakType<'s> for PotentiallyIllFormedUtf8 {
     type CharType = char;
@@ -107,6 +204,12 @@ impl<'s> RuleBreakType<'s> for PotentiallyIllFormedUtf8 {
         iter.place()
     }
 
+    fn slice(iter: &Utf8CharIndices<'s>, from: usize, to: usize) -> Utf8CharIndices<'s> {
+        iter.slice(from, to)
+    }
+
+    fn check(_iter: &Utf8CharIndices<'s>) {}
+
     ghost always = { λ _. tt };
 
     ghost ends = { λ s. tt };
@@ -115,3 +218,71 @@ impl<'s> RuleBreakType<'s> for PotentiallyIllFormedUtf8 {
 
     ghost converts = { λ c n h. h };
 }
+
+/// Possibly ill-formed UTF-16: its items are code points, and their places are 16-bit units. A lone surrogate is one.
+#[derive(Debug)]
+pub struct Utf16;
+
+impl Sealed for Utf16 {}
+
+impl Encoding for Utf16 {
+    const CAN_CONTAIN_SA: bool = true;
+
+    ghost CAN_CONTAIN_SA = { true };
+}
+
+impl<'s> RuleBreakType<'s> for Utf16 {
+    type CharType = u32;
+
+    type IterAttr = Utf16Indices<'s>;
+
+    ghost code_point = { λ c. c };
+
+    fn fork(iter: &Utf16Indices<'s>) -> Utf16Indices<'s> {
+        iter.fork()
+    }
+
+    fn is_empty(iter: &Utf16Indices<'s>) -> bool {
+        iter.is_at_end()
+    }
+
+    fn offset(iter: &Utf16Indices<'s>) -> usize {
+        iter.place()
+    }
+
+    fn slice(iter: &Utf16Indices<'s>, from: usize, to: usize) -> Utf16Indices<'s> {
+        iter.slice(from, to)
+    }
+
+    fn check(_iter: &Utf16Indices<'s>) {}
+
+    ghost always = { λ _. tt };
+
+    ghost ends = { λ s. tt };
+
+    ghost gives = { λ s r t h. h };
+
+    ghost converts = { λ c n h. h };
+}
+
+/// An encoding whose texts a word segmenter takes.
+pub trait WordBreakType<'s>: RuleBreakType<'s> {}
+
+impl<'s> WordBreakType<'s> for Latin1 {}
+
+impl<'s> WordBreakType<'s> for PotentiallyIllFormedUtf8 {}
+
+impl<'s> WordBreakType<'s> for Utf8 {}
+
+impl<'s> WordBreakType<'s> for Utf16 {}
+
+/// An encoding whose texts a line segmenter takes.
+pub trait LineBreakType<'s>: RuleBreakType<'s> {}
+
+impl<'s> LineBreakType<'s> for Latin1 {}
+
+impl<'s> LineBreakType<'s> for PotentiallyIllFormedUtf8 {}
+
+impl<'s> LineBreakType<'s> for Utf8 {}
+
+impl<'s> LineBreakType<'s> for Utf16 {}

@@ -115,5 +115,9 @@ impl<'a> Cursor for Latin1Indices<'a> {
         self.front_offset = place;
     }
 
+    fn slice(&self, from: usize, to: usize) -> Self {
+        Latin1Indices::new(&self.bytes[from..to])
+    }
+
     ghost rises = { λ s. latin1_items-rises s.place s.units };
 }

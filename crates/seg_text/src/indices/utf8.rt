@@ -128,6 +128,10 @@ impl<'a> Cursor for Utf8CharIndices<'a> {
         self.front_offset = place;
     }
 
+    fn slice(&self, from: usize, to: usize) -> Self {
+        Utf8CharIndices::new(&self.bytes[from..to])
+    }
+
     ghost rises = { λ s. utf8_items-rises s.place s.units };
 }
 

@@ -1,0 +1,98 @@
+-- The items of a slice, over any reader that stops where an item ends.
+use Rattle.std.proofs.Common.{◌≡◌, ℕ, zero, suc, ◌+◌, ◌-◌, ◌<◌, ◌≤◌, List, [], ◌∷◌, length, take, drop, refl, ap, sym, ◌∙◌, arith}
+use Rattle.std.proofs.lemmas.List.{length-drop, drop-drop, drop-take}
+use Rattle.seg_text.specs.Items.{place_of, items_by, shifted_back}
+use Rattle.seg_text.specs.Reader.{IsReader, items_by-nil, items_by-cons, place_of-items_by}
+use Rattle.seg_text.proofs.Cursor.{items_by-from, seek-within, seek-left, seek-end}
+
+-- what it reads of an item doesn't change where the units after the item are cut off
+pub record IsStable (read : List ℕ → ℕ × ℕ) : Type 0 where
+  pub reader : IsReader read
+  pub stable : (most unit : ℕ) (units : List ℕ) → (read (unit ∷ units)).0 ≤ most
+      → read (take most (unit ∷ units)) ≡ read (unit ∷ units)
+
+-- the place of the k-th item is not before the first
+place-after : (read : List ℕ → ℕ × ℕ) → IsReader read → (k place : ℕ) (units : List ℕ)
+    → place ≤ place_of (drop k (items_by read place units)) (place + length units)
+place-after read reader k place units =
+    let from = items_by-from read reader k place units in
+    let within : from.before ≤ length units = from.within in
+    let end : place + length units ≡ (place + from.before) + length (drop from.before units) =
+    omega (arith, length-drop from.before units) in
+    let at : place_of (items_by read (place + from.before) (drop from.before units)) (place + length units) ≡ place + from.before =
+    rw end (place_of-items_by read reader (place + from.before) (drop from.before units)) in
+    rw (from.same, at) (omega arith)
+
+-- the first item ends before the place of the k-th after it
+step-after : (read : List ℕ → ℕ × ℕ) → IsReader read → (k place most unit : ℕ) (units : List ℕ)
+    → place + most ≡ place_of (drop (suc k) (items_by read place (unit ∷ units))) (place + length (unit ∷ units))
+    → let taken : ℕ = (read (unit ∷ units)).0 in let rest : List ℕ = drop taken (unit ∷ units) in
+    (taken ≤ most) × (place + most ≡ place_of (drop k (items_by read (place + taken) rest)) ((place + taken) + length rest))
+step-after read reader k place most unit units here =
+    let taken : ℕ = (read (unit ∷ units)).0 in
+    let rest : List ℕ = drop taken (unit ∷ units) in
+    let bound : taken ≤ suc (length units) = reader.within unit units in
+    let end : place + suc (length units) ≡ (place + taken) + length rest = omega (arith, length-drop taken (unit ∷ units)) in
+    let there : place + most ≡ place_of (drop k (items_by read (place + taken) rest)) ((place + taken) + length rest) =
+    rw (items_by-cons read reader place unit units, end) at here in
+    let after : place + taken ≤ place + most = rw there (place-after read reader k (place + taken) rest) in
+    (omega (arith, after), there)
+
+-- the items of the units up to the place of the k-th item are the first k, each place less `from`
+pub slice-items : (read : List ℕ → ℕ × ℕ) → IsStable read → (k from place most : ℕ) (units : List ℕ) → from ≤ place
+    → place + most ≡ place_of (drop k (items_by read place units)) (place + length units)
+    → items_by read (place - from) (take most units) ≡ shifted_back from (take k (items_by read place units))
+slice-items read stable zero from place most units before here =
+    let none : most ≡ 0 = omega (arith, here ∙ place_of-items_by read stable.reader place units) in
+    rw none (items_by-nil read (place - from))
+slice-items read stable (suc k) from place most [] before here =
+    let none : most ≡ 0 = omega (arith, rw (items_by-nil read place) at here) in
+    rw (none, items_by-nil read place, items_by-nil read (place - from)) refl
+slice-items read stable (suc k) from place zero (unit ∷ units) before here =
+    let some : 0 < (read (unit ∷ units)).0 = stable.reader.some unit units in
+    let after = step-after read stable.reader k place zero unit units here in absurd (omega arith)
+slice-items read stable (suc k) from place (suc most) (unit ∷ units) before here =
+    let taken : ℕ = (read (unit ∷ units)).0 in
+    let rest : List ℕ = drop taken (unit ∷ units) in
+    let after = step-after read stable.reader k place (suc most) unit units here in
+    let still : read (unit ∷ take most units) ≡ read (unit ∷ units) = stable.stable (suc most) unit units after.0 in
+    let parts : taken + (suc most - taken) ≡ suc most = omega (arith, after.0) in
+    let cut : drop taken (unit ∷ take most units) ≡ take (suc most - taken) rest =
+    ap (λ n. drop taken (take n (unit ∷ units))) (sym parts) ∙ drop-take taken (suc most - taken) (unit ∷ units) in
+    let moved : (place - from) + taken ≡ (place + taken) - from = omega arith in
+    let further : (place + taken) + (suc most - taken) ≡ place + suc most = omega (arith, parts) in
+    let more = slice-items read stable k from (place + taken) (suc most - taken) rest (omega arith) (further ∙ after.1) in
+    rw (items_by-cons read stable.reader (place - from) unit (take most units), items_by-cons read stable.reader place unit units, still, cut, moved)
+    (ap (λ items. (place - from, (read (unit ∷ units)).1) ∷ items) more)
+
+-- the two places of a slice are in order, and its items are those between them
+slice-found : (read : List ℕ → ℕ × ℕ) → IsStable read → (j k from to start : ℕ) (text : List ℕ) → start ≤ length text
+    → from ≡ place_of (drop j (items_by read start (drop start text))) (start + length (drop start text))
+    → to ≡ place_of (drop (j + k) (items_by read start (drop start text))) (start + length (drop start text))
+    → (from ≤ to)
+    × (items_by read 0 (take (to - from) (drop from text)) ≡ shifted_back from (take k (drop j (items_by read start (drop start text)))))
+slice-found read stable j k from to start text inside begins ends =
+    let left = seek-left read stable.reader j from start text inside begins in
+    let within = seek-within read stable.reader j from start text inside begins in
+    let same_end = seek-end from start text within inside in
+    let reaches : to ≡ place_of (drop k (items_by read from (drop from text))) (from + length (drop from text)) =
+    rw (left, same_end, drop-drop k j (items_by read start (drop start text))) ends in
+    let after : from ≤ to = rw reaches (place-after read stable.reader k from (drop from text)) in
+    let parts : from + (to - from) ≡ to = omega arith in
+    let nothing : from - from ≡ 0 = omega arith in
+    let items = slice-items read stable k from from (to - from) (drop from text) (omega arith) (parts ∙ reaches) in
+    (after, rw (nothing, left) at items)
+
+pub slice-order : (read : List ℕ → ℕ × ℕ) → IsStable read → (j k from to start : ℕ) (text : List ℕ) → start ≤ length text
+    → from ≡ place_of (drop j (items_by read start (drop start text))) (start + length (drop start text))
+    → to ≡ place_of (drop (j + k) (items_by read start (drop start text))) (start + length (drop start text))
+    → from ≤ to
+slice-order read stable j k from to start text inside begins ends =
+    (slice-found read stable j k from to start text inside begins ends).0
+
+pub slice-left : (read : List ℕ → ℕ × ℕ) → IsStable read → (j k from to start : ℕ) (text : List ℕ) → start ≤ length text
+    → from ≡ place_of (drop j (items_by read start (drop start text))) (start + length (drop start text))
+    → to ≡ place_of (drop (j + k) (items_by read start (drop start text))) (start + length (drop start text))
+    → items_by read 0 (take (to - from) (drop from text)) ≡ shifted_back from (take k (drop j (items_by read start (drop start text))))
+slice-left read stable j k from to start text inside begins ends =
+    (slice-found read stable j k from to start text inside begins ends).1

@@ -1,0 +1,40 @@
+use Rattle.std.proofs.Common.{◌+◌, arith}
+use Rattle.seg_text.specs.Utf8.{read_utf8, utf8_items}
+use Rattle.seg_text.specs.Rising.{read_utf8-reader}
+use Rattle.seg_text.proofs.Cursor.{seek-within}
+use Rattle.seg_text.proofs.Slice.{slice-order, slice-left}
+use Rattle.seg_text.proofs.Utf8Stable.{read_utf8-stable}
+use Rattle.seg_text.proofs.indices.utf8.Utf8CharIndicesCursor.slice.Goals as goal
+
+pub slice_bounds-new-count : goal.slice_bounds-new-count
+unfolding utf8_items
+slice_bounds-new-count c =
+    slice-order read_utf8 read_utf8-stable c.requires.0 c.requires.1 _ _ c.self.inside.front_offset c.self.inside.bytes.now
+    c.self.invariant (rw (← c.self.view_is) at c.requires.2) (rw (← c.self.view_is) at c.requires.3)
+
+pub slice_bounds-new-start : goal.slice_bounds-new-start
+unfolding utf8_items
+slice_bounds-new-start c =
+    omega (
+      arith,
+      slice_bounds-new-count c,
+      seek-within read_utf8 read_utf8-reader (c.requires.0 + c.requires.1) _ c.self.inside.front_offset _ c.self.invariant
+          (rw (← c.self.view_is) at c.requires.3),
+    )
+
+pub slice_bounds-new-end : goal.slice_bounds-new-end
+unfolding utf8_items
+slice_bounds-new-end c =
+    omega (
+      arith,
+      slice_bounds-new-count c,
+      seek-within read_utf8 read_utf8-reader (c.requires.0 + c.requires.1) _ c.self.inside.front_offset _ c.self.invariant
+          (rw (← c.self.view_is) at c.requires.3),
+    )
+
+pub returns-clause-items : goal.returns-clause-items
+unfolding utf8_items
+returns-clause-items c j k begins ends =
+    rw (← c.self.view_is, c.new.ensures)
+    (slice-left read_utf8 read_utf8-stable j k _ _ c.self.inside.front_offset c.self.inside.bytes.now c.self.invariant
+    (rw (← c.self.view_is) at begins) (rw (← c.self.view_is) at ends))

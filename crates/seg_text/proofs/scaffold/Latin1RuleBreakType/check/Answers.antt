@@ -1,0 +1,8 @@
+use Rattle.seg_text.proofs.Latin1.{latin1_items-code_points}
+use Rattle.seg_text.proofs.scaffold.Latin1RuleBreakType.check.Goals as goal
+
+pub returns : goal.returns
+returns c = record {
+  narrow = λ _.
+      rw (latin1_items-code_points c.args.iter.now.place c.args.iter.now.units, ← c.as_slice.ensures) c.check_bytes.ensures;
+}
