@@ -30,6 +30,7 @@ in-three : (k : ℕ) (first second : ℕ × ℕ) (a b c : ℕ) → k < 9
 in-three k first second a b c here is low_a high_a low_b high_b low_c high_c =
     (first ∷ second ∷ trail ∷ [], (k, here, is), (low_a, high_a, (low_b, high_b, (low_c, high_c, tt))), refl)
 
+-- and four
 in-four : (k : ℕ) (first second : ℕ × ℕ) (a b c d : ℕ) → k < 9
     → slice_index_or rows k (first ∷ second ∷ trail ∷ trail ∷ []) ≡ first ∷ second ∷ trail ∷ trail ∷ []
     → first.0 ≤ a → a ≤ first.1 → second.0 ≤ b → b ≤ second.1 → 0x80 ≤ c → c ≤ 0xBF → 0x80 ≤ d → d ≤ 0xBF
@@ -86,6 +87,7 @@ spells-four c low high =
         in-four 8 (0xF4, 0xF4) (0x80, 0x8F) _ _ _ _ (omega arith) refl (omega arith) (omega arith) (omega arith) (omega arith) (omega arith) (omega arith)
         (omega arith) (omega arith)
 
+-- the bytes of a character are a well-formed sequence, and it is their code point
 spells : (c : ℕ) → IsScalar c → Spells c (encode_utf8 c)
 spells c is = by (cases_lt c 0x80) (cases_lt c 0x800) (cases_lt c 0x1_0000) (scalar_cases c is)
   where
@@ -137,6 +139,7 @@ items_by-some : (place : ℕ) (bytes : List ℕ) → 0 < length bytes
 items_by-some place [] some = absurd (omega arith)
 items_by-some place (byte ∷ bytes) some = items_by-cons read_utf8 read_utf8-reader place byte bytes
 
+-- by the characters that the bytes spell
 encodes-tile : (cs : List ℕ) (place : ℕ) → all_scalars cs ≡ true
     → IsTiling ReadsWellFormed (items_by read_utf8 place (encode_utf8_all cs)) place (encode_utf8_all cs)
 encodes-tile [] place are = rw (items_by-nil read_utf8 place) refl

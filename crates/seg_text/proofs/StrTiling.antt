@@ -11,6 +11,7 @@ use Rattle.std.specs.Str.{IsUtf8}
 use Rattle.seg_text.specs.Items.{IsTiling}
 use Rattle.seg_text.specs.Utf8.{rows, trail, Fits, IsWellFormed, ReadsWellFormed}
 
+-- what is below the surrogates, or above them, is a scalar value
 scalar-in : (c : ℕ) → (c < 0xD800) ⊎ ((0xE000 ≤ c) × (c < 0x11_0000)) → IsScalar c
 scalar-in c (inl low) = low_scalar c low
 scalar-in c (inr (low, high)) =
@@ -82,13 +83,13 @@ row-two (a ∷ []) fits long = absurd (omega arith)
 row-two (a ∷ b ∷ []) (low_a, high_a, (low_b, high_b, _)) long = spelt-two a b low_a high_a low_b high_b
 row-two (a ∷ b ∷ d ∷ bytes) fits long = absurd (omega arith)
 
-row-three : (first second : ℕ × ℕ) (bytes : List ℕ) → Fits (first ∷ second ∷ trail ∷ []) bytes → length bytes ≡ 3
-    → 0xE0 ≤ first.0 → first.1 ≤ 0xEF → 0x80 ≤ second.0 → second.1 ≤ 0xBF → (0xE1 ≤ first.0) ⊎ (0xA0 ≤ second.0)
-    → (first.1 ≤ 0xEC) ⊎ ((0xEE ≤ first.0) ⊎ (second.1 ≤ 0x9F)) → IsUtf8 bytes
-row-three first second [] fits long low high start end not_below no_surrogate = absurd (omega arith)
-row-three first second (a ∷ []) fits long low high start end not_below no_surrogate = absurd (omega arith)
-row-three first second (a ∷ b ∷ []) fits long low high start end not_below no_surrogate = absurd (omega arith)
-row-three first second (a ∷ b ∷ d ∷ []) (low_a, high_a, (low_b, high_b, (low_d, high_d, _))) long low high start end not_below no_surrogate =
+row-three : (first second : ℕ × ℕ) (bytes : List ℕ) → 0xE0 ≤ first.0 → first.1 ≤ 0xEF → 0x80 ≤ second.0 → second.1 ≤ 0xBF
+    → (0xE1 ≤ first.0) ⊎ (0xA0 ≤ second.0) → (first.1 ≤ 0xEC) ⊎ ((0xEE ≤ first.0) ⊎ (second.1 ≤ 0x9F))
+    → Fits (first ∷ second ∷ trail ∷ []) bytes → length bytes ≡ 3 → IsUtf8 bytes
+row-three first second [] low high start end not_below no_surrogate fits long = absurd (omega arith)
+row-three first second (a ∷ []) low high start end not_below no_surrogate fits long = absurd (omega arith)
+row-three first second (a ∷ b ∷ []) low high start end not_below no_surrogate fits long = absurd (omega arith)
+row-three first second (a ∷ b ∷ d ∷ []) low high start end not_below no_surrogate (low_a, high_a, (low_b, high_b, (low_d, high_d, _))) long =
     spelt-three a b d (omega arith) (omega arith) (omega arith) (omega arith) low_d high_d (above not_below) (side no_surrogate)
   where
     above : (0xE1 ≤ first.0) ⊎ (0xA0 ≤ second.0) → (0xE1 ≤ a) ⊎ (0xA0 ≤ b)
@@ -99,16 +100,16 @@ row-three first second (a ∷ b ∷ d ∷ []) (low_a, high_a, (low_b, high_b, (l
     side (inl most) = inl (omega arith)
     side (inr (inl least)) = inr (inl (omega arith))
     side (inr (inr most)) = inr (inr (omega arith))
-row-three first second (a ∷ b ∷ d ∷ e ∷ bytes) fits long low high start end not_below no_surrogate = absurd (omega arith)
+row-three first second (a ∷ b ∷ d ∷ e ∷ bytes) low high start end not_below no_surrogate fits long = absurd (omega arith)
 
-row-four : (first second : ℕ × ℕ) (bytes : List ℕ) → Fits (first ∷ second ∷ trail ∷ trail ∷ []) bytes → length bytes ≡ 4
-    → 0xF0 ≤ first.0 → first.1 ≤ 0xF4 → 0x80 ≤ second.0 → second.1 ≤ 0xBF → (0xF1 ≤ first.0) ⊎ (0x90 ≤ second.0)
-    → (first.1 ≤ 0xF3) ⊎ (second.1 ≤ 0x8F) → IsUtf8 bytes
-row-four first second [] fits long low high start end not_below not_above = absurd (omega arith)
-row-four first second (a ∷ []) fits long low high start end not_below not_above = absurd (omega arith)
-row-four first second (a ∷ b ∷ []) fits long low high start end not_below not_above = absurd (omega arith)
-row-four first second (a ∷ b ∷ d ∷ []) fits long low high start end not_below not_above = absurd (omega arith)
-row-four first second (a ∷ b ∷ d ∷ e ∷ []) (low_a, high_a, (low_b, high_b, (low_d, high_d, (low_e, high_e, _)))) long low high start end not_below not_above =
+row-four : (first second : ℕ × ℕ) (bytes : List ℕ) → 0xF0 ≤ first.0 → first.1 ≤ 0xF4 → 0x80 ≤ second.0 → second.1 ≤ 0xBF
+    → (0xF1 ≤ first.0) ⊎ (0x90 ≤ second.0) → (first.1 ≤ 0xF3) ⊎ (second.1 ≤ 0x8F)
+    → Fits (first ∷ second ∷ trail ∷ trail ∷ []) bytes → length bytes ≡ 4 → IsUtf8 bytes
+row-four first second [] low high start end not_below not_above fits long = absurd (omega arith)
+row-four first second (a ∷ []) low high start end not_below not_above fits long = absurd (omega arith)
+row-four first second (a ∷ b ∷ []) low high start end not_below not_above fits long = absurd (omega arith)
+row-four first second (a ∷ b ∷ d ∷ []) low high start end not_below not_above fits long = absurd (omega arith)
+row-four first second (a ∷ b ∷ d ∷ e ∷ []) low high start end not_below not_above (low_a, high_a, (low_b, high_b, (low_d, high_d, (low_e, high_e, _)))) long =
     spelt-four a b d e (omega arith) (omega arith) (omega arith) (omega arith) low_d high_d low_e high_e (above not_below) (below not_above)
   where
     above : (0xF1 ≤ first.0) ⊎ (0x90 ≤ second.0) → (0xF1 ≤ a) ⊎ (0x90 ≤ b)
@@ -118,7 +119,7 @@ row-four first second (a ∷ b ∷ d ∷ e ∷ []) (low_a, high_a, (low_b, high_
     below : (first.1 ≤ 0xF3) ⊎ (second.1 ≤ 0x8F) → (a ≤ 0xF3) ⊎ (b ≤ 0x8F)
     below (inl most) = inl (omega arith)
     below (inr most) = inr (omega arith)
-row-four first second (a ∷ b ∷ d ∷ e ∷ f ∷ bytes) fits long low high start end not_below not_above = absurd (omega arith)
+row-four first second (a ∷ b ∷ d ∷ e ∷ f ∷ bytes) low high start end not_below not_above fits long = absurd (omega arith)
 
 -- each row of a table gives a text, where it is full
 abbrev AreTexts : List ℕ → List (List (ℕ × ℕ)) → Type 0
@@ -132,11 +133,47 @@ text-at bytes (first ∷ table) zero row all here is fits long = (rw is at all.0
 text-at bytes (first ∷ table) (suc k) row all here is fits long = text-at bytes table k row all.1 (omega arith) is fits long
 
 rows-texts : (bytes : List ℕ) → AreTexts bytes rows
-rows-texts bytes = (row-one bytes, (row-two bytes, (λ fits long. row-three (0xE0, 0xE0) (0xA0, 0xBF) bytes fits long (omega arith) (omega arith) (omega arith) (omega arith) (inr (omega arith)) (inl (omega arith)), (λ fits long. row-three (0xE1, 0xEC) trail bytes fits long (omega arith) (omega arith) (omega arith) (omega arith) (inl (omega arith)) (inl (omega arith)), (λ fits long. row-three (0xED, 0xED) (0x80, 0x9F) bytes fits long (omega arith) (omega arith) (omega arith) (omega arith) (inl (omega arith)) (inr (inr (omega arith))), (λ fits long. row-three (0xEE, 0xEF) trail bytes fits long (omega arith) (omega arith) (omega arith) (omega arith) (inl (omega arith)) (inr (inl (omega arith))), (λ fits long. row-four (0xF0, 0xF0) (0x90, 0xBF) bytes fits long (omega arith) (omega arith) (omega arith) (omega arith) (inr (omega arith)) (inl (omega arith)), (λ fits long. row-four (0xF1, 0xF3) trail bytes fits long (omega arith) (omega arith) (omega arith) (omega arith) (inl (omega arith)) (inl (omega arith)), (λ fits long. row-four (0xF4, 0xF4) (0x80, 0x8F) bytes fits long (omega arith) (omega arith) (omega arith) (omega arith) (inl (omega arith)) (inr (omega arith)), tt)))))))))
+rows-texts bytes = (
+  row-one bytes,
+  (
+    row-two bytes,
+    (
+      row-three (0xE0, 0xE0) (0xA0, 0xBF) bytes (omega arith) (omega arith) (omega arith) (omega arith) (inr (omega arith))
+          (inl (omega arith)),
+      (
+        row-three (0xE1, 0xEC) trail bytes (omega arith) (omega arith) (omega arith) (omega arith) (inl (omega arith))
+            (inl (omega arith)),
+        (
+          row-three (0xED, 0xED) (0x80, 0x9F) bytes (omega arith) (omega arith) (omega arith) (omega arith) (inl (omega arith))
+              (inr (inr (omega arith))),
+          (
+            row-three (0xEE, 0xEF) trail bytes (omega arith) (omega arith) (omega arith) (omega arith) (inl (omega arith))
+                (inr (inl (omega arith))),
+            (
+              row-four (0xF0, 0xF0) (0x90, 0xBF) bytes (omega arith) (omega arith) (omega arith) (omega arith) (inr (omega arith))
+                  (inl (omega arith)),
+              (
+                row-four (0xF1, 0xF3) trail bytes (omega arith) (omega arith) (omega arith) (omega arith) (inl (omega arith))
+                    (inl (omega arith)),
+                (
+                  row-four (0xF4, 0xF4) (0x80, 0x8F) bytes (omega arith) (omega arith) (omega arith) (omega arith) (inl (omega arith))
+                      (inr (omega arith)),
+                  tt,
+                ),
+              ),
+            ),
+          ),
+        ),
+      ),
+    ),
+  ),
+)
 
+-- a well-formed sequence is a text
 well_formed-utf8 : (bytes : List ℕ) → IsWellFormed bytes → IsUtf8 bytes
 well_formed-utf8 bytes (row, (k, here, is), fits, long) = text-at bytes rows k row (rows-texts bytes) here is fits long
 
+-- and so are those that tile the bytes, one after the other
 pub tiling-utf8 : (items : List (ℕ × ℕ)) (place : ℕ) (bytes : List ℕ) → IsTiling ReadsWellFormed items place bytes → IsUtf8 bytes
 tiling-utf8 [] place bytes none = rw none IsUtf8-nil
 tiling-utf8 (item ∷ items) place bytes (_, (taken, _, _, reads, tiles)) =

@@ -7,6 +7,7 @@ abbrev pub place_of : List (ℕ × ℕ) → ℕ → ℕ
 place_of [] end = end
 place_of (item ∷ items) end = item.0
 
+-- the decoded list: what the items are, and not where
 abbrev pub code_points : List (ℕ × ℕ) → List ℕ
 code_points items = map (λ (item : ℕ × ℕ). item.1) items
 
@@ -32,6 +33,7 @@ first_items read (suc most) place (unit ∷ units) =
     let found = read (unit ∷ units) in
     (place, found.1) ∷ first_items read most (place + found.0) (drop found.0 (unit ∷ units))
 
+-- all items that a reader finds from a place on
 unfoldable pub items_by : (List ℕ → ℕ × ℕ) → ℕ → List ℕ → List (ℕ × ℕ)
 items_by read place units = first_items read (length units) place units
 

@@ -2,9 +2,11 @@
 use Rattle.std.specs.Prelude.{◌≡◌, ℕ, List, [], ◌∷◌, take}
 use Rattle.seg_text.specs.Items.{items_by}
 
+-- one byte, and its number
 abbrev pub ReadsLatin1 : List ℕ → ℕ → ℕ → Type 0
 ReadsLatin1 bytes taken code_point = (taken ≡ 1) × (take 1 bytes ≡ code_point ∷ [])
 
+-- a reader of one item
 abbrev pub read_latin1 : List ℕ → ℕ × ℕ
 read_latin1 [] = (1, 0)
 read_latin1 (byte ∷ bytes) = (1, byte)

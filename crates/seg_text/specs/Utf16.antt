@@ -34,6 +34,7 @@ pub record ReadsSingle (units : List ℕ) (taken code_point : ℕ) : Type 0 wher
   pub one : taken ≡ 1
   pub own : take 1 units ≡ code_point ∷ []
 
+-- one item
 abbrev pub ReadsUtf16 : List ℕ → ℕ → ℕ → Type 0
 ReadsUtf16 units taken code_point = ReadsPair units taken code_point ⊎ ReadsSingle units taken code_point
 

@@ -60,6 +60,7 @@ pub record ReadsIllFormed (bytes : List ℕ) (taken code_point : ℕ) : Type 0 w
   pub longest : (n : ℕ) → taken < n → n ≤ length bytes → IsBeginning (take n bytes) → ⊥
   pub replacement : code_point ≡ 0xFFFD
 
+-- one item
 abbrev pub ReadsUtf8 : List ℕ → ℕ → ℕ → Type 0
 ReadsUtf8 bytes taken code_point = ReadsWellFormed bytes taken code_point ⊎ ReadsIllFormed bytes taken code_point
 
