@@ -1,15 +1,17 @@
 -- The bench machines have no fault.
-use Rattle.std.proofs.Common.{◌≡◌, ◌≢◌, ℕ, zero, suc, ◌<◌, ◌≤◌, inl, inr, Bool, true, false, ◌||◌, ◌&&◌, ◌==◌, nat_lt, Option, Some, None, List, Any, MatchOption, refl, arith}
+use Rattle.std.proofs.Common.{◌≡◌, ◌≢◌, ℕ, zero, suc, ◌<◌, ◌≤◌, inl, inr, Bool, true, false, ◌||◌, ◌&&◌, ◌==◌, nat_lt, Option, Some, None, List, [], Any, IsSome, length, refl, arith}
 use Rattle.std.specs.List.{list_all}
 use Rattle.std.proofs.lemmas.List.Sums.{AllPass-from_list_all}
 use Rattle.std.proofs.lemmas.Bool.Decides.{nat_tests}
 use Rattle.seg_data.specs.declared.provider.Acceptance.{Acceptance}
 use Rattle.seg_data.specs.declared.provider.Acceptance.TheVariants.{Continue, Accept, Conditional}
 use Rattle.seg_data.specs.Table.{named_values}
-use Rattle.seg_data.specs.Pick.{accepted}
 use Rattle.seg_data.specs.declared.provider.DataError.{DataError}
 use Rattle.seg_data.specs.declared.provider.DataError.TheVariants.{RangeOrder, RangePast10FFFF, StateCount, TransitionSize, TransitionOutOfRange, SymbolOutOfRange, TooManyLookaheads, LookaheadOutOfRange, EndCycle, Stalls}
-use Rattle.seg_data.specs.Machine.{Machine, symbol_count, step, state_at, IsSymbolOf}
+use Rattle.seg_data.specs.Machine.{Machine, symbol_count, step, state_at, walk}
+use Rattle.seg_data.specs.Pick.{HasStall, pick}
+use Rattle.seg_data.specs.Search.{AreFollowed}
+use Rattle.seg_data.proofs.Searches.{stall_free}
 use Rattle.seg_data.specs.Faults.{HasMachineFault, IsFaultless, IsLowestFault, IsStray, NamesPast}
 use Rattle.bench.specs.Clusters.{cluster_machine, cluster_states, cluster_transitions, cluster_symbols}
 
@@ -56,14 +58,26 @@ end-none (suc (suc zero)) below = refl
 end-none (suc (suc (suc zero))) below = refl
 end-none (suc (suc (suc (suc state)))) below = absurd (omega arith)
 
-start-accepts : (symbol : ℕ) → IsSymbolOf 5 symbol → MatchOption (step cluster_machine 0 symbol) (Unit {0}) (λ next. accepted (state_at cluster_machine next) ≡ None) → ⊥
-unfolding step state_at
-start-accepts zero text stalls = absurd (omega arith)
-start-accepts (suc zero) text stalls = cc
-start-accepts (suc (suc zero)) text stalls = cc
-start-accepts (suc (suc (suc zero))) text stalls = cc
-start-accepts (suc (suc (suc (suc zero)))) text stalls = cc
-start-accepts (suc (suc (suc (suc (suc symbol))))) text stalls = absurd (omega arith)
+no-cycle : (state steps : ℕ) → state < length cluster_machine.states → walk cluster_machine state (suc steps) ≡ Some state → ⊥
+unfolding walk
+no-cycle state steps below cycle = let none = rw (end-none state below) at cycle in cc
+
+-- START leads to a state that accepts, on each symbol of a text
+start-followed : AreFollowed cluster_machine [] 0 0
+unfolding step state_at symbol_count
+start-followed zero below some = absurd (omega arith)
+start-followed (suc zero) below some = record { next = 1; leads = refl; listed = tt }
+start-followed (suc (suc zero)) below some = record { next = 2; leads = refl; listed = tt }
+start-followed (suc (suc (suc zero))) below some = record { next = 3; leads = refl; listed = tt }
+start-followed (suc (suc (suc (suc zero)))) below some = record { next = 1; leads = refl; listed = tt }
+start-followed (suc (suc (suc (suc (suc symbol))))) below some = absurd (omega arith)
+
+-- so it never stalls
+never-stalls : HasStall cluster_machine → ⊥
+never-stalls stall = is-some (pick cluster_machine stall.0) stall.3 (stall_free cluster_machine [] (λ pair listed. absurd (omega arith)) start-followed stall.0 stall.1 stall.2)
+  where
+    is-some : (picked : Option (ℕ × ℕ)) → picked ≡ None → IsSome picked → ⊥
+    is-some picked none some = cc
 
 pub cluster_machine-faultless : IsFaultless (HasMachineFault cluster_machine)
 unfolding symbol_count is_target is_value names_none
@@ -77,8 +91,8 @@ cluster_machine-faultless SymbolOutOfRange (inl h) = any-refuted _ (is_value 5) 
 cluster_machine-faultless SymbolOutOfRange (inr h) = omega arith
 cluster_machine-faultless TooManyLookaheads h = omega arith
 cluster_machine-faultless LookaheadOutOfRange h = any-refuted _ names_none cluster_states refl names_no_past h
-cluster_machine-faultless EndCycle h = h.2 (end-none h.0 h.1)
-cluster_machine-faultless Stalls h = start-accepts h.0 h.1 h.2
+cluster_machine-faultless EndCycle h = no-cycle h.0 h.1 h.2 h.3
+cluster_machine-faultless Stalls h = never-stalls h
 
 -- so its parts aren't refused
 pub never-refused : (parts : Machine) → parts ≡ cluster_machine → (fault : DataError) → IsLowestFault (HasMachineFault parts) fault → ⊥

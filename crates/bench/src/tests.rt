@@ -1,21 +1,56 @@
 use crate::clusters::cluster_machine;
 use icu_segmenter::indices::{Utf8CharIndices, Utf16Indices};
-use icu_segmenter::provider::{Acceptance, ClassTable, Lookahead, SegmenterStateMachine};
+use icu_segmenter::provider::{
+    Acceptance, ClassTable, Lookahead, SegmenterStateMachine, State, Symbol,
+};
 use icu_segmenter::{GraphemeClusterSegmenter, GraphemeClusterSegmenterBorrowed};
 use std::alloc::{AllocError, Global};
 use std::test::Fail;
 
-const GOES_ON: (Acceptance, Option<Lookahead>) = (Acceptance::Continue, None);
+type Entry = (Acceptance, Option<Lookahead>);
 
-const ENDS: (Acceptance, Option<Lookahead>) = (Acceptance::Accept(0), None);
+type Move = (usize, usize, State);
 
-/// Symbols 1 for `a`, 2 for `c`, 3 for any other; a segment is one character, or some `a` and then `c`.
+const GOES_ON: Entry = (Acceptance::Continue, None);
+
+const ENDS: Entry = (Acceptance::Accept(0), None);
+
+/// A machine of these states and moves (from a state, on a symbol, to a state), where other code points have `other`.
+fn machine_of(
+    alloc: Global,
+    symbols: (&[(u32, u32, Symbol)], Symbol),
+    states: &[Entry],
+    moves: &[Move],
+    num_lookaheads: usize,
+) -> Result<SegmenterStateMachine, Fail> {
+    let table = ClassTable::try_from_ranges(Vec::from_slice(alloc, symbols.0)?, symbols.1)?;
+    let count = states.len();
+    let mut transitions = vec![in alloc; 255; 60]?;
+    transitions.truncate(count.saturating_mul(symbols.1 as usize + 1));
+    for (state, symbol, next) in moves {
+        let place = symbol.saturating_mul(count).saturating_add(*state);
+        if place < transitions.len() {
+            transitions[place] = *next;
+        }
+    }
+    let states = Vec::from_slice(alloc, states)?;
+    let map = Vec::new(alloc);
+    let machine = SegmenterStateMachine::try_from_parts(
+        table,
+        states,
+        transitions,
+        num_lookaheads,
+        5,
+        map,
+    )?;
+    Ok(machine)
+}
+
+/// A segment is one character, or some `a` and then `c`.
 fn runs_before_c(alloc: Global) -> Result<SegmenterStateMachine, Fail> {
-    let ranges = Vec::from_slice(alloc, &[(0x61, 0x61, 1), (0x63, 0x63, 2)])?;
-    let symbols = ClassTable::try_from_ranges(ranges, 3)?;
-    let states = Vec::from_slice(alloc, &[GOES_ON, ENDS, GOES_ON, ENDS, ENDS])?;
-    let mut transitions = vec![in alloc; 255; 20]?;
-    for (state, symbol, next) in [
+    let symbols: [(u32, u32, Symbol); 2] = [(0x61, 0x61, 1), (0x63, 0x63, 2)];
+    let states = [GOES_ON, ENDS, GOES_ON, ENDS, ENDS];
+    let moves = [
         (0, 1, 1),
         (0, 2, 4),
         (0, 3, 4),
@@ -23,21 +58,69 @@ fn runs_before_c(alloc: Global) -> Result<SegmenterStateMachine, Fail> {
         (1, 2, 3),
         (2, 1, 2),
         (2, 2, 3),
-    ] {
-        let place: usize = state + 5 * symbol;
-        if place < transitions.len() {
-            transitions[place] = next;
-        }
-    }
-    let machine = SegmenterStateMachine::try_from_parts(
-        symbols,
-        states,
-        transitions,
+    ];
+    machine_of(alloc, (&symbols, 3), &states, &moves, 0)
+}
+
+/// `a` and three `b` lead to a condition that holds, for the place after `a`; with `c` before them it doesn't.
+fn looks_past_b(alloc: Global) -> Result<SegmenterStateMachine, Fail> {
+    let symbols: [(u32, u32, Symbol); 3] = [(0x61, 0x61, 1), (0x62, 0x62, 2), (0x63, 0x63, 3)];
+    let named = (Acceptance::Accept(0), Some(0));
+    let condition = (Acceptance::Conditional(0, 1), None);
+    let states = [
+        GOES_ON, ENDS, named, ENDS, GOES_ON, GOES_ON, GOES_ON, ENDS, condition,
+    ];
+    let moves = [
+        (0, 3, 1),
+        (0, 1, 2),
+        (0, 2, 3),
+        (0, 4, 3),
+        (1, 1, 4),
+        (4, 2, 5),
+        (5, 2, 6),
+        (2, 2, 7),
+        (7, 2, 6),
+        (6, 2, 8),
+    ];
+    machine_of(alloc, (&symbols, 4), &states, &moves, 1)
+}
+
+/// `a` ends before `b`, though a longer segment is accepted.
+fn ends_before_b(alloc: Global) -> Result<SegmenterStateMachine, Fail> {
+    let symbols: [(u32, u32, Symbol); 3] = [(0x61, 0x61, 1), (0x62, 0x62, 2), (0x63, 0x63, 3)];
+    let named = (Acceptance::Accept(0), Some(0));
+    let condition = (Acceptance::Conditional(0, 1), None);
+    let states = [GOES_ON, named, condition, ENDS, ENDS];
+    let moves = [
+        (0, 1, 1),
+        (0, 2, 4),
+        (0, 3, 4),
+        (0, 4, 4),
+        (1, 2, 2),
+        (2, 3, 3),
+    ];
+    machine_of(alloc, (&symbols, 4), &states, &moves, 1)
+}
+
+/// The whole text is a segment, which is accepted at its end alone.
+fn takes_all(alloc: Global) -> Result<SegmenterStateMachine, Fail> {
+    let states = [GOES_ON, GOES_ON, (Acceptance::Accept(1), None)];
+    machine_of(
+        alloc,
+        (&[], 1),
+        &states,
+        &[(0, 1, 1), (1, 1, 1), (1, 0, 2)],
         0,
-        5,
-        Vec::new(alloc),
-    )?;
-    Ok(machine)
+    )
+}
+
+/// Each character is a segment, by a condition that looks at what comes after it, or at the end.
+fn looks_at_the_next(alloc: Global) -> Result<SegmenterStateMachine, Fail> {
+    let symbols: [(u32, u32, Symbol); 1] = [(0x62, 0x62, 1)];
+    let named = (Acceptance::Continue, Some(0));
+    let states = [GOES_ON, named, (Acceptance::Conditional(0, 1), None)];
+    let moves = [(0, 1, 1), (0, 2, 1), (1, 0, 2), (1, 1, 2), (1, 2, 2)];
+    machine_of(alloc, (&symbols, 2), &states, &moves, 1)
 }
 
 fn utf8_boundaries(
@@ -106,17 +189,20 @@ fn clusters_of_latin1(rt: HostRuntime) -> Result<(), Fail> {
 }
 
 #[test]
-fn the_last_acceptance_ends_a_segment(rt: HostRuntime) -> Result<(), Fail> {
+fn segments_of_machines(rt: HostRuntime) -> Result<(), Fail> {
     let alloc = rt.alloc();
-    let machine = runs_before_c(alloc)?;
-    assert_eq!(rt;
-        utf8_boundaries(alloc, &machine, b"aaaa")?.as_slice(),
-        [0, 1, 2, 3, 4].as_slice()
-    );
-    assert_eq!(rt;
-        utf8_boundaries(alloc, &machine, b"aaac")?.as_slice(),
-        [0, 4].as_slice()
-    );
+    let rows: [(SegmenterStateMachine, &[u8], &[usize]); 6] = [
+        (runs_before_c(alloc)?, b"aaaa", &[0, 1, 2, 3, 4]),
+        (runs_before_c(alloc)?, b"aaac", &[0, 4]),
+        (looks_past_b(alloc)?, b"cabbb", &[0, 1, 2, 3, 4, 5]),
+        (ends_before_b(alloc)?, b"abc", &[0, 1, 2, 3]),
+        (takes_all(alloc)?, b"xxx", &[0, 3]),
+        (looks_at_the_next(alloc)?, b"aba", &[0, 1, 2, 3]),
+    ];
+    for (machine, text, want) in rows {
+        let found = utf8_boundaries(alloc, &machine, text)?;
+        assert_eq!(rt; found.as_slice(), want, "{text:?}");
+    }
     Ok(())
 }
 

@@ -5,6 +5,7 @@ pub use Rattle.seg_text.specs.Utf8
 pub use Rattle.seg_text.specs.Utf16
 pub use Rattle.seg_text.specs.Cursor
 pub use Rattle.seg_data.specs.Table
+pub use Rattle.seg_data.specs.Unaligned
 pub use Rattle.seg_data.specs.Machine
 pub use Rattle.seg_data.specs.Pick
 pub use Rattle.seg_data.specs.Segments

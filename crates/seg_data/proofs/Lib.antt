@@ -1,7 +1,14 @@
 pub mod Anywhere
+pub mod Options
 pub mod Ranges
 pub mod Lowest
 pub mod Steps
 pub mod Picks
+pub mod Walks
+pub mod Bare
+pub mod Sets
+pub mod Settled
+pub mod Searches
+pub mod Tables
 pub mod Machines
 pub mod Segmentations

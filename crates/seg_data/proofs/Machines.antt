@@ -1,26 +1,27 @@
 -- The faults of a machine's parts, check by check, and what holds of parts with none.
-use Rattle.std.proofs.Common.{◌≡◌, ◌≢◌, ℕ, ◌+◌, ◌-◌, ◌*◌, ◌/◌, ◌<◌, ◌≤◌, ◌⊎◌, ◌==◌, nat_lt, Bool, false, cond, List, length, Any, refl, sym, ap, ◌∙◌, subst, inl, inr, arith, eq-eqb}
-use Rattle.std.specs.Prelude.{Option, Some, None, MatchOption, slice_index, slice_index_or}
-use Rattle.std.proofs.lemmas.Bool.{cases_lt, cases_eq, cond_both, cond-true, cond-false, ltb-true, ltb-false, lt-ltb, le-ltb, false≢true}
+use Rattle.std.proofs.Common.{◌≡◌, ◌≢◌, ℕ, ◌-◌, ◌*◌, ◌/◌, ◌<◌, ◌≤◌, ◌⊎◌, ◌==◌, nat_lt, Bool, false, cond, List, length, Any, refl, sym, ap, ◌∙◌, subst, inl, inr, arith, eq-eqb}
+use Rattle.std.specs.Prelude.{Option, Some, None, slice_index_or}
+use Rattle.std.proofs.lemmas.Bool.{cases_lt, cond_both, cond-true, cond-false, ltb-true, ltb-false, lt-ltb, le-ltb, false≢true}
 use Rattle.std.proofs.lemmas.Nat.{mul-le}
-use Rattle.std.proofs.lemmas.Option.{none-some}
 use Rattle.std.proofs.lemmas.List.{get_or_past, get_or_read}
 use Rattle.seg_data.specs.declared.provider.DataError.{DataError}
 use Rattle.seg_data.specs.declared.provider.DataError.TheVariants.{RangeOrder, RangePast10FFFF, StateCount, TransitionSize, TransitionOutOfRange, SymbolOutOfRange, TooManyLookaheads, LookaheadOutOfRange, EndCycle, Stalls}
 use Rattle.seg_data.specs.declared.provider.Acceptance.{Acceptance}
-use Rattle.seg_data.specs.declared.provider.Acceptance.TheVariants.{Continue, Conditional}
+use Rattle.seg_data.specs.declared.provider.Acceptance.TheVariants.{Continue, Accept, Conditional}
 use Rattle.seg_data.specs.declared.provider.ComplexScript.{ComplexScript}
 use Rattle.seg_data.specs.declared.provider.ComplexScript.TheVariants.{None as NoScript}
 use Rattle.seg_data.specs.Table.{value_of, named_values}
-use Rattle.seg_data.specs.Machine.{Machine, IsSymbolOf, IsTextSymbol, symbol_and_script, symbol_count, step, state_at}
-use Rattle.seg_data.specs.Pick.{accepted}
-use Rattle.seg_data.specs.Faults.{number_of, HasMachineFault, IsFaultless, IsStallAt, IsStray, NamesPast}
+use Rattle.seg_data.specs.Machine.{Machine, IsSymbolOf, IsTextSymbol, symbol_and_script, symbol_count, state_at}
+use Rattle.seg_data.specs.Pick.{IsStallFree}
+use Rattle.seg_data.specs.Faults.{number_of, HasMachineFault, IsFaultless, HasEndCycle, IsStray, NamesPast}
 use Rattle.seg_data.specs.Checked.{IsChecked}
+use Rattle.seg_data.specs.Search.{IsBounded, bare}
 use Rattle.seg_data.proofs.Anywhere.{any-at}
 use Rattle.seg_data.proofs.Ranges.{value-named}
 use Rattle.seg_data.proofs.Lowest.{NoneBelow, none-below-more}
-use Rattle.seg_data.proofs.Steps.{step-none, step-some, step-within}
-use Rattle.seg_data.proofs.Picks.{Starts, stall_free}
+use Rattle.seg_data.proofs.Steps.{step-within}
+use Rattle.seg_data.proofs.Walks.{ends-from}
+use Rattle.seg_data.proofs.Bare.{cycle-plain, stall_free-full, stall_free-from, no-stall}
 
 -- the checks, in their order
 pub below-11 : (m : Machine) → NoneBelow (HasMachineFault m) 11
@@ -79,74 +80,75 @@ pub below-15 : (m : Machine) → NoneBelow (HasMachineFault m) 14 → (StrayAt m
 unfolding symbol_count
 below-15 m below absent = none-below-more (HasMachineFault m) SymbolOutOfRange 14 refl below absent
 
-pub below-16 : (m : Machine) → NoneBelow (HasMachineFault m) 15 → m.num_lookaheads ≤ 0 → NoneBelow (HasMachineFault m) 16
+pub below-16 : (m : Machine) → NoneBelow (HasMachineFault m) 15 → m.num_lookaheads ≤ 4 → NoneBelow (HasMachineFault m) 16
 below-16 m below none = none-below-more (HasMachineFault m) TooManyLookaheads 15 refl below (λ has. omega arith)
 
 pub below-17 : (m : Machine) → NoneBelow (HasMachineFault m) 16 → (HasMachineFault m LookaheadOutOfRange → ⊥) → NoneBelow (HasMachineFault m) 17
 below-17 m below absent = none-below-more (HasMachineFault m) LookaheadOutOfRange 16 refl below absent
 
-first-row : (state states : ℕ) → state + 0 * states ≡ state
-first-row state states = omega arith
-
-pub end-there : (m : Machine) → ((state : ℕ) × (state < length m.states) × (slice_index m.transitions state ≢ 255)) → HasMachineFault m EndCycle
-end-there m (state, within, leads) = (
-  state,
-  within,
-  λ none. none-some (slice_index m.transitions state)
-      (sym none ∙ step-some m state 0 (slice_index m.transitions state) (ap (slice_index m.transitions) (sym (first-row state (length m.states)))) leads),
-)
-
-pub end-none : (m : Machine) → ((state : ℕ) × (state < length m.states) × (slice_index m.transitions state ≢ 255) → ⊥) → HasMachineFault m EndCycle → ⊥
-end-none m absent (state, within, leads) =
-    elim (cases_eq (slice_index m.transitions state) 255) [
-      | inl trash ↦ leads (step-none m state 0 (slice_index m.transitions state) (ap (slice_index m.transitions) (sym (first-row state (length m.states)))) trash)
-      | inr some ↦ absent (state, within, some)
+quotient-some : (n k : ℕ) → 0 < k → k ≤ n → 0 < n / k
+quotient-some n k some covers =
+    elim (cases_lt 0 (n / k)) [
+      | inl above ↦ above
+      | inr least ↦
+          let none : n / k ≡ 0 = omega arith in
+          let row : k * (n / k) ≡ k * 0 = ap (λ (q : ℕ). k * q) none in
+          absurd (omega arith)
     ]
 
-pub below-18 : (m : Machine) → NoneBelow (HasMachineFault m) 17 → ((state : ℕ) × (state < length m.states) × (slice_index m.transitions state ≢ 255) → ⊥) → NoneBelow (HasMachineFault m) 18
-below-18 m below absent = none-below-more (HasMachineFault m) EndCycle 17 refl below (end-none m absent)
-
--- as the code reads the transitions of START
-abbrev pub StallsAt : Machine → ℕ → Type 0
-StallsAt m count =
-    (symbol : ℕ) × IsSymbolOf count symbol × IsStallAt m.states (slice_index m.transitions (symbol * length m.states))
-
-first-column : (symbol states : ℕ) → 0 + symbol * states ≡ symbol * states
-first-column symbol states = omega arith
-
-stall-at : (m : Machine) (symbol : ℕ) → IsStallAt m.states (slice_index m.transitions (symbol * length m.states))
-    → MatchOption (step m 0 symbol) (Unit {0}) (λ next. accepted (state_at m next) ≡ None)
-unfolding state_at
-stall-at m symbol stall =
-    let next = slice_index m.transitions (symbol * length m.states) in
-    let here : next ≡ slice_index m.transitions (0 + symbol * length m.states) = ap (slice_index m.transitions) (sym (first-column symbol (length m.states))) in
-    elim (cases_eq next 255) [
-      | inl trash ↦ rw (step-none m 0 symbol next here trash) tt
-      | inr leads ↦ elim stall [
-        | inl trash ↦ absurd (leads trash)
-        | inr refused ↦ rw (step-some m 0 symbol next here leads) refused
-      ]
-    ]
-
-stall-from : (m : Machine) (symbol : ℕ) → MatchOption (step m 0 symbol) (Unit {0}) (λ next. accepted (state_at m next) ≡ None)
-    → IsStallAt m.states (slice_index m.transitions (symbol * length m.states))
-unfolding state_at
-stall-from m symbol stall =
-    let next = slice_index m.transitions (symbol * length m.states) in
-    let here : next ≡ slice_index m.transitions (0 + symbol * length m.states) = ap (slice_index m.transitions) (sym (first-column symbol (length m.states))) in
-    elim (cases_eq next 255) [
-      | inl trash ↦ inl trash
-      | inr leads ↦ inr (rw (step-some m 0 symbol next here leads) at stall)
-    ]
-
-pub stalls-there : (m : Machine) → StallsAt m (length m.transitions / length m.states) → HasMachineFault m Stalls
+-- there is a symbol, as there are as many transitions as states
+count-some : (m : Machine) → 0 < length m.states → length m.states ≤ length m.transitions → 0 < symbol_count m
 unfolding symbol_count
-stalls-there m (symbol, text, stall) = (symbol, text, stall-at m symbol stall)
+count-some m some covers = quotient-some (length m.transitions) (length m.states) some covers
 
-pub below-19 : (m : Machine) → NoneBelow (HasMachineFault m) 18 → (StallsAt m (length m.transitions / length m.states) → ⊥) → NoneBelow (HasMachineFault m) 19
+-- no state names a lookahead past the number of them
+pub no-past : (count : ℕ) (states : List (Acceptance × Option ℕ)) (q : ℕ) → (Any (NamesPast count) states → ⊥)
+    → NamesPast count (slice_index_or states q (Continue, None)) → ⊥
+no-past count states q absent past =
+    elim (cases_lt q (length states)) [
+      | inl within ↦ absent (any-at (NamesPast count) states q (Continue, None) within past)
+      | inr end ↦ none-past count (subst (NamesPast count) (get_or_past states q (Continue, None) end) past)
+    ]
+  where
+    none-past : (count : ℕ) → NamesPast count (Continue, None) → ⊥
+    none-past count (inl h) = h
+    none-past count (inr h) = h
+
+lookaheads-from : (m : Machine) (state : ℕ) → (HasMachineFault m LookaheadOutOfRange → ⊥) → NamesPast m.num_lookaheads (state_at m state) → ⊥
+unfolding state_at
+lookaheads-from m state absent past = no-past m.num_lookaheads m.states state absent past
+
+past-less : (count : ℕ) (state : Acceptance × Option ℕ) → count ≤ 4 → NamesPast 4 state → NamesPast count state
+past-less count (Conditional lookahead status, named) few (inr past) = inr (omega arith)
+past-less count (Accept status, named) few (inr past) = absurd past
+past-less count (Continue, named) few (inr past) = absurd past
+past-less count (acceptance, Some lookahead) few (inl past) = inl (omega arith)
+past-less count (acceptance, None) few (inl past) = absurd past
+
+plain-state : (m : Machine) (state : ℕ) → NamesPast 4 (state_at (bare m.states m.transitions) state) → NamesPast 4 (slice_index_or m.states state (Continue, None))
+unfolding state_at
+plain-state m state past = past
+
+-- the parts that the last two checks look at
+pub bounded-from : (m : Machine) → 0 < length m.states → length m.states ≤ 255
+    → (HasMachineFault m TransitionSize → ⊥) → (HasMachineFault m TransitionOutOfRange → ⊥)
+    → m.num_lookaheads ≤ 4 → (HasMachineFault m LookaheadOutOfRange → ⊥) → IsBounded (bare m.states m.transitions)
 unfolding symbol_count
-below-19 m below absent =
-    none-below-more (HasMachineFault m) Stalls 18 refl below (λ has. absent (has.0, has.1, stall-from m has.0 has.2))
+bounded-from m some few size range lookaheads names = record {
+  some_state = some;
+  few_states = few;
+  some_symbol = count-some m some (size-covers m size);
+  in_range = λ state symbol here below. step-within (bare m.states m.transitions) state symbol range here below;
+  lookaheads = λ state past. no-past m.num_lookaheads m.states state names (past-less m.num_lookaheads _ lookaheads (plain-state m state past));
+}
+
+pub below-18 : (m : Machine) → NoneBelow (HasMachineFault m) 17 → (HasEndCycle (bare m.states m.transitions) → ⊥) → NoneBelow (HasMachineFault m) 18
+below-18 m below absent = none-below-more (HasMachineFault m) EndCycle 17 refl below (λ has. absent (cycle-plain m has))
+
+pub below-19 : (m : Machine) → NoneBelow (HasMachineFault m) 18 → IsStallFree (bare m.states m.transitions) → NoneBelow (HasMachineFault m) 19
+below-19 m below free =
+    none-below-more (HasMachineFault m) Stalls 18 refl below
+    (λ has. no-stall m (stall_free-full m free) has)
 
 -- a machine without faults is checked
 
@@ -217,54 +219,19 @@ symbol-read m code_point value is past text entry read =
     ap (λ (found : ℕ × ComplexScript). found.0)
     (get_or_read m.pseudo_symbol_map (value - m.pseudo_symbol_shift) entry within read (0, NoScript) ∙ symbol-entry m code_point value is past)
 
-none-from : (found : Option ℕ) → (found ≢ None → ⊥) → found ≡ None
-none-from None sure = refl
-none-from (Some next) sure = absurd (sure (λ none. none-some next (sym none)))
-
--- where no lookahead is named, no state has to do with one
-no-past : (count : ℕ) (states : List (Acceptance × Option ℕ)) (q : ℕ) → (Any (NamesPast count) states → ⊥)
-    → NamesPast count (slice_index_or states q (Continue, None)) → ⊥
-no-past count states q absent past =
-    elim (cases_lt q (length states)) [
-      | inl within ↦ absent (any-at (NamesPast count) states q (Continue, None) within past)
-      | inr end ↦ none-past count (subst (NamesPast count) (get_or_past states q (Continue, None) end) past)
-    ]
-  where
-    none-past : (count : ℕ) → NamesPast count (Continue, None) → ⊥
-    none-past count (inl h) = h
-    none-past count (inr h) = h
-
-names_none-from : (m : Machine) (q lookahead : ℕ) → m.num_lookaheads ≤ 0 → (HasMachineFault m LookaheadOutOfRange → ⊥) → (state_at m q).1 ≢ Some lookahead
-unfolding state_at
-names_none-from m q lookahead none absent is =
-    no-past m.num_lookaheads m.states q absent (inl (rw is (omega arith)))
-
-no_condition-from : (m : Machine) (q lookahead status : ℕ) → m.num_lookaheads ≤ 0 → (HasMachineFault m LookaheadOutOfRange → ⊥) → (state_at m q).0 ≢ Conditional lookahead status
-unfolding state_at
-no_condition-from m q lookahead status none absent is =
-    no-past m.num_lookaheads m.states q absent (inr (rw is (omega arith)))
-
-starts-from : (m : Machine) (symbol : ℕ) → IsTextSymbol m symbol → (HasMachineFault m Stalls → ⊥) → Starts m symbol
-starts-from m symbol text absent = on (step m 0 symbol) refl
-  where
-    status-of : (next : ℕ) (found : Option ℕ) → step m 0 symbol ≡ Some next → accepted (state_at m next) ≡ found → Starts m symbol
-    status-of next None leads is = absurd (absent (symbol, text, rw leads is))
-    status-of next (Some status) leads is = record { next = next; status = status; leads = leads; accepts = is }
-
-    on : (found : Option ℕ) → step m 0 symbol ≡ found → Starts m symbol
-    on None is = absurd (absent (symbol, text, rw is tt))
-    on (Some next) is = status-of next (accepted (state_at m next)) is refl
-
 pub checked-from : (m : Machine) → IsFaultless (HasMachineFault m) → IsChecked m
 checked-from m faultless =
-    let none : m.num_lookaheads ≤ 0 = elim (cases_lt 0 m.num_lookaheads) [ inl many ↦ absurd (faultless TooManyLookaheads many) | inr few ↦ few ] in
+    let few : m.num_lookaheads ≤ 4 = elim (cases_lt 4 m.num_lookaheads) [ inl many ↦ absurd (faultless TooManyLookaheads many) | inr few ↦ few ] in
+    let range = λ (state symbol : ℕ) (here : state < length m.states) (below : symbol < symbol_count m). step-within m state symbol (faultless TransitionOutOfRange) here below in
+    let some : 0 < length m.states = elim (cases_lt 0 (length m.states)) [ inl some ↦ some | inr few ↦ absurd (faultless StateCount (inl (omega arith))) ] in
+    let symbol : 0 < symbol_count m = count-some m some (size-covers m (faultless TransitionSize)) in
     record {
-      some_state = elim (cases_lt 0 (length m.states)) [ inl some ↦ some | inr few ↦ absurd (faultless StateCount (inl (omega arith))) ];
+      some_state = some;
       few_states = elim (cases_lt 255 (length m.states)) [ inl many ↦ absurd (faultless StateCount (inr many)) | inr few ↦ few ];
       text_symbols = λ code_point. text_symbols-from m code_point (faultless SymbolOutOfRange);
-      in_range = λ state symbol here below. step-within m state symbol (faultless TransitionOutOfRange) here below;
-      ends = λ state here. none-from (step m state 0) (λ leads. faultless EndCycle (state, here, leads));
-      names_none = λ state lookahead. names_none-from m state lookahead none (faultless LookaheadOutOfRange);
-      no_condition = λ state lookahead status. no_condition-from m state lookahead status none (faultless LookaheadOutOfRange);
-      stall_free = stall_free m (λ symbol text. starts-from m symbol text (faultless Stalls));
+      in_range = range;
+      few_lookaheads = few;
+      lookaheads = λ state. lookaheads-from m state (faultless LookaheadOutOfRange);
+      ends = λ state here. ends-from m (λ state here. range state 0 here symbol) (faultless EndCycle) state here;
+      stall_free = stall_free-from m (faultless Stalls);
     }

@@ -1,12 +1,12 @@
--- A pick takes at least one symbol, and there is one where START leads to a state that accepts.
+-- A pick takes at least one symbol.
 use Rattle.std.proofs.Common.{◌≡◌, ◌≢◌, ℕ, ◌<◌, ◌≤◌, min, List, [], ◌∷◌, ◌++◌, length, map, refl, ap, arith}
-use Rattle.std.specs.Prelude.{Option, Some, None, IfSome, IsSome}
+use Rattle.std.specs.Prelude.{Option, Some, None, IfSome}
 use Rattle.std.specs.Option.{option_map}
 use Rattle.std.proofs.lemmas.Option.{none-some, same_Some}
 use Rattle.seg_data.specs.declared.provider.Acceptance.{Acceptance}
 use Rattle.seg_data.specs.declared.provider.Acceptance.TheVariants.{Continue, Accept, Conditional}
-use Rattle.seg_data.specs.Machine.{Machine, IsTextSymbol, step, run, scan, state_at}
-use Rattle.seg_data.specs.Pick.{either, later, last_step, accepted, named, condition, first_condition, picked_step, pick, IsStallFree}
+use Rattle.seg_data.specs.Machine.{Machine, scan, state_at}
+use Rattle.seg_data.specs.Pick.{either, later, last_step, accepted, named, condition, first_condition, picked_step, pick}
 
 -- a pick's step, if there is one, is at least 1
 abbrev IsAhead : Option (ℕ × ℕ) → Type 0
@@ -63,34 +63,3 @@ pub pick-bounds : (m : Machine) (symbols : List ℕ) (p : ℕ × ℕ) → pick m
 unfolding pick
 pick-bounds m symbols p is some =
     bounds-of (picked_step (map (state_at m) (scan m symbols))) (length symbols) p (ahead-picked _) (some-length symbols some) is
-
-either-some : (first second : Option (ℕ × ℕ)) → IsSome second → IsSome (either first second)
-either-some (Some found) second some = refl
-either-some None second some = some
-
-option_map-some : {X Y : Type 0} (f : X → Y) (found : Option X) → IsSome found → IsSome (option_map f found)
-option_map-some f (Some x) some = refl
-option_map-some f None some = some
-
-last-some : (state : Acceptance × Option ℕ) (states : List (Acceptance × Option ℕ)) (status : ℕ)
-    → accepted state ≡ Some status → IsSome (last_step accepted (state ∷ states))
-unfolding last_step
-last-some state states status is =
-    either-some (later (last_step accepted states)) (option_map (λ v. (1, v)) (accepted state)) (rw is refl)
-
--- START leads on this symbol to a state that accepts
-pub record Starts (m : Machine) (symbol : ℕ) : Type 0 where
-  pub next : ℕ
-  pub status : ℕ
-  pub leads : step m 0 symbol ≡ Some next
-  pub accepts : accepted (state_at m next) ≡ Some status
-
-pick-some : (m : Machine) (symbol : ℕ) (symbols : List ℕ) → Starts m symbol → IsSome (pick m (symbol ∷ symbols))
-unfolding pick scan run
-pick-some m symbol symbols starts =
-    rw starts.leads
-    (option_map-some _ _ (either-some (first_condition [] _) _ (last-some (state_at m starts.next) _ starts.status starts.accepts)))
-
-pub stall_free : (m : Machine) → ((symbol : ℕ) → IsTextSymbol m symbol → Starts m symbol) → IsStallFree m
-stall_free m starts [] some all = absurd (some refl)
-stall_free m starts (symbol ∷ symbols) some all = pick-some m symbol symbols (starts symbol (all 0 0 (omega arith)))

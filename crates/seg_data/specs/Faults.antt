@@ -1,12 +1,12 @@
 -- The faults of data that strangers hand in.
-use Rattle.std.specs.Prelude.{◌≡◌, ◌≢◌, ℕ, ◌+◌, ◌*◌, ◌<◌, ◌≤◌, ◌⊎◌, Option, Some, None, List, length, slice_get, slice_index_or, IsSomeAnd, MatchOption, Any}
+use Rattle.std.specs.Prelude.{◌≡◌, ◌≢◌, ℕ, ◌+◌, ◌*◌, ◌<◌, ◌≤◌, ◌⊎◌, suc, Option, Some, List, length, slice_get, IsSomeAnd, Any}
 use Rattle.seg_data.specs.declared.provider.DataError.{DataError}
 use Rattle.seg_data.specs.declared.provider.DataError.TheVariants.{RangeOrder, RangePast10FFFF, StateCount, TransitionSize, TransitionOutOfRange, SymbolOutOfRange, TooManyLookaheads, LookaheadOutOfRange, EndCycle, Stalls}
 use Rattle.seg_data.specs.declared.provider.Acceptance.{Acceptance}
 use Rattle.seg_data.specs.declared.provider.Acceptance.TheVariants.{Continue, Accept, Conditional}
 use Rattle.seg_data.specs.Table.{named_values}
-use Rattle.seg_data.specs.Machine.{Machine, IsSymbolOf, IsTextSymbol, symbol_count, step, state_at}
-use Rattle.seg_data.specs.Pick.{accepted}
+use Rattle.seg_data.specs.Machine.{Machine, IsSymbolOf, IsTextSymbol, symbol_count, walk}
+use Rattle.seg_data.specs.Pick.{HasStall}
 
 -- the number of a fault: of several, the lowest is answered
 abbrev pub number_of : DataError → ℕ
@@ -59,9 +59,9 @@ IsConditionPast count Continue = ⊥
 abbrev pub NamesPast : ℕ → Acceptance × Option ℕ → Type 0
 NamesPast count state = IsSomeAnd state.1 (λ lookahead. count ≤ lookahead) ⊎ IsConditionPast count state.0
 
--- the state that a transition of START names is none, or doesn't accept
-abbrev pub IsStallAt : List (Acceptance × Option ℕ) → ℕ → Type 0
-IsStallAt states next = (next ≡ 255) ⊎ (accepted (slice_index_or states next (Continue, None)) ≡ None)
+-- from some state, symbol 0 leads back to it
+abbrev pub HasEndCycle : Machine → Type 0
+HasEndCycle m = (state steps : ℕ) × (state < length m.states) × (walk m state (suc steps) ≡ Some state)
 
 -- the faults of a machine's parts
 abbrev pub HasMachineFault : Machine → DataError → Type 0
@@ -76,15 +76,13 @@ HasMachineFault m TransitionOutOfRange = Any (λ next. (next ≢ 255) × (length
 HasMachineFault m SymbolOutOfRange =
     Any (IsStray (symbol_count m) m.pseudo_symbol_shift (length m.pseudo_symbol_map)) (named_values m.symbols)
     ⊎ Any (λ entry. IsTextSymbol m entry.0 → ⊥) m.pseudo_symbol_map
--- for now no lookahead is taken
-HasMachineFault m TooManyLookaheads = 0 < m.num_lookaheads
+-- there are more than 4 lookaheads
+HasMachineFault m TooManyLookaheads = 4 < m.num_lookaheads
 -- a state names a lookahead that there isn't, or is a condition on one
 HasMachineFault m LookaheadOutOfRange = Any (NamesPast m.num_lookaheads) m.states
--- for now no transition on symbol 0 is taken
-HasMachineFault m EndCycle = (state : ℕ) × (state < length m.states) × (step m state 0 ≢ None)
--- for now START has to lead to a state that accepts, on each symbol of a text
-HasMachineFault m Stalls =
-    (symbol : ℕ) × IsTextSymbol m symbol
-    × MatchOption (step m 0 symbol) (Unit {0}) (λ next. accepted (state_at m next) ≡ None)
+-- symbol 0 goes round in a cycle
+HasMachineFault m EndCycle = HasEndCycle m
+-- some text that isn't empty has no pick
+HasMachineFault m Stalls = HasStall m
 HasMachineFault m RangeOrder = ⊥
 HasMachineFault m RangePast10FFFF = ⊥

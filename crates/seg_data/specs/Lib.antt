@@ -4,4 +4,6 @@ pub mod Pick
 pub mod Segments
 pub mod Faults
 pub mod Checked
+pub mod Search
 pub mod Same
+pub mod Unaligned

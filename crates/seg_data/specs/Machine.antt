@@ -1,6 +1,6 @@
 -- State machines over the symbols of code points.
-use Rattle.std.specs.Prelude.{ℕ, ◌+◌, ◌-◌, ◌*◌, ◌/◌, ◌<◌, ◌==◌, nat_lt, if◌then◌else◌, Option, Some, None, List, [], ◌∷◌, ◌++◌, length, map, replicate, slice_index, slice_index_or}
-use Rattle.std.specs.Option.{option_map_or}
+use Rattle.std.specs.Prelude.{ℕ, zero, suc, ◌+◌, ◌-◌, ◌*◌, ◌/◌, ◌<◌, ◌==◌, nat_lt, if◌then◌else◌, Option, Some, None, List, [], ◌∷◌, ◌++◌, length, map, replicate, slice_index, slice_index_or}
+use Rattle.std.specs.Option.{option_map_or, option_and_then}
 use Rattle.seg_data.specs.declared.provider.Acceptance.{Acceptance}
 use Rattle.seg_data.specs.declared.provider.Acceptance.TheVariants.{Continue}
 use Rattle.seg_data.specs.declared.provider.ComplexScript.{ComplexScript}
@@ -67,6 +67,11 @@ run m state (symbol ∷ symbols) =
 -- Where symbol 0 goes round in no cycle, it leads on at most as often as there are states.
 unfoldable pub scan : Machine → List ℕ → List ℕ
 scan m symbols = run m 0 (symbols ++ replicate (length m.states) 0)
+
+-- the state that symbol 0, so many times, leads to from a state
+unfoldable pub walk : Machine → ℕ → ℕ → Option ℕ
+walk m state zero = Some state
+walk m state (suc steps) = option_and_then (λ next. walk m next steps) (step m state 0)
 
 -- what a state accepts and names
 unfoldable pub state_at : Machine → ℕ → Acceptance × Option ℕ

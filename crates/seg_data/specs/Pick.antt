@@ -1,5 +1,5 @@
 -- The pick of a text: where its first segment ends, and with which status. Steps count from 1.
-use Rattle.std.specs.Prelude.{◌≢◌, ℕ, suc, ◌==◌, min, if◌then◌else◌, Option, Some, None, List, [], ◌∷◌, ◌++◌, length, map, IsSome, All}
+use Rattle.std.specs.Prelude.{◌≡◌, ◌≢◌, ℕ, suc, ◌==◌, min, if◌then◌else◌, Option, Some, None, List, [], ◌∷◌, ◌++◌, length, map, IsSome, All}
 use Rattle.std.specs.Option.{option_map}
 use Rattle.seg_data.specs.declared.provider.Acceptance.{Acceptance}
 use Rattle.seg_data.specs.declared.provider.Acceptance.TheVariants.{Accept, Conditional}
@@ -54,3 +54,7 @@ pick m symbols =
 -- every text that isn't empty has a pick
 abbrev pub IsStallFree : Machine → Type 0
 IsStallFree m = (symbols : List ℕ) → symbols ≢ [] → All (IsTextSymbol m) symbols → IsSome (pick m symbols)
+
+-- some text that isn't empty has no pick
+abbrev pub HasStall : Machine → Type 0
+HasStall m = (symbols : List ℕ) × (symbols ≢ []) × All (IsTextSymbol m) symbols × (pick m symbols ≡ None)

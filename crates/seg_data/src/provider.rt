@@ -1,9 +1,12 @@
 //! The data of segmenters, each checked once, where it is made.
 ghost use Rattle.std.specs.Prelude.{◌≡◌};
 ghost use Rattle.seg_data.specs.Faults.{number_of};
+ghost use Rattle.seg_data.specs.Unaligned.{HasByte, acceptance_of, byte_of};
 
 mod checks;
+mod cycles;
 mod machine;
+mod stalls;
 mod table;
 #[cfg(test)]
 mod tests;
@@ -50,6 +53,40 @@ pub enum Acceptance {
     Conditional(Lookahead, u8),
 }
 
+impl Acceptance {
+    /// What a byte stands for. Its high five bits are a condition's lookahead, or 31 for none, and
+    /// its low three are the status, where 7 with no lookahead is `Continue`.
+    pub fn from_unaligned(byte: u8) -> Self
+        ensures value { result ≡ acceptance_of byte }
+        ensures fits { HasByte result }
+        ensures back { byte_of result ≡ byte }
+    {
+        let lookahead = byte >> 3;
+        let status = byte & 7;
+        if lookahead != 31 {
+            Acceptance::Conditional(lookahead, status)
+        } else if status != 7 {
+            Acceptance::Accept(status)
+        } else {
+            Acceptance::Continue
+        }
+    }
+
+    /// The byte that stands for this: it has a status below 7 where it accepts, and for a
+    /// condition a lookahead below 31 and a status below 8.
+    pub fn to_unaligned(self) -> u8
+        requires { HasByte self }
+        ensures value { result ≡ byte_of self }
+        ensures back { acceptance_of result ≡ self }
+    {
+        match self {
+            Acceptance::Continue => 255,
+            Acceptance::Accept(status) => 248 + status,
+            Acceptance::Conditional(lookahead, status) => lookahead * 8 + status,
+        }
+    }
+}
+
 /// What is wrong with data. Each fault has a number, and of several the lowest is answered.
 #[derive(Clone, Copy, Debug, PartialEq, Eq, Error)]
 pub enum DataError {
@@ -73,18 +110,18 @@ pub enum DataError {
     /// symbol that the map has, or the map gives symbol 0 or one that has no transitions.
     #[error("14 SymbolOutOfRange: the table of symbols or the map gives symbol 0, or one that the transitions or the map do not have")]
     SymbolOutOfRange,
-    /// 15: there are lookaheads, and for now no machine may have one.
-    #[error("15 TooManyLookaheads: machines with lookaheads are not taken yet")]
+    /// 15: there are more than 4 lookaheads.
+    #[error("15 TooManyLookaheads: a machine has at most 4 lookaheads")]
     TooManyLookaheads,
     /// 16: a state, or its condition, names a lookahead that isn't below the number of lookaheads.
     #[error("16 LookaheadOutOfRange: a state names a lookahead that is not below the number of lookaheads")]
     LookaheadOutOfRange,
-    /// 17: a state has a transition on symbol 0, and for now none may have one.
-    #[error("17 EndCycle: transitions on symbol 0, the end of the text, are not taken yet")]
+    /// 17: transitions on symbol 0 go round in a cycle.
+    #[error("17 EndCycle: transitions on symbol 0, the end of the text, go round in a cycle")]
     EndCycle,
-    /// 18: START, state 0, doesn't lead to a state that accepts on each symbol of a text, and for
-    /// now it has to.
-    #[error("18 Stalls: on some symbol START does not lead to a state that accepts")]
+    /// 18: some text that isn't empty has no pick: its scan comes to no state that accepts and to
+    /// no condition that holds.
+    #[error("18 Stalls: the scan of some text accepts nothing, and no condition holds in it")]
     Stalls,
 }
 

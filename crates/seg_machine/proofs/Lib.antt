@@ -3,3 +3,5 @@ pub mod Scanned
 pub mod Ends
 pub mod Cover
 pub mod Engine
+pub mod Law
+pub mod Rows

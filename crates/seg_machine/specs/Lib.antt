@@ -1,2 +1,4 @@
 pub mod Boundaries
 pub mod Scan
+pub mod Law
+pub mod Rows

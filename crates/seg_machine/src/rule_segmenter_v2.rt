@@ -1,16 +1,18 @@
 //! Segments by a state machine.
 
-ghost use Rattle.std.specs.Prelude.{◌≡◌, ◌≢◌, ◌<◌, ⊤, ℕ, [], drop, length};
-ghost use Rattle.std.specs.Option.{option_map};
+ghost use Rattle.std.specs.Prelude.{◌≡◌, ◌≢◌, ◌<◌, ◌≤◌, ⊤, ℕ, None, IsNone, [], ◌∷◌, drop, length, replicate};
+ghost use Rattle.std.specs.Option.{option_map, option_map_or};
 ghost use Rattle.std.specs.Iterator.{YieldsFirst, MakesProgress, item_count};
 ghost use Rattle.seg_text.specs.Items.{code_points};
-ghost use Rattle.seg_data.specs.Machine.{symbols_of};
+ghost use Rattle.seg_data.specs.Faults.{NamesPast};
+ghost use Rattle.seg_data.specs.Machine.{step, symbol_count, symbols_of};
 ghost use Rattle.seg_data.specs.Pick.{pick};
 ghost use Rattle.seg_text.specs.Items.{place_of};
 ghost use Rattle.seg_machine.specs.Boundaries.{placed, boundaries, places_left, GivesNext, IsSegmented, IsCover};
-ghost use Rattle.seg_machine.specs.Scan.{accept_at};
+ghost use Rattle.seg_machine.specs.Scan.{accept_at, future, held, keep_at};
 
-use seg_data::provider::{Acceptance, Lookahead, SegmenterStateMachine};
+use arrayvec::ArrayVec;
+use seg_data::provider::{Acceptance, Lookahead, SegmenterStateMachine, Symbol};
 use seg_text::inner::Cursor;
 use std::marker::Model;
 
@@ -107,28 +109,79 @@ fn scan<I: Cursor>(machine: &SegmenterStateMachine, rest: &I) -> Option<(usize, 
 {
     machine.check();
     let mut iter = rest.fork();
+    let mut kept = no_places(machine.num_lookaheads());
     let mut last: Option<(usize, u8)> = None;
     let mut state = SegmenterStateMachine::START_STATE;
-    'scan: while let Some((_, code_point)) = iter.next_item() {
-        let Some(next) = machine.next_state(state, machine.symbol(code_point)) else {
+    'scan: loop {
+        let symbol = next_symbol(machine, &mut iter);
+        let Some(next) = machine.next_state(state, symbol) else {
             return last;
         };
-        last = accept(machine.entry(next), iter.place(), last);
+        let found = enter(machine.entry(next), iter.place(), &mut kept, &mut last);
+        if found.is_some() {
+            return found;
+        }
         state = next;
     }
-    last
 }
 
-/// The last acceptance, as a place with its status, once a state is entered at a place.
-fn accept(
+/// The symbol of the next item; after the last one that of the end, as often as it is asked for.
+fn next_symbol<I: Cursor>(machine: &SegmenterStateMachine, iter: &mut I) -> Symbol
+    ensures symbol { result < symbol_count machine.now }
+    ensures future { (state : ℕ) → state < length machine.now.states
+        → future machine.now state (I.left iter.old)
+        ≡ option_map_or (λ next. next ∷ future machine.now next (I.left iter.new)) (step machine.now state result) [] }
+    ensures left { I.left iter.new ≡ drop 1 (I.left iter.old) }
+    ensures end { I.end iter.new ≡ I.end iter.old }
+{
+    machine.check();
+    match iter.next_item() {
+        Some((_, code_point)) => machine.symbol(code_point),
+        None => SegmenterStateMachine::EOT_SYMBOL,
+    }
+}
+
+/// For each lookahead the place of the last state that named it. A checked machine has 4 at most.
+type Places = ArrayVec<Option<usize>, 4>;
+
+/// No place for any of so many lookaheads.
+fn no_places(lookaheads: usize) -> Places
+    requires { lookaheads ≤ 4 }
+    ensures { result.items ≡ replicate lookaheads None }
+{
+    let mut kept = Places::new();
+    for made in 0..lookaheads {
+        kept.push(None);
+    }
+    kept
+}
+
+/// Enters a state at a place, and gives the segment's end and status where its condition holds: at
+/// the place kept for its lookahead. Else an acceptance is remembered, and the place is kept for
+/// the lookahead that the state names.
+#[tactic(auto, unfolding(crate::specs::Scan::held, crate::specs::Scan::accept_at, crate::specs::Scan::keep_at))]
+fn enter(
     state: (Acceptance, Option<Lookahead>),
     place: usize,
-    last: Option<(usize, u8)>,
+    kept: &mut Places,
+    last: &mut Option<(usize, u8)>,
 ) -> Option<(usize, u8)>
-    ensures { result ≡ accept_at place state last }
+    requires { NamesPast (length kept.old.items) state → ⊥ }
+    ensures held { result ≡ held kept.old.items state }
+    ensures last { IsNone result → last.new ≡ accept_at place state last.old }
+    ensures kept { IsNone result → kept.new.items ≡ keep_at place state kept.old.items }
 {
     match state.0 {
-        Acceptance::Accept(status) => Some((place, status)),
-        Acceptance::Continue | Acceptance::Conditional(_, _) => last,
+        Acceptance::Accept(status) => *last = Some((place, status)),
+        Acceptance::Conditional(lookahead, status) => {
+            if let Some(end) = kept[lookahead as usize] {
+                return Some((end, status));
+            }
+        }
+        Acceptance::Continue => {}
     }
+    if let Some(lookahead) = state.1 {
+        kept[lookahead as usize] = Some(place);
+    }
+    None
 }

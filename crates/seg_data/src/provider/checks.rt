@@ -1,10 +1,11 @@
 //! What a machine's parts are checked for.
-ghost use Rattle.std.specs.Prelude.{◌≡◌, ◌≢◌, ℕ, ◌+◌, ◌*◌, ◌/◌, ◌<◌, ◌≤◌, ◌↔◌, ◌⊎◌, Any, IsTrue, IfErr, IsSomeAnd, OnOk, length, slice_index};
-ghost use Rattle.seg_data.specs.Faults.{HasMachineFault, IsConditionPast, IsFaultless, IsLowestFault, IsStallAt, IsStray, NamesPast};
+ghost use Rattle.std.specs.Prelude.{◌≡◌, ◌≢◌, ℕ, ◌+◌, ◌*◌, ◌/◌, ◌<◌, ◌≤◌, ◌↔◌, ◌⊎◌, Any, IsTrue, IfErr, IsSomeAnd, OnOk};
+ghost use Rattle.seg_data.specs.Faults.{HasMachineFault, IsConditionPast, IsFaultless, IsLowestFault, IsStray, NamesPast};
 ghost use Rattle.seg_data.specs.Machine.{IsSymbolOf, machine};
-ghost use Rattle.seg_data.specs.Pick.{accepted};
 ghost use Rattle.seg_data.specs.Table.{named_values};
 
+use crate::provider::cycles::has_end_cycle;
+use crate::provider::stalls::is_stall_free;
 use crate::provider::{
     Acceptance, ClassTable, ComplexScript, DataError, Lookahead, SegmenterStateMachine, State,
     Symbol,
@@ -12,6 +13,8 @@ use crate::provider::{
 
 // A transition is a byte, and 255 stands for none.
 const MAX_STATES: usize = 255;
+
+const MAX_LOOKAHEADS: usize = 4;
 
 // The lowest fault of a machine's parts, if there is one.
 pub(super) fn check_parts(
@@ -38,16 +41,16 @@ pub(super) fn check_parts(
     if has_stray_value(symbols, count, shift, map.len()) || has_stray_entry(map, count) {
         return Err(DataError::SymbolOutOfRange);
     }
-    if num_lookaheads > 0 {
+    if num_lookaheads > MAX_LOOKAHEADS {
         return Err(DataError::TooManyLookaheads);
     }
     if names_past(states, num_lookaheads) {
         return Err(DataError::LookaheadOutOfRange);
     }
-    if leads_on_at_end(transitions, states.len()) {
+    if has_end_cycle(states, transitions) {
         return Err(DataError::EndCycle);
     }
-    if stalls_at_start(states, transitions, count) {
+    if !is_stall_free(states, transitions) {
         return Err(DataError::Stalls);
     }
     Ok(())
@@ -143,49 +146,6 @@ fn is_condition_past(acceptance: Acceptance, lookaheads: usize) -> bool
 {
     match acceptance {
         Acceptance::Conditional(lookahead, _) => lookaheads <= lookahead as usize,
-        _ => false,
-    }
-}
-
-// Whether some state has a transition on symbol 0.
-fn leads_on_at_end(transitions: &[State], states: usize) -> bool
-    requires { states ≤ length transitions.now }
-    ensures { IsTrue result ↔ ((state : ℕ) × (state < states) × (slice_index transitions.now state ≢ 255)) }
-{
-    for state in 0..states {
-        if transitions[state] != SegmenterStateMachine::TRASH_STATE {
-            return true;
-        }
-    }
-    false
-}
-
-// Whether some symbol of a text doesn't lead from START to a state that accepts.
-fn stalls_at_start(
-    states: &[(Acceptance, Option<Lookahead>)],
-    transitions: &[State],
-    count: usize,
-) -> bool
-    requires some_state { 0 < length states.now }
-    requires size { length states.now * count ≤ length transitions.now }
-    requires in_range { Any (λ next. (next ≢ 255) × (length states.now ≤ next)) transitions.now → ⊥ }
-    ensures { IsTrue result ↔ ((symbol : ℕ) × IsSymbolOf count symbol × IsStallAt states.now (slice_index transitions.now (symbol * length states.now))) }
-{
-    for symbol in 1..count {
-        let next = transitions[symbol * states.len()];
-        if next == SegmenterStateMachine::TRASH_STATE || !accepts(states[next as usize].0) {
-            return true;
-        }
-    }
-    false
-}
-
-// Whether this accepts whatever comes before.
-fn accepts(acceptance: Acceptance) -> bool
-    ensures { IsTrue result ↔ (accepted (acceptance, None) ≢ None) }
-{
-    match acceptance {
-        Acceptance::Accept(_) => true,
         _ => false,
     }
 }

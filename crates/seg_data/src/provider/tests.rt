@@ -14,6 +14,10 @@ const GO: Entry = (Acceptance::Continue, None);
 
 const TAKE: Entry = (Acceptance::Accept(0), None);
 
+const NAME: Entry = (Acceptance::Continue, Some(0));
+
+const ASK: Entry = (Acceptance::Conditional(0, 1), None);
+
 // 'a' is symbol 1, 'c' is 2, and 3 are all others: 'a's with a 'c' after them are one segment.
 const RANGES: [Range; 2] = [(97, 97, 1), (99, 99, 2)];
 
@@ -198,28 +202,135 @@ fn refuses_names(rt: HostRuntime) -> Result<(), Fail> {
     Ok(())
 }
 
-// Machines of one symbol, where START leads to a state that goes on.
+// What is wrong with a machine, if anything, where code points outside the ranges have value 1.
+fn fault(
+    alloc: Global,
+    states: &[Entry],
+    transitions: &[State],
+    num_lookaheads: usize,
+    ranges: &[Range],
+) -> Result<Option<DataError>, Fail> {
+    let made = SegmenterStateMachine::try_from_parts(
+        table(alloc, ranges, 1)??,
+        Vec::from_slice(alloc, states)?,
+        Vec::from_slice(alloc, transitions)?,
+        num_lookaheads,
+        5,
+        Vec::new(alloc),
+    );
+    Ok(made.err())
+}
+
+// Machines of one symbol and no lookahead.
 #[test]
-fn refuses_steps(rt: HostRuntime) -> Result<(), Fail> {
+fn follows_texts(rt: HostRuntime) -> Result<(), Fail> {
     let alloc = rt.alloc();
-    let slow = [GO, GO, (Acceptance::Accept(1), None)];
-    for (transitions, fault) in [
-        ([255, 2, 255, 1, 1, 255], DataError::EndCycle),
-        ([255, 1, 255, 1, 1, 255], DataError::EndCycle),
-        ([255, 255, 255, 1, 1, 255], DataError::Stalls),
-        ([255, 255, 255, 255, 1, 255], DataError::Stalls),
-    ] {
-        let symbols = table(alloc, &[], 1)??;
-        let made = SegmenterStateMachine::try_from_parts(
-            symbols,
-            Vec::from_slice(alloc, &slow)?,
-            Vec::from_slice(alloc, &transitions)?,
-            0,
-            2,
-            Vec::new(alloc),
-        );
-        assert_eq!(rt; made.err(), Some(fault));
+    for (state, wanted) in [(GO, Some(DataError::Stalls)), (TAKE, None)] {
+        assert_eq!(rt; fault(alloc, &[state], &[255, 0], 0, &[])?, wanted);
     }
+    let slow = [GO, GO, (Acceptance::Accept(1), None)];
+    for (transitions, wanted) in [
+        ([1, 2, 255, 0, 255, 255], None),
+        ([255, 2, 255, 1, 1, 255], None),
+        ([255, 255, 255, 1, 1, 255], Some(DataError::Stalls)),
+        ([255, 255, 255, 255, 1, 255], Some(DataError::Stalls)),
+        ([255, 2, 255, 255, 1, 255], Some(DataError::Stalls)),
+        ([255, 1, 255, 1, 1, 255], Some(DataError::EndCycle)),
+        ([255, 2, 1, 1, 1, 255], Some(DataError::EndCycle)),
+        ([0, 2, 255, 1, 1, 255], Some(DataError::EndCycle)),
+        ([0, 255, 255, 1, 255, 255], Some(DataError::EndCycle)),
+    ] {
+        assert_eq!(rt; fault(alloc, &slow, &transitions, 0, &[])?, wanted);
+    }
+    Ok(())
+}
+
+// Machines where START leads to a state that names lookahead 0, and that to a condition on it.
+#[test]
+fn follows_lookaheads(rt: HostRuntime) -> Result<(), Fail> {
+    let alloc = rt.alloc();
+    let b = [(98, 98, 2)];
+    let plain = [GO, GO, ASK];
+    let named = [GO, NAME, ASK];
+    let whole = [255, 2, 255, 1, 2, 255, 1, 2, 255];
+    let open = [255, 255, 255, 1, 2, 255, 1, 2, 255];
+    assert_eq!(rt; fault(alloc, &named, &whole, 1, &b)?, None);
+    assert_eq!(rt;
+        fault(alloc, &named, &open, 1, &b)?,
+        Some(DataError::Stalls)
+    );
+    assert_eq!(rt;
+        fault(alloc, &plain, &whole, 1, &b)?,
+        Some(DataError::Stalls)
+    );
+    assert_eq!(rt;
+        fault(alloc, &named, &[255, 2, 255, 1, 1, 255], 1, &[])?,
+        None
+    );
+    let late = [GO, GO, NAME, ASK];
+    assert_eq!(rt;
+        fault(alloc, &late, &[255, 2, 3, 255, 1, 1, 255, 255], 1, &[])?,
+        None
+    );
+    Ok(())
+}
+
+// START is entered by no step, and a state's own lookahead counts for later states alone.
+#[test]
+fn names_late(rt: HostRuntime) -> Result<(), Fail> {
+    let alloc = rt.alloc();
+    let both = (Acceptance::Conditional(0, 1), Some(0));
+    for (states, transitions, wanted) in [
+        ([NAME, ASK], [255, 255, 1, 255], Some(DataError::Stalls)),
+        ([GO, both], [255, 255, 1, 255], Some(DataError::Stalls)),
+        ([both, GO], [255, 255, 0, 255], Some(DataError::Stalls)),
+        ([both, NAME], [1, 255, 0, 255], Some(DataError::Stalls)),
+        ([NAME, both], [1, 255, 0, 255], None),
+    ] {
+        assert_eq!(rt; fault(alloc, &states, &transitions, 1, &[])?, wanted);
+    }
+    Ok(())
+}
+
+// Of two faults the one with the lower number is answered.
+#[test]
+fn tells_lowest(rt: HostRuntime) -> Result<(), Fail> {
+    let alloc = rt.alloc();
+    let far = (Acceptance::Continue, Some(7));
+    let fourth = (Acceptance::Accept(0), Some(3));
+    for (state, transitions, lookaheads, wanted) in [
+        (far, [255, 0], 5, Some(DataError::TooManyLookaheads)),
+        (TAKE, [255, 0], 5, Some(DataError::TooManyLookaheads)),
+        (far, [0, 0], 4, Some(DataError::LookaheadOutOfRange)),
+        (fourth, [255, 0], 3, Some(DataError::LookaheadOutOfRange)),
+        (fourth, [255, 0], 4, None),
+        (GO, [0, 0], 4, Some(DataError::EndCycle)),
+        (GO, [255, 255], 4, Some(DataError::Stalls)),
+    ] {
+        assert_eq!(rt;
+            fault(alloc, &[state], &transitions, lookaheads, &[])?,
+            wanted
+        );
+    }
+    Ok(())
+}
+
+#[test]
+fn reads_bytes(rt: HostRuntime) -> Result<(), Fail> {
+    for (byte, acceptance) in [
+        (0, Acceptance::Conditional(0, 0)),
+        (9, Acceptance::Conditional(1, 1)),
+        (247, Acceptance::Conditional(30, 7)),
+        (248, Acceptance::Accept(0)),
+        (254, Acceptance::Accept(6)),
+        (255, Acceptance::Continue),
+    ] {
+        let read = Acceptance::from_unaligned(byte);
+        assert_eq!(rt; read, acceptance);
+        assert_eq!(rt; read.to_unaligned(), byte);
+    }
+    assert_eq!(rt; Acceptance::Conditional(2, 3).to_unaligned(), 19);
+    assert_eq!(rt; Acceptance::Accept(1).to_unaligned(), 249);
     Ok(())
 }
 

@@ -4,7 +4,8 @@ use Rattle.seg_data.specs.declared.provider.DataError.TheVariants.{SymbolOutOfRa
 use Rattle.seg_data.specs.Machine.{machine}
 use Rattle.seg_data.specs.Faults.{HasMachineFault}
 use Rattle.seg_data.proofs.Lowest.{lowest-from, faultless-from}
-use Rattle.seg_data.proofs.Machines.{below-12, below-13, below-14, below-15, below-16, below-17, below-18, below-19, some-from, size-covers, stray-there, end-there, stalls-there}
+use Rattle.seg_data.proofs.Machines.{below-12, below-13, below-14, below-15, below-16, below-17, below-18, below-19, some-from, stray-there, bounded-from}
+use Rattle.seg_data.proofs.Bare.{cycle-full, stall-full}
 use Rattle.seg_data.proofs.provider.checks.check_parts.Goals as goal
 use Rattle.seg_data.proofs.provider.checks.check_parts.Goals.{then-has_stray_value-via-then-has_stray_value, then-has_stray_value-via-else-has_stray_value+then-has_stray_entry}
 
@@ -20,8 +21,8 @@ returns-then-has_stray_value-clause-refused c =
       | then-has_stray_value-via-else-has_stray_value+then-has_stray_entry w ↦ inr (w.has_stray_entry.ensures.0 w.if-has_stray_entry.true)
     ]))
 
-pub returns-then-num_lookaheads-gt0-clause-refused : goal.returns-then-num_lookaheads-gt0-clause-refused
-returns-then-num_lookaheads-gt0-clause-refused c =
+pub returns-then-num_lookaheads-gt-MAX_LOOKAHEADS-clause-refused : goal.returns-then-num_lookaheads-gt-MAX_LOOKAHEADS-clause-refused
+returns-then-num_lookaheads-gt-MAX_LOOKAHEADS-clause-refused c =
     let m = machine c.args.symbols.now c.args.states.now c.args.transitions.now c.args.num_lookaheads c.args.shift c.args.map.now in
     let b12 = below-12 m (some-from _ _ c.is_empty.ensures c.if-is_empty.false) c.if-states-gt-MAX_STATES.false in
     let b13 = below-13 m b12 (iff_false c.has_wrong_size.ensures c.if-has_wrong_size.false) in
@@ -30,7 +31,7 @@ returns-then-num_lookaheads-gt0-clause-refused c =
       | inl value ↦ iff_false c.has_stray_value.ensures c.if-has_stray_value.false value
       | inr entry ↦ iff_false c.has_stray_entry.ensures c.if-has_stray_entry.false entry
     ]) in
-    lowest-from (HasMachineFault m) TooManyLookaheads b15 c.if-num_lookaheads-gt0.true
+    lowest-from (HasMachineFault m) TooManyLookaheads b15 c.if-num_lookaheads-gt-MAX_LOOKAHEADS.true
 
 pub returns-then-names_past-clause-refused : goal.returns-then-names_past-clause-refused
 returns-then-names_past-clause-refused c =
@@ -42,16 +43,29 @@ returns-then-names_past-clause-refused c =
       | inl value ↦ iff_false c.has_stray_value.ensures c.if-has_stray_value.false value
       | inr entry ↦ iff_false c.has_stray_entry.ensures c.if-has_stray_entry.false entry
     ]) in
-    let b16 = below-16 m b15 c.if-num_lookaheads-gt0.false in
+    let b16 = below-16 m b15 c.if-num_lookaheads-gt-MAX_LOOKAHEADS.false in
     lowest-from (HasMachineFault m) LookaheadOutOfRange b16 (c.names_past.ensures.0 c.if-names_past.true)
 
-pub leads_on_at_end-requires : goal.leads_on_at_end-requires
-leads_on_at_end-requires c =
+pub has_end_cycle-requires : goal.has_end_cycle-requires
+has_end_cycle-requires c =
     let m = machine c.args.symbols.now c.args.states.now c.args.transitions.now c.args.num_lookaheads c.args.shift c.args.map.now in
-    size-covers m (iff_false c.has_wrong_size.ensures c.if-has_wrong_size.false)
+    record {
+      bounded = bounded-from m (some-from _ _ c.is_empty.ensures c.if-is_empty.false) c.if-states-gt-MAX_STATES.false
+          (iff_false c.has_wrong_size.ensures c.if-has_wrong_size.false) (iff_false c.leads_past.ensures c.if-leads_past.false)
+          c.if-num_lookaheads-gt-MAX_LOOKAHEADS.false (iff_false c.names_past.ensures c.if-names_past.false);
+    }
 
-pub returns-then-leads_on_at_end-clause-refused : goal.returns-then-leads_on_at_end-clause-refused
-returns-then-leads_on_at_end-clause-refused c =
+pub is_stall_free-requires : goal.is_stall_free-requires
+is_stall_free-requires c =
+    let m = machine c.args.symbols.now c.args.states.now c.args.transitions.now c.args.num_lookaheads c.args.shift c.args.map.now in
+    record {
+      bounded = bounded-from m (some-from _ _ c.is_empty.ensures c.if-is_empty.false) c.if-states-gt-MAX_STATES.false
+          (iff_false c.has_wrong_size.ensures c.if-has_wrong_size.false) (iff_false c.leads_past.ensures c.if-leads_past.false)
+          c.if-num_lookaheads-gt-MAX_LOOKAHEADS.false (iff_false c.names_past.ensures c.if-names_past.false);
+    }
+
+pub returns-then-has_end_cycle-clause-refused : goal.returns-then-has_end_cycle-clause-refused
+returns-then-has_end_cycle-clause-refused c =
     let m = machine c.args.symbols.now c.args.states.now c.args.transitions.now c.args.num_lookaheads c.args.shift c.args.map.now in
     let b12 = below-12 m (some-from _ _ c.is_empty.ensures c.if-is_empty.false) c.if-states-gt-MAX_STATES.false in
     let b13 = below-13 m b12 (iff_false c.has_wrong_size.ensures c.if-has_wrong_size.false) in
@@ -60,12 +74,12 @@ returns-then-leads_on_at_end-clause-refused c =
       | inl value ↦ iff_false c.has_stray_value.ensures c.if-has_stray_value.false value
       | inr entry ↦ iff_false c.has_stray_entry.ensures c.if-has_stray_entry.false entry
     ]) in
-    let b16 = below-16 m b15 c.if-num_lookaheads-gt0.false in
+    let b16 = below-16 m b15 c.if-num_lookaheads-gt-MAX_LOOKAHEADS.false in
     let b17 = below-17 m b16 (iff_false c.names_past.ensures c.if-names_past.false) in
-    lowest-from (HasMachineFault m) EndCycle b17 (end-there m (c.leads_on_at_end.ensures.0 c.if-leads_on_at_end.true))
+    lowest-from (HasMachineFault m) EndCycle b17 (cycle-full m (c.has_end_cycle.ensures.0 c.if-has_end_cycle.true))
 
-pub returns-then-stalls_at_start-clause-refused : goal.returns-then-stalls_at_start-clause-refused
-returns-then-stalls_at_start-clause-refused c =
+pub returns-then-not-is_stall_free-clause-refused : goal.returns-then-not-is_stall_free-clause-refused
+returns-then-not-is_stall_free-clause-refused c =
     let m = machine c.args.symbols.now c.args.states.now c.args.transitions.now c.args.num_lookaheads c.args.shift c.args.map.now in
     let b12 = below-12 m (some-from _ _ c.is_empty.ensures c.if-is_empty.false) c.if-states-gt-MAX_STATES.false in
     let b13 = below-13 m b12 (iff_false c.has_wrong_size.ensures c.if-has_wrong_size.false) in
@@ -74,10 +88,10 @@ returns-then-stalls_at_start-clause-refused c =
       | inl value ↦ iff_false c.has_stray_value.ensures c.if-has_stray_value.false value
       | inr entry ↦ iff_false c.has_stray_entry.ensures c.if-has_stray_entry.false entry
     ]) in
-    let b16 = below-16 m b15 c.if-num_lookaheads-gt0.false in
+    let b16 = below-16 m b15 c.if-num_lookaheads-gt-MAX_LOOKAHEADS.false in
     let b17 = below-17 m b16 (iff_false c.names_past.ensures c.if-names_past.false) in
-    let b18 = below-18 m b17 (iff_false c.leads_on_at_end.ensures c.if-leads_on_at_end.false) in
-    lowest-from (HasMachineFault m) Stalls b18 (stalls-there m (c.stalls_at_start.ensures.0 c.if-stalls_at_start.true))
+    let b18 = below-18 m b17 (iff_false c.has_end_cycle.ensures c.if-has_end_cycle.false) in
+    lowest-from (HasMachineFault m) Stalls b18 (stall-full m (c.is_stall_free.ensures.stalls c.if-not-is_stall_free.true))
 
 pub returns-clause-accepted : goal.returns-clause-accepted
 returns-clause-accepted c =
@@ -89,8 +103,8 @@ returns-clause-accepted c =
       | inl value ↦ iff_false c.has_stray_value.ensures c.if-has_stray_value.false value
       | inr entry ↦ iff_false c.has_stray_entry.ensures c.if-has_stray_entry.false entry
     ]) in
-    let b16 = below-16 m b15 c.if-num_lookaheads-gt0.false in
+    let b16 = below-16 m b15 c.if-num_lookaheads-gt-MAX_LOOKAHEADS.false in
     let b17 = below-17 m b16 (iff_false c.names_past.ensures c.if-names_past.false) in
-    let b18 = below-18 m b17 (iff_false c.leads_on_at_end.ensures c.if-leads_on_at_end.false) in
-    let b19 = below-19 m b18 (iff_false c.stalls_at_start.ensures c.if-stalls_at_start.false) in
+    let b18 = below-18 m b17 (iff_false c.has_end_cycle.ensures c.if-has_end_cycle.false) in
+    let b19 = below-19 m b18 (c.is_stall_free.ensures.free c.if-not-is_stall_free.false) in
     faultless-from (HasMachineFault m) b19

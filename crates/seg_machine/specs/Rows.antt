@@ -1,0 +1,54 @@
+-- Small machines, and texts of so many letters, whose boundaries are known.
+use Rattle.std.specs.Prelude.{ℕ, zero, suc, ◌+◌, Option, Some, None, List, [], ◌∷◌}
+use Rattle.seg_data.specs.declared.provider.Acceptance.{Acceptance}
+use Rattle.seg_data.specs.declared.provider.Acceptance.TheVariants.{Continue, Accept, Conditional}
+use Rattle.seg_data.specs.Table.{table}
+use Rattle.seg_data.specs.Machine.{Machine, machine}
+use Rattle.seg_machine.specs.Boundaries.{boundaries}
+
+-- each code point has symbol 1; the transitions are those on symbol 0, state by state, and then those on symbol 1
+abbrev pub small : List (Acceptance × Option ℕ) → List ℕ → Machine
+small states transitions = machine (table [] 1) states transitions 1 5 []
+
+-- letters of one unit each, from a place on
+abbrev pub letters : ℕ → ℕ → List (ℕ × ℕ)
+letters place zero = []
+letters place (suc n) = (place, 0x61) ∷ letters (place + 1) n
+
+-- the boundaries of so many letters
+abbrev pub boundaries_of : Machine → ℕ → List (ℕ × ℕ)
+boundaries_of m n = boundaries m (letters 0 n) n
+
+-- each letter names lookahead 0, and the end enters a condition on it
+abbrev pub condition_at_end : Machine
+condition_at_end =
+    small ((Continue, None) ∷ (Continue, Some 0) ∷ (Conditional 0 1, None) ∷ [])
+    (255 ∷ 2 ∷ 255 ∷ 1 ∷ 1 ∷ 255 ∷ [])
+
+-- each letter enters a condition on the lookahead that it names too, and the end is accepted
+abbrev pub condition_on_own_name : Machine
+condition_on_own_name =
+    small ((Continue, None) ∷ (Conditional 0 1, Some 0) ∷ (Accept 0, None) ∷ [])
+    (255 ∷ 2 ∷ 255 ∷ 1 ∷ 1 ∷ 255 ∷ [])
+
+-- the end is accepted after two steps there
+abbrev pub accepted_two_past_end : Machine
+accepted_two_past_end =
+    small ((Continue, None) ∷ (Continue, None) ∷ (Continue, None) ∷ (Accept 0, None) ∷ [])
+    (255 ∷ 2 ∷ 3 ∷ 255 ∷ 1 ∷ 1 ∷ 255 ∷ 255 ∷ [])
+
+-- the same, where letters lead from START to itself
+abbrev pub accepted_from_start : Machine
+accepted_from_start =
+    small ((Continue, None) ∷ (Continue, None) ∷ (Accept 0, None) ∷ [])
+    (1 ∷ 2 ∷ 255 ∷ 0 ∷ 255 ∷ 255 ∷ [])
+
+-- START itself accepts
+abbrev pub start_accepts : Machine
+start_accepts = small ((Accept 0, None) ∷ []) (255 ∷ 0 ∷ [])
+
+-- the first step at the end names lookahead 0, and the second enters a condition on it
+abbrev pub named_past_end : Machine
+named_past_end =
+    small ((Continue, None) ∷ (Continue, None) ∷ (Continue, Some 0) ∷ (Conditional 0 1, None) ∷ [])
+    (255 ∷ 2 ∷ 3 ∷ 255 ∷ 1 ∷ 1 ∷ 255 ∷ 255 ∷ [])
