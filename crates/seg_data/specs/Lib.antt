@@ -7,3 +7,4 @@ pub mod Checked
 pub mod Search
 pub mod Same
 pub mod Unaligned
+pub mod Tailored

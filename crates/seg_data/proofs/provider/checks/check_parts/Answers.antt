@@ -1,4 +1,3 @@
-use Rattle.std.proofs.Common.{inl}
 use Rattle.std.proofs.lemmas.Bool.{iff_false}
 use Rattle.seg_data.specs.declared.provider.DataError.TheVariants.{SymbolOutOfRange, TooManyLookaheads, LookaheadOutOfRange, EndCycle, Stalls}
 use Rattle.seg_data.specs.Machine.{machine}
