@@ -2,6 +2,7 @@ pub mod Table
 pub mod Machine
 pub mod Pick
 pub mod Segments
+pub mod Restart
 pub mod Faults
 pub mod Checked
 pub mod Search
