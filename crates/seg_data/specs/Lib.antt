@@ -8,3 +8,4 @@ pub mod Checked
 pub mod Search
 pub mod Same
 pub mod Unaligned
+pub mod Language

@@ -5,12 +5,14 @@ ghost use Rattle.seg_data.specs.Unaligned.{HasByte, acceptance_of, byte_of};
 
 mod checks;
 mod cycles;
+mod language;
 mod machine;
 mod stalls;
 mod table;
 #[cfg(test)]
 mod tests;
 
+pub use language::LanguageIdentifier;
 pub use machine::SegmenterStateMachine;
 pub use table::ClassTable;
 use thiserror::Error;
