@@ -5,7 +5,7 @@ use Rattle.std.proofs.lemmas.Bool.{cases_lt, cond_both, cond-true, cond-false, l
 use Rattle.std.proofs.lemmas.Nat.{mul-le}
 use Rattle.std.proofs.lemmas.List.{get_or_past, get_or_read}
 use Rattle.seg_data.specs.declared.provider.DataError.{DataError}
-use Rattle.seg_data.specs.declared.provider.DataError.TheVariants.{RangeOrder, RangePast10FFFF, StateCount, TransitionSize, TransitionOutOfRange, SymbolOutOfRange, TooManyLookaheads, LookaheadOutOfRange, EndCycle, Stalls}
+use Rattle.seg_data.specs.declared.provider.DataError.TheVariants.{RangeOrder, RangePast10FFFF, ComplexBelow0100, StateCount, TransitionSize, TransitionOutOfRange, SymbolOutOfRange, TooManyLookaheads, LookaheadOutOfRange, EndCycle, Stalls, MissingTailoring}
 use Rattle.seg_data.specs.declared.provider.Acceptance.{Acceptance}
 use Rattle.seg_data.specs.declared.provider.Acceptance.TheVariants.{Continue, Accept, Conditional}
 use Rattle.seg_data.specs.declared.provider.ComplexScript.{ComplexScript}
@@ -30,6 +30,7 @@ below-11 m = record { absent = λ fault less has. none m fault less has }
     none : (m : Machine) (fault : DataError) → number_of fault < 11 → HasMachineFault m fault → ⊥
     none m RangeOrder less has = has
     none m RangePast10FFFF less has = has
+    none m ComplexBelow0100 less has = has
     none m StateCount less has = omega arith
     none m TransitionSize less has = omega arith
     none m TransitionOutOfRange less has = omega arith
@@ -38,6 +39,7 @@ below-11 m = record { absent = λ fault less has. none m fault less has }
     none m LookaheadOutOfRange less has = omega arith
     none m EndCycle less has = omega arith
     none m Stalls less has = omega arith
+    none m MissingTailoring less has = has
 
 pub below-12 : (m : Machine) → 0 < length m.states → length m.states ≤ 255 → NoneBelow (HasMachineFault m) 12
 below-12 m some few =
@@ -149,6 +151,9 @@ pub below-19 : (m : Machine) → NoneBelow (HasMachineFault m) 18 → IsStallFre
 below-19 m below free =
     none-below-more (HasMachineFault m) Stalls 18 refl below
     (λ has. no-stall m (stall_free-full m free) has)
+
+pub below-20 : (m : Machine) → NoneBelow (HasMachineFault m) 19 → NoneBelow (HasMachineFault m) 20
+below-20 m below = none-below-more (HasMachineFault m) MissingTailoring 19 refl below (λ has. has)
 
 -- a machine without faults is checked
 

@@ -9,12 +9,14 @@ mod language;
 mod machine;
 mod stalls;
 mod table;
+mod tailoring;
 #[cfg(test)]
 mod tests;
 
 pub use language::LanguageIdentifier;
 pub use machine::SegmenterStateMachine;
 pub use table::ClassTable;
+pub use tailoring::SegmenterStateMachineOverride;
 use thiserror::Error;
 
 /// The script of a run of text whose words only a dictionary or a model can tell apart.
@@ -99,6 +101,9 @@ pub enum DataError {
     /// 3: a range ends above U+10FFFF.
     #[error("3 RangePast10FFFF: a range ends above U+10FFFF, the last code point")]
     RangePast10FFFF,
+    /// 9: a code point below U+0100, which also Latin-1 has, has a script.
+    #[error("9 ComplexBelow0100: a code point below U+0100 has a script")]
+    ComplexBelow0100,
     /// 11: there is no state, or there are more than 255.
     #[error("11 StateCount: a machine has 1 to 255 states")]
     StateCount,
@@ -125,6 +130,9 @@ pub enum DataError {
     /// no condition that holds.
     #[error("18 Stalls: the scan of some text accepts nothing, and no condition holds in it")]
     Stalls,
+    /// 19: the tailoring that the options of lines name wasn't handed in.
+    #[error("19 MissingTailoring: the tailoring that the options name is not there")]
+    MissingTailoring,
 }
 
 impl DataError {
@@ -135,6 +143,7 @@ impl DataError {
         match self {
             DataError::RangeOrder => 2,
             DataError::RangePast10FFFF => 3,
+            DataError::ComplexBelow0100 => 9,
             DataError::StateCount => 11,
             DataError::TransitionSize => 12,
             DataError::TransitionOutOfRange => 13,
@@ -143,6 +152,7 @@ impl DataError {
             DataError::LookaheadOutOfRange => 16,
             DataError::EndCycle => 17,
             DataError::Stalls => 18,
+            DataError::MissingTailoring => 19,
         }
     }
 }
