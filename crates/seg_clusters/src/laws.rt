@@ -4,6 +4,7 @@ ghost use Rattle.std.specs.Prelude.{◌≡◌, ℕ, List, drop, length, map};
 ghost use Rattle.seg_text.specs.Items.{place_of, code_points};
 ghost use Rattle.seg_text.specs.Utf8.{utf8_items};
 ghost use Rattle.seg_data.specs.Segments.{machine_boundaries};
+ghost use Rattle.seg_data.specs.Restart.{HasRestart};
 ghost use Rattle.seg_machine.specs.Boundaries.{boundaries, places};
 ghost use Rattle.seg_clusters.specs.Clusters.{machine_of, clusters_left, cluster_ordinals};
 
@@ -19,6 +20,14 @@ pub fn equal_code_points(segmenter: GraphemeClusterSegmenterBorrowed<'_>)
         ≡ map (λ ordinal. place_of (drop ordinal items) end) (cluster_ordinals (machine_of segmenter.entry) (code_points items)) }
     ensures equal { (items others : List (ℕ × ℕ)) → code_points items ≡ code_points others
         → cluster_ordinals (machine_of segmenter.entry) (code_points items) ≡ cluster_ordinals (machine_of segmenter.entry) (code_points others) }
+{
+    let _ = segmenter;
+}
+
+/// Does nothing. Its contract tells that a text may be segmented anew from any of its boundaries: for every list of code
+/// points, the boundaries after one of them are those of the rest taken alone, shifted, each with the same status.
+pub fn restart(segmenter: GraphemeClusterSegmenterBorrowed<'_>)
+    ensures { HasRestart (machine_of segmenter.entry) }
 {
     let _ = segmenter;
 }

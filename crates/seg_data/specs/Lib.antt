@@ -2,9 +2,11 @@ pub mod Table
 pub mod Machine
 pub mod Pick
 pub mod Segments
+pub mod Restart
 pub mod Faults
 pub mod Checked
 pub mod Search
 pub mod Same
 pub mod Unaligned
 pub mod Tailored
+pub mod Language

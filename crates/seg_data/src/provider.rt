@@ -5,6 +5,7 @@ ghost use Rattle.seg_data.specs.Unaligned.{HasByte, acceptance_of, byte_of};
 
 mod checks;
 mod cycles;
+mod language;
 mod machine;
 mod stalls;
 mod table;
@@ -12,6 +13,7 @@ mod tailoring;
 #[cfg(test)]
 mod tests;
 
+pub use language::LanguageIdentifier;
 pub use machine::SegmenterStateMachine;
 pub use table::ClassTable;
 pub use tailoring::SegmenterStateMachineOverride;

@@ -1,0 +1,4 @@
+//! Lines of texts: where they may be broken, and where they must be.
+#![tactic(auto)]
+
+pub mod line;
