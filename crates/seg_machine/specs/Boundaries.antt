@@ -11,6 +11,10 @@ placed items end counted = (place_of (drop counted.0 items) end, counted.1)
 abbrev pub places : List (ℕ × ℕ) → List ℕ
 places boundaries = map (λ (boundary : ℕ × ℕ). boundary.0) boundaries
 
+-- the boundaries of a list of code points, counted in code points
+abbrev pub ordinals : Machine → List ℕ → List ℕ
+ordinals m code_points = places (machine_boundaries m code_points)
+
 -- the boundaries of a text with their statuses: the places of the boundaries of its code points
 unfoldable pub boundaries : Machine → List (ℕ × ℕ) → ℕ → List (ℕ × ℕ)
 boundaries m items end = map (placed items end) (machine_boundaries m (code_points items))
