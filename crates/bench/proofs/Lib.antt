@@ -1,1 +1,1 @@
-pub mod ClusterFaults
+mod Faultless
