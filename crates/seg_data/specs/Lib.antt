@@ -1,3 +1,4 @@
+pub mod Language
 pub mod Table
 pub mod Machine
 pub mod Pick
@@ -8,4 +9,3 @@ pub mod Checked
 pub mod Search
 pub mod Same
 pub mod Unaligned
-pub mod Language
