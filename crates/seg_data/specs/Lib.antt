@@ -1,3 +1,4 @@
+pub mod Language
 pub mod Table
 pub mod Machine
 pub mod Pick
@@ -9,4 +10,3 @@ pub mod Search
 pub mod Same
 pub mod Unaligned
 pub mod Tailored
-pub mod Language

@@ -21,6 +21,17 @@ pub struct TailoredMachine {
 impl TailoredMachine {
     ghost use Rattle.seg_data.specs.Tailored.{machine_of, owned_machine};
 
+    /// The machine as it is.
+    pub fn untailored(machine: SegmenterStateMachine) -> Self
+        ensures { owned_machine result ≡ machine }
+    {
+        machine.check();
+        TailoredMachine {
+            machine,
+            tailoring: None,
+        }
+    }
+
     /// The machine with its tailoring, if there is one. `SymbolOutOfRange` where they don't fit.
     pub fn try_new(
         machine: SegmenterStateMachine,
