@@ -10,5 +10,10 @@ pub use Rattle.seg_data.specs.Machine
 pub use Rattle.seg_data.specs.Pick
 pub use Rattle.seg_data.specs.Segments
 pub use Rattle.seg_data.specs.Faults
+pub use Rattle.seg_data.specs.Language
 pub use Rattle.seg_machine.specs.Boundaries
 pub use Rattle.seg_clusters.specs.Clusters
+pub use Rattle.seg_clusters.specs.Sentences
+pub use Rattle.seg_lines.specs.Options
+pub use Rattle.seg_lines.specs.Tailorings
+pub use Rattle.seg_lines.specs.Lines
