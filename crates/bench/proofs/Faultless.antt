@@ -73,7 +73,7 @@ both : (a b : Bool) → (a && b) ≡ true → (a ≡ true) × (b ≡ true)
 both true b is = (refl, is)
 both false b is = cc
 
-all_below-at : (test : ℕ → Bool) (count number : ℕ) → all_below test count ≡ true → number < count → test number ≡ true
+pub all_below-at : (test : ℕ → Bool) (count number : ℕ) → all_below test count ≡ true → number < count → test number ≡ true
 unfolding all_below
 all_below-at test zero number passed below = absurd (omega arith)
 all_below-at test (suc count) number passed below =

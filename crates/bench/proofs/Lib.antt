@@ -1,1 +1,2 @@
 mod Faultless
+pub mod Scripts

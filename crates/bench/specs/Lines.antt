@@ -1,9 +1,10 @@
--- The bench machine of lines and its tailoring, hand-written ones for tests and for the program.
-use Rattle.std.specs.Prelude.{ℕ, Option, None, List, [], ◌∷◌}
+-- The bench machine of lines and its tailorings, hand-written ones for tests and for the program.
+use Rattle.std.specs.Prelude.{ℕ, Option, Some, None, List, [], ◌∷◌}
 use Rattle.seg_data.specs.declared.provider.Acceptance.{Acceptance}
 use Rattle.seg_data.specs.declared.provider.Acceptance.TheVariants.{Continue, Accept}
 use Rattle.seg_data.specs.declared.provider.ComplexScript.{ComplexScript}
 use Rattle.seg_data.specs.declared.provider.ComplexScript.TheVariants.{None as NoScript, Myanmar, Thai}
+use Rattle.icu_segmenter.specs.declared.provider.LineTailorings.{LineTailorings}
 use Rattle.icu_segmenter.specs.Table.{Table}
 use Rattle.icu_segmenter.specs.Machine.{Machine, machine}
 
@@ -44,3 +45,15 @@ line_machine = machine line_symbols line_states line_transitions 0 5 line_map
 -- the tailoring by which they are as ideographs, so that a line may be broken beside each
 abbrev pub breakall : List (ℕ × ComplexScript)
 breakall = (4, NoScript) ∷ (4, NoScript) ∷ (4, NoScript) ∷ []
+
+-- no other tailoring is there
+abbrev pub line_tailorings : LineTailorings
+line_tailorings = record {
+  breakall = Some breakall;
+  keepall = None;
+  ja_loose = None;
+  loose = None;
+  ja_normal = None;
+  normal = None;
+  ja = None;
+}

@@ -1,11 +1,12 @@
-//! The bench machine of lines, and its tailoring.
+//! The bench machine of lines, and its tailorings.
 
 ghost use Rattle.std.specs.Prelude.{◌≡◌, IfOk};
-ghost use Rattle.bench.specs.Lines.{line_machine, breakall};
+ghost use Rattle.bench.specs.Lines.{line_machine, line_tailorings, breakall};
 
 use crate::machines::{Entry, machine_of};
 use icu_segmenter::provider::{
-    Acceptance, ComplexScript, SegmenterStateMachine, SegmenterStateMachineOverride, State, Symbol,
+    Acceptance, ComplexScript, LineTailorings, SegmenterStateMachine,
+    SegmenterStateMachineOverride, State, Symbol,
 };
 use std::alloc::{AllocError, Global};
 
@@ -77,4 +78,15 @@ pub fn breakall(alloc: Global) -> Result<SegmenterStateMachineOverride, AllocErr
         unreachable!()
     };
     Ok(tailoring)
+}
+
+/// The tailorings of the bench machine of lines: that of the word option `BreakAll` alone.
+/// The only error is want of memory.
+pub fn line_tailorings(alloc: Global) -> Result<LineTailorings, AllocError>
+    ensures { IfOk result (λ tailorings. tailorings ≡ line_tailorings) }
+{
+    Ok(LineTailorings {
+        breakall: Some(breakall(alloc)?),
+        ..LineTailorings::default()
+    })
 }
