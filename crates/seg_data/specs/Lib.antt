@@ -10,3 +10,4 @@ pub mod Search
 pub mod Same
 pub mod Unaligned
 pub mod Tailored
+pub mod LineTailorings
