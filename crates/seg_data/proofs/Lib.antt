@@ -12,3 +12,4 @@ pub mod Searches
 pub mod Tables
 pub mod Machines
 pub mod Segmentations
+pub mod Pairs

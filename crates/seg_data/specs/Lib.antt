@@ -7,3 +7,7 @@ pub mod Checked
 pub mod Search
 pub mod Same
 pub mod Unaligned
+pub mod BreakStates
+pub mod PairTable
+pub mod PairFaults
+pub mod SamePairs
