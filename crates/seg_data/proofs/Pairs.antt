@@ -1,7 +1,7 @@
 -- Pair tables: their entries, and what holds of parts with no fault.
-use Rattle.std.proofs.Common.{◌≡◌, ℕ, suc, ◌+◌, ◌*◌, ◌<◌, ◌≤◌, ◌⊎◌, List, length, get_or, Any, refl, sym, ap, ◌∙◌, subst, inl, inr, arith}
-use Rattle.std.specs.Prelude.{Option, Some, None, IsSomeAnd}
-use Rattle.std.proofs.lemmas.Bool.{cases_lt, cases_eq}
+use Rattle.std.proofs.Common.{◌≡◌, ◌≢◌, ℕ, suc, ◌+◌, ◌*◌, ◌<◌, ◌≤◌, ◌⊎◌, List, length, get_or, Any, refl, sym, ap, ◌∙◌, subst, inl, inr, arith, eq-eqb}
+use Rattle.std.specs.Prelude.{Option, Some, None, IsSomeAnd, Contains}
+use Rattle.std.proofs.lemmas.Bool.{cases_lt, cases_eq, cond-true, cond-false, ne_eqb}
 use Rattle.std.proofs.lemmas.Nat.{mul-le}
 use Rattle.std.proofs.lemmas.List.{get_or_past, get_or_read}
 use Rattle.seg_data.specs.declared.provider.DataError.TheVariants.{TableSize, ClassOutOfRange, StateOutOfRange}
@@ -9,9 +9,11 @@ use Rattle.seg_data.specs.declared.provider.pairs.BreakState.{BreakState}
 use Rattle.seg_data.specs.declared.provider.pairs.BreakState.TheVariants.{NoMatch}
 use Rattle.seg_data.specs.BreakStates.{named_state}
 use Rattle.seg_data.specs.Faults.{IsFaultless}
-use Rattle.seg_data.specs.PairFaults.{HasPairFault, NamesStatePast}
-use Rattle.seg_data.specs.PairTable.{PairTable, IsPairTable, entry_of}
-use Rattle.seg_data.proofs.Anywhere.{any-at}
+use Rattle.seg_data.specs.PairFaults.{HasPairFault, NamesStatePast, KeepsStart}
+use Rattle.seg_data.specs.PairTable.{PairTable, IsPairTable, Names, Overrides, class_of, entry_of}
+use Rattle.seg_data.specs.Table.{Table, named_values, value_of}
+use Rattle.seg_data.proofs.Anywhere.{any-at, any-contained, contained-same}
+use Rattle.seg_data.proofs.Ranges.{value-named}
 
 -- the place of an entry
 pub entry-within : (left right count : ℕ) → left < count → right < count → left * count + right < count * count
@@ -52,6 +54,47 @@ pair_table-from t none = record {
   square = elim (cases_eq (length t.break_state_table) (t.property_count * t.property_count)) [ inl same ↦ same | inr other ↦ absurd (none TableSize (inr other)) ];
   sot = elim (cases_lt t.sot_property t.property_count) [ inl below ↦ below | inr past ↦ absurd (none StateOutOfRange (inl (inl past))) ];
   eot = elim (cases_lt t.eot_property t.property_count) [ inl below ↦ below | inr past ↦ absurd (none StateOutOfRange (inl (inr past))) ];
-  classes = none ClassOutOfRange;
+  classes = λ class named. elim (cases_lt class t.property_count) [ inl below ↦ below | inr past ↦ absurd (none ClassOutOfRange (any-contained (λ class. t.property_count ≤ class) (named_values t.property_table) class named past)) ];
   states = λ left right state. states-from t left right state (λ any. none StateOutOfRange (inr any));
 }
+
+-- the class of a code point, by the override that there is
+
+pub class-table : (t : PairTable) (overriding : Option Table) (code_point : ℕ) → overriding ≡ None → class_of t overriding code_point ≡ value_of t.property_table code_point
+unfolding class_of
+class-table t overriding code_point none = rw none refl
+
+pub class-override : (t : PairTable) (overriding : Option Table) (classes : Table) (code_point : ℕ) → overriding ≡ Some classes
+    → value_of classes code_point ≢ 0 → class_of t overriding code_point ≡ value_of classes code_point
+unfolding class_of
+class-override t overriding classes code_point some other = rw some (cond-false _ _ _ (ne_eqb _ _ other))
+
+pub class-zero : (t : PairTable) (overriding : Option Table) (classes : Table) (code_point : ℕ) → overriding ≡ Some classes
+    → value_of classes code_point ≡ 0 → class_of t overriding code_point ≡ value_of t.property_table code_point
+unfolding class_of
+class-zero t overriding classes code_point some zero = rw some (cond-true _ _ _ (eq-eqb _ 0 zero))
+
+value-contained : (t : Table) (code_point : ℕ) → Contains (named_values t) (value_of t code_point)
+value-contained t code_point = contained-same (named_values t) (value_of t code_point) (value-named (λ named. named ≡ value_of t code_point) t code_point refl)
+
+pub class-below : (t : PairTable) (code_point class : ℕ) → IsPairTable t → class ≡ value_of t.property_table code_point → class < t.property_count
+class-below t code_point class checked is = rw is (checked.classes _ (value-contained t.property_table code_point))
+
+pub override-below : (t : PairTable) (overriding : Option Table) (classes : Table) (code_point : ℕ)
+    → ((class : ℕ) → Overrides overriding class → class < t.property_count)
+    → overriding ≡ Some classes → value_of classes code_point ≢ 0 → value_of classes code_point < t.property_count
+override-below t overriding classes code_point fits some other =
+    fits _ (subst (λ o. Overrides o (value_of classes code_point)) (sym some) (other, value-contained classes code_point))
+
+-- no class so far keeps the start
+abbrev pub NoneKeeps : PairTable → Option Table → ℕ → Type 0
+NoneKeeps t overriding count = (class : ℕ) → class < count → Names t overriding class → KeepsStart t class → ⊥
+
+-- no class of code points does, where none of those that there are does
+pub none-keeps : (t : PairTable) (overriding : Option Table) (count : ℕ) → IsPairTable t
+    → ((class : ℕ) → Overrides overriding class → class < t.property_count) → NoneKeeps t overriding count → t.property_count ≤ count
+    → ((class : ℕ) × Names t overriding class × KeepsStart t class) → ⊥
+none-keeps t overriding count checked fits none all (class, inl named, keeps) =
+    none class (omega (arith, checked.classes class named)) (inl named) keeps
+none-keeps t overriding count checked fits none all (class, inr other, keeps) =
+    none class (omega (arith, fits class other)) (inr other) keeps

@@ -11,3 +11,5 @@ pub mod BreakStates
 pub mod PairTable
 pub mod PairFaults
 pub mod SamePairs
+pub mod PairData
+pub mod Overriding

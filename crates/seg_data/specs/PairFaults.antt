@@ -5,7 +5,7 @@ use Rattle.seg_data.specs.declared.provider.DataError.TheVariants.{TableSize, Cl
 use Rattle.seg_data.specs.declared.provider.pairs.BreakState.{BreakState}
 use Rattle.seg_data.specs.declared.provider.pairs.BreakState.TheVariants.{Break, NoMatch}
 use Rattle.seg_data.specs.BreakStates.{named_state}
-use Rattle.seg_data.specs.PairTable.{PairTable, AnyClass, AnyOverriding, entry_of}
+use Rattle.seg_data.specs.PairTable.{PairTable, Names, Overrides, entry_of}
 use Rattle.seg_data.specs.Table.{Table, named_values}
 
 -- the entry names a state that isn't below the number of states
@@ -33,12 +33,12 @@ HasPairFault t fault =
 abbrev pub KeepsStart : PairTable → ℕ → Type 0
 KeepsStart t class = (entry_of t t.sot_property class ≢ Break) × (entry_of t t.sot_property class ≢ NoMatch)
 
--- the faults of a pair table with an override, where no item may be complex
+-- the faults of a pair table with an override, for texts in which no item may be complex
 abbrev pub HasOverrideFault : PairTable → Option Table → DataError → Type 0
 -- a class that the override names isn't below the number of classes
-HasOverrideFault t overriding ClassOutOfRange = AnyOverriding (λ class. t.property_count ≤ class) overriding
--- before a class that the table or the override names, no boundary stands at the start of the text
-HasOverrideFault t overriding StartRowKeeps = AnyClass (KeepsStart t) t overriding
--- the class of complex items is one that the table or the override names
-HasOverrideFault t overriding ComplexItems = AnyClass (λ class. class ≡ t.complex_property) t overriding
+HasOverrideFault t overriding ClassOutOfRange = (class : ℕ) × Overrides overriding class × (t.property_count ≤ class)
+-- no boundary stands between the text's start and a class that the table or the override names
+HasOverrideFault t overriding StartRowKeeps = (class : ℕ) × Names t overriding class × KeepsStart t class
+-- the table or the override names the class of complex items
+HasOverrideFault t overriding ComplexItems = Names t overriding t.complex_property
 HasOverrideFault t overriding _ = ⊥

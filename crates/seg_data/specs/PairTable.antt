@@ -1,5 +1,5 @@
 -- Pair tables over the classes of code points.
-use Rattle.std.specs.Prelude.{◌≡◌, ◌≢◌, ℕ, ◌+◌, ◌*◌, ◌<◌, ◌≤◌, ◌⊎◌, ◌==◌, if◌then◌else◌, Option, Some, None, List, length, slice_index_or, Any}
+use Rattle.std.specs.Prelude.{◌≡◌, ◌≢◌, ℕ, ◌+◌, ◌*◌, ◌<◌, ◌⊎◌, ◌==◌, if◌then◌else◌, Option, Some, None, List, length, slice_index_or, Contains}
 use Rattle.seg_data.specs.declared.provider.pairs.BreakState.{BreakState}
 use Rattle.seg_data.specs.declared.provider.pairs.BreakState.TheVariants.{NoMatch}
 use Rattle.seg_data.specs.BreakStates.{named_state}
@@ -40,14 +40,14 @@ class_of t (Some overriding) code_point =
     let class = value_of overriding code_point in
     if class == 0 then value_of t.property_table code_point else class
 
--- a class that the override names is so; value 0 is no class of it
-abbrev pub AnyOverriding : (ℕ → Type 0) → Option Table → Type 0
-AnyOverriding Is None = ⊥
-AnyOverriding Is (Some overriding) = Any (λ class. (class ≢ 0) × Is class) (named_values overriding)
+-- the override names the class; its value 0 is none
+abbrev pub Overrides : Option Table → ℕ → Type 0
+Overrides None class = ⊥
+Overrides (Some overriding) class = (class ≢ 0) × Contains (named_values overriding) class
 
--- a class that the table or the override names is so
-abbrev pub AnyClass : (ℕ → Type 0) → PairTable → Option Table → Type 0
-AnyClass Is t overriding = Any Is (named_values t.property_table) ⊎ AnyOverriding Is overriding
+-- the table or its override names the class
+abbrev pub Names : PairTable → Option Table → ℕ → Type 0
+Names t overriding class = Contains (named_values t.property_table) class ⊎ Overrides overriding class
 
 -- what a checked pair table keeps
 pub record IsPairTable (t : PairTable) : Type 0 where
@@ -56,6 +56,6 @@ pub record IsPairTable (t : PairTable) : Type 0 where
   pub sot : t.sot_property < t.property_count
   pub eot : t.eot_property < t.property_count
   -- each class is below their number
-  pub classes : Any (λ class. t.property_count ≤ class) (named_values t.property_table) → ⊥
+  pub classes : (class : ℕ) → Contains (named_values t.property_table) class → class < t.property_count
   -- and each state that an entry names
   pub states : (left right state : ℕ) → named_state (entry_of t left right) ≡ Some state → state < t.property_count

@@ -6,7 +6,7 @@ ghost use Rattle.seg_data.specs.Unaligned.{HasByte, acceptance_of, byte_of};
 mod checks;
 mod cycles;
 mod machine;
-mod pair_checks;
+pub(crate) mod pair_checks;
 mod pairs;
 mod stalls;
 mod table;

@@ -2,10 +2,12 @@
 ghost use Rattle.std.specs.Prelude.{◌≡◌, ◌≢◌, ℕ, ◌+◌, ◌*◌, ◌<◌, ◌≤◌, ◌↔◌, ◌⊎◌, Any, IsTrue, IfErr, IsSomeAnd, OnOk, length};
 ghost use Rattle.seg_data.specs.BreakStates.{named_state};
 ghost use Rattle.seg_data.specs.Faults.{IsFaultless, IsLowestFault};
-ghost use Rattle.seg_data.specs.PairFaults.{HasPartsFault, NamesStatePast};
+ghost use Rattle.seg_data.specs.Overriding.{table_in};
+ghost use Rattle.seg_data.specs.PairFaults.{HasPartsFault, KeepsStart, NamesStatePast};
+ghost use Rattle.seg_data.specs.PairTable.{Overrides};
 ghost use Rattle.seg_data.specs.Table.{named_values};
 
-use crate::provider::{BreakState, ClassTable, DataError};
+use crate::provider::{BreakState, ClassTable, DataError, RuleBreakData, RuleBreakDataOverride};
 
 // The lowest fault of a pair table's parts, if there is one.
 pub(super) fn check_pairs(
@@ -21,27 +23,13 @@ pub(super) fn check_pairs(
     if count == 0 || entries.len() != count as usize * count as usize {
         return Err(DataError::TableSize);
     }
-    if has_class_past(classes, count) {
+    if classes.names_from(count) {
         return Err(DataError::ClassOutOfRange);
     }
     if sot >= count || eot >= count || names_state_past(entries, count) {
         return Err(DataError::StateOutOfRange);
     }
     Ok(())
-}
-
-// Whether the table names a class that isn't below the number of classes.
-fn has_class_past(classes: &ClassTable, count: u8) -> bool
-    ensures { IsTrue result ↔ Any (λ class. count ≤ class) (named_values classes.now) }
-{
-    count <= classes.default() || has_range_past(classes.ranges(), count)
-}
-
-// Whether the class of a range isn't below the number of classes.
-fn has_range_past(ranges: &[(u32, u32, u8)], count: u8) -> bool
-    ensures { IsTrue result ↔ Any (λ range. count ≤ range.2) ranges.now }
-{
-    ranges.iter().any(|range| count <= range.2)
 }
 
 // Whether an entry names a state that isn't below the number of states.
@@ -59,4 +47,35 @@ fn is_state_past(entry: BreakState, count: u8) -> bool
         Some(state) => count <= state,
         None => false,
     }
+}
+
+// Whether the override, where there is one, names the class.
+pub(crate) fn overrides(overriding: Option<&RuleBreakDataOverride>, class: u8) -> bool
+    ensures { IsTrue result ↔ Overrides (table_in overriding.entry) class }
+{
+    match overriding {
+        Some(classes) => class != 0 && classes.property_table_override().names(class),
+        None => false,
+    }
+}
+
+// Whether the override, where there is one, names this class, which isn't 0, or one above it.
+pub(crate) fn overrides_from(overriding: Option<&RuleBreakDataOverride>, class: u8) -> bool
+    requires { 0 < class }
+    ensures { IsTrue result ↔ ((named : ℕ) × Overrides (table_in overriding.entry) named × (class ≤ named)) }
+{
+    match overriding {
+        Some(classes) => classes.property_table_override().names_from(class),
+        None => false,
+    }
+}
+
+// Whether no boundary stands between the text's start and this class.
+pub(crate) fn keeps_start_before(data: &RuleBreakData, class: u8) -> bool
+    requires { class < data.now.property_count }
+    ensures { IsTrue result ↔ KeepsStart data.now class }
+{
+    data.check();
+    let entry = data.entry(data.sot_property(), class);
+    entry != BreakState::Break && entry != BreakState::NoMatch
 }

@@ -1,0 +1,105 @@
+//! What the crates above need of data. Not part of the public surface.
+ghost use Rattle.std.specs.Prelude.{ℕ, ◌<◌};
+ghost use Rattle.seg_data.specs.Overriding.{table_in};
+ghost use Rattle.seg_data.specs.PairTable.{Overrides};
+
+use crate::provider::pair_checks::{keeps_start_before, overrides, overrides_from};
+use crate::provider::{DataError, RuleBreakData, RuleBreakDataOverride};
+
+/// A pair table and the override that it is used with, if there is one. The classes that the
+/// override names are among the table's.
+#[derive(Clone, Copy, Debug)]
+pub struct PairData<'data> {
+    data: &'data RuleBreakData,
+    overriding: Option<&'data RuleBreakDataOverride>,
+    ghost fits: { (class : ℕ) → Overrides (table_in overriding) class → class < data.now.property_count },
+}
+
+impl<'data> PairData<'data> {
+    ghost use Rattle.std.specs.Prelude.{◌≡◌, ◌<◌, ◌↔◌, IsTrue, IfOk, IfErr, IsOkAnd, None};
+    ghost use Rattle.seg_data.specs.declared.provider.DataError.TheVariants.{StartRowKeeps, ComplexItems, ClassOutOfRange};
+    ghost use Rattle.seg_data.specs.Faults.{IsFaultless, IsLowestFault};
+    ghost use Rattle.seg_data.specs.Overriding.{table_in};
+    ghost use Rattle.seg_data.specs.PairData.{pair_table_of, override_of, class_by};
+    ghost use Rattle.seg_data.specs.PairFaults.{HasOverrideFault};
+    ghost use Rattle.seg_data.specs.PairTable.{Names};
+
+    /// A pair table without an override.
+    pub fn new(data: &'data RuleBreakData) -> Self
+        ensures data { pair_table_of result ≡ data.now }
+        ensures overriding { override_of result ≡ None }
+    {
+        PairData {
+            data,
+            overriding: None,
+        }
+    }
+
+    /// A pair table with its override, if there is one. `ClassOutOfRange` where the override names
+    /// a class other than 0 that isn't below the number of classes.
+    pub fn try_new(
+        data: &'data RuleBreakData,
+        overriding: Option<&'data RuleBreakDataOverride>,
+    ) -> Result<Self, DataError>
+        ensures accepted { IfOk result (λ p. (pair_table_of p ≡ data.now) × (override_of p ≡ table_in overriding.entry)
+            × (HasOverrideFault data.now (table_in overriding.entry) ClassOutOfRange → ⊥)) }
+        ensures refused { IfErr result (λ fault. (fault ≡ ClassOutOfRange) × HasOverrideFault data.now (table_in overriding.entry) ClassOutOfRange) }
+    {
+        data.check();
+        if overrides_from(overriding, data.property_count()) {
+            return Err(DataError::ClassOutOfRange);
+        }
+        Ok(PairData { data, overriding })
+    }
+
+    /// The pair table.
+    pub fn data(self) -> &'data RuleBreakData
+        ensures { result.now ≡ pair_table_of self.entry }
+    {
+        self.data
+    }
+
+    /// The class of a code point: that of the override where there is one and it isn't 0, or else
+    /// that of the table.
+    pub fn class(self, code_point: u32) -> u8
+        ensures value { result ≡ class_by self.entry code_point }
+        ensures below { result < (pair_table_of self.entry).property_count }
+    {
+        self.data.check();
+        let Some(classes) = self.overriding else {
+            return self.data.property_table().get32(code_point);
+        };
+        let class = classes.property_table_override().get32(code_point);
+        if class != 0 {
+            return class;
+        }
+        self.data.property_table().get32(code_point)
+    }
+
+    /// Whether code points may have the class: the table or its override names it.
+    pub fn names(self, class: u8) -> bool
+        ensures { IsTrue result ↔ Names (pair_table_of self.entry) (override_of self.entry) class }
+    {
+        self.data.property_table().names(class) || overrides(self.overriding, class)
+    }
+
+    /// Whether no boundary stands between the text's start and some class of code points.
+    pub fn keeps_start(self) -> bool
+        ensures { IsTrue result ↔ HasOverrideFault (pair_table_of self.entry) (override_of self.entry) StartRowKeeps }
+    {
+        self.data.check();
+        for class in 0..self.data.property_count() {
+            if keeps_start_before(self.data, class) && self.names(class) {
+                return true;
+            }
+        }
+        false
+    }
+
+    /// Whether some code points are complex.
+    pub fn has_complex(self) -> bool
+        ensures { IsTrue result ↔ HasOverrideFault (pair_table_of self.entry) (override_of self.entry) ComplexItems }
+    {
+        self.names(self.data.complex_property())
+    }
+}
