@@ -4,12 +4,13 @@ use Rattle.std.specs.Prelude.{Option, Some, None, IsSomeAnd, Contains}
 use Rattle.std.proofs.lemmas.Bool.{cases_lt, cases_eq, cond-true, cond-false, ne_eqb}
 use Rattle.std.proofs.lemmas.Nat.{mul-le}
 use Rattle.std.proofs.lemmas.List.{get_or_past, get_or_read}
-use Rattle.seg_data.specs.declared.provider.DataError.TheVariants.{TableSize, ClassOutOfRange, StateOutOfRange}
+use Rattle.seg_data.specs.declared.provider.DataError.{DataError}
+use Rattle.seg_data.specs.declared.provider.DataError.TheVariants.{RangeOrder, RangePast10FFFF, TableSize, ClassOutOfRange, StateOutOfRange, StartRowKeeps, ComplexItems, StateCount, TransitionSize, TransitionOutOfRange, SymbolOutOfRange, TooManyLookaheads, LookaheadOutOfRange, EndCycle, Stalls}
 use Rattle.seg_data.specs.declared.provider.pairs.BreakState.{BreakState}
 use Rattle.seg_data.specs.declared.provider.pairs.BreakState.TheVariants.{NoMatch}
 use Rattle.seg_data.specs.BreakStates.{named_state}
-use Rattle.seg_data.specs.Faults.{IsFaultless}
-use Rattle.seg_data.specs.PairFaults.{HasPairFault, NamesStatePast, KeepsStart}
+use Rattle.seg_data.specs.Faults.{number_of, IsFaultless, IsLowestFault}
+use Rattle.seg_data.specs.PairFaults.{HasPairFault, HasOverrideFault, NamesStatePast, KeepsStart}
 use Rattle.seg_data.specs.PairTable.{PairTable, IsPairTable, Names, Overrides, class_of, entry_of}
 use Rattle.seg_data.specs.Table.{Table, named_values, value_of}
 use Rattle.seg_data.proofs.Anywhere.{any-at, any-contained, contained-same}
@@ -98,3 +99,34 @@ none-keeps t overriding count checked fits none all (class, inl named, keeps) =
     none class (omega (arith, checked.classes class named)) (inl named) keeps
 none-keeps t overriding count checked fits none all (class, inr other, keeps) =
     none class (omega (arith, fits class other)) (inr other) keeps
+
+-- complex items are the lowest fault where the others of an override are absent
+pub complex-lowest : (t : PairTable) (overriding : Option Table) → (HasOverrideFault t overriding ClassOutOfRange → ⊥)
+    → (HasOverrideFault t overriding StartRowKeeps → ⊥) → HasOverrideFault t overriding ComplexItems
+    → IsLowestFault (HasOverrideFault t overriding) ComplexItems
+complex-lowest t overriding class start complex = record { is_there = complex; lowest = lowest }
+  where
+    lowest : (lower : DataError) → number_of lower < 8 → HasOverrideFault t overriding lower → ⊥
+    lowest RangeOrder less has = has
+    lowest RangePast10FFFF less has = has
+    lowest TableSize less has = has
+    lowest StateOutOfRange less has = has
+    lowest ClassOutOfRange less has = class has
+    lowest StartRowKeeps less has = start has
+    lowest ComplexItems less has = omega arith
+    lowest StateCount less has = omega arith
+    lowest TransitionSize less has = omega arith
+    lowest TransitionOutOfRange less has = omega arith
+    lowest SymbolOutOfRange less has = omega arith
+    lowest TooManyLookaheads less has = omega arith
+    lowest LookaheadOutOfRange less has = omega arith
+    lowest EndCycle less has = omega arith
+    lowest Stalls less has = omega arith
+
+pub complex-lowest-of : (t u : PairTable) (overriding other : Option Table) → u ≡ t → other ≡ overriding
+    → (HasOverrideFault t overriding ClassOutOfRange → ⊥) → (HasOverrideFault u other StartRowKeeps → ⊥) → HasOverrideFault u other ComplexItems
+    → IsLowestFault (HasOverrideFault t overriding) ComplexItems
+complex-lowest-of t u overriding other same equal class start complex =
+    complex-lowest t overriding class
+    (subst (λ o. HasOverrideFault t o StartRowKeeps → ⊥) equal (subst (λ t. HasOverrideFault t other StartRowKeeps → ⊥) same start))
+    (subst (λ o. HasOverrideFault t o ComplexItems) equal (subst (λ t. HasOverrideFault t other ComplexItems) same complex))

@@ -52,6 +52,27 @@ impl<'data> PairData<'data> {
         Ok(PairData { data, overriding })
     }
 
+    /// The same for texts in which no item may be complex: refused too are `StartRowKeeps`, where
+    /// no boundary stands between the text's start and some class of code points, and
+    /// `ComplexItems`, where some code points are complex; of several faults the lowest.
+    pub fn try_plain(
+        data: &'data RuleBreakData,
+        overriding: Option<&'data RuleBreakDataOverride>,
+    ) -> Result<Self, DataError>
+        ensures accepted { IfOk result (λ p. (pair_table_of p ≡ data.now) × (override_of p ≡ table_in overriding.entry)
+            × IsFaultless (HasOverrideFault data.now (table_in overriding.entry))) }
+        ensures refused { IfErr result (IsLowestFault (HasOverrideFault data.now (table_in overriding.entry))) }
+    {
+        let pairs = PairData::try_new(data, overriding)?;
+        if pairs.keeps_start() {
+            return Err(DataError::StartRowKeeps);
+        }
+        if pairs.has_complex() {
+            return Err(DataError::ComplexItems);
+        }
+        Ok(pairs)
+    }
+
     /// The pair table.
     pub fn data(self) -> &'data RuleBreakData
         ensures { result.now ≡ pair_table_of self.entry }
