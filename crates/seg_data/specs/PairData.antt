@@ -8,7 +8,7 @@ use Rattle.seg_data.specs.PairTable.{PairTable, class_of}
 use Rattle.seg_data.specs.Overriding.{table_in}
 
 abbrev pub pair_table_of : PairData → PairTable
-pair_table_of p = p.data.now
+pair_table_of p = p.table.now
 
 abbrev pub override_of : PairData → Option Table
 override_of p = table_in p.overriding

@@ -10,9 +10,9 @@ use crate::provider::{DataError, RuleBreakData, RuleBreakDataOverride};
 /// override names are among the table's.
 #[derive(Clone, Copy, Debug)]
 pub struct PairData<'data> {
-    data: &'data RuleBreakData,
+    table: &'data RuleBreakData,
     overriding: Option<&'data RuleBreakDataOverride>,
-    ghost fits: { (class : ℕ) → Overrides (table_in overriding) class → class < data.now.property_count },
+    ghost fits: { (class : ℕ) → Overrides (table_in overriding) class → class < table.now.property_count },
 }
 
 impl<'data> PairData<'data> {
@@ -25,12 +25,12 @@ impl<'data> PairData<'data> {
     ghost use Rattle.seg_data.specs.PairTable.{Names};
 
     /// A pair table without an override.
-    pub fn new(data: &'data RuleBreakData) -> Self
-        ensures data { pair_table_of result ≡ data.now }
+    pub fn new(table: &'data RuleBreakData) -> Self
+        ensures table { pair_table_of result ≡ table.now }
         ensures overriding { override_of result ≡ None }
     {
         PairData {
-            data,
+            table,
             overriding: None,
         }
     }
@@ -38,32 +38,32 @@ impl<'data> PairData<'data> {
     /// A pair table with its override, if there is one. `ClassOutOfRange` where the override names
     /// a class other than 0 that isn't below the number of classes.
     pub fn try_new(
-        data: &'data RuleBreakData,
+        table: &'data RuleBreakData,
         overriding: Option<&'data RuleBreakDataOverride>,
     ) -> Result<Self, DataError>
-        ensures accepted { IfOk result (λ p. (pair_table_of p ≡ data.now) × (override_of p ≡ table_in overriding.entry)
-            × (HasOverrideFault data.now (table_in overriding.entry) ClassOutOfRange → ⊥)) }
-        ensures refused { IfErr result (λ fault. (fault ≡ ClassOutOfRange) × HasOverrideFault data.now (table_in overriding.entry) ClassOutOfRange) }
+        ensures accepted { IfOk result (λ p. (pair_table_of p ≡ table.now) × (override_of p ≡ table_in overriding.entry)
+            × (HasOverrideFault table.now (table_in overriding.entry) ClassOutOfRange → ⊥)) }
+        ensures refused { IfErr result (λ fault. (fault ≡ ClassOutOfRange) × HasOverrideFault table.now (table_in overriding.entry) ClassOutOfRange) }
     {
-        data.check();
-        if overrides_from(overriding, data.property_count()) {
+        table.check();
+        if overrides_from(overriding, table.property_count()) {
             return Err(DataError::ClassOutOfRange);
         }
-        Ok(PairData { data, overriding })
+        Ok(PairData { table, overriding })
     }
 
     /// The same for texts in which no item may be complex: refused too are `StartRowKeeps`, where
     /// no boundary stands between the text's start and some class of code points, and
     /// `ComplexItems`, where some code points are complex; of several faults the lowest.
     pub fn try_plain(
-        data: &'data RuleBreakData,
+        table: &'data RuleBreakData,
         overriding: Option<&'data RuleBreakDataOverride>,
     ) -> Result<Self, DataError>
-        ensures accepted { IfOk result (λ p. (pair_table_of p ≡ data.now) × (override_of p ≡ table_in overriding.entry)
-            × IsFaultless (HasOverrideFault data.now (table_in overriding.entry))) }
-        ensures refused { IfErr result (IsLowestFault (HasOverrideFault data.now (table_in overriding.entry))) }
+        ensures accepted { IfOk result (λ p. (pair_table_of p ≡ table.now) × (override_of p ≡ table_in overriding.entry)
+            × IsFaultless (HasOverrideFault table.now (table_in overriding.entry))) }
+        ensures refused { IfErr result (IsLowestFault (HasOverrideFault table.now (table_in overriding.entry))) }
     {
-        let pairs = PairData::try_new(data, overriding)?;
+        let pairs = PairData::try_new(table, overriding)?;
         if pairs.keeps_start() {
             return Err(DataError::StartRowKeeps);
         }
@@ -74,10 +74,10 @@ impl<'data> PairData<'data> {
     }
 
     /// The pair table.
-    pub fn data(self) -> &'data RuleBreakData
+    pub fn table(self) -> &'data RuleBreakData
         ensures { result.now ≡ pair_table_of self.entry }
     {
-        self.data
+        self.table
     }
 
     /// The class of a code point: that of the override where there is one and it isn't 0, or else
@@ -86,31 +86,31 @@ impl<'data> PairData<'data> {
         ensures value { result ≡ class_by self.entry code_point }
         ensures below { result < (pair_table_of self.entry).property_count }
     {
-        self.data.check();
+        self.table.check();
         let Some(classes) = self.overriding else {
-            return self.data.property_table().get32(code_point);
+            return self.table.property_table().get32(code_point);
         };
         let class = classes.property_table_override().get32(code_point);
         if class != 0 {
             return class;
         }
-        self.data.property_table().get32(code_point)
+        self.table.property_table().get32(code_point)
     }
 
     /// Whether code points may have the class: the table or its override names it.
     pub fn names(self, class: u8) -> bool
         ensures { IsTrue result ↔ Names (pair_table_of self.entry) (override_of self.entry) class }
     {
-        self.data.property_table().names(class) || overrides(self.overriding, class)
+        self.table.property_table().names(class) || overrides(self.overriding, class)
     }
 
     /// Whether no boundary stands between the text's start and some class of code points.
     pub fn keeps_start(self) -> bool
         ensures { IsTrue result ↔ HasOverrideFault (pair_table_of self.entry) (override_of self.entry) StartRowKeeps }
     {
-        self.data.check();
-        for class in 0..self.data.property_count() {
-            if keeps_start_before(self.data, class) && self.names(class) {
+        self.table.check();
+        for class in 0..self.table.property_count() {
+            if keeps_start_before(self.table, class) && self.names(class) {
                 return true;
             }
         }
@@ -121,6 +121,6 @@ impl<'data> PairData<'data> {
     pub fn has_complex(self) -> bool
         ensures { IsTrue result ↔ HasOverrideFault (pair_table_of self.entry) (override_of self.entry) ComplexItems }
     {
-        self.names(self.data.complex_property())
+        self.names(self.table.complex_property())
     }
 }

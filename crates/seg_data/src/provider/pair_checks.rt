@@ -71,11 +71,11 @@ pub(crate) fn overrides_from(overriding: Option<&RuleBreakDataOverride>, class: 
 }
 
 // Whether no boundary stands between the text's start and this class.
-pub(crate) fn keeps_start_before(data: &RuleBreakData, class: u8) -> bool
-    requires { class < data.now.property_count }
-    ensures { IsTrue result ↔ KeepsStart data.now class }
+pub(crate) fn keeps_start_before(table: &RuleBreakData, class: u8) -> bool
+    requires { class < table.now.property_count }
+    ensures { IsTrue result ↔ KeepsStart table.now class }
 {
-    data.check();
-    let entry = data.entry(data.sot_property(), class);
+    table.check();
+    let entry = table.entry(table.sot_property(), class);
     entry != BreakState::Break && entry != BreakState::NoMatch
 }

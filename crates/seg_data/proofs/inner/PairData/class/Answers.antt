@@ -18,7 +18,7 @@ returns-then-class-ne0-clause-value c =
 pub returns-then-class-ne0-clause-below : goal.returns-then-class-ne0-clause-below
 returns-then-class-ne0-clause-below c =
     let read = rw c.property_table_override.ensures at c.get32-class.ensures in
-    rw read (override-below c.args.self.data.now _ _ _ c.args.self.fits (ap table_in c.in-Some.is) (rw read at c.if-class-ne0.true))
+    rw read (override-below c.args.self.table.now _ _ _ c.args.self.fits (ap table_in c.in-Some.is) (rw read at c.if-class-ne0.true))
 
 pub returns-clause-value : goal.returns-clause-value
 returns-clause-value c =

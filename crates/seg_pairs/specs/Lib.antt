@@ -1,0 +1,4 @@
+pub mod Walk
+pub mod Verdict
+pub mod Breaks
+pub mod Stop

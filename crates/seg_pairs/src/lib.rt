@@ -1,0 +1,5 @@
+//! The pair table engine: a text's boundaries by the pairs of its classes.
+#![tactic(auto)]
+
+pub mod elements;
+pub mod walk;
