@@ -10,7 +10,8 @@ use Rattle.seg_data.specs.BreakStates.{named_state, is_intermediate}
 use Rattle.seg_data.specs.PairTable.{PairTable, entry_of}
 use Rattle.seg_pairs.specs.declared.elements.Element.{Element}
 use Rattle.seg_pairs.specs.Walk.{Naming, namings, Walk, walk, is_class, leaves_class, saves, last_or}
-use Rattle.seg_pairs.specs.Stop.{IsStop, classes_of, onto, walk_of}
+use Rattle.seg_pairs.specs.Elements.{classes_of}
+use Rattle.seg_pairs.specs.Stop.{IsStop, walk_of}
 
 -- the last of a kind among the others, or else the first
 last_or-cons : (is : Naming → Bool) (has : Naming → ℕ) (naming : Naming) (namings : List Naming) (otherwise : ℕ)
@@ -78,7 +79,7 @@ pub record IsMidway
   pub same : walk t state (suc passed) (suc saved_passed) class (classes_of left) ≡ walk_of t start whole
 
 -- the elements after the first of these
-drop-next : (whole left : List Element) (before : Element) (passed : ℕ) → before ∷ left ≡ drop passed whole → left ≡ drop (suc passed) whole
+pub drop-next : (whole left : List Element) (before : Element) (passed : ℕ) → before ∷ left ≡ drop passed whole → left ≡ drop (suc passed) whole
 drop-next whole left before passed here =
     let more : passed + 1 ≡ suc passed = omega arith in
     rw (← more) (ap (drop 1) here ∙ drop-drop 1 passed whole)

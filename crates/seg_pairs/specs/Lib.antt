@@ -1,4 +1,6 @@
+pub mod Elements
 pub mod Walk
 pub mod Verdict
 pub mod Breaks
 pub mod Stop
+pub mod Steps

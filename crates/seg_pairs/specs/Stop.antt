@@ -1,20 +1,13 @@
 -- Where a walk over elements stops.
-use Rattle.std.specs.Prelude.{◌≡◌, ℕ, suc, Option, Some, None, List, [], ◌∷◌, drop, map}
+use Rattle.std.specs.Prelude.{◌≡◌, ℕ, suc, Option, Some, None, List, [], ◌∷◌, drop}
 use Rattle.std.specs.Option.{option_map_or}
 use Rattle.seg_data.specs.declared.provider.pairs.BreakState.{BreakState}
 use Rattle.seg_data.specs.BreakStates.{named_state}
 use Rattle.seg_data.specs.PairTable.{PairTable, entry_of}
 use Rattle.seg_pairs.specs.declared.elements.Element.{Element}
+use Rattle.seg_pairs.specs.Elements.{classes_of, onto}
 use Rattle.seg_pairs.specs.Walk.{Walk}
 use Rattle.seg_pairs.specs.Verdict.{walk_from}
-
-abbrev pub classes_of : List Element → List ℕ
-classes_of elements = map (λ (element : Element). element.class) elements
-
--- an element that may be there, and those after it
-abbrev pub onto : Option Element → List Element → List Element
-onto None elements = elements
-onto (Some element) elements = element ∷ elements
 
 -- the class of the next element, or else of the end of the text
 abbrev pub class_at : PairTable → Option Element → ℕ

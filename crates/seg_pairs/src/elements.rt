@@ -15,6 +15,7 @@ pub struct Element {
 /// A cursor over the elements of a text, each read once.
 pub trait Elements: Drop {
     ghost use Rattle.seg_pairs.specs.declared.elements.Element.{Element};
+    ghost use Rattle.seg_pairs.specs.Elements.{place_at};
 
     /// The elements that aren't read yet.
     ghost left: { Self → List Element };
@@ -36,7 +37,7 @@ pub trait Elements: Drop {
     fn fork(&self) -> Self
         ensures { result ≡ self.now };
 
-    /// The place where the text ends.
-    fn end(&self) -> usize
-        ensures { result ≡ end self.now };
+    /// The place of the next element, or of the text's end.
+    fn place(&self) -> usize
+        ensures { result ≡ place_at (left self.now) (end self.now) };
 }

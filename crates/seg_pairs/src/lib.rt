@@ -2,4 +2,5 @@
 #![tactic(auto)]
 
 pub mod elements;
+pub mod rules;
 pub mod walk;

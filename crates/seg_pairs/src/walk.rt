@@ -1,6 +1,6 @@
 //! Walks through the states of a pair table.
 
-ghost use Rattle.std.specs.Prelude.{◌≡◌, ℕ, ◌<◌, nat_le, List, ◌∷◌};
+ghost use Rattle.std.specs.Prelude.{◌≡◌, ℕ, ◌<◌, nat_le, List, ◌∷◌, IfSome};
 ghost use Rattle.seg_data.specs.PairTable.{PairTable};
 ghost use Rattle.seg_pairs.specs.Stop.{IsStop};
 ghost use Rattle.seg_pairs.specs.Walk.{is_class};
@@ -40,9 +40,12 @@ pub fn walk<E: Elements>(
     rest: &mut E,
 ) -> Stop<E>
     requires start { start < table.now.property_count }
+    requires right { right.class < table.now.property_count }
     requires class_count { E.class_count rest.old ≡ table.now.property_count }
     ensures stop { IsStop table.now start (left ∷ right ∷ E.left rest.old) result.state result.entry result.before result.next (E.left rest.new)
         result.saved_before result.saved (E.left result.saved_rest) result.saved_class }
+    ensures next { IfSome result.next (λ next. next.class < table.now.property_count) }
+    ensures saved { result.saved.class < table.now.property_count }
     ensures end { E.end rest.new ≡ E.end rest.old }
     ensures class_count { E.class_count rest.new ≡ E.class_count rest.old }
     ensures saved_end { E.end result.saved_rest ≡ E.end rest.old }

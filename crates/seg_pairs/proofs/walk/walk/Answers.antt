@@ -1,5 +1,6 @@
-use Rattle.std.proofs.Common.{◌∙◌, ◌||◌, sym, ap, cond}
+use Rattle.std.proofs.Common.{◌<◌, ◌∙◌, ◌||◌, sym, ap, cond, subst}
 use Rattle.seg_data.specs.PairTable.{entry_of}
+use Rattle.seg_pairs.specs.declared.elements.Element.{Element}
 use Rattle.seg_pairs.proofs.Walks.{midway-saved, midway-kept, stop-at, stop-end}
 use Rattle.seg_pairs.proofs.walk.walk.Goals as goal
 use Rattle.seg_pairs.proofs.walk.walk.Goals.{then-is_intermediate-leaves_class, else-is_intermediate-leaves_class}
@@ -25,6 +26,7 @@ loop-next-preserved-then-leaves_class g c =
             (midway-saved _ _ _ _ _ _ _ _ _ _ _ _ _ _ _ _ c.loop-next.invariant.midway c.in-Some.ensures.gives c.entry-entry-in-loop-next.ensures.value named
             (c.entry-entry-in-loop-next.ensures.state _ named) c.is_class-leaves_class.ensures (intermediate ∙ w.if-is_intermediate-leaves_class.true)
             (sym (ap (λ b. cond b c.in-Some-named.to c.loop-next.saved_class) c.if-leaves_class.true)));
+        saved = subst (λ (e : Element). e.class < c.args.table.now.property_count) (sym w.saved-is) (rw (sym (c.loop-next.invariant.class_count ∙ c.requires.class_count)) c.in-Some.ensures.class);
         end = end;
         class_count = count;
         saved_end = ap g.E.Elements.end (w.saved_rest-is ∙ w.fork-saved_rest-then-is_intermediate-leaves_class.ensures) ∙ end;
@@ -35,6 +37,7 @@ loop-next-preserved-then-leaves_class g c =
             (midway-kept _ _ _ _ _ _ _ _ _ _ _ _ _ _ _ _ c.loop-next.invariant.midway c.in-Some.ensures.gives c.entry-entry-in-loop-next.ensures.value named
             (c.entry-entry-in-loop-next.ensures.state _ named) c.is_class-leaves_class.ensures (intermediate ∙ w.if-is_intermediate-leaves_class.false)
             (sym (ap (λ b. cond b c.in-Some-named.to c.loop-next.saved_class) c.if-leaves_class.true)));
+        saved = subst (λ (e : Element). e.class < c.args.table.now.property_count) (sym w.saved-is) c.loop-next.invariant.saved;
         end = end;
         class_count = count;
         saved_end = ap g.E.Elements.end w.saved_rest-is ∙ c.loop-next.invariant.saved_end;
@@ -54,6 +57,7 @@ loop-next-preserved g c =
             (midway-saved _ _ _ _ _ _ _ _ _ _ _ _ _ _ _ _ c.loop-next.invariant.midway c.in-Some.ensures.gives c.entry-entry-in-loop-next.ensures.value named
             (c.entry-entry-in-loop-next.ensures.state _ named) c.is_class-leaves_class.ensures (intermediate ∙ w.if-is_intermediate-leaves_class.true)
             (sym (ap (λ b. cond b c.in-Some-named.to c.loop-next.saved_class) c.if-leaves_class.false)));
+        saved = subst (λ (e : Element). e.class < c.args.table.now.property_count) (sym w.saved-is) (rw (sym (c.loop-next.invariant.class_count ∙ c.requires.class_count)) c.in-Some.ensures.class);
         end = end;
         class_count = count;
         saved_end = ap g.E.Elements.end (w.saved_rest-is ∙ w.fork-saved_rest-then-is_intermediate-leaves_class.ensures) ∙ end;
@@ -64,6 +68,7 @@ loop-next-preserved g c =
             (midway-kept _ _ _ _ _ _ _ _ _ _ _ _ _ _ _ _ c.loop-next.invariant.midway c.in-Some.ensures.gives c.entry-entry-in-loop-next.ensures.value named
             (c.entry-entry-in-loop-next.ensures.state _ named) c.is_class-leaves_class.ensures (intermediate ∙ w.if-is_intermediate-leaves_class.false)
             (sym (ap (λ b. cond b c.in-Some-named.to c.loop-next.saved_class) c.if-leaves_class.false)));
+        saved = subst (λ (e : Element). e.class < c.args.table.now.property_count) (sym w.saved-is) c.loop-next.invariant.saved;
         end = end;
         class_count = count;
         saved_end = ap g.E.Elements.end w.saved_rest-is ∙ c.loop-next.invariant.saved_end;

@@ -1,4 +1,4 @@
-use Rattle.std.proofs.Common.{◌≡◌, ◌∷◌, length}
+use Rattle.std.proofs.Common.{◌≡◌, ◌<◌, ◌∷◌, length}
 use Rattle.seg_pairs.proofs.Walks.{IsMidway}
 use Rattle.seg_pairs.proofs.walk.walk.Given as goal
 
@@ -6,6 +6,7 @@ abbrev pub invariant-loop-next : goal.invariant-loop-next
 invariant-loop-next g l = record {
   midway : IsMidway l.table l.start (l.fn.left ∷ l.fn.right ∷ g.E.Elements.left l.fn.rest) l.state l.before (g.E.Elements.left l.rest)
       l.saved_before l.saved (g.E.Elements.left l.saved_rest) l.saved_class;
+  saved : l.saved.class < l.table.property_count;
   end : g.E.Elements.end l.rest ≡ g.E.Elements.end l.fn.rest;
   class_count : g.E.Elements.class_count l.rest ≡ g.E.Elements.class_count l.fn.rest;
   saved_end : g.E.Elements.end l.saved_rest ≡ g.E.Elements.end l.fn.rest;

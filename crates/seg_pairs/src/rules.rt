@@ -1,0 +1,85 @@
+//! What comes after an element of a text: a boundary, none, or a run of complex elements.
+
+ghost use Rattle.std.specs.Prelude.{◌≡◌, ◌<◌, List, ◌∷◌};
+ghost use Rattle.seg_pairs.specs.Elements.{classes_of};
+ghost use Rattle.seg_pairs.specs.Steps.{Lands, LandsAt, IsStepBelow};
+ghost use Rattle.seg_pairs.specs.Verdict.{verdict, named_verdict, complex_verdict};
+ghost use Rattle.seg_pairs.specs.Breaks.{chain, IsForward};
+
+use crate::elements::{Element, Elements};
+use crate::walk::{Stop, walk};
+use seg_data::provider::{BreakState, RuleBreakData};
+
+/// What a verdict on an element leads to.
+#[derive(Clone, Copy, Debug)]
+pub enum Step {
+    /// A boundary, with a class, before this element or at the end of the text.
+    Break { class: u8, next: Option<Element> },
+    /// No boundary before this element, of which the next verdict is asked.
+    Go { next: Element },
+    /// A run of complex elements begins with the element that was asked of. This is its second.
+    Run { second: Element },
+}
+
+/// The step of a pair table from `left`, which `right` follows.
+///
+/// `rest` has the elements after `right`, and then those after the one that the step has read.
+pub fn pair_step<E: Elements>(
+    table: &RuleBreakData,
+    left: Element,
+    right: Element,
+    rest: &mut E,
+) -> Step
+    requires left { left.class < table.now.property_count }
+    requires right { right.class < table.now.property_count }
+    requires class_count { E.class_count rest.old ≡ table.now.property_count }
+    ensures lands { Lands (verdict table.now (classes_of (left ∷ right ∷ E.left rest.old))) (left ∷ right ∷ E.left rest.old) result (E.left rest.new) }
+    ensures class { IsStepBelow table.now.property_count result }
+    ensures end { E.end rest.new ≡ E.end rest.old }
+    ensures class_count { E.class_count rest.new ≡ E.class_count rest.old }
+{
+    match table.entry(left.class, right.class) {
+        BreakState::Keep => Step::Go { next: right },
+        BreakState::Break => Step::Break { class: left.class, next: Some(right) },
+        BreakState::NoMatch => Step::Break { class: left.class, next: Some(right) },
+        BreakState::Index(state) => walk_step(table, state, left, right, rest),
+        BreakState::Intermediate(state) => walk_step(table, state, left, right, rest),
+    }
+}
+
+/// The step where the entry of the two names a state.
+fn walk_step<E: Elements>(
+    table: &RuleBreakData,
+    state: u8,
+    left: Element,
+    right: Element,
+    rest: &mut E,
+) -> Step
+    requires state { state < table.now.property_count }
+    requires right { right.class < table.now.property_count }
+    requires class_count { E.class_count rest.old ≡ table.now.property_count }
+    ensures lands { Lands (named_verdict table.now state left.class (classes_of (left ∷ right ∷ E.left rest.old))) (left ∷ right ∷ E.left rest.old) result (E.left rest.new) }
+    ensures class { IsStepBelow table.now.property_count result }
+    ensures end { E.end rest.new ≡ E.end rest.old }
+    ensures class_count { E.class_count rest.new ≡ E.class_count rest.old }
+{
+    let stop = walk(table, state, left, right, rest);
+    let Stop { state, entry, before: _, next, saved_before: _, saved, saved_rest, saved_class } = stop;
+    match next {
+        Some(next) => match entry {
+            BreakState::Keep => Step::Go { next },
+            BreakState::Break => Step::Break { class: state, next: Some(next) },
+            _ => {
+                *rest = saved_rest;
+                Step::Break { class: saved_class, next: Some(saved) }
+            }
+        },
+        None => match entry {
+            BreakState::NoMatch => {
+                *rest = saved_rest;
+                Step::Break { class: saved_class, next: Some(saved) }
+            }
+            _ => Step::Break { class: state, next: None },
+        },
+    }
+}
