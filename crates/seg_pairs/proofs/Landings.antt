@@ -1,6 +1,7 @@
 -- What a walk's stop says.
-use Rattle.std.proofs.Common.{◌≡◌, ℕ, suc, Option, Some, None, List, [], ◌∷◌, drop, refl, sym, ap, ◌∙◌, subst}
-use Rattle.std.proofs.lemmas.List.{drop-map}
+use Rattle.std.proofs.Common.{◌≡◌, ◌≢◌, ℕ, suc, ◌<◌, ◌==◌, Bool, true, false, cond, Option, Some, None, List, [], ◌∷◌, length, drop, refl, sym, ap, ◌∙◌, subst, arith, eq-eqb}
+use Rattle.std.proofs.lemmas.Bool.{ne_eqb}
+use Rattle.std.proofs.lemmas.List.{drop-map, length-drop}
 use Rattle.seg_data.specs.declared.provider.pairs.BreakState.{BreakState}
 use Rattle.seg_data.specs.declared.provider.pairs.BreakState.TheVariants.{Break as BreakEntry, Keep, NoMatch, Intermediate, Index}
 use Rattle.seg_data.specs.BreakStates.{named_state}
@@ -8,11 +9,13 @@ use Rattle.seg_data.specs.PairTable.{PairTable, entry_of}
 use Rattle.seg_pairs.specs.declared.elements.Element.{Element}
 use Rattle.seg_pairs.specs.Elements.{classes_of, onto}
 use Rattle.seg_pairs.specs.Walk.{Walk, walk}
-use Rattle.seg_pairs.specs.Verdict.{Verdict, stop_verdict, end_verdict, walk_verdict, named_verdict, first_verdict, verdict}
+use Rattle.seg_pairs.specs.Verdict.{Verdict, stop_verdict, end_verdict, walk_verdict, named_verdict, first_verdict, verdict, complex_verdict}
 use Rattle.seg_pairs.specs.Stop.{IsStop, class_at, walk_of}
 use Rattle.seg_pairs.specs.declared.rules.Step.{Step}
 use Rattle.seg_pairs.specs.declared.rules.Step.TheVariants.{Break, Go, Run}
-use Rattle.seg_pairs.specs.Steps.{Lands}
+use Rattle.seg_pairs.specs.Steps.{Lands, LandsAt}
+use Rattle.seg_pairs.specs.Breaks.{chain, TakesOf, IsForward}
+use Rattle.seg_pairs.proofs.Chains.{IsOnChain, chain-break, chain-run}
 use Rattle.seg_pairs.specs.Verdict.Verdict.{BreakAfter, GoAfter, RunBegins}
 use Rattle.seg_pairs.proofs.Walks.{drop-next}
 
@@ -101,3 +104,92 @@ pub lands-first : (t : PairTable) (left right : Element) (after : List Element) 
 unfolding verdict
 lands-first t left right after entry step rest is lands =
     subst (λ e. Lands (first_verdict t left.class (classes_of (left ∷ right ∷ after)) e) (left ∷ right ∷ after) step rest) is lands
+
+-- the step from the last element
+pub lands-last : (t : PairTable) (left : Element) (after rest : List Element) → after ≡ [] → rest ≡ []
+    → Lands (verdict t (classes_of (left ∷ after))) (left ∷ after) (Break left.class None) rest
+unfolding verdict
+lands-last t left after rest is none = rw is (refl, (refl, none))
+
+-- the steps where elements may be complex
+
+pub complex-last : (t : PairTable) (left : Element) (after rest : List Element) → after ≡ [] → rest ≡ []
+    → Lands (complex_verdict t (classes_of (left ∷ after))) (left ∷ after) (Break left.class None) rest
+unfolding complex_verdict
+complex-last t left after rest is none = rw is (refl, (refl, none))
+
+abbrev by-complex : PairTable → Element → Element → List Element → Bool → Bool → Verdict
+by-complex t left right more second first =
+    cond second (cond first RunBegins (BreakAfter 1 left.class)) (verdict t (classes_of (left ∷ right ∷ more)))
+
+pub complex-pair : (t : PairTable) (left right : Element) (after more : List Element) (step : Step) (rest : List Element)
+    → after ≡ right ∷ more → right.class ≢ t.complex_property
+    → Lands (verdict t (classes_of (left ∷ right ∷ more))) (left ∷ right ∷ more) step rest
+    → Lands (complex_verdict t (classes_of (left ∷ after))) (left ∷ after) step rest
+unfolding complex_verdict
+complex-pair t left right after more step rest is other lands =
+    rw is
+    (subst (λ b. Lands (by-complex t left right more b (left.class == t.complex_property)) (left ∷ right ∷ more) step rest) (sym (ne_eqb right.class t.complex_property other)) lands)
+
+pub complex-break : (t : PairTable) (left right : Element) (after more : List Element)
+    → after ≡ right ∷ more → right.class ≡ t.complex_property → left.class ≢ t.complex_property
+    → Lands (complex_verdict t (classes_of (left ∷ after))) (left ∷ after) (Break left.class (Some right)) more
+unfolding complex_verdict
+complex-break t left right after more is complex other =
+    rw is
+    (subst (λ b. Lands (by-complex t left right more b (left.class == t.complex_property)) (left ∷ right ∷ more) (Break left.class (Some right)) more) (sym (eq-eqb right.class t.complex_property complex))
+    (subst (λ b. Lands (by-complex t left right more true b) (left ∷ right ∷ more) (Break left.class (Some right)) more) (sym (ne_eqb left.class t.complex_property other)) (refl, refl)))
+
+pub complex-run : (t : PairTable) (left right : Element) (after more : List Element)
+    → after ≡ right ∷ more → right.class ≡ t.complex_property → left.class ≡ t.complex_property
+    → Lands (complex_verdict t (classes_of (left ∷ after))) (left ∷ after) (Run right) more
+unfolding complex_verdict
+complex-run t left right after more is complex same =
+    rw is
+    (subst (λ b. Lands (by-complex t left right more b (left.class == t.complex_property)) (left ∷ right ∷ more) (Run right) more) (sym (eq-eqb right.class t.complex_property complex))
+    (subst (λ b. Lands (by-complex t left right more true b) (left ∷ right ∷ more) (Run right) more) (sym (eq-eqb left.class t.complex_property same)) refl))
+
+-- the step where a chain of verdicts ends
+
+pub lands-at : (v : List Element → Verdict) (whole : List Element) (x : Element) (xs : List Element) (step : Step) (rest : List Element) → IsForward v
+    → IsOnChain v whole x xs → ((next : Element) → step ≡ Go next → ⊥) → Lands (v (x ∷ xs)) (x ∷ xs) step rest → LandsAt (chain v whole) whole step rest
+lands-at v whole x xs step rest forward on stops lands =
+    by (v (x ∷ xs)) refl lands
+  where
+    at : (found : ℕ × Verdict) → chain v (x ∷ xs) ≡ found → found.0 ≡ 0 → Lands found.1 (x ∷ xs) step rest → LandsAt (chain v whole) whole step rest
+    at (gone, w) is none lands =
+        let passed : (chain v whole).0 ≡ on.gone = omega (arith, on.passed, ap (λ (f : ℕ × Verdict). f.0) is, none) in
+        let last : (chain v whole).1 ≡ w = on.last ∙ ap (λ (f : ℕ × Verdict). f.1) is in
+        subst (λ n. Lands (chain v whole).1 (drop n whole) step rest) (sym passed)
+        (subst (λ u. Lands u (drop on.gone whole) step rest) (sym last)
+        (subst (λ es. Lands w es step rest) on.here lands))
+    by : (w : Verdict) → v (x ∷ xs) ≡ w → Lands (v (x ∷ xs)) (x ∷ xs) step rest → LandsAt (chain v whole) whole step rest
+    by (BreakAfter n class) is lands = at (0, BreakAfter n class) (chain-break v forward x xs n class is) refl (subst (λ w. Lands w (x ∷ xs) step rest) is lands)
+    by RunBegins is lands = at (0, RunBegins) (chain-run v forward x xs is) refl (subst (λ w. Lands w (x ∷ xs) step rest) is lands)
+    by (GoAfter n) is lands = absurd (none step stops (subst (λ w. Lands w (x ∷ xs) step rest) is lands))
+      where
+        none : (step : Step) → ((next : Element) → step ≡ Go next → ⊥) → Lands (GoAfter n) (x ∷ xs) step rest → ⊥
+        none (Go next) stops lands = stops next refl
+        none (Break class next) stops lands = lands
+        none (Run second) stops lands = lands
+
+-- a step to go on, by the verdict that says so
+pub record Goes (v : List Element → Verdict) (x : Element) (xs : List Element) (next : Element) (rest : List Element) : Type 0 where
+  pub taken : ℕ
+  pub goes : v (x ∷ xs) ≡ GoAfter taken
+  pub here : drop taken (x ∷ xs) ≡ next ∷ rest
+  pub fewer : length rest < length xs
+
+pub goes-from : (v : List Element → Verdict) (x : Element) (xs : List Element) (next : Element) (rest : List Element) → IsForward v
+    → Lands (v (x ∷ xs)) (x ∷ xs) (Go next) rest → Goes v x xs next rest
+goes-from v x xs next rest forward lands = by (v (x ∷ xs)) refl (forward x xs) lands
+  where
+    by : (w : Verdict) → v (x ∷ xs) ≡ w → TakesOf (length (x ∷ xs)) w → Lands w (x ∷ xs) (Go next) rest → Goes v x xs next rest
+    by (BreakAfter n class) is takes lands = absurd lands
+    by RunBegins is takes lands = absurd lands
+    by (GoAfter n) is takes lands = record {
+      taken = n;
+      goes = is;
+      here = lands;
+      fewer = let long = length-drop n (x ∷ xs) in let some = ap length lands in omega (arith, long, some, takes.0);
+    }

@@ -1,2 +1,4 @@
 pub mod Walks
 pub mod Landings
+pub mod Forward
+pub mod Chains

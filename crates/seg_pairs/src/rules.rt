@@ -1,6 +1,6 @@
 //! What comes after an element of a text: a boundary, none, or a run of complex elements.
 
-ghost use Rattle.std.specs.Prelude.{◌≡◌, ◌<◌, List, ◌∷◌};
+ghost use Rattle.std.specs.Prelude.{◌≡◌, ◌<◌, ℕ, List, ◌∷◌};
 ghost use Rattle.seg_pairs.specs.Elements.{classes_of};
 ghost use Rattle.seg_pairs.specs.Steps.{Lands, LandsAt, IsStepBelow};
 ghost use Rattle.seg_pairs.specs.Verdict.{verdict, named_verdict, complex_verdict};
@@ -19,6 +19,102 @@ pub enum Step {
     Go { next: Element },
     /// A run of complex elements begins with the element that was asked of. This is its second.
     Run { second: Element },
+}
+
+/// What comes after an element, by some rules.
+pub trait Rules {
+    ghost use Rattle.seg_pairs.specs.declared.elements.Element.{Element};
+    ghost use Rattle.seg_pairs.specs.Verdict.{Verdict};
+
+    /// The verdict on the first of these elements.
+    ghost verdict: { Self → List Element → Verdict };
+
+    /// The number that each class is below.
+    ghost class_count: { Self → ℕ };
+
+    /// What the verdict on `left` leads to. `rest` has the elements after `left`, and then those
+    /// after the one that the step has read.
+    fn step<E: Elements>(&self, left: Element, rest: &mut E) -> Step
+        requires left { left.class < class_count self.now }
+        requires class_count { E.class_count rest.old ≡ class_count self.now }
+        ensures lands { Lands (verdict self.now (left ∷ E.left rest.old)) (left ∷ E.left rest.old) result (E.left rest.new) }
+        ensures class { IsStepBelow (class_count self.now) result }
+        ensures end { E.end rest.new ≡ E.end rest.old }
+        ensures class_count { E.class_count rest.new ≡ E.class_count rest.old };
+
+    /// Does nothing. Its contract tells that a verdict takes some of the elements that there are.
+    fn check(&self)
+        ensures { IsForward (verdict self.now) };
+}
+
+/// The rules of a pair table alone. No run begins by them.
+#[derive(Clone, Copy, Debug)]
+pub struct Pairs<'data> {
+    pub table: &'data RuleBreakData,
+}
+
+impl<'data> Rules for Pairs<'data> {
+    ghost verdict = { λ s elements. verdict s.table.now (classes_of elements) };
+
+    ghost class_count = { λ s. s.table.now.property_count };
+
+    fn step<E: Elements>(&self, left: Element, rest: &mut E) -> Step {
+        match rest.next_element() {
+            Some(right) => pair_step(self.table, left, right, rest),
+            None => Step::Break { class: left.class, next: None },
+        }
+    }
+
+    fn check(&self) {}
+}
+
+/// The rules of a pair table where elements may be complex: a boundary stands before a complex one
+/// after another, and two begin a run.
+#[derive(Clone, Copy, Debug)]
+pub struct ComplexPairs<'data> {
+    pub table: &'data RuleBreakData,
+}
+
+impl<'data> Rules for ComplexPairs<'data> {
+    ghost verdict = { λ s elements. complex_verdict s.table.now (classes_of elements) };
+
+    ghost class_count = { λ s. s.table.now.property_count };
+
+    fn step<E: Elements>(&self, left: Element, rest: &mut E) -> Step {
+        let complex = self.table.complex_property();
+        let Some(right) = rest.next_element() else {
+            return Step::Break { class: left.class, next: None };
+        };
+        if right.class != complex {
+            return pair_step(self.table, left, right, rest);
+        }
+        if left.class != complex {
+            return Step::Break { class: left.class, next: Some(right) };
+        }
+        Step::Run { second: right }
+    }
+
+    fn check(&self) {}
+}
+
+/// The next boundary after `left`, or the run that begins before it: where the rules' verdicts to go
+/// on lead. `rest` has the elements after `left`, and then those after the one that was read last.
+pub fn next_break<E: Elements, R: Rules>(rules: &R, left: Element, rest: &mut E) -> Step
+    requires left { left.class < R.class_count rules.now }
+    requires class_count { E.class_count rest.old ≡ R.class_count rules.now }
+    ensures lands { LandsAt (chain (R.verdict rules.now) (left ∷ E.left rest.old)) (left ∷ E.left rest.old) result (E.left rest.new) }
+    ensures class { IsStepBelow (R.class_count rules.now) result }
+    ensures end { E.end rest.new ≡ E.end rest.old }
+    ensures class_count { E.class_count rest.new ≡ E.class_count rest.old }
+{
+    rules.check();
+    let mut left = left;
+    loop {
+        match rules.step(left, rest) {
+            Step::Go { next } => left = next,
+            step => return step,
+        }
+    }
 }
 
 /// The step of a pair table from `left`, which `right` follows.
