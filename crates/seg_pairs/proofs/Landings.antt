@@ -1,7 +1,7 @@
 -- What a walk's stop says.
 use Rattle.std.proofs.Common.{◌≡◌, ◌≢◌, ℕ, suc, ◌<◌, ◌==◌, Bool, true, false, cond, Option, Some, None, List, [], ◌∷◌, length, drop, refl, sym, ap, ◌∙◌, subst, arith, eq-eqb}
 use Rattle.std.proofs.lemmas.Bool.{ne_eqb}
-use Rattle.std.proofs.lemmas.List.{drop-map, length-drop}
+use Rattle.std.proofs.lemmas.List.{drop-map, drop-drop, length-drop}
 use Rattle.seg_data.specs.declared.provider.pairs.BreakState.{BreakState}
 use Rattle.seg_data.specs.declared.provider.pairs.BreakState.TheVariants.{Break as BreakEntry, Keep, NoMatch, Intermediate, Index}
 use Rattle.seg_data.specs.BreakStates.{named_state}
@@ -13,7 +13,9 @@ use Rattle.seg_pairs.specs.Verdict.{Verdict, stop_verdict, end_verdict, walk_ver
 use Rattle.seg_pairs.specs.Stop.{IsStop, class_at, walk_of}
 use Rattle.seg_pairs.specs.declared.rules.Step.{Step}
 use Rattle.seg_pairs.specs.declared.rules.Step.TheVariants.{Break, Go, Run}
-use Rattle.seg_pairs.specs.Steps.{Lands, LandsAt}
+use Rattle.seg_pairs.specs.Steps.{Lands, EndsIn, IsRest}
+use Rattle.seg_pairs.specs.declared.rules.Outcome.{Outcome}
+use Rattle.seg_pairs.specs.declared.rules.Outcome.TheVariants.{Break as BreakOut, Run as RunOut}
 use Rattle.seg_pairs.specs.Breaks.{chain, TakesOf, IsForward}
 use Rattle.seg_pairs.proofs.Chains.{IsOnChain, chain-break, chain-run}
 use Rattle.seg_pairs.specs.Verdict.Verdict.{BreakAfter, GoAfter, RunBegins}
@@ -151,27 +153,37 @@ complex-run t left right after more is complex same =
 
 -- the step where a chain of verdicts ends
 
-pub lands-at : (v : List Element → Verdict) (whole : List Element) (x : Element) (xs : List Element) (step : Step) (rest : List Element) → IsForward v
-    → IsOnChain v whole x xs → ((next : Element) → step ≡ Go next → ⊥) → Lands (v (x ∷ xs)) (x ∷ xs) step rest → LandsAt (chain v whole) whole step rest
-lands-at v whole x xs step rest forward on stops lands =
-    by (v (x ∷ xs)) refl lands
-  where
-    at : (found : ℕ × Verdict) → chain v (x ∷ xs) ≡ found → found.0 ≡ 0 → Lands found.1 (x ∷ xs) step rest → LandsAt (chain v whole) whole step rest
-    at (gone, w) is none lands =
-        let passed : (chain v whole).0 ≡ on.gone = omega (arith, on.passed, ap (λ (f : ℕ × Verdict). f.0) is, none) in
-        let last : (chain v whole).1 ≡ w = on.last ∙ ap (λ (f : ℕ × Verdict). f.1) is in
-        subst (λ n. Lands (chain v whole).1 (drop n whole) step rest) (sym passed)
-        (subst (λ u. Lands u (drop on.gone whole) step rest) (sym last)
-        (subst (λ es. Lands w es step rest) on.here lands))
-    by : (w : Verdict) → v (x ∷ xs) ≡ w → Lands (v (x ∷ xs)) (x ∷ xs) step rest → LandsAt (chain v whole) whole step rest
-    by (BreakAfter n class) is lands = at (0, BreakAfter n class) (chain-break v forward x xs n class is) refl (subst (λ w. Lands w (x ∷ xs) step rest) is lands)
-    by RunBegins is lands = at (0, RunBegins) (chain-run v forward x xs is) refl (subst (λ w. Lands w (x ∷ xs) step rest) is lands)
-    by (GoAfter n) is lands = absurd (none step stops (subst (λ w. Lands w (x ∷ xs) step rest) is lands))
-      where
-        none : (step : Step) → ((next : Element) → step ≡ Go next → ⊥) → Lands (GoAfter n) (x ∷ xs) step rest → ⊥
-        none (Go next) stops lands = stops next refl
-        none (Break class next) stops lands = lands
-        none (Run second) stops lands = lands
+module _ (v : List Element → Verdict) (whole : List Element) (x : Element) (xs : List Element) (forward : IsForward v) (on : IsOnChain v whole x xs) where
+
+  ends-at : (outcome : Outcome) (rest : List Element) (found w : Verdict) → v (x ∷ xs) ≡ w → chain v (x ∷ xs) ≡ (0, w)
+      → EndsIn (on.gone, w) whole outcome rest → EndsIn (chain v whole) whole outcome rest
+  ends-at outcome rest found w is end ends =
+      let passed : (chain v whole).0 ≡ on.gone = omega (arith, on.passed, ap (λ (f : ℕ × Verdict). f.0) end) in
+      let last : (chain v whole).1 ≡ w = on.last ∙ ap (λ (f : ℕ × Verdict). f.1) end in
+      let whole_is : (on.gone, w) ≡ chain v whole = ap (λ (n : ℕ). (n, w)) (sym passed) ∙ ap (λ (u : Verdict). ((chain v whole).0, u)) (sym last) in
+      subst (λ (f : ℕ × Verdict). EndsIn f whole outcome rest) whole_is ends
+
+  pub ends-break : (class : ℕ) (next : Option Element) (rest : List Element) → Lands (v (x ∷ xs)) (x ∷ xs) (Break class next) rest
+      → EndsIn (chain v whole) whole (BreakOut class next) rest
+  ends-break class next rest lands = by (v (x ∷ xs)) refl lands
+    where
+      by : (w : Verdict) → v (x ∷ xs) ≡ w → Lands w (x ∷ xs) (Break class next) rest → EndsIn (chain v whole) whole (BreakOut class next) rest
+      by (BreakAfter n with_class) is (same, left) =
+          ends-at (BreakOut class next) rest (BreakAfter n with_class) (BreakAfter n with_class) is (chain-break v forward x xs n with_class is)
+          (same, subst (λ elements. IsRest next rest elements) (ap (drop n) on.here ∙ drop-drop n on.gone whole) left)
+      by (GoAfter n) is lands = absurd lands
+      by RunBegins is lands = absurd lands
+
+  pub ends-run : (second : Element) (rest : List Element) → Lands (v (x ∷ xs)) (x ∷ xs) (Run second) rest
+      → EndsIn (chain v whole) whole (RunOut x second) rest
+  ends-run second rest lands = by (v (x ∷ xs)) refl lands
+    where
+      by : (w : Verdict) → v (x ∷ xs) ≡ w → Lands w (x ∷ xs) (Run second) rest → EndsIn (chain v whole) whole (RunOut x second) rest
+      by (BreakAfter n with_class) is lands = absurd lands
+      by (GoAfter n) is lands = absurd lands
+      by RunBegins is lands =
+          ends-at (RunOut x second) rest RunBegins RunBegins is (chain-run v forward x xs is)
+          (sym on.here ∙ ap (λ (elements : List Element). x ∷ elements) lands)
 
 -- a step to go on, by the verdict that says so
 pub record Goes (v : List Element → Verdict) (x : Element) (xs : List Element) (next : Element) (rest : List Element) : Type 0 where

@@ -2,7 +2,7 @@
 
 ghost use Rattle.std.specs.Prelude.{◌≡◌, ◌<◌, ℕ, List, ◌∷◌};
 ghost use Rattle.seg_pairs.specs.Elements.{classes_of};
-ghost use Rattle.seg_pairs.specs.Steps.{Lands, LandsAt, IsStepBelow};
+ghost use Rattle.seg_pairs.specs.Steps.{Lands, EndsIn, IsStepBelow, IsOutcomeBelow};
 ghost use Rattle.seg_pairs.specs.Verdict.{verdict, named_verdict, complex_verdict};
 ghost use Rattle.seg_pairs.specs.Breaks.{chain, IsForward};
 
@@ -19,6 +19,15 @@ pub enum Step {
     Go { next: Element },
     /// A run of complex elements begins with the element that was asked of. This is its second.
     Run { second: Element },
+}
+
+/// What the verdicts from an element on lead to.
+#[derive(Clone, Copy, Debug)]
+pub enum Outcome {
+    /// A boundary, with a class, before this element or at the end of the text.
+    Break { class: u8, next: Option<Element> },
+    /// A run of complex elements that begins with these two.
+    Run { first: Element, second: Element },
 }
 
 /// What comes after an element, by some rules.
@@ -99,11 +108,11 @@ impl<'data> Rules for ComplexPairs<'data> {
 
 /// The next boundary after `left`, or the run that begins before it: where the rules' verdicts to go
 /// on lead. `rest` has the elements after `left`, and then those after the one that was read last.
-pub fn next_break<E: Elements, R: Rules>(rules: &R, left: Element, rest: &mut E) -> Step
+pub fn next_break<E: Elements, R: Rules>(rules: &R, left: Element, rest: &mut E) -> Outcome
     requires left { left.class < R.class_count rules.now }
     requires class_count { E.class_count rest.old ≡ R.class_count rules.now }
-    ensures lands { LandsAt (chain (R.verdict rules.now) (left ∷ E.left rest.old)) (left ∷ E.left rest.old) result (E.left rest.new) }
-    ensures class { IsStepBelow (R.class_count rules.now) result }
+    ensures ends { EndsIn (chain (R.verdict rules.now) (left ∷ E.left rest.old)) (left ∷ E.left rest.old) result (E.left rest.new) }
+    ensures class { IsOutcomeBelow (R.class_count rules.now) result }
     ensures end { E.end rest.new ≡ E.end rest.old }
     ensures class_count { E.class_count rest.new ≡ E.class_count rest.old }
 {
@@ -112,7 +121,8 @@ pub fn next_break<E: Elements, R: Rules>(rules: &R, left: Element, rest: &mut E)
     loop {
         match rules.step(left, rest) {
             Step::Go { next } => left = next,
-            step => return step,
+            Step::Break { class, next } => return Outcome::Break { class, next },
+            Step::Run { second } => return Outcome::Run { first: left, second },
         }
     }
 }

@@ -1,6 +1,6 @@
 use Rattle.std.proofs.Common.{◌∙◌}
 use Rattle.seg_pairs.proofs.Chains.{on_chain-go}
-use Rattle.seg_pairs.proofs.Landings.{goes-from, lands-at}
+use Rattle.seg_pairs.proofs.Landings.{goes-from, ends-break, ends-run}
 use Rattle.seg_pairs.proofs.rules.next_break.Goals as goal
 
 pub loop-next-smaller : goal.loop-next-smaller
@@ -16,10 +16,18 @@ loop-next-preserved g c =
       class_count = c.in-Go.ensures.class_count ∙ c.loop-next.invariant.class_count;
     }
 
-pub returns-in_default : goal.returns-in_default
-returns-in_default g c = record {
-  lands = lands-at (g.R.Rules.verdict c.args.rules.now) _ _ _ _ _ c.check.ensures c.loop-next.invariant.on c.in_default.not-Go c.step.ensures.lands;
-  class = c.step.ensures.class;
-  end = c.step.ensures.end ∙ c.loop-next.invariant.end;
-  class_count = c.step.ensures.class_count ∙ c.loop-next.invariant.class_count;
+pub returns-in-Break : goal.returns-in-Break
+returns-in-Break g c = record {
+  ends = ends-break (g.R.Rules.verdict c.args.rules.now) _ _ _ c.check.ensures c.loop-next.invariant.on _ _ _ c.in-Break.ensures.lands;
+  class = c.in-Break.ensures.class;
+  end = c.in-Break.ensures.end ∙ c.loop-next.invariant.end;
+  class_count = c.in-Break.ensures.class_count ∙ c.loop-next.invariant.class_count;
+}
+
+pub returns-in-Run : goal.returns-in-Run
+returns-in-Run g c = record {
+  ends = ends-run (g.R.Rules.verdict c.args.rules.now) _ _ _ c.check.ensures c.loop-next.invariant.on _ _ c.in-Run.ensures.lands;
+  class = (c.loop-next.invariant.class, c.in-Run.ensures.class);
+  end = c.in-Run.ensures.end ∙ c.loop-next.invariant.end;
+  class_count = c.in-Run.ensures.class_count ∙ c.loop-next.invariant.class_count;
 }
