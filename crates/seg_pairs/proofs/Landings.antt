@@ -155,9 +155,9 @@ complex-run t left right after more is complex same =
 
 module _ (v : List Element → Verdict) (whole : List Element) (x : Element) (xs : List Element) (forward : IsForward v) (on : IsOnChain v whole x xs) where
 
-  ends-at : (outcome : Outcome) (rest : List Element) (found w : Verdict) → v (x ∷ xs) ≡ w → chain v (x ∷ xs) ≡ (0, w)
+  ends-at : (outcome : Outcome) (rest : List Element) (w : Verdict) → chain v (x ∷ xs) ≡ (0, w)
       → EndsIn (on.gone, w) whole outcome rest → EndsIn (chain v whole) whole outcome rest
-  ends-at outcome rest found w is end ends =
+  ends-at outcome rest w end ends =
       let passed : (chain v whole).0 ≡ on.gone = omega (arith, on.passed, ap (λ (f : ℕ × Verdict). f.0) end) in
       let last : (chain v whole).1 ≡ w = on.last ∙ ap (λ (f : ℕ × Verdict). f.1) end in
       let whole_is : (on.gone, w) ≡ chain v whole = ap (λ (n : ℕ). (n, w)) (sym passed) ∙ ap (λ (u : Verdict). ((chain v whole).0, u)) (sym last) in
@@ -169,7 +169,7 @@ module _ (v : List Element → Verdict) (whole : List Element) (x : Element) (xs
     where
       by : (w : Verdict) → v (x ∷ xs) ≡ w → Lands w (x ∷ xs) (Break class next) rest → EndsIn (chain v whole) whole (BreakOut class next) rest
       by (BreakAfter n with_class) is (same, left) =
-          ends-at (BreakOut class next) rest (BreakAfter n with_class) (BreakAfter n with_class) is (chain-break v forward x xs n with_class is)
+          ends-at (BreakOut class next) rest (BreakAfter n with_class) (chain-break v forward x xs n with_class is)
           (same, subst (λ elements. IsRest next rest elements) (ap (drop n) on.here ∙ drop-drop n on.gone whole) left)
       by (GoAfter n) is lands = absurd lands
       by RunBegins is lands = absurd lands
@@ -182,7 +182,7 @@ module _ (v : List Element → Verdict) (whole : List Element) (x : Element) (xs
       by (BreakAfter n with_class) is lands = absurd lands
       by (GoAfter n) is lands = absurd lands
       by RunBegins is lands =
-          ends-at (RunOut x second) rest RunBegins RunBegins is (chain-run v forward x xs is)
+          ends-at (RunOut x second) rest RunBegins (chain-run v forward x xs is)
           (sym on.here ∙ ap (λ (elements : List Element). x ∷ elements) lands)
 
 -- a step to go on, by the verdict that says so

@@ -2,5 +2,6 @@
 #![tactic(auto)]
 
 pub mod elements;
+pub mod rule_segmenter_v1;
 pub mod rules;
 pub mod walk;

@@ -1,6 +1,7 @@
 //! What comes after an element of a text: a boundary, none, or a run of complex elements.
 
 ghost use Rattle.std.specs.Prelude.{◌≡◌, ◌<◌, ℕ, List, ◌∷◌};
+ghost use Rattle.seg_data.specs.PairTable.{PairTable};
 ghost use Rattle.seg_pairs.specs.Elements.{classes_of};
 ghost use Rattle.seg_pairs.specs.Steps.{Lands, EndsIn, IsStepBelow, IsOutcomeBelow};
 ghost use Rattle.seg_pairs.specs.Verdict.{verdict, named_verdict, complex_verdict};
@@ -38,18 +39,18 @@ pub trait Rules {
     /// The verdict on the first of these elements.
     ghost verdict: { Self → List Element → Verdict };
 
-    /// The number that each class is below.
-    ghost class_count: { Self → ℕ };
+    /// The pair table whose classes the elements have.
+    ghost table: { Self → PairTable };
 
     /// What the verdict on `left` leads to. `rest` has the elements after `left`, and then those
     /// after the one that the step has read.
     fn step<E: Elements>(&self, left: Element, rest: &mut E) -> Step
-        requires left { left.class < class_count self.now }
-        requires class_count { E.class_count rest.old ≡ class_count self.now }
+        requires left { left.class < (table self.now).property_count }
+        requires table { E.table rest.old ≡ table self.now }
         ensures lands { Lands (verdict self.now (left ∷ E.left rest.old)) (left ∷ E.left rest.old) result (E.left rest.new) }
-        ensures class { IsStepBelow (class_count self.now) result }
+        ensures class { IsStepBelow (table self.now).property_count result }
         ensures end { E.end rest.new ≡ E.end rest.old }
-        ensures class_count { E.class_count rest.new ≡ E.class_count rest.old };
+        ensures table { E.table rest.new ≡ E.table rest.old };
 
     /// Does nothing. Its contract tells that a verdict takes some of the elements that there are.
     fn check(&self)
@@ -65,7 +66,7 @@ pub struct Pairs<'data> {
 impl<'data> Rules for Pairs<'data> {
     ghost verdict = { λ s elements. verdict s.table.now (classes_of elements) };
 
-    ghost class_count = { λ s. s.table.now.property_count };
+    ghost table = { λ s. s.table.now };
 
     fn step<E: Elements>(&self, left: Element, rest: &mut E) -> Step {
         match rest.next_element() {
@@ -87,7 +88,7 @@ pub struct ComplexPairs<'data> {
 impl<'data> Rules for ComplexPairs<'data> {
     ghost verdict = { λ s elements. complex_verdict s.table.now (classes_of elements) };
 
-    ghost class_count = { λ s. s.table.now.property_count };
+    ghost table = { λ s. s.table.now };
 
     fn step<E: Elements>(&self, left: Element, rest: &mut E) -> Step {
         let complex = self.table.complex_property();
@@ -109,12 +110,12 @@ impl<'data> Rules for ComplexPairs<'data> {
 /// The next boundary after `left`, or the run that begins before it: where the rules' verdicts to go
 /// on lead. `rest` has the elements after `left`, and then those after the one that was read last.
 pub fn next_break<E: Elements, R: Rules>(rules: &R, left: Element, rest: &mut E) -> Outcome
-    requires left { left.class < R.class_count rules.now }
-    requires class_count { E.class_count rest.old ≡ R.class_count rules.now }
+    requires left { left.class < (R.table rules.now).property_count }
+    requires table { E.table rest.old ≡ R.table rules.now }
     ensures ends { EndsIn (chain (R.verdict rules.now) (left ∷ E.left rest.old)) (left ∷ E.left rest.old) result (E.left rest.new) }
-    ensures class { IsOutcomeBelow (R.class_count rules.now) result }
+    ensures class { IsOutcomeBelow (R.table rules.now).property_count result }
     ensures end { E.end rest.new ≡ E.end rest.old }
-    ensures class_count { E.class_count rest.new ≡ E.class_count rest.old }
+    ensures table { E.table rest.new ≡ E.table rest.old }
 {
     rules.check();
     let mut left = left;
@@ -138,11 +139,11 @@ pub fn pair_step<E: Elements>(
 ) -> Step
     requires left { left.class < table.now.property_count }
     requires right { right.class < table.now.property_count }
-    requires class_count { E.class_count rest.old ≡ table.now.property_count }
+    requires table { E.table rest.old ≡ table.now }
     ensures lands { Lands (verdict table.now (classes_of (left ∷ right ∷ E.left rest.old))) (left ∷ right ∷ E.left rest.old) result (E.left rest.new) }
     ensures class { IsStepBelow table.now.property_count result }
     ensures end { E.end rest.new ≡ E.end rest.old }
-    ensures class_count { E.class_count rest.new ≡ E.class_count rest.old }
+    ensures table { E.table rest.new ≡ E.table rest.old }
 {
     match table.entry(left.class, right.class) {
         BreakState::Keep => Step::Go { next: right },
@@ -163,11 +164,11 @@ fn walk_step<E: Elements>(
 ) -> Step
     requires state { state < table.now.property_count }
     requires right { right.class < table.now.property_count }
-    requires class_count { E.class_count rest.old ≡ table.now.property_count }
+    requires table { E.table rest.old ≡ table.now }
     ensures lands { Lands (named_verdict table.now state left.class (classes_of (left ∷ right ∷ E.left rest.old))) (left ∷ right ∷ E.left rest.old) result (E.left rest.new) }
     ensures class { IsStepBelow table.now.property_count result }
     ensures end { E.end rest.new ≡ E.end rest.old }
-    ensures class_count { E.class_count rest.new ≡ E.class_count rest.old }
+    ensures table { E.table rest.new ≡ E.table rest.old }
 {
     let stop = walk(table, state, left, right, rest);
     let Stop { state, entry, before: _, next, saved_before: _, saved, saved_rest, saved_class } = stop;

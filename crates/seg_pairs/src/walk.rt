@@ -41,15 +41,15 @@ pub fn walk<E: Elements>(
 ) -> Stop<E>
     requires start { start < table.now.property_count }
     requires right { right.class < table.now.property_count }
-    requires class_count { E.class_count rest.old ≡ table.now.property_count }
+    requires table { E.table rest.old ≡ table.now }
     ensures stop { IsStop table.now start (left ∷ right ∷ E.left rest.old) result.state result.entry result.before result.next (E.left rest.new)
         result.saved_before result.saved (E.left result.saved_rest) result.saved_class }
     ensures next { IfSome result.next (λ next. next.class < table.now.property_count) }
     ensures saved { result.saved.class < table.now.property_count }
     ensures end { E.end rest.new ≡ E.end rest.old }
-    ensures class_count { E.class_count rest.new ≡ E.class_count rest.old }
+    ensures table { E.table rest.new ≡ E.table rest.old }
     ensures saved_end { E.end result.saved_rest ≡ E.end rest.old }
-    ensures saved_class_count { E.class_count result.saved_rest ≡ E.class_count rest.old }
+    ensures saved_table { E.table result.saved_rest ≡ E.table rest.old }
 {
     table.check();
     let (mut state, mut before) = (start, right);

@@ -13,7 +13,7 @@ loop-next-preserved g c =
       on = on_chain-go (g.R.Rules.verdict c.args.rules.now) _ _ _ _ _ _ c.check.ensures c.loop-next.invariant.on goes.goes goes.here;
       class = c.in-Go.ensures.class;
       end = c.in-Go.ensures.end ∙ c.loop-next.invariant.end;
-      class_count = c.in-Go.ensures.class_count ∙ c.loop-next.invariant.class_count;
+      table = c.in-Go.ensures.table ∙ c.loop-next.invariant.table;
     }
 
 pub returns-in-Break : goal.returns-in-Break
@@ -21,7 +21,7 @@ returns-in-Break g c = record {
   ends = ends-break (g.R.Rules.verdict c.args.rules.now) _ _ _ c.check.ensures c.loop-next.invariant.on _ _ _ c.in-Break.ensures.lands;
   class = c.in-Break.ensures.class;
   end = c.in-Break.ensures.end ∙ c.loop-next.invariant.end;
-  class_count = c.in-Break.ensures.class_count ∙ c.loop-next.invariant.class_count;
+  table = c.in-Break.ensures.table ∙ c.loop-next.invariant.table;
 }
 
 pub returns-in-Run : goal.returns-in-Run
@@ -29,5 +29,5 @@ returns-in-Run g c = record {
   ends = ends-run (g.R.Rules.verdict c.args.rules.now) _ _ _ c.check.ensures c.loop-next.invariant.on _ _ c.in-Run.ensures.lands;
   class = (c.loop-next.invariant.class, c.in-Run.ensures.class);
   end = c.in-Run.ensures.end ∙ c.loop-next.invariant.end;
-  class_count = c.in-Run.ensures.class_count ∙ c.loop-next.invariant.class_count;
+  table = c.in-Run.ensures.table ∙ c.loop-next.invariant.table;
 }

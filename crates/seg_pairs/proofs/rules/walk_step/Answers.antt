@@ -16,7 +16,7 @@ returns-in_default g c = record {
   lands = lands-back _ _ _ _ _ _ _ _ _ _ _ _ _ _ c.walk-stop.ensures.stop _ c.in-Some.is c.in_default.not-Keep c.in_default.not-Break;
   class = c.walk-stop.ensures.saved;
   end = c.walk-stop.ensures.saved_end;
-  class_count = c.walk-stop.ensures.saved_class_count;
+  table = c.walk-stop.ensures.saved_table;
 }
 
 pub returns-in_default-entry : goal.returns-in_default-entry
@@ -24,5 +24,5 @@ returns-in_default-entry g c = record {
   lands = lands-end _ _ _ _ _ _ _ _ _ _ _ _ _ _ c.walk-stop.ensures.stop c.in-None.is c.in_default-entry.not-NoMatch;
   class = tt;
   end = c.walk-stop.ensures.end;
-  class_count = c.walk-stop.ensures.class_count;
+  table = c.walk-stop.ensures.table;
 }

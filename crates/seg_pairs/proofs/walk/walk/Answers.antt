@@ -1,5 +1,5 @@
 use Rattle.std.proofs.Common.{◌<◌, ◌∙◌, ◌||◌, sym, ap, cond, subst}
-use Rattle.seg_data.specs.PairTable.{entry_of}
+use Rattle.seg_data.specs.PairTable.{PairTable, entry_of}
 use Rattle.seg_pairs.specs.declared.elements.Element.{Element}
 use Rattle.seg_pairs.proofs.Walks.{midway-saved, midway-kept, stop-at, stop-end}
 use Rattle.seg_pairs.proofs.walk.walk.Goals as goal
@@ -19,18 +19,18 @@ loop-next-preserved-then-leaves_class g c =
     let named = sym c.named.ensures ∙ c.in-Some-named.is in
     let intermediate = ap (λ b. b || c.is_class-leaves_class.result) (sym c.is_intermediate.ensures) in
     let end = c.in-Some.ensures.end ∙ c.loop-next.invariant.end in
-    let count = c.in-Some.ensures.class_count ∙ c.loop-next.invariant.class_count in
+    let same = c.in-Some.ensures.table ∙ c.loop-next.invariant.table in
     elim c.if-is_intermediate-leaves_class.branch [
       | then-is_intermediate-leaves_class w ↦ record {
         midway = rw (w.saved_before-is, w.saved-is, w.saved_rest-is, w.fork-saved_rest-then-is_intermediate-leaves_class.ensures)
             (midway-saved _ _ _ _ _ _ _ _ _ _ _ _ _ _ _ _ c.loop-next.invariant.midway c.in-Some.ensures.gives c.entry-entry-in-loop-next.ensures.value named
             (c.entry-entry-in-loop-next.ensures.state _ named) c.is_class-leaves_class.ensures (intermediate ∙ w.if-is_intermediate-leaves_class.true)
             (sym (ap (λ b. cond b c.in-Some-named.to c.loop-next.saved_class) c.if-leaves_class.true)));
-        saved = subst (λ (e : Element). e.class < c.args.table.now.property_count) (sym w.saved-is) (rw (sym (c.loop-next.invariant.class_count ∙ c.requires.class_count)) c.in-Some.ensures.class);
+        saved = subst (λ (e : Element). e.class < c.args.table.now.property_count) (sym w.saved-is) (subst (λ (t : PairTable). c.in-Some.next.class < t.property_count) (c.loop-next.invariant.table ∙ c.requires.table) c.in-Some.ensures.class);
         end = end;
-        class_count = count;
+        table = same;
         saved_end = ap g.E.Elements.end (w.saved_rest-is ∙ w.fork-saved_rest-then-is_intermediate-leaves_class.ensures) ∙ end;
-        saved_class_count = ap g.E.Elements.class_count (w.saved_rest-is ∙ w.fork-saved_rest-then-is_intermediate-leaves_class.ensures) ∙ count;
+        saved_table = ap g.E.Elements.table (w.saved_rest-is ∙ w.fork-saved_rest-then-is_intermediate-leaves_class.ensures) ∙ same;
       }
       | else-is_intermediate-leaves_class w ↦ record {
         midway = rw (w.saved_before-is, w.saved-is, w.saved_rest-is)
@@ -39,9 +39,9 @@ loop-next-preserved-then-leaves_class g c =
             (sym (ap (λ b. cond b c.in-Some-named.to c.loop-next.saved_class) c.if-leaves_class.true)));
         saved = subst (λ (e : Element). e.class < c.args.table.now.property_count) (sym w.saved-is) c.loop-next.invariant.saved;
         end = end;
-        class_count = count;
+        table = same;
         saved_end = ap g.E.Elements.end w.saved_rest-is ∙ c.loop-next.invariant.saved_end;
-        saved_class_count = ap g.E.Elements.class_count w.saved_rest-is ∙ c.loop-next.invariant.saved_class_count;
+        saved_table = ap g.E.Elements.table w.saved_rest-is ∙ c.loop-next.invariant.saved_table;
       }
     ]
 
@@ -50,18 +50,18 @@ loop-next-preserved g c =
     let named = sym c.named.ensures ∙ c.in-Some-named.is in
     let intermediate = ap (λ b. b || c.is_class-leaves_class.result) (sym c.is_intermediate.ensures) in
     let end = c.in-Some.ensures.end ∙ c.loop-next.invariant.end in
-    let count = c.in-Some.ensures.class_count ∙ c.loop-next.invariant.class_count in
+    let same = c.in-Some.ensures.table ∙ c.loop-next.invariant.table in
     elim c.if-is_intermediate-leaves_class.branch [
       | then-is_intermediate-leaves_class w ↦ record {
         midway = rw (w.saved_before-is, w.saved-is, w.saved_rest-is, w.fork-saved_rest-then-is_intermediate-leaves_class.ensures)
             (midway-saved _ _ _ _ _ _ _ _ _ _ _ _ _ _ _ _ c.loop-next.invariant.midway c.in-Some.ensures.gives c.entry-entry-in-loop-next.ensures.value named
             (c.entry-entry-in-loop-next.ensures.state _ named) c.is_class-leaves_class.ensures (intermediate ∙ w.if-is_intermediate-leaves_class.true)
             (sym (ap (λ b. cond b c.in-Some-named.to c.loop-next.saved_class) c.if-leaves_class.false)));
-        saved = subst (λ (e : Element). e.class < c.args.table.now.property_count) (sym w.saved-is) (rw (sym (c.loop-next.invariant.class_count ∙ c.requires.class_count)) c.in-Some.ensures.class);
+        saved = subst (λ (e : Element). e.class < c.args.table.now.property_count) (sym w.saved-is) (subst (λ (t : PairTable). c.in-Some.next.class < t.property_count) (c.loop-next.invariant.table ∙ c.requires.table) c.in-Some.ensures.class);
         end = end;
-        class_count = count;
+        table = same;
         saved_end = ap g.E.Elements.end (w.saved_rest-is ∙ w.fork-saved_rest-then-is_intermediate-leaves_class.ensures) ∙ end;
-        saved_class_count = ap g.E.Elements.class_count (w.saved_rest-is ∙ w.fork-saved_rest-then-is_intermediate-leaves_class.ensures) ∙ count;
+        saved_table = ap g.E.Elements.table (w.saved_rest-is ∙ w.fork-saved_rest-then-is_intermediate-leaves_class.ensures) ∙ same;
       }
       | else-is_intermediate-leaves_class w ↦ record {
         midway = rw (w.saved_before-is, w.saved-is, w.saved_rest-is)
@@ -70,8 +70,8 @@ loop-next-preserved g c =
             (sym (ap (λ b. cond b c.in-Some-named.to c.loop-next.saved_class) c.if-leaves_class.false)));
         saved = subst (λ (e : Element). e.class < c.args.table.now.property_count) (sym w.saved-is) c.loop-next.invariant.saved;
         end = end;
-        class_count = count;
+        table = same;
         saved_end = ap g.E.Elements.end w.saved_rest-is ∙ c.loop-next.invariant.saved_end;
-        saved_class_count = ap g.E.Elements.class_count w.saved_rest-is ∙ c.loop-next.invariant.saved_class_count;
+        saved_table = ap g.E.Elements.table w.saved_rest-is ∙ c.loop-next.invariant.saved_table;
       }
     ]

@@ -8,9 +8,9 @@ invariant-loop-next g l = record {
       l.saved_before l.saved (g.E.Elements.left l.saved_rest) l.saved_class;
   saved : l.saved.class < l.table.property_count;
   end : g.E.Elements.end l.rest ≡ g.E.Elements.end l.fn.rest;
-  class_count : g.E.Elements.class_count l.rest ≡ g.E.Elements.class_count l.fn.rest;
+  table : g.E.Elements.table l.rest ≡ g.E.Elements.table l.fn.rest;
   saved_end : g.E.Elements.end l.saved_rest ≡ g.E.Elements.end l.fn.rest;
-  saved_class_count : g.E.Elements.class_count l.saved_rest ≡ g.E.Elements.class_count l.fn.rest;
+  saved_table : g.E.Elements.table l.saved_rest ≡ g.E.Elements.table l.fn.rest;
 }
 
 abbrev pub decreases-loop-next : goal.decreases-loop-next

@@ -1,0 +1,9 @@
+-- The items of a text as elements.
+use Rattle.std.specs.Prelude.{ℕ, List, map}
+use Rattle.seg_data.specs.declared.inner.PairData.{PairData}
+use Rattle.seg_data.specs.PairData.{class_by}
+use Rattle.seg_pairs.specs.declared.elements.Element.{Element}
+
+-- each item with the class of its code point
+abbrev pub elements_of : PairData → List (ℕ × ℕ) → List Element
+elements_of pairs items = map (λ (item : ℕ × ℕ). record { place = item.0; class = class_by pairs item.1 }) items
