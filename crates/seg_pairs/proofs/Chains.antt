@@ -1,5 +1,5 @@
 -- Chains of verdicts, and the boundaries that they lead to.
-use Rattle.std.proofs.Common.{◌≡◌, ℕ, zero, suc, ◌+◌, ◌<◌, ◌≤◌, List, [], ◌∷◌, length, drop, refl, sym, ap, ◌∙◌, subst, arith}
+use Rattle.std.proofs.Common.{◌≡◌, ◌≢◌, ℕ, zero, suc, ◌+◌, ◌<◌, ◌≤◌, List, [], ◌∷◌, length, drop, refl, sym, ap, ◌∙◌, subst, arith}
 use Rattle.std.proofs.lemmas.List.{length-drop, drop-drop}
 use Rattle.seg_pairs.specs.Verdict.{Verdict}
 use Rattle.seg_pairs.specs.Verdict.Verdict.{BreakAfter, GoAfter, RunBegins}
@@ -157,6 +157,11 @@ module _ {X : Type 0} (v : List X → Verdict) (forward : IsForward v) where
         sum = omega (arith, sum, later.sum);
       }
 
+  pub leads-some : (goes : List ℕ) (x : X) (xs : List X) (taken class : ℕ) → LeadsTo v (x ∷ xs) goes taken class → 0 < taken
+  leads-some goes x xs taken class leads =
+      let ends = leads-chain goes x xs taken class leads in
+      omega (arith, (break-fits x xs ends.gone ends.last class ends.is).0, ends.sum)
+
   -- the boundaries are the only ones
   pub breaks-only : (xs : List X) (found : List (ℕ × ℕ)) → AreBreaks v xs found → found ≡ breaks v xs
   breaks-only xs found are = within (length xs) xs found (omega arith) are
@@ -168,7 +173,7 @@ module _ {X : Type 0} (v : List X → Verdict) (forward : IsForward v) where
       within zero (x ∷ xs) (break ∷ found) bound are = absurd (omega arith)
       within (suc most) (x ∷ xs) ((taken, class) ∷ found) bound ((goes, leads), are) =
           let ends = leads-chain goes x xs taken class leads in
-          let some : 0 < taken = omega (arith, (break-fits x xs ends.gone ends.last class ends.is).0, ends.sum) in
+          let some = leads-some goes x xs taken class leads in
           ap (λ (rest : List (ℕ × ℕ)). (taken, class) ∷ rest) (within most (drop taken (x ∷ xs)) found (fewer taken most x xs some bound) are)
           ∙ ap (λ n. (n, class) ∷ breaks v (drop n (x ∷ xs))) ends.sum
           ∙ sym (breaks-next x xs ends.gone ends.last class ends.is)
@@ -205,10 +210,31 @@ module _ {X : Type 0} (v : List X → Verdict) (forward : IsForward v) where
       within (suc most) (x ∷ xs) bound =
           let first = led none (length (x ∷ xs)) x xs (omega arith) in
           let ends = leads-chain first.goes x xs first.taken first.class first.leads in
-          let some : 0 < first.taken = omega (arith, (break-fits x xs ends.gone ends.last first.class ends.is).0, ends.sum) in
+          let some = leads-some first.goes x xs first.taken first.class first.leads in
           let next : breaks v (x ∷ xs) ≡ (first.taken, first.class) ∷ breaks v (drop first.taken (x ∷ xs)) =
               breaks-next x xs ends.gone ends.last first.class ends.is ∙ ap (λ n. (n, first.class) ∷ breaks v (drop n (x ∷ xs))) (sym ends.sum) in
           subst (AreBreaks v (x ∷ xs)) (sym next) ((first.goes, first.leads), within most (drop first.taken (x ∷ xs)) (fewer first.taken most x xs some bound))
+
+-- where no run begins, no chain ends in one
+
+chain_within-no-run : {X : Type 0} (v : List X → Verdict) → IsForward v → HasNoRun v → (most : ℕ) (x : X) (xs : List X) → (chain_within v most (x ∷ xs)).1 ≢ RunBegins
+unfolding chain_within
+chain_within-no-run v forward none zero x xs is = none x xs is
+chain_within-no-run {X} v forward none (suc most) x xs is =
+    on (v (x ∷ xs)) refl (forward x xs) is
+    (λ n less.
+      let left = left-after n (x ∷ xs) less in
+      subst (λ rest. (chain_within v most rest).1 ≢ RunBegins) (sym left.same) (chain_within-no-run v forward none most left.first left.others))
+  where
+    on : (w : Verdict) → v (x ∷ xs) ≡ w → TakesOf (length (x ∷ xs)) w → (go_on (λ n. chain_within v most (drop n (x ∷ xs))) w).1 ≡ RunBegins
+        → ((n : ℕ) → n < length (x ∷ xs) → (chain_within v most (drop n (x ∷ xs))).1 ≢ RunBegins) → ⊥
+    on (BreakAfter n class) same takes is later = cc
+    on (GoAfter n) same takes is later = later n takes.1 is
+    on RunBegins same takes is later = none x xs same
+
+pub chain-no-run : {X : Type 0} (v : List X → Verdict) → IsForward v → HasNoRun v → (x : X) (xs : List X) → (chain v (x ∷ xs)).1 ≢ RunBegins
+unfolding chain
+chain-no-run v forward none x xs = chain_within-no-run v forward none (length (x ∷ xs)) x xs
 
 -- a chain goes on from the element that it has come to
 pub record IsOnChain {X : Type 0} (v : List X → Verdict) (whole : List X) (x : X) (xs : List X) : Type 0 where

@@ -1,5 +1,5 @@
 -- A verdict takes some of the elements, and one to go on leaves some.
-use Rattle.std.proofs.Common.{◌≡◌, ℕ, suc, ◌+◌, ◌<◌, ◌≤◌, ◌||◌, ◌==◌, Bool, true, false, cond, Option, Some, None, List, [], ◌∷◌, length, drop, refl, sym, ap, ◌∙◌, subst, inl, inr, arith}
+use Rattle.std.proofs.Common.{◌≡◌, ◌≢◌, ℕ, suc, ◌+◌, ◌<◌, ◌≤◌, ◌||◌, ◌==◌, Bool, true, false, cond, Option, Some, None, List, [], ◌∷◌, length, drop, refl, sym, ap, ◌∙◌, subst, inl, inr, arith}
 use Rattle.std.proofs.lemmas.List.{length-drop, length-map}
 use Rattle.seg_data.specs.declared.provider.pairs.BreakState.{BreakState}
 use Rattle.seg_data.specs.declared.provider.pairs.BreakState.TheVariants.{Break, Keep, NoMatch, Intermediate, Index}
@@ -96,3 +96,39 @@ complex-forward t first (second ∷ after) = outer (second == t.complex_property
 -- the same of elements with these classes
 pub on-classes : (v : List ℕ → Verdict) → IsForward v → IsForward (λ (elements : List Element). v (classes_of elements))
 on-classes v forward x xs = subst (λ n. TakesOf (suc n) (v (classes_of (x ∷ xs)))) (length-map xs (λ (element : Element). element.class)) (forward x.class (classes_of xs))
+
+-- no run begins by a pair table alone
+
+stop-no-run : (w : Walk) (entry : BreakState) → stop_verdict w entry ≢ Verdict.RunBegins
+stop-no-run w Keep is = cc
+stop-no-run w Break is = cc
+stop-no-run w NoMatch is = cc
+stop-no-run w (Index q) is = cc
+stop-no-run w (Intermediate q) is = cc
+
+end-no-run : (w : Walk) (entry : BreakState) → end_verdict w entry ≢ Verdict.RunBegins
+end-no-run w NoMatch is = cc
+end-no-run w Keep is = cc
+end-no-run w Break is = cc
+end-no-run w (Index q) is = cc
+end-no-run w (Intermediate q) is = cc
+
+walk-no-run : (t : PairTable) (w : Walk) (rest : List ℕ) → walk_verdict t w rest ≢ Verdict.RunBegins
+walk-no-run t w [] = end-no-run w (entry_of t w.state t.eot_property)
+walk-no-run t w (class ∷ classes) = stop-no-run w (entry_of t w.state class)
+
+named-no-run : (t : PairTable) (state first : ℕ) (classes : List ℕ) → named_verdict t state first classes ≢ Verdict.RunBegins
+unfolding named_verdict
+named-no-run t state first classes = let w = walk t state 2 1 first (drop 2 classes) in walk-no-run t w (drop w.stop classes)
+
+first-no-run : (t : PairTable) (first : ℕ) (classes : List ℕ) (entry : BreakState) → first_verdict t first classes entry ≢ Verdict.RunBegins
+first-no-run t first classes Break is = cc
+first-no-run t first classes NoMatch is = cc
+first-no-run t first classes Keep is = cc
+first-no-run t first classes (Index q) is = named-no-run t q first classes is
+first-no-run t first classes (Intermediate q) is = named-no-run t q first classes is
+
+pub verdict-no-run : (t : PairTable) → HasNoRun (verdict t)
+unfolding verdict
+verdict-no-run t first [] is = cc
+verdict-no-run t first (second ∷ after) is = first-no-run t first (first ∷ second ∷ after) (entry_of t first second) is

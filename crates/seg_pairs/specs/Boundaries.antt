@@ -8,7 +8,7 @@ use Rattle.seg_data.specs.Table.{Table}
 use Rattle.seg_pairs.specs.declared.elements.Element.{Element}
 use Rattle.seg_pairs.specs.Breaks.{AreBreaks, breaks}
 use Rattle.seg_pairs.specs.Elements.{classes_of, place_at}
-use Rattle.seg_pairs.specs.Verdict.{verdict}
+use Rattle.seg_pairs.specs.Verdict.{Verdict, verdict}
 
 -- the classes of a list of code points, by a table and its override
 abbrev pub classes_by : PairTable → Option Table → List ℕ → List ℕ
@@ -38,9 +38,13 @@ status_of statuses (suc class) = slice_index_or statuses class 0
 abbrev pub element_placed : List Element → ℕ → ℕ × ℕ → ℕ × ℕ
 element_placed elements end counted = (place_at (drop counted.0 elements) end, counted.1)
 
+-- the verdict of a table on the first of some elements
+abbrev pub element_verdict : PairTable → List Element → Verdict
+element_verdict t elements = verdict t (classes_of elements)
+
 -- the boundaries that are left, where those up to the first of these elements were given
 unfoldable pub break_ends : PairTable → List Element → ℕ → List (ℕ × ℕ)
-break_ends t elements end = map (element_placed elements end) (ends_from 0 (breaks (verdict t) (classes_of elements)))
+break_ends t elements end = map (element_placed elements end) (ends_from 0 (breaks (element_verdict t) elements))
 
 -- what an engine has still to give, and the class of the boundary that it gave last (0 at first and after the end)
 pub record Coming : Type 0 where

@@ -4,6 +4,9 @@ use Rattle.seg_data.specs.declared.inner.PairData.{PairData}
 use Rattle.seg_data.specs.PairData.{class_by}
 use Rattle.seg_pairs.specs.declared.elements.Element.{Element}
 
--- each item with the class of its code point
+-- an item with the class of its code point
+abbrev pub element_of : PairData → ℕ × ℕ → Element
+element_of pairs item = record { place = item.0; class = class_by pairs item.1 }
+
 abbrev pub elements_of : PairData → List (ℕ × ℕ) → List Element
-elements_of pairs items = map (λ (item : ℕ × ℕ). record { place = item.0; class = class_by pairs item.1 }) items
+elements_of pairs items = map (element_of pairs) items

@@ -97,12 +97,14 @@ impl<'data, I: Cursor> Iterator for RuleBreakIterator<'data, I> {
         let rules = Pairs {
             table: self.rest.pairs.table(),
         };
-        let Outcome::Break { class, next } = next_break(&rules, left, &mut self.rest) else {
-            unreachable!()
-        };
-        self.class = class;
-        self.next = next;
-        Some(place_before(next, &self.rest))
+        match next_break(&rules, left, &mut self.rest) {
+            Outcome::Break { class, next } => {
+                self.class = class;
+                self.next = next;
+            }
+            Outcome::Run { first: _, second: _ } => unreachable!(),
+        }
+        Some(place_before(self.next, &self.rest))
     }
 }
 
