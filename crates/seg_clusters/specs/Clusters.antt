@@ -1,8 +1,7 @@
 -- What is seen of the segmenters of grapheme clusters.
 use Rattle.std.specs.Prelude.{ℕ, List}
 use Rattle.seg_data.specs.Machine.{Machine}
-use Rattle.seg_data.specs.Segments.{machine_boundaries}
-use Rattle.seg_machine.specs.Boundaries.{places, places_left}
+use Rattle.seg_machine.specs.Boundaries.{places_left}
 use Rattle.seg_clusters.specs.declared.grapheme.GraphemeClusterSegmenter.{GraphemeClusterSegmenter}
 use Rattle.seg_clusters.specs.declared.grapheme.GraphemeClusterSegmenterBorrowed.{GraphemeClusterSegmenterBorrowed}
 use Rattle.seg_clusters.specs.declared.grapheme.GraphemeClusterBreakIterator.{GraphemeClusterBreakIterator}
@@ -17,7 +16,3 @@ owned_machine segmenter = segmenter.machine
 -- the boundaries that an iterator has still to give
 abbrev pub clusters_left : {Y C I : Type 0} → GraphemeClusterBreakIterator Y C I → List ℕ
 clusters_left iterator = places_left iterator.engine
-
--- the boundaries of a list of code points, counted in code points
-abbrev pub cluster_ordinals : Machine → List ℕ → List ℕ
-cluster_ordinals m code_points = places (machine_boundaries m code_points)

@@ -8,6 +8,7 @@ ghost use Rattle.seg_text.specs.Utf8.{utf8_items};
 ghost use Rattle.seg_text.specs.Utf16.{utf16_items};
 ghost use Rattle.seg_machine.specs.Boundaries.{boundaries, places, places_left, IsSegmented, IsCover};
 
+use seg_data::inner::TailoredMachineBorrowed;
 use seg_data::provider::{DataError, SegmenterStateMachine};
 use seg_machine::rule_segmenter_v2::RuleBreakIterator;
 use seg_text::indices::{Latin1Indices, StrCharIndices, Utf8CharIndices, Utf16Indices};
@@ -158,7 +159,7 @@ fn segment<'data, 's, Y: RuleBreakType<'s>>(
     ensures cover { IsCover (place_of (Y.IterAttr.left text) (Y.IterAttr.end text)) (Y.IterAttr.end text) (places_left result.engine) }
 {
     GraphemeClusterBreakIterator {
-        engine: RuleBreakIterator::new(machine, text),
+        engine: RuleBreakIterator::new(TailoredMachineBorrowed::untailored(machine), text),
         text: PhantomData,
     }
 }

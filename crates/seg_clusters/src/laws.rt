@@ -1,43 +1,4 @@
-//! Laws of cluster boundaries.
+//! Laws of boundaries.
 
-ghost use Rattle.std.specs.Prelude.{◌≡◌, ℕ, List, drop, length, map};
-ghost use Rattle.seg_text.specs.Items.{place_of, code_points};
-ghost use Rattle.seg_text.specs.Utf8.{utf8_items};
-ghost use Rattle.seg_data.specs.Segments.{machine_boundaries};
-ghost use Rattle.seg_machine.specs.Boundaries.{boundaries, places};
-ghost use Rattle.seg_clusters.specs.Clusters.{machine_of, clusters_left, cluster_ordinals};
-
-use crate::grapheme::{GraphemeClusterBreakIterator, GraphemeClusterSegmenterBorrowed};
-use seg_text::scaffold::{PotentiallyIllFormedUtf8, Utf8};
-
-/// Does nothing. Its contract tells that the ordinals of a text's boundaries, counted in code points, are one function
-/// of the machine and the decoded list, which names no place, length or encoding; the boundaries are the places of
-/// these ordinals. So texts with equal code points, in whatever encodings, have boundaries at equal ordinals.
-pub fn equal_code_points(segmenter: GraphemeClusterSegmenterBorrowed<'_>)
-    ensures ordinals { (items : List (ℕ × ℕ)) (end : ℕ)
-        → places (boundaries (machine_of segmenter.entry) items end)
-        ≡ map (λ ordinal. place_of (drop ordinal items) end) (cluster_ordinals (machine_of segmenter.entry) (code_points items)) }
-    ensures equal { (items others : List (ℕ × ℕ)) → code_points items ≡ code_points others
-        → cluster_ordinals (machine_of segmenter.entry) (code_points items) ≡ cluster_ordinals (machine_of segmenter.entry) (code_points others) }
-{
-    let _ = segmenter;
-}
-
-/// The clusters of a `str`, and those of its bytes as UTF-8: one list, since a `str` is the special case of UTF-8 in
-/// which no item is ill-formed.
-pub fn str_and_its_bytes<'data, 's>(
-    segmenter: GraphemeClusterSegmenterBorrowed<'data>,
-    text: &'s str,
-) -> (
-    GraphemeClusterBreakIterator<'data, 's, Utf8>,
-    GraphemeClusterBreakIterator<'data, 's, PotentiallyIllFormedUtf8>,
-)
-    ensures one { clusters_left result.0 ≡ clusters_left result.1 }
-    ensures boundaries { clusters_left result.0
-        ≡ places (boundaries (machine_of segmenter.entry) (utf8_items 0 text.now) (length text.now)) }
-{
-    (
-        segmenter.segment_str(text),
-        segmenter.segment_utf8(text.as_bytes()),
-    )
-}
+pub mod grapheme;
+pub mod sentence;

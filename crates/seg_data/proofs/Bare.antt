@@ -1,19 +1,21 @@
 -- What a machine's states and transitions alone decide.
-use Rattle.std.proofs.Common.{◌≡◌, ℕ, zero, suc, List, [], ◌∷◌, map, refl, sym, ap, ◌∙◌, inl, inr}
+use Rattle.std.proofs.Common.{◌≡◌, ℕ, zero, suc, ◌<◌, List, [], ◌∷◌, map, refl, sym, ap, ◌∙◌, inl, inr}
 use Rattle.std.specs.Prelude.{Option, Some, None, IsSome}
 use Rattle.std.specs.Option.{is_some}
 use Rattle.std.proofs.lemmas.Bool.{both_ways}
-use Rattle.seg_data.specs.Machine.{Machine, IsTextSymbol, symbol_count, step, run, scan, walk, state_at}
+use Rattle.seg_data.specs.declared.provider.ComplexScript.{ComplexScript}
+use Rattle.seg_data.specs.Machine.{Machine, IsTextSymbol, tailored, symbol_count, step, run, scan, walk, state_at}
 use Rattle.seg_data.specs.Pick.{pick, HasStall, IsStallFree}
 use Rattle.seg_data.specs.Faults.{HasEndCycle}
 use Rattle.seg_data.specs.Search.{bare}
+use Rattle.seg_data.specs.Checked.{HasTextSymbols, IsChecked}
 use Rattle.seg_data.proofs.Options.{option-cases}
 use Rattle.seg_data.proofs.Walks.{walk-next, walk-end}
 
 abbrev plain : Machine → Machine
 plain m = bare m.states m.transitions
 
-step-plain : (m : Machine) (q symbol : ℕ) → step (plain m) q symbol ≡ step m q symbol
+pub step-plain : (m : Machine) (q symbol : ℕ) → step (plain m) q symbol ≡ step m q symbol
 unfolding step
 step-plain m q symbol = refl
 
@@ -63,6 +65,10 @@ pub stall_free-full : (m : Machine) → IsStallFree (plain m) → IsStallFree m
 stall_free-full m free symbols some text =
     rw (← pick-plain m symbols) (free symbols some (λ k d less. text-plain m _ (text k d less)))
 
+stall_free-plain : (m : Machine) → IsStallFree m → IsStallFree (plain m)
+stall_free-plain m free symbols some text =
+    rw (pick-plain m symbols) (free symbols some (λ k d less. text-full m _ (text k d less)))
+
 pub stall-full : (m : Machine) → HasStall (plain m) → HasStall m
 stall-full m (symbols, some, text, none) = (symbols, some, λ k d less. text-full m _ (text k d less), sym (pick-plain m symbols) ∙ none)
 
@@ -75,3 +81,27 @@ some-unless (Some x) other = refl
 
 pub stall_free-from : (m : Machine) → (HasStall m → ⊥) → IsStallFree m
 stall_free-from m none symbols some text = some-unless (pick m symbols) (λ is. none (symbols, some, text, is))
+
+pub count-tailored : (m : Machine) (map : List (ℕ × ComplexScript)) (symbol : ℕ) → symbol < symbol_count (tailored m (Some map)) → symbol < symbol_count m
+unfolding symbol_count
+count-tailored m map symbol below = below
+
+pub step-tailored : (m : Machine) (map : List (ℕ × ComplexScript)) (q symbol : ℕ) → step m q symbol ≡ step (tailored m (Some map)) q symbol
+unfolding step
+step-tailored m map q symbol = refl
+
+-- a tailoring that gives each code point a symbol of a text leaves the machine checked
+pub checked-tailored : (m : Machine) (map : List (ℕ × ComplexScript)) → IsChecked m → HasTextSymbols (tailored m (Some map)) → IsChecked (tailored m (Some map))
+unfolding step symbol_count state_at
+checked-tailored m map checked text =
+    let t = tailored m (Some map) in
+    record {
+      some_state = checked.some_state;
+      few_states = checked.few_states;
+      text_symbols = text;
+      in_range = checked.in_range;
+      few_lookaheads = checked.few_lookaheads;
+      lookaheads = checked.lookaheads;
+      ends = λ state here. rw (← run-plain t state, run-plain m state) (checked.ends state here);
+      stall_free = stall_free-full t (stall_free-plain m checked.stall_free);
+    }

@@ -13,3 +13,4 @@ pub mod Tables
 pub mod Machines
 pub mod Segmentations
 pub mod Pairs
+pub mod Restarts

@@ -2,7 +2,7 @@
 use Rattle.std.proofs.Common.{◌≡◌, ℕ, suc, ◌<◌, refl, subst, inl, inr, arith}
 use Rattle.std.proofs.lemmas.Bool.{cases_lt}
 use Rattle.seg_data.specs.declared.provider.DataError.{DataError}
-use Rattle.seg_data.specs.declared.provider.DataError.TheVariants.{RangeOrder, RangePast10FFFF, TableSize, ClassOutOfRange, StateOutOfRange, StartRowKeeps, ComplexItems, StateCount, TransitionSize, TransitionOutOfRange, SymbolOutOfRange, TooManyLookaheads, LookaheadOutOfRange, EndCycle, Stalls}
+use Rattle.seg_data.specs.declared.provider.DataError.TheVariants.{RangeOrder, RangePast10FFFF, TableSize, ClassOutOfRange, StateOutOfRange, StartRowKeeps, ComplexItems, ComplexBelow0100, StateCount, TransitionSize, TransitionOutOfRange, SymbolOutOfRange, TooManyLookaheads, LookaheadOutOfRange, EndCycle, Stalls, MissingTailoring}
 use Rattle.seg_data.specs.Faults.{number_of, IsFaultless, IsLowestFault}
 
 pub same_number : (a b : DataError) → number_of a ≡ number_of b → a ≡ b
@@ -20,6 +20,8 @@ same_number StartRowKeeps StartRowKeeps same = refl
 same_number StartRowKeeps b same = absurd (omega arith)
 same_number ComplexItems ComplexItems same = refl
 same_number ComplexItems b same = absurd (omega arith)
+same_number ComplexBelow0100 ComplexBelow0100 same = refl
+same_number ComplexBelow0100 b same = absurd (omega arith)
 same_number StateCount StateCount same = refl
 same_number StateCount b same = absurd (omega arith)
 same_number TransitionSize TransitionSize same = refl
@@ -36,8 +38,10 @@ same_number EndCycle EndCycle same = refl
 same_number EndCycle b same = absurd (omega arith)
 same_number Stalls Stalls same = refl
 same_number Stalls b same = absurd (omega arith)
+same_number MissingTailoring MissingTailoring same = refl
+same_number MissingTailoring b same = absurd (omega arith)
 
-number-below : (fault : DataError) → number_of fault < 19
+number-below : (fault : DataError) → number_of fault < 20
 number-below RangeOrder = omega arith
 number-below RangePast10FFFF = omega arith
 number-below TableSize = omega arith
@@ -45,6 +49,7 @@ number-below ClassOutOfRange = omega arith
 number-below StateOutOfRange = omega arith
 number-below StartRowKeeps = omega arith
 number-below ComplexItems = omega arith
+number-below ComplexBelow0100 = omega arith
 number-below StateCount = omega arith
 number-below TransitionSize = omega arith
 number-below TransitionOutOfRange = omega arith
@@ -53,6 +58,7 @@ number-below TooManyLookaheads = omega arith
 number-below LookaheadOutOfRange = omega arith
 number-below EndCycle = omega arith
 number-below Stalls = omega arith
+number-below MissingTailoring = omega arith
 
 -- no fault with a number below this one is there
 pub record NoneBelow (Has : DataError → Type 0) (number : ℕ) : Type 0 where
@@ -71,5 +77,5 @@ none-below-more Has fault number same below absent = record {
 pub lowest-from : (Has : DataError → Type 0) (fault : DataError) → NoneBelow Has (number_of fault) → Has fault → IsLowestFault Has fault
 lowest-from Has fault below has = record { is_there = has; lowest = below.absent }
 
-pub faultless-from : (Has : DataError → Type 0) → NoneBelow Has 19 → IsFaultless Has
+pub faultless-from : (Has : DataError → Type 0) → NoneBelow Has 20 → IsFaultless Has
 faultless-from Has below fault has = below.absent fault (number-below fault) has

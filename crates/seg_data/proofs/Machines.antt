@@ -1,17 +1,17 @@
 -- The faults of a machine's parts, check by check, and what holds of parts with none.
-use Rattle.std.proofs.Common.{◌≡◌, ◌≢◌, ℕ, ◌-◌, ◌*◌, ◌/◌, ◌<◌, ◌≤◌, ◌⊎◌, ◌==◌, nat_lt, Bool, false, cond, List, length, Any, refl, sym, ap, ◌∙◌, subst, inl, inr, arith, eq-eqb}
+use Rattle.std.proofs.Common.{◌≡◌, ◌≢◌, ℕ, ◌-◌, ◌*◌, ◌/◌, ◌<◌, ◌≤◌, ◌⊎◌, ◌↔◌, ◌==◌, IsTrue, nat_lt, Bool, false, cond, List, length, Any, refl, sym, ap, ◌∙◌, subst, inl, inr, arith, eq-eqb}
 use Rattle.std.specs.Prelude.{Option, Some, None, slice_index_or}
 use Rattle.std.proofs.lemmas.Bool.{cases_lt, cond_both, cond-true, cond-false, ltb-true, ltb-false, lt-ltb, le-ltb, false≢true}
 use Rattle.std.proofs.lemmas.Nat.{mul-le}
 use Rattle.std.proofs.lemmas.List.{get_or_past, get_or_read}
 use Rattle.seg_data.specs.declared.provider.DataError.{DataError}
-use Rattle.seg_data.specs.declared.provider.DataError.TheVariants.{RangeOrder, RangePast10FFFF, TableSize, ClassOutOfRange, StateOutOfRange, StartRowKeeps, ComplexItems, StateCount, TransitionSize, TransitionOutOfRange, SymbolOutOfRange, TooManyLookaheads, LookaheadOutOfRange, EndCycle, Stalls}
+use Rattle.seg_data.specs.declared.provider.DataError.TheVariants.{RangeOrder, RangePast10FFFF, TableSize, ClassOutOfRange, StateOutOfRange, StartRowKeeps, ComplexItems, ComplexBelow0100, StateCount, TransitionSize, TransitionOutOfRange, SymbolOutOfRange, TooManyLookaheads, LookaheadOutOfRange, EndCycle, Stalls, MissingTailoring}
 use Rattle.seg_data.specs.declared.provider.Acceptance.{Acceptance}
 use Rattle.seg_data.specs.declared.provider.Acceptance.TheVariants.{Continue, Accept, Conditional}
 use Rattle.seg_data.specs.declared.provider.ComplexScript.{ComplexScript}
 use Rattle.seg_data.specs.declared.provider.ComplexScript.TheVariants.{None as NoScript}
-use Rattle.seg_data.specs.Table.{value_of, named_values}
-use Rattle.seg_data.specs.Machine.{Machine, IsSymbolOf, IsTextSymbol, symbol_and_script, symbol_count, state_at}
+use Rattle.seg_data.specs.Table.{Table, value_of, named_values}
+use Rattle.seg_data.specs.Machine.{Machine, tailored, IsSymbolOf, IsTextSymbol, symbol_and_script, symbol_count, step, state_at}
 use Rattle.seg_data.specs.Pick.{IsStallFree}
 use Rattle.seg_data.specs.Faults.{number_of, HasMachineFault, IsFaultless, HasEndCycle, IsStray, NamesPast}
 use Rattle.seg_data.specs.Checked.{IsChecked}
@@ -35,6 +35,7 @@ below-11 m = record { absent = λ fault less has. none m fault less has }
     none m StateOutOfRange less has = has
     none m StartRowKeeps less has = has
     none m ComplexItems less has = has
+    none m ComplexBelow0100 less has = has
     none m StateCount less has = omega arith
     none m TransitionSize less has = omega arith
     none m TransitionOutOfRange less has = omega arith
@@ -43,6 +44,7 @@ below-11 m = record { absent = λ fault less has. none m fault less has }
     none m LookaheadOutOfRange less has = omega arith
     none m EndCycle less has = omega arith
     none m Stalls less has = omega arith
+    none m MissingTailoring less has = has
 
 pub below-12 : (m : Machine) → 0 < length m.states → length m.states ≤ 255 → NoneBelow (HasMachineFault m) 12
 below-12 m some few =
@@ -76,6 +78,19 @@ abbrev pub StrayAt : Machine → ℕ → Type 0
 StrayAt m count =
     Any (IsStray count m.pseudo_symbol_shift (length m.pseudo_symbol_map)) (named_values m.symbols)
     ⊎ Any (λ entry. IsSymbolOf count entry.0 → ⊥) m.pseudo_symbol_map
+
+-- the same, from the parts one by one
+pub stray-parts : (m : Machine) (map : List (ℕ × ComplexScript)) (symbols : Table) (count shift : ℕ) (found : Bool)
+    → symbols ≡ m.symbols → count ≡ length m.transitions / length m.states → shift ≡ m.pseudo_symbol_shift
+    → (IsTrue found ↔ (Any (IsStray count shift (length map)) (named_values symbols) ⊎ Any (λ entry. IsSymbolOf count entry.0 → ⊥) map))
+    → (IsTrue found ↔ HasMachineFault (tailored m (Some map)) SymbolOutOfRange)
+unfolding symbol_count
+stray-parts m map symbols count shift found same_symbols same_count same_shift tells =
+    let Tells : Table → ℕ → ℕ → Type 0 =
+    λ symbols count shift. IsTrue found ↔ (Any (IsStray count shift (length map)) (named_values symbols) ⊎ Any (λ entry. IsSymbolOf count entry.0 → ⊥) map)
+    in
+    subst (λ symbols. Tells symbols (length m.transitions / length m.states) m.pseudo_symbol_shift) same_symbols
+    (subst (λ count. Tells symbols count m.pseudo_symbol_shift) same_count (subst (λ shift. Tells symbols count shift) same_shift tells))
 
 pub stray-there : (m : Machine) → StrayAt m (length m.transitions / length m.states) → HasMachineFault m SymbolOutOfRange
 unfolding symbol_count
@@ -147,6 +162,23 @@ bounded-from m some few size range lookaheads names = record {
   lookaheads = λ state past. no-past m.num_lookaheads m.states state names (past-less m.num_lookaheads _ lookaheads (plain-state m state past));
 }
 
+pub count-plain : (m : Machine) (symbol : ℕ) → symbol < symbol_count m → symbol < symbol_count (bare m.states m.transitions)
+unfolding symbol_count
+count-plain m symbol below = below
+
+-- what a checked machine keeps of that
+pub bounded-checked : (m : Machine) → IsChecked m → IsBounded (bare m.states m.transitions)
+unfolding step symbol_count state_at
+bounded-checked m checked =
+    let text : IsTextSymbol m (symbol_and_script m 0).0 = checked.text_symbols 0 in
+    record {
+      some_state = checked.some_state;
+      few_states = checked.few_states;
+      some_symbol = omega (arith, text.0, text.1);
+      in_range = checked.in_range;
+      lookaheads = λ state past. checked.lookaheads state (past-less m.num_lookaheads _ checked.few_lookaheads (plain-state m state past));
+    }
+
 pub below-18 : (m : Machine) → NoneBelow (HasMachineFault m) 17 → (HasEndCycle (bare m.states m.transitions) → ⊥) → NoneBelow (HasMachineFault m) 18
 below-18 m below absent = none-below-more (HasMachineFault m) EndCycle 17 refl below (λ has. absent (cycle-plain m has))
 
@@ -154,6 +186,9 @@ pub below-19 : (m : Machine) → NoneBelow (HasMachineFault m) 18 → IsStallFre
 below-19 m below free =
     none-below-more (HasMachineFault m) Stalls 18 refl below
     (λ has. no-stall m (stall_free-full m free) has)
+
+pub below-20 : (m : Machine) → NoneBelow (HasMachineFault m) 19 → NoneBelow (HasMachineFault m) 20
+below-20 m below = none-below-more (HasMachineFault m) MissingTailoring 19 refl below (λ has. has)
 
 -- a machine without faults is checked
 
@@ -191,12 +226,12 @@ text_symbols-from m code_point faultless =
     symbol-from m (value_of m.symbols code_point) faultless
     (λ stray. faultless (inl (value-named (IsStray (symbol_count m) m.pseudo_symbol_shift (length m.pseudo_symbol_map)) m.symbols code_point stray)))
 
--- the symbol of a value below the shift, and of one from the shift on
+-- the symbol and the script of a value below the shift, and of one from the shift on
 pub symbol-below : (m : Machine) (code_point value : ℕ) → value ≡ value_of m.symbols code_point → value < m.pseudo_symbol_shift
-    → value ≡ (symbol_and_script m code_point).0
+    → (value, NoScript) ≡ symbol_and_script m code_point
 unfolding symbol_and_script
 symbol-below m code_point value is below =
-    rw (← is) (sym (ap (λ (found : ℕ × ComplexScript). found.0) (cond-true (nat_lt value m.pseudo_symbol_shift) (value, NoScript) (slice_index_or m.pseudo_symbol_map (value - m.pseudo_symbol_shift) (0, NoScript)) (lt-ltb value m.pseudo_symbol_shift below))))
+    rw (← is) (sym (cond-true (nat_lt value m.pseudo_symbol_shift) (value, NoScript) (slice_index_or m.pseudo_symbol_map (value - m.pseudo_symbol_shift) (0, NoScript)) (lt-ltb value m.pseudo_symbol_shift below)))
 
 pub symbol-entry : (m : Machine) (code_point value : ℕ) → value ≡ value_of m.symbols code_point → m.pseudo_symbol_shift ≤ value
     → slice_index_or m.pseudo_symbol_map (value - m.pseudo_symbol_shift) (0, NoScript) ≡ symbol_and_script m code_point
@@ -215,14 +250,21 @@ entry-within m code_point value is past text =
           omega arith
     ]
 
--- what the map's index gives
-pub symbol-read : (m : Machine) (code_point value : ℕ) → value ≡ value_of m.symbols code_point → m.pseudo_symbol_shift ≤ value
-    → IsTextSymbol m (symbol_and_script m code_point).0 → (entry : ℕ × ComplexScript)
-    → entry ≡ slice_index_or m.pseudo_symbol_map (value - m.pseudo_symbol_shift) entry → entry.0 ≡ (symbol_and_script m code_point).0
-symbol-read m code_point value is past text entry read =
-    let within = entry-within m code_point value is past text in
-    ap (λ (found : ℕ × ComplexScript). found.0)
-    (get_or_read m.pseudo_symbol_map (value - m.pseudo_symbol_shift) entry within read (0, NoScript) ∙ symbol-entry m code_point value is past)
+-- what a look-up in the map gives: an entry, or none
+pub entry-read : (m : Machine) (code_point value shift : ℕ) (entry : ℕ × ComplexScript) → value ≡ value_of m.symbols code_point
+    → shift ≡ m.pseudo_symbol_shift → shift ≤ value → value - shift < length m.pseudo_symbol_map
+    → entry ≡ slice_index_or m.pseudo_symbol_map (value - shift) entry → entry ≡ symbol_and_script m code_point
+entry-read m code_point value shift entry is same past within read =
+    get_or_read m.pseudo_symbol_map (value - shift) entry within read (0, NoScript)
+    ∙ ap (λ (at : ℕ). slice_index_or m.pseudo_symbol_map (value - at) (0, NoScript)) same
+    ∙ symbol-entry m code_point value is (rw same at past)
+
+pub entry-none : (m : Machine) (code_point value shift : ℕ) → value ≡ value_of m.symbols code_point
+    → shift ≡ m.pseudo_symbol_shift → shift ≤ value → length m.pseudo_symbol_map ≤ value - shift → (0, NoScript) ≡ symbol_and_script m code_point
+entry-none m code_point value shift is same past end =
+    sym (get_or_past m.pseudo_symbol_map (value - shift) (0, NoScript) end)
+    ∙ ap (λ (at : ℕ). slice_index_or m.pseudo_symbol_map (value - at) (0, NoScript)) same
+    ∙ symbol-entry m code_point value is (rw same at past)
 
 pub checked-from : (m : Machine) → IsFaultless (HasMachineFault m) → IsChecked m
 checked-from m faultless =

@@ -5,12 +5,12 @@ use Rattle.std.proofs.lemmas.Bool.{cases_lt, cases_eq, cond-true, cond-false, ne
 use Rattle.std.proofs.lemmas.Nat.{mul-le}
 use Rattle.std.proofs.lemmas.List.{get_or_past, get_or_read}
 use Rattle.seg_data.specs.declared.provider.DataError.{DataError}
-use Rattle.seg_data.specs.declared.provider.DataError.TheVariants.{RangeOrder, RangePast10FFFF, TableSize, ClassOutOfRange, StateOutOfRange, StartRowKeeps, ComplexItems, StateCount, TransitionSize, TransitionOutOfRange, SymbolOutOfRange, TooManyLookaheads, LookaheadOutOfRange, EndCycle, Stalls}
+use Rattle.seg_data.specs.declared.provider.DataError.TheVariants.{RangeOrder, RangePast10FFFF, TableSize, ClassOutOfRange, StateOutOfRange, StartRowKeeps, ComplexItems, ComplexBelow0100, StateCount, TransitionSize, TransitionOutOfRange, SymbolOutOfRange, TooManyLookaheads, LookaheadOutOfRange, EndCycle, Stalls, MissingTailoring}
 use Rattle.seg_data.specs.declared.provider.pairs.BreakState.{BreakState}
 use Rattle.seg_data.specs.declared.provider.pairs.BreakState.TheVariants.{NoMatch}
 use Rattle.seg_data.specs.BreakStates.{named_state}
 use Rattle.seg_data.specs.Faults.{number_of, IsFaultless, IsLowestFault}
-use Rattle.seg_data.specs.PairFaults.{HasPairFault, HasOverrideFault, NamesStatePast, KeepsStart}
+use Rattle.seg_data.specs.PairFaults.{HasPairFault, HasPairDataFault, NamesStatePast, KeepsStart}
 use Rattle.seg_data.specs.PairTable.{PairTable, IsPairTable, Names, Overrides, class_of, entry_of}
 use Rattle.seg_data.specs.Table.{Table, named_values, value_of}
 use Rattle.seg_data.proofs.Anywhere.{any-at, any-contained, contained-same}
@@ -101,12 +101,12 @@ none-keeps t overriding count checked fits none all (class, inr other, keeps) =
     none class (omega (arith, fits class other)) (inr other) keeps
 
 -- complex items are the lowest fault where the others of an override are absent
-pub complex-lowest : (t : PairTable) (overriding : Option Table) → (HasOverrideFault t overriding ClassOutOfRange → ⊥)
-    → (HasOverrideFault t overriding StartRowKeeps → ⊥) → HasOverrideFault t overriding ComplexItems
-    → IsLowestFault (HasOverrideFault t overriding) ComplexItems
+pub complex-lowest : (t : PairTable) (overriding : Option Table) → (HasPairDataFault t overriding ClassOutOfRange → ⊥)
+    → (HasPairDataFault t overriding StartRowKeeps → ⊥) → HasPairDataFault t overriding ComplexItems
+    → IsLowestFault (HasPairDataFault t overriding) ComplexItems
 complex-lowest t overriding class start complex = record { is_there = complex; lowest = lowest }
   where
-    lowest : (lower : DataError) → number_of lower < 8 → HasOverrideFault t overriding lower → ⊥
+    lowest : (lower : DataError) → number_of lower < 8 → HasPairDataFault t overriding lower → ⊥
     lowest RangeOrder less has = has
     lowest RangePast10FFFF less has = has
     lowest TableSize less has = has
@@ -114,6 +114,8 @@ complex-lowest t overriding class start complex = record { is_there = complex; l
     lowest ClassOutOfRange less has = class has
     lowest StartRowKeeps less has = start has
     lowest ComplexItems less has = omega arith
+    lowest ComplexBelow0100 less has = omega arith
+    lowest MissingTailoring less has = omega arith
     lowest StateCount less has = omega arith
     lowest TransitionSize less has = omega arith
     lowest TransitionOutOfRange less has = omega arith
@@ -124,9 +126,9 @@ complex-lowest t overriding class start complex = record { is_there = complex; l
     lowest Stalls less has = omega arith
 
 pub complex-lowest-of : (t u : PairTable) (overriding other : Option Table) → u ≡ t → other ≡ overriding
-    → (HasOverrideFault t overriding ClassOutOfRange → ⊥) → (HasOverrideFault u other StartRowKeeps → ⊥) → HasOverrideFault u other ComplexItems
-    → IsLowestFault (HasOverrideFault t overriding) ComplexItems
+    → (HasPairDataFault t overriding ClassOutOfRange → ⊥) → (HasPairDataFault u other StartRowKeeps → ⊥) → HasPairDataFault u other ComplexItems
+    → IsLowestFault (HasPairDataFault t overriding) ComplexItems
 complex-lowest-of t u overriding other same equal class start complex =
     complex-lowest t overriding class
-    (subst (λ o. HasOverrideFault t o StartRowKeeps → ⊥) equal (subst (λ t. HasOverrideFault t other StartRowKeeps → ⊥) same start))
-    (subst (λ o. HasOverrideFault t o ComplexItems) equal (subst (λ t. HasOverrideFault t other ComplexItems) same complex))
+    (subst (λ o. HasPairDataFault t o StartRowKeeps → ⊥) equal (subst (λ t. HasPairDataFault t other StartRowKeeps → ⊥) same start))
+    (subst (λ o. HasPairDataFault t o ComplexItems) equal (subst (λ t. HasPairDataFault t other ComplexItems) same complex))

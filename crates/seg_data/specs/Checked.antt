@@ -4,11 +4,14 @@ use Rattle.seg_data.specs.Machine.{Machine, IsTextSymbol, symbol_and_script, sym
 use Rattle.seg_data.specs.Pick.{IsStallFree}
 use Rattle.seg_data.specs.Faults.{NamesPast}
 
+-- each code point has a symbol of a text
+abbrev pub HasTextSymbols : Machine → Type 0
+HasTextSymbols m = (code_point : ℕ) → IsTextSymbol m (symbol_and_script m code_point).0
+
 pub record IsChecked (m : Machine) : Type 0 where
   pub some_state : 0 < length m.states
   pub few_states : length m.states ≤ 255
-  -- each code point has a symbol of a text
-  pub text_symbols : (code_point : ℕ) → IsTextSymbol m (symbol_and_script m code_point).0
+  pub text_symbols : HasTextSymbols m
   -- a step leads to a state
   pub in_range : (state symbol : ℕ) → state < length m.states → symbol < symbol_count m → IfSome (step m state symbol) (λ next. next < length m.states)
   -- there are at most 4 lookaheads, and each that a state names or asks for is one of them

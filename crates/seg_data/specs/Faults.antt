@@ -1,11 +1,13 @@
 -- The faults of data that strangers hand in.
 use Rattle.std.specs.Prelude.{◌≡◌, ◌≢◌, ℕ, ◌+◌, ◌*◌, ◌<◌, ◌≤◌, ◌⊎◌, suc, Option, Some, List, length, slice_get, IsSomeAnd, Any}
 use Rattle.seg_data.specs.declared.provider.DataError.{DataError}
-use Rattle.seg_data.specs.declared.provider.DataError.TheVariants.{RangeOrder, RangePast10FFFF, TableSize, ClassOutOfRange, StateOutOfRange, StartRowKeeps, ComplexItems, StateCount, TransitionSize, TransitionOutOfRange, SymbolOutOfRange, TooManyLookaheads, LookaheadOutOfRange, EndCycle, Stalls}
+use Rattle.seg_data.specs.declared.provider.DataError.TheVariants.{RangeOrder, RangePast10FFFF, TableSize, ClassOutOfRange, StateOutOfRange, StartRowKeeps, ComplexItems, ComplexBelow0100, StateCount, TransitionSize, TransitionOutOfRange, SymbolOutOfRange, TooManyLookaheads, LookaheadOutOfRange, EndCycle, Stalls, MissingTailoring}
 use Rattle.seg_data.specs.declared.provider.Acceptance.{Acceptance}
 use Rattle.seg_data.specs.declared.provider.Acceptance.TheVariants.{Continue, Accept, Conditional}
+use Rattle.seg_data.specs.declared.provider.ComplexScript.{ComplexScript}
+use Rattle.seg_data.specs.declared.provider.ComplexScript.TheVariants.{None as NoScript}
 use Rattle.seg_data.specs.Table.{named_values}
-use Rattle.seg_data.specs.Machine.{Machine, IsSymbolOf, IsTextSymbol, symbol_count, walk}
+use Rattle.seg_data.specs.Machine.{Machine, IsSymbolOf, IsTextSymbol, tailored, symbol_and_script, symbol_count, walk}
 use Rattle.seg_data.specs.Pick.{HasStall}
 
 -- the number of a fault: of several, the lowest is answered
@@ -17,6 +19,7 @@ number_of ClassOutOfRange = 5
 number_of StateOutOfRange = 6
 number_of StartRowKeeps = 7
 number_of ComplexItems = 8
+number_of ComplexBelow0100 = 9
 number_of StateCount = 11
 number_of TransitionSize = 12
 number_of TransitionOutOfRange = 13
@@ -25,6 +28,7 @@ number_of TooManyLookaheads = 15
 number_of LookaheadOutOfRange = 16
 number_of EndCycle = 17
 number_of Stalls = 18
+number_of MissingTailoring = 19
 
 -- no fault is there
 abbrev pub IsFaultless : (DataError → Type 0) → Type 0
@@ -90,3 +94,18 @@ HasMachineFault m EndCycle = HasEndCycle m
 -- some text that isn't empty has no pick
 HasMachineFault m Stalls = HasStall m
 HasMachineFault m _ = ⊥
+
+-- the fault of a tailoring by itself
+abbrev pub HasOverrideFault : List (ℕ × ComplexScript) → DataError → Type 0
+-- an entry gives the symbol of the end
+HasOverrideFault map SymbolOutOfRange = Any (λ entry. entry.0 ≡ 0) map
+HasOverrideFault map _ = ⊥
+
+-- the fault of a tailoring, if there is one, with its machine: the machine that it makes gives stray symbols
+abbrev pub HasTailoringFault : Machine → Option (List (ℕ × ComplexScript)) → DataError → Type 0
+HasTailoringFault m (Some map) SymbolOutOfRange = HasMachineFault (tailored m (Some map)) SymbolOutOfRange
+HasTailoringFault m _ _ = ⊥
+
+-- a code point below U+0100 has a script, so that texts without dictionaries' scripts can't be told by their encoding
+abbrev pub HasComplexBelow0100 : Machine → Type 0
+HasComplexBelow0100 m = (code_point : ℕ) × (code_point < 0x100) × ((symbol_and_script m code_point).1 ≢ NoScript)

@@ -1,7 +1,9 @@
+pub mod Language
 pub mod Table
 pub mod Machine
 pub mod Pick
 pub mod Segments
+pub mod Restart
 pub mod Faults
 pub mod Checked
 pub mod Search
@@ -13,3 +15,4 @@ pub mod PairFaults
 pub mod SamePairs
 pub mod PairData
 pub mod Overriding
+pub mod Tailored

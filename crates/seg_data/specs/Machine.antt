@@ -28,6 +28,11 @@ machine symbols states transitions num_lookaheads shift map = record {
   pseudo_symbol_map = map;
 }
 
+-- the machine with a tailoring, if there is one: it takes the place of the map
+abbrev pub tailored : Machine → Option (List (ℕ × ComplexScript)) → Machine
+tailored m None = m
+tailored m (Some map) = record m { pseudo_symbol_map = map }
+
 -- the symbol and the script of a code point: the pseudo symbols, from the shift on, are entries of the map
 unfoldable pub symbol_and_script : Machine → ℕ → ℕ × ComplexScript
 symbol_and_script m code_point =

@@ -34,11 +34,11 @@ abbrev pub KeepsStart : PairTable → ℕ → Type 0
 KeepsStart t class = (entry_of t t.sot_property class ≢ Break) × (entry_of t t.sot_property class ≢ NoMatch)
 
 -- the faults of a pair table with an override, for texts in which no item may be complex
-abbrev pub HasOverrideFault : PairTable → Option Table → DataError → Type 0
+abbrev pub HasPairDataFault : PairTable → Option Table → DataError → Type 0
 -- a class that the override names isn't below the number of classes
-HasOverrideFault t overriding ClassOutOfRange = (class : ℕ) × Overrides overriding class × (t.property_count ≤ class)
+HasPairDataFault t overriding ClassOutOfRange = (class : ℕ) × Overrides overriding class × (t.property_count ≤ class)
 -- no boundary stands between the text's start and a class that the table or the override names
-HasOverrideFault t overriding StartRowKeeps = (class : ℕ) × Names t overriding class × KeepsStart t class
+HasPairDataFault t overriding StartRowKeeps = (class : ℕ) × Names t overriding class × KeepsStart t class
 -- the table or the override names the class of complex items
-HasOverrideFault t overriding ComplexItems = Names t overriding t.complex_property
-HasOverrideFault t overriding _ = ⊥
+HasPairDataFault t overriding ComplexItems = Names t overriding t.complex_property
+HasPairDataFault t overriding _ = ⊥

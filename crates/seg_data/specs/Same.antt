@@ -1,5 +1,5 @@
--- `==` of tables and of machines: each part is the same.
-use Rattle.std.specs.Prelude.{◌≡◌, ℕ, ◌==◌, ◌&&◌, Bool, true, false, Option, refl}
+-- `==` of tables, tailorings and machines: each part is the same.
+use Rattle.std.specs.Prelude.{◌≡◌, ℕ, ◌==◌, ◌&&◌, Bool, true, false, Option, List, refl}
 use Rattle.std.specs.Option.{option_eq}
 use Rattle.std.specs.Bool.{Decides}
 use Rattle.std.specs.Cmp.{IsPartialEquivalence, partial_equiv_from_equiv}
@@ -46,6 +46,10 @@ script_number Thai = 5
 abbrev pub same_entry : ℕ × ComplexScript → ℕ × ComplexScript → Bool
 same_entry a b = a.0 == b.0 && script_number a.1 == script_number b.1
 
+-- maps
+abbrev pub same_map : List (ℕ × ComplexScript) → List (ℕ × ComplexScript) → Bool
+same_map a b = pointwise same_entry a b
+
 -- machines
 abbrev pub same_machine : Machine → Machine → Bool
 same_machine a b =
@@ -54,7 +58,7 @@ same_machine a b =
     && pointwise ◌==◌ a.transitions b.transitions)
     && a.num_lookaheads == b.num_lookaheads)
     && a.pseudo_symbol_shift == b.pseudo_symbol_shift)
-    && pointwise same_entry a.pseudo_symbol_map b.pseudo_symbol_map
+    && same_map a.pseudo_symbol_map b.pseudo_symbol_map
 
 -- each says whether the two are equal
 
@@ -113,6 +117,9 @@ same_entry-decides a b =
     Decides-like (same_entry a b) (λ parts. ap (λ x. (x, a.1)) parts.0 ∙ ap (λ x. (b.0, x)) parts.1) (λ e. (ap (λ (s : ℕ × ComplexScript). s.0) e, ap (λ (s : ℕ × ComplexScript). s.1) e))
     (Decides-and _ _ (Decides-eqb a.0 b.0) (script-decides a.1 b.1))
 
+pub same_map-decides : (a b : List (ℕ × ComplexScript)) → Decides (same_map a b) (a ≡ b)
+same_map-decides a b = pointwise_decides same_entry-decides a b
+
 machine-parts : (a b : Machine)
     → ((((a.symbols ≡ b.symbols) × (a.states ≡ b.states)) × (a.transitions ≡ b.transitions)) × (a.num_lookaheads ≡ b.num_lookaheads)) × (a.pseudo_symbol_shift ≡ b.pseudo_symbol_shift)
     → a.pseudo_symbol_map ≡ b.pseudo_symbol_map → a ≡ b
@@ -134,7 +141,7 @@ same_machine-decides a b =
     (pointwise_decides Decides-eqb a.transitions b.transitions))
     (Decides-eqb a.num_lookaheads b.num_lookaheads))
     (Decides-eqb a.pseudo_symbol_shift b.pseudo_symbol_shift))
-    (pointwise_decides same_entry-decides a.pseudo_symbol_map b.pseudo_symbol_map))
+    (same_map-decides a.pseudo_symbol_map b.pseudo_symbol_map))
 
 -- what decides equality is an equivalence
 pub laws-from : {X : Type 0} (same : X → X → Bool) → ((a b : X) → Decides (same a b) (a ≡ b)) → IsPartialEquivalence same
@@ -146,6 +153,9 @@ laws-from same decides = partial_equiv_from_equiv (record {
 
 pub same_table-laws : IsPartialEquivalence same_table
 same_table-laws = laws-from same_table same_table-decides
+
+pub same_map-laws : IsPartialEquivalence same_map
+same_map-laws = laws-from same_map same_map-decides
 
 pub same_machine-laws : IsPartialEquivalence same_machine
 same_machine-laws = laws-from same_machine same_machine-decides

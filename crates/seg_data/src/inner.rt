@@ -1,126 +1,199 @@
-//! What the crates above need of data. Not part of the public surface.
-ghost use Rattle.std.specs.Prelude.{ℕ, ◌<◌};
-ghost use Rattle.seg_data.specs.Overriding.{table_in};
-ghost use Rattle.seg_data.specs.PairTable.{Overrides};
+//! What the crates above read of checked data. It isn't part of the library's surface.
+ghost use Rattle.std.specs.Prelude.{◌≡◌, ◌↔◌, ℕ, ◌<◌, IsTrue, IfOk, IfErr, IfSome, Some, length};
+ghost use Rattle.std.specs.Option.{option_map};
+ghost use Rattle.seg_data.specs.Checked.{HasTextSymbols, IsChecked};
+ghost use Rattle.seg_data.specs.Faults.{HasComplexBelow0100, HasTailoringFault, IsFaultless, IsLowestFault};
+ghost use Rattle.seg_data.specs.Machine.{IsTextSymbol, state_at, step, symbol_and_script, symbol_count, tailored};
 
-use crate::provider::pair_checks::{keeps_start_before, overrides, overrides_from};
-use crate::provider::{DataError, RuleBreakData, RuleBreakDataOverride};
+mod pairs;
 
-/// A pair table and the override that it is used with, if there is one. The classes that the
-/// override names are among the table's.
-#[derive(Clone, Copy, Debug)]
-pub struct PairData<'data> {
-    table: &'data RuleBreakData,
-    overriding: Option<&'data RuleBreakDataOverride>,
-    ghost fits: { (class : ℕ) → Overrides (table_in overriding) class → class < table.now.property_count },
+pub use pairs::{PairData, PairDataBorrowed};
+
+use crate::provider::{
+    Acceptance, ComplexScript, DataError, Lookahead, SegmenterStateMachine,
+    SegmenterStateMachineOverride, State, Symbol,
+};
+
+/// A checked machine with its tailoring, if there is one.
+#[derive(Debug, Drop)]
+pub struct TailoredMachine {
+    machine: SegmenterStateMachine,
+    tailoring: Option<SegmenterStateMachineOverride>,
+    ghost text_symbols: { HasTextSymbols (tailored machine tailoring) },
 }
 
-impl<'data> PairData<'data> {
-    ghost use Rattle.std.specs.Prelude.{◌≡◌, ◌<◌, ◌↔◌, IsTrue, IfOk, IfErr, IsOkAnd, None};
-    ghost use Rattle.seg_data.specs.declared.provider.DataError.TheVariants.{StartRowKeeps, ComplexItems, ClassOutOfRange};
-    ghost use Rattle.seg_data.specs.Faults.{IsFaultless, IsLowestFault};
-    ghost use Rattle.seg_data.specs.Overriding.{table_in};
-    ghost use Rattle.seg_data.specs.PairData.{pair_table_of, override_of, class_by};
-    ghost use Rattle.seg_data.specs.PairFaults.{HasOverrideFault};
-    ghost use Rattle.seg_data.specs.PairTable.{Names};
+impl TailoredMachine {
+    ghost use Rattle.seg_data.specs.Tailored.{machine_of, owned_machine};
 
-    /// A pair table without an override.
-    pub fn new(table: &'data RuleBreakData) -> Self
-        ensures table { pair_table_of result ≡ table.now }
-        ensures overriding { override_of result ≡ None }
+    /// The machine as it is.
+    pub fn untailored(machine: SegmenterStateMachine) -> Self
+        ensures { owned_machine result ≡ machine }
     {
-        PairData {
-            table,
-            overriding: None,
+        machine.check();
+        TailoredMachine {
+            machine,
+            tailoring: None,
         }
     }
 
-    /// A pair table with its override, if there is one. `ClassOutOfRange` where the override names
-    /// a class other than 0 that isn't below the number of classes.
+    /// The machine with its tailoring, if there is one. `SymbolOutOfRange` where they don't fit.
     pub fn try_new(
-        table: &'data RuleBreakData,
-        overriding: Option<&'data RuleBreakDataOverride>,
+        machine: SegmenterStateMachine,
+        tailoring: Option<SegmenterStateMachineOverride>,
     ) -> Result<Self, DataError>
-        ensures accepted { IfOk result (λ p. (pair_table_of p ≡ table.now) × (override_of p ≡ table_in overriding.entry)
-            × (HasOverrideFault table.now (table_in overriding.entry) ClassOutOfRange → ⊥)) }
-        ensures refused { IfErr result (λ fault. (fault ≡ ClassOutOfRange) × HasOverrideFault table.now (table_in overriding.entry) ClassOutOfRange) }
+        ensures accepted { IfOk result (λ t. (owned_machine t ≡ tailored machine tailoring) × IsFaultless (HasTailoringFault machine tailoring)) }
+        ensures refused { IfErr result (IsLowestFault (HasTailoringFault machine tailoring)) }
     {
-        table.check();
-        if overrides_from(overriding, table.property_count()) {
-            return Err(DataError::ClassOutOfRange);
-        }
-        Ok(PairData { table, overriding })
+        TailoredMachineBorrowed::try_new(&machine, tailoring.as_ref())?.check();
+        Ok(TailoredMachine { machine, tailoring })
     }
 
-    /// The same for texts in which no item may be complex: refused too are `StartRowKeeps`, where
-    /// no boundary stands between the text's start and some class of code points, and
-    /// `ComplexItems`, where some code points are complex; of several faults the lowest.
-    pub fn try_plain(
-        table: &'data RuleBreakData,
-        overriding: Option<&'data RuleBreakDataOverride>,
+    /// The same machine, lent.
+    pub fn as_borrowed(&self) -> TailoredMachineBorrowed<'_>
+        ensures { machine_of result ≡ owned_machine self.now }
+    {
+        TailoredMachineBorrowed {
+            machine: &self.machine,
+            pseudo_symbol_map: map_of(&self.machine, self.tailoring.as_ref()),
+        }
+    }
+}
+
+/// A checked machine, tailored or not, that is lent. It is what engines read, step by step.
+#[derive(Clone, Copy, Debug)]
+pub struct TailoredMachineBorrowed<'data> {
+    machine: &'data SegmenterStateMachine,
+    pseudo_symbol_map: &'data [(Symbol, ComplexScript)],
+    ghost text_symbols: { HasTextSymbols (tailored machine.now (Some pseudo_symbol_map.now)) },
+}
+
+impl<'data> TailoredMachineBorrowed<'data> {
+    ghost use Rattle.seg_data.specs.Tailored.{machine_of};
+
+    /// The machine as it is.
+    pub fn untailored(machine: &'data SegmenterStateMachine) -> Self
+        ensures { machine_of result ≡ machine.now }
+    {
+        machine.check();
+        TailoredMachineBorrowed {
+            machine,
+            pseudo_symbol_map: machine.pseudo_symbol_map(),
+        }
+    }
+
+    /// The machine with its tailoring, if there is one. `SymbolOutOfRange` where they don't fit.
+    pub fn try_new(
+        machine: &'data SegmenterStateMachine,
+        tailoring: Option<&'data SegmenterStateMachineOverride>,
     ) -> Result<Self, DataError>
-        ensures accepted { IfOk result (λ p. (pair_table_of p ≡ table.now) × (override_of p ≡ table_in overriding.entry)
-            × IsFaultless (HasOverrideFault table.now (table_in overriding.entry))) }
-        ensures refused { IfErr result (IsLowestFault (HasOverrideFault table.now (table_in overriding.entry))) }
+        ensures accepted { IfOk result (λ t. (machine_of t ≡ tailored machine.now (option_map (λ t. t.now) tailoring.entry))
+            × IsFaultless (HasTailoringFault machine.now (option_map (λ t. t.now) tailoring.entry))) }
+        ensures refused { IfErr result (IsLowestFault (HasTailoringFault machine.now (option_map (λ t. t.now) tailoring.entry))) }
     {
-        let pairs = PairData::try_new(table, overriding)?;
-        if pairs.keeps_start() {
-            return Err(DataError::StartRowKeeps);
-        }
-        if pairs.has_complex() {
-            return Err(DataError::ComplexItems);
-        }
-        Ok(pairs)
-    }
-
-    /// The pair table.
-    pub fn table(self) -> &'data RuleBreakData
-        ensures { result.now ≡ pair_table_of self.entry }
-    {
-        self.table
-    }
-
-    /// The class of a code point: that of the override where there is one and it isn't 0, or else
-    /// that of the table.
-    pub fn class(self, code_point: u32) -> u8
-        ensures value { result ≡ class_by self.entry code_point }
-        ensures below { result < (pair_table_of self.entry).property_count }
-    {
-        self.table.check();
-        let Some(classes) = self.overriding else {
-            return self.table.property_table().get32(code_point);
+        let Some(tailoring) = tailoring else {
+            return Ok(TailoredMachineBorrowed::untailored(machine));
         };
-        let class = classes.property_table_override().get32(code_point);
-        if class != 0 {
-            return class;
+        let pseudo_symbol_map = tailoring.pseudo_symbol_map();
+        if machine.has_stray_symbol(pseudo_symbol_map) {
+            return Err(DataError::SymbolOutOfRange);
         }
-        self.table.property_table().get32(code_point)
+        Ok(TailoredMachineBorrowed {
+            machine,
+            pseudo_symbol_map,
+        })
     }
 
-    /// Whether code points may have the class: the table or its override names it.
-    pub fn names(self, class: u8) -> bool
-        ensures { IsTrue result ↔ Names (pair_table_of self.entry) (override_of self.entry) class }
+    /// How many lookaheads there are.
+    pub fn num_lookaheads(&self) -> usize
+        ensures { result ≡ (machine_of self.now).num_lookaheads }
     {
-        self.table.property_table().names(class) || overrides(self.overriding, class)
+        self.machine.num_lookaheads()
     }
 
-    /// Whether no boundary stands between the text's start and some class of code points.
-    pub fn keeps_start(self) -> bool
-        ensures { IsTrue result ↔ HasOverrideFault (pair_table_of self.entry) (override_of self.entry) StartRowKeeps }
+    /// The symbol of a code point.
+    pub fn symbol(&self, code_point: u32) -> Symbol
+        ensures value { result ≡ (symbol_and_script (machine_of self.now) code_point).0 }
+        ensures text { IsTextSymbol (machine_of self.now) result }
     {
-        self.table.check();
-        for class in 0..self.table.property_count() {
-            if keeps_start_before(self.table, class) && self.names(class) {
-                return true;
-            }
+        let value = self.machine.symbols().get32(code_point);
+        let shift = self.machine.pseudo_symbol_shift();
+        if value < shift {
+            value
+        } else {
+            self.pseudo_symbol_map[(value - shift) as usize].0
         }
-        false
     }
 
-    /// Whether some code points are complex.
-    pub fn has_complex(self) -> bool
-        ensures { IsTrue result ↔ HasOverrideFault (pair_table_of self.entry) (override_of self.entry) ComplexItems }
+    /// The state that a symbol leads to from a state, or `None` where it leads to none.
+    pub fn next_state(&self, state: State, symbol: Symbol) -> Option<State>
+        requires state { state < length (machine_of self.now).states }
+        requires symbol { symbol < symbol_count (machine_of self.now) }
+        ensures value { result ≡ step (machine_of self.now) state symbol }
+        ensures state { IfSome result (λ next. next < length (machine_of self.now).states) }
     {
-        self.names(self.table.complex_property())
+        self.machine.next_state(state, symbol)
+    }
+
+    /// What a state accepts, and the lookahead that it names.
+    pub fn entry(&self, state: State) -> (Acceptance, Option<Lookahead>)
+        requires { state < length (machine_of self.now).states }
+        ensures { result ≡ state_at (machine_of self.now) state }
+    {
+        self.machine.states()[state as usize]
+    }
+
+    /// Does nothing. Its contract tells what holds of each machine.
+    pub fn check(&self)
+        ensures { IsChecked (machine_of self.now) }
+    {
+        self.machine.check();
+    }
+}
+
+/// Whether a code point below U+0100 has a script, by the machine with its tailoring, if there is one.
+pub fn has_complex_below_0100(
+    machine: &SegmenterStateMachine,
+    tailoring: Option<&SegmenterStateMachineOverride>,
+) -> bool
+    ensures { IsTrue result ↔ HasComplexBelow0100 (tailored machine.now (option_map (λ t. t.now) tailoring.entry)) }
+{
+    let pseudo_symbol_map = map_of(machine, tailoring);
+    for code_point in 0..0x100u32 {
+        if script_of(machine, pseudo_symbol_map, code_point) != ComplexScript::None {
+            return true;
+        }
+    }
+    false
+}
+
+// The map of the machine with its tailoring, if there is one.
+fn map_of<'data>(
+    machine: &'data SegmenterStateMachine,
+    tailoring: Option<&'data SegmenterStateMachineOverride>,
+) -> &'data [(Symbol, ComplexScript)]
+    ensures { tailored machine.now (Some result.now) ≡ tailored machine.now (option_map (λ t. t.now) tailoring.entry) }
+{
+    match tailoring {
+        Some(tailoring) => tailoring.pseudo_symbol_map(),
+        None => machine.pseudo_symbol_map(),
+    }
+}
+
+// The script of a code point by the machine with this map, which may lack the code point's entry.
+fn script_of(
+    machine: &SegmenterStateMachine,
+    pseudo_symbol_map: &[(Symbol, ComplexScript)],
+    code_point: u32,
+) -> ComplexScript
+    ensures { result ≡ (symbol_and_script (tailored machine.now (Some pseudo_symbol_map.now)) code_point).1 }
+{
+    let value = machine.symbols().get32(code_point);
+    let shift = machine.pseudo_symbol_shift();
+    if value < shift {
+        return ComplexScript::None;
+    }
+    match pseudo_symbol_map.get((value - shift) as usize) {
+        Some(entry) => entry.1,
+        None => ComplexScript::None,
     }
 }

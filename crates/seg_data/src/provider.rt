@@ -5,17 +5,21 @@ ghost use Rattle.seg_data.specs.Unaligned.{HasByte, acceptance_of, byte_of};
 
 mod checks;
 mod cycles;
+mod language;
 mod machine;
 pub(crate) mod pair_checks;
 mod pairs;
 mod stalls;
 mod table;
+mod tailoring;
 #[cfg(test)]
 mod tests;
 
+pub use language::LanguageIdentifier;
 pub use machine::SegmenterStateMachine;
 pub use pairs::{BreakState, RuleBreakData, RuleBreakDataOverride};
 pub use table::ClassTable;
+pub use tailoring::SegmenterStateMachineOverride;
 use thiserror::Error;
 
 /// The script of a run of text whose words only a dictionary or a model can tell apart.
@@ -116,6 +120,9 @@ pub enum DataError {
     /// 8: code points have the class of complex items, which these segmenters don't take.
     #[error("8 ComplexItems: the class of complex items is one that the table or its override names")]
     ComplexItems,
+    /// 9: a code point below U+0100, which also Latin-1 has, has a script.
+    #[error("9 ComplexBelow0100: a code point below U+0100 has a script")]
+    ComplexBelow0100,
     /// 11: there is no state, or there are more than 255.
     #[error("11 StateCount: a machine has 1 to 255 states")]
     StateCount,
@@ -142,6 +149,9 @@ pub enum DataError {
     /// no condition that holds.
     #[error("18 Stalls: the scan of some text accepts nothing, and no condition holds in it")]
     Stalls,
+    /// 19: the tailoring that the options of lines name wasn't handed in.
+    #[error("19 MissingTailoring: the tailoring that the options name is not there")]
+    MissingTailoring,
 }
 
 impl DataError {
@@ -157,6 +167,7 @@ impl DataError {
             DataError::StateOutOfRange => 6,
             DataError::StartRowKeeps => 7,
             DataError::ComplexItems => 8,
+            DataError::ComplexBelow0100 => 9,
             DataError::StateCount => 11,
             DataError::TransitionSize => 12,
             DataError::TransitionOutOfRange => 13,
@@ -165,6 +176,7 @@ impl DataError {
             DataError::LookaheadOutOfRange => 16,
             DataError::EndCycle => 17,
             DataError::Stalls => 18,
+            DataError::MissingTailoring => 19,
         }
     }
 }

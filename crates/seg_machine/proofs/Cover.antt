@@ -1,5 +1,5 @@
 -- The boundaries of a text rise strictly from its start to its end.
-use Rattle.std.proofs.Common.{◌≢◌, ℕ, zero, suc, ◌<◌, ◌≤◌, List, [], ◌∷◌, map, drop, refl, sym, subst, arith}
+use Rattle.std.proofs.Common.{◌≡◌, ◌≢◌, ℕ, zero, suc, ◌<◌, ◌≤◌, List, [], ◌∷◌, map, drop, refl, sym, subst, arith}
 use Rattle.seg_data.specs.Machine.{Machine, symbols_of}
 use Rattle.seg_data.specs.Checked.{IsChecked}
 use Rattle.seg_data.proofs.Picks.{pick-bounds}
@@ -35,3 +35,7 @@ cover m checked items end rising = (refl, rises m (segments m (symbols_of m (cod
 pub segmented : (m : Machine) → IsChecked m → (items : List (ℕ × ℕ)) (end : ℕ) → IsSegmented m items end (boundaries m items end)
 unfolding boundaries
 segmented m checked items end = (segments m (symbols_of m (code_points items)), segmentation m checked items, refl)
+
+-- a whole text begins at 0, and ends after all of its units
+pub cover-text : (start end units : ℕ) (places : List ℕ) → start ≡ 0 → end ≡ units → IsCover start end places → IsCover 0 units places
+cover-text start end units places begins ends cover = rw (begins, ends) at cover

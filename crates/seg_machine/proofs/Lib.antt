@@ -5,3 +5,4 @@ pub mod Cover
 pub mod Engine
 pub mod Law
 pub mod Rows
+pub mod Ordinals

@@ -5,6 +5,10 @@ pub use Rattle.seg_text.specs.Places.{placed, places, RisesTo, IsCover}
 use Rattle.seg_data.specs.Machine.{Machine, symbols_of}
 use Rattle.seg_data.specs.Segments.{IsSegmentation, segments, ends_from, machine_boundaries}
 
+-- the boundaries of a list of code points, counted in code points
+abbrev pub ordinals : Machine → List ℕ → List ℕ
+ordinals m code_points = places (machine_boundaries m code_points)
+
 -- the boundaries of a text with their statuses: the places of the boundaries of its code points
 unfoldable pub boundaries : Machine → List (ℕ × ℕ) → ℕ → List (ℕ × ℕ)
 boundaries m items end = map (placed items end) (machine_boundaries m (code_points items))

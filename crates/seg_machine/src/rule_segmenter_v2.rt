@@ -3,15 +3,16 @@
 ghost use Rattle.std.specs.Prelude.{◌≡◌, ◌≢◌, ◌<◌, ◌≤◌, ⊤, ℕ, None, IsNone, [], ◌∷◌, drop, length, replicate};
 ghost use Rattle.std.specs.Option.{option_map, option_map_or};
 ghost use Rattle.std.specs.Iterator.{YieldsFirst, MakesProgress, item_count};
-ghost use Rattle.seg_text.specs.Items.{code_points};
+ghost use Rattle.seg_text.specs.Items.{code_points, place_of};
 ghost use Rattle.seg_data.specs.Faults.{NamesPast};
 ghost use Rattle.seg_data.specs.Machine.{step, symbol_count, symbols_of};
 ghost use Rattle.seg_data.specs.Pick.{pick};
-ghost use Rattle.seg_text.specs.Items.{place_of};
+ghost use Rattle.seg_data.specs.Tailored.{machine_of};
 ghost use Rattle.seg_machine.specs.Boundaries.{placed, boundaries, places_left, GivesNext, IsSegmented, IsCover};
 ghost use Rattle.seg_machine.specs.Scan.{accept_at, future, held, keep_at};
 
 use arrayvec::ArrayVec;
+use seg_data::inner::TailoredMachineBorrowed;
 use seg_data::provider::{Acceptance, Lookahead, SegmenterStateMachine, Symbol};
 use seg_text::inner::Cursor;
 use std::marker::Model;
@@ -21,7 +22,7 @@ use std::marker::Model;
 /// Each segment is the pick of the machine for what is left of the text.
 #[derive(Drop)]
 pub struct RuleBreakIterator<'data, I: Cursor> {
-    machine: &'data SegmenterStateMachine,
+    machine: TailoredMachineBorrowed<'data>,
     rest: I,
     started: bool,
     status: u8,
@@ -29,20 +30,21 @@ pub struct RuleBreakIterator<'data, I: Cursor> {
 
 impl<'data, I: Cursor> Model for RuleBreakIterator<'data, I> {
     ghost use Rattle.std.specs.Prelude.{◌≡◌, false};
+    ghost use Rattle.seg_data.specs.Tailored.{machine_of};
     ghost use Rattle.seg_machine.specs.Boundaries.{Coming, coming};
 
     ghost Value = { Coming };
 
-    ghost view = { λ s. coming s.started s.machine.now (I.left s.rest) (I.end s.rest) s.status };
+    ghost view = { λ s. coming s.started (machine_of s.machine) (I.left s.rest) (I.end s.rest) s.status };
 
     ghost invariant = { λ s. s.started ≡ false → s.status ≡ 0 };
 }
 
 impl<'data, I: Cursor> RuleBreakIterator<'data, I> {
     /// The boundaries of what is left of `text`. Takes no memory.
-    pub fn new(machine: &'data SegmenterStateMachine, text: I) -> Self
-        ensures left { result.left ≡ boundaries machine.now (I.left text) (I.end text) }
-        ensures segments { IsSegmented machine.now (I.left text) (I.end text) result.left }
+    pub fn new(machine: TailoredMachineBorrowed<'data>, text: I) -> Self
+        ensures left { result.left ≡ boundaries (machine_of machine.entry) (I.left text) (I.end text) }
+        ensures segments { IsSegmented (machine_of machine.entry) (I.left text) (I.end text) result.left }
         ensures cover { IsCover (place_of (I.left text) (I.end text)) (I.end text) (places_left result) }
         ensures status { result.status ≡ 0 }
     {
@@ -82,15 +84,15 @@ impl<'data, I: Cursor> Iterator for RuleBreakIterator<'data, I> {
             self.status = 0;
             return None;
         }
-        self.status = next_segment(self.machine, &mut self.rest);
+        self.status = next_segment(&self.machine, &mut self.rest);
         Some(self.rest.place())
     }
 }
 
 /// Goes on to the end of the next segment, and gives its status.
-fn next_segment<I: Cursor>(machine: &SegmenterStateMachine, rest: &mut I) -> u8
+fn next_segment<I: Cursor>(machine: &TailoredMachineBorrowed<'_>, rest: &mut I) -> u8
     requires { I.left rest.old ≢ [] }
-    ensures left { (n : ℕ) × (pick machine.now (symbols_of machine.now (code_points (I.left rest.old))) ≡ Some (n, result))
+    ensures left { (n : ℕ) × (pick (machine_of machine.now) (symbols_of (machine_of machine.now) (code_points (I.left rest.old))) ≡ Some (n, result))
         × (I.left rest.new ≡ drop n (I.left rest.old)) }
     ensures end { I.end rest.new ≡ I.end rest.old }
 {
@@ -103,9 +105,9 @@ fn next_segment<I: Cursor>(machine: &SegmenterStateMachine, rest: &mut I) -> u8
 }
 
 /// The pick of what is left of a text, as the place of the segment's end and its status.
-fn scan<I: Cursor>(machine: &SegmenterStateMachine, rest: &I) -> Option<(usize, u8)>
+fn scan<I: Cursor>(machine: &TailoredMachineBorrowed<'_>, rest: &I) -> Option<(usize, u8)>
     ensures { result ≡ option_map (placed (I.left rest.now) (I.end rest.now))
-        (pick machine.now (symbols_of machine.now (code_points (I.left rest.now)))) }
+        (pick (machine_of machine.now) (symbols_of (machine_of machine.now) (code_points (I.left rest.now)))) }
 {
     machine.check();
     let mut iter = rest.fork();
@@ -126,11 +128,11 @@ fn scan<I: Cursor>(machine: &SegmenterStateMachine, rest: &I) -> Option<(usize, 
 }
 
 /// The symbol of the next item; after the last one that of the end, as often as it is asked for.
-fn next_symbol<I: Cursor>(machine: &SegmenterStateMachine, iter: &mut I) -> Symbol
-    ensures symbol { result < symbol_count machine.now }
-    ensures future { (state : ℕ) → state < length machine.now.states
-        → future machine.now state (I.left iter.old)
-        ≡ option_map_or (λ next. next ∷ future machine.now next (I.left iter.new)) (step machine.now state result) [] }
+fn next_symbol<I: Cursor>(machine: &TailoredMachineBorrowed<'_>, iter: &mut I) -> Symbol
+    ensures symbol { result < symbol_count (machine_of machine.now) }
+    ensures future { (state : ℕ) → state < length (machine_of machine.now).states
+        → future (machine_of machine.now) state (I.left iter.old)
+        ≡ option_map_or (λ next. next ∷ future (machine_of machine.now) next (I.left iter.new)) (step (machine_of machine.now) state result) [] }
     ensures left { I.left iter.new ≡ drop 1 (I.left iter.old) }
     ensures end { I.end iter.new ≡ I.end iter.old }
 {

@@ -5,7 +5,7 @@ use Rattle.std.proofs.lemmas.List.{drop-drop, drop-map, length-map}
 use Rattle.seg_text.specs.Items.{place_of, code_points, IsRising}
 use Rattle.seg_text.specs.Places.{placed, places, RisesTo, IsCover}
 use Rattle.seg_text.proofs.Places.{IsRising-drop, place_of-drop-lt}
-use Rattle.seg_data.specs.declared.inner.PairData.{PairData}
+use Rattle.seg_data.specs.declared.inner.pairs.PairDataBorrowed.{PairDataBorrowed}
 use Rattle.seg_data.specs.PairData.{pair_table_of, override_of, class_by}
 use Rattle.seg_data.specs.PairTable.{PairTable, class_of}
 use Rattle.seg_data.specs.Segments.{ends_from}
@@ -83,15 +83,15 @@ module _ {X Y : Type 0} (v : List Y → Verdict) (f : X → Y) where
 
 -- items as elements
 
-pub classes-of : (pairs : PairData) (items : List (ℕ × ℕ)) → classes_of (elements_of pairs items) ≡ classes_by (pair_table_of pairs) (override_of pairs) (code_points items)
+pub classes-of : (pairs : PairDataBorrowed) (items : List (ℕ × ℕ)) → classes_of (elements_of pairs items) ≡ classes_by (pair_table_of pairs) (override_of pairs) (code_points items)
 classes-of pairs [] = refl
 classes-of pairs (item ∷ items) = ap (λ classes. class_by pairs item.1 ∷ classes) (classes-of pairs items)
 
-place-of : (pairs : PairData) (items : List (ℕ × ℕ)) (end : ℕ) → place_at (elements_of pairs items) end ≡ place_of items end
+place-of : (pairs : PairDataBorrowed) (items : List (ℕ × ℕ)) (end : ℕ) → place_at (elements_of pairs items) end ≡ place_of items end
 place-of pairs [] end = refl
 place-of pairs (item ∷ items) end = refl
 
-placed-same : (pairs : PairData) (items : List (ℕ × ℕ)) (end : ℕ) (counted : List (ℕ × ℕ)) → map (element_placed (elements_of pairs items) end) counted ≡ map (placed items end) counted
+placed-same : (pairs : PairDataBorrowed) (items : List (ℕ × ℕ)) (end : ℕ) (counted : List (ℕ × ℕ)) → map (element_placed (elements_of pairs items) end) counted ≡ map (placed items end) counted
 placed-same pairs items end [] = refl
 placed-same pairs items end ((n, class) ∷ counted) =
     let here : place_at (drop n (elements_of pairs items)) end ≡ place_of (drop n items) end =
@@ -99,7 +99,7 @@ placed-same pairs items end ((n, class) ∷ counted) =
     ap (λ (p : ℕ). (p, class) ∷ map (element_placed (elements_of pairs items) end) counted) here
     ∙ ap (λ (rest : List (ℕ × ℕ)). (place_of (drop n items) end, class) ∷ rest) (placed-same pairs items end counted)
 
-pub start-left : (pairs : PairData) (items : List (ℕ × ℕ)) (end : ℕ)
+pub start-left : (pairs : PairDataBorrowed) (items : List (ℕ × ℕ)) (end : ℕ)
     → (place_at (elements_of pairs items) end, 0) ∷ break_ends (pair_table_of pairs) (elements_of pairs items) end
     ≡ table_boundaries (pair_table_of pairs) (override_of pairs) items end
 unfolding break_ends table_boundaries

@@ -5,7 +5,7 @@ use Rattle.std.specs.Iterator.{YieldsFirst, MakesProgress, item_count}
 use Rattle.seg_text.proofs.Cursor.{fewer-left}
 use Rattle.seg_text.specs.Items.{place_of, IsRising}
 use Rattle.seg_text.specs.Places.{IsCover, places}
-use Rattle.seg_data.specs.declared.inner.PairData.{PairData}
+use Rattle.seg_data.specs.declared.inner.pairs.PairDataBorrowed.{PairDataBorrowed}
 use Rattle.seg_data.specs.PairData.{pair_table_of, override_of}
 use Rattle.seg_data.specs.PairTable.{PairTable}
 use Rattle.seg_pairs.specs.declared.elements.Element.{Element}
@@ -26,23 +26,23 @@ pub read-onto : {S : Type 0} (left : S → List Element) (s : S) (first : Option
 read-onto left s None t gives = gives.0 ∙ sym gives.1
 read-onto left s (Some first) t gives = gives
 
-pub none-left : (pairs : PairData) (items : List (ℕ × ℕ)) → elements_of pairs items ≡ [] → items ≡ []
+pub none-left : (pairs : PairDataBorrowed) (items : List (ℕ × ℕ)) → elements_of pairs items ≡ [] → items ≡ []
 none-left pairs [] none = refl
 none-left pairs (item ∷ items) none = cc
 
 -- a new engine
 
-pub new-left : (pairs : PairData) (items : List (ℕ × ℕ)) (end : ℕ) (t : PairTable) (elements : List Element) (after : ℕ)
+pub new-left : (pairs : PairDataBorrowed) (items : List (ℕ × ℕ)) (end : ℕ) (t : PairTable) (elements : List Element) (after : ℕ)
     → t ≡ pair_table_of pairs → after ≡ end → elements_of pairs items ≡ elements
     → (place_at elements after, 0) ∷ break_ends t elements after ≡ table_boundaries (pair_table_of pairs) (override_of pairs) items end
 new-left pairs items end t elements after same stays is =
     rw (same, stays) (rw (← is) (start-left pairs items end))
 
-pub new-broken : (pairs : PairData) (items : List (ℕ × ℕ)) (end : ℕ) (left : List (ℕ × ℕ)) → left ≡ table_boundaries (pair_table_of pairs) (override_of pairs) items end
+pub new-broken : (pairs : PairDataBorrowed) (items : List (ℕ × ℕ)) (end : ℕ) (left : List (ℕ × ℕ)) → left ≡ table_boundaries (pair_table_of pairs) (override_of pairs) items end
     → IsBroken (pair_table_of pairs) (override_of pairs) items end left
 new-broken pairs items end left is = subst (IsBroken (pair_table_of pairs) (override_of pairs) items end) (sym is) (broken (pair_table_of pairs) (override_of pairs) items end)
 
-pub new-cover : (pairs : PairData) (items : List (ℕ × ℕ)) (end : ℕ) (left : List (ℕ × ℕ)) → left ≡ table_boundaries (pair_table_of pairs) (override_of pairs) items end
+pub new-cover : (pairs : PairDataBorrowed) (items : List (ℕ × ℕ)) (end : ℕ) (left : List (ℕ × ℕ)) → left ≡ table_boundaries (pair_table_of pairs) (override_of pairs) items end
     → IsRising items end → IsCover (place_of items end) end (places left)
 new-cover pairs items end left is rising = subst (λ (left : List (ℕ × ℕ)). IsCover (place_of items end) end (places left)) (sym is) (cover (pair_table_of pairs) (override_of pairs) items end rising)
 
@@ -102,7 +102,7 @@ below-of t u v next same equal below =
     let Below : PairTable → Type 0 = λ t. IfSome next (λ next. next.class < t.property_count) in
     subst Below (same ∙ sym equal) below
 
-pub new-empty : (whole : List Element) (first : Option Element) (pairs : PairData) (items : List (ℕ × ℕ))
+pub new-empty : (whole : List Element) (first : Option Element) (pairs : PairDataBorrowed) (items : List (ℕ × ℕ))
     → YieldsFirst (λ (elements : List Element). elements) whole first (elements_of pairs items) → first ≡ None → items ≡ []
 new-empty whole None pairs items gives none = none-left pairs items gives.1
 new-empty whole (Some first) pairs items gives none = cc

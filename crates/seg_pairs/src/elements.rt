@@ -4,7 +4,7 @@ ghost use Rattle.std.specs.Prelude.{◌≡◌, ℕ, ◌<◌, List, IfSome};
 ghost use Rattle.std.specs.Iterator.{YieldsFirst};
 ghost use Rattle.seg_data.specs.PairTable.{PairTable};
 
-use seg_data::inner::PairData;
+use seg_data::inner::PairDataBorrowed;
 use seg_text::inner::Cursor;
 
 /// An element of a text: an item, or a base with the marks after it.
@@ -50,7 +50,7 @@ pub trait Elements: Drop {
 #[derive(Drop)]
 pub struct Items<'data, I: Cursor> {
     /// What the classes are by.
-    pub pairs: PairData<'data>,
+    pub pairs: PairDataBorrowed<'data>,
     /// The items that aren't read yet.
     pub cursor: I,
 }

@@ -11,7 +11,7 @@ ghost use Rattle.seg_pairs.specs.Items.{elements_of};
 
 use crate::elements::{Element, Elements, Items};
 use crate::rules::{Outcome, Pairs, next_break};
-use seg_data::inner::PairData;
+use seg_data::inner::PairDataBorrowed;
 use seg_text::inner::Cursor;
 use std::marker::Model;
 
@@ -45,7 +45,7 @@ impl<'data, I: Cursor> Model for RuleBreakIterator<'data, I> {
 
 impl<'data, I: Cursor> RuleBreakIterator<'data, I> {
     /// The boundaries of what is left of `text`. Takes no memory.
-    pub fn new(pairs: PairData<'data>, text: I) -> Self
+    pub fn new(pairs: PairDataBorrowed<'data>, text: I) -> Self
         ensures left { result.left ≡ table_boundaries (pair_table_of pairs.entry) (override_of pairs.entry) (I.left text) (I.end text) }
         ensures breaks { IsBroken (pair_table_of pairs.entry) (override_of pairs.entry) (I.left text) (I.end text) result.left }
         ensures cover { IsCover (place_of (I.left text) (I.end text)) (I.end text) (places_coming result) }

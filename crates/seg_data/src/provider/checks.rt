@@ -1,5 +1,5 @@
 //! What a machine's parts are checked for.
-ghost use Rattle.std.specs.Prelude.{◌≡◌, ◌≢◌, ℕ, ◌+◌, ◌*◌, ◌/◌, ◌<◌, ◌≤◌, ◌↔◌, ◌⊎◌, Any, IsTrue, IfErr, IsSomeAnd, OnOk};
+ghost use Rattle.std.specs.Prelude.{◌≡◌, ◌≢◌, ℕ, ◌+◌, ◌*◌, ◌/◌, ◌<◌, ◌≤◌, ◌↔◌, ◌⊎◌, Any, IsTrue, IfErr, IsSomeAnd, OnOk, length};
 ghost use Rattle.seg_data.specs.Faults.{HasMachineFault, IsConditionPast, IsFaultless, IsLowestFault, IsStray, NamesPast};
 ghost use Rattle.seg_data.specs.Machine.{IsSymbolOf, machine};
 ghost use Rattle.seg_data.specs.Table.{named_values};
@@ -38,7 +38,7 @@ pub(super) fn check_parts(
         return Err(DataError::TransitionOutOfRange);
     }
     let count = transitions.len() / states.len();
-    if has_stray_value(symbols, count, shift, map.len()) || has_stray_entry(map, count) {
+    if has_stray_symbol(symbols, count, shift, map) {
         return Err(DataError::SymbolOutOfRange);
     }
     if num_lookaheads > MAX_LOOKAHEADS {
@@ -71,6 +71,19 @@ fn leads_past(transitions: &[State], states: usize) -> bool
 {
     transitions.iter().any(|next| *next != SegmenterStateMachine::TRASH_STATE
         && states <= *next as usize)
+}
+
+// Whether a value of the table, or an entry of the map, gives no symbol of a text.
+pub(super) fn has_stray_symbol(
+    symbols: &ClassTable,
+    count: usize,
+    shift: u8,
+    map: &[(Symbol, ComplexScript)],
+) -> bool
+    ensures { IsTrue result ↔ (Any (IsStray count shift (length map.now)) (named_values symbols.now)
+        ⊎ Any (λ entry. IsSymbolOf count entry.0 → ⊥) map.now) }
+{
+    has_stray_value(symbols, count, shift, map.len()) || has_stray_entry(map, count)
 }
 
 // Whether a value of the table gives no symbol of a text.

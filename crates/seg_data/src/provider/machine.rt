@@ -1,12 +1,14 @@
 //! State machines over the symbols of code points.
 ghost use Rattle.std.specs.Prelude.{◌≡◌, ℕ, ◌<◌, ◌↔◌, IsTrue, IfOk, IfErr, IfSome, length};
 ghost use Rattle.seg_data.specs.Checked.{IsChecked};
+ghost use Rattle.seg_data.specs.declared.provider.DataError.TheVariants.{SymbolOutOfRange};
 ghost use Rattle.seg_data.specs.Faults.{HasMachineFault, IsFaultless, IsLowestFault};
-ghost use Rattle.seg_data.specs.Machine.{IsTextSymbol, machine, state_at, step, symbol_and_script, symbol_count};
+ghost use Rattle.seg_data.specs.Machine.{machine, step, symbol_count, tailored};
 ghost use Rattle.seg_data.specs.Pick.{IsStallFree};
 ghost use Rattle.seg_data.specs.Same.{same_machine, same_machine-laws};
 
-use crate::provider::checks::check_parts;
+use crate::provider::checks::{check_parts, has_stray_symbol};
+use crate::provider::cycles::next_of;
 use crate::provider::{Acceptance, ClassTable, ComplexScript, DataError, Lookahead, State, Symbol};
 use std::marker::Model;
 
@@ -123,43 +125,28 @@ impl SegmenterStateMachine {
     }
 }
 
-// What engines read of a machine, step by step.
+// What is read of a machine whatever its map is.
 impl SegmenterStateMachine {
-    /// The symbol of a code point.
-    pub fn symbol(&self, code_point: u32) -> Symbol
-        ensures value { result ≡ (symbol_and_script self.now code_point).0 }
-        ensures text { IsTextSymbol self.now result }
-    {
-        let value = self.symbols.get32(code_point);
-        if value < self.pseudo_symbol_shift {
-            value
-        } else {
-            let place = (value - self.pseudo_symbol_shift) as usize;
-            self.pseudo_symbol_map[place].0
-        }
-    }
-
     /// The state that a symbol leads to from a state, or `None` where it leads to none.
-    pub fn next_state(&self, state: State, symbol: Symbol) -> Option<State>
+    pub(crate) fn next_state(&self, state: State, symbol: Symbol) -> Option<State>
         requires state { state < length self.now.states }
         requires symbol { symbol < symbol_count self.now }
         ensures value { result ≡ step self.now state symbol }
         ensures state { IfSome result (λ next. next < length self.now.states) }
     {
-        let next = self.transitions[state as usize + symbol as usize * self.states.len()];
-        if next == SegmenterStateMachine::TRASH_STATE {
-            None
-        } else {
-            Some(next)
-        }
+        self.check();
+        next_of(self.states(), self.transitions(), state, symbol as usize)
     }
 
-    /// What a state accepts, and the lookahead that it names.
-    pub fn entry(&self, state: State) -> (Acceptance, Option<Lookahead>)
-        requires { state < length self.now.states }
-        ensures { result ≡ state_at self.now state }
+    // Whether the machine with this map in the place of its own has a value that gives no symbol
+    // of a text, or an entry of the map gives none.
+    pub(crate) fn has_stray_symbol(&self, pseudo_symbol_map: &[(Symbol, ComplexScript)]) -> bool
+        ensures { IsTrue result ↔ HasMachineFault (tailored self.now (Some pseudo_symbol_map.now)) SymbolOutOfRange }
     {
-        self.states[state as usize]
+        self.check();
+        let count = self.transitions().len() / self.states().len();
+        let shift = self.pseudo_symbol_shift();
+        has_stray_symbol(self.symbols(), count, shift, pseudo_symbol_map)
     }
 
     /// Does nothing. Its contract tells what holds of each machine.

@@ -1,7 +1,8 @@
+use crate::inner::{TailoredMachine, TailoredMachineBorrowed, has_complex_below_0100};
 use crate::laws::segments_are_one;
 use crate::provider::{
-    Acceptance, ClassTable, ComplexScript, DataError, Lookahead, SegmenterStateMachine, State,
-    Symbol,
+    Acceptance, ClassTable, ComplexScript, DataError, Lookahead, SegmenterStateMachine,
+    SegmenterStateMachineOverride, State, Symbol,
 };
 use std::alloc::Global;
 use std::test::Fail;
@@ -352,14 +353,75 @@ fn reads_parts(rt: HostRuntime) -> Result<(), Fail> {
     assert_eq!(rt; made.pseudo_symbol_map().len(), 1);
     segments_are_one(&made);
     made.check();
+    let read = TailoredMachineBorrowed::untailored(&made);
+    read.check();
     for (code_point, symbol, next) in [(97, 1, 1), (99, 2, 4), (100, 3, 4), (0xE01, 3, 4)] {
-        let given = made.symbol(code_point);
+        let given = read.symbol(code_point);
         assert_eq!(rt; given, symbol);
         assert_eq!(rt;
-            made.next_state(SegmenterStateMachine::START_STATE, given),
+            read.next_state(SegmenterStateMachine::START_STATE, given),
             Some(next)
         );
     }
-    assert_eq!(rt; made.entry(SegmenterStateMachine::START_STATE), GO);
+    assert_eq!(rt; read.entry(SegmenterStateMachine::START_STATE), GO);
+    assert_eq!(rt; read.num_lookaheads(), 0);
+    Ok(())
+}
+
+// A tailoring by this map, or what is wrong with it.
+fn tailoring(
+    alloc: Global,
+    map: &[(Symbol, ComplexScript)],
+) -> Result<Result<SegmenterStateMachineOverride, DataError>, Fail> {
+    Ok(SegmenterStateMachineOverride::try_from_parts(Vec::from_slice(alloc, map)?))
+}
+
+#[test]
+fn a_tailoring_takes_the_place_of_the_map(rt: HostRuntime) -> Result<(), Fail> {
+    let alloc = rt.alloc();
+    // e-acute has pseudo symbol 5, which is as 'd' without the tailoring, and as 'a' with it.
+    let ranges = [(97, 97, 1), (99, 99, 2), (0xE9, 0xE9, 5)];
+    let map = [(3, ComplexScript::None)];
+    let made = machine(alloc, &ranges, &STATES, &TRANSITIONS, 0, 5, &map)??;
+    let as_a = tailoring(alloc, &[(1, ComplexScript::Thai)])??;
+    assert!(rt; as_a == as_a);
+    assert_eq!(rt; as_a.pseudo_symbol_map().len(), 1);
+    assert_eq!(rt;
+        TailoredMachineBorrowed::try_new(&made, None)?.symbol(0xE9),
+        3
+    );
+    assert_eq!(rt;
+        TailoredMachineBorrowed::try_new(&made, Some(&as_a))?.symbol(0xE9),
+        1
+    );
+    assert!(rt; !has_complex_below_0100(&made, None));
+    assert!(rt; has_complex_below_0100(&made, Some(&as_a)));
+    let owned = TailoredMachine::try_new(made, Some(as_a))?;
+    assert_eq!(rt; owned.as_borrowed().symbol(0xE9), 1);
+    Ok(())
+}
+
+#[test]
+fn a_tailoring_that_does_not_fit_is_refused(rt: HostRuntime) -> Result<(), Fail> {
+    let alloc = rt.alloc();
+    let ranges = [(97, 97, 1), (99, 99, 2), (0xE9, 0xE9, 5)];
+    let made = machine(
+        alloc,
+        &ranges,
+        &STATES,
+        &TRANSITIONS,
+        0,
+        5,
+        &[(3, ComplexScript::None)],
+    )??;
+    let end = tailoring(alloc, &[(0, ComplexScript::None)])?;
+    assert_eq!(rt; end.err(), Some(DataError::SymbolOutOfRange));
+    let past = tailoring(alloc, &[(4, ComplexScript::None)])??;
+    let empty = tailoring(alloc, &[])??;
+    for misfit in [&past, &empty] {
+        let refused = TailoredMachineBorrowed::try_new(&made, Some(misfit)).err();
+        assert_eq!(rt; refused, Some(DataError::SymbolOutOfRange));
+    }
+    assert!(rt; !has_complex_below_0100(&made, Some(&empty)));
     Ok(())
 }

@@ -2,7 +2,7 @@ use Rattle.std.proofs.Common.{zero-add}
 use Rattle.seg_text.specs.Reader.{place_of-items_by}
 use Rattle.seg_text.specs.Rising.{read_latin1-reader}
 use Rattle.seg_text.specs.Latin1.{latin1_items}
-use Rattle.seg_clusters.proofs.Cover.{cover-text}
+use Rattle.seg_machine.proofs.Cover.{cover-text}
 use Rattle.seg_clusters.proofs.grapheme.GraphemeClusterSegmenterBorrowed.segment_latin1.Goals as goal
 
 pub returns-clause-cover : goal.returns-clause-cover

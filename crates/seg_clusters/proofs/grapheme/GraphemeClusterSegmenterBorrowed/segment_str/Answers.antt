@@ -2,7 +2,7 @@ use Rattle.std.proofs.Common.{zero-add}
 use Rattle.seg_text.specs.Reader.{place_of-items_by}
 use Rattle.seg_text.specs.Rising.{read_utf8-reader}
 use Rattle.seg_text.specs.Utf8.{utf8_items}
-use Rattle.seg_clusters.proofs.Cover.{cover-text}
+use Rattle.seg_machine.proofs.Cover.{cover-text}
 use Rattle.seg_clusters.proofs.grapheme.GraphemeClusterSegmenterBorrowed.segment_str.Goals as goal
 
 pub returns-clause-cover : goal.returns-clause-cover

@@ -2,7 +2,7 @@ use Rattle.std.proofs.Common.{zero-add}
 use Rattle.seg_text.specs.Reader.{place_of-items_by}
 use Rattle.seg_text.specs.Rising.{read_utf16-reader}
 use Rattle.seg_text.specs.Utf16.{utf16_items}
-use Rattle.seg_clusters.proofs.Cover.{cover-text}
+use Rattle.seg_machine.proofs.Cover.{cover-text}
 use Rattle.seg_clusters.proofs.grapheme.GraphemeClusterSegmenterBorrowed.segment_utf16.Goals as goal
 
 pub returns-clause-cover : goal.returns-clause-cover

@@ -1,25 +1,20 @@
-use Rattle.std.proofs.Common.{inl, inr}
 use Rattle.std.proofs.lemmas.Bool.{iff_false}
 use Rattle.seg_data.specs.declared.provider.DataError.TheVariants.{SymbolOutOfRange, TooManyLookaheads, LookaheadOutOfRange, EndCycle, Stalls}
 use Rattle.seg_data.specs.Machine.{machine}
 use Rattle.seg_data.specs.Faults.{HasMachineFault}
 use Rattle.seg_data.proofs.Lowest.{lowest-from, faultless-from}
-use Rattle.seg_data.proofs.Machines.{below-12, below-13, below-14, below-15, below-16, below-17, below-18, below-19, some-from, stray-there, bounded-from}
+use Rattle.seg_data.proofs.Machines.{below-12, below-13, below-14, below-15, below-16, below-17, below-18, below-19, below-20, some-from, stray-there, bounded-from}
 use Rattle.seg_data.proofs.Bare.{cycle-full, stall-full}
 use Rattle.seg_data.proofs.provider.checks.check_parts.Goals as goal
-use Rattle.seg_data.proofs.provider.checks.check_parts.Goals.{then-has_stray_value-via-then-has_stray_value, then-has_stray_value-via-else-has_stray_value+then-has_stray_entry}
 
-pub returns-then-has_stray_value-clause-refused : goal.returns-then-has_stray_value-clause-refused
-returns-then-has_stray_value-clause-refused c =
+pub returns-then-has_stray_symbol-clause-refused : goal.returns-then-has_stray_symbol-clause-refused
+returns-then-has_stray_symbol-clause-refused c =
     let m = machine c.args.symbols.now c.args.states.now c.args.transitions.now c.args.num_lookaheads c.args.shift c.args.map.now in
     let b12 = below-12 m (some-from _ _ c.is_empty.ensures c.if-is_empty.false) c.if-states-gt-MAX_STATES.false in
     let b13 = below-13 m b12 (iff_false c.has_wrong_size.ensures c.if-has_wrong_size.false) in
     let b14 = below-14 m b13 (iff_false c.leads_past.ensures c.if-leads_past.false) in
     lowest-from (HasMachineFault m) SymbolOutOfRange b14
-    (stray-there m (elim c.then-has_stray_value.branch [
-      | then-has_stray_value-via-then-has_stray_value w ↦ inl (c.has_stray_value.ensures.0 w.if-has_stray_value.true)
-      | then-has_stray_value-via-else-has_stray_value+then-has_stray_entry w ↦ inr (w.has_stray_entry.ensures.0 w.if-has_stray_entry.true)
-    ]))
+    (stray-there m (c.has_stray_symbol.ensures.0 c.if-has_stray_symbol.true))
 
 pub returns-then-num_lookaheads-gt-MAX_LOOKAHEADS-clause-refused : goal.returns-then-num_lookaheads-gt-MAX_LOOKAHEADS-clause-refused
 returns-then-num_lookaheads-gt-MAX_LOOKAHEADS-clause-refused c =
@@ -27,10 +22,7 @@ returns-then-num_lookaheads-gt-MAX_LOOKAHEADS-clause-refused c =
     let b12 = below-12 m (some-from _ _ c.is_empty.ensures c.if-is_empty.false) c.if-states-gt-MAX_STATES.false in
     let b13 = below-13 m b12 (iff_false c.has_wrong_size.ensures c.if-has_wrong_size.false) in
     let b14 = below-14 m b13 (iff_false c.leads_past.ensures c.if-leads_past.false) in
-    let b15 = below-15 m b14 (λ stray. elim stray [
-      | inl value ↦ iff_false c.has_stray_value.ensures c.if-has_stray_value.false value
-      | inr entry ↦ iff_false c.has_stray_entry.ensures c.if-has_stray_entry.false entry
-    ]) in
+    let b15 = below-15 m b14 (iff_false c.has_stray_symbol.ensures c.if-has_stray_symbol.false) in
     lowest-from (HasMachineFault m) TooManyLookaheads b15 c.if-num_lookaheads-gt-MAX_LOOKAHEADS.true
 
 pub returns-then-names_past-clause-refused : goal.returns-then-names_past-clause-refused
@@ -39,10 +31,7 @@ returns-then-names_past-clause-refused c =
     let b12 = below-12 m (some-from _ _ c.is_empty.ensures c.if-is_empty.false) c.if-states-gt-MAX_STATES.false in
     let b13 = below-13 m b12 (iff_false c.has_wrong_size.ensures c.if-has_wrong_size.false) in
     let b14 = below-14 m b13 (iff_false c.leads_past.ensures c.if-leads_past.false) in
-    let b15 = below-15 m b14 (λ stray. elim stray [
-      | inl value ↦ iff_false c.has_stray_value.ensures c.if-has_stray_value.false value
-      | inr entry ↦ iff_false c.has_stray_entry.ensures c.if-has_stray_entry.false entry
-    ]) in
+    let b15 = below-15 m b14 (iff_false c.has_stray_symbol.ensures c.if-has_stray_symbol.false) in
     let b16 = below-16 m b15 c.if-num_lookaheads-gt-MAX_LOOKAHEADS.false in
     lowest-from (HasMachineFault m) LookaheadOutOfRange b16 (c.names_past.ensures.0 c.if-names_past.true)
 
@@ -70,10 +59,7 @@ returns-then-has_end_cycle-clause-refused c =
     let b12 = below-12 m (some-from _ _ c.is_empty.ensures c.if-is_empty.false) c.if-states-gt-MAX_STATES.false in
     let b13 = below-13 m b12 (iff_false c.has_wrong_size.ensures c.if-has_wrong_size.false) in
     let b14 = below-14 m b13 (iff_false c.leads_past.ensures c.if-leads_past.false) in
-    let b15 = below-15 m b14 (λ stray. elim stray [
-      | inl value ↦ iff_false c.has_stray_value.ensures c.if-has_stray_value.false value
-      | inr entry ↦ iff_false c.has_stray_entry.ensures c.if-has_stray_entry.false entry
-    ]) in
+    let b15 = below-15 m b14 (iff_false c.has_stray_symbol.ensures c.if-has_stray_symbol.false) in
     let b16 = below-16 m b15 c.if-num_lookaheads-gt-MAX_LOOKAHEADS.false in
     let b17 = below-17 m b16 (iff_false c.names_past.ensures c.if-names_past.false) in
     lowest-from (HasMachineFault m) EndCycle b17 (cycle-full m (c.has_end_cycle.ensures.0 c.if-has_end_cycle.true))
@@ -84,10 +70,7 @@ returns-then-not-is_stall_free-clause-refused c =
     let b12 = below-12 m (some-from _ _ c.is_empty.ensures c.if-is_empty.false) c.if-states-gt-MAX_STATES.false in
     let b13 = below-13 m b12 (iff_false c.has_wrong_size.ensures c.if-has_wrong_size.false) in
     let b14 = below-14 m b13 (iff_false c.leads_past.ensures c.if-leads_past.false) in
-    let b15 = below-15 m b14 (λ stray. elim stray [
-      | inl value ↦ iff_false c.has_stray_value.ensures c.if-has_stray_value.false value
-      | inr entry ↦ iff_false c.has_stray_entry.ensures c.if-has_stray_entry.false entry
-    ]) in
+    let b15 = below-15 m b14 (iff_false c.has_stray_symbol.ensures c.if-has_stray_symbol.false) in
     let b16 = below-16 m b15 c.if-num_lookaheads-gt-MAX_LOOKAHEADS.false in
     let b17 = below-17 m b16 (iff_false c.names_past.ensures c.if-names_past.false) in
     let b18 = below-18 m b17 (iff_false c.has_end_cycle.ensures c.if-has_end_cycle.false) in
@@ -99,12 +82,9 @@ returns-clause-accepted c =
     let b12 = below-12 m (some-from _ _ c.is_empty.ensures c.if-is_empty.false) c.if-states-gt-MAX_STATES.false in
     let b13 = below-13 m b12 (iff_false c.has_wrong_size.ensures c.if-has_wrong_size.false) in
     let b14 = below-14 m b13 (iff_false c.leads_past.ensures c.if-leads_past.false) in
-    let b15 = below-15 m b14 (λ stray. elim stray [
-      | inl value ↦ iff_false c.has_stray_value.ensures c.if-has_stray_value.false value
-      | inr entry ↦ iff_false c.has_stray_entry.ensures c.if-has_stray_entry.false entry
-    ]) in
+    let b15 = below-15 m b14 (iff_false c.has_stray_symbol.ensures c.if-has_stray_symbol.false) in
     let b16 = below-16 m b15 c.if-num_lookaheads-gt-MAX_LOOKAHEADS.false in
     let b17 = below-17 m b16 (iff_false c.names_past.ensures c.if-names_past.false) in
     let b18 = below-18 m b17 (iff_false c.has_end_cycle.ensures c.if-has_end_cycle.false) in
     let b19 = below-19 m b18 (c.is_stall_free.ensures.free c.if-not-is_stall_free.false) in
-    faultless-from (HasMachineFault m) b19
+    faultless-from (HasMachineFault m) (below-20 m b19)

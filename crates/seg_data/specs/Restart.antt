@@ -1,0 +1,16 @@
+-- A text may be segmented anew from any of its boundaries.
+use Rattle.std.specs.Prelude.{◌≡◌, ℕ, suc, ◌+◌, Some, List, drop, map, slice_get}
+use Rattle.seg_data.specs.Machine.{Machine}
+use Rattle.seg_data.specs.Segments.{machine_boundaries}
+
+-- these boundaries, so many code points later, with the same statuses
+abbrev pub shifted : ℕ → List (ℕ × ℕ) → List (ℕ × ℕ)
+shifted before boundaries = map (λ (boundary : ℕ × ℕ). (before + boundary.0, boundary.1)) boundaries
+
+-- after each boundary of a text come those of the rest, taken alone and shifted: all but its first, which is 0
+abbrev pub HasRestart : Machine → Type 0
+HasRestart m =
+    (code_points : List ℕ) (k ordinal status : ℕ)
+    → slice_get (machine_boundaries m code_points) k ≡ Some (ordinal, status)
+    → drop (suc k) (machine_boundaries m code_points)
+    ≡ shifted ordinal (drop 1 (machine_boundaries m (drop ordinal code_points)))

@@ -1,0 +1,25 @@
+-- The faults of a line machine with its tailoring.
+use Rattle.std.proofs.Common.{◌≡◌, ℕ, List, Option, inl, inr}
+use Rattle.seg_data.specs.declared.provider.ComplexScript.{ComplexScript}
+use Rattle.seg_data.specs.declared.provider.DataError.{DataError}
+use Rattle.seg_data.specs.Machine.{Machine, tailored}
+use Rattle.seg_data.specs.Faults.{HasComplexBelow0100, HasTailoringFault, IsFaultless, IsLowestFault}
+use Rattle.seg_lines.specs.Lines.{HasFaultWith}
+use Rattle.std.specs.Prelude.{Some}
+
+pub with-faultless : (m : Machine) (tailoring : Option (List (ℕ × ComplexScript))) → (HasComplexBelow0100 (tailored m tailoring) → ⊥)
+    → IsFaultless (HasTailoringFault m tailoring) → IsFaultless (HasFaultWith m (Some tailoring))
+with-faultless m tailoring none faultless fault (inl has) = faultless fault has
+with-faultless m tailoring none faultless fault (inr has) = none has.1
+
+-- where the tailoring is looked at as it is lent
+pub lent-alike : (m : Machine) (lent tailoring : Option (List (ℕ × ComplexScript))) → lent ≡ tailoring
+    → HasComplexBelow0100 (tailored m tailoring) → HasComplexBelow0100 (tailored m lent)
+lent-alike m lent tailoring same has = rw same has
+
+pub with-lowest : (m : Machine) (tailoring : Option (List (ℕ × ComplexScript))) (fault : DataError) → (HasComplexBelow0100 (tailored m tailoring) → ⊥)
+    → IsLowestFault (HasTailoringFault m tailoring) fault → IsLowestFault (HasFaultWith m (Some tailoring)) fault
+with-lowest m tailoring fault none lowest = record {
+  is_there = inl lowest.is_there;
+  lowest = λ lower less has. elim has [ inl other ↦ lowest.lowest lower less other | inr complex ↦ none complex.1 ];
+}

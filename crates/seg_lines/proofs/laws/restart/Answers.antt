@@ -1,0 +1,5 @@
+use Rattle.seg_data.proofs.Restarts.{restarts}
+use Rattle.seg_lines.proofs.laws.restart.Goals as goal
+
+pub returns : goal.returns
+returns c = restarts _

@@ -1,0 +1,3 @@
+pub mod Options
+pub mod Tailorings
+pub mod Lines

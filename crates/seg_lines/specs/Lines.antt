@@ -1,0 +1,78 @@
+-- Lines: the machine that finds their breaks, the faults of its data, and what is seen of segmenters and iterators.
+use Rattle.std.specs.Prelude.{◌≡◌, ◌⊎◌, ℕ, ◌==◌, Bool, false, Option, Some, None, List, [], ◌∷◌, map, MatchOption}
+use Rattle.std.specs.Option.{option_map}
+use Rattle.seg_data.specs.declared.provider.ComplexScript.{ComplexScript}
+use Rattle.seg_data.specs.declared.provider.DataError.{DataError}
+use Rattle.seg_data.specs.declared.provider.DataError.TheVariants.{ComplexBelow0100, MissingTailoring}
+use Rattle.seg_data.specs.Machine.{Machine, tailored}
+use Rattle.seg_data.specs.Faults.{HasComplexBelow0100, HasTailoringFault}
+use Rattle.seg_data.specs.Segments.{machine_boundaries}
+use Rattle.seg_data.specs.Tailored.{machine_of, owned_machine}
+use Rattle.seg_machine.specs.Boundaries.{places_left}
+use Rattle.seg_lines.specs.declared.line.options.Tailoring.{Tailoring}
+use Rattle.seg_lines.specs.declared.line.options.MachineChoice.{MachineChoice}
+use Rattle.seg_lines.specs.declared.line.options.MachineChoice.TheVariants.{Clusters, Lines}
+use Rattle.seg_lines.specs.declared.line.tailorings.LineTailorings.{LineTailorings}
+use Rattle.seg_lines.specs.declared.line.LineSegmenter.{LineSegmenter}
+use Rattle.seg_lines.specs.declared.line.LineSegmenterBorrowed.{LineSegmenterBorrowed}
+use Rattle.seg_lines.specs.declared.line.LineBreakIterator.{LineBreakIterator}
+use Rattle.seg_lines.specs.Tailorings.{tailoring_named}
+
+-- the tailoring of the line machine by this name, if one is named: `None` where it is missing
+abbrev pub tailoring_for : LineTailorings → Option Tailoring → Option (Option (List (ℕ × ComplexScript)))
+tailoring_for tailorings (Some name) = option_map Some (tailoring_named tailorings name)
+tailoring_for tailorings None = Some None
+
+-- the line machine with the tailoring that is named
+abbrev pub line_machine_for : Machine → Option (Option (List (ℕ × ComplexScript))) → Machine
+line_machine_for lines (Some tailoring) = tailored lines tailoring
+line_machine_for lines None = lines
+
+-- the faults of the line machine with it: where the tailoring is missing, no other is looked for
+abbrev pub HasFaultWith : Machine → Option (Option (List (ℕ × ComplexScript))) → DataError → Type 0
+HasFaultWith lines None fault = fault ≡ MissingTailoring
+HasFaultWith lines (Some tailoring) fault =
+    HasTailoringFault lines tailoring fault ⊎ ((fault ≡ ComplexBelow0100) × HasComplexBelow0100 (tailored lines tailoring))
+
+-- the machine that finds the breaks: that of clusters, or that of lines with its tailoring
+abbrev pub chosen_machine : Machine → LineTailorings → Machine → MachineChoice → Machine
+chosen_machine lines tailorings clusters Clusters = clusters
+chosen_machine lines tailorings clusters (Lines name) = line_machine_for lines (tailoring_for tailorings name)
+
+-- the faults of a line segmenter's data: none where the machine of clusters finds the breaks
+abbrev pub HasLineFault : Machine → LineTailorings → MachineChoice → DataError → Type 0
+HasLineFault lines tailorings Clusters fault = ⊥
+HasLineFault lines tailorings (Lines name) fault = HasFaultWith lines (tailoring_for tailorings name) fault
+
+-- the machine of a segmenter
+abbrev pub line_machine : LineSegmenterBorrowed → Machine
+line_machine segmenter = machine_of segmenter.machine
+
+abbrev pub owned_line_machine : LineSegmenter → Machine
+owned_line_machine segmenter = owned_machine segmenter.machine
+
+-- boundaries with their statuses, as lines: a break is mandatory where the status is 1
+abbrev pub marked : List (ℕ × ℕ) → List (ℕ × Bool)
+marked boundaries = map (λ (boundary : ℕ × ℕ). (boundary.0, boundary.1 == 1)) boundaries
+
+-- the boundaries of a list of code points, counted in code points, with whether each is mandatory
+abbrev pub line_ordinals : Machine → List ℕ → List (ℕ × Bool)
+line_ordinals m code_points = marked (machine_boundaries m code_points)
+
+-- the boundaries that an iterator has still to give, with whether each is mandatory
+abbrev pub lines_left : {Y C I : Type 0} → LineBreakIterator Y C I → List (ℕ × Bool)
+lines_left iterator = marked iterator.engine.left
+
+-- their places
+abbrev pub line_places : {Y C I : Type 0} → LineBreakIterator Y C I → List ℕ
+line_places iterator = places_left iterator.engine
+
+-- is the boundary that was given last mandatory
+abbrev pub is_mandatory : {Y C I : Type 0} → LineBreakIterator Y C I → Bool
+is_mandatory iterator = iterator.engine.status == 1
+
+-- an iterator gave the first boundary that was left, and has its mark
+abbrev pub GivesLine : {Y C I : Type 0} → LineBreakIterator Y C I → Option ℕ → LineBreakIterator Y C I → Type 0
+GivesLine before given after =
+    MatchOption given ((lines_left before ≡ []) × (lines_left after ≡ []) × (is_mandatory after ≡ false))
+    (λ place. lines_left before ≡ (place, is_mandatory after) ∷ lines_left after)

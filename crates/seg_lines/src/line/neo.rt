@@ -1,0 +1,103 @@
+//! The machines of lines, with the tailorings that options name.
+ghost use Rattle.std.specs.Prelude.{◌≡◌, Some, None, IfOk, IfErr};
+ghost use Rattle.std.specs.Option.{option_map};
+ghost use Rattle.seg_data.specs.declared.provider.DataError.TheVariants.{MissingTailoring};
+ghost use Rattle.seg_data.specs.Faults.{IsFaultless, IsLowestFault};
+ghost use Rattle.seg_data.specs.Machine.{tailored};
+ghost use Rattle.seg_data.specs.Tailored.{machine_of, owned_machine};
+ghost use Rattle.seg_lines.specs.Lines.{line_machine_for, tailoring_for, HasFaultWith};
+ghost use Rattle.seg_lines.specs.Tailorings.{lent};
+
+use crate::line::options::Tailoring;
+use crate::line::{LineTailorings, LineTailoringsBorrowed};
+use seg_data::inner::{TailoredMachine, TailoredMachineBorrowed, has_complex_below_0100};
+use seg_data::provider::{DataError, SegmenterStateMachine, SegmenterStateMachineOverride};
+
+// The machine of lines with the tailoring of this name, if there is a name, all lent.
+pub(super) fn lent_line_machine<'data>(
+    machine: &'data SegmenterStateMachine,
+    tailorings: LineTailoringsBorrowed<'data>,
+    name: Option<Tailoring>,
+) -> Result<TailoredMachineBorrowed<'data>, DataError>
+    ensures accepted { IfOk result (λ m. (machine_of m ≡ line_machine_for machine.now (tailoring_for (lent tailorings.entry) name))
+        × IsFaultless (HasFaultWith machine.now (tailoring_for (lent tailorings.entry) name))) }
+    ensures refused { IfErr result (IsLowestFault (HasFaultWith machine.now (tailoring_for (lent tailorings.entry) name))) }
+{
+    lent_with(machine, lent_tailoring(tailorings, name)?)
+}
+
+// The tailoring of this name, if there is a name, lent. `MissingTailoring` where it isn't there.
+fn lent_tailoring<'data>(
+    tailorings: LineTailoringsBorrowed<'data>,
+    name: Option<Tailoring>,
+) -> Result<Option<&'data SegmenterStateMachineOverride>, DataError>
+    ensures found { IfOk result (λ t. tailoring_for (lent tailorings.entry) name ≡ Some (option_map (λ map. map.now) t)) }
+    ensures missing { IfErr result (λ fault. (fault ≡ MissingTailoring) × (tailoring_for (lent tailorings.entry) name ≡ None)) }
+{
+    let Some(name) = name else {
+        return Ok(None);
+    };
+    match tailorings.get(name) {
+        Some(tailoring) => Ok(Some(tailoring)),
+        None => Err(DataError::MissingTailoring),
+    }
+}
+
+// The machine of lines with this tailoring, if there is one, lent.
+fn lent_with<'data>(
+    machine: &'data SegmenterStateMachine,
+    tailoring: Option<&'data SegmenterStateMachineOverride>,
+) -> Result<TailoredMachineBorrowed<'data>, DataError>
+    ensures accepted { IfOk result (λ m. (machine_of m ≡ tailored machine.now (option_map (λ map. map.now) tailoring.entry))
+        × IsFaultless (HasFaultWith machine.now (Some (option_map (λ map. map.now) tailoring.entry)))) }
+    ensures refused { IfErr result (IsLowestFault (HasFaultWith machine.now (Some (option_map (λ map. map.now) tailoring.entry)))) }
+{
+    if has_complex_below_0100(machine, tailoring) {
+        return Err(DataError::ComplexBelow0100);
+    }
+    TailoredMachineBorrowed::try_new(machine, tailoring)
+}
+
+// The machine of lines with the tailoring of this name, if there is a name.
+pub(super) fn owned_line_machine(
+    machine: SegmenterStateMachine,
+    tailorings: LineTailorings,
+    name: Option<Tailoring>,
+) -> Result<TailoredMachine, DataError>
+    ensures accepted { IfOk result (λ m. (owned_machine m ≡ line_machine_for machine (tailoring_for tailorings name))
+        × IsFaultless (HasFaultWith machine (tailoring_for tailorings name))) }
+    ensures refused { IfErr result (IsLowestFault (HasFaultWith machine (tailoring_for tailorings name))) }
+{
+    owned_with(machine, owned_tailoring(tailorings, name)?)
+}
+
+// The tailoring of this name, if there is a name. `MissingTailoring` where it isn't there.
+fn owned_tailoring(
+    tailorings: LineTailorings,
+    name: Option<Tailoring>,
+) -> Result<Option<SegmenterStateMachineOverride>, DataError>
+    ensures found { IfOk result (λ t. tailoring_for tailorings name ≡ Some t) }
+    ensures missing { IfErr result (λ fault. (fault ≡ MissingTailoring) × (tailoring_for tailorings name ≡ None)) }
+{
+    let Some(name) = name else {
+        return Ok(None);
+    };
+    match tailorings.into_named(name) {
+        Some(tailoring) => Ok(Some(tailoring)),
+        None => Err(DataError::MissingTailoring),
+    }
+}
+
+// The machine of lines with this tailoring, if there is one.
+fn owned_with(
+    machine: SegmenterStateMachine,
+    tailoring: Option<SegmenterStateMachineOverride>,
+) -> Result<TailoredMachine, DataError>
+    ensures accepted { IfOk result (λ m. (owned_machine m ≡ tailored machine tailoring) × IsFaultless (HasFaultWith machine (Some tailoring))) }
+    ensures refused { IfErr result (IsLowestFault (HasFaultWith machine (Some tailoring))) }
+{
+    if has_complex_below_0100(&machine, tailoring.as_ref()) {
+        return Err(DataError::ComplexBelow0100);
+    }
+    TailoredMachine::try_new(machine, tailoring)
+}
