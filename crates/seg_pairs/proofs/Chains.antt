@@ -201,6 +201,22 @@ module _ {X : Type 0} (v : List X → Verdict) (forward : IsForward v) where
           record { goes = n ∷ rest.goes; taken = n + rest.taken; class = rest.class; leads = (is, (rest.taken, refl, rest.leads)) }
       on RunBegins is later = absurd (none x xs is)
 
+  -- the first boundary, and those after it
+  pub record Next (x : X) (xs : List X) : Type 0 where
+    pub taken : ℕ
+    pub class : ℕ
+    pub is : breaks v (x ∷ xs) ≡ (taken, class) ∷ breaks v (drop taken (x ∷ xs))
+
+  pub breaks-some : HasNoRun v → (x : X) (xs : List X) → Next x xs
+  breaks-some none x xs =
+      let first = led none (length (x ∷ xs)) x xs (omega arith) in
+      let ends = leads-chain first.goes x xs first.taken first.class first.leads in
+      record {
+        taken = first.taken;
+        class = first.class;
+        is = breaks-next x xs ends.gone ends.last first.class ends.is ∙ ap (λ n. (n, first.class) ∷ breaks v (drop n (x ∷ xs))) (sym ends.sum);
+      }
+
   pub breaks-exist : HasNoRun v → (xs : List X) → AreBreaks v xs (breaks v xs)
   breaks-exist none xs = within (length xs) xs (omega arith)
     where

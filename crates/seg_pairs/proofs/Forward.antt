@@ -1,5 +1,7 @@
 -- A verdict takes some of the elements, and one to go on leaves some.
 use Rattle.std.proofs.Common.{◌≡◌, ◌≢◌, ℕ, suc, ◌+◌, ◌<◌, ◌≤◌, ◌||◌, ◌==◌, Bool, true, false, cond, Option, Some, None, List, [], ◌∷◌, length, drop, refl, sym, ap, ◌∙◌, subst, inl, inr, arith}
+use Rattle.std.specs.Prelude.{Contains}
+use Rattle.std.proofs.lemmas.Bool.{ne_eqb}
 use Rattle.std.proofs.lemmas.List.{length-drop, length-map}
 use Rattle.seg_data.specs.declared.provider.pairs.BreakState.{BreakState}
 use Rattle.seg_data.specs.declared.provider.pairs.BreakState.TheVariants.{Break, Keep, NoMatch, Intermediate, Index}
@@ -132,3 +134,13 @@ pub verdict-no-run : (t : PairTable) → HasNoRun (verdict t)
 unfolding verdict
 verdict-no-run t first [] is = cc
 verdict-no-run t first (second ∷ after) is = first-no-run t first (first ∷ second ∷ after) (entry_of t first second) is
+
+-- where no class is complex, complex items are no matter
+pub no-complex : (t : PairTable) (class : ℕ) (classes : List ℕ) → (Contains (class ∷ classes) t.complex_property → ⊥)
+    → complex_verdict t (class ∷ classes) ≡ verdict t (class ∷ classes)
+unfolding complex_verdict verdict
+no-complex t first [] none = refl
+no-complex t first (second ∷ after) none =
+    let other : second ≢ t.complex_property = λ is. none (1, omega arith, is) in
+    ap (λ b. cond b (cond (first == t.complex_property) Verdict.RunBegins (Verdict.BreakAfter 1 first)) (first_verdict t first (first ∷ second ∷ after) (entry_of t first second)))
+    (ne_eqb second t.complex_property other)

@@ -4,3 +4,5 @@ pub mod Forward
 pub mod Chains
 pub mod Ends
 pub mod Engine
+pub mod Restarts
+pub mod Rows

@@ -19,6 +19,9 @@ classes_by t overriding code_points = map (class_of t overriding) code_points
 abbrev pub pair_boundaries : PairTable → Option Table → List ℕ → List (ℕ × ℕ)
 pair_boundaries t overriding code_points = (0, 0) ∷ ends_from 0 (breaks (verdict t) (classes_by t overriding code_points))
 
+abbrev pub pair_ordinals : PairTable → Option Table → List ℕ → List ℕ
+pair_ordinals t overriding code_points = places (pair_boundaries t overriding code_points)
+
 -- those of a text with their classes: the places of the boundaries of its code points
 unfoldable pub table_boundaries : PairTable → Option Table → List (ℕ × ℕ) → ℕ → List (ℕ × ℕ)
 table_boundaries t overriding items end = map (placed items end) (pair_boundaries t overriding (code_points items))

@@ -6,3 +6,4 @@ pub mod Breaks
 pub mod Stop
 pub mod Steps
 pub mod Boundaries
+pub mod Rows

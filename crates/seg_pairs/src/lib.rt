@@ -2,6 +2,7 @@
 #![tactic(auto)]
 
 pub mod elements;
+pub mod laws;
 pub mod rule_segmenter_v1;
 pub mod rules;
 pub mod walk;
