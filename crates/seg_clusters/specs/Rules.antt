@@ -7,7 +7,7 @@ use Rattle.seg_data.specs.Restart.{RestartsBy}
 use Rattle.seg_data.specs.Segments.{machine_boundaries}
 use Rattle.seg_data.specs.Table.{Table}
 use Rattle.seg_machine.specs.Boundaries.{boundaries, IsSegmented}
-use Rattle.seg_pairs.specs.Boundaries.{pair_boundaries, table_boundaries, IsBroken}
+use Rattle.seg_pairs.specs.PairBoundaries.{pair_boundaries, table_boundaries, IsBroken}
 
 pub data Rules : Type 0 where
   -- a pair table and its override, if there is one

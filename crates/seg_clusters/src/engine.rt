@@ -4,13 +4,34 @@ ghost use Rattle.std.specs.Prelude.{◌≡◌, ℕ, List};
 ghost use Rattle.std.specs.Iterator.{YieldsFirst, item_count};
 ghost use Rattle.seg_text.specs.Items.{place_of};
 ghost use Rattle.seg_text.specs.Places.{places, IsCover};
-ghost use Rattle.seg_clusters.specs.Engine.{rules_in, boundaries_left};
+ghost use Rattle.seg_clusters.specs.Engine.{rules_in, owned_rules_in, boundaries_left};
 ghost use Rattle.seg_clusters.specs.Rules.{boundaries_by, IsFoundBy};
 
-use seg_data::inner::{PairDataBorrowed, TailoredMachineBorrowed};
+use seg_data::inner::{PairData, PairDataBorrowed, TailoredMachine, TailoredMachineBorrowed};
 use seg_machine::rule_segmenter_v2;
 use seg_pairs::rule_segmenter_v1;
 use seg_text::inner::Cursor;
+
+/// What the boundaries of a text are found by.
+#[derive(Debug, Drop)]
+pub(crate) enum OwnedEngine {
+    /// A pair table, with its override.
+    Classic(PairData),
+    /// A state machine, with its tailoring.
+    Neo(TailoredMachine),
+}
+
+impl OwnedEngine {
+    /// The same, lent.
+    pub(crate) fn as_borrowed(&self) -> Engine<'_>
+        ensures { rules_in result ≡ owned_rules_in self.now }
+    {
+        match self {
+            OwnedEngine::Classic(pairs) => Engine::Classic(pairs.as_borrowed()),
+            OwnedEngine::Neo(machine) => Engine::Neo(machine.as_borrowed()),
+        }
+    }
+}
 
 /// What the boundaries of a text are found by, lent.
 #[derive(Clone, Copy, Debug)]

@@ -16,7 +16,7 @@ use Rattle.seg_pairs.specs.Verdict.Verdict.{BreakAfter, GoAfter, RunBegins}
 use Rattle.seg_pairs.specs.Breaks.{LeadsTo, AreBreaks, go_on, chain_within, chain, break_and, breaks_within, breaks, IsForward}
 use Rattle.seg_pairs.specs.Elements.{classes_of, place_at}
 use Rattle.seg_pairs.specs.Items.{element_of, elements_of}
-use Rattle.seg_pairs.specs.Boundaries.{classes_by, table_boundaries, IsBroken, element_placed, element_verdict, break_ends}
+use Rattle.seg_pairs.specs.PairBoundaries.{classes_by, table_boundaries, IsBroken, element_placed, element_verdict, break_ends}
 use Rattle.seg_pairs.proofs.Chains.{breaks-nil, breaks-next, breaks-exist, leads-some}
 use Rattle.seg_pairs.proofs.Forward.{verdict-forward, verdict-no-run, on-classes}
 

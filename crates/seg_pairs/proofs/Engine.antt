@@ -17,7 +17,7 @@ use Rattle.seg_pairs.specs.Breaks.{chain}
 use Rattle.seg_pairs.specs.Elements.{onto, place_at}
 use Rattle.seg_pairs.specs.Items.{elements_of}
 use Rattle.seg_pairs.specs.Steps.{EndsIn, IsRest}
-use Rattle.seg_pairs.specs.Boundaries.{table_boundaries, IsBroken, break_ends, element_verdict, Coming, coming, places_coming, GivesBreak}
+use Rattle.seg_pairs.specs.PairBoundaries.{table_boundaries, IsBroken, break_ends, element_verdict, Coming, coming, places_coming, GivesBreak}
 use Rattle.seg_pairs.proofs.Chains.{chain-no-run}
 use Rattle.seg_pairs.proofs.Ends.{start-left, broken, cover, break_ends-none, break_ends-next}
 use Rattle.seg_pairs.proofs.Forward.{verdict-forward, verdict-no-run, on-classes}

@@ -13,7 +13,7 @@ use Rattle.seg_data.specs.Table.{Table}
 use Rattle.seg_data.proofs.Restarts.{ends-start, ends-nil, ends-cons, none-found}
 use Rattle.seg_pairs.specs.Verdict.{Verdict, verdict}
 use Rattle.seg_pairs.specs.Breaks.{breaks, IsForward, HasNoRun}
-use Rattle.seg_pairs.specs.Boundaries.{classes_by, pair_boundaries, pair_ordinals, table_boundaries}
+use Rattle.seg_pairs.specs.PairBoundaries.{classes_by, pair_boundaries, pair_ordinals, table_boundaries}
 use Rattle.seg_pairs.proofs.Chains.{breaks-nil, breaks-some}
 use Rattle.seg_pairs.proofs.Forward.{verdict-forward, verdict-no-run}
 

@@ -5,5 +5,5 @@ pub mod Verdict
 pub mod Breaks
 pub mod Stop
 pub mod Steps
-pub mod Boundaries
+pub mod PairBoundaries
 pub mod Rows

@@ -4,7 +4,7 @@ use Rattle.seg_data.specs.PairData.{pair_table_of}
 use Rattle.seg_data.specs.PairTable.{PairTable}
 use Rattle.seg_text.specs.Places.{places}
 use Rattle.seg_pairs.specs.Breaks.{chain}
-use Rattle.seg_pairs.specs.Boundaries.{element_verdict}
+use Rattle.seg_pairs.specs.PairBoundaries.{element_verdict}
 use Rattle.seg_pairs.specs.Items.{elements_of}
 use Rattle.seg_pairs.specs.Steps.{EndsIn}
 use Rattle.seg_pairs.specs.declared.rules.Outcome.TheVariants.{Break}
