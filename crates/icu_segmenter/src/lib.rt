@@ -5,10 +5,18 @@
 #![tactic(auto)]
 
 pub use seg_clusters::grapheme::{GraphemeClusterSegmenter, GraphemeClusterSegmenterBorrowed};
+pub use seg_clusters::sentence::{SentenceSegmenter, SentenceSegmenterBorrowed};
 pub use seg_data::provider;
 pub use seg_text::{indices, scaffold};
 
 /// The iterators that the `segment_` calls give.
 pub mod iterators {
     pub use seg_clusters::grapheme::GraphemeClusterBreakIterator;
+    pub use seg_clusters::sentence::SentenceBreakIterator;
+}
+
+/// The options of segmenters, and the language that they name.
+pub mod options {
+    pub use seg_clusters::sentence::{SentenceBreakInvariantOptions, SentenceBreakOptions};
+    pub use seg_data::provider::LanguageIdentifier;
 }
