@@ -1,1 +1,2 @@
-pub mod ClusterFaults
+mod Faultless
+pub mod Scripts

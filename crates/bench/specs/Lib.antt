@@ -1,1 +1,3 @@
 pub mod Clusters
+pub mod Sentences
+pub mod Lines

@@ -3,5 +3,8 @@
 
 pub mod clusters;
 pub mod devices;
+pub mod lines;
+mod machines;
+pub mod sentences;
 #[cfg(test)]
 mod tests;

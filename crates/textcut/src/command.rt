@@ -8,6 +8,10 @@ ghost use Rattle.textcut.specs.declared.command.Command.{Command as AnyCommand};
 pub enum Command {
     /// The grapheme clusters, by the machine that is built in.
     GraphemeNeo,
+    /// The sentences, by the machine that is built in.
+    SentenceNeo,
+    /// Where lines may be broken, by the machine that is built in, with the default options.
+    LineNeo,
 }
 
 /// The command that has these words.
@@ -18,6 +22,8 @@ pub fn command_of(words: &[&str]) -> Option<Command>
 {
     match words {
         ["grapheme", "neo"] => Some(Command::GraphemeNeo),
+        ["sentence", "neo"] => Some(Command::SentenceNeo),
+        ["line", "neo"] => Some(Command::LineNeo),
         _ => None,
     }
 }

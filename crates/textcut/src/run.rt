@@ -1,9 +1,11 @@
 // The program, over any reader and writers.
-ghost use Rattle.std.specs.Prelude.{◌≡◌, ◌≢◌, ◌≤◌, ◌↔◌, OnOk, IfOk, IfErr, IfSome, IsErrOf, length};
+ghost use Rattle.std.specs.Prelude.{◌≡◌, ◌≢◌, ◌≤◌, ◌↔◌, ℕ, List, OnOk, IfOk, IfErr, IfSome, IsErrOf};
+ghost use Rattle.std.specs.Iterator.{IsFinite, Drains};
 ghost use Rattle.std.specs.Io.KnownBytes.{Appends, IsAtEnd};
-ghost use Rattle.icu_segmenter.specs.Utf8.{utf8_items};
-ghost use Rattle.icu_segmenter.specs.Boundaries.{boundaries, places};
-ghost use Rattle.textcut.specs.Command.{texts, words_of, IsNoCommand, boundaries_of};
+ghost use Rattle.bench.specs.Clusters.{cluster_machine};
+ghost use Rattle.bench.specs.Sentences.{sentence_machine};
+ghost use Rattle.bench.specs.Lines.{line_machine};
+ghost use Rattle.textcut.specs.Command.{texts, words_of, IsNoCommand, boundaries_of, neo_boundaries};
 ghost use Rattle.textcut.specs.Failure.{status_of};
 ghost use Rattle.textcut.specs.Lines.{lines_of};
 ghost use Rattle.textcut.specs.declared.failure.Failure.{Failure as AnyFailure};
@@ -13,10 +15,11 @@ use crate::command::{Command, command_of};
 use crate::failure::Failure;
 use crate::lines::print_lines;
 use bench::clusters::cluster_machine;
-use icu_segmenter::GraphemeClusterSegmenterBorrowed;
-use icu_segmenter::provider::SegmenterStateMachine;
+use bench::lines::{line_machine, line_tailorings};
+use bench::sentences::sentence_machine;
+use icu_segmenter::options::{LineBreakOptions, SentenceBreakInvariantOptions};
+use icu_segmenter::{GraphemeClusterSegmenterBorrowed, LineSegmenter, SentenceSegmenterBorrowed};
 use std::alloc::Global;
-use std::io;
 use std::io::{ErrorKind, Read, Write};
 
 #[cfg(test)]
@@ -94,23 +97,66 @@ fn print_boundaries<O: Write>(
     ensures cause { result ≢ Err Failure.Usage × result ≢ Err Failure.ReadFailed }
 {
     match command {
-        Command::GraphemeNeo => {
-            let machine = cluster_machine(alloc)?;
-            print_clusters(&machine, text, out).map_err(|_| Failure::WriteFailed)
-        }
+        Command::GraphemeNeo => print_clusters(alloc, text, out),
+        Command::SentenceNeo => print_sentences(alloc, text, out),
+        Command::LineNeo => print_line_breaks(alloc, text, out),
     }
 }
 
-fn print_clusters<O: Write>(
-    machine: &SegmenterStateMachine,
-    text: &[u8],
-    out: &mut O,
-) -> io::Result<()>
-    ensures { OnOk result (Appends (O.contents out.old) (O.contents out.new)
-        (lines_of (places (boundaries machine.now (utf8_items 0 text.now) (length text.now))))) }
+fn print_clusters<O: Write>(alloc: Global, text: &[u8], out: &mut O) -> Result<(), Failure>
+    ensures printed { OnOk result
+        (Appends (O.contents out.old) (O.contents out.new) (lines_of (neo_boundaries cluster_machine text.now))) }
+    ensures unwritten { IsErrOf result Failure.NoMemory → out.new ≡ out.old }
+    ensures cause { result ≢ Err Failure.Usage × result ≢ Err Failure.ReadFailed }
 {
-    let Ok(segmenter) = GraphemeClusterSegmenterBorrowed::new_neo(machine) else {
+    let machine = cluster_machine(alloc)?;
+    let Ok(clusters) = GraphemeClusterSegmenterBorrowed::new_neo(&machine) else {
         unreachable!()
     };
-    print_lines(segmenter.segment_utf8(text), out)
+    print_numbers(clusters.segment_utf8(text), out)
+}
+
+fn print_sentences<O: Write>(alloc: Global, text: &[u8], out: &mut O) -> Result<(), Failure>
+    ensures printed { OnOk result
+        (Appends (O.contents out.old) (O.contents out.new) (lines_of (neo_boundaries sentence_machine text.now))) }
+    ensures unwritten { IsErrOf result Failure.NoMemory → out.new ≡ out.old }
+    ensures cause { result ≢ Err Failure.Usage × result ≢ Err Failure.ReadFailed }
+{
+    let machine = sentence_machine(alloc)?;
+    let options = SentenceBreakInvariantOptions::default();
+    let Ok(sentences) = SentenceSegmenterBorrowed::new_neo(&machine, None, options) else {
+        unreachable!()
+    };
+    print_numbers(sentences.segment_utf8(text), out)
+}
+
+fn print_line_breaks<O: Write>(alloc: Global, text: &[u8], out: &mut O) -> Result<(), Failure>
+    ensures printed { OnOk result
+        (Appends (O.contents out.old) (O.contents out.new) (lines_of (neo_boundaries line_machine text.now))) }
+    ensures unwritten { IsErrOf result Failure.NoMemory → out.new ≡ out.old }
+    ensures cause { result ≢ Err Failure.Usage × result ≢ Err Failure.ReadFailed }
+{
+    let machine = line_machine(alloc)?;
+    let clusters = cluster_machine(alloc)?;
+    let tailorings = line_tailorings(alloc)?;
+    let options = LineBreakOptions::default();
+    let Ok(lines) = LineSegmenter::try_new_neo_for_non_complex_scripts(
+        machine, tailorings, clusters, options,
+    ) else {
+        unreachable!()
+    };
+    print_numbers(lines.as_borrowed().segment_utf8(text), out)
+}
+
+fn print_numbers<N: Iterator<Item = usize> + Drop, O: Write>(
+    numbers: N,
+    out: &mut O,
+) -> Result<(), Failure>
+    requires can { N.can_next numbers }
+    requires ends { IsFinite (N.remaining numbers) }
+    ensures printed { OnOk result ((given : List ℕ) × Drains N.next_gives numbers given
+        × Appends (O.contents out.old) (O.contents out.new) (lines_of given)) }
+    ensures cause { IfErr result (λ failure. failure ≡ Failure.WriteFailed) }
+{
+    print_lines(numbers, out).map_err(|_| Failure::WriteFailed)
 }
