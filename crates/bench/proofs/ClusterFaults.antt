@@ -7,7 +7,7 @@ use Rattle.seg_data.specs.declared.provider.Acceptance.{Acceptance}
 use Rattle.seg_data.specs.declared.provider.Acceptance.TheVariants.{Continue, Accept, Conditional}
 use Rattle.seg_data.specs.Table.{named_values}
 use Rattle.seg_data.specs.declared.provider.DataError.{DataError}
-use Rattle.seg_data.specs.declared.provider.DataError.TheVariants.{RangeOrder, RangePast10FFFF, StateCount, TransitionSize, TransitionOutOfRange, SymbolOutOfRange, TooManyLookaheads, LookaheadOutOfRange, EndCycle, Stalls}
+use Rattle.seg_data.specs.declared.provider.DataError.TheVariants.{RangeOrder, RangePast10FFFF, TableSize, ClassOutOfRange, StateOutOfRange, StartRowKeeps, ComplexItems, ComplexBelow0100, StateCount, TransitionSize, TransitionOutOfRange, SymbolOutOfRange, TooManyLookaheads, LookaheadOutOfRange, EndCycle, Stalls, MissingTailoring}
 use Rattle.seg_data.specs.Machine.{Machine, symbol_count, step, state_at, walk}
 use Rattle.seg_data.specs.Pick.{HasStall, pick}
 use Rattle.seg_data.specs.Search.{AreFollowed}
@@ -83,6 +83,12 @@ pub cluster_machine-faultless : IsFaultless (HasMachineFault cluster_machine)
 unfolding symbol_count is_target is_value names_none
 cluster_machine-faultless RangeOrder h = h
 cluster_machine-faultless RangePast10FFFF h = h
+cluster_machine-faultless TableSize h = h
+cluster_machine-faultless ClassOutOfRange h = h
+cluster_machine-faultless StateOutOfRange h = h
+cluster_machine-faultless StartRowKeeps h = h
+cluster_machine-faultless ComplexItems h = h
+cluster_machine-faultless ComplexBelow0100 h = h
 cluster_machine-faultless StateCount (inl h) = omega arith
 cluster_machine-faultless StateCount (inr h) = omega arith
 cluster_machine-faultless TransitionSize h = h 5 (omega arith) (omega arith) refl
@@ -93,6 +99,7 @@ cluster_machine-faultless TooManyLookaheads h = omega arith
 cluster_machine-faultless LookaheadOutOfRange h = any-refuted _ names_none cluster_states refl names_no_past h
 cluster_machine-faultless EndCycle h = no-cycle h.0 h.1 h.2 h.3
 cluster_machine-faultless Stalls h = never-stalls h
+cluster_machine-faultless MissingTailoring h = h
 
 -- so its parts aren't refused
 pub never-refused : (parts : Machine) → parts ≡ cluster_machine → (fault : DataError) → IsLowestFault (HasMachineFault parts) fault → ⊥

@@ -1,1 +1,2 @@
 pub mod ClusterFaults
+pub mod PairFaults

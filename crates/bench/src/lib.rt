@@ -3,5 +3,6 @@
 
 pub mod clusters;
 pub mod devices;
+pub mod pair_tables;
 #[cfg(test)]
 mod tests;
