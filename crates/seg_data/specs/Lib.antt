@@ -16,3 +16,4 @@ pub mod SamePairs
 pub mod PairData
 pub mod Overriding
 pub mod Tailored
+pub mod LineTailorings

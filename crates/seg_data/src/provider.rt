@@ -6,6 +6,7 @@ ghost use Rattle.seg_data.specs.Unaligned.{HasByte, acceptance_of, byte_of};
 mod checks;
 mod cycles;
 mod language;
+mod line_tailorings;
 mod machine;
 pub(crate) mod pair_checks;
 mod pairs;
@@ -16,6 +17,7 @@ mod tailoring;
 mod tests;
 
 pub use language::LanguageIdentifier;
+pub use line_tailorings::{LineTailorings, LineTailoringsBorrowed};
 pub use machine::SegmenterStateMachine;
 pub use pairs::{BreakState, RuleBreakData, RuleBreakDataOverride};
 pub use table::ClassTable;
