@@ -1,11 +1,14 @@
 -- The words of each command, and what it prints of a text.
-use Rattle.std.specs.Prelude.{◌≢◌, ℕ, List, [], ◌∷◌, length, map, codes}
+use Rattle.std.specs.Prelude.{◌≢◌, ℕ, None, List, [], ◌∷◌, length, map, codes}
 use Rattle.std.specs.Borrow.{Bor}
 use Rattle.icu_segmenter.specs.Utf8.{utf8_items}
-use Rattle.icu_segmenter.specs.Boundaries.{boundaries, places}
+use Rattle.icu_segmenter.specs.Places.{places}
+use Rattle.icu_segmenter.specs.Rules.{Rules, boundaries_by}
+use Rattle.icu_segmenter.specs.Rules.Rules.{ByTable, ByMachine}
 use Rattle.bench.specs.Clusters.{cluster_machine}
+use Rattle.bench.specs.PairTables.{cluster_table, sentence_table}
 use Rattle.textcut.specs.declared.command.Command.{Command}
-use Rattle.textcut.specs.declared.command.Command.TheVariants.{GraphemeNeo}
+use Rattle.textcut.specs.declared.command.Command.TheVariants.{GraphemeClassic, GraphemeNeo, SentenceClassic}
 
 -- the texts that references point to
 abbrev pub texts : List (Bor (List ℕ)) → List (List ℕ)
@@ -13,12 +16,20 @@ texts words = map (λ word. word.now) words
 
 -- the words of a command
 abbrev pub words_of : Command → List (List ℕ)
+words_of GraphemeClassic = codes "grapheme" ∷ codes "classic" ∷ []
 words_of GraphemeNeo = codes "grapheme" ∷ codes "neo" ∷ []
+words_of SentenceClassic = codes "sentence" ∷ codes "classic" ∷ []
 
 -- words that no command has
 abbrev pub IsNoCommand : List (List ℕ) → Type 0
 IsNoCommand words = (command : Command) → words ≢ words_of command
 
+-- what a command finds boundaries by
+abbrev pub rules_of : Command → Rules
+rules_of GraphemeClassic = ByTable cluster_table None
+rules_of GraphemeNeo = ByMachine cluster_machine
+rules_of SentenceClassic = ByTable sentence_table None
+
 -- the boundaries that a command prints of a text
 abbrev pub boundaries_of : Command → List ℕ → List ℕ
-boundaries_of GraphemeNeo bytes = places (boundaries cluster_machine (utf8_items 0 bytes) (length bytes))
+boundaries_of command bytes = places (boundaries_by (rules_of command) (utf8_items 0 bytes) (length bytes))

@@ -2,7 +2,10 @@
 ghost use Rattle.std.specs.Prelude.{◌≡◌, ◌≢◌, ◌≤◌, ◌↔◌, OnOk, IfOk, IfErr, IfSome, IsErrOf, length};
 ghost use Rattle.std.specs.Io.KnownBytes.{Appends, IsAtEnd};
 ghost use Rattle.icu_segmenter.specs.Utf8.{utf8_items};
-ghost use Rattle.icu_segmenter.specs.Boundaries.{boundaries, places};
+ghost use Rattle.icu_segmenter.specs.Places.{places};
+ghost use Rattle.icu_segmenter.specs.Rules.{boundaries_by};
+ghost use Rattle.icu_segmenter.specs.Clusters.{cluster_rules};
+ghost use Rattle.icu_segmenter.specs.Sentences.{sentence_rules};
 ghost use Rattle.textcut.specs.Command.{texts, words_of, IsNoCommand, boundaries_of};
 ghost use Rattle.textcut.specs.Failure.{status_of};
 ghost use Rattle.textcut.specs.Lines.{lines_of};
@@ -13,8 +16,9 @@ use crate::command::{Command, command_of};
 use crate::failure::Failure;
 use crate::lines::print_lines;
 use bench::clusters::cluster_machine;
-use icu_segmenter::GraphemeClusterSegmenterBorrowed;
-use icu_segmenter::provider::SegmenterStateMachine;
+use bench::pair_tables::{cluster_table, sentence_table};
+use icu_segmenter::options::SentenceBreakInvariantOptions;
+use icu_segmenter::{GraphemeClusterSegmenterBorrowed, SentenceSegmenterBorrowed};
 use std::alloc::Global;
 use std::io;
 use std::io::{ErrorKind, Read, Write};
@@ -94,23 +98,82 @@ fn print_boundaries<O: Write>(
     ensures cause { result ≢ Err Failure.Usage × result ≢ Err Failure.ReadFailed }
 {
     match command {
-        Command::GraphemeNeo => {
-            let machine = cluster_machine(alloc)?;
-            print_clusters(&machine, text, out).map_err(|_| Failure::WriteFailed)
-        }
+        Command::GraphemeClassic => print_clusters_by_table(alloc, text, out),
+        Command::GraphemeNeo => print_clusters_by_machine(alloc, text, out),
+        Command::SentenceClassic => print_sentences_by_table(alloc, text, out),
     }
 }
 
+fn print_clusters_by_table<O: Write>(
+    alloc: Global,
+    text: &[u8],
+    out: &mut O,
+) -> Result<(), Failure>
+    ensures printed { OnOk result
+        (Appends (O.contents out.old) (O.contents out.new) (lines_of (boundaries_of Command.GraphemeClassic text.now))) }
+    ensures unwritten { IsErrOf result Failure.NoMemory → out.new ≡ out.old }
+    ensures cause { result ≢ Err Failure.Usage × result ≢ Err Failure.ReadFailed }
+{
+    let table = cluster_table(alloc)?;
+    let Ok(segmenter) = GraphemeClusterSegmenterBorrowed::new(&table) else {
+        unreachable!()
+    };
+    print_clusters(segmenter, text, out).map_err(|_| Failure::WriteFailed)
+}
+
+fn print_clusters_by_machine<O: Write>(
+    alloc: Global,
+    text: &[u8],
+    out: &mut O,
+) -> Result<(), Failure>
+    ensures printed { OnOk result
+        (Appends (O.contents out.old) (O.contents out.new) (lines_of (boundaries_of Command.GraphemeNeo text.now))) }
+    ensures unwritten { IsErrOf result Failure.NoMemory → out.new ≡ out.old }
+    ensures cause { result ≢ Err Failure.Usage × result ≢ Err Failure.ReadFailed }
+{
+    let machine = cluster_machine(alloc)?;
+    let Ok(segmenter) = GraphemeClusterSegmenterBorrowed::new_neo(&machine) else {
+        unreachable!()
+    };
+    print_clusters(segmenter, text, out).map_err(|_| Failure::WriteFailed)
+}
+
+fn print_sentences_by_table<O: Write>(
+    alloc: Global,
+    text: &[u8],
+    out: &mut O,
+) -> Result<(), Failure>
+    ensures printed { OnOk result
+        (Appends (O.contents out.old) (O.contents out.new) (lines_of (boundaries_of Command.SentenceClassic text.now))) }
+    ensures unwritten { IsErrOf result Failure.NoMemory → out.new ≡ out.old }
+    ensures cause { result ≢ Err Failure.Usage × result ≢ Err Failure.ReadFailed }
+{
+    let table = sentence_table(alloc)?;
+    let options = SentenceBreakInvariantOptions::default();
+    let Ok(segmenter) = SentenceSegmenterBorrowed::new(&table, None, options) else {
+        unreachable!()
+    };
+    print_sentences(segmenter, text, out).map_err(|_| Failure::WriteFailed)
+}
+
 fn print_clusters<O: Write>(
-    machine: &SegmenterStateMachine,
+    segmenter: GraphemeClusterSegmenterBorrowed<'_>,
     text: &[u8],
     out: &mut O,
 ) -> io::Result<()>
     ensures { OnOk result (Appends (O.contents out.old) (O.contents out.new)
-        (lines_of (places (boundaries machine.now (utf8_items 0 text.now) (length text.now))))) }
+        (lines_of (places (boundaries_by (cluster_rules segmenter.entry) (utf8_items 0 text.now) (length text.now))))) }
 {
-    let Ok(segmenter) = GraphemeClusterSegmenterBorrowed::new_neo(machine) else {
-        unreachable!()
-    };
+    print_lines(segmenter.segment_utf8(text), out)
+}
+
+fn print_sentences<O: Write>(
+    segmenter: SentenceSegmenterBorrowed<'_>,
+    text: &[u8],
+    out: &mut O,
+) -> io::Result<()>
+    ensures { OnOk result (Appends (O.contents out.old) (O.contents out.new)
+        (lines_of (places (boundaries_by (sentence_rules segmenter.entry) (utf8_items 0 text.now) (length text.now))))) }
+{
     print_lines(segmenter.segment_utf8(text), out)
 }

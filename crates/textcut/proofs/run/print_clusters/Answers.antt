@@ -1,13 +1,7 @@
 -- The iterator has all the boundaries left when it is made.
-use Rattle.std.proofs.Common.{◌∙◌, ap, length}
-use Rattle.icu_segmenter.specs.Utf8.{utf8_items}
-use Rattle.icu_segmenter.specs.Boundaries.{boundaries, places}
 use Rattle.icu_segmenter.specs.Clusters.{clusters_left}
 use Rattle.textcut.proofs.Printed.{lines-are_left}
 use Rattle.textcut.proofs.run.print_clusters.Goals as goal
 
 pub returns : goal.returns
-returns g c =
-    lines-are_left clusters_left _ _ _ _ _ c.print_lines.ensures
-    (c.segment_utf8.ensures.boundaries
-    ∙ ap (λ m. places (boundaries m (utf8_items 0 c.args.text.now) (length c.args.text.now))) c.in-Ok.ensures)
+returns g c = lines-are_left clusters_left _ _ _ _ _ c.print_lines.ensures c.segment_utf8.ensures.boundaries
