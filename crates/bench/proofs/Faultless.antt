@@ -84,7 +84,7 @@ all_below-at test (suc count) number passed below =
     ]
 
 -- what no element that passes a test is isn't in a list that passes it
-any-refuted : {X : Type 0} (P : X → Type 0) (test : X → Bool) (xs : List X) → list_all test xs ≡ true → ((x : X) → P x → test x ≡ true → ⊥) → Any P xs → ⊥
+pub any-refuted : {X : Type 0} (P : X → Type 0) (test : X → Bool) (xs : List X) → list_all test xs ≡ true → ((x : X) → P x → test x ≡ true → ⊥) → Any P xs → ⊥
 any-refuted P test xs passed refuted any =
     refuted any.1 any.4 (let pass = AllPass-from_list_all test xs passed any.0 any.1 any.2 in rw any.3 at pass)
 
