@@ -9,7 +9,7 @@ use Rattle.std.proofs.lemmas.Option.{none-some, same_Some}
 use Rattle.seg_data.specs.declared.provider.Acceptance.{Acceptance}
 use Rattle.seg_data.specs.declared.provider.Acceptance.TheVariants.{Continue, Accept, Conditional}
 use Rattle.seg_data.specs.declared.provider.DataError.{DataError}
-use Rattle.seg_data.specs.declared.provider.DataError.TheVariants.{RangeOrder, RangePast10FFFF, ComplexBelow0100, StateCount, TransitionSize, TransitionOutOfRange, SymbolOutOfRange, TooManyLookaheads, LookaheadOutOfRange, EndCycle, Stalls, MissingTailoring}
+use Rattle.seg_data.specs.declared.provider.DataError.TheVariants.{RangeOrder, RangePast10FFFF, TableSize, ClassOutOfRange, StateOutOfRange, StartRowKeeps, ComplexItems, ComplexBelow0100, StateCount, TransitionSize, TransitionOutOfRange, SymbolOutOfRange, TooManyLookaheads, LookaheadOutOfRange, EndCycle, Stalls, MissingTailoring}
 use Rattle.seg_data.specs.Table.{named_values}
 use Rattle.seg_data.specs.Machine.{Machine, IsSymbolOf, symbol_count, step, state_at, walk}
 use Rattle.seg_data.specs.Pick.{HasStall, pick}
@@ -84,7 +84,7 @@ all_below-at test (suc count) number passed below =
     ]
 
 -- what no element that passes a test is isn't in a list that passes it
-any-refuted : {X : Type 0} (P : X → Type 0) (test : X → Bool) (xs : List X) → list_all test xs ≡ true → ((x : X) → P x → test x ≡ true → ⊥) → Any P xs → ⊥
+pub any-refuted : {X : Type 0} (P : X → Type 0) (test : X → Bool) (xs : List X) → list_all test xs ≡ true → ((x : X) → P x → test x ≡ true → ⊥) → Any P xs → ⊥
 any-refuted P test xs passed refuted any =
     refuted any.1 any.4 (let pass = AllPass-from_list_all test xs passed any.0 any.1 any.2 in rw any.3 at pass)
 
@@ -197,6 +197,11 @@ simple-faultless m passed fault has = none fault (parts m passed) has
     none : (fault : DataError) → IsSimple m → HasMachineFault m fault → ⊥
     none RangeOrder simple has = has
     none RangePast10FFFF simple has = has
+    none TableSize simple has = has
+    none ClassOutOfRange simple has = has
+    none StateOutOfRange simple has = has
+    none StartRowKeeps simple has = has
+    none ComplexItems simple has = has
     none ComplexBelow0100 simple has = has
     none StateCount simple (inl has) = no-count m simple.size has
     none StateCount simple (inr has) = no-more m simple.size has

@@ -1,2 +1,3 @@
-mod Faultless
+pub mod Faultless
 pub mod Scripts
+pub mod PairFaults

@@ -1,12 +1,13 @@
 //! Text boundaries from checked data, under the names of the crate `icu_segmenter` 2.4.0.
 //!
-//! Data are checked once, where they are made (`provider`), and a machine with its tailoring once more in a
-//! segmenter's constructor; the segmenter then gives the boundaries of any text in an encoding of `scaffold`,
-//! with no further refusal.
+//! Data are checked once, where they are made (`provider`), and a machine or a pair table with its tailoring or
+//! override once more in a segmenter's constructor; the segmenter then gives the boundaries of any text in an
+//! encoding of `scaffold`, with no further refusal.
 #![tactic(auto)]
 
 pub use seg_clusters::grapheme::{GraphemeClusterSegmenter, GraphemeClusterSegmenterBorrowed};
 pub use seg_clusters::sentence::{SentenceSegmenter, SentenceSegmenterBorrowed};
+pub use seg_data::provider;
 pub use seg_lines::line::{LineSegmenter, LineSegmenterBorrowed};
 pub use seg_text::{indices, scaffold};
 
@@ -22,13 +23,4 @@ pub mod options {
     pub use seg_clusters::sentence::{SentenceBreakInvariantOptions, SentenceBreakOptions};
     pub use seg_data::provider::LanguageIdentifier;
     pub use seg_lines::line::{LineBreakOptions, LineBreakStrictness, LineBreakWordOption};
-}
-
-/// The data of segmenters, each checked once, where it is made.
-pub mod provider {
-    pub use seg_data::provider::{
-        Acceptance, ClassTable, ComplexScript, DataError, LanguageIdentifier, Lookahead,
-        SegmenterStateMachine, SegmenterStateMachineOverride, State, Symbol,
-    };
-    pub use seg_lines::line::{LineTailorings, LineTailoringsBorrowed};
 }

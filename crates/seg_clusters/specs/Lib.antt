@@ -1,2 +1,4 @@
+pub mod Rules
+pub mod Engine
 pub mod Clusters
 pub mod Sentences

@@ -1,16 +1,21 @@
 //! Grapheme clusters: what a reader takes for one character.
 
-ghost use Rattle.std.specs.Prelude.{◌≡◌, ℕ, List, length, IsOkAnd};
+ghost use Rattle.std.specs.Prelude.{◌≡◌, ℕ, None, List, length, IfOk, IfErr, IsOkAnd};
 ghost use Rattle.std.specs.Iterator.{YieldsFirst, item_count};
 ghost use Rattle.seg_text.specs.Items.{place_of};
 ghost use Rattle.seg_text.specs.Latin1.{latin1_items};
 ghost use Rattle.seg_text.specs.Utf8.{utf8_items};
 ghost use Rattle.seg_text.specs.Utf16.{utf16_items};
-ghost use Rattle.seg_machine.specs.Boundaries.{boundaries, places, places_left, IsSegmented, IsCover};
+ghost use Rattle.seg_text.specs.Places.{places, IsCover};
+ghost use Rattle.seg_data.specs.Faults.{IsFaultless, IsLowestFault};
+ghost use Rattle.seg_data.specs.PairFaults.{HasPairDataFault};
+ghost use Rattle.seg_clusters.specs.Engine.{rules_in, boundaries_left};
+ghost use Rattle.seg_clusters.specs.Rules.{boundaries_by, IsFoundBy};
+ghost use Rattle.seg_clusters.specs.Rules.Rules.{ByTable, ByMachine};
 
-use seg_data::inner::TailoredMachineBorrowed;
-use seg_data::provider::{DataError, SegmenterStateMachine};
-use seg_machine::rule_segmenter_v2::RuleBreakIterator;
+use crate::engine::{Boundaries, Engine, OwnedEngine};
+use seg_data::inner::{PairData, PairDataBorrowed, TailoredMachine, TailoredMachineBorrowed};
+use seg_data::provider::{DataError, RuleBreakData, SegmenterStateMachine};
 use seg_text::indices::{Latin1Indices, StrCharIndices, Utf8CharIndices, Utf16Indices};
 use seg_text::inner::Cursor;
 use seg_text::scaffold::{Latin1, PotentiallyIllFormedUtf8, RuleBreakType, Utf8, Utf16};
@@ -21,13 +26,13 @@ use std::marker::PhantomData;
 ///
 /// First 0, then the end of each cluster; the last is the text's length. After None it is None for ever.
 pub struct GraphemeClusterBreakIterator<'data, 's, Y: RuleBreakType<'s>> {
-    engine: RuleBreakIterator<'data, Y::IterAttr>,
+    boundaries: Boundaries<'data, Y::IterAttr>,
     text: PhantomData<&'s ()>,
 }
 
 impl<'data, 's, Y: RuleBreakType<'s>> Drop for GraphemeClusterBreakIterator<'data, 's, Y> {
     fn drop(self) {
-        let GraphemeClusterBreakIterator { engine: _, text: _ } = self;
+        let GraphemeClusterBreakIterator { boundaries: _, text: _ } = self;
     }
 }
 
@@ -41,32 +46,47 @@ impl<'data, 's, Y: RuleBreakType<'s>> Iterator for GraphemeClusterBreakIterator<
     ghost remaining = { item_count clusters_left };
 
     fn next(&mut self) -> Option<usize> {
-        self.engine.next()
+        self.boundaries.next()
     }
 }
 
 /// Finds grapheme clusters with data of its own.
 #[derive(Debug, Drop)]
 pub struct GraphemeClusterSegmenter {
-    machine: SegmenterStateMachine,
+    engine: OwnedEngine,
 }
 
 impl GraphemeClusterSegmenter {
-    ghost use Rattle.seg_clusters.specs.Clusters.{machine_of, owned_machine};
+    ghost use Rattle.seg_clusters.specs.Clusters.{cluster_rules, owned_cluster_rules};
+
+    /// A segmenter by a pair table. `StartRowKeeps` where the table has no boundary between the
+    /// start of the text and some class of code points, and otherwise `ComplexItems` where it has
+    /// complex code points. Takes no memory.
+    pub fn try_new(table: RuleBreakData) -> Result<Self, DataError>
+        ensures accepted { IfOk result (λ segmenter. (owned_cluster_rules segmenter ≡ ByTable table None)
+            × IsFaultless (HasPairDataFault table None)) }
+        ensures refused { IfErr result (IsLowestFault (HasPairDataFault table None)) }
+    {
+        Ok(GraphemeClusterSegmenter {
+            engine: OwnedEngine::Classic(PairData::try_plain(table, None)?),
+        })
+    }
 
     /// A segmenter by a state machine. Takes no memory and refuses nothing.
     pub fn try_new_neo(machine: SegmenterStateMachine) -> Result<Self, DataError>
-        ensures { IsOkAnd result (λ segmenter. owned_machine segmenter ≡ machine) }
+        ensures { IsOkAnd result (λ segmenter. owned_cluster_rules segmenter ≡ ByMachine machine) }
     {
-        Ok(GraphemeClusterSegmenter { machine })
+        Ok(GraphemeClusterSegmenter {
+            engine: OwnedEngine::Neo(TailoredMachine::untailored(machine)),
+        })
     }
 
     /// The same segmenter over lent data, which segments texts.
     pub fn as_borrowed(&self) -> GraphemeClusterSegmenterBorrowed<'_>
-        ensures { machine_of result ≡ owned_machine self.now }
+        ensures { cluster_rules result ≡ owned_cluster_rules self.now }
     {
         GraphemeClusterSegmenterBorrowed {
-            machine: &self.machine,
+            engine: self.engine.as_borrowed(),
         }
     }
 }
@@ -74,29 +94,44 @@ impl GraphemeClusterSegmenter {
 /// Finds grapheme clusters with data that are lent to it.
 #[derive(Clone, Copy, Debug)]
 pub struct GraphemeClusterSegmenterBorrowed<'data> {
-    machine: &'data SegmenterStateMachine,
+    engine: Engine<'data>,
 }
 
 impl<'data> GraphemeClusterSegmenterBorrowed<'data> {
-    ghost use Rattle.seg_clusters.specs.Clusters.{machine_of, clusters_left};
+    ghost use Rattle.seg_clusters.specs.Clusters.{cluster_rules, clusters_left};
+
+    /// A segmenter by a pair table. `StartRowKeeps` where the table has no boundary between the
+    /// start of the text and some class of code points, and otherwise `ComplexItems` where it has
+    /// complex code points. Takes no memory.
+    pub fn new(table: &'data RuleBreakData) -> Result<Self, DataError>
+        ensures accepted { IfOk result (λ segmenter. (cluster_rules segmenter ≡ ByTable table.now None)
+            × IsFaultless (HasPairDataFault table.now None)) }
+        ensures refused { IfErr result (IsLowestFault (HasPairDataFault table.now None)) }
+    {
+        Ok(GraphemeClusterSegmenterBorrowed {
+            engine: Engine::Classic(PairDataBorrowed::try_plain(table, None)?),
+        })
+    }
 
     /// A segmenter by a state machine. Takes no memory and refuses nothing.
     pub fn new_neo(machine: &'data SegmenterStateMachine) -> Result<Self, DataError>
-        ensures { IsOkAnd result (λ segmenter. machine_of segmenter ≡ machine.now) }
+        ensures { IsOkAnd result (λ segmenter. cluster_rules segmenter ≡ ByMachine machine.now) }
     {
-        Ok(GraphemeClusterSegmenterBorrowed { machine })
+        Ok(GraphemeClusterSegmenterBorrowed {
+            engine: Engine::Neo(TailoredMachineBorrowed::untailored(machine)),
+        })
     }
 
     /// The boundaries of the clusters of a `str`, in bytes: those of its bytes as UTF-8. Takes no memory.
     pub fn segment_str<'s>(self, input: &'s str) -> GraphemeClusterBreakIterator<'data, 's, Utf8>
         ensures boundaries { clusters_left result
-            ≡ places (boundaries (machine_of self.entry) (utf8_items 0 input.now) (length input.now)) }
+            ≡ places (boundaries_by (cluster_rules self.entry) (utf8_items 0 input.now) (length input.now)) }
         ensures segments { (found : List (ℕ × ℕ))
-            × IsSegmented (machine_of self.entry) (utf8_items 0 input.now) (length input.now) found
+            × IsFoundBy (cluster_rules self.entry) (utf8_items 0 input.now) (length input.now) found
             × (clusters_left result ≡ places found) }
         ensures cover { IsCover 0 (length input.now) (clusters_left result) }
     {
-        segment(self.machine, StrCharIndices::new(input))
+        segment(self.engine, StrCharIndices::new(input))
     }
 
     /// The boundaries of the clusters of possibly ill-formed UTF-8, in bytes. Each longest beginning of a
@@ -106,13 +141,13 @@ impl<'data> GraphemeClusterSegmenterBorrowed<'data> {
         input: &'s [u8],
     ) -> GraphemeClusterBreakIterator<'data, 's, PotentiallyIllFormedUtf8>
         ensures boundaries { clusters_left result
-            ≡ places (boundaries (machine_of self.entry) (utf8_items 0 input.now) (length input.now)) }
+            ≡ places (boundaries_by (cluster_rules self.entry) (utf8_items 0 input.now) (length input.now)) }
         ensures segments { (found : List (ℕ × ℕ))
-            × IsSegmented (machine_of self.entry) (utf8_items 0 input.now) (length input.now) found
+            × IsFoundBy (cluster_rules self.entry) (utf8_items 0 input.now) (length input.now) found
             × (clusters_left result ≡ places found) }
         ensures cover { IsCover 0 (length input.now) (clusters_left result) }
     {
-        segment(self.machine, Utf8CharIndices::new(input))
+        segment(self.engine, Utf8CharIndices::new(input))
     }
 
     /// The boundaries of the clusters of Latin-1, in bytes. Takes no memory.
@@ -121,13 +156,13 @@ impl<'data> GraphemeClusterSegmenterBorrowed<'data> {
         input: &'s [u8],
     ) -> GraphemeClusterBreakIterator<'data, 's, Latin1>
         ensures boundaries { clusters_left result
-            ≡ places (boundaries (machine_of self.entry) (latin1_items 0 input.now) (length input.now)) }
+            ≡ places (boundaries_by (cluster_rules self.entry) (latin1_items 0 input.now) (length input.now)) }
         ensures segments { (found : List (ℕ × ℕ))
-            × IsSegmented (machine_of self.entry) (latin1_items 0 input.now) (length input.now) found
+            × IsFoundBy (cluster_rules self.entry) (latin1_items 0 input.now) (length input.now) found
             × (clusters_left result ≡ places found) }
         ensures cover { IsCover 0 (length input.now) (clusters_left result) }
     {
-        segment(self.machine, Latin1Indices::new(input))
+        segment(self.engine, Latin1Indices::new(input))
     }
 
     /// The boundaries of the clusters of possibly ill-formed UTF-16, in 16-bit units. A surrogate that stands alone
@@ -137,29 +172,29 @@ impl<'data> GraphemeClusterSegmenterBorrowed<'data> {
         input: &'s [u16],
     ) -> GraphemeClusterBreakIterator<'data, 's, Utf16>
         ensures boundaries { clusters_left result
-            ≡ places (boundaries (machine_of self.entry) (utf16_items 0 input.now) (length input.now)) }
+            ≡ places (boundaries_by (cluster_rules self.entry) (utf16_items 0 input.now) (length input.now)) }
         ensures segments { (found : List (ℕ × ℕ))
-            × IsSegmented (machine_of self.entry) (utf16_items 0 input.now) (length input.now) found
+            × IsFoundBy (cluster_rules self.entry) (utf16_items 0 input.now) (length input.now) found
             × (clusters_left result ≡ places found) }
         ensures cover { IsCover 0 (length input.now) (clusters_left result) }
     {
-        segment(self.machine, Utf16Indices::new(input))
+        segment(self.engine, Utf16Indices::new(input))
     }
 }
 
 /// The clusters of what is left of a text.
 fn segment<'data, 's, Y: RuleBreakType<'s>>(
-    machine: &'data SegmenterStateMachine,
+    engine: Engine<'data>,
     text: Y::IterAttr,
 ) -> GraphemeClusterBreakIterator<'data, 's, Y>
-    ensures boundaries { places_left result.engine ≡ places (boundaries machine.now (Y.IterAttr.left text) (Y.IterAttr.end text)) }
+    ensures boundaries { boundaries_left result.boundaries ≡ places (boundaries_by (rules_in engine.entry) (Y.IterAttr.left text) (Y.IterAttr.end text)) }
     ensures segments { (found : List (ℕ × ℕ))
-        × IsSegmented machine.now (Y.IterAttr.left text) (Y.IterAttr.end text) found
-        × (places_left result.engine ≡ places found) }
-    ensures cover { IsCover (place_of (Y.IterAttr.left text) (Y.IterAttr.end text)) (Y.IterAttr.end text) (places_left result.engine) }
+        × IsFoundBy (rules_in engine.entry) (Y.IterAttr.left text) (Y.IterAttr.end text) found
+        × (boundaries_left result.boundaries ≡ places found) }
+    ensures cover { IsCover (place_of (Y.IterAttr.left text) (Y.IterAttr.end text)) (Y.IterAttr.end text) (boundaries_left result.boundaries) }
 {
     GraphemeClusterBreakIterator {
-        engine: RuleBreakIterator::new(TailoredMachineBorrowed::untailored(machine), text),
+        boundaries: engine.boundaries(text),
         text: PhantomData,
     }
 }

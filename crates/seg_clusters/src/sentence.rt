@@ -9,14 +9,19 @@ ghost use Rattle.seg_text.specs.Utf8.{utf8_items};
 ghost use Rattle.seg_text.specs.Utf16.{utf16_items};
 ghost use Rattle.seg_data.specs.Faults.{HasTailoringFault, IsFaultless, IsLowestFault};
 ghost use Rattle.seg_data.specs.Machine.{tailored};
-ghost use Rattle.seg_data.specs.Tailored.{machine_of};
-ghost use Rattle.seg_machine.specs.Boundaries.{boundaries, places, places_left, IsSegmented, IsCover};
+ghost use Rattle.seg_data.specs.Overriding.{table_in};
+ghost use Rattle.seg_data.specs.PairFaults.{HasPairDataFault};
+ghost use Rattle.seg_text.specs.Places.{places, IsCover};
+ghost use Rattle.seg_clusters.specs.Engine.{rules_in, boundaries_left};
+ghost use Rattle.seg_clusters.specs.Rules.{boundaries_by, IsFoundBy};
+ghost use Rattle.seg_clusters.specs.Rules.Rules.{ByTable, ByMachine};
 
-use seg_data::inner::{TailoredMachine, TailoredMachineBorrowed};
+use crate::engine::{Boundaries, Engine, OwnedEngine};
+use seg_data::inner::{PairData, PairDataBorrowed, TailoredMachine, TailoredMachineBorrowed};
 use seg_data::provider::{
-    DataError, LanguageIdentifier, SegmenterStateMachine, SegmenterStateMachineOverride,
+    DataError, LanguageIdentifier, RuleBreakData, RuleBreakDataOverride, SegmenterStateMachine,
+    SegmenterStateMachineOverride,
 };
-use seg_machine::rule_segmenter_v2::RuleBreakIterator;
 use seg_text::indices::{Latin1Indices, StrCharIndices, Utf8CharIndices, Utf16Indices};
 use seg_text::inner::Cursor;
 use seg_text::scaffold::{Latin1, PotentiallyIllFormedUtf8, RuleBreakType, Utf8, Utf16};
@@ -41,13 +46,13 @@ pub struct SentenceBreakOptions<'a> {
 ///
 /// First 0, then the end of each sentence; the last is the text's length. After None it is None for ever.
 pub struct SentenceBreakIterator<'data, 's, Y: RuleBreakType<'s>> {
-    engine: RuleBreakIterator<'data, Y::IterAttr>,
+    boundaries: Boundaries<'data, Y::IterAttr>,
     text: PhantomData<&'s ()>,
 }
 
 impl<'data, 's, Y: RuleBreakType<'s>> Drop for SentenceBreakIterator<'data, 's, Y> {
     fn drop(self) {
-        let SentenceBreakIterator { engine: _, text: _ } = self;
+        let SentenceBreakIterator { boundaries: _, text: _ } = self;
     }
 }
 
@@ -61,18 +66,37 @@ impl<'data, 's, Y: RuleBreakType<'s>> Iterator for SentenceBreakIterator<'data, 
     ghost remaining = { item_count sentences_left };
 
     fn next(&mut self) -> Option<usize> {
-        self.engine.next()
+        self.boundaries.next()
     }
 }
 
 /// Finds sentences with data of its own.
 #[derive(Debug, Drop)]
 pub struct SentenceSegmenter {
-    machine: TailoredMachine,
+    engine: OwnedEngine,
 }
 
 impl SentenceSegmenter {
-    ghost use Rattle.seg_clusters.specs.Sentences.{sentence_machine, owned_sentence_machine};
+    ghost use Rattle.seg_clusters.specs.Sentences.{sentence_rules, owned_sentence_rules};
+
+    /// A segmenter by a pair table and its override, if there is one. Of several faults that with
+    /// the lowest number: `ClassOutOfRange` where the override names a class that the table lacks,
+    /// `StartRowKeeps` where no boundary stands between the start of the text and some class of
+    /// code points, `ComplexItems` where some code points are complex. The options change nothing. Takes no memory.
+    pub fn try_new(
+        table: RuleBreakData,
+        overriding: Option<RuleBreakDataOverride>,
+        options: SentenceBreakOptions<'_>,
+    ) -> Result<Self, DataError>
+        ensures accepted { IfOk result (λ segmenter. (owned_sentence_rules segmenter ≡ ByTable table overriding)
+            × IsFaultless (HasPairDataFault table overriding)) }
+        ensures refused { IfErr result (IsLowestFault (HasPairDataFault table overriding)) }
+    {
+        let _ = options;
+        Ok(SentenceSegmenter {
+            engine: OwnedEngine::Classic(PairData::try_plain(table, overriding)?),
+        })
+    }
 
     /// A segmenter by a state machine and its tailoring, if there is one. `SymbolOutOfRange` where
     /// the tailoring doesn't fit the machine. The options change nothing. Takes no memory.
@@ -81,22 +105,22 @@ impl SentenceSegmenter {
         tailoring: Option<SegmenterStateMachineOverride>,
         options: SentenceBreakOptions<'_>,
     ) -> Result<Self, DataError>
-        ensures accepted { IfOk result (λ segmenter. (owned_sentence_machine segmenter ≡ tailored machine tailoring)
+        ensures accepted { IfOk result (λ segmenter. (owned_sentence_rules segmenter ≡ ByMachine (tailored machine tailoring))
             × IsFaultless (HasTailoringFault machine tailoring)) }
         ensures refused { IfErr result (IsLowestFault (HasTailoringFault machine tailoring)) }
     {
         let _ = options;
         Ok(SentenceSegmenter {
-            machine: TailoredMachine::try_new(machine, tailoring)?,
+            engine: OwnedEngine::Neo(TailoredMachine::try_new(machine, tailoring)?),
         })
     }
 
     /// The same segmenter over lent data, which segments texts.
     pub fn as_borrowed(&self) -> SentenceSegmenterBorrowed<'_>
-        ensures { sentence_machine result ≡ owned_sentence_machine self.now }
+        ensures { sentence_rules result ≡ owned_sentence_rules self.now }
     {
         SentenceSegmenterBorrowed {
-            machine: self.machine.as_borrowed(),
+            engine: self.engine.as_borrowed(),
         }
     }
 }
@@ -104,11 +128,30 @@ impl SentenceSegmenter {
 /// Finds sentences with data that are lent to it.
 #[derive(Clone, Copy, Debug)]
 pub struct SentenceSegmenterBorrowed<'data> {
-    machine: TailoredMachineBorrowed<'data>,
+    engine: Engine<'data>,
 }
 
 impl<'data> SentenceSegmenterBorrowed<'data> {
-    ghost use Rattle.seg_clusters.specs.Sentences.{sentence_machine, sentences_left};
+    ghost use Rattle.seg_clusters.specs.Sentences.{sentence_rules, sentences_left};
+
+    /// A segmenter by a pair table and its override, if there is one. Of several faults that with
+    /// the lowest number: `ClassOutOfRange` where the override names a class that the table lacks,
+    /// `StartRowKeeps` where no boundary stands between the start of the text and some class of
+    /// code points, `ComplexItems` where some code points are complex. Takes no memory.
+    pub fn new(
+        table: &'data RuleBreakData,
+        overriding: Option<&'data RuleBreakDataOverride>,
+        options: SentenceBreakInvariantOptions,
+    ) -> Result<Self, DataError>
+        ensures accepted { IfOk result (λ segmenter. (sentence_rules segmenter ≡ ByTable table.now (table_in overriding.entry))
+            × IsFaultless (HasPairDataFault table.now (table_in overriding.entry))) }
+        ensures refused { IfErr result (IsLowestFault (HasPairDataFault table.now (table_in overriding.entry))) }
+    {
+        let _ = options;
+        Ok(SentenceSegmenterBorrowed {
+            engine: Engine::Classic(PairDataBorrowed::try_plain(table, overriding)?),
+        })
+    }
 
     /// A segmenter by a state machine and its tailoring, if there is one. `SymbolOutOfRange` where
     /// the tailoring doesn't fit the machine. Takes no memory.
@@ -117,26 +160,26 @@ impl<'data> SentenceSegmenterBorrowed<'data> {
         tailoring: Option<&'data SegmenterStateMachineOverride>,
         options: SentenceBreakInvariantOptions,
     ) -> Result<Self, DataError>
-        ensures accepted { IfOk result (λ segmenter. (sentence_machine segmenter ≡ tailored machine.now (option_map (λ t. t.now) tailoring.entry))
+        ensures accepted { IfOk result (λ segmenter. (sentence_rules segmenter ≡ ByMachine (tailored machine.now (option_map (λ t. t.now) tailoring.entry)))
             × IsFaultless (HasTailoringFault machine.now (option_map (λ t. t.now) tailoring.entry))) }
         ensures refused { IfErr result (IsLowestFault (HasTailoringFault machine.now (option_map (λ t. t.now) tailoring.entry))) }
     {
         let _ = options;
         Ok(SentenceSegmenterBorrowed {
-            machine: TailoredMachineBorrowed::try_new(machine, tailoring)?,
+            engine: Engine::Neo(TailoredMachineBorrowed::try_new(machine, tailoring)?),
         })
     }
 
     /// The boundaries of the sentences of a `str`, in bytes: those of its bytes as UTF-8. Takes no memory.
     pub fn segment_str<'s>(self, input: &'s str) -> SentenceBreakIterator<'data, 's, Utf8>
         ensures boundaries { sentences_left result
-            ≡ places (boundaries (sentence_machine self.entry) (utf8_items 0 input.now) (length input.now)) }
+            ≡ places (boundaries_by (sentence_rules self.entry) (utf8_items 0 input.now) (length input.now)) }
         ensures segments { (found : List (ℕ × ℕ))
-            × IsSegmented (sentence_machine self.entry) (utf8_items 0 input.now) (length input.now) found
+            × IsFoundBy (sentence_rules self.entry) (utf8_items 0 input.now) (length input.now) found
             × (sentences_left result ≡ places found) }
         ensures cover { IsCover 0 (length input.now) (sentences_left result) }
     {
-        segment(self.machine, StrCharIndices::new(input))
+        segment(self.engine, StrCharIndices::new(input))
     }
 
     /// The boundaries of the sentences of possibly ill-formed UTF-8, in bytes. Each longest beginning of a
@@ -146,54 +189,54 @@ impl<'data> SentenceSegmenterBorrowed<'data> {
         input: &'s [u8],
     ) -> SentenceBreakIterator<'data, 's, PotentiallyIllFormedUtf8>
         ensures boundaries { sentences_left result
-            ≡ places (boundaries (sentence_machine self.entry) (utf8_items 0 input.now) (length input.now)) }
+            ≡ places (boundaries_by (sentence_rules self.entry) (utf8_items 0 input.now) (length input.now)) }
         ensures segments { (found : List (ℕ × ℕ))
-            × IsSegmented (sentence_machine self.entry) (utf8_items 0 input.now) (length input.now) found
+            × IsFoundBy (sentence_rules self.entry) (utf8_items 0 input.now) (length input.now) found
             × (sentences_left result ≡ places found) }
         ensures cover { IsCover 0 (length input.now) (sentences_left result) }
     {
-        segment(self.machine, Utf8CharIndices::new(input))
+        segment(self.engine, Utf8CharIndices::new(input))
     }
 
     /// The boundaries of the sentences of Latin-1, in bytes. Takes no memory.
     pub fn segment_latin1<'s>(self, input: &'s [u8]) -> SentenceBreakIterator<'data, 's, Latin1>
         ensures boundaries { sentences_left result
-            ≡ places (boundaries (sentence_machine self.entry) (latin1_items 0 input.now) (length input.now)) }
+            ≡ places (boundaries_by (sentence_rules self.entry) (latin1_items 0 input.now) (length input.now)) }
         ensures segments { (found : List (ℕ × ℕ))
-            × IsSegmented (sentence_machine self.entry) (latin1_items 0 input.now) (length input.now) found
+            × IsFoundBy (sentence_rules self.entry) (latin1_items 0 input.now) (length input.now) found
             × (sentences_left result ≡ places found) }
         ensures cover { IsCover 0 (length input.now) (sentences_left result) }
     {
-        segment(self.machine, Latin1Indices::new(input))
+        segment(self.engine, Latin1Indices::new(input))
     }
 
     /// The boundaries of the sentences of possibly ill-formed UTF-16, in 16-bit units. A surrogate that stands alone
     /// counts as itself. Takes no memory.
     pub fn segment_utf16<'s>(self, input: &'s [u16]) -> SentenceBreakIterator<'data, 's, Utf16>
         ensures boundaries { sentences_left result
-            ≡ places (boundaries (sentence_machine self.entry) (utf16_items 0 input.now) (length input.now)) }
+            ≡ places (boundaries_by (sentence_rules self.entry) (utf16_items 0 input.now) (length input.now)) }
         ensures segments { (found : List (ℕ × ℕ))
-            × IsSegmented (sentence_machine self.entry) (utf16_items 0 input.now) (length input.now) found
+            × IsFoundBy (sentence_rules self.entry) (utf16_items 0 input.now) (length input.now) found
             × (sentences_left result ≡ places found) }
         ensures cover { IsCover 0 (length input.now) (sentences_left result) }
     {
-        segment(self.machine, Utf16Indices::new(input))
+        segment(self.engine, Utf16Indices::new(input))
     }
 }
 
 /// The sentences of what is left of a text.
 fn segment<'data, 's, Y: RuleBreakType<'s>>(
-    machine: TailoredMachineBorrowed<'data>,
+    engine: Engine<'data>,
     text: Y::IterAttr,
 ) -> SentenceBreakIterator<'data, 's, Y>
-    ensures boundaries { places_left result.engine ≡ places (boundaries (machine_of machine.entry) (Y.IterAttr.left text) (Y.IterAttr.end text)) }
+    ensures boundaries { boundaries_left result.boundaries ≡ places (boundaries_by (rules_in engine.entry) (Y.IterAttr.left text) (Y.IterAttr.end text)) }
     ensures segments { (found : List (ℕ × ℕ))
-        × IsSegmented (machine_of machine.entry) (Y.IterAttr.left text) (Y.IterAttr.end text) found
-        × (places_left result.engine ≡ places found) }
-    ensures cover { IsCover (place_of (Y.IterAttr.left text) (Y.IterAttr.end text)) (Y.IterAttr.end text) (places_left result.engine) }
+        × IsFoundBy (rules_in engine.entry) (Y.IterAttr.left text) (Y.IterAttr.end text) found
+        × (boundaries_left result.boundaries ≡ places found) }
+    ensures cover { IsCover (place_of (Y.IterAttr.left text) (Y.IterAttr.end text)) (Y.IterAttr.end text) (boundaries_left result.boundaries) }
 {
     SentenceBreakIterator {
-        engine: RuleBreakIterator::new(machine, text),
+        boundaries: engine.boundaries(text),
         text: PhantomData,
     }
 }

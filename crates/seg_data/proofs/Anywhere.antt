@@ -1,5 +1,5 @@
 -- `Any` over lists.
-use Rattle.std.proofs.Common.{◌≡◌, ℕ, suc, zero, ◌<◌, ◌⊎◌, List, [], ◌∷◌, length, map, get_or, Any, refl, sym, subst, inl, inr, arith}
+use Rattle.std.proofs.Common.{◌≡◌, ℕ, suc, zero, ◌<◌, ◌⊎◌, List, [], ◌∷◌, length, map, get_or, Any, Contains, refl, sym, subst, inl, inr, arith}
 use Rattle.std.proofs.lemmas.List.{get_or_default}
 
 pub any-at : {X : Type 0} (P : X → Type 0) (xs : List X) (k : ℕ) (d : X) → k < length xs → P (get_or xs k d) → Any P xs
@@ -36,3 +36,12 @@ any-unmap f P (x ∷ xs) any =
       | inl p ↦ any-head (λ x. P (f x)) x xs p
       | inr later ↦ any-tail (λ x. P (f x)) x xs (any-unmap f P xs later)
     ]
+
+pub any-contained : {X : Type 0} (P : X → Type 0) (xs : List X) (x : X) → Contains xs x → P x → Any P xs
+any-contained P xs x there p = (there.0, x, there.1, there.2, p)
+
+pub contained-any : {X : Type 0} (P : X → Type 0) (xs : List X) → Any P xs → (x : X) × Contains xs x × P x
+contained-any P xs any = (any.1, (any.0, any.2, any.3), any.4)
+
+pub contained-same : {X : Type 0} (xs : List X) (x : X) → Any (λ y. y ≡ x) xs → Contains xs x
+contained-same xs x any = subst (Contains xs) any.4 (any.0, any.2, any.3)

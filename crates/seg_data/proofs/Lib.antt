@@ -12,4 +12,5 @@ pub mod Searches
 pub mod Tables
 pub mod Machines
 pub mod Segmentations
+pub mod Pairs
 pub mod Restarts

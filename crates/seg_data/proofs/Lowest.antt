@@ -2,7 +2,7 @@
 use Rattle.std.proofs.Common.{◌≡◌, ℕ, suc, ◌<◌, refl, subst, inl, inr, arith}
 use Rattle.std.proofs.lemmas.Bool.{cases_lt}
 use Rattle.seg_data.specs.declared.provider.DataError.{DataError}
-use Rattle.seg_data.specs.declared.provider.DataError.TheVariants.{RangeOrder, RangePast10FFFF, ComplexBelow0100, StateCount, TransitionSize, TransitionOutOfRange, SymbolOutOfRange, TooManyLookaheads, LookaheadOutOfRange, EndCycle, Stalls, MissingTailoring}
+use Rattle.seg_data.specs.declared.provider.DataError.TheVariants.{RangeOrder, RangePast10FFFF, TableSize, ClassOutOfRange, StateOutOfRange, StartRowKeeps, ComplexItems, ComplexBelow0100, StateCount, TransitionSize, TransitionOutOfRange, SymbolOutOfRange, TooManyLookaheads, LookaheadOutOfRange, EndCycle, Stalls, MissingTailoring}
 use Rattle.seg_data.specs.Faults.{number_of, IsFaultless, IsLowestFault}
 
 pub same_number : (a b : DataError) → number_of a ≡ number_of b → a ≡ b
@@ -10,6 +10,16 @@ same_number RangeOrder RangeOrder same = refl
 same_number RangeOrder b same = absurd (omega arith)
 same_number RangePast10FFFF RangePast10FFFF same = refl
 same_number RangePast10FFFF b same = absurd (omega arith)
+same_number TableSize TableSize same = refl
+same_number TableSize b same = absurd (omega arith)
+same_number ClassOutOfRange ClassOutOfRange same = refl
+same_number ClassOutOfRange b same = absurd (omega arith)
+same_number StateOutOfRange StateOutOfRange same = refl
+same_number StateOutOfRange b same = absurd (omega arith)
+same_number StartRowKeeps StartRowKeeps same = refl
+same_number StartRowKeeps b same = absurd (omega arith)
+same_number ComplexItems ComplexItems same = refl
+same_number ComplexItems b same = absurd (omega arith)
 same_number ComplexBelow0100 ComplexBelow0100 same = refl
 same_number ComplexBelow0100 b same = absurd (omega arith)
 same_number StateCount StateCount same = refl
@@ -34,6 +44,11 @@ same_number MissingTailoring b same = absurd (omega arith)
 number-below : (fault : DataError) → number_of fault < 20
 number-below RangeOrder = omega arith
 number-below RangePast10FFFF = omega arith
+number-below TableSize = omega arith
+number-below ClassOutOfRange = omega arith
+number-below StateOutOfRange = omega arith
+number-below StartRowKeeps = omega arith
+number-below ComplexItems = omega arith
 number-below ComplexBelow0100 = omega arith
 number-below StateCount = omega arith
 number-below TransitionSize = omega arith

@@ -5,7 +5,7 @@ use Rattle.std.proofs.lemmas.Bool.{cases_lt, cond_both, cond-true, cond-false, l
 use Rattle.std.proofs.lemmas.Nat.{mul-le}
 use Rattle.std.proofs.lemmas.List.{get_or_past, get_or_read}
 use Rattle.seg_data.specs.declared.provider.DataError.{DataError}
-use Rattle.seg_data.specs.declared.provider.DataError.TheVariants.{RangeOrder, RangePast10FFFF, ComplexBelow0100, StateCount, TransitionSize, TransitionOutOfRange, SymbolOutOfRange, TooManyLookaheads, LookaheadOutOfRange, EndCycle, Stalls, MissingTailoring}
+use Rattle.seg_data.specs.declared.provider.DataError.TheVariants.{RangeOrder, RangePast10FFFF, TableSize, ClassOutOfRange, StateOutOfRange, StartRowKeeps, ComplexItems, ComplexBelow0100, StateCount, TransitionSize, TransitionOutOfRange, SymbolOutOfRange, TooManyLookaheads, LookaheadOutOfRange, EndCycle, Stalls, MissingTailoring}
 use Rattle.seg_data.specs.declared.provider.Acceptance.{Acceptance}
 use Rattle.seg_data.specs.declared.provider.Acceptance.TheVariants.{Continue, Accept, Conditional}
 use Rattle.seg_data.specs.declared.provider.ComplexScript.{ComplexScript}
@@ -30,6 +30,11 @@ below-11 m = record { absent = λ fault less has. none m fault less has }
     none : (m : Machine) (fault : DataError) → number_of fault < 11 → HasMachineFault m fault → ⊥
     none m RangeOrder less has = has
     none m RangePast10FFFF less has = has
+    none m TableSize less has = has
+    none m ClassOutOfRange less has = has
+    none m StateOutOfRange less has = has
+    none m StartRowKeeps less has = has
+    none m ComplexItems less has = has
     none m ComplexBelow0100 less has = has
     none m StateCount less has = omega arith
     none m TransitionSize less has = omega arith

@@ -16,16 +16,16 @@ ends-shifted n before ((taken, status) ∷ found) =
     let sum : (n + before) + taken ≡ n + (before + taken) = omega arith in
     rw (sum, ends-shifted n (before + taken) found) refl
 
-ends-start : (n : ℕ) (found : List (ℕ × ℕ)) → ends_from n found ≡ shifted n (ends_from 0 found)
+pub ends-start : (n : ℕ) (found : List (ℕ × ℕ)) → ends_from n found ≡ shifted n (ends_from 0 found)
 ends-start n found =
     let none : n + 0 ≡ n = omega arith in
     subst (λ from. ends_from from found ≡ shifted n (ends_from 0 found)) none (ends-shifted n 0 found)
 
-ends-nil : (before : ℕ) → ends_from before [] ≡ []
+pub ends-nil : (before : ℕ) → ends_from before [] ≡ []
 unfolding ends_from
 ends-nil before = refl
 
-ends-cons : (before : ℕ) (p : ℕ × ℕ) (found : List (ℕ × ℕ)) → ends_from before (p ∷ found) ≡ (before + p.0, p.1) ∷ ends_from (before + p.0) found
+pub ends-cons : (before : ℕ) (p : ℕ × ℕ) (found : List (ℕ × ℕ)) → ends_from before (p ∷ found) ≡ (before + p.0, p.1) ∷ ends_from (before + p.0) found
 unfolding ends_from
 ends-cons before (taken, status) found = refl
 
@@ -34,7 +34,7 @@ segments-none : (m : Machine) (symbol : ℕ) (symbols : List ℕ) → pick m (sy
 unfolding segments first_segments
 segments-none m symbol symbols is = rw is refl
 
-none-found : (before first k : ℕ) (boundary : ℕ × ℕ) (found : List (ℕ × ℕ)) → found ≡ []
+pub none-found : (before first k : ℕ) (boundary : ℕ × ℕ) (found : List (ℕ × ℕ)) → found ≡ []
     → slice_get ((before, first) ∷ ends_from before found) (suc k) ≡ Some boundary → ⊥
 none-found before first k boundary found none is =
     let nothing : slice_get ((before, first) ∷ []) (suc k) ≡ Some boundary = rw (none, ends-nil) at is in

@@ -1,7 +1,7 @@
 -- The faults of data that strangers hand in.
 use Rattle.std.specs.Prelude.{◌≡◌, ◌≢◌, ℕ, ◌+◌, ◌*◌, ◌<◌, ◌≤◌, ◌⊎◌, suc, Option, Some, List, length, slice_get, IsSomeAnd, Any}
 use Rattle.seg_data.specs.declared.provider.DataError.{DataError}
-use Rattle.seg_data.specs.declared.provider.DataError.TheVariants.{RangeOrder, RangePast10FFFF, ComplexBelow0100, StateCount, TransitionSize, TransitionOutOfRange, SymbolOutOfRange, TooManyLookaheads, LookaheadOutOfRange, EndCycle, Stalls, MissingTailoring}
+use Rattle.seg_data.specs.declared.provider.DataError.TheVariants.{RangeOrder, RangePast10FFFF, TableSize, ClassOutOfRange, StateOutOfRange, StartRowKeeps, ComplexItems, ComplexBelow0100, StateCount, TransitionSize, TransitionOutOfRange, SymbolOutOfRange, TooManyLookaheads, LookaheadOutOfRange, EndCycle, Stalls, MissingTailoring}
 use Rattle.seg_data.specs.declared.provider.Acceptance.{Acceptance}
 use Rattle.seg_data.specs.declared.provider.Acceptance.TheVariants.{Continue, Accept, Conditional}
 use Rattle.seg_data.specs.declared.provider.ComplexScript.{ComplexScript}
@@ -14,6 +14,11 @@ use Rattle.seg_data.specs.Pick.{HasStall}
 abbrev pub number_of : DataError → ℕ
 number_of RangeOrder = 2
 number_of RangePast10FFFF = 3
+number_of TableSize = 4
+number_of ClassOutOfRange = 5
+number_of StateOutOfRange = 6
+number_of StartRowKeeps = 7
+number_of ComplexItems = 8
 number_of ComplexBelow0100 = 9
 number_of StateCount = 11
 number_of TransitionSize = 12

@@ -9,4 +9,11 @@ pub mod Checked
 pub mod Search
 pub mod Same
 pub mod Unaligned
+pub mod BreakStates
+pub mod PairTable
+pub mod PairFaults
+pub mod SamePairs
+pub mod PairData
+pub mod Overriding
 pub mod Tailored
+pub mod LineTailorings

@@ -8,9 +8,12 @@ abbrev pub shifted : ℕ → List (ℕ × ℕ) → List (ℕ × ℕ)
 shifted before boundaries = map (λ (boundary : ℕ × ℕ). (before + boundary.0, boundary.1)) boundaries
 
 -- after each boundary of a text come those of the rest, taken alone and shifted: all but its first, which is 0
-abbrev pub HasRestart : Machine → Type 0
-HasRestart m =
+abbrev pub RestartsBy : (List ℕ → List (ℕ × ℕ)) → Type 0
+RestartsBy boundaries =
     (code_points : List ℕ) (k ordinal status : ℕ)
-    → slice_get (machine_boundaries m code_points) k ≡ Some (ordinal, status)
-    → drop (suc k) (machine_boundaries m code_points)
-    ≡ shifted ordinal (drop 1 (machine_boundaries m (drop ordinal code_points)))
+    → slice_get (boundaries code_points) k ≡ Some (ordinal, status)
+    → drop (suc k) (boundaries code_points)
+    ≡ shifted ordinal (drop 1 (boundaries (drop ordinal code_points)))
+
+abbrev pub HasRestart : Machine → Type 0
+HasRestart m = RestartsBy (machine_boundaries m)

@@ -144,7 +144,7 @@ same_machine-decides a b =
     (same_map-decides a.pseudo_symbol_map b.pseudo_symbol_map))
 
 -- what decides equality is an equivalence
-laws-from : {X : Type 0} (same : X → X → Bool) → ((a b : X) → Decides (same a b) (a ≡ b)) → IsPartialEquivalence same
+pub laws-from : {X : Type 0} (same : X → X → Bool) → ((a b : X) → Decides (same a b) (a ≡ b)) → IsPartialEquivalence same
 laws-from same decides = partial_equiv_from_equiv (record {
   refl = λ a. (decides a a).1 refl;
   symm = λ a b. same_from_decides (same a b) (same b a) (decides a b) (Decides-like (same b a) sym sym (decides b a));

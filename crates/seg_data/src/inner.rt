@@ -5,6 +5,10 @@ ghost use Rattle.seg_data.specs.Checked.{HasTextSymbols, IsChecked};
 ghost use Rattle.seg_data.specs.Faults.{HasComplexBelow0100, HasTailoringFault, IsFaultless, IsLowestFault};
 ghost use Rattle.seg_data.specs.Machine.{IsTextSymbol, state_at, step, symbol_and_script, symbol_count, tailored};
 
+mod pairs;
+
+pub use pairs::{PairData, PairDataBorrowed};
+
 use crate::provider::{
     Acceptance, ComplexScript, DataError, Lookahead, SegmenterStateMachine,
     SegmenterStateMachineOverride, State, Symbol,

@@ -6,7 +6,10 @@ ghost use Rattle.seg_data.specs.Unaligned.{HasByte, acceptance_of, byte_of};
 mod checks;
 mod cycles;
 mod language;
+mod line_tailorings;
 mod machine;
+pub(crate) mod pair_checks;
+mod pairs;
 mod stalls;
 mod table;
 mod tailoring;
@@ -14,7 +17,9 @@ mod tailoring;
 mod tests;
 
 pub use language::LanguageIdentifier;
+pub use line_tailorings::{LineTailorings, LineTailoringsBorrowed};
 pub use machine::SegmenterStateMachine;
+pub use pairs::{BreakState, RuleBreakData, RuleBreakDataOverride};
 pub use table::ClassTable;
 pub use tailoring::SegmenterStateMachineOverride;
 use thiserror::Error;
@@ -101,6 +106,22 @@ pub enum DataError {
     /// 3: a range ends above U+10FFFF.
     #[error("3 RangePast10FFFF: a range ends above U+10FFFF, the last code point")]
     RangePast10FFFF,
+    /// 4: there are no classes, or not one entry of the pair table for each two of them.
+    #[error("4 TableSize: there are no classes, or there is not one entry for each two of them")]
+    TableSize,
+    /// 5: a class that the table or the override names isn't below the number of classes.
+    #[error("5 ClassOutOfRange: a class is not below the number of classes")]
+    ClassOutOfRange,
+    /// 6: the class of the text's start or end, or a state that an entry names, isn't below the
+    /// number of classes.
+    #[error("6 StateOutOfRange: a state, or the class of the start or the end of the text, is not below the number of classes")]
+    StateOutOfRange,
+    /// 7: between the start of the text and a class that code points have there is no boundary.
+    #[error("7 StartRowKeeps: the table has no boundary between the start of the text and a class that it names")]
+    StartRowKeeps,
+    /// 8: code points have the class of complex items, which these segmenters don't take.
+    #[error("8 ComplexItems: the class of complex items is one that the table or its override names")]
+    ComplexItems,
     /// 9: a code point below U+0100, which also Latin-1 has, has a script.
     #[error("9 ComplexBelow0100: a code point below U+0100 has a script")]
     ComplexBelow0100,
@@ -143,6 +164,11 @@ impl DataError {
         match self {
             DataError::RangeOrder => 2,
             DataError::RangePast10FFFF => 3,
+            DataError::TableSize => 4,
+            DataError::ClassOutOfRange => 5,
+            DataError::StateOutOfRange => 6,
+            DataError::StartRowKeeps => 7,
+            DataError::ComplexItems => 8,
             DataError::ComplexBelow0100 => 9,
             DataError::StateCount => 11,
             DataError::TransitionSize => 12,

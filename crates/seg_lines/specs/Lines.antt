@@ -12,7 +12,7 @@ use Rattle.seg_machine.specs.Boundaries.{places_left}
 use Rattle.seg_lines.specs.declared.line.options.Tailoring.{Tailoring}
 use Rattle.seg_lines.specs.declared.line.options.MachineChoice.{MachineChoice}
 use Rattle.seg_lines.specs.declared.line.options.MachineChoice.TheVariants.{Clusters, Lines}
-use Rattle.seg_lines.specs.declared.line.tailorings.LineTailorings.{LineTailorings}
+use Rattle.seg_data.specs.declared.provider.line_tailorings.LineTailorings.{LineTailorings}
 use Rattle.seg_lines.specs.declared.line.LineSegmenter.{LineSegmenter}
 use Rattle.seg_lines.specs.declared.line.LineSegmenterBorrowed.{LineSegmenterBorrowed}
 use Rattle.seg_lines.specs.declared.line.LineBreakIterator.{LineBreakIterator}

@@ -21,13 +21,14 @@ use neo::{lent_line_machine, owned_line_machine};
 pub use options::{LineBreakOptions, LineBreakStrictness, LineBreakWordOption};
 use options::{MachineChoice, choice_of};
 use seg_data::inner::{TailoredMachine, TailoredMachineBorrowed};
-use seg_data::provider::{DataError, SegmenterStateMachine};
+use seg_data::provider::{
+    DataError, LineTailorings, LineTailoringsBorrowed, SegmenterStateMachine,
+};
 use seg_machine::rule_segmenter_v2::RuleBreakIterator;
 use seg_text::indices::{Latin1Indices, StrCharIndices, Utf8CharIndices, Utf16Indices};
 use seg_text::inner::Cursor;
 use seg_text::scaffold::{Latin1, PotentiallyIllFormedUtf8, RuleBreakType, Utf8, Utf16};
 use std::marker::PhantomData;
-pub use tailorings::{LineTailorings, LineTailoringsBorrowed};
 
 /// The boundaries of lines in a text, as places: bytes in str, UTF-8 and Latin-1,
 /// 16-bit units in UTF-16.
@@ -125,7 +126,7 @@ pub struct LineSegmenterBorrowed<'data> {
 
 impl<'data> LineSegmenterBorrowed<'data> {
     ghost use Rattle.seg_lines.specs.Lines.{line_machine, lines_left, line_places, is_mandatory, chosen_machine, HasLineFault};
-    ghost use Rattle.seg_lines.specs.Tailorings.{lent};
+    ghost use Rattle.seg_data.specs.LineTailorings.{lent};
 
     /// A segmenter by the state machine of lines, or by that of clusters where the strictness is
     /// `Anywhere` and the word option `Normal`, which refuses nothing. Otherwise

@@ -6,22 +6,9 @@ use Rattle.seg_data.proofs.Picks.{pick-bounds}
 use Rattle.seg_data.proofs.Segmentations.{segments-exist, symbols_of-text}
 use Rattle.seg_data.specs.Segments.{IsSegmentation, segments, ends_from}
 use Rattle.seg_text.specs.Items.{place_of, code_points, IsRising}
+use Rattle.seg_text.proofs.Places.{IsRising-drop, place_of-drop-lt}
 use Rattle.seg_machine.specs.Boundaries.{placed, places, boundaries, IsSegmented, RisesTo, IsCover}
 use Rattle.seg_machine.proofs.Ends.{symbols-drop, ends-next}
-
-IsRising-drop : (items : List (ℕ × ℕ)) (end n : ℕ) → IsRising items end → IsRising (drop n items) end
-IsRising-drop items end zero rising = rising
-IsRising-drop [] end (suc n) rising = rising
-IsRising-drop (item ∷ items) end (suc n) rising = IsRising-drop items end n rising.1
-
-place_of-drop-le : (items : List (ℕ × ℕ)) (end n : ℕ) → IsRising items end → place_of items end ≤ place_of (drop n items) end
-place_of-drop-le items end zero rising = omega arith
-place_of-drop-le [] end (suc n) rising = omega arith
-place_of-drop-le (item ∷ items) end (suc n) rising = omega (arith, place_of-drop-le items end n rising.1, rising.0)
-
-place_of-drop-lt : (item : ℕ × ℕ) (items : List (ℕ × ℕ)) (end n : ℕ) → IsRising (item ∷ items) end → 0 < n → item.0 < place_of (drop n (item ∷ items)) end
-place_of-drop-lt item items end zero rising some = absurd (omega arith)
-place_of-drop-lt item items end (suc n) rising some = omega (arith, place_of-drop-le items end n rising.1, rising.0)
 
 nonempty : (symbol : ℕ) (symbols : List ℕ) → symbol ∷ symbols ≢ []
 nonempty symbol symbols e = cc

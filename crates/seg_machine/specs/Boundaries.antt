@@ -1,15 +1,9 @@
 -- The boundaries that a machine finds in a text, as places.
-use Rattle.std.specs.Prelude.{◌≡◌, ℕ, ◌<◌, Bool, Option, List, [], ◌∷◌, drop, map, if◌then◌else◌, MatchOption}
-use Rattle.seg_text.specs.Items.{place_of, code_points}
+use Rattle.std.specs.Prelude.{◌≡◌, ℕ, Bool, Option, List, [], ◌∷◌, map, if◌then◌else◌, MatchOption}
+use Rattle.seg_text.specs.Items.{code_points}
+pub use Rattle.seg_text.specs.Places.{placed, places, RisesTo, IsCover}
 use Rattle.seg_data.specs.Machine.{Machine, symbols_of}
 use Rattle.seg_data.specs.Segments.{IsSegmentation, segments, ends_from, machine_boundaries}
-
--- a count of items and a status, as the place after so many of these items, and the status
-abbrev pub placed : List (ℕ × ℕ) → ℕ → ℕ × ℕ → ℕ × ℕ
-placed items end counted = (place_of (drop counted.0 items) end, counted.1)
-
-abbrev pub places : List (ℕ × ℕ) → List ℕ
-places boundaries = map (λ (boundary : ℕ × ℕ). boundary.0) boundaries
 
 -- the boundaries of a list of code points, counted in code points
 abbrev pub ordinals : Machine → List ℕ → List ℕ
@@ -24,16 +18,6 @@ abbrev pub IsSegmented : Machine → List (ℕ × ℕ) → ℕ → List (ℕ × 
 IsSegmented m items end found =
     (segments : List (ℕ × ℕ)) × IsSegmentation m (symbols_of m (code_points items)) segments
     × (found ≡ map (placed items end) ((0, 0) ∷ ends_from 0 segments))
-
--- the places rise strictly, from one on to the end
-abbrev pub RisesTo : ℕ → List ℕ → ℕ → Type 0
-RisesTo from [] end = from ≡ end
-RisesTo from (place ∷ places) end = (from < place) × RisesTo place places end
-
--- boundaries of a text from a start to its end: the first is the start, the last the end, each is above the one before
-abbrev pub IsCover : ℕ → ℕ → List ℕ → Type 0
-IsCover start end [] = ⊥
-IsCover start end (place ∷ places) = (place ≡ start) × RisesTo start places end
 
 -- the ends of the segments that are left, where some were given
 unfoldable pub segment_ends : Machine → List (ℕ × ℕ) → ℕ → List (ℕ × ℕ)

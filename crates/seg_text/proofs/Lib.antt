@@ -9,3 +9,4 @@ pub mod Slice
 pub mod Utf8Stable
 pub mod Str
 pub mod StrTiling
+pub mod Places

@@ -5,3 +5,4 @@ pub mod Utf16
 pub mod Cursor
 pub mod Reader
 pub mod Rising
+pub mod Places

@@ -1,14 +1,16 @@
 -- The words of each command, and what it prints of a text.
-use Rattle.std.specs.Prelude.{◌≢◌, ℕ, List, [], ◌∷◌, length, map, codes}
+use Rattle.std.specs.Prelude.{◌≢◌, ℕ, None, List, [], ◌∷◌, length, map, codes}
 use Rattle.std.specs.Borrow.{Bor}
 use Rattle.icu_segmenter.specs.Utf8.{utf8_items}
-use Rattle.icu_segmenter.specs.Machine.{Machine}
-use Rattle.icu_segmenter.specs.Boundaries.{boundaries, places}
+use Rattle.icu_segmenter.specs.Places.{places}
+use Rattle.icu_segmenter.specs.Rules.{Rules, boundaries_by}
+use Rattle.icu_segmenter.specs.Rules.Rules.{ByTable, ByMachine}
 use Rattle.bench.specs.Clusters.{cluster_machine}
 use Rattle.bench.specs.Sentences.{sentence_machine}
 use Rattle.bench.specs.Lines.{line_machine}
+use Rattle.bench.specs.PairTables.{cluster_table, sentence_table}
 use Rattle.textcut.specs.declared.command.Command.{Command}
-use Rattle.textcut.specs.declared.command.Command.TheVariants.{GraphemeNeo, SentenceNeo, LineNeo}
+use Rattle.textcut.specs.declared.command.Command.TheVariants.{GraphemeClassic, GraphemeNeo, SentenceClassic, SentenceNeo, LineNeo}
 
 -- the texts that references point to
 abbrev pub texts : List (Bor (List ℕ)) → List (List ℕ)
@@ -16,7 +18,9 @@ texts words = map (λ word. word.now) words
 
 -- the words of a command
 abbrev pub words_of : Command → List (List ℕ)
+words_of GraphemeClassic = codes "grapheme" ∷ codes "classic" ∷ []
 words_of GraphemeNeo = codes "grapheme" ∷ codes "neo" ∷ []
+words_of SentenceClassic = codes "sentence" ∷ codes "classic" ∷ []
 words_of SentenceNeo = codes "sentence" ∷ codes "neo" ∷ []
 words_of LineNeo = codes "line" ∷ codes "neo" ∷ []
 
@@ -24,12 +28,14 @@ words_of LineNeo = codes "line" ∷ codes "neo" ∷ []
 abbrev pub IsNoCommand : List (List ℕ) → Type 0
 IsNoCommand words = (command : Command) → words ≢ words_of command
 
--- the boundaries of a text by a machine
-abbrev pub neo_boundaries : Machine → List ℕ → List ℕ
-neo_boundaries machine bytes = places (boundaries machine (utf8_items 0 bytes) (length bytes))
+-- what a command finds boundaries by; by default options the machine of lines isn't tailored
+abbrev pub rules_of : Command → Rules
+rules_of GraphemeClassic = ByTable cluster_table None
+rules_of GraphemeNeo = ByMachine cluster_machine
+rules_of SentenceClassic = ByTable sentence_table None
+rules_of SentenceNeo = ByMachine sentence_machine
+rules_of LineNeo = ByMachine line_machine
 
--- the boundaries that a command prints of a text; by default options the machine of lines isn't tailored
+-- the boundaries that a command prints of a text
 abbrev pub boundaries_of : Command → List ℕ → List ℕ
-boundaries_of GraphemeNeo bytes = neo_boundaries cluster_machine bytes
-boundaries_of SentenceNeo bytes = neo_boundaries sentence_machine bytes
-boundaries_of LineNeo bytes = neo_boundaries line_machine bytes
+boundaries_of command bytes = places (boundaries_by (rules_of command) (utf8_items 0 bytes) (length bytes))

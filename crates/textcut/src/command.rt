@@ -6,8 +6,12 @@ ghost use Rattle.textcut.specs.declared.command.Command.{Command as AnyCommand};
 /// What a command line asks for.
 #[derive(Clone, Copy, Debug, PartialEq, Eq)]
 pub enum Command {
+    /// The grapheme clusters, by the pair table that is built in.
+    GraphemeClassic,
     /// The grapheme clusters, by the machine that is built in.
     GraphemeNeo,
+    /// The sentences, by the pair table that is built in.
+    SentenceClassic,
     /// The sentences, by the machine that is built in.
     SentenceNeo,
     /// Where lines may be broken, by the machine that is built in, with the default options.
@@ -21,7 +25,9 @@ pub fn command_of(words: &[&str]) -> Option<Command>
         (λ command. texts words.now ≡ words_of command) }
 {
     match words {
+        ["grapheme", "classic"] => Some(Command::GraphemeClassic),
         ["grapheme", "neo"] => Some(Command::GraphemeNeo),
+        ["sentence", "classic"] => Some(Command::SentenceClassic),
         ["sentence", "neo"] => Some(Command::SentenceNeo),
         ["line", "neo"] => Some(Command::LineNeo),
         _ => None,

@@ -1,11 +1,13 @@
 // The program, over any reader and writers.
-ghost use Rattle.std.specs.Prelude.{◌≡◌, ◌≢◌, ◌≤◌, ◌↔◌, ℕ, List, OnOk, IfOk, IfErr, IfSome, IsErrOf};
+ghost use Rattle.std.specs.Prelude.{◌≡◌, ◌≢◌, ◌≤◌, ◌↔◌, ℕ, List, OnOk, IfOk, IfErr, IfSome, IsErrOf, length};
 ghost use Rattle.std.specs.Iterator.{IsFinite, Drains};
 ghost use Rattle.std.specs.Io.KnownBytes.{Appends, IsAtEnd};
-ghost use Rattle.bench.specs.Clusters.{cluster_machine};
-ghost use Rattle.bench.specs.Sentences.{sentence_machine};
-ghost use Rattle.bench.specs.Lines.{line_machine};
-ghost use Rattle.textcut.specs.Command.{texts, words_of, IsNoCommand, boundaries_of, neo_boundaries};
+ghost use Rattle.icu_segmenter.specs.Utf8.{utf8_items};
+ghost use Rattle.icu_segmenter.specs.Places.{places};
+ghost use Rattle.icu_segmenter.specs.Rules.{boundaries_by};
+ghost use Rattle.icu_segmenter.specs.Clusters.{cluster_rules};
+ghost use Rattle.icu_segmenter.specs.Sentences.{sentence_rules};
+ghost use Rattle.textcut.specs.Command.{texts, words_of, IsNoCommand, boundaries_of};
 ghost use Rattle.textcut.specs.Failure.{status_of};
 ghost use Rattle.textcut.specs.Lines.{lines_of};
 ghost use Rattle.textcut.specs.declared.failure.Failure.{Failure as AnyFailure};
@@ -16,6 +18,7 @@ use crate::failure::Failure;
 use crate::lines::print_lines;
 use bench::clusters::cluster_machine;
 use bench::lines::{line_machine, line_tailorings};
+use bench::pair_tables::{cluster_table, sentence_table};
 use bench::sentences::sentence_machine;
 use icu_segmenter::options::{LineBreakOptions, SentenceBreakInvariantOptions};
 use icu_segmenter::{GraphemeClusterSegmenterBorrowed, LineSegmenter, SentenceSegmenterBorrowed};
@@ -97,42 +100,107 @@ fn print_boundaries<O: Write>(
     ensures cause { result ≢ Err Failure.Usage × result ≢ Err Failure.ReadFailed }
 {
     match command {
-        Command::GraphemeNeo => print_clusters(alloc, text, out),
-        Command::SentenceNeo => print_sentences(alloc, text, out),
+        Command::GraphemeClassic => print_clusters_by_table(alloc, text, out),
+        Command::GraphemeNeo => print_clusters_by_machine(alloc, text, out),
+        Command::SentenceClassic => print_sentences_by_table(alloc, text, out),
+        Command::SentenceNeo => print_sentences_by_machine(alloc, text, out),
         Command::LineNeo => print_line_breaks(alloc, text, out),
     }
 }
 
-fn print_clusters<O: Write>(alloc: Global, text: &[u8], out: &mut O) -> Result<(), Failure>
+fn print_clusters_by_table<O: Write>(alloc: Global, text: &[u8], out: &mut O) -> Result<(), Failure>
     ensures printed { OnOk result
-        (Appends (O.contents out.old) (O.contents out.new) (lines_of (neo_boundaries cluster_machine text.now))) }
+        (Appends (O.contents out.old) (O.contents out.new) (lines_of (boundaries_of Command.GraphemeClassic text.now))) }
+    ensures unwritten { IsErrOf result Failure.NoMemory → out.new ≡ out.old }
+    ensures cause { result ≢ Err Failure.Usage × result ≢ Err Failure.ReadFailed }
+{
+    let table = cluster_table(alloc)?;
+    let Ok(segmenter) = GraphemeClusterSegmenterBorrowed::new(&table) else {
+        unreachable!()
+    };
+    print_clusters(segmenter, text, out)
+}
+
+fn print_clusters_by_machine<O: Write>(
+    alloc: Global,
+    text: &[u8],
+    out: &mut O,
+) -> Result<(), Failure>
+    ensures printed { OnOk result
+        (Appends (O.contents out.old) (O.contents out.new) (lines_of (boundaries_of Command.GraphemeNeo text.now))) }
     ensures unwritten { IsErrOf result Failure.NoMemory → out.new ≡ out.old }
     ensures cause { result ≢ Err Failure.Usage × result ≢ Err Failure.ReadFailed }
 {
     let machine = cluster_machine(alloc)?;
-    let Ok(clusters) = GraphemeClusterSegmenterBorrowed::new_neo(&machine) else {
+    let Ok(segmenter) = GraphemeClusterSegmenterBorrowed::new_neo(&machine) else {
         unreachable!()
     };
-    print_numbers(clusters.segment_utf8(text), out)
+    print_clusters(segmenter, text, out)
 }
 
-fn print_sentences<O: Write>(alloc: Global, text: &[u8], out: &mut O) -> Result<(), Failure>
+fn print_sentences_by_table<O: Write>(
+    alloc: Global,
+    text: &[u8],
+    out: &mut O,
+) -> Result<(), Failure>
     ensures printed { OnOk result
-        (Appends (O.contents out.old) (O.contents out.new) (lines_of (neo_boundaries sentence_machine text.now))) }
+        (Appends (O.contents out.old) (O.contents out.new) (lines_of (boundaries_of Command.SentenceClassic text.now))) }
+    ensures unwritten { IsErrOf result Failure.NoMemory → out.new ≡ out.old }
+    ensures cause { result ≢ Err Failure.Usage × result ≢ Err Failure.ReadFailed }
+{
+    let table = sentence_table(alloc)?;
+    let options = SentenceBreakInvariantOptions::default();
+    let Ok(segmenter) = SentenceSegmenterBorrowed::new(&table, None, options) else {
+        unreachable!()
+    };
+    print_sentences(segmenter, text, out)
+}
+
+fn print_sentences_by_machine<O: Write>(
+    alloc: Global,
+    text: &[u8],
+    out: &mut O,
+) -> Result<(), Failure>
+    ensures printed { OnOk result
+        (Appends (O.contents out.old) (O.contents out.new) (lines_of (boundaries_of Command.SentenceNeo text.now))) }
     ensures unwritten { IsErrOf result Failure.NoMemory → out.new ≡ out.old }
     ensures cause { result ≢ Err Failure.Usage × result ≢ Err Failure.ReadFailed }
 {
     let machine = sentence_machine(alloc)?;
     let options = SentenceBreakInvariantOptions::default();
-    let Ok(sentences) = SentenceSegmenterBorrowed::new_neo(&machine, None, options) else {
+    let Ok(segmenter) = SentenceSegmenterBorrowed::new_neo(&machine, None, options) else {
         unreachable!()
     };
+    print_sentences(segmenter, text, out)
+}
+
+fn print_clusters<O: Write>(
+    clusters: GraphemeClusterSegmenterBorrowed<'_>,
+    text: &[u8],
+    out: &mut O,
+) -> Result<(), Failure>
+    ensures printed { OnOk result (Appends (O.contents out.old) (O.contents out.new)
+        (lines_of (places (boundaries_by (cluster_rules clusters.entry) (utf8_items 0 text.now) (length text.now))))) }
+    ensures cause { IfErr result (λ failure. failure ≡ Failure.WriteFailed) }
+{
+    print_numbers(clusters.segment_utf8(text), out)
+}
+
+fn print_sentences<O: Write>(
+    sentences: SentenceSegmenterBorrowed<'_>,
+    text: &[u8],
+    out: &mut O,
+) -> Result<(), Failure>
+    ensures printed { OnOk result (Appends (O.contents out.old) (O.contents out.new)
+        (lines_of (places (boundaries_by (sentence_rules sentences.entry) (utf8_items 0 text.now) (length text.now))))) }
+    ensures cause { IfErr result (λ failure. failure ≡ Failure.WriteFailed) }
+{
     print_numbers(sentences.segment_utf8(text), out)
 }
 
 fn print_line_breaks<O: Write>(alloc: Global, text: &[u8], out: &mut O) -> Result<(), Failure>
     ensures printed { OnOk result
-        (Appends (O.contents out.old) (O.contents out.new) (lines_of (neo_boundaries line_machine text.now))) }
+        (Appends (O.contents out.old) (O.contents out.new) (lines_of (boundaries_of Command.LineNeo text.now))) }
     ensures unwritten { IsErrOf result Failure.NoMemory → out.new ≡ out.old }
     ensures cause { result ≢ Err Failure.Usage × result ≢ Err Failure.ReadFailed }
 {

@@ -6,12 +6,15 @@ ghost use Rattle.seg_data.specs.Faults.{IsFaultless, IsLowestFault};
 ghost use Rattle.seg_data.specs.Machine.{tailored};
 ghost use Rattle.seg_data.specs.Tailored.{machine_of, owned_machine};
 ghost use Rattle.seg_lines.specs.Lines.{line_machine_for, tailoring_for, HasFaultWith};
-ghost use Rattle.seg_lines.specs.Tailorings.{lent};
+ghost use Rattle.seg_data.specs.LineTailorings.{lent};
 
 use crate::line::options::Tailoring;
-use crate::line::{LineTailorings, LineTailoringsBorrowed};
+use crate::line::tailorings::{lent_named, owned_named};
 use seg_data::inner::{TailoredMachine, TailoredMachineBorrowed, has_complex_below_0100};
-use seg_data::provider::{DataError, SegmenterStateMachine, SegmenterStateMachineOverride};
+use seg_data::provider::{
+    DataError, LineTailorings, LineTailoringsBorrowed, SegmenterStateMachine,
+    SegmenterStateMachineOverride,
+};
 
 // The machine of lines with the tailoring of this name, if there is a name, all lent.
 pub(super) fn lent_line_machine<'data>(
@@ -37,7 +40,7 @@ fn lent_tailoring<'data>(
     let Some(name) = name else {
         return Ok(None);
     };
-    match tailorings.get(name) {
+    match lent_named(tailorings, name) {
         Some(tailoring) => Ok(Some(tailoring)),
         None => Err(DataError::MissingTailoring),
     }
@@ -82,7 +85,7 @@ fn owned_tailoring(
     let Some(name) = name else {
         return Ok(None);
     };
-    match tailorings.into_named(name) {
+    match owned_named(tailorings, name) {
         Some(tailoring) => Ok(Some(tailoring)),
         None => Err(DataError::MissingTailoring),
     }

@@ -1,6 +1,9 @@
 use crate::line::options::{MachineChoice, Tailoring, choice_of};
-use crate::line::{LineBreakOptions, LineBreakStrictness, LineBreakWordOption, LineTailorings};
-use seg_data::provider::{ComplexScript, LanguageIdentifier, SegmenterStateMachineOverride};
+use crate::line::tailorings::{lent_named, owned_named};
+use crate::line::{LineBreakOptions, LineBreakStrictness, LineBreakWordOption};
+use seg_data::provider::{
+    ComplexScript, LanguageIdentifier, LineTailorings, SegmenterStateMachineOverride,
+};
 use std::test::Fail;
 
 const BREAK_ALL: Option<LineBreakWordOption> = Some(LineBreakWordOption::BreakAll);
@@ -55,8 +58,8 @@ fn finds_tailorings(rt: HostRuntime) -> Result<(), Fail> {
         ..LineTailorings::default()
     };
     let lent = tailorings.as_borrowed();
-    assert!(rt; lent.get(Tailoring::JaLoose).is_none());
-    assert!(rt; lent.get(Tailoring::Loose) == tailorings.loose.as_ref());
-    assert!(rt; tailorings.into_named(Tailoring::Loose).is_some());
+    assert!(rt; lent_named(lent, Tailoring::JaLoose).is_none());
+    assert!(rt; lent_named(lent, Tailoring::Loose) == tailorings.loose.as_ref());
+    assert!(rt; owned_named(tailorings, Tailoring::Loose).is_some());
     Ok(())
 }

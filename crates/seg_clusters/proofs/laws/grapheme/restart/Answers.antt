@@ -1,5 +1,5 @@
-use Rattle.seg_data.proofs.Restarts.{restarts}
+use Rattle.seg_clusters.proofs.ByRules.{restarts-by}
 use Rattle.seg_clusters.proofs.laws.grapheme.restart.Goals as goal
 
 pub returns : goal.returns
-returns c = restarts _
+returns c = restarts-by _

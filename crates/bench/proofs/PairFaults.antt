@@ -1,0 +1,129 @@
+-- The bench pair tables have no fault.
+use Rattle.std.proofs.Common.{◌≡◌, ◌≢◌, ℕ, zero, suc, ◌*◌, ◌<◌, ◌≤◌, inl, inr, Bool, true, false, not, ◌&&◌, ◌==◌, nat_lt, nat_eq, Option, Some, None, List, length, refl, sym, ap, ◌∙◌, arith, eq-eqb}
+use Rattle.std.specs.List.{list_all}
+use Rattle.std.specs.Prelude.{Contains}
+use Rattle.std.proofs.lemmas.Bool.{false≢true}
+use Rattle.std.proofs.lemmas.Bool.Decides.{nat_tests}
+use Rattle.seg_data.specs.declared.provider.DataError.{DataError}
+use Rattle.seg_data.specs.declared.provider.DataError.TheVariants.{RangeOrder, RangePast10FFFF, TableSize, ClassOutOfRange, StateOutOfRange, StartRowKeeps, ComplexItems, ComplexBelow0100, StateCount, TransitionSize, TransitionOutOfRange, SymbolOutOfRange, TooManyLookaheads, LookaheadOutOfRange, EndCycle, Stalls, MissingTailoring}
+use Rattle.seg_data.specs.declared.provider.pairs.BreakState.{BreakState}
+use Rattle.seg_data.specs.declared.provider.pairs.BreakState.TheVariants.{Break, Keep, NoMatch, Intermediate, Index}
+use Rattle.seg_data.specs.BreakStates.{named_state}
+use Rattle.seg_data.specs.Faults.{IsFaultless, IsLowestFault}
+use Rattle.seg_data.specs.PairFaults.{HasPairFault, HasPairDataFault, NamesStatePast, KeepsStart}
+use Rattle.seg_data.specs.PairTable.{PairTable, Names, entry_of}
+use Rattle.seg_data.specs.Table.{named_values}
+use Rattle.seg_data.proofs.Anywhere.{any-contained}
+use Rattle.bench.specs.PairTables.{cluster_table, sentence_table}
+use Rattle.bench.proofs.Faultless.{any-refuted}
+
+names_below : ℕ → BreakState → Bool
+names_below count (Index state) = nat_lt state count
+names_below count (Intermediate state) = nat_lt state count
+names_below count Break = true
+names_below count Keep = true
+names_below count NoMatch = true
+
+names_no_past : (count : ℕ) (entry : BreakState) → NamesStatePast count entry → names_below count entry ≡ true → ⊥
+unfolding names_below
+names_no_past count (Index state) past passed = grind (arith, nat_tests)
+names_no_past count (Intermediate state) past passed = grind (arith, nat_tests)
+names_no_past count Break past passed = past
+names_no_past count Keep past passed = past
+names_no_past count NoMatch past passed = past
+
+is_apart : BreakState → Bool
+is_apart Break = true
+is_apart NoMatch = true
+is_apart Keep = false
+is_apart (Index state) = false
+is_apart (Intermediate state) = false
+
+is_no_keep : (entry : BreakState) → (entry ≢ Break) × (entry ≢ NoMatch) → is_apart entry ≡ true → ⊥
+unfolding is_apart
+is_no_keep Break keeps passed = keeps.0 refl
+is_no_keep NoMatch keeps passed = keeps.1 refl
+is_no_keep Keep keeps passed = cc
+is_no_keep (Index state) keeps passed = cc
+is_no_keep (Intermediate state) keeps passed = cc
+
+-- what the tests of a table's parts say
+record Passes (t : PairTable) : Type 0 where
+  some : nat_lt 0 t.property_count ≡ true
+  square : length t.break_state_table ≡ t.property_count * t.property_count
+  classes : list_all (λ class. nat_lt class t.property_count) (named_values t.property_table) ≡ true
+  sot : nat_lt t.sot_property t.property_count ≡ true
+  eot : nat_lt t.eot_property t.property_count ≡ true
+  states : list_all (names_below t.property_count) t.break_state_table ≡ true
+  starts : list_all (λ class. is_apart (entry_of t t.sot_property class)) (named_values t.property_table) ≡ true
+  plain : list_all (λ class. not (class == t.complex_property)) (named_values t.property_table) ≡ true
+
+faultless : (t : PairTable) → Passes t → IsFaultless (HasPairFault t)
+faultless t passes TableSize (inl none) = let some = passes.some in grind (arith, nat_tests)
+faultless t passes TableSize (inr other) = other passes.square
+faultless t passes ClassOutOfRange any =
+    any-refuted (λ class. t.property_count ≤ class) (λ class. nat_lt class t.property_count) (named_values t.property_table) passes.classes (λ class past passed. grind (arith, nat_tests)) any
+faultless t passes StateOutOfRange (inl (inl past)) = let below = passes.sot in grind (arith, nat_tests)
+faultless t passes StateOutOfRange (inl (inr past)) = let below = passes.eot in grind (arith, nat_tests)
+faultless t passes StateOutOfRange (inr any) =
+    any-refuted (NamesStatePast t.property_count) (names_below t.property_count) t.break_state_table passes.states (names_no_past t.property_count) any
+faultless t passes RangeOrder has = has
+faultless t passes RangePast10FFFF has = has
+faultless t passes StartRowKeeps has = has
+faultless t passes ComplexItems has = has
+faultless t passes ComplexBelow0100 has = has
+faultless t passes StateCount has = has
+faultless t passes TransitionSize has = has
+faultless t passes TransitionOutOfRange has = has
+faultless t passes SymbolOutOfRange has = has
+faultless t passes TooManyLookaheads has = has
+faultless t passes LookaheadOutOfRange has = has
+faultless t passes EndCycle has = has
+faultless t passes Stalls has = has
+faultless t passes MissingTailoring has = has
+
+plain-faultless : (t : PairTable) → Passes t → IsFaultless (HasPairDataFault t None)
+plain-faultless t passes ClassOutOfRange (class, named, past) = named
+plain-faultless t passes StartRowKeeps (class, inl named, keeps) =
+    any-refuted (KeepsStart t) (λ class. is_apart (entry_of t t.sot_property class)) (named_values t.property_table) passes.starts
+    (λ class keeps passed. is_no_keep (entry_of t t.sot_property class) keeps passed) (any-contained (KeepsStart t) (named_values t.property_table) class named keeps)
+plain-faultless t passes StartRowKeeps (class, inr named, keeps) = named
+plain-faultless t passes ComplexItems (inl named) =
+    any-refuted (λ class. class ≡ t.complex_property) (λ class. not (class == t.complex_property)) (named_values t.property_table) passes.plain
+    (λ class is passed. absurd (false≢true (ap not (sym (eq-eqb class t.complex_property is)) ∙ passed)))
+    (any-contained (λ class. class ≡ t.complex_property) (named_values t.property_table) t.complex_property named refl)
+plain-faultless t passes ComplexItems (inr named) = named
+plain-faultless t passes RangeOrder has = has
+plain-faultless t passes RangePast10FFFF has = has
+plain-faultless t passes TableSize has = has
+plain-faultless t passes StateOutOfRange has = has
+plain-faultless t passes ComplexBelow0100 has = has
+plain-faultless t passes StateCount has = has
+plain-faultless t passes TransitionSize has = has
+plain-faultless t passes TransitionOutOfRange has = has
+plain-faultless t passes SymbolOutOfRange has = has
+plain-faultless t passes TooManyLookaheads has = has
+plain-faultless t passes LookaheadOutOfRange has = has
+plain-faultless t passes EndCycle has = has
+plain-faultless t passes Stalls has = has
+plain-faultless t passes MissingTailoring has = has
+
+clusters-pass : Passes cluster_table
+unfolding entry_of names_below is_apart
+clusters-pass = record { some = refl; square = refl; classes = refl; sot = refl; eot = refl; states = refl; starts = refl; plain = refl }
+
+sentences-pass : Passes sentence_table
+unfolding entry_of names_below is_apart
+sentences-pass = record { some = refl; square = refl; classes = refl; sot = refl; eot = refl; states = refl; starts = refl; plain = refl }
+
+pub clusters-sound : IsFaultless (HasPairDataFault cluster_table None)
+clusters-sound = plain-faultless cluster_table clusters-pass
+
+pub sentences-sound : IsFaultless (HasPairDataFault sentence_table None)
+sentences-sound = plain-faultless sentence_table sentences-pass
+
+pub clusters-never-refused : (parts : PairTable) → parts ≡ cluster_table → (fault : DataError) → IsLowestFault (HasPairFault parts) fault → ⊥
+clusters-never-refused parts is fault lowest = faultless cluster_table clusters-pass fault (rw is at lowest.is_there)
+
+pub sentences-never-refused : (parts : PairTable) → parts ≡ sentence_table → (fault : DataError) → IsLowestFault (HasPairFault parts) fault → ⊥
+sentences-never-refused parts is fault lowest = faultless sentence_table sentences-pass fault (rw is at lowest.is_there)

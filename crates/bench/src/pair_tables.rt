@@ -1,0 +1,96 @@
+//! The bench pair tables of grapheme clusters and of sentences.
+
+ghost use Rattle.std.specs.Prelude.{◌≡◌, None, IfOk};
+ghost use Rattle.bench.specs.PairTables.{cluster_table, sentence_table};
+ghost use Rattle.icu_segmenter.specs.Faults.{IsFaultless};
+ghost use Rattle.icu_segmenter.specs.PairFaults.{HasPairDataFault};
+
+use icu_segmenter::provider::{BreakState, ClassTable, RuleBreakData};
+use std::alloc::{AllocError, Global};
+
+/// Carriage return, line feed, and what extends a cluster.
+const CLUSTER_CLASSES: [(u32, u32, u8); 7] = [
+    (0x0A, 0x0A, 2),
+    (0x0D, 0x0D, 1),
+    (0x300, 0x36F, 3),
+    (0xE31, 0xE31, 3),
+    (0xE34, 0xE3A, 3),
+    (0xE47, 0xE4E, 3),
+    (0x200D, 0x200D, 3),
+];
+
+const KEEP: BreakState = BreakState::Keep;
+
+const BREAK: BreakState = BreakState::Break;
+
+/// A row for each class from 0 on, then those of the text's start and end.
+const CLUSTER_ENTRIES: [BreakState; 36] = [
+    BREAK, BREAK, BREAK, KEEP, BREAK, BREAK, //
+    BREAK, BREAK, KEEP, BREAK, BREAK, BREAK, //
+    BREAK, BREAK, BREAK, BREAK, BREAK, BREAK, //
+    BREAK, BREAK, BREAK, KEEP, BREAK, BREAK, //
+    BREAK, BREAK, BREAK, BREAK, BREAK, BREAK, //
+    BREAK, BREAK, BREAK, BREAK, BREAK, BREAK,
+];
+
+/// The bench pair table of grapheme clusters: CR LF, or a character with the marks after it.
+/// The only error is want of memory.
+pub fn cluster_table(alloc: Global) -> Result<RuleBreakData, AllocError>
+    ensures value { IfOk result (λ table. table ≡ cluster_table) }
+    ensures sound { IfOk result (λ table. IsFaultless (HasPairDataFault table None)) }
+{
+    let Ok(classes) = ClassTable::try_from_ranges(Vec::from_slice(alloc, &CLUSTER_CLASSES)?, 0)
+    else {
+        unreachable!()
+    };
+    let entries = Vec::from_slice(alloc, &CLUSTER_ENTRIES)?;
+    let statuses = Vec::new(alloc);
+    let Ok(table) = RuleBreakData::try_from_parts(classes, entries, statuses, 6, 3, 4, 5, 127)
+    else {
+        unreachable!()
+    };
+    Ok(table)
+}
+
+/// Line feed and carriage return, space, and what ends a sentence.
+const SENTENCE_CLASSES: [(u32, u32, u8); 6] = [
+    (0x0A, 0x0A, 3),
+    (0x0D, 0x0D, 3),
+    (0x20, 0x20, 2),
+    (0x21, 0x21, 1),
+    (0x2E, 0x2E, 1),
+    (0x3F, 0x3F, 1),
+];
+
+/// The spaces after what ends a sentence: state 4.
+const SPACES: BreakState = BreakState::Index(4);
+
+/// A row for each class and state from 0 on, then those of the text's start and end.
+const SENTENCE_ENTRIES: [BreakState; 49] = [
+    KEEP, KEEP, KEEP, KEEP, KEEP, KEEP, KEEP, //
+    KEEP, KEEP, SPACES, KEEP, KEEP, KEEP, KEEP, //
+    KEEP, KEEP, KEEP, KEEP, KEEP, KEEP, KEEP, //
+    BREAK, BREAK, BREAK, BREAK, BREAK, BREAK, BREAK, //
+    BREAK, BREAK, SPACES, KEEP, KEEP, KEEP, KEEP, //
+    BREAK, BREAK, BREAK, BREAK, BREAK, BREAK, BREAK, //
+    KEEP, KEEP, KEEP, KEEP, KEEP, KEEP, KEEP,
+];
+
+/// The bench pair table of sentences: each ends after a full stop, an exclamation or a question mark and
+/// the spaces after it, or after a line's end. The only error is want of memory.
+pub fn sentence_table(alloc: Global) -> Result<RuleBreakData, AllocError>
+    ensures value { IfOk result (λ table. table ≡ sentence_table) }
+    ensures sound { IfOk result (λ table. IsFaultless (HasPairDataFault table None)) }
+{
+    let Ok(classes) = ClassTable::try_from_ranges(Vec::from_slice(alloc, &SENTENCE_CLASSES)?, 0)
+    else {
+        unreachable!()
+    };
+    let entries = Vec::from_slice(alloc, &SENTENCE_ENTRIES)?;
+    let statuses = Vec::new(alloc);
+    let Ok(table) = RuleBreakData::try_from_parts(classes, entries, statuses, 7, 3, 5, 6, 127)
+    else {
+        unreachable!()
+    };
+    Ok(table)
+}

@@ -1,0 +1,207 @@
+-- What a walk's stop says.
+use Rattle.std.proofs.Common.{◌≡◌, ◌≢◌, ℕ, suc, ◌<◌, ◌==◌, Bool, true, false, cond, Option, Some, None, List, [], ◌∷◌, length, drop, refl, sym, ap, ◌∙◌, subst, arith, eq-eqb}
+use Rattle.std.proofs.lemmas.Bool.{ne_eqb}
+use Rattle.std.proofs.lemmas.List.{drop-map, drop-drop, length-drop}
+use Rattle.seg_data.specs.declared.provider.pairs.BreakState.{BreakState}
+use Rattle.seg_data.specs.declared.provider.pairs.BreakState.TheVariants.{Break as BreakEntry, Keep, NoMatch, Intermediate, Index}
+use Rattle.seg_data.specs.BreakStates.{named_state}
+use Rattle.seg_data.specs.PairTable.{PairTable, entry_of}
+use Rattle.seg_pairs.specs.declared.elements.Element.{Element}
+use Rattle.seg_pairs.specs.Elements.{classes_of, onto}
+use Rattle.seg_pairs.specs.Walk.{Walk, walk}
+use Rattle.seg_pairs.specs.Verdict.{Verdict, stop_verdict, end_verdict, walk_verdict, named_verdict, first_verdict, verdict, complex_verdict}
+use Rattle.seg_pairs.specs.Stop.{IsStop, class_at, walk_of}
+use Rattle.seg_pairs.specs.declared.rules.Step.{Step}
+use Rattle.seg_pairs.specs.declared.rules.Step.TheVariants.{Break, Go, Run}
+use Rattle.seg_pairs.specs.Steps.{Lands, EndsIn, IsRest}
+use Rattle.seg_pairs.specs.declared.rules.Outcome.{Outcome}
+use Rattle.seg_pairs.specs.declared.rules.Outcome.TheVariants.{Break as BreakOut, Run as RunOut}
+use Rattle.seg_pairs.specs.Breaks.{chain, TakesOf, IsForward}
+use Rattle.seg_pairs.proofs.Chains.{IsOnChain, chain-break, chain-run}
+use Rattle.seg_pairs.specs.Verdict.Verdict.{BreakAfter, GoAfter, RunBegins}
+use Rattle.seg_pairs.proofs.Walks.{drop-next}
+
+module _ (t : PairTable) (start : ℕ) (left right : Element) (after : List Element) (state : ℕ) (entry : BreakState)
+    (before : Element) (next : Option Element) (rest : List Element) (saved_before saved : Element) (saved_rest : List Element) (class : ℕ)
+    (stop : IsStop t start (left ∷ right ∷ after) state entry before next rest saved_before saved saved_rest class) where
+
+  abbrev pub w : Walk
+  w = walk_of t start (left ∷ right ∷ after)
+
+  pub rest-at : drop w.stop (left ∷ right ∷ after) ≡ onto next rest
+  rest-at = ap (λ n. drop n (left ∷ right ∷ after)) stop.stops ∙ sym (drop-next (left ∷ right ∷ after) (onto next rest) before stop.passed stop.left_after)
+
+  pub saved-at : drop w.saved (left ∷ right ∷ after) ≡ saved ∷ saved_rest
+  saved-at = ap (λ n. drop n (left ∷ right ∷ after)) stop.saves ∙ sym (drop-next (left ∷ right ∷ after) (saved ∷ saved_rest) saved_before stop.saved_passed stop.saved_after)
+
+  verdict-next : (element : Element) → next ≡ Some element → named_verdict t start left.class (classes_of (left ∷ right ∷ after)) ≡ stop_verdict w entry
+  unfolding named_verdict
+  verdict-next element is =
+      let there : drop w.stop (classes_of (left ∷ right ∷ after)) ≡ element.class ∷ classes_of rest =
+          drop-map (λ (e : Element). e.class) w.stop (left ∷ right ∷ after)
+          ∙ ap classes_of (rest-at ∙ ap (λ n. onto n rest) is) in
+      ap (walk_verdict t w) there
+      ∙ ap (λ q. stop_verdict w (entry_of t q element.class)) stop.in_state
+      ∙ ap (stop_verdict w) (sym (stop.at_entry ∙ ap (λ n. entry_of t state (class_at t n)) is))
+
+  verdict-end : next ≡ None → named_verdict t start left.class (classes_of (left ∷ right ∷ after)) ≡ end_verdict w entry
+  unfolding named_verdict
+  verdict-end is =
+      let there : drop w.stop (classes_of (left ∷ right ∷ after)) ≡ [] =
+          drop-map (λ (e : Element). e.class) w.stop (left ∷ right ∷ after)
+          ∙ ap classes_of (rest-at ∙ ap (λ n. onto n rest) is ∙ stop.at_end is) in
+      ap (walk_verdict t w) there
+      ∙ ap (λ q. end_verdict w (entry_of t q t.eot_property)) stop.in_state
+      ∙ ap (end_verdict w) (sym (stop.at_entry ∙ ap (λ n. entry_of t state (class_at t n)) is))
+
+  abbrev LandsOn : Step → List Element → Type 0
+  LandsOn step left_over = Lands (named_verdict t start left.class (classes_of (left ∷ right ∷ after))) (left ∷ right ∷ after) step left_over
+
+  lands-by : (v : Verdict) (step : Step) (left_over : List Element) → named_verdict t start left.class (classes_of (left ∷ right ∷ after)) ≡ v
+      → Lands v (left ∷ right ∷ after) step left_over → LandsOn step left_over
+  lands-by v step left_over is lands = subst (λ v. Lands v (left ∷ right ∷ after) step left_over) (sym is) lands
+
+  pub lands-go : (element : Element) → next ≡ Some element → entry ≡ Keep → LandsOn (Go element) rest
+  lands-go element is keep =
+      lands-by (GoAfter w.stop) (Go element) rest (verdict-next element is ∙ ap (stop_verdict w) keep) (rest-at ∙ ap (λ n. onto n rest) is)
+
+  pub lands-break : (element : Element) → next ≡ Some element → entry ≡ BreakEntry → LandsOn (Break state (Some element)) rest
+  lands-break element is break =
+      lands-by (BreakAfter w.stop w.state) (Break state (Some element)) rest (verdict-next element is ∙ ap (stop_verdict w) break)
+      (sym stop.in_state, rest-at ∙ ap (λ n. onto n rest) is)
+
+  back-stop : (e : BreakState) → (e ≡ Keep → ⊥) → (e ≡ BreakEntry → ⊥) → stop_verdict w e ≡ BreakAfter w.saved w.class
+  back-stop Keep keep break = absurd (keep refl)
+  back-stop BreakEntry keep break = absurd (break refl)
+  back-stop NoMatch keep break = refl
+  back-stop (Index q) keep break = refl
+  back-stop (Intermediate q) keep break = refl
+
+  pub lands-back : (element : Element) → next ≡ Some element → (entry ≡ Keep → ⊥) → (entry ≡ BreakEntry → ⊥) → LandsOn (Break class (Some saved)) saved_rest
+  lands-back element is keep break =
+      lands-by (BreakAfter w.saved w.class) (Break class (Some saved)) saved_rest (verdict-next element is ∙ back-stop entry keep break) (sym stop.saved_class, saved-at)
+
+  pub lands-end-back : next ≡ None → entry ≡ NoMatch → LandsOn (Break class (Some saved)) saved_rest
+  lands-end-back is no_match =
+      lands-by (BreakAfter w.saved w.class) (Break class (Some saved)) saved_rest (verdict-end is ∙ ap (end_verdict w) no_match) (sym stop.saved_class, saved-at)
+
+  at-end : (e : BreakState) → (e ≡ NoMatch → ⊥) → end_verdict w e ≡ BreakAfter w.stop w.state
+  at-end NoMatch other = absurd (other refl)
+  at-end Keep other = refl
+  at-end BreakEntry other = refl
+  at-end (Index q) other = refl
+  at-end (Intermediate q) other = refl
+
+  pub lands-end : next ≡ None → (entry ≡ NoMatch → ⊥) → LandsOn (Break state None) rest
+  lands-end is other =
+      lands-by (BreakAfter w.stop w.state) (Break state None) rest (verdict-end is ∙ at-end entry other)
+      (sym stop.in_state, (rest-at ∙ ap (λ n. onto n rest) is ∙ stop.at_end is, stop.at_end is))
+
+-- the step where the first entry names a state, or says what there is
+
+pub lands-first : (t : PairTable) (left right : Element) (after : List Element) (entry : BreakState) (step : Step) (rest : List Element)
+    → entry ≡ entry_of t left.class right.class
+    → Lands (first_verdict t left.class (classes_of (left ∷ right ∷ after)) entry) (left ∷ right ∷ after) step rest
+    → Lands (verdict t (classes_of (left ∷ right ∷ after))) (left ∷ right ∷ after) step rest
+unfolding verdict
+lands-first t left right after entry step rest is lands =
+    subst (λ e. Lands (first_verdict t left.class (classes_of (left ∷ right ∷ after)) e) (left ∷ right ∷ after) step rest) is lands
+
+-- the step from the last element
+pub lands-last : (t : PairTable) (left : Element) (after rest : List Element) → after ≡ [] → rest ≡ []
+    → Lands (verdict t (classes_of (left ∷ after))) (left ∷ after) (Break left.class None) rest
+unfolding verdict
+lands-last t left after rest is none = rw is (refl, (refl, none))
+
+-- the steps where elements may be complex
+
+pub complex-last : (t : PairTable) (left : Element) (after rest : List Element) → after ≡ [] → rest ≡ []
+    → Lands (complex_verdict t (classes_of (left ∷ after))) (left ∷ after) (Break left.class None) rest
+unfolding complex_verdict
+complex-last t left after rest is none = rw is (refl, (refl, none))
+
+abbrev by-complex : PairTable → Element → Element → List Element → Bool → Bool → Verdict
+by-complex t left right more second first =
+    cond second (cond first RunBegins (BreakAfter 1 left.class)) (verdict t (classes_of (left ∷ right ∷ more)))
+
+pub complex-pair : (t : PairTable) (left right : Element) (after more : List Element) (step : Step) (rest : List Element)
+    → after ≡ right ∷ more → right.class ≢ t.complex_property
+    → Lands (verdict t (classes_of (left ∷ right ∷ more))) (left ∷ right ∷ more) step rest
+    → Lands (complex_verdict t (classes_of (left ∷ after))) (left ∷ after) step rest
+unfolding complex_verdict
+complex-pair t left right after more step rest is other lands =
+    rw is
+    (subst (λ b. Lands (by-complex t left right more b (left.class == t.complex_property)) (left ∷ right ∷ more) step rest) (sym (ne_eqb right.class t.complex_property other)) lands)
+
+pub complex-break : (t : PairTable) (left right : Element) (after more : List Element)
+    → after ≡ right ∷ more → right.class ≡ t.complex_property → left.class ≢ t.complex_property
+    → Lands (complex_verdict t (classes_of (left ∷ after))) (left ∷ after) (Break left.class (Some right)) more
+unfolding complex_verdict
+complex-break t left right after more is complex other =
+    rw is
+    (subst (λ b. Lands (by-complex t left right more b (left.class == t.complex_property)) (left ∷ right ∷ more) (Break left.class (Some right)) more) (sym (eq-eqb right.class t.complex_property complex))
+    (subst (λ b. Lands (by-complex t left right more true b) (left ∷ right ∷ more) (Break left.class (Some right)) more) (sym (ne_eqb left.class t.complex_property other)) (refl, refl)))
+
+pub complex-run : (t : PairTable) (left right : Element) (after more : List Element)
+    → after ≡ right ∷ more → right.class ≡ t.complex_property → left.class ≡ t.complex_property
+    → Lands (complex_verdict t (classes_of (left ∷ after))) (left ∷ after) (Run right) more
+unfolding complex_verdict
+complex-run t left right after more is complex same =
+    rw is
+    (subst (λ b. Lands (by-complex t left right more b (left.class == t.complex_property)) (left ∷ right ∷ more) (Run right) more) (sym (eq-eqb right.class t.complex_property complex))
+    (subst (λ b. Lands (by-complex t left right more true b) (left ∷ right ∷ more) (Run right) more) (sym (eq-eqb left.class t.complex_property same)) refl))
+
+-- the step where a chain of verdicts ends
+
+module _ (v : List Element → Verdict) (whole : List Element) (x : Element) (xs : List Element) (forward : IsForward v) (on : IsOnChain v whole x xs) where
+
+  ends-at : (outcome : Outcome) (rest : List Element) (w : Verdict) → chain v (x ∷ xs) ≡ (0, w)
+      → EndsIn (on.gone, w) whole outcome rest → EndsIn (chain v whole) whole outcome rest
+  ends-at outcome rest w end ends =
+      let passed : (chain v whole).0 ≡ on.gone = omega (arith, on.passed, ap (λ (f : ℕ × Verdict). f.0) end) in
+      let last : (chain v whole).1 ≡ w = on.last ∙ ap (λ (f : ℕ × Verdict). f.1) end in
+      let whole_is : (on.gone, w) ≡ chain v whole = ap (λ (n : ℕ). (n, w)) (sym passed) ∙ ap (λ (u : Verdict). ((chain v whole).0, u)) (sym last) in
+      subst (λ (f : ℕ × Verdict). EndsIn f whole outcome rest) whole_is ends
+
+  pub ends-break : (class : ℕ) (next : Option Element) (rest : List Element) → Lands (v (x ∷ xs)) (x ∷ xs) (Break class next) rest
+      → EndsIn (chain v whole) whole (BreakOut class next) rest
+  ends-break class next rest lands = by (v (x ∷ xs)) refl lands
+    where
+      by : (w : Verdict) → v (x ∷ xs) ≡ w → Lands w (x ∷ xs) (Break class next) rest → EndsIn (chain v whole) whole (BreakOut class next) rest
+      by (BreakAfter n with_class) is (same, left) =
+          ends-at (BreakOut class next) rest (BreakAfter n with_class) (chain-break v forward x xs n with_class is)
+          (same, subst (λ elements. IsRest next rest elements) (ap (drop n) on.here ∙ drop-drop n on.gone whole) left)
+      by (GoAfter n) is lands = absurd lands
+      by RunBegins is lands = absurd lands
+
+  pub ends-run : (second : Element) (rest : List Element) → Lands (v (x ∷ xs)) (x ∷ xs) (Run second) rest
+      → EndsIn (chain v whole) whole (RunOut x second) rest
+  ends-run second rest lands = by (v (x ∷ xs)) refl lands
+    where
+      by : (w : Verdict) → v (x ∷ xs) ≡ w → Lands w (x ∷ xs) (Run second) rest → EndsIn (chain v whole) whole (RunOut x second) rest
+      by (BreakAfter n with_class) is lands = absurd lands
+      by (GoAfter n) is lands = absurd lands
+      by RunBegins is lands =
+          ends-at (RunOut x second) rest RunBegins (chain-run v forward x xs is)
+          (sym on.here ∙ ap (λ (elements : List Element). x ∷ elements) lands)
+
+-- a step to go on, by the verdict that says so
+pub record Goes (v : List Element → Verdict) (x : Element) (xs : List Element) (next : Element) (rest : List Element) : Type 0 where
+  pub taken : ℕ
+  pub goes : v (x ∷ xs) ≡ GoAfter taken
+  pub here : drop taken (x ∷ xs) ≡ next ∷ rest
+  pub fewer : length rest < length xs
+
+pub goes-from : (v : List Element → Verdict) (x : Element) (xs : List Element) (next : Element) (rest : List Element) → IsForward v
+    → Lands (v (x ∷ xs)) (x ∷ xs) (Go next) rest → Goes v x xs next rest
+goes-from v x xs next rest forward lands = by (v (x ∷ xs)) refl (forward x xs) lands
+  where
+    by : (w : Verdict) → v (x ∷ xs) ≡ w → TakesOf (length (x ∷ xs)) w → Lands w (x ∷ xs) (Go next) rest → Goes v x xs next rest
+    by (BreakAfter n class) is takes lands = absurd lands
+    by RunBegins is takes lands = absurd lands
+    by (GoAfter n) is takes lands = record {
+      taken = n;
+      goes = is;
+      here = lands;
+      fewer = let long = length-drop n (x ∷ xs) in let some = ap length lands in omega (arith, long, some, takes.0);
+    }

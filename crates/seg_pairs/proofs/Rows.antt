@@ -1,0 +1,25 @@
+-- The boundaries that small tables find, by computing them.
+use Rattle.std.proofs.Common.{◌≡◌, [], ◌∷◌, refl}
+use Rattle.seg_data.specs.declared.provider.pairs.BreakState.TheVariants.{Index, Intermediate}
+use Rattle.seg_data.specs.PairTable.{entry_of}
+use Rattle.seg_pairs.specs.Breaks.{breaks, breaks_within, chain, chain_within}
+use Rattle.seg_pairs.specs.Rows.{breaks_of, retreating, classed}
+use Rattle.seg_pairs.specs.Verdict.{verdict, named_verdict}
+use Rattle.seg_pairs.specs.Walk.{walk, namings}
+
+pub record Rows : Type 0 where
+  pub back_to_saved : breaks_of (retreating (Index 4)) (1 ∷ 2 ∷ 2 ∷ 2 ∷ []) ≡ (1, 1) ∷ (3, 2) ∷ []
+  pub to_end : breaks_of (retreating (Index 4)) (1 ∷ 2 ∷ 2 ∷ []) ≡ (3, 4) ∷ []
+  pub back_to_intermediate : breaks_of (retreating (Intermediate 4)) (1 ∷ 2 ∷ 2 ∷ 2 ∷ []) ≡ (2, 1) ∷ (2, 2) ∷ []
+  pub back_to_first : breaks_of classed (1 ∷ 2 ∷ 2 ∷ []) ≡ (1, 1) ∷ (1, 2) ∷ (1, 2) ∷ []
+  pub state_reached : breaks_of classed (1 ∷ 2 ∷ 1 ∷ []) ≡ (2, 3) ∷ (1, 1) ∷ []
+
+pub rows : Rows
+unfolding breaks breaks_within chain chain_within verdict named_verdict walk namings entry_of
+rows = record {
+  back_to_saved = refl;
+  to_end = refl;
+  back_to_intermediate = refl;
+  back_to_first = refl;
+  state_reached = refl;
+}

@@ -1,0 +1,169 @@
+-- A walk, entry by entry.
+use Rattle.std.proofs.Common.{◌≡◌, ℕ, suc, ◌+◌, ◌<◌, ◌||◌, Bool, true, false, cond, Option, Some, None, List, [], ◌∷◌, ◌++◌, length, map, reverse, drop, refl, sym, ap, ◌∙◌, subst, arith}
+use Rattle.std.specs.Prelude.{find}
+use Rattle.std.specs.Option.{option_map_or, option_or}
+use Rattle.std.proofs.lemmas.Grind.{reverse_onto}
+use Rattle.std.proofs.lemmas.List.{drop-drop}
+use Rattle.std.proofs.lemmas.List.Folds.{find-append}
+use Rattle.seg_data.specs.declared.provider.pairs.BreakState.{BreakState}
+use Rattle.seg_data.specs.BreakStates.{named_state, is_intermediate}
+use Rattle.seg_data.specs.PairTable.{PairTable, entry_of}
+use Rattle.seg_pairs.specs.declared.elements.Element.{Element}
+use Rattle.seg_pairs.specs.Walk.{Naming, namings, Walk, walk, is_class, leaves_class, saves, last_or}
+use Rattle.seg_pairs.specs.Elements.{classes_of}
+use Rattle.seg_pairs.specs.Stop.{IsStop, walk_of}
+
+-- the last of a kind among the others, or else the first
+last_or-cons : (is : Naming → Bool) (has : Naming → ℕ) (naming : Naming) (namings : List Naming) (otherwise : ℕ)
+    → last_or is has (naming ∷ namings) otherwise ≡ last_or is has namings (cond (is naming) (has naming) otherwise)
+last_or-cons is has naming namings otherwise =
+    ap (λ (found : List Naming). option_map_or has (find is found) otherwise) (reverse_onto namings naming [])
+    ∙ ap (λ (found : Option Naming). option_map_or has found otherwise) (find-append is (reverse namings) (naming ∷ []))
+    ∙ on (find is (reverse namings)) (is naming)
+  where
+    on : (found : Option Naming) (b : Bool)
+        → option_map_or has (option_or found (cond b (Some naming) None)) otherwise ≡ option_map_or has found (cond b (has naming) otherwise)
+    on None true = refl
+    on None false = refl
+    on (Some other) b = refl
+
+namings-cons : (t : PairTable) (number state class next : ℕ) (classes : List ℕ) → named_state (entry_of t state class) ≡ Some next
+    → namings t number state (class ∷ classes) ≡ (record { before = number; state = state; entry = entry_of t state class; next = next }) ∷ namings t (suc number) next classes
+unfolding namings
+namings-cons t number state class next classes named = rw named refl
+
+namings-stop : (t : PairTable) (number state class : ℕ) (classes : List ℕ) → named_state (entry_of t state class) ≡ None
+    → namings t number state (class ∷ classes) ≡ []
+unfolding namings
+namings-stop t number state class classes none = rw none refl
+
+-- a walk where the next entry names a state
+pub walk-named : (t : PairTable) (state number saved class next_class next : ℕ) (classes : List ℕ) → named_state (entry_of t state next_class) ≡ Some next
+    → walk t state number saved class (next_class ∷ classes)
+    ≡ walk t next (suc number) (cond (is_intermediate (entry_of t state next_class) || is_class t state) number saved) (cond (is_class t state) next class) classes
+unfolding walk
+walk-named t state number saved class next_class next classes named =
+    let first : Naming = record { before = number; state = state; entry = entry_of t state next_class; next = next } in
+    let later = namings t (suc number) next classes in
+    let more : number + suc (length later) ≡ suc number + length later = omega arith in
+    rw (namings-cons t number state next_class next classes named)
+    (rw (last_or-cons (λ n. true) (λ n. n.next) first later state,
+      last_or-cons (saves t) (λ n. n.before) first later saved,
+      last_or-cons (leaves_class t) (λ n. n.next) first later class,
+      more) refl)
+
+abbrev pub stopped : ℕ → ℕ → ℕ → ℕ → Walk
+stopped state number saved class = record { state = state; stop = number; saved = saved; class = class }
+
+-- and where it names none
+pub walk-stop : (t : PairTable) (state number saved class next_class : ℕ) (classes : List ℕ) → named_state (entry_of t state next_class) ≡ None
+    → walk t state number saved class (next_class ∷ classes) ≡ stopped state number saved class
+unfolding walk
+walk-stop t state number saved class next_class classes none =
+    let here : number + 0 ≡ number = omega arith in
+    rw (namings-stop t number state next_class classes none) (rw here refl)
+
+pub walk-end : (t : PairTable) (state number saved class : ℕ) → walk t state number saved class [] ≡ stopped state number saved class
+unfolding walk namings
+walk-end t state number saved class = let here : number + 0 ≡ number = omega arith in rw here refl
+
+-- a walk over elements, on its way: what is left of it is what is left of the whole
+pub record IsMidway
+    (t : PairTable) (start : ℕ) (whole : List Element) (state : ℕ) (before : Element) (left : List Element)
+    (saved_before saved : Element) (saved_left : List Element) (class : ℕ) : Type 0 where
+  pub below : state < t.property_count
+  pub passed : ℕ
+  pub left_after : before ∷ left ≡ drop passed whole
+  pub saved_passed : ℕ
+  pub saved_after : saved_before ∷ saved ∷ saved_left ≡ drop saved_passed whole
+  pub same : walk t state (suc passed) (suc saved_passed) class (classes_of left) ≡ walk_of t start whole
+
+-- the elements after the first of these
+pub drop-next : (whole left : List Element) (before : Element) (passed : ℕ) → before ∷ left ≡ drop passed whole → left ≡ drop (suc passed) whole
+drop-next whole left before passed here =
+    let more : passed + 1 ≡ suc passed = omega arith in
+    rw (← more) (ap (drop 1) here ∙ drop-drop 1 passed whole)
+
+-- one entry more of the walk, by what it saves
+module _ (t : PairTable) (start : ℕ) (whole : List Element) (state : ℕ) (before : Element) (left : List Element)
+    (saved_before saved : Element) (saved_left : List Element) (class : ℕ)
+    (next : Element) (after : List Element) (entry : BreakState) (to next_class : ℕ) (leaves : Bool) where
+
+  walk-on : (passed saved_passed : ℕ) (b : Bool)
+      → walk t state (suc passed) (suc saved_passed) class (classes_of left) ≡ walk_of t start whole
+      → left ≡ next ∷ after → entry ≡ entry_of t state next.class → named_state entry ≡ Some to
+      → leaves ≡ is_class t state → (is_intermediate entry || leaves) ≡ b → next_class ≡ cond leaves to class
+      → walk t to (suc (suc passed)) (cond b (suc passed) (suc saved_passed)) next_class (classes_of after) ≡ walk_of t start whole
+  walk-on passed saved_passed b same is is_entry named is_leaves saves is_class =
+      rw (is_class, ← saves, is_leaves, is_entry)
+      (sym (walk-named t state (suc passed) (suc saved_passed) class next.class to (classes_of after) (sym (ap named_state is_entry) ∙ named))
+      ∙ ap (λ (elements : List Element). walk t state (suc passed) (suc saved_passed) class (classes_of elements)) (sym is) ∙ same)
+
+  pub midway-saved : IsMidway t start whole state before left saved_before saved saved_left class
+      → left ≡ next ∷ after → entry ≡ entry_of t state next.class → named_state entry ≡ Some to → to < t.property_count
+      → leaves ≡ is_class t state → (is_intermediate entry || leaves) ≡ true → next_class ≡ cond leaves to class
+      → IsMidway t start whole to next after before next after next_class
+  midway-saved midway is is_entry named below is_leaves saves is_class = record {
+    below = below;
+    passed = suc midway.passed;
+    left_after = sym is ∙ drop-next whole left before midway.passed midway.left_after;
+    saved_passed = midway.passed;
+    saved_after = ap (λ (elements : List Element). before ∷ elements) (sym is) ∙ midway.left_after;
+    same = walk-on midway.passed midway.saved_passed true midway.same is is_entry named is_leaves saves is_class;
+  }
+
+  pub midway-kept : IsMidway t start whole state before left saved_before saved saved_left class
+      → left ≡ next ∷ after → entry ≡ entry_of t state next.class → named_state entry ≡ Some to → to < t.property_count
+      → leaves ≡ is_class t state → (is_intermediate entry || leaves) ≡ false → next_class ≡ cond leaves to class
+      → IsMidway t start whole to next after saved_before saved saved_left next_class
+  midway-kept midway is is_entry named below is_leaves saves is_class = record {
+    below = below;
+    passed = suc midway.passed;
+    left_after = sym is ∙ drop-next whole left before midway.passed midway.left_after;
+    saved_passed = midway.saved_passed;
+    saved_after = midway.saved_after;
+    same = walk-on midway.passed midway.saved_passed false midway.same is is_entry named is_leaves saves is_class;
+  }
+
+-- where the walk stops
+module _ (t : PairTable) (start : ℕ) (whole : List Element) (state : ℕ) (before : Element) (left : List Element)
+    (saved_before saved : Element) (saved_left : List Element) (class : ℕ) (entry : BreakState)
+    (midway : IsMidway t start whole state before left saved_before saved saved_left class) where
+
+  pub stop-at : (next : Element) (after : List Element) → left ≡ next ∷ after → entry ≡ entry_of t state next.class → named_state entry ≡ None
+      → IsStop t start whole state entry before (Some next) after saved_before saved saved_left class
+  stop-at next after is is_entry none =
+      let stops = ap (λ (elements : List Element). walk t state (suc midway.passed) (suc midway.saved_passed) class (classes_of elements)) (sym is) ∙ midway.same in
+      let same = sym (sym (walk-stop t state (suc midway.passed) (suc midway.saved_passed) class next.class (classes_of after) (sym (ap named_state is_entry) ∙ none)) ∙ stops) in
+      record {
+        passed = midway.passed;
+        stops = ap (λ (w : Walk). w.stop) same;
+        left_after = ap (λ (elements : List Element). before ∷ elements) (sym is) ∙ midway.left_after;
+        in_state = ap (λ (w : Walk). w.state) same;
+        at_entry = is_entry;
+        names_none = λ element here. none;
+        at_end = λ here. cc;
+        saved_passed = midway.saved_passed;
+        saves = ap (λ (w : Walk). w.saved) same;
+        saved_after = midway.saved_after;
+        saved_class = ap (λ (w : Walk). w.class) same;
+      }
+
+  pub stop-end : (after : List Element) → left ≡ [] → after ≡ [] → entry ≡ entry_of t state t.eot_property
+      → IsStop t start whole state entry before None after saved_before saved saved_left class
+  stop-end after is none is_entry =
+      let stops = ap (λ (elements : List Element). walk t state (suc midway.passed) (suc midway.saved_passed) class (classes_of elements)) (sym is) ∙ midway.same in
+      let same = sym (sym (walk-end t state (suc midway.passed) (suc midway.saved_passed) class) ∙ stops) in
+      record {
+        passed = midway.passed;
+        stops = ap (λ (w : Walk). w.stop) same;
+        left_after = ap (λ (elements : List Element). before ∷ elements) (none ∙ sym is) ∙ midway.left_after;
+        in_state = ap (λ (w : Walk). w.state) same;
+        at_entry = is_entry;
+        names_none = λ element here. cc;
+        at_end = λ here. none;
+        saved_passed = midway.saved_passed;
+        saves = ap (λ (w : Walk). w.saved) same;
+        saved_after = midway.saved_after;
+        saved_class = ap (λ (w : Walk). w.class) same;
+      }

@@ -1,0 +1,17 @@
+use Rattle.std.proofs.Common.{◌≡◌, ◌<◌, ◌∷◌, length}
+use Rattle.seg_pairs.proofs.Walks.{IsMidway}
+use Rattle.seg_pairs.proofs.walk.walk.Given as goal
+
+abbrev pub invariant-loop-next : goal.invariant-loop-next
+invariant-loop-next g l = record {
+  midway : IsMidway l.table l.start (l.fn.left ∷ l.fn.right ∷ g.E.Elements.left l.fn.rest) l.state l.before (g.E.Elements.left l.rest)
+      l.saved_before l.saved (g.E.Elements.left l.saved_rest) l.saved_class;
+  saved : l.saved.class < l.table.property_count;
+  end : g.E.Elements.end l.rest ≡ g.E.Elements.end l.fn.rest;
+  table : g.E.Elements.table l.rest ≡ g.E.Elements.table l.fn.rest;
+  saved_end : g.E.Elements.end l.saved_rest ≡ g.E.Elements.end l.fn.rest;
+  saved_table : g.E.Elements.table l.saved_rest ≡ g.E.Elements.table l.fn.rest;
+}
+
+abbrev pub decreases-loop-next : goal.decreases-loop-next
+decreases-loop-next g l = length (g.E.Elements.left l.rest)

@@ -1,0 +1,88 @@
+//! Elements of a text: what an engine sees as one, with its class.
+
+ghost use Rattle.std.specs.Prelude.{◌≡◌, ℕ, ◌<◌, List, IfSome};
+ghost use Rattle.std.specs.Iterator.{YieldsFirst};
+ghost use Rattle.seg_data.specs.PairTable.{PairTable};
+
+use seg_data::inner::PairDataBorrowed;
+use seg_text::inner::Cursor;
+
+/// An element of a text: an item, or a base with the marks after it.
+#[derive(Clone, Copy, Debug)]
+pub struct Element {
+    /// Where it begins: bytes in str, UTF-8 and Latin-1, 16-bit units in UTF-16.
+    pub place: usize,
+    /// Its class.
+    pub class: u8,
+}
+
+/// A cursor over the elements of a text, each read once.
+pub trait Elements: Drop {
+    ghost use Rattle.seg_pairs.specs.declared.elements.Element.{Element};
+    ghost use Rattle.seg_pairs.specs.Elements.{place_at};
+
+    /// The elements that aren't read yet.
+    ghost left: { Self → List Element };
+
+    /// The place where the text ends.
+    ghost end: { Self → ℕ };
+
+    /// The pair table whose classes they have.
+    ghost table: { Self → PairTable };
+
+    /// Reads the next element. None at the end, and from then on.
+    fn next_element(&mut self) -> Option<Element>
+        ensures gives { YieldsFirst left self.old result self.new }
+        ensures end { end self.new ≡ end self.old }
+        ensures table { table self.new ≡ table self.old }
+        ensures class { IfSome result (λ element. element.class < (table self.old).property_count) };
+
+    /// Another cursor at the same element of the same text. Takes no memory and never fails.
+    fn fork(&self) -> Self
+        ensures { result ≡ self.now };
+
+    /// The place of the next element, or of the text's end.
+    fn place(&self) -> usize
+        ensures { result ≡ place_at (left self.now) (end self.now) };
+}
+
+/// The items of a text as elements, with the classes of a pair table and its override.
+#[derive(Drop)]
+pub struct Items<'data, I: Cursor> {
+    /// What the classes are by.
+    pub pairs: PairDataBorrowed<'data>,
+    /// The items that aren't read yet.
+    pub cursor: I,
+}
+
+impl<'data, I: Cursor> Elements for Items<'data, I> {
+    ghost use Rattle.seg_data.specs.PairData.{pair_table_of};
+    ghost use Rattle.seg_pairs.specs.Items.{elements_of};
+
+    ghost left = { λ s. elements_of s.pairs (I.left s.cursor) };
+
+    ghost end = { λ s. I.end s.cursor };
+
+    ghost table = { λ s. pair_table_of s.pairs };
+
+    fn next_element(&mut self) -> Option<Element> {
+        match self.cursor.next_item() {
+            Some((place, code_point)) => {
+                let class = self.pairs.class(code_point);
+                Some(Element { place, class })
+            }
+            None => None,
+        }
+    }
+
+    fn fork(&self) -> Self {
+        Items {
+            pairs: self.pairs,
+            cursor: self.cursor.fork(),
+        }
+    }
+
+    fn place(&self) -> usize {
+        self.cursor.place()
+    }
+}

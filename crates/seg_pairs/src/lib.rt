@@ -1,0 +1,8 @@
+//! The pair table engine: a text's boundaries by the pairs of its classes.
+#![tactic(auto)]
+
+pub mod elements;
+pub mod laws;
+pub mod rule_segmenter_v1;
+pub mod rules;
+pub mod walk;

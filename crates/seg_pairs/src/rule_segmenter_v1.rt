@@ -1,0 +1,119 @@
+//! Boundaries by a pair table.
+
+ghost use Rattle.std.specs.Prelude.{◌≡◌, ⊤};
+ghost use Rattle.std.specs.Iterator.{YieldsFirst, MakesProgress, item_count};
+ghost use Rattle.seg_text.specs.Items.{place_of};
+ghost use Rattle.seg_text.specs.Places.{IsCover};
+ghost use Rattle.seg_data.specs.PairData.{pair_table_of, override_of};
+ghost use Rattle.seg_pairs.specs.PairBoundaries.{table_boundaries, places_coming, status_of, GivesBreak, IsBroken};
+ghost use Rattle.seg_pairs.specs.Elements.{onto, place_at};
+ghost use Rattle.seg_pairs.specs.Items.{elements_of};
+
+use crate::elements::{Element, Elements, Items};
+use crate::rules::{Outcome, Pairs, next_break};
+use seg_data::inner::PairDataBorrowed;
+use seg_text::inner::Cursor;
+use std::marker::Model;
+
+/// The boundaries of a text by a pair table: its start, and then each that the verdicts of the table
+/// lead to from the one before. For tables by which no run begins.
+#[derive(Drop)]
+pub struct RuleBreakIterator<'data, I: Cursor> {
+    // The first element after the boundary that was given last.
+    next: Option<Element>,
+    // The elements after that one.
+    rest: Items<'data, I>,
+    started: bool,
+    class: u8,
+}
+
+impl<'data, I: Cursor> Model for RuleBreakIterator<'data, I> {
+    ghost use Rattle.std.specs.Prelude.{◌≡◌, ◌<◌, false, None, [], IfSome};
+    ghost use Rattle.seg_data.specs.PairData.{pair_table_of};
+    ghost use Rattle.seg_pairs.specs.PairBoundaries.{Coming, coming};
+    ghost use Rattle.seg_pairs.specs.Elements.{onto};
+    ghost use Rattle.seg_pairs.specs.Items.{elements_of};
+
+    ghost Value = { Coming };
+
+    ghost view = { λ s. coming s.started (pair_table_of s.rest.pairs) (onto s.next (elements_of s.rest.pairs (I.left s.rest.cursor))) (I.end s.rest.cursor) s.class };
+
+    ghost invariant = { λ s. (s.started ≡ false → s.class ≡ 0)
+        × (s.next ≡ None → I.left s.rest.cursor ≡ [])
+        × IfSome s.next (λ next. next.class < (pair_table_of s.rest.pairs).property_count) };
+}
+
+impl<'data, I: Cursor> RuleBreakIterator<'data, I> {
+    /// The boundaries of what is left of `text`. Takes no memory.
+    pub fn new(pairs: PairDataBorrowed<'data>, text: I) -> Self
+        ensures left { result.left ≡ table_boundaries (pair_table_of pairs.entry) (override_of pairs.entry) (I.left text) (I.end text) }
+        ensures breaks { IsBroken (pair_table_of pairs.entry) (override_of pairs.entry) (I.left text) (I.end text) result.left }
+        ensures cover { IsCover (place_of (I.left text) (I.end text)) (I.end text) (places_coming result) }
+        ensures class { result.class ≡ 0 }
+        ensures statuses { result.statuses ≡ (pair_table_of pairs.entry).rule_status_table }
+    {
+        let mut rest = Items { pairs, cursor: text };
+        let next = rest.next_element();
+        RuleBreakIterator {
+            next,
+            rest,
+            started: false,
+            class: 0,
+        }
+    }
+
+    /// The rule status of the boundary that was given last: that of its class, which is 0 for the
+    /// first, before it and after the end. Class 0 has status 0.
+    pub fn rule_status(&self) -> u8
+        ensures { result ≡ status_of self.now.statuses self.now.class }
+    {
+        let statuses = self.rest.pairs.table().rule_status_table();
+        match self.class.checked_sub(1) {
+            Some(index) => statuses.get(index as usize).copied().unwrap_or(0),
+            None => 0,
+        }
+    }
+}
+
+impl<'data, I: Cursor> Iterator for RuleBreakIterator<'data, I> {
+    type Item = usize;
+
+    ghost next_gives = { YieldsFirst places_coming };
+
+    ghost remaining = { item_count places_coming };
+
+    fn next(&mut self) -> Option<usize>
+        ensures steps { YieldsFirst places_coming self.old result self.new × GivesBreak self.old result self.new }
+        ensures goes { MakesProgress (λ _. ⊤) (item_count places_coming) self.old result self.new }
+    {
+        if !self.started {
+            self.started = true;
+            return Some(place_before(self.next, &self.rest));
+        }
+        let Some(left) = self.next else {
+            self.class = 0;
+            return None;
+        };
+        let rules = Pairs {
+            table: self.rest.pairs.table(),
+        };
+        match next_break(&rules, left, &mut self.rest) {
+            Outcome::Break { class, next } => {
+                self.class = class;
+                self.next = next;
+            }
+            Outcome::Run { first: _, second: _ } => unreachable!(),
+        }
+        Some(place_before(self.next, &self.rest))
+    }
+}
+
+/// The place of this element, or else of the first of the others, or of the text's end.
+fn place_before<E: Elements>(next: Option<Element>, rest: &E) -> usize
+    ensures { result ≡ place_at (onto next (E.left rest.now)) (E.end rest.now) }
+{
+    match next {
+        Some(element) => element.place,
+        None => rest.place(),
+    }
+}

@@ -1,0 +1,86 @@
+//! Walks through the states of a pair table.
+
+ghost use Rattle.std.specs.Prelude.{◌≡◌, ℕ, ◌<◌, nat_le, List, ◌∷◌, IfSome};
+ghost use Rattle.seg_data.specs.PairTable.{PairTable};
+ghost use Rattle.seg_pairs.specs.Stop.{IsStop};
+ghost use Rattle.seg_pairs.specs.Walk.{is_class};
+
+use crate::elements::{Element, Elements};
+use seg_data::provider::{BreakState, RuleBreakData};
+
+/// Where a walk stops, and what it saved.
+#[derive(Drop)]
+pub struct Stop<E: Elements> {
+    /// The state that it is in.
+    pub state: u8,
+    /// The entry of this state and the element, or the end of the text, before which it stops.
+    pub entry: BreakState,
+    /// The element before that.
+    pub before: Element,
+    /// The element before which it stops, if it isn't the end.
+    pub next: Option<Element>,
+    /// The element before the place that was saved.
+    pub saved_before: Element,
+    /// The element that begins at that place.
+    pub saved: Element,
+    /// The elements after this one.
+    pub saved_rest: E,
+    /// The class that was saved.
+    pub saved_class: u8,
+}
+
+/// Walks on from a state that the entry of two elements names, as far as entries name states.
+///
+/// `rest` has the elements after `right`, and then those after the one before which the walk stops.
+pub fn walk<E: Elements>(
+    table: &RuleBreakData,
+    start: u8,
+    left: Element,
+    right: Element,
+    rest: &mut E,
+) -> Stop<E>
+    requires start { start < table.now.property_count }
+    requires right { right.class < table.now.property_count }
+    requires table { E.table rest.old ≡ table.now }
+    ensures stop { IsStop table.now start (left ∷ right ∷ E.left rest.old) result.state result.entry result.before result.next (E.left rest.new)
+        result.saved_before result.saved (E.left result.saved_rest) result.saved_class }
+    ensures next { IfSome result.next (λ next. next.class < table.now.property_count) }
+    ensures saved { result.saved.class < table.now.property_count }
+    ensures end { E.end rest.new ≡ E.end rest.old }
+    ensures table { E.table rest.new ≡ E.table rest.old }
+    ensures saved_end { E.end result.saved_rest ≡ E.end rest.old }
+    ensures saved_table { E.table result.saved_rest ≡ E.table rest.old }
+{
+    table.check();
+    let (mut state, mut before) = (start, right);
+    let (mut saved_before, mut saved, mut saved_rest) = (left, right, rest.fork());
+    let mut saved_class = left.class;
+    loop {
+        let Some(next) = rest.next_element() else {
+            let entry = table.entry(state, table.eot_property());
+            return Stop { state, entry, before, next: None, saved_before, saved, saved_rest, saved_class };
+        };
+        let entry = table.entry(state, next.class);
+        let Some(to) = entry.named() else {
+            return Stop { state, entry, before, next: Some(next), saved_before, saved, saved_rest, saved_class };
+        };
+        let leaves_class = is_class(table, state);
+        if entry.is_intermediate() | leaves_class {
+            saved_before = before;
+            saved = next;
+            saved_rest = rest.fork();
+        }
+        if leaves_class {
+            saved_class = to;
+        }
+        before = next;
+        state = to;
+    }
+}
+
+/// Whether a state is a class of code points, and no composite.
+fn is_class(table: &RuleBreakData, state: u8) -> bool
+    ensures { result ≡ is_class table.now state }
+{
+    state <= table.last_codepoint_property()
+}
