@@ -1,6 +1,6 @@
 //! What comes after an element of a text: a boundary, none, or a run of complex elements.
 
-ghost use Rattle.std.specs.Prelude.{◌≡◌, ◌<◌, ℕ, List, ◌∷◌};
+ghost use Rattle.std.specs.Prelude.{◌≡◌, ◌<◌, ℕ, Some, List, ◌∷◌};
 ghost use Rattle.seg_data.specs.PairTable.{PairTable};
 ghost use Rattle.seg_pairs.specs.Elements.{classes_of};
 ghost use Rattle.seg_pairs.specs.Steps.{Lands, EndsIn, IsStepBelow, IsOutcomeBelow};
@@ -176,17 +176,20 @@ fn walk_step<E: Elements>(
         Some(next) => match entry {
             BreakState::Keep => Step::Go { next },
             BreakState::Break => Step::Break { class: state, next: Some(next) },
-            _ => {
-                *rest = saved_rest;
-                Step::Break { class: saved_class, next: Some(saved) }
-            }
+            _ => go_back(rest, saved_rest, saved, saved_class),
         },
         None => match entry {
-            BreakState::NoMatch => {
-                *rest = saved_rest;
-                Step::Break { class: saved_class, next: Some(saved) }
-            }
+            BreakState::NoMatch => go_back(rest, saved_rest, saved, saved_class),
             _ => Step::Break { class: state, next: None },
         },
     }
+}
+
+/// A boundary at the place that was saved: the elements are read again from there on.
+fn go_back<E: Elements>(rest: &mut E, saved_rest: E, saved: Element, class: u8) -> Step
+    ensures rest { rest.new ≡ saved_rest }
+    ensures step { result ≡ Step.Break class (Some saved) }
+{
+    *rest = saved_rest;
+    Step::Break { class, next: Some(saved) }
 }

@@ -1,7 +1,7 @@
 //! Walks through the states of a pair table.
 
-ghost use Rattle.std.specs.Prelude.{◌≡◌, ℕ, ◌<◌, nat_le, List, ◌∷◌, IfSome};
-ghost use Rattle.seg_data.specs.PairTable.{PairTable};
+ghost use Rattle.std.specs.Prelude.{◌≡◌, ◌<◌, ◌||◌, List, ◌∷◌, IfSome, if◌then◌else◌};
+ghost use Rattle.seg_data.specs.BreakStates.{is_intermediate};
 ghost use Rattle.seg_pairs.specs.Stop.{IsStop};
 ghost use Rattle.seg_pairs.specs.Walk.{is_class};
 
@@ -65,14 +65,12 @@ pub fn walk<E: Elements>(
             return Stop { state, entry, before, next: Some(next), saved_before, saved, saved_rest, saved_class };
         };
         let leaves_class = is_class(table, state);
-        if entry.is_intermediate() | leaves_class {
+        if saves(entry, leaves_class) {
             saved_before = before;
             saved = next;
             saved_rest = rest.fork();
         }
-        if leaves_class {
-            saved_class = to;
-        }
+        saved_class = class_after(leaves_class, to, saved_class);
         before = next;
         state = to;
     }
@@ -83,4 +81,19 @@ fn is_class(table: &RuleBreakData, state: u8) -> bool
     ensures { result ≡ is_class table.now state }
 {
     state <= table.last_codepoint_property()
+}
+
+/// Whether the place before an entry that names a state is saved: before each `Intermediate`, and
+/// where the walk leaves a class.
+fn saves(entry: BreakState, leaves_class: bool) -> bool
+    ensures { result ≡ (is_intermediate entry || leaves_class) }
+{
+    entry.is_intermediate() || leaves_class
+}
+
+/// The class that is saved once an entry names a state: this state where the walk leaves a class.
+fn class_after(leaves_class: bool, next: u8, saved: u8) -> u8
+    ensures { result ≡ (if leaves_class then next else saved) }
+{
+    if leaves_class { next } else { saved }
 }

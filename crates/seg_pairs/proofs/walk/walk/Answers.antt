@@ -3,7 +3,7 @@ use Rattle.seg_data.specs.PairTable.{PairTable, entry_of}
 use Rattle.seg_pairs.specs.declared.elements.Element.{Element}
 use Rattle.seg_pairs.proofs.Walks.{midway-saved, midway-kept, stop-at, stop-end}
 use Rattle.seg_pairs.proofs.walk.walk.Goals as goal
-use Rattle.seg_pairs.proofs.walk.walk.Goals.{then-is_intermediate-leaves_class, else-is_intermediate-leaves_class}
+use Rattle.seg_pairs.proofs.walk.walk.Goals.{then-saves, else-saves}
 
 pub returns-in_default-clause-stop : goal.returns-in_default-clause-stop
 returns-in_default-clause-stop g c =
@@ -14,60 +14,27 @@ pub returns-in_default-named-clause-stop : goal.returns-in_default-named-clause-
 returns-in_default-named-clause-stop g c =
     stop-at _ _ _ _ _ _ _ _ _ _ _ c.loop-next.invariant.midway _ _ c.in-Some.ensures.gives c.entry-entry-in-loop-next.ensures.value (sym c.named.ensures ∙ c.in_default-named.is)
 
-pub loop-next-preserved-then-leaves_class : goal.loop-next-preserved-then-leaves_class
-loop-next-preserved-then-leaves_class g c =
-    let named = sym c.named.ensures ∙ c.in-Some-named.is in
-    let intermediate = ap (λ b. b || c.is_class-leaves_class.result) (sym c.is_intermediate.ensures) in
-    let end = c.in-Some.ensures.end ∙ c.loop-next.invariant.end in
-    let same = c.in-Some.ensures.table ∙ c.loop-next.invariant.table in
-    elim c.if-is_intermediate-leaves_class.branch [
-      | then-is_intermediate-leaves_class w ↦ record {
-        midway = rw (w.saved_before-is, w.saved-is, w.saved_rest-is, w.fork-saved_rest-then-is_intermediate-leaves_class.ensures)
-            (midway-saved _ _ _ _ _ _ _ _ _ _ _ _ _ _ _ _ c.loop-next.invariant.midway c.in-Some.ensures.gives c.entry-entry-in-loop-next.ensures.value named
-            (c.entry-entry-in-loop-next.ensures.state _ named) c.is_class-leaves_class.ensures (intermediate ∙ w.if-is_intermediate-leaves_class.true)
-            (sym (ap (λ b. cond b c.in-Some-named.to c.loop-next.saved_class) c.if-leaves_class.true)));
-        saved = subst (λ (e : Element). e.class < c.args.table.now.property_count) (sym w.saved-is) (subst (λ (t : PairTable). c.in-Some.next.class < t.property_count) (c.loop-next.invariant.table ∙ c.requires.table) c.in-Some.ensures.class);
-        end = end;
-        table = same;
-        saved_end = ap g.E.Elements.end (w.saved_rest-is ∙ w.fork-saved_rest-then-is_intermediate-leaves_class.ensures) ∙ end;
-        saved_table = ap g.E.Elements.table (w.saved_rest-is ∙ w.fork-saved_rest-then-is_intermediate-leaves_class.ensures) ∙ same;
-      }
-      | else-is_intermediate-leaves_class w ↦ record {
-        midway = rw (w.saved_before-is, w.saved-is, w.saved_rest-is)
-            (midway-kept _ _ _ _ _ _ _ _ _ _ _ _ _ _ _ _ c.loop-next.invariant.midway c.in-Some.ensures.gives c.entry-entry-in-loop-next.ensures.value named
-            (c.entry-entry-in-loop-next.ensures.state _ named) c.is_class-leaves_class.ensures (intermediate ∙ w.if-is_intermediate-leaves_class.false)
-            (sym (ap (λ b. cond b c.in-Some-named.to c.loop-next.saved_class) c.if-leaves_class.true)));
-        saved = subst (λ (e : Element). e.class < c.args.table.now.property_count) (sym w.saved-is) c.loop-next.invariant.saved;
-        end = end;
-        table = same;
-        saved_end = ap g.E.Elements.end w.saved_rest-is ∙ c.loop-next.invariant.saved_end;
-        saved_table = ap g.E.Elements.table w.saved_rest-is ∙ c.loop-next.invariant.saved_table;
-      }
-    ]
-
 pub loop-next-preserved : goal.loop-next-preserved
 loop-next-preserved g c =
     let named = sym c.named.ensures ∙ c.in-Some-named.is in
-    let intermediate = ap (λ b. b || c.is_class-leaves_class.result) (sym c.is_intermediate.ensures) in
     let end = c.in-Some.ensures.end ∙ c.loop-next.invariant.end in
     let same = c.in-Some.ensures.table ∙ c.loop-next.invariant.table in
-    elim c.if-is_intermediate-leaves_class.branch [
-      | then-is_intermediate-leaves_class w ↦ record {
-        midway = rw (w.saved_before-is, w.saved-is, w.saved_rest-is, w.fork-saved_rest-then-is_intermediate-leaves_class.ensures)
+    elim c.if-saves.branch [
+      | then-saves w ↦ record {
+        midway = rw (w.saved_before-is, w.saved-is, w.saved_rest-is, w.fork-saved_rest-then-saves.ensures)
             (midway-saved _ _ _ _ _ _ _ _ _ _ _ _ _ _ _ _ c.loop-next.invariant.midway c.in-Some.ensures.gives c.entry-entry-in-loop-next.ensures.value named
-            (c.entry-entry-in-loop-next.ensures.state _ named) c.is_class-leaves_class.ensures (intermediate ∙ w.if-is_intermediate-leaves_class.true)
-            (sym (ap (λ b. cond b c.in-Some-named.to c.loop-next.saved_class) c.if-leaves_class.false)));
-        saved = subst (λ (e : Element). e.class < c.args.table.now.property_count) (sym w.saved-is) (subst (λ (t : PairTable). c.in-Some.next.class < t.property_count) (c.loop-next.invariant.table ∙ c.requires.table) c.in-Some.ensures.class);
+            (c.entry-entry-in-loop-next.ensures.state _ named) c.is_class-leaves_class.ensures (sym c.saves.ensures ∙ w.if-saves.true) c.class_after-saved_class.ensures);
+        saved = subst (λ (e : Element). e.class < c.args.table.now.property_count) (sym w.saved-is)
+            (subst (λ (t : PairTable). c.in-Some.next.class < t.property_count) (c.loop-next.invariant.table ∙ c.requires.table) c.in-Some.ensures.class);
         end = end;
         table = same;
-        saved_end = ap g.E.Elements.end (w.saved_rest-is ∙ w.fork-saved_rest-then-is_intermediate-leaves_class.ensures) ∙ end;
-        saved_table = ap g.E.Elements.table (w.saved_rest-is ∙ w.fork-saved_rest-then-is_intermediate-leaves_class.ensures) ∙ same;
+        saved_end = ap g.E.Elements.end (w.saved_rest-is ∙ w.fork-saved_rest-then-saves.ensures) ∙ end;
+        saved_table = ap g.E.Elements.table (w.saved_rest-is ∙ w.fork-saved_rest-then-saves.ensures) ∙ same;
       }
-      | else-is_intermediate-leaves_class w ↦ record {
+      | else-saves w ↦ record {
         midway = rw (w.saved_before-is, w.saved-is, w.saved_rest-is)
             (midway-kept _ _ _ _ _ _ _ _ _ _ _ _ _ _ _ _ c.loop-next.invariant.midway c.in-Some.ensures.gives c.entry-entry-in-loop-next.ensures.value named
-            (c.entry-entry-in-loop-next.ensures.state _ named) c.is_class-leaves_class.ensures (intermediate ∙ w.if-is_intermediate-leaves_class.false)
-            (sym (ap (λ b. cond b c.in-Some-named.to c.loop-next.saved_class) c.if-leaves_class.false)));
+            (c.entry-entry-in-loop-next.ensures.state _ named) c.is_class-leaves_class.ensures (sym c.saves.ensures ∙ w.if-saves.false) c.class_after-saved_class.ensures);
         saved = subst (λ (e : Element). e.class < c.args.table.now.property_count) (sym w.saved-is) c.loop-next.invariant.saved;
         end = end;
         table = same;
