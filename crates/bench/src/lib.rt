@@ -5,4 +5,6 @@ pub mod clusters;
 pub mod devices;
 pub mod pair_tables;
 #[cfg(test)]
+mod pair_tests;
+#[cfg(test)]
 mod tests;

@@ -47,10 +47,12 @@ walk-named t state number saved class next_class next classes named =
     let later = namings t (suc number) next classes in
     let more : number + suc (length later) ≡ suc number + length later = omega arith in
     rw (namings-cons t number state next_class next classes named)
-    (rw (last_or-cons (λ n. true) (λ n. n.next) first later state,
+    (rw (
+      last_or-cons (λ n. true) (λ n. n.next) first later state,
       last_or-cons (saves t) (λ n. n.before) first later saved,
       last_or-cons (leaves_class t) (λ n. n.next) first later class,
-      more) refl)
+      more,
+    ) refl)
 
 abbrev pub stopped : ℕ → ℕ → ℕ → ℕ → Walk
 stopped state number saved class = record { state = state; stop = number; saved = saved; class = class }
@@ -88,7 +90,6 @@ drop-next whole left before passed here =
 module _ (t : PairTable) (start : ℕ) (whole : List Element) (state : ℕ) (before : Element) (left : List Element)
     (saved_before saved : Element) (saved_left : List Element) (class : ℕ)
     (next : Element) (after : List Element) (entry : BreakState) (to next_class : ℕ) (leaves : Bool) where
-
   walk-on : (passed saved_passed : ℕ) (b : Bool)
       → walk t state (suc passed) (suc saved_passed) class (classes_of left) ≡ walk_of t start whole
       → left ≡ next ∷ after → entry ≡ entry_of t state next.class → named_state entry ≡ Some to
@@ -129,7 +130,6 @@ module _ (t : PairTable) (start : ℕ) (whole : List Element) (state : ℕ) (bef
 module _ (t : PairTable) (start : ℕ) (whole : List Element) (state : ℕ) (before : Element) (left : List Element)
     (saved_before saved : Element) (saved_left : List Element) (class : ℕ) (entry : BreakState)
     (midway : IsMidway t start whole state before left saved_before saved saved_left class) where
-
   pub stop-at : (next : Element) (after : List Element) → left ≡ next ∷ after → entry ≡ entry_of t state next.class → named_state entry ≡ None
       → IsStop t start whole state entry before (Some next) after saved_before saved saved_left class
   stop-at next after is is_entry none =

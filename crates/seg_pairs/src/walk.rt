@@ -58,11 +58,29 @@ pub fn walk<E: Elements>(
     loop {
         let Some(next) = rest.next_element() else {
             let entry = table.entry(state, table.eot_property());
-            return Stop { state, entry, before, next: None, saved_before, saved, saved_rest, saved_class };
+            return Stop {
+                state,
+                entry,
+                before,
+                next: None,
+                saved_before,
+                saved,
+                saved_rest,
+                saved_class,
+            };
         };
         let entry = table.entry(state, next.class);
         let Some(to) = entry.named() else {
-            return Stop { state, entry, before, next: Some(next), saved_before, saved, saved_rest, saved_class };
+            return Stop {
+                state,
+                entry,
+                before,
+                next: Some(next),
+                saved_before,
+                saved,
+                saved_rest,
+                saved_class,
+            };
         };
         let leaves_class = is_class(table, state);
         if saves(entry, leaves_class) {

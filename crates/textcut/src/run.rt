@@ -104,21 +104,17 @@ fn print_boundaries<O: Write>(
     }
 }
 
-fn print_clusters_by_table<O: Write>(
-    alloc: Global,
-    text: &[u8],
-    out: &mut O,
-) -> Result<(), Failure>
+fn print_clusters_by_table<O: Write>(alloc: Global, text: &[u8], out: &mut O) -> Result<(), Failure>
     ensures printed { OnOk result
         (Appends (O.contents out.old) (O.contents out.new) (lines_of (boundaries_of Command.GraphemeClassic text.now))) }
     ensures unwritten { IsErrOf result Failure.NoMemory → out.new ≡ out.old }
     ensures cause { result ≢ Err Failure.Usage × result ≢ Err Failure.ReadFailed }
 {
     let table = cluster_table(alloc)?;
-    let Ok(segmenter) = GraphemeClusterSegmenterBorrowed::new(&table) else {
+    let Ok(classic) = GraphemeClusterSegmenterBorrowed::new(&table) else {
         unreachable!()
     };
-    print_clusters(segmenter, text, out).map_err(|_| Failure::WriteFailed)
+    print_clusters(classic, text, out).map_err(|_| Failure::WriteFailed)
 }
 
 fn print_clusters_by_machine<O: Write>(
@@ -132,10 +128,10 @@ fn print_clusters_by_machine<O: Write>(
     ensures cause { result ≢ Err Failure.Usage × result ≢ Err Failure.ReadFailed }
 {
     let machine = cluster_machine(alloc)?;
-    let Ok(segmenter) = GraphemeClusterSegmenterBorrowed::new_neo(&machine) else {
+    let Ok(neo) = GraphemeClusterSegmenterBorrowed::new_neo(&machine) else {
         unreachable!()
     };
-    print_clusters(segmenter, text, out).map_err(|_| Failure::WriteFailed)
+    print_clusters(neo, text, out).map_err(|_| Failure::WriteFailed)
 }
 
 fn print_sentences_by_table<O: Write>(
@@ -150,10 +146,10 @@ fn print_sentences_by_table<O: Write>(
 {
     let table = sentence_table(alloc)?;
     let options = SentenceBreakInvariantOptions::default();
-    let Ok(segmenter) = SentenceSegmenterBorrowed::new(&table, None, options) else {
+    let Ok(classic) = SentenceSegmenterBorrowed::new(&table, None, options) else {
         unreachable!()
     };
-    print_sentences(segmenter, text, out).map_err(|_| Failure::WriteFailed)
+    print_sentences(classic, text, out).map_err(|_| Failure::WriteFailed)
 }
 
 fn print_clusters<O: Write>(
@@ -168,12 +164,12 @@ fn print_clusters<O: Write>(
 }
 
 fn print_sentences<O: Write>(
-    segmenter: SentenceSegmenterBorrowed<'_>,
+    sentences: SentenceSegmenterBorrowed<'_>,
     text: &[u8],
     out: &mut O,
 ) -> io::Result<()>
     ensures { OnOk result (Appends (O.contents out.old) (O.contents out.new)
-        (lines_of (places (boundaries_by (sentence_rules segmenter.entry) (utf8_items 0 text.now) (length text.now))))) }
+        (lines_of (places (boundaries_by (sentence_rules sentences.entry) (utf8_items 0 text.now) (length text.now))))) }
 {
-    print_lines(segmenter.segment_utf8(text), out)
+    print_lines(sentences.segment_utf8(text), out)
 }

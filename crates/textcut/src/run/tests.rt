@@ -37,6 +37,19 @@ fn prints_a_line_for_each_boundary(rt: HostRuntime) {
 }
 
 #[test]
+fn prints_classic_boundaries(rt: HostRuntime) {
+    for (kind, text, lines) in [
+        ("grapheme", "", "0\n"),
+        ("grapheme", "a\u{301}\r\n", "0\n3\n5\n"),
+        ("sentence", "", "0\n"),
+        ("sentence", "a. b", "0\n3\n4\n"),
+    ] {
+        let ran = run_on(rt.alloc(), &[kind, "classic"], &mut text.as_bytes());
+        assert!(rt; ran.is(0, lines, ""), "{kind} {text:?}");
+    }
+}
+
+#[test]
 fn refuses_other_words_and_reads_nothing(rt: HostRuntime) {
     let wrong: [&[&str]; 6] = [
         &[],
