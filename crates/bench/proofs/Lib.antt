@@ -1,2 +1,3 @@
-pub mod ClusterFaults
+pub mod Faultless
+pub mod Scripts
 pub mod PairFaults

@@ -15,7 +15,7 @@ use Rattle.seg_data.specs.PairTable.{PairTable, Names, entry_of}
 use Rattle.seg_data.specs.Table.{named_values}
 use Rattle.seg_data.proofs.Anywhere.{any-contained}
 use Rattle.bench.specs.PairTables.{cluster_table, sentence_table}
-use Rattle.bench.proofs.ClusterFaults.{any-refuted}
+use Rattle.bench.proofs.Faultless.{any-refuted}
 
 names_below : ℕ → BreakState → Bool
 names_below count (Index state) = nat_lt state count

@@ -1,2 +1,4 @@
 pub mod Clusters
+pub mod Sentences
+pub mod Lines
 pub mod PairTables

@@ -3,9 +3,8 @@
 ghost use Rattle.std.specs.Prelude.{◌≡◌, IfOk};
 ghost use Rattle.bench.specs.Clusters.{cluster_machine};
 
-use icu_segmenter::provider::{
-    Acceptance, ClassTable, Lookahead, SegmenterStateMachine, State, Symbol,
-};
+use crate::machines::{Entry, machine_of};
+use icu_segmenter::provider::{Acceptance, SegmenterStateMachine, State, Symbol};
 use std::alloc::{AllocError, Global};
 
 /// Carriage return, line feed, and what extends a cluster.
@@ -22,7 +21,7 @@ const SYMBOLS: [(u32, u32, Symbol); 7] = [
 /// Any other character.
 const OTHER: Symbol = 1;
 
-const STATES: [(Acceptance, Option<Lookahead>); 4] = [
+const STATES: [Entry; 4] = [
     (Acceptance::Continue, None),
     (Acceptance::Accept(0), None),
     (Acceptance::Accept(0), None),
@@ -43,15 +42,5 @@ const TRANSITIONS: [State; 20] = [
 pub fn cluster_machine(alloc: Global) -> Result<SegmenterStateMachine, AllocError>
     ensures { IfOk result (λ machine. machine ≡ cluster_machine) }
 {
-    let Ok(symbols) = ClassTable::try_from_ranges(Vec::from_slice(alloc, &SYMBOLS)?, OTHER) else {
-        unreachable!()
-    };
-    let states = Vec::from_slice(alloc, &STATES)?;
-    let transitions = Vec::from_slice(alloc, &TRANSITIONS)?;
-    let map = Vec::new(alloc);
-    let Ok(machine) = SegmenterStateMachine::try_from_parts(symbols, states, transitions, 0, 5, map)
-    else {
-        unreachable!()
-    };
-    Ok(machine)
+    machine_of(alloc, &SYMBOLS, OTHER, &STATES, &TRANSITIONS, &[])
 }

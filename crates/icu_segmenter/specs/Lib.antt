@@ -10,6 +10,7 @@ pub use Rattle.seg_data.specs.Unaligned
 pub use Rattle.seg_data.specs.Machine
 pub use Rattle.seg_data.specs.Pick
 pub use Rattle.seg_data.specs.Segments
+pub use Rattle.seg_data.specs.Restart
 pub use Rattle.seg_data.specs.Faults
 pub use Rattle.seg_data.specs.BreakStates
 pub use Rattle.seg_data.specs.PairTable
@@ -18,8 +19,13 @@ pub use Rattle.seg_pairs.specs.Walk
 pub use Rattle.seg_pairs.specs.Verdict
 pub use Rattle.seg_pairs.specs.Breaks
 pub use Rattle.seg_pairs.specs.PairBoundaries
+pub use Rattle.seg_data.specs.Language
+pub use Rattle.seg_data.specs.LineTailorings
 pub use Rattle.seg_machine.specs.Boundaries
 pub use Rattle.seg_clusters.specs.Rules
 pub use Rattle.seg_clusters.specs.Engine
 pub use Rattle.seg_clusters.specs.Clusters
 pub use Rattle.seg_clusters.specs.Sentences
+pub use Rattle.seg_lines.specs.Options
+pub use Rattle.seg_lines.specs.Tailorings
+pub use Rattle.seg_lines.specs.Lines

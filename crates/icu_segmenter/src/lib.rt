@@ -1,22 +1,26 @@
 //! Text boundaries from checked data, under the names of the crate `icu_segmenter` 2.4.0.
 //!
-//! Data are checked once, where they are made (`provider`); a segmenter then gives the boundaries of any text
-//! in an encoding of `scaffold`, with no further refusal.
+//! Data are checked once, where they are made (`provider`), and a machine or a pair table with its tailoring or
+//! override once more in a segmenter's constructor; the segmenter then gives the boundaries of any text in an
+//! encoding of `scaffold`, with no further refusal.
 #![tactic(auto)]
 
 pub use seg_clusters::grapheme::{GraphemeClusterSegmenter, GraphemeClusterSegmenterBorrowed};
 pub use seg_clusters::sentence::{SentenceSegmenter, SentenceSegmenterBorrowed};
 pub use seg_data::provider;
+pub use seg_lines::line::{LineSegmenter, LineSegmenterBorrowed};
 pub use seg_text::{indices, scaffold};
 
 /// The iterators that the `segment_` calls give.
 pub mod iterators {
     pub use seg_clusters::grapheme::GraphemeClusterBreakIterator;
     pub use seg_clusters::sentence::SentenceBreakIterator;
+    pub use seg_lines::line::LineBreakIterator;
 }
 
-/// The options of segmenters, and the language that they name.
+/// The options of segmenters, and the language of a text, which is one of them.
 pub mod options {
     pub use seg_clusters::sentence::{SentenceBreakInvariantOptions, SentenceBreakOptions};
     pub use seg_data::provider::LanguageIdentifier;
+    pub use seg_lines::line::{LineBreakOptions, LineBreakStrictness, LineBreakWordOption};
 }

@@ -1,7 +1,9 @@
 -- What is printed of an iterator that says which numbers it has left.
-use Rattle.std.proofs.Common.{◌≡◌, ℕ, List, [], ◌∷◌, Option, Result, Ok, Err, OnOk, sym, ◌∙◌, ap}
+use Rattle.std.proofs.Common.{◌≡◌, ℕ, Bool, List, [], ◌∷◌, map, Option, Result, Ok, Err, OnOk, refl, sym, ◌∙◌, ap}
 use Rattle.std.specs.Iterator.{YieldsFirst, Drains}
 use Rattle.std.specs.Io.KnownBytes.{Appends}
+use Rattle.icu_segmenter.specs.Boundaries.{places}
+use Rattle.icu_segmenter.specs.Lines.{marked}
 use Rattle.textcut.specs.Lines.{lines_of}
 
 module _ {S : Type 0} (left : S → List ℕ) where
@@ -17,3 +19,12 @@ module _ {S : Type 0} (left : S → List ℕ) where
   lines-are_left s all old new (Err e) h is_all = tt
   lines-are_left s all old new (Ok u) h is_all =
       rw (← is_all, ← given-is_left s h.0 h.1) h.2
+
+-- boundaries of lines that have the same marks have the same places
+places-marked : (found : List (ℕ × ℕ)) → places found ≡ map (λ (line : ℕ × Bool). line.0) (marked found)
+places-marked [] = refl
+places-marked (boundary ∷ found) = ap (λ rest. boundary.0 ∷ rest) (places-marked found)
+
+pub same-places : (found all : List (ℕ × ℕ)) → marked found ≡ marked all → places found ≡ places all
+same-places found all same =
+    places-marked found ∙ ap (map (λ (line : ℕ × Bool). line.0)) same ∙ sym (places-marked all)

@@ -6,9 +6,11 @@ use Rattle.icu_segmenter.specs.Places.{places}
 use Rattle.icu_segmenter.specs.Rules.{Rules, boundaries_by}
 use Rattle.icu_segmenter.specs.Rules.Rules.{ByTable, ByMachine}
 use Rattle.bench.specs.Clusters.{cluster_machine}
+use Rattle.bench.specs.Sentences.{sentence_machine}
+use Rattle.bench.specs.Lines.{line_machine}
 use Rattle.bench.specs.PairTables.{cluster_table, sentence_table}
 use Rattle.textcut.specs.declared.command.Command.{Command}
-use Rattle.textcut.specs.declared.command.Command.TheVariants.{GraphemeClassic, GraphemeNeo, SentenceClassic}
+use Rattle.textcut.specs.declared.command.Command.TheVariants.{GraphemeClassic, GraphemeNeo, SentenceClassic, SentenceNeo, LineNeo}
 
 -- the texts that references point to
 abbrev pub texts : List (Bor (List ℕ)) → List (List ℕ)
@@ -19,16 +21,20 @@ abbrev pub words_of : Command → List (List ℕ)
 words_of GraphemeClassic = codes "grapheme" ∷ codes "classic" ∷ []
 words_of GraphemeNeo = codes "grapheme" ∷ codes "neo" ∷ []
 words_of SentenceClassic = codes "sentence" ∷ codes "classic" ∷ []
+words_of SentenceNeo = codes "sentence" ∷ codes "neo" ∷ []
+words_of LineNeo = codes "line" ∷ codes "neo" ∷ []
 
 -- words that no command has
 abbrev pub IsNoCommand : List (List ℕ) → Type 0
 IsNoCommand words = (command : Command) → words ≢ words_of command
 
--- what a command finds boundaries by
+-- what a command finds boundaries by; by default options the machine of lines isn't tailored
 abbrev pub rules_of : Command → Rules
 rules_of GraphemeClassic = ByTable cluster_table None
 rules_of GraphemeNeo = ByMachine cluster_machine
 rules_of SentenceClassic = ByTable sentence_table None
+rules_of SentenceNeo = ByMachine sentence_machine
+rules_of LineNeo = ByMachine line_machine
 
 -- the boundaries that a command prints of a text
 abbrev pub boundaries_of : Command → List ℕ → List ℕ

@@ -12,6 +12,10 @@ pub enum Command {
     GraphemeNeo,
     /// The sentences, by the pair table that is built in.
     SentenceClassic,
+    /// The sentences, by the machine that is built in.
+    SentenceNeo,
+    /// Where lines may be broken, by the machine that is built in, with the default options.
+    LineNeo,
 }
 
 /// The command that has these words.
@@ -24,6 +28,8 @@ pub fn command_of(words: &[&str]) -> Option<Command>
         ["grapheme", "classic"] => Some(Command::GraphemeClassic),
         ["grapheme", "neo"] => Some(Command::GraphemeNeo),
         ["sentence", "classic"] => Some(Command::SentenceClassic),
+        ["sentence", "neo"] => Some(Command::SentenceNeo),
+        ["line", "neo"] => Some(Command::LineNeo),
         _ => None,
     }
 }

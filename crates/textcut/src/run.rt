@@ -1,5 +1,6 @@
 // The program, over any reader and writers.
-ghost use Rattle.std.specs.Prelude.{◌≡◌, ◌≢◌, ◌≤◌, ◌↔◌, OnOk, IfOk, IfErr, IfSome, IsErrOf, length};
+ghost use Rattle.std.specs.Prelude.{◌≡◌, ◌≢◌, ◌≤◌, ◌↔◌, ℕ, List, OnOk, IfOk, IfErr, IfSome, IsErrOf, length};
+ghost use Rattle.std.specs.Iterator.{IsFinite, Drains};
 ghost use Rattle.std.specs.Io.KnownBytes.{Appends, IsAtEnd};
 ghost use Rattle.icu_segmenter.specs.Utf8.{utf8_items};
 ghost use Rattle.icu_segmenter.specs.Places.{places};
@@ -16,11 +17,12 @@ use crate::command::{Command, command_of};
 use crate::failure::Failure;
 use crate::lines::print_lines;
 use bench::clusters::cluster_machine;
+use bench::lines::{line_machine, line_tailorings};
 use bench::pair_tables::{cluster_table, sentence_table};
-use icu_segmenter::options::SentenceBreakInvariantOptions;
-use icu_segmenter::{GraphemeClusterSegmenterBorrowed, SentenceSegmenterBorrowed};
+use bench::sentences::sentence_machine;
+use icu_segmenter::options::{LineBreakOptions, SentenceBreakInvariantOptions};
+use icu_segmenter::{GraphemeClusterSegmenterBorrowed, LineSegmenter, SentenceSegmenterBorrowed};
 use std::alloc::Global;
-use std::io;
 use std::io::{ErrorKind, Read, Write};
 
 #[cfg(test)]
@@ -101,6 +103,8 @@ fn print_boundaries<O: Write>(
         Command::GraphemeClassic => print_clusters_by_table(alloc, text, out),
         Command::GraphemeNeo => print_clusters_by_machine(alloc, text, out),
         Command::SentenceClassic => print_sentences_by_table(alloc, text, out),
+        Command::SentenceNeo => print_sentences_by_machine(alloc, text, out),
+        Command::LineNeo => print_line_breaks(alloc, text, out),
     }
 }
 
@@ -111,10 +115,10 @@ fn print_clusters_by_table<O: Write>(alloc: Global, text: &[u8], out: &mut O) ->
     ensures cause { result ≢ Err Failure.Usage × result ≢ Err Failure.ReadFailed }
 {
     let table = cluster_table(alloc)?;
-    let Ok(classic) = GraphemeClusterSegmenterBorrowed::new(&table) else {
+    let Ok(segmenter) = GraphemeClusterSegmenterBorrowed::new(&table) else {
         unreachable!()
     };
-    print_clusters(classic, text, out).map_err(|_| Failure::WriteFailed)
+    print_clusters(segmenter, text, out)
 }
 
 fn print_clusters_by_machine<O: Write>(
@@ -128,10 +132,10 @@ fn print_clusters_by_machine<O: Write>(
     ensures cause { result ≢ Err Failure.Usage × result ≢ Err Failure.ReadFailed }
 {
     let machine = cluster_machine(alloc)?;
-    let Ok(neo) = GraphemeClusterSegmenterBorrowed::new_neo(&machine) else {
+    let Ok(segmenter) = GraphemeClusterSegmenterBorrowed::new_neo(&machine) else {
         unreachable!()
     };
-    print_clusters(neo, text, out).map_err(|_| Failure::WriteFailed)
+    print_clusters(segmenter, text, out)
 }
 
 fn print_sentences_by_table<O: Write>(
@@ -146,30 +150,81 @@ fn print_sentences_by_table<O: Write>(
 {
     let table = sentence_table(alloc)?;
     let options = SentenceBreakInvariantOptions::default();
-    let Ok(classic) = SentenceSegmenterBorrowed::new(&table, None, options) else {
+    let Ok(segmenter) = SentenceSegmenterBorrowed::new(&table, None, options) else {
         unreachable!()
     };
-    print_sentences(classic, text, out).map_err(|_| Failure::WriteFailed)
+    print_sentences(segmenter, text, out)
+}
+
+fn print_sentences_by_machine<O: Write>(
+    alloc: Global,
+    text: &[u8],
+    out: &mut O,
+) -> Result<(), Failure>
+    ensures printed { OnOk result
+        (Appends (O.contents out.old) (O.contents out.new) (lines_of (boundaries_of Command.SentenceNeo text.now))) }
+    ensures unwritten { IsErrOf result Failure.NoMemory → out.new ≡ out.old }
+    ensures cause { result ≢ Err Failure.Usage × result ≢ Err Failure.ReadFailed }
+{
+    let machine = sentence_machine(alloc)?;
+    let options = SentenceBreakInvariantOptions::default();
+    let Ok(segmenter) = SentenceSegmenterBorrowed::new_neo(&machine, None, options) else {
+        unreachable!()
+    };
+    print_sentences(segmenter, text, out)
 }
 
 fn print_clusters<O: Write>(
-    segmenter: GraphemeClusterSegmenterBorrowed<'_>,
+    clusters: GraphemeClusterSegmenterBorrowed<'_>,
     text: &[u8],
     out: &mut O,
-) -> io::Result<()>
-    ensures { OnOk result (Appends (O.contents out.old) (O.contents out.new)
-        (lines_of (places (boundaries_by (cluster_rules segmenter.entry) (utf8_items 0 text.now) (length text.now))))) }
+) -> Result<(), Failure>
+    ensures printed { OnOk result (Appends (O.contents out.old) (O.contents out.new)
+        (lines_of (places (boundaries_by (cluster_rules clusters.entry) (utf8_items 0 text.now) (length text.now))))) }
+    ensures cause { IfErr result (λ failure. failure ≡ Failure.WriteFailed) }
 {
-    print_lines(segmenter.segment_utf8(text), out)
+    print_numbers(clusters.segment_utf8(text), out)
 }
 
 fn print_sentences<O: Write>(
     sentences: SentenceSegmenterBorrowed<'_>,
     text: &[u8],
     out: &mut O,
-) -> io::Result<()>
-    ensures { OnOk result (Appends (O.contents out.old) (O.contents out.new)
+) -> Result<(), Failure>
+    ensures printed { OnOk result (Appends (O.contents out.old) (O.contents out.new)
         (lines_of (places (boundaries_by (sentence_rules sentences.entry) (utf8_items 0 text.now) (length text.now))))) }
+    ensures cause { IfErr result (λ failure. failure ≡ Failure.WriteFailed) }
 {
-    print_lines(sentences.segment_utf8(text), out)
+    print_numbers(sentences.segment_utf8(text), out)
+}
+
+fn print_line_breaks<O: Write>(alloc: Global, text: &[u8], out: &mut O) -> Result<(), Failure>
+    ensures printed { OnOk result
+        (Appends (O.contents out.old) (O.contents out.new) (lines_of (boundaries_of Command.LineNeo text.now))) }
+    ensures unwritten { IsErrOf result Failure.NoMemory → out.new ≡ out.old }
+    ensures cause { result ≢ Err Failure.Usage × result ≢ Err Failure.ReadFailed }
+{
+    let machine = line_machine(alloc)?;
+    let clusters = cluster_machine(alloc)?;
+    let tailorings = line_tailorings(alloc)?;
+    let options = LineBreakOptions::default();
+    let Ok(lines) = LineSegmenter::try_new_neo_for_non_complex_scripts(
+        machine, tailorings, clusters, options,
+    ) else {
+        unreachable!()
+    };
+    print_numbers(lines.as_borrowed().segment_utf8(text), out)
+}
+
+fn print_numbers<N: Iterator<Item = usize> + Drop, O: Write>(
+    numbers: N,
+    out: &mut O,
+) -> Result<(), Failure>
+    requires can { N.can_next numbers }
+    requires ends { IsFinite (N.remaining numbers) }
+    ensures printed { OnOk result ((given : List ℕ) × Drains N.next_gives numbers given
+        × Appends (O.contents out.old) (O.contents out.new) (lines_of given)) }
+    ensures cause { IfErr result (λ failure. failure ≡ Failure.WriteFailed) }
+{
+    print_lines(numbers, out).map_err(|_| Failure::WriteFailed)
 }

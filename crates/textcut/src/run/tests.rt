@@ -50,12 +50,26 @@ fn prints_classic_boundaries(rt: HostRuntime) {
 }
 
 #[test]
+fn prints_the_boundaries_of_each_kind(rt: HostRuntime) {
+    for (kind, lines) in [
+        ("grapheme", "0\n1\n2\n3\n4\n5\n6\n7\n8\n9\n"),
+        ("sentence", "0\n4\n6\n9\n"),
+        ("line", "0\n4\n6\n8\n9\n"),
+    ] {
+        let ran = run_on(rt.alloc(), &[kind, "neo"], &mut b"ab. c\nd e".as_slice());
+        assert!(rt; ran.is(0, lines, ""), "{kind}");
+    }
+}
+
+#[test]
 fn refuses_other_words_and_reads_nothing(rt: HostRuntime) {
-    let wrong: [&[&str]; 6] = [
+    let wrong: [&[&str]; 8] = [
         &[],
         &["grapheme"],
         &["word", "17"],
         &["neo", "grapheme"],
+        &["sentence"],
+        &["lines", "neo"],
         &["grapheme", "neo "],
         &["grapheme", "neo", "neo"],
     ];

@@ -3,5 +3,5 @@ use Rattle.icu_segmenter.specs.Sentences.{sentences_left}
 use Rattle.textcut.proofs.Printed.{lines-are_left}
 use Rattle.textcut.proofs.run.print_sentences.Goals as goal
 
-pub returns : goal.returns
-returns g c = lines-are_left sentences_left _ _ _ _ _ c.print_lines.ensures c.segment_utf8.ensures.boundaries
+pub returns-clause-printed : goal.returns-clause-printed
+returns-clause-printed g c = lines-are_left sentences_left _ _ _ _ _ c.print_numbers.ensures.printed c.segment_utf8.ensures.boundaries

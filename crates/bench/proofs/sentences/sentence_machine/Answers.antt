@@ -1,0 +1,10 @@
+-- The machine is simple, so it has no fault.
+use Rattle.std.proofs.Common.{refl}
+use Rattle.seg_data.specs.Machine.{step, state_at, symbol_count}
+use Rattle.bench.specs.Sentences.{sentence_machine}
+use Rattle.bench.proofs.Faultless.{all_below, simple-faultless}
+use Rattle.bench.proofs.sentences.sentence_machine.Goals as goal
+
+pub machine_of-requires-clause-parts : goal.machine_of-requires-clause-parts
+unfolding all_below step state_at symbol_count
+machine_of-requires-clause-parts c = simple-faultless sentence_machine refl

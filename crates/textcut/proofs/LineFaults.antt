@@ -1,0 +1,26 @@
+-- By default options the bench data of lines have no fault.
+use Rattle.std.proofs.Common.{◌≡◌, Some, None, inl, inr, refl}
+use Rattle.icu_segmenter.specs.declared.provider.DataError.{DataError}
+use Rattle.icu_segmenter.specs.declared.provider.LineTailorings.{LineTailorings}
+use Rattle.icu_segmenter.specs.declared.options.LineBreakOptions.{LineBreakOptions}
+use Rattle.icu_segmenter.specs.Machine.{Machine}
+use Rattle.icu_segmenter.specs.Options.{machine_choice}
+use Rattle.icu_segmenter.specs.Lines.{HasFaultWith, HasLineFault, chosen_machine}
+use Rattle.bench.specs.Lines.{line_machine}
+use Rattle.bench.proofs.Scripts.{lines-not_complex}
+
+none : (fault : DataError) → HasFaultWith line_machine (Some None) fault → ⊥
+none fault (inl has) = has
+none fault (inr has) = lines-not_complex has.1
+
+-- the default options
+abbrev pub IsDefault : LineBreakOptions → Type 0
+IsDefault options = (options.strictness ≡ None) × ((options.word_option ≡ None) × (options.content_locale ≡ None))
+
+module _ (machine : Machine) (tailorings : LineTailorings) (options : LineBreakOptions) (default : IsDefault options) where
+  pub no-fault : (fault : DataError) → machine ≡ line_machine → HasLineFault machine tailorings (machine_choice options) fault → ⊥
+  no-fault fault is has = none fault (rw (default.0, default.1.0, default.1.1, is) at has)
+
+  -- the machine of lines finds the breaks as it is
+  pub chosen-untailored : (clusters : Machine) → chosen_machine machine tailorings clusters (machine_choice options) ≡ machine
+  chosen-untailored clusters = rw (default.0, default.1.0, default.1.1) refl
