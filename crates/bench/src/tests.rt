@@ -278,7 +278,7 @@ const CODE_POINTS: [char; 10] = [
 ];
 
 /// The text of so many of these code points, by the digits of a number.
-fn text_of(alloc: Global, length: usize, number: usize) -> Result<String, AllocError> {
+pub(crate) fn text_of(alloc: Global, length: usize, number: usize) -> Result<String, AllocError> {
     let mut text = String::new(alloc);
     let mut digits = number;
     for _ in 0..length {
@@ -289,7 +289,7 @@ fn text_of(alloc: Global, length: usize, number: usize) -> Result<String, AllocE
 }
 
 /// The ordinals of boundaries, in code points, where the items have these places.
-fn ordinals(
+pub(crate) fn ordinals(
     alloc: Global,
     boundaries: &[usize],
     items: &[usize],

@@ -132,3 +132,6 @@ complex-lowest-of t u overriding other same equal class start complex =
     complex-lowest t overriding class
     (subst (λ o. HasPairDataFault t o StartRowKeeps → ⊥) equal (subst (λ t. HasPairDataFault t other StartRowKeeps → ⊥) same start))
     (subst (λ o. HasPairDataFault t o ComplexItems) equal (subst (λ t. HasPairDataFault t other ComplexItems) same complex))
+
+pub not-other : (class : ℕ) → (class ≢ 0 → ⊥) → class ≡ 0
+not-other class none = elim (cases_eq class 0) [ inl same ↦ same | inr other ↦ absurd (none other) ]

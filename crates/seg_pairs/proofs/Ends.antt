@@ -95,7 +95,7 @@ placed-same : (pairs : PairDataBorrowed) (items : List (ℕ × ℕ)) (end : ℕ)
 placed-same pairs items end [] = refl
 placed-same pairs items end ((n, class) ∷ counted) =
     let here : place_at (drop n (elements_of pairs items)) end ≡ place_of (drop n items) end =
-        ap (λ (elements : List Element). place_at elements end) (drop-map (element_of pairs) n items) ∙ place-of pairs (drop n items) end in
+    ap (λ (elements : List Element). place_at elements end) (drop-map (element_of pairs) n items) ∙ place-of pairs (drop n items) end in
     ap (λ (p : ℕ). (p, class) ∷ map (element_placed (elements_of pairs items) end) counted) here
     ∙ ap (λ (rest : List (ℕ × ℕ)). (place_of (drop n items) end, class) ∷ rest) (placed-same pairs items end counted)
 
@@ -138,9 +138,11 @@ rises t overriding ((n, class) ∷ found) (item ∷ items) end ((goes, leads), a
 pub cover : (t : PairTable) (overriding : Option Table) (items : List (ℕ × ℕ)) (end : ℕ) → IsRising items end
     → IsCover (place_of items end) end (places (table_boundaries t overriding items end))
 unfolding table_boundaries
-cover t overriding items end rising =
-    (refl, rises t overriding (breaks (verdict t) (classes_by t overriding (code_points items))) items end
-    (breaks-exist (verdict t) (verdict-forward t) (verdict-no-run t) (classes_by t overriding (code_points items))) rising)
+cover t overriding items end rising = (
+  refl,
+  rises t overriding (breaks (verdict t) (classes_by t overriding (code_points items))) items end
+      (breaks-exist (verdict t) (verdict-forward t) (verdict-no-run t) (classes_by t overriding (code_points items))) rising,
+)
 
 -- the boundaries that are left
 

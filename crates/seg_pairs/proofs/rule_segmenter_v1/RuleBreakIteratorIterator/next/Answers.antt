@@ -25,7 +25,7 @@ pub unreachable-requires : goal.unreachable-requires
 unreachable-requires g c =
     let s = c.self.inside in
     let after = c.next_break.new.rest in
-    run-never c.table.result.now c.in-Some.left (elements_of s.rest.pairs (g.I.Cursor.left s.rest.cursor)) c.in-Run.first c.in-Run.second (elements_of after.pairs (g.I.Cursor.left after.cursor)) c.in-Run.ensures.ends
+    run-never c.table.result.now c.in-Some.left (elements_of s.rest.pairs (g.I.Cursor.left s.rest.cursor)) c.in-Run._first c.in-Run._second (elements_of after.pairs (g.I.Cursor.left after.cursor)) c.in-Run.ensures.ends
 
 pub invariant_of-self-2 : goal.invariant_of-self-2
 invariant_of-self-2 g c =
