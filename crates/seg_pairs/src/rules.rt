@@ -60,6 +60,7 @@ pub trait Rules {
 /// The rules of a pair table alone. No run begins by them.
 #[derive(Clone, Copy, Debug)]
 pub struct Pairs<'data> {
+    /// The table.
     pub table: &'data RuleBreakData,
 }
 
@@ -82,6 +83,7 @@ impl<'data> Rules for Pairs<'data> {
 /// after another, and two begin a run.
 #[derive(Clone, Copy, Debug)]
 pub struct ComplexPairs<'data> {
+    /// The table.
     pub table: &'data RuleBreakData,
 }
 
