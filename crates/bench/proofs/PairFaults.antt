@@ -1,17 +1,15 @@
 -- The bench pair tables have no fault.
-use Rattle.std.proofs.Common.{◌≡◌, ◌≢◌, ℕ, zero, suc, ◌*◌, ◌<◌, ◌≤◌, inl, inr, Bool, true, false, not, ◌&&◌, ◌==◌, nat_lt, nat_eq, Option, Some, None, List, length, refl, sym, ap, ◌∙◌, arith, eq-eqb}
+use Rattle.std.proofs.Common.{◌≡◌, ◌≢◌, ℕ, ◌*◌, ◌≤◌, inl, inr, Bool, true, false, not, ◌==◌, nat_lt, None, length, refl, sym, ap, ◌∙◌, arith, eq-eqb}
 use Rattle.std.specs.List.{list_all}
-use Rattle.std.specs.Prelude.{Contains}
 use Rattle.std.proofs.lemmas.Bool.{false≢true}
 use Rattle.std.proofs.lemmas.Bool.Decides.{nat_tests}
 use Rattle.seg_data.specs.declared.provider.DataError.{DataError}
 use Rattle.seg_data.specs.declared.provider.DataError.TheVariants.{RangeOrder, RangePast10FFFF, TableSize, ClassOutOfRange, StateOutOfRange, StartRowKeeps, ComplexItems, ComplexBelow0100, StateCount, TransitionSize, TransitionOutOfRange, SymbolOutOfRange, TooManyLookaheads, LookaheadOutOfRange, EndCycle, Stalls, MissingTailoring}
 use Rattle.seg_data.specs.declared.provider.pairs.BreakState.{BreakState}
 use Rattle.seg_data.specs.declared.provider.pairs.BreakState.TheVariants.{Break, Keep, NoMatch, Intermediate, Index}
-use Rattle.seg_data.specs.BreakStates.{named_state}
 use Rattle.seg_data.specs.Faults.{IsFaultless, IsLowestFault}
 use Rattle.seg_data.specs.PairFaults.{HasPairFault, HasPairDataFault, NamesStatePast, KeepsStart}
-use Rattle.seg_data.specs.PairTable.{PairTable, Names, entry_of}
+use Rattle.seg_data.specs.PairTable.{PairTable, entry_of}
 use Rattle.seg_data.specs.Table.{named_values}
 use Rattle.seg_data.proofs.Anywhere.{any-contained}
 use Rattle.bench.specs.PairTables.{cluster_table, sentence_table}
