@@ -1,5 +1,6 @@
 mod clusters;
 mod lines;
 mod machines;
+mod pairs;
 mod sentences;
 mod texts;

@@ -64,7 +64,9 @@ impl<'data> Engine<'data> {
 /// The boundaries of a text, as places, by either engine.
 #[derive(Drop)]
 pub(crate) enum Boundaries<'data, I: Cursor> {
+    /// By a pair table.
     Classic(rule_segmenter_v1::RuleBreakIterator<'data, I>),
+    /// By a state machine.
     Neo(rule_segmenter_v2::RuleBreakIterator<'data, I>),
 }
 

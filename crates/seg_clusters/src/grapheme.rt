@@ -32,7 +32,10 @@ pub struct GraphemeClusterBreakIterator<'data, 's, Y: RuleBreakType<'s>> {
 
 impl<'data, 's, Y: RuleBreakType<'s>> Drop for GraphemeClusterBreakIterator<'data, 's, Y> {
     fn drop(self) {
-        let GraphemeClusterBreakIterator { boundaries: _, text: _ } = self;
+        let GraphemeClusterBreakIterator {
+            boundaries: _,
+            text: _,
+        } = self;
     }
 }
 

@@ -52,7 +52,10 @@ pub struct SentenceBreakIterator<'data, 's, Y: RuleBreakType<'s>> {
 
 impl<'data, 's, Y: RuleBreakType<'s>> Drop for SentenceBreakIterator<'data, 's, Y> {
     fn drop(self) {
-        let SentenceBreakIterator { boundaries: _, text: _ } = self;
+        let SentenceBreakIterator {
+            boundaries: _,
+            text: _,
+        } = self;
     }
 }
 

@@ -1,5 +1,5 @@
 -- Pair tables: their entries, and what holds of parts with no fault.
-use Rattle.std.proofs.Common.{◌≡◌, ◌≢◌, ℕ, suc, ◌+◌, ◌*◌, ◌<◌, ◌≤◌, ◌⊎◌, List, length, get_or, Any, refl, sym, ap, ◌∙◌, subst, inl, inr, arith, eq-eqb}
+use Rattle.std.proofs.Common.{◌≡◌, ◌≢◌, ℕ, suc, ◌+◌, ◌*◌, ◌<◌, ◌≤◌, length, get_or, Any, refl, sym, ap, ◌∙◌, subst, inl, inr, arith, eq-eqb}
 use Rattle.std.specs.Prelude.{Option, Some, None, IsSomeAnd, Contains}
 use Rattle.std.proofs.lemmas.Bool.{cases_lt, cases_eq, cond-true, cond-false, ne_eqb}
 use Rattle.std.proofs.lemmas.Nat.{mul-le}
@@ -132,3 +132,6 @@ complex-lowest-of t u overriding other same equal class start complex =
     complex-lowest t overriding class
     (subst (λ o. HasPairDataFault t o StartRowKeeps → ⊥) equal (subst (λ t. HasPairDataFault t other StartRowKeeps → ⊥) same start))
     (subst (λ o. HasPairDataFault t o ComplexItems) equal (subst (λ t. HasPairDataFault t other ComplexItems) same complex))
+
+pub not-other : (class : ℕ) → (class ≢ 0 → ⊥) → class ≡ 0
+not-other class none = elim (cases_eq class 0) [ inl same ↦ same | inr other ↦ absurd (none other) ]

@@ -7,12 +7,11 @@ ghost use Rattle.seg_data.specs.Machine.{IsTextSymbol, state_at, step, symbol_an
 
 mod pairs;
 
-pub use pairs::{PairData, PairDataBorrowed};
-
 use crate::provider::{
     Acceptance, ComplexScript, DataError, Lookahead, SegmenterStateMachine,
     SegmenterStateMachineOverride, State, Symbol,
 };
+pub use pairs::{PairData, PairDataBorrowed};
 
 /// A checked machine with its tailoring, if there is one.
 #[derive(Debug, Drop)]

@@ -25,7 +25,6 @@ left-after {X} n xs less = on (drop n xs) refl
     }
 
 module _ {X : Type 0} (v : List X → Verdict) (forward : IsForward v) where
-
   takes : (x : X) (xs : List X) (is : Verdict) → v (x ∷ xs) ≡ is → TakesOf (length (x ∷ xs)) is
   takes x xs is same = subst (TakesOf (length (x ∷ xs))) same (forward x xs)
 
@@ -42,9 +41,9 @@ module _ {X : Type 0} (v : List X → Verdict) (forward : IsForward v) where
   chain-more (suc most) (suc more) x xs bound other =
       go_on-same (λ n. chain_within v most (drop n (x ∷ xs))) (λ n. chain_within v more (drop n (x ∷ xs))) (v (x ∷ xs))
       (λ n is.
-        let bounds = takes x xs (GoAfter n) is in
-        let left = left-after n (x ∷ xs) bounds.1 in
-        rw left.same (chain-more most more left.first left.others (omega (arith, left.fewer, bounds.0)) (omega (arith, left.fewer, bounds.0))))
+      let bounds = takes x xs (GoAfter n) is in
+      let left = left-after n (x ∷ xs) bounds.1 in
+      rw left.same (chain-more most more left.first left.others (omega (arith, left.fewer, bounds.0)) (omega (arith, left.fewer, bounds.0))))
 
   pub chain-go : (x : X) (xs : List X) (n : ℕ) → v (x ∷ xs) ≡ GoAfter n
       → chain v (x ∷ xs) ≡ (n + (chain v (drop n (x ∷ xs))).0, (chain v (drop n (x ∷ xs))).1)
@@ -81,10 +80,10 @@ module _ {X : Type 0} (v : List X → Verdict) (forward : IsForward v) where
   chain_within-fits (suc most) x xs bound =
       on (v (x ∷ xs)) (forward x xs)
       (λ n takes.
-        let left = left-after n (x ∷ xs) takes.1 in
-        rw left.same
-        (fits-later (chain_within v most (left.first ∷ left.others)) n (length (left.first ∷ left.others)) (length (x ∷ xs)) left.fewer
-        (chain_within-fits most left.first left.others (omega (arith, left.fewer, takes.0)))))
+      let left = left-after n (x ∷ xs) takes.1 in
+      rw left.same
+      (fits-later (chain_within v most (left.first ∷ left.others)) n (length (left.first ∷ left.others)) (length (x ∷ xs)) left.fewer
+      (chain_within-fits most left.first left.others (omega (arith, left.fewer, takes.0)))))
     where
       on : (w : Verdict) → TakesOf (length (x ∷ xs)) w
           → ((n : ℕ) → (0 < n) × (n < length (x ∷ xs)) → Fits (length (x ∷ xs)) (n + (chain_within v most (drop n (x ∷ xs))).0, (chain_within v most (drop n (x ∷ xs))).1))
@@ -120,8 +119,8 @@ module _ {X : Type 0} (v : List X → Verdict) (forward : IsForward v) where
   breaks-more (suc most) (suc more) (x ∷ xs) bound other =
       break_and-same (λ n. breaks_within v most (drop n (x ∷ xs))) (λ n. breaks_within v more (drop n (x ∷ xs))) (chain v (x ∷ xs))
       (λ gone n class is.
-        let some : 0 < gone + n = omega (arith, (break-fits x xs gone n class is).0) in
-        breaks-more most more (drop (gone + n) (x ∷ xs)) (fewer (gone + n) most x xs some bound) (fewer (gone + n) more x xs some other))
+      let some : 0 < gone + n = omega (arith, (break-fits x xs gone n class is).0) in
+      breaks-more most more (drop (gone + n) (x ∷ xs)) (fewer (gone + n) most x xs some bound) (fewer (gone + n) more x xs some other))
 
   pub breaks-nil : breaks v [] ≡ []
   unfolding breaks breaks_within
@@ -191,8 +190,8 @@ module _ {X : Type 0} (v : List X → Verdict) (forward : IsForward v) where
   led none (suc most) x xs bound =
       on (v (x ∷ xs)) refl
       (λ n takes.
-        let left = left-after n (x ∷ xs) takes.1 in
-        subst Led (sym left.same) (led none most left.first left.others (omega (arith, left.fewer, takes.0))))
+      let left = left-after n (x ∷ xs) takes.1 in
+      subst Led (sym left.same) (led none most left.first left.others (omega (arith, left.fewer, takes.0))))
     where
       on : (w : Verdict) → v (x ∷ xs) ≡ w → ((n : ℕ) → (0 < n) × (n < length (x ∷ xs)) → Led (drop n (x ∷ xs))) → Led (x ∷ xs)
       on (BreakAfter n class) is later = record { goes = []; taken = n; class = class; leads = is }
@@ -228,7 +227,7 @@ module _ {X : Type 0} (v : List X → Verdict) (forward : IsForward v) where
           let ends = leads-chain first.goes x xs first.taken first.class first.leads in
           let some = leads-some first.goes x xs first.taken first.class first.leads in
           let next : breaks v (x ∷ xs) ≡ (first.taken, first.class) ∷ breaks v (drop first.taken (x ∷ xs)) =
-              breaks-next x xs ends.gone ends.last first.class ends.is ∙ ap (λ n. (n, first.class) ∷ breaks v (drop n (x ∷ xs))) (sym ends.sum) in
+          breaks-next x xs ends.gone ends.last first.class ends.is ∙ ap (λ n. (n, first.class) ∷ breaks v (drop n (x ∷ xs))) (sym ends.sum) in
           subst (AreBreaks v (x ∷ xs)) (sym next) ((first.goes, first.leads), within most (drop first.taken (x ∷ xs)) (fewer first.taken most x xs some bound))
 
 -- where no run begins, no chain ends in one
@@ -239,8 +238,8 @@ chain_within-no-run v forward none zero x xs is = none x xs is
 chain_within-no-run {X} v forward none (suc most) x xs is =
     on (v (x ∷ xs)) refl (forward x xs) is
     (λ n less.
-      let left = left-after n (x ∷ xs) less in
-      subst (λ rest. (chain_within v most rest).1 ≢ RunBegins) (sym left.same) (chain_within-no-run v forward none most left.first left.others))
+    let left = left-after n (x ∷ xs) less in
+    subst (λ rest. (chain_within v most rest).1 ≢ RunBegins) (sym left.same) (chain_within-no-run v forward none most left.first left.others))
   where
     on : (w : Verdict) → v (x ∷ xs) ≡ w → TakesOf (length (x ∷ xs)) w → (go_on (λ n. chain_within v most (drop n (x ∷ xs))) w).1 ≡ RunBegins
         → ((n : ℕ) → n < length (x ∷ xs) → (chain_within v most (drop n (x ∷ xs))).1 ≢ RunBegins) → ⊥

@@ -1,23 +1,23 @@
 -- Boundaries as places, break by break.
-use Rattle.std.proofs.Common.{◌≡◌, ℕ, zero, suc, ◌+◌, ◌<◌, ◌≤◌, List, [], ◌∷◌, length, map, drop, refl, sym, ap, ◌∙◌, subst, arith}
-use Rattle.std.specs.Prelude.{Option, Some, None}
+use Rattle.std.proofs.Common.{◌≡◌, ℕ, zero, suc, ◌+◌, ◌<◌, List, [], ◌∷◌, length, map, drop, refl, sym, ap, ◌∙◌, subst, arith}
+use Rattle.std.specs.Prelude.{Option}
 use Rattle.std.proofs.lemmas.List.{drop-drop, drop-map, length-map}
 use Rattle.seg_text.specs.Items.{place_of, code_points, IsRising}
 use Rattle.seg_text.specs.Places.{placed, places, RisesTo, IsCover}
 use Rattle.seg_text.proofs.Places.{IsRising-drop, place_of-drop-lt}
 use Rattle.seg_data.specs.declared.inner.pairs.PairDataBorrowed.{PairDataBorrowed}
 use Rattle.seg_data.specs.PairData.{pair_table_of, override_of, class_by}
-use Rattle.seg_data.specs.PairTable.{PairTable, class_of}
+use Rattle.seg_data.specs.PairTable.{PairTable}
 use Rattle.seg_data.specs.Segments.{ends_from}
 use Rattle.seg_data.specs.Table.{Table}
 use Rattle.seg_pairs.specs.declared.elements.Element.{Element}
 use Rattle.seg_pairs.specs.Verdict.{Verdict, verdict}
 use Rattle.seg_pairs.specs.Verdict.Verdict.{BreakAfter, GoAfter, RunBegins}
-use Rattle.seg_pairs.specs.Breaks.{LeadsTo, AreBreaks, go_on, chain_within, chain, break_and, breaks_within, breaks, IsForward}
+use Rattle.seg_pairs.specs.Breaks.{AreBreaks, go_on, chain_within, chain, break_and, breaks_within, breaks}
 use Rattle.seg_pairs.specs.Elements.{classes_of, place_at}
 use Rattle.seg_pairs.specs.Items.{element_of, elements_of}
 use Rattle.seg_pairs.specs.PairBoundaries.{classes_by, table_boundaries, IsBroken, element_placed, element_verdict, break_ends}
-use Rattle.seg_pairs.proofs.Chains.{breaks-nil, breaks-next, breaks-exist, leads-some}
+use Rattle.seg_pairs.proofs.Chains.{breaks-next, breaks-exist, leads-some}
 use Rattle.seg_pairs.proofs.Forward.{verdict-forward, verdict-no-run, on-classes}
 
 -- the places after so many of some things, by the place of the first of those that are left
@@ -95,7 +95,7 @@ placed-same : (pairs : PairDataBorrowed) (items : List (ℕ × ℕ)) (end : ℕ)
 placed-same pairs items end [] = refl
 placed-same pairs items end ((n, class) ∷ counted) =
     let here : place_at (drop n (elements_of pairs items)) end ≡ place_of (drop n items) end =
-        ap (λ (elements : List Element). place_at elements end) (drop-map (element_of pairs) n items) ∙ place-of pairs (drop n items) end in
+    ap (λ (elements : List Element). place_at elements end) (drop-map (element_of pairs) n items) ∙ place-of pairs (drop n items) end in
     ap (λ (p : ℕ). (p, class) ∷ map (element_placed (elements_of pairs items) end) counted) here
     ∙ ap (λ (rest : List (ℕ × ℕ)). (place_of (drop n items) end, class) ∷ rest) (placed-same pairs items end counted)
 
@@ -138,9 +138,11 @@ rises t overriding ((n, class) ∷ found) (item ∷ items) end ((goes, leads), a
 pub cover : (t : PairTable) (overriding : Option Table) (items : List (ℕ × ℕ)) (end : ℕ) → IsRising items end
     → IsCover (place_of items end) end (places (table_boundaries t overriding items end))
 unfolding table_boundaries
-cover t overriding items end rising =
-    (refl, rises t overriding (breaks (verdict t) (classes_by t overriding (code_points items))) items end
-    (breaks-exist (verdict t) (verdict-forward t) (verdict-no-run t) (classes_by t overriding (code_points items))) rising)
+cover t overriding items end rising = (
+  refl,
+  rises t overriding (breaks (verdict t) (classes_by t overriding (code_points items))) items end
+      (breaks-exist (verdict t) (verdict-forward t) (verdict-no-run t) (classes_by t overriding (code_points items))) rising,
+)
 
 -- the boundaries that are left
 

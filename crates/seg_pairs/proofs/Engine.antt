@@ -1,5 +1,5 @@
 -- What an engine gives, call by call.
-use Rattle.std.proofs.Common.{◌≡◌, ℕ, ◌+◌, ◌<◌, Bool, true, false, Option, Some, None, List, [], ◌∷◌, drop, refl, sym, ap, ◌∙◌, subst}
+use Rattle.std.proofs.Common.{◌≡◌, ℕ, ◌+◌, ◌<◌, Bool, true, Option, Some, None, List, [], ◌∷◌, drop, refl, sym, ap, ◌∙◌, subst}
 use Rattle.std.specs.Prelude.{⊤, IfSome}
 use Rattle.std.specs.Iterator.{YieldsFirst, MakesProgress, item_count}
 use Rattle.seg_text.proofs.Cursor.{fewer-left}
@@ -9,7 +9,6 @@ use Rattle.seg_data.specs.declared.inner.pairs.PairDataBorrowed.{PairDataBorrowe
 use Rattle.seg_data.specs.PairData.{pair_table_of, override_of}
 use Rattle.seg_data.specs.PairTable.{PairTable}
 use Rattle.seg_pairs.specs.declared.elements.Element.{Element}
-use Rattle.seg_pairs.specs.declared.rules.Outcome.{Outcome}
 use Rattle.seg_pairs.specs.declared.rules.Outcome.TheVariants.{Break as BreakOut, Run as RunOut}
 use Rattle.seg_pairs.specs.Verdict.{Verdict, verdict}
 use Rattle.seg_pairs.specs.Verdict.Verdict.{BreakAfter, GoAfter, RunBegins}
@@ -63,12 +62,13 @@ gives-next t u now left elements next rest end after started class next_class pl
     rest-is : (next : Option Element) (rest whole : List Element) → IsRest next rest whole → onto next rest ≡ whole
     rest-is None rest whole (none, empty) = empty ∙ sym none
     rest-is (Some next) rest whole is = sym is
+
     by : (found : ℕ × Verdict) → chain (element_verdict t) (left ∷ elements) ≡ found → EndsIn found (left ∷ elements) (BreakOut next_class next) rest
         → Gives (coming true t (left ∷ elements) end class) (coming true t (onto next rest) end next_class) (place_at (onto next rest) end)
     by (gone, BreakAfter n with_class) found (class_is, left_is) =
         let there = rest-is next rest (drop (gone + n) (left ∷ elements)) left_is in
         let ends : break_ends t (left ∷ elements) end ≡ (place_at (onto next rest) end, next_class) ∷ break_ends t (onto next rest) end =
-            rw (there, class_is) (break_ends-next t left elements end gone n with_class found) in
+        rw (there, class_is) (break_ends-next t left elements end gone n with_class found) in
         record {
           steps = (ap places ends, (refl, ends));
           goes = fewer-left places_coming (coming true t (left ∷ elements) end class) (coming true t (onto next rest) end next_class) (place_at (onto next rest) end) (ap places ends);

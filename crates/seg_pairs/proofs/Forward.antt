@@ -1,5 +1,5 @@
 -- A verdict takes some of the elements, and one to go on leaves some.
-use Rattle.std.proofs.Common.{◌≡◌, ◌≢◌, ℕ, suc, ◌+◌, ◌<◌, ◌≤◌, ◌||◌, ◌==◌, Bool, true, false, cond, Option, Some, None, List, [], ◌∷◌, length, drop, refl, sym, ap, ◌∙◌, subst, inl, inr, arith}
+use Rattle.std.proofs.Common.{◌≡◌, ◌≢◌, ℕ, suc, ◌+◌, ◌<◌, ◌≤◌, ◌||◌, ◌==◌, Bool, true, false, cond, List, [], ◌∷◌, length, drop, refl, ap, subst, inl, inr, arith}
 use Rattle.std.specs.Prelude.{Contains}
 use Rattle.std.proofs.lemmas.Bool.{ne_eqb}
 use Rattle.std.proofs.lemmas.List.{length-drop, length-map}
@@ -39,6 +39,7 @@ walk-within t state number saved class (next ∷ classes) some less =
     above : (b : Bool) → 0 < cond b number saved
     above true = omega arith
     above false = some
+
     below : (b : Bool) → cond b number saved < suc number
     below true = omega arith
     below false = omega arith
@@ -91,6 +92,7 @@ complex-forward t first (second ∷ after) = outer (second == t.complex_property
     inner : (b : Bool) → TakesOf (length (first ∷ second ∷ after)) (cond b Verdict.RunBegins (Verdict.BreakAfter 1 first))
     inner true = tt
     inner false = (omega arith, omega arith)
+
     outer : (b : Bool) → TakesOf (length (first ∷ second ∷ after)) (cond b (cond (first == t.complex_property) Verdict.RunBegins (Verdict.BreakAfter 1 first)) (verdict t (first ∷ second ∷ after)))
     outer true = inner (first == t.complex_property)
     outer false = verdict-forward t first (second ∷ after)

@@ -1,14 +1,13 @@
 -- What a walk's stop says.
-use Rattle.std.proofs.Common.{◌≡◌, ◌≢◌, ℕ, suc, ◌<◌, ◌==◌, Bool, true, false, cond, Option, Some, None, List, [], ◌∷◌, length, drop, refl, sym, ap, ◌∙◌, subst, arith, eq-eqb}
+use Rattle.std.proofs.Common.{◌≡◌, ◌≢◌, ℕ, ◌<◌, ◌==◌, Bool, true, cond, Option, Some, None, List, [], ◌∷◌, length, drop, refl, sym, ap, ◌∙◌, subst, arith, eq-eqb}
 use Rattle.std.proofs.lemmas.Bool.{ne_eqb}
 use Rattle.std.proofs.lemmas.List.{drop-map, drop-drop, length-drop}
 use Rattle.seg_data.specs.declared.provider.pairs.BreakState.{BreakState}
 use Rattle.seg_data.specs.declared.provider.pairs.BreakState.TheVariants.{Break as BreakEntry, Keep, NoMatch, Intermediate, Index}
-use Rattle.seg_data.specs.BreakStates.{named_state}
 use Rattle.seg_data.specs.PairTable.{PairTable, entry_of}
 use Rattle.seg_pairs.specs.declared.elements.Element.{Element}
 use Rattle.seg_pairs.specs.Elements.{classes_of, onto}
-use Rattle.seg_pairs.specs.Walk.{Walk, walk}
+use Rattle.seg_pairs.specs.Walk.{Walk}
 use Rattle.seg_pairs.specs.Verdict.{Verdict, stop_verdict, end_verdict, walk_verdict, named_verdict, first_verdict, verdict, complex_verdict}
 use Rattle.seg_pairs.specs.Stop.{IsStop, class_at, walk_of}
 use Rattle.seg_pairs.specs.declared.rules.Step.{Step}
@@ -24,7 +23,6 @@ use Rattle.seg_pairs.proofs.Walks.{drop-next}
 module _ (t : PairTable) (start : ℕ) (left right : Element) (after : List Element) (state : ℕ) (entry : BreakState)
     (before : Element) (next : Option Element) (rest : List Element) (saved_before saved : Element) (saved_rest : List Element) (class : ℕ)
     (stop : IsStop t start (left ∷ right ∷ after) state entry before next rest saved_before saved saved_rest class) where
-
   abbrev pub w : Walk
   w = walk_of t start (left ∷ right ∷ after)
 
@@ -38,8 +36,8 @@ module _ (t : PairTable) (start : ℕ) (left right : Element) (after : List Elem
   unfolding named_verdict
   verdict-next element is =
       let there : drop w.stop (classes_of (left ∷ right ∷ after)) ≡ element.class ∷ classes_of rest =
-          drop-map (λ (e : Element). e.class) w.stop (left ∷ right ∷ after)
-          ∙ ap classes_of (rest-at ∙ ap (λ n. onto n rest) is) in
+      drop-map (λ (e : Element). e.class) w.stop (left ∷ right ∷ after)
+      ∙ ap classes_of (rest-at ∙ ap (λ n. onto n rest) is) in
       ap (walk_verdict t w) there
       ∙ ap (λ q. stop_verdict w (entry_of t q element.class)) stop.in_state
       ∙ ap (stop_verdict w) (sym (stop.at_entry ∙ ap (λ n. entry_of t state (class_at t n)) is))
@@ -48,8 +46,8 @@ module _ (t : PairTable) (start : ℕ) (left right : Element) (after : List Elem
   unfolding named_verdict
   verdict-end is =
       let there : drop w.stop (classes_of (left ∷ right ∷ after)) ≡ [] =
-          drop-map (λ (e : Element). e.class) w.stop (left ∷ right ∷ after)
-          ∙ ap classes_of (rest-at ∙ ap (λ n. onto n rest) is ∙ stop.at_end is) in
+      drop-map (λ (e : Element). e.class) w.stop (left ∷ right ∷ after)
+      ∙ ap classes_of (rest-at ∙ ap (λ n. onto n rest) is ∙ stop.at_end is) in
       ap (walk_verdict t w) there
       ∙ ap (λ q. end_verdict w (entry_of t q t.eot_property)) stop.in_state
       ∙ ap (end_verdict w) (sym (stop.at_entry ∙ ap (λ n. entry_of t state (class_at t n)) is))
@@ -154,7 +152,6 @@ complex-run t left right after more is complex same =
 -- the step where a chain of verdicts ends
 
 module _ (v : List Element → Verdict) (whole : List Element) (x : Element) (xs : List Element) (forward : IsForward v) (on : IsOnChain v whole x xs) where
-
   ends-at : (outcome : Outcome) (rest : List Element) (w : Verdict) → chain v (x ∷ xs) ≡ (0, w)
       → EndsIn (on.gone, w) whole outcome rest → EndsIn (chain v whole) whole outcome rest
   ends-at outcome rest w end ends =

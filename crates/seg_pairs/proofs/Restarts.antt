@@ -1,16 +1,16 @@
 -- A text may be broken anew from any of its boundaries.
-use Rattle.std.proofs.Common.{◌≡◌, ℕ, suc, zero, ◌+◌, ◌<◌, List, [], ◌∷◌, length, map, drop, slice_get, refl, sym, ap, ◌∙◌, subst, arith}
-use Rattle.std.specs.Prelude.{Option, Some, None}
+use Rattle.std.proofs.Common.{◌≡◌, ℕ, suc, zero, ◌+◌, List, [], ◌∷◌, map, drop, slice_get, refl, sym, ap, ◌∙◌, subst}
+use Rattle.std.specs.Prelude.{Option, Some}
 use Rattle.std.proofs.lemmas.Option.{same_Some}
 use Rattle.std.proofs.lemmas.List.{drop-drop, drop-map}
 use Rattle.seg_text.specs.Items.{place_of, code_points}
 use Rattle.seg_text.specs.Places.{places}
 use Rattle.seg_text.proofs.Places.{places-placed}
-use Rattle.seg_data.specs.PairTable.{PairTable, class_of}
+use Rattle.seg_data.specs.PairTable.{PairTable}
 use Rattle.seg_data.specs.Segments.{ends_from}
 use Rattle.seg_data.specs.Restart.{RestartsBy, shifted}
 use Rattle.seg_data.specs.Table.{Table}
-use Rattle.seg_data.proofs.Restarts.{ends-start, ends-nil, ends-cons, none-found}
+use Rattle.seg_data.proofs.Restarts.{ends-start, ends-cons, none-found}
 use Rattle.seg_pairs.specs.Verdict.{Verdict, verdict}
 use Rattle.seg_pairs.specs.Breaks.{breaks, IsForward, HasNoRun}
 use Rattle.seg_pairs.specs.PairBoundaries.{classes_by, pair_boundaries, pair_ordinals, table_boundaries}
@@ -23,7 +23,6 @@ unfolding table_boundaries
 table-ordinals t overriding items end = places-placed items end (pair_boundaries t overriding (code_points items))
 
 module _ (v : List ℕ → Verdict) (forward : IsForward v) (none : HasNoRun v) where
-
   -- the boundaries after the k-th of those from one on
   restarts-from : (xs : List ℕ) (k before first ordinal status : ℕ)
       → slice_get ((before, first) ∷ ends_from before (breaks v (drop before xs))) k ≡ Some (ordinal, status)
@@ -47,7 +46,7 @@ module _ (v : List ℕ → Verdict) (forward : IsForward v) (none : HasNoRun v) 
           let dropped : drop found.taken (x ∷ rest) ≡ drop (before + found.taken) xs = ap (drop found.taken) (sym same) ∙ drop-drop found.taken before xs in
           let next : breaks v (x ∷ rest) ≡ p ∷ breaks v (drop (before + found.taken) xs) = found.is ∙ ap (λ (rest : List ℕ). p ∷ breaks v rest) dropped in
           let ends : ends_from before (breaks v (x ∷ rest)) ≡ (before + found.taken, found.class) ∷ ends_from (before + found.taken) (breaks v (drop (before + found.taken) xs)) =
-              ap (ends_from before) next ∙ ends-cons before p (breaks v (drop (before + found.taken) xs)) in
+          ap (ends_from before) next ∙ ends-cons before p (breaks v (drop (before + found.taken) xs)) in
           subst (λ (es : List (ℕ × ℕ)). drop (suc k) es ≡ shifted ordinal (ends_from 0 (breaks v (drop ordinal xs)))) (sym ends)
           (after p (subst (λ (es : List (ℕ × ℕ)). slice_get ((before, first) ∷ es) (suc k) ≡ Some (ordinal, status)) ends is))
 

@@ -1,6 +1,7 @@
 -- A walk, entry by entry.
-use Rattle.std.proofs.Common.{◌≡◌, ℕ, suc, ◌+◌, ◌<◌, ◌||◌, Bool, true, false, cond, Option, Some, None, List, [], ◌∷◌, ◌++◌, length, map, reverse, drop, refl, sym, ap, ◌∙◌, subst, arith}
-use Rattle.std.specs.Prelude.{find}
+use Rattle.std.proofs.Common.{◌≡◌, ℕ, suc, ◌+◌, ◌<◌, ◌||◌, ◌⊎◌, Bool, true, false, cond, Option, Some, None, List, [], ◌∷◌, length, reverse, drop, refl, sym, ap, ◌∙◌, subst, inl, inr, arith}
+use Rattle.std.specs.Iterator.{YieldsFirst}
+use Rattle.std.specs.Prelude.{find, IfSome}
 use Rattle.std.specs.Option.{option_map_or, option_or}
 use Rattle.std.proofs.lemmas.Grind.{reverse_onto}
 use Rattle.std.proofs.lemmas.List.{drop-drop}
@@ -11,7 +12,7 @@ use Rattle.seg_data.specs.PairTable.{PairTable, entry_of}
 use Rattle.seg_pairs.specs.declared.elements.Element.{Element}
 use Rattle.seg_pairs.specs.Walk.{Naming, namings, Walk, walk, is_class, leaves_class, saves, last_or}
 use Rattle.seg_pairs.specs.Elements.{classes_of}
-use Rattle.seg_pairs.specs.Stop.{IsStop, walk_of}
+use Rattle.seg_pairs.specs.Stop.{IsStop, class_at, walk_of}
 
 -- the last of a kind among the others, or else the first
 last_or-cons : (is : Naming → Bool) (has : Naming → ℕ) (naming : Naming) (namings : List Naming) (otherwise : ℕ)
@@ -47,10 +48,12 @@ walk-named t state number saved class next_class next classes named =
     let later = namings t (suc number) next classes in
     let more : number + suc (length later) ≡ suc number + length later = omega arith in
     rw (namings-cons t number state next_class next classes named)
-    (rw (last_or-cons (λ n. true) (λ n. n.next) first later state,
+    (rw (
+      last_or-cons (λ n. true) (λ n. n.next) first later state,
       last_or-cons (saves t) (λ n. n.before) first later saved,
       last_or-cons (leaves_class t) (λ n. n.next) first later class,
-      more) refl)
+      more,
+    ) refl)
 
 abbrev pub stopped : ℕ → ℕ → ℕ → ℕ → Walk
 stopped state number saved class = record { state = state; stop = number; saved = saved; class = class }
@@ -88,7 +91,6 @@ drop-next whole left before passed here =
 module _ (t : PairTable) (start : ℕ) (whole : List Element) (state : ℕ) (before : Element) (left : List Element)
     (saved_before saved : Element) (saved_left : List Element) (class : ℕ)
     (next : Element) (after : List Element) (entry : BreakState) (to next_class : ℕ) (leaves : Bool) where
-
   walk-on : (passed saved_passed : ℕ) (b : Bool)
       → walk t state (suc passed) (suc saved_passed) class (classes_of left) ≡ walk_of t start whole
       → left ≡ next ∷ after → entry ≡ entry_of t state next.class → named_state entry ≡ Some to
@@ -129,7 +131,6 @@ module _ (t : PairTable) (start : ℕ) (whole : List Element) (state : ℕ) (bef
 module _ (t : PairTable) (start : ℕ) (whole : List Element) (state : ℕ) (before : Element) (left : List Element)
     (saved_before saved : Element) (saved_left : List Element) (class : ℕ) (entry : BreakState)
     (midway : IsMidway t start whole state before left saved_before saved saved_left class) where
-
   pub stop-at : (next : Element) (after : List Element) → left ≡ next ∷ after → entry ≡ entry_of t state next.class → named_state entry ≡ None
       → IsStop t start whole state entry before (Some next) after saved_before saved saved_left class
   stop-at next after is is_entry none =
@@ -167,3 +168,26 @@ module _ (t : PairTable) (start : ℕ) (whole : List Element) (state : ℕ) (bef
         saved_after = midway.saved_after;
         saved_class = ap (λ (w : Walk). w.class) same;
       }
+
+  pub stop-from : (next : Option Element) (after : List Element) → YieldsFirst (λ (elements : List Element). elements) left next after
+      → entry ≡ entry_of t state (class_at t next) → (next ≡ None) ⊎ (named_state entry ≡ None)
+      → IsStop t start whole state entry before next after saved_before saved saved_left class
+  stop-from None after gives is_entry stops = stop-end after gives.0 gives.1 is_entry
+  stop-from (Some next) after gives is_entry (inl none) = cc
+  stop-from (Some next) after gives is_entry (inr none) = stop-at next after gives is_entry none
+
+-- an element that was read, where it is there
+pub read-some : (left : List Element) (next : Option Element) (element : Element) (after : List Element)
+    → YieldsFirst (λ (elements : List Element). elements) left next after → next ≡ Some element → left ≡ element ∷ after
+read-some left None element after gives is = cc
+read-some left (Some next) element after gives is = gives ∙ ap (λ (next : Element). next ∷ after) (some-same is)
+  where
+    some-same : Some next ≡ Some element → next ≡ element
+    some-same is = ap (λ (found : Option Element). option_map_or (λ (e : Element). e) found next) is
+
+pub entry-at : (t : PairTable) (state : ℕ) (next : Option Element) (element : Element) (entry : BreakState)
+    → entry ≡ entry_of t state (class_at t next) → next ≡ Some element → entry ≡ entry_of t state element.class
+entry-at t state next element entry is there = is ∙ ap (λ n. entry_of t state (class_at t n)) there
+
+pub below-some : (t : PairTable) (next : Option Element) (element : Element) → IfSome next (λ next. next.class < t.property_count) → next ≡ Some element → element.class < t.property_count
+below-some t next element below is = let P : Option Element → Type 0 = λ next. IfSome next (λ next. next.class < t.property_count) in subst P is below

@@ -52,7 +52,10 @@ impl<'data, I: Cursor> RuleBreakIterator<'data, I> {
         ensures class { result.class ≡ 0 }
         ensures statuses { result.statuses ≡ (pair_table_of pairs.entry).rule_status_table }
     {
-        let mut rest = Items { pairs, cursor: text };
+        let mut rest = Items {
+            pairs,
+            cursor: text,
+        };
         let next = rest.next_element();
         RuleBreakIterator {
             next,
@@ -98,11 +101,11 @@ impl<'data, I: Cursor> Iterator for RuleBreakIterator<'data, I> {
             table: self.rest.pairs.table(),
         };
         match next_break(&rules, left, &mut self.rest) {
-            Outcome::Break { class, next } => {
+            Outcome::Break(class, next) => {
                 self.class = class;
                 self.next = next;
             }
-            Outcome::Run { first: _, second: _ } => unreachable!(),
+            Outcome::Run(_first, _second) => unreachable!(),
         }
         Some(place_before(self.next, &self.rest))
     }

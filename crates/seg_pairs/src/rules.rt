@@ -1,6 +1,6 @@
 //! What comes after an element of a text: a boundary, none, or a run of complex elements.
 
-ghost use Rattle.std.specs.Prelude.{◌≡◌, ◌<◌, ℕ, List, ◌∷◌};
+ghost use Rattle.std.specs.Prelude.{◌≡◌, ◌<◌, ℕ, Some, List, ◌∷◌};
 ghost use Rattle.seg_data.specs.PairTable.{PairTable};
 ghost use Rattle.seg_pairs.specs.Elements.{classes_of};
 ghost use Rattle.seg_pairs.specs.Steps.{Lands, EndsIn, IsStepBelow, IsOutcomeBelow};
@@ -14,21 +14,21 @@ use seg_data::provider::{BreakState, RuleBreakData};
 /// What a verdict on an element leads to.
 #[derive(Clone, Copy, Debug)]
 pub enum Step {
-    /// A boundary, with a class, before this element or at the end of the text.
-    Break { class: u8, next: Option<Element> },
+    /// A boundary, with this class, before this element or at the end of the text.
+    Break(u8, Option<Element>),
     /// No boundary before this element, of which the next verdict is asked.
-    Go { next: Element },
+    Go(Element),
     /// A run of complex elements begins with the element that was asked of. This is its second.
-    Run { second: Element },
+    Run(Element),
 }
 
 /// What the verdicts from an element on lead to.
 #[derive(Clone, Copy, Debug)]
 pub enum Outcome {
-    /// A boundary, with a class, before this element or at the end of the text.
-    Break { class: u8, next: Option<Element> },
+    /// A boundary, with this class, before this element or at the end of the text.
+    Break(u8, Option<Element>),
     /// A run of complex elements that begins with these two.
-    Run { first: Element, second: Element },
+    Run(Element, Element),
 }
 
 /// What comes after an element, by some rules.
@@ -60,6 +60,7 @@ pub trait Rules {
 /// The rules of a pair table alone. No run begins by them.
 #[derive(Clone, Copy, Debug)]
 pub struct Pairs<'data> {
+    /// The table.
     pub table: &'data RuleBreakData,
 }
 
@@ -71,7 +72,7 @@ impl<'data> Rules for Pairs<'data> {
     fn step<E: Elements>(&self, left: Element, rest: &mut E) -> Step {
         match rest.next_element() {
             Some(right) => pair_step(self.table, left, right, rest),
-            None => Step::Break { class: left.class, next: None },
+            None => Step::Break(left.class, None),
         }
     }
 
@@ -82,6 +83,7 @@ impl<'data> Rules for Pairs<'data> {
 /// after another, and two begin a run.
 #[derive(Clone, Copy, Debug)]
 pub struct ComplexPairs<'data> {
+    /// The table.
     pub table: &'data RuleBreakData,
 }
 
@@ -93,15 +95,15 @@ impl<'data> Rules for ComplexPairs<'data> {
     fn step<E: Elements>(&self, left: Element, rest: &mut E) -> Step {
         let complex = self.table.complex_property();
         let Some(right) = rest.next_element() else {
-            return Step::Break { class: left.class, next: None };
+            return Step::Break(left.class, None);
         };
         if right.class != complex {
             return pair_step(self.table, left, right, rest);
         }
         if left.class != complex {
-            return Step::Break { class: left.class, next: Some(right) };
+            return Step::Break(left.class, Some(right));
         }
-        Step::Run { second: right }
+        Step::Run(right)
     }
 
     fn check(&self) {}
@@ -121,9 +123,9 @@ pub fn next_break<E: Elements, R: Rules>(rules: &R, left: Element, rest: &mut E)
     let mut left = left;
     loop {
         match rules.step(left, rest) {
-            Step::Go { next } => left = next,
-            Step::Break { class, next } => return Outcome::Break { class, next },
-            Step::Run { second } => return Outcome::Run { first: left, second },
+            Step::Go(next) => left = next,
+            Step::Break(class, next) => return Outcome::Break(class, next),
+            Step::Run(second) => return Outcome::Run(left, second),
         }
     }
 }
@@ -146,9 +148,9 @@ pub fn pair_step<E: Elements>(
     ensures table { E.table rest.new ≡ E.table rest.old }
 {
     match table.entry(left.class, right.class) {
-        BreakState::Keep => Step::Go { next: right },
-        BreakState::Break => Step::Break { class: left.class, next: Some(right) },
-        BreakState::NoMatch => Step::Break { class: left.class, next: Some(right) },
+        BreakState::Keep => Step::Go(right),
+        BreakState::Break => Step::Break(left.class, Some(right)),
+        BreakState::NoMatch => Step::Break(left.class, Some(right)),
         BreakState::Index(state) => walk_step(table, state, left, right, rest),
         BreakState::Intermediate(state) => walk_step(table, state, left, right, rest),
     }
@@ -171,22 +173,34 @@ fn walk_step<E: Elements>(
     ensures table { E.table rest.new ≡ E.table rest.old }
 {
     let stop = walk(table, state, left, right, rest);
-    let Stop { state, entry, before: _, next, saved_before: _, saved, saved_rest, saved_class } = stop;
+    let Stop {
+        state,
+        entry,
+        before: _,
+        next,
+        saved_before: _,
+        saved,
+        saved_rest,
+        saved_class,
+    } = stop;
     match next {
         Some(next) => match entry {
-            BreakState::Keep => Step::Go { next },
-            BreakState::Break => Step::Break { class: state, next: Some(next) },
-            _ => {
-                *rest = saved_rest;
-                Step::Break { class: saved_class, next: Some(saved) }
-            }
+            BreakState::Keep => Step::Go(next),
+            BreakState::Break => Step::Break(state, Some(next)),
+            _ => go_back(rest, saved_rest, saved, saved_class),
         },
         None => match entry {
-            BreakState::NoMatch => {
-                *rest = saved_rest;
-                Step::Break { class: saved_class, next: Some(saved) }
-            }
-            _ => Step::Break { class: state, next: None },
+            BreakState::NoMatch => go_back(rest, saved_rest, saved, saved_class),
+            _ => Step::Break(state, None),
         },
     }
+}
+
+/// A boundary at the place that was saved: the elements are read again from there on.
+fn go_back<E: Elements>(rest: &mut E, saved_rest: E, saved: Element, class: u8) -> Step
+    ensures rest { rest.new ≡ saved_rest }
+    ensures step { result ≡ Step.Break class (Some saved) }
+{
+    *rest = saved_rest;
+    Step::Break(class, Some(saved))
 }

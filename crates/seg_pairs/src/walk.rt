@@ -1,8 +1,8 @@
 //! Walks through the states of a pair table.
 
-ghost use Rattle.std.specs.Prelude.{◌≡◌, ℕ, ◌<◌, nat_le, List, ◌∷◌, IfSome};
-ghost use Rattle.seg_data.specs.PairTable.{PairTable};
-ghost use Rattle.seg_pairs.specs.Stop.{IsStop};
+ghost use Rattle.std.specs.Prelude.{◌≡◌, ◌<◌, ◌||◌, ◌⊎◌, Some, None, List, ◌∷◌, IfSome, MatchOption, if◌then◌else◌};
+ghost use Rattle.seg_data.specs.BreakStates.{is_intermediate, named_state};
+ghost use Rattle.seg_pairs.specs.Stop.{IsStop, class_at};
 ghost use Rattle.seg_pairs.specs.Walk.{is_class};
 
 use crate::elements::{Element, Elements};
@@ -56,25 +56,53 @@ pub fn walk<E: Elements>(
     let (mut saved_before, mut saved, mut saved_rest) = (left, right, rest.fork());
     let mut saved_class = left.class;
     loop {
-        let Some(next) = rest.next_element() else {
-            let entry = table.entry(state, table.eot_property());
-            return Stop { state, entry, before, next: None, saved_before, saved, saved_rest, saved_class };
-        };
-        let entry = table.entry(state, next.class);
-        let Some(to) = entry.named() else {
-            return Stop { state, entry, before, next: Some(next), saved_before, saved, saved_rest, saved_class };
+        let next = rest.next_element();
+        let entry = table.entry(state, class_before(table, next));
+        let Some((element, to)) = going_on(next, entry) else {
+            return Stop {
+                state,
+                entry,
+                before,
+                next,
+                saved_before,
+                saved,
+                saved_rest,
+                saved_class,
+            };
         };
         let leaves_class = is_class(table, state);
-        if entry.is_intermediate() | leaves_class {
+        if saves(entry, leaves_class) {
             saved_before = before;
-            saved = next;
+            saved = element;
             saved_rest = rest.fork();
         }
-        if leaves_class {
-            saved_class = to;
-        }
-        before = next;
+        saved_class = class_after(leaves_class, to, saved_class);
+        before = element;
         state = to;
+    }
+}
+
+/// The class of the next element, or that of the text's end.
+fn class_before(table: &RuleBreakData, next: Option<Element>) -> u8
+    requires { IfSome next (λ next. next.class < table.now.property_count) }
+    ensures value { result ≡ class_at table.now next }
+    ensures below { result < table.now.property_count }
+{
+    table.check();
+    match next {
+        Some(element) => element.class,
+        None => table.eot_property(),
+    }
+}
+
+/// The next element and the state that the entry names, where there are both.
+fn going_on(next: Option<Element>, entry: BreakState) -> Option<(Element, u8)>
+    ensures { MatchOption result ((next ≡ None) ⊎ (named_state entry ≡ None))
+        (λ both. (next ≡ Some both.0) × (named_state entry ≡ Some both.1)) }
+{
+    match (next, entry.named()) {
+        (Some(element), Some(to)) => Some((element, to)),
+        _ => None,
     }
 }
 
@@ -83,4 +111,19 @@ fn is_class(table: &RuleBreakData, state: u8) -> bool
     ensures { result ≡ is_class table.now state }
 {
     state <= table.last_codepoint_property()
+}
+
+/// Whether the place before an entry that names a state is saved: before each `Intermediate`, and
+/// where the walk leaves a class.
+fn saves(entry: BreakState, leaves_class: bool) -> bool
+    ensures { result ≡ (is_intermediate entry || leaves_class) }
+{
+    entry.is_intermediate() || leaves_class
+}
+
+/// The class that is saved once an entry names a state: this state where the walk leaves a class.
+fn class_after(leaves_class: bool, next: u8, saved: u8) -> u8
+    ensures { result ≡ (if leaves_class then next else saved) }
+{
+    if leaves_class { next } else { saved }
 }

@@ -44,7 +44,7 @@ fn str_boundaries(
 }
 
 /// The boundaries of a text's clusters in each encoding.
-fn clusters_found(
+pub(super) fn clusters_found(
     alloc: Global,
     segmenter: GraphemeClusterSegmenterBorrowed<'_>,
     text: &str,

@@ -13,7 +13,7 @@ use std::test::Fail;
 type Map<'a> = &'a [(Symbol, ComplexScript)];
 
 /// The boundaries of a text's sentences in each encoding.
-fn sentences_found(
+pub(super) fn sentences_found(
     alloc: Global,
     segmenter: SentenceSegmenterBorrowed<'_>,
     text: &str,

@@ -3,7 +3,7 @@ ghost use Rattle.std.specs.Prelude.{ℕ, ◌<◌};
 ghost use Rattle.seg_data.specs.Overriding.{table_in};
 ghost use Rattle.seg_data.specs.PairTable.{Overrides};
 
-use crate::provider::pair_checks::{keeps_start_before, overrides, overrides_from};
+use crate::provider::pair_checks::{keeps_start_before, overrides, overrides_by, overrides_from};
 use crate::provider::{DataError, RuleBreakData, RuleBreakDataOverride};
 
 /// A pair table and the override that it is used with, if there is one. The classes that the
@@ -131,7 +131,7 @@ impl<'data> PairDataBorrowed<'data> {
             return self.table.property_table().get32(code_point);
         };
         let class = classes.property_table_override().get32(code_point);
-        if class != 0 {
+        if overrides_by(class) {
             return class;
         }
         self.table.property_table().get32(code_point)

@@ -54,9 +54,16 @@ pub(crate) fn overrides(overriding: Option<&RuleBreakDataOverride>, class: u8) -
     ensures { IsTrue result ↔ Overrides (table_in overriding.entry) class }
 {
     match overriding {
-        Some(classes) => class != 0 && classes.property_table_override().names(class),
+        Some(classes) => overrides_by(class) && classes.property_table_override().names(class),
         None => false,
     }
+}
+
+// Whether a value of an override is a class: 0 leaves the table's.
+pub(crate) fn overrides_by(value: u8) -> bool
+    ensures { IsTrue result ↔ value ≢ 0 }
+{
+    value != 0
 }
 
 // Whether the override, where there is one, names this class, which isn't 0, or one above it.

@@ -87,6 +87,11 @@ fn tells_faults(rt: HostRuntime) -> Result<(), Fail> {
     for (fault, number, text) in [
         (DataError::RangeOrder, 2, "2 RangeOrder: "),
         (DataError::RangePast10FFFF, 3, "3 RangePast10FFFF: "),
+        (DataError::TableSize, 4, "4 TableSize: "),
+        (DataError::ClassOutOfRange, 5, "5 ClassOutOfRange: "),
+        (DataError::StateOutOfRange, 6, "6 StateOutOfRange: "),
+        (DataError::StartRowKeeps, 7, "7 StartRowKeeps: "),
+        (DataError::ComplexItems, 8, "8 ComplexItems: "),
         (DataError::StateCount, 11, "11 StateCount: "),
         (DataError::TransitionSize, 12, "12 TransitionSize: "),
         (

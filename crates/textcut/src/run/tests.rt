@@ -37,6 +37,19 @@ fn prints_a_line_for_each_boundary(rt: HostRuntime) {
 }
 
 #[test]
+fn prints_classic_boundaries(rt: HostRuntime) {
+    for (kind, text, lines) in [
+        ("grapheme", "", "0\n"),
+        ("grapheme", "a\u{301}\r\n", "0\n3\n5\n"),
+        ("sentence", "", "0\n"),
+        ("sentence", "a. b", "0\n3\n4\n"),
+    ] {
+        let ran = run_on(rt.alloc(), &[kind, "classic"], &mut text.as_bytes());
+        assert!(rt; ran.is(0, lines, ""), "{kind} {text:?}");
+    }
+}
+
+#[test]
 fn prints_the_boundaries_of_each_kind(rt: HostRuntime) {
     for (kind, lines) in [
         ("grapheme", "0\n1\n2\n3\n4\n5\n6\n7\n8\n9\n"),

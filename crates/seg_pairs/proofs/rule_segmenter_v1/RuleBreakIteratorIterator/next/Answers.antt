@@ -1,4 +1,4 @@
-use Rattle.std.proofs.Common.{ℕ, List, ◌∷◌, refl, ap, subst}
+use Rattle.std.proofs.Common.{◌∷◌, refl, ap, subst}
 use Rattle.std.proofs.lemmas.Bool.{both_ways}
 use Rattle.seg_data.specs.PairData.{pair_table_of}
 use Rattle.seg_data.specs.PairTable.{PairTable}
@@ -8,7 +8,7 @@ use Rattle.seg_pairs.specs.PairBoundaries.{element_verdict}
 use Rattle.seg_pairs.specs.Items.{elements_of}
 use Rattle.seg_pairs.specs.Steps.{EndsIn}
 use Rattle.seg_pairs.specs.declared.rules.Outcome.TheVariants.{Break}
-use Rattle.seg_pairs.proofs.Engine.{Gives, gives-next, end-left, run-never, rest-empty, none-left, below-of}
+use Rattle.seg_pairs.proofs.Engine.{gives-next, end-left, run-never, rest-empty, none-left, below-of}
 use Rattle.seg_pairs.proofs.rule_segmenter_v1.RuleBreakIteratorIterator.next.Goals as goal
 
 pub returns-in_default-clause-steps : goal.returns-in_default-clause-steps
@@ -25,7 +25,7 @@ pub unreachable-requires : goal.unreachable-requires
 unreachable-requires g c =
     let s = c.self.inside in
     let after = c.next_break.new.rest in
-    run-never c.table.result.now c.in-Some.left (elements_of s.rest.pairs (g.I.Cursor.left s.rest.cursor)) c.in-Run.first c.in-Run.second (elements_of after.pairs (g.I.Cursor.left after.cursor)) c.in-Run.ensures.ends
+    run-never c.table.result.now c.in-Some.left (elements_of s.rest.pairs (g.I.Cursor.left s.rest.cursor)) c.in-Run._first c.in-Run._second (elements_of after.pairs (g.I.Cursor.left after.cursor)) c.in-Run.ensures.ends
 
 pub invariant_of-self-2 : goal.invariant_of-self-2
 invariant_of-self-2 g c =

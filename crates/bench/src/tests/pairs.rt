@@ -1,0 +1,412 @@
+use super::clusters::clusters_found;
+use super::sentences::sentences_found;
+use super::texts::{TEXTS, agrees, text_of};
+use crate::clusters::cluster_machine;
+use crate::pair_tables::{cluster_table, sentence_table};
+use icu_segmenter::indices::Latin1Indices;
+use icu_segmenter::options::{SentenceBreakInvariantOptions, SentenceBreakOptions};
+use icu_segmenter::provider::{
+    BreakState, ClassTable, DataError, RuleBreakData, RuleBreakDataOverride,
+};
+use icu_segmenter::{
+    GraphemeClusterSegmenter, GraphemeClusterSegmenterBorrowed, SentenceSegmenter,
+    SentenceSegmenterBorrowed,
+};
+use seg_data::inner::PairDataBorrowed;
+use seg_pairs::rule_segmenter_v1::RuleBreakIterator;
+use std::alloc::{AllocError, Global};
+use std::test::Fail;
+
+const KEEP: u8 = 255;
+
+const NO_MATCH: u8 = 254;
+
+const BREAK: u8 = 253;
+
+// `x` is class 1 and `y` class 2; 3 and 4 are composites.
+const LETTERS: [(u32, u32, u8); 2] = [(0x78, 0x78, 1), (0x79, 0x79, 2)];
+
+// Class c has status c.
+const OWN_STATUSES: [u8; 7] = [1, 2, 3, 4, 5, 6, 7];
+
+// The entries of tables by row, as bytes; the last two rows are those of the text's start and end.
+const INDEX_OUT_OF_A_COMPOSITE: [u8; 49] = [
+    4, 123, 3, 255, 255, 255, 255, //
+    253, 255, 3, 255, 255, 255, 254, //
+    123, 2, 3, 255, 255, 255, 254, //
+    253, 253, 2, 255, 255, 255, 253, //
+    255, 4, 4, 255, 255, 255, 253, //
+    253, 253, 253, 255, 255, 255, 255, //
+    255, 255, 255, 255, 255, 255, 255,
+];
+
+const INTERMEDIATE_OUT_OF_A_COMPOSITE: [u8; 49] = [
+    255, 4, 1, 255, 255, 255, 255, //
+    123, 4, 3, 255, 255, 255, 255, //
+    3, 254, 253, 255, 255, 255, 254, //
+    123, 255, 2, 255, 255, 255, 254, //
+    124, 255, 4, 255, 255, 255, 254, //
+    253, 253, 253, 255, 255, 255, 255, //
+    255, 255, 255, 255, 255, 255, 255,
+];
+
+const KEEP_AFTER_A_WALK: [u8; 49] = [
+    123, 255, 121, 255, 255, 255, 253, //
+    255, 2, 3, 255, 255, 255, 254, //
+    121, 2, 121, 255, 255, 255, 255, //
+    254, 255, 255, 255, 255, 255, 255, //
+    2, 2, 254, 255, 255, 255, 255, //
+    253, 253, 253, 255, 255, 255, 255, //
+    255, 255, 255, 255, 255, 255, 255,
+];
+
+const BACK_TO_A_COMPOSITE: [u8; 49] = [
+    124, 3, 255, 255, 255, 255, 254, //
+    254, 123, 253, 255, 255, 255, 255, //
+    124, 255, 1, 255, 255, 255, 254, //
+    253, 124, 3, 255, 255, 255, 253, //
+    3, 123, 3, 255, 255, 255, 253, //
+    253, 253, 253, 255, 255, 255, 255, //
+    255, 255, 255, 255, 255, 255, 255,
+];
+
+const BACK_TO_A_CLASS: [u8; 49] = [
+    254, 2, 254, 255, 255, 255, 254, //
+    253, 253, 255, 255, 255, 255, 253, //
+    253, 255, 254, 255, 255, 255, 255, //
+    4, 121, 254, 255, 255, 255, 253, //
+    253, 4, 254, 255, 255, 255, 254, //
+    253, 253, 253, 255, 255, 255, 255, //
+    255, 255, 255, 255, 255, 255, 255,
+];
+
+const WALK_OF_THREE: [u8; 49] = [
+    3, 2, 253, 255, 255, 255, 254, //
+    123, 2, 3, 255, 255, 255, 255, //
+    253, 4, 3, 255, 255, 255, 255, //
+    124, 3, 253, 255, 255, 255, 254, //
+    253, 254, 4, 255, 255, 255, 255, //
+    253, 253, 253, 255, 255, 255, 255, //
+    255, 255, 255, 255, 255, 255, 255,
+];
+
+fn entries_of(alloc: Global, bytes: &[u8]) -> Result<Vec<BreakState>, AllocError> {
+    bytes
+        .iter()
+        .map(|byte| BreakState::from_unaligned(*byte))
+        .collect(alloc)
+}
+
+/// A table of 7 classes over `x` and `y`, where 2 is the last class of code points, 5 that of the text's start and 6
+/// that of its end.
+fn table_of(alloc: Global, bytes: &[u8], statuses: &[u8]) -> Result<RuleBreakData, Fail> {
+    let classes = ClassTable::try_from_ranges(Vec::from_slice(alloc, &LETTERS)?, 0)?;
+    let entries = entries_of(alloc, bytes)?;
+    let statuses = Vec::from_slice(alloc, statuses)?;
+    Ok(RuleBreakData::try_from_parts(classes, entries, statuses, 7, 2, 5, 6, 127)?)
+}
+
+/// `x` `y` leads to 3, of which `y` leads to `then`, and `y` after 4 comes to nothing.
+fn retreating(alloc: Global, then: u8) -> Result<RuleBreakData, Fail> {
+    let mut bytes = [KEEP; 49];
+    bytes[7 + 2] = 3;
+    bytes[21 + 2] = then;
+    bytes[28 + 2] = NO_MATCH;
+    for class in 0..3 {
+        bytes[35 + class] = BREAK;
+    }
+    table_of(alloc, &bytes, &[])
+}
+
+/// `x` `y` leads to 3, of which `y` comes to nothing and `x` breaks; `y` `y` breaks. The statuses are 1, 0 and 2.
+fn classed(alloc: Global) -> Result<RuleBreakData, Fail> {
+    let mut bytes = [KEEP; 49];
+    bytes[7 + 2] = 3;
+    bytes[21 + 2] = NO_MATCH;
+    bytes[21 + 1] = BREAK;
+    bytes[14 + 2] = BREAK;
+    for class in 0..3 {
+        bytes[35 + class] = BREAK;
+    }
+    table_of(alloc, &bytes, &[1, 0, 2])
+}
+
+/// The boundaries that the engine finds, each with its status.
+fn found_by(alloc: Global, table: &RuleBreakData, text: &str) -> Result<Vec<(usize, u8)>, Fail> {
+    let mut engine = RuleBreakIterator::new(
+        PairDataBorrowed::new(table),
+        Latin1Indices::new(text.as_bytes()),
+    );
+    let mut found = Vec::new(alloc);
+    while let Some(place) = engine.next() {
+        found.push((place, engine.rule_status()))?;
+    }
+    Ok(found)
+}
+
+#[test]
+fn breaks_of_tables(rt: HostRuntime) -> Result<(), Fail> {
+    let alloc = rt.alloc();
+    let table = classed(alloc)?;
+    let rows: [(&str, &[(usize, u8)]); 3] = [
+        ("xyy", &[(0, 0), (1, 1), (2, 0), (3, 0)]),
+        ("xyx", &[(0, 0), (2, 2), (3, 1)]),
+        ("", &[(0, 0)]),
+    ];
+    for (text, want) in rows {
+        assert_eq!(rt; found_by(alloc, &table, text)?.as_slice(), want, "{text}");
+    }
+    // The last states, entries and ends that no small table above has; found by a program of definitions alone.
+    let rows: [(&[u8], &str, &[(usize, u8)]); 6] = [
+        (
+            &INDEX_OUT_OF_A_COMPOSITE,
+            "y.y.xyyyy",
+            &[(0, 0), (4, 3), (7, 3), (9, 3)],
+        ),
+        (
+            &INTERMEDIATE_OUT_OF_A_COMPOSITE,
+            "yx.yxyyxy.",
+            &[(0, 0), (1, 2), (2, 1), (9, 1), (10, 0)],
+        ),
+        (
+            &KEEP_AFTER_A_WALK,
+            "....x.xx",
+            &[(0, 0), (1, 0), (2, 0), (8, 2)],
+        ),
+        (&BACK_TO_A_COMPOSITE, "yy..x.yyy", &[(0, 0), (1, 2), (9, 3)]),
+        (
+            &BACK_TO_A_CLASS,
+            "y.xx.yx.",
+            &[(0, 0), (1, 2), (4, 1), (5, 0), (7, 1), (8, 0)],
+        ),
+        (
+            &WALK_OF_THREE,
+            "x...xxx.",
+            &[(0, 0), (3, 4), (5, 4), (7, 2), (8, 0)],
+        ),
+    ];
+    for (bytes, text, want) in rows {
+        let table = table_of(alloc, bytes, &OWN_STATUSES)?;
+        assert_eq!(rt; found_by(alloc, &table, text)?.as_slice(), want, "{text}");
+    }
+    Ok(())
+}
+
+#[test]
+fn break_states_of_bytes(rt: HostRuntime) {
+    for (byte, state) in [
+        (119, BreakState::Index(119)),
+        (120, BreakState::Intermediate(0)),
+        (253, BreakState::Break),
+        (254, BreakState::NoMatch),
+        (255, BreakState::Keep),
+    ] {
+        assert!(rt; BreakState::from_unaligned(byte) == state);
+        assert_eq!(rt; state.to_unaligned(), byte);
+    }
+}
+
+fn cluster_places(alloc: Global, table: &RuleBreakData, text: &[u8]) -> Result<Vec<usize>, Fail> {
+    let segmenter = GraphemeClusterSegmenterBorrowed::new(table)?;
+    Ok(segmenter.segment_utf8(text).collect(alloc)?)
+}
+
+#[test]
+fn classic_clusters(rt: HostRuntime) -> Result<(), Fail> {
+    let alloc = rt.alloc();
+    let table = cluster_table(alloc)?;
+    let line = "Hello World. Xin chào thế giới!".as_bytes();
+    let rows: [(&[u8], &[usize]); 4] = [
+        (
+            line,
+            &[
+                0, 1, 2, 3, 4, 5, 6, 7, 8, 9, 10, 11, 12, 13, 14, 15, 16, 17, 18, 19, 21, 22, 23,
+                24, 25, 28, 29, 30, 31, 34, 35, 36,
+            ],
+        ),
+        (b"", &[0]),
+        (b"\xE0\x80\xED\xA0\x80\xF0\x9F\x98", &[0, 1, 2, 3, 4, 5, 8]),
+        (b"a\r\n\xC3\xA9", &[0, 1, 3, 5]),
+    ];
+    for (text, want) in rows {
+        assert_eq!(rt;
+            cluster_places(alloc, &table, text)?.as_slice(),
+            want,
+            "{text:?}"
+        );
+    }
+    let rows: [(RuleBreakData, &[u8], &[usize]); 3] = [
+        (retreating(alloc, 4)?, b"xyyy", &[0, 1, 4]),
+        (retreating(alloc, 4)?, b"xyy", &[0, 3]),
+        (retreating(alloc, 124)?, b"xyyy", &[0, 2, 4]),
+    ];
+    for (table, text, want) in rows {
+        assert_eq!(rt;
+            cluster_places(alloc, &table, text)?.as_slice(),
+            want,
+            "{text:?}"
+        );
+    }
+    Ok(())
+}
+
+#[test]
+fn owned_segmenters(rt: HostRuntime) -> Result<(), Fail> {
+    let alloc = rt.alloc();
+    let clusters = GraphemeClusterSegmenter::try_new(cluster_table(alloc)?)?;
+    let mut found = clusters.as_borrowed().segment_latin1(b"a\r\n\xE9");
+    for place in [Some(0), Some(1), Some(3), Some(4), None, None] {
+        assert_eq!(rt; found.next(), place);
+    }
+    let options = SentenceBreakOptions::default();
+    let sentences = SentenceSegmenter::try_new(sentence_table(alloc)?, None, options)?;
+    let mut found = sentences.as_borrowed().segment_utf16(&[]);
+    for place in [Some(0), None, None] {
+        assert_eq!(rt; found.next(), place);
+    }
+    Ok(())
+}
+
+fn override_of(alloc: Global, class: u8) -> Result<RuleBreakDataOverride, Fail> {
+    let ranges = Vec::from_slice(alloc, &[(0x3B, 0x3B, class)])?;
+    let classes = ClassTable::try_from_ranges(ranges, 0)?;
+    Ok(RuleBreakDataOverride::try_from_parts(classes)?)
+}
+
+#[test]
+fn classic_sentences(rt: HostRuntime) -> Result<(), Fail> {
+    let alloc = rt.alloc();
+    let table = sentence_table(alloc)?;
+    let options = SentenceBreakInvariantOptions::default();
+    let plain = SentenceSegmenterBorrowed::new(&table, None, options)?;
+    let line = "Hello World. Xin chào thế giới!";
+    let found: Vec<usize> = plain.segment_str(line).collect(alloc)?;
+    assert_eq!(rt; found.as_slice(), [0, 13, 36].as_slice());
+    let found: Vec<usize> = plain.segment_latin1(b"a; b").collect(alloc)?;
+    assert_eq!(rt; found.as_slice(), [0, 4].as_slice());
+    let greek = override_of(alloc, 1)?;
+    let overriding = SentenceSegmenterBorrowed::new(&table, Some(&greek), options)?;
+    let found: Vec<usize> = overriding.segment_latin1(b"a; b").collect(alloc)?;
+    assert_eq!(rt; found.as_slice(), [0, 3, 4].as_slice());
+    let past = override_of(alloc, 7)?;
+    let refused = SentenceSegmenterBorrowed::new(&table, Some(&past), options).err();
+    assert!(rt; refused == Some(DataError::ClassOutOfRange));
+    Ok(())
+}
+
+/// What is wrong with a table of so many classes and these entries.
+fn refusal(
+    alloc: Global,
+    ranges: &[(u32, u32, u8)],
+    bytes: &[u8],
+    count: u8,
+    sot: u8,
+    eot: u8,
+) -> Result<Option<DataError>, Fail> {
+    let classes = ClassTable::try_from_ranges(Vec::from_slice(alloc, ranges)?, 0)?;
+    let entries = entries_of(alloc, bytes)?;
+    let statuses = Vec::new(alloc);
+    Ok(RuleBreakData::try_from_parts(classes, entries, statuses, count, 0, sot, eot, 127).err())
+}
+
+#[test]
+fn refuses_tables(rt: HostRuntime) -> Result<(), Fail> {
+    let alloc = rt.alloc();
+    let past = [(0x61, 0x61, 2)];
+    let rows: [(&[(u32, u32, u8)], &[u8], u8, u8, u8, Option<DataError>); 9] = [
+        (&[], &[KEEP; 4], 2, 1, 1, None),
+        (&[], &[KEEP; 3], 2, 1, 1, Some(DataError::TableSize)),
+        (&[], &[], 0, 0, 0, Some(DataError::TableSize)),
+        (&past, &[KEEP; 4], 2, 1, 1, Some(DataError::ClassOutOfRange)),
+        (&past, &[KEEP; 4], 2, 2, 1, Some(DataError::ClassOutOfRange)),
+        (&[], &[KEEP; 4], 2, 2, 1, Some(DataError::StateOutOfRange)),
+        (&[], &[KEEP; 4], 2, 1, 2, Some(DataError::StateOutOfRange)),
+        (
+            &[],
+            &[KEEP, 2, KEEP, KEEP],
+            2,
+            1,
+            1,
+            Some(DataError::StateOutOfRange),
+        ),
+        (
+            &[],
+            &[KEEP, KEEP, KEEP, 122],
+            2,
+            1,
+            1,
+            Some(DataError::StateOutOfRange),
+        ),
+    ];
+    for (ranges, bytes, count, sot, eot, want) in rows {
+        assert!(rt;
+            refusal(alloc, ranges, bytes, count, sot, eot)? == want,
+            "{count} {sot} {eot}"
+        );
+    }
+    Ok(())
+}
+
+#[test]
+fn refuses_tables_of_clusters(rt: HostRuntime) -> Result<(), Fail> {
+    let alloc = rt.alloc();
+    let bench = cluster_table(alloc)?;
+    let ranges = bench.property_table();
+    for (keeps, complex, want) in [
+        (false, 127, None),
+        (true, 127, Some(DataError::StartRowKeeps)),
+        (false, 3, Some(DataError::ComplexItems)),
+        (true, 3, Some(DataError::StartRowKeeps)),
+    ] {
+        let mut entries = Vec::from_slice(alloc, bench.break_state_table())?;
+        if keeps && entries.len() > 27 {
+            entries[27] = BreakState::Keep;
+        }
+        let marks = Vec::from_slice(alloc, &[(0x300, 0x36F, ranges.get32(0x300))])?;
+        let classes = ClassTable::try_from_ranges(marks, 0)?;
+        let table = RuleBreakData::try_from_parts(
+            classes,
+            entries,
+            Vec::new(alloc),
+            bench.property_count(),
+            bench.last_codepoint_property(),
+            bench.sot_property(),
+            bench.eot_property(),
+            complex,
+        )?;
+        assert!(rt; GraphemeClusterSegmenterBorrowed::new(&table).err() == want);
+        assert!(rt; table != bench);
+    }
+    assert!(rt; bench == bench);
+    Ok(())
+}
+
+#[test]
+fn classic_clusters_have_equal_ordinals(rt: HostRuntime) -> Result<(), Fail> {
+    let alloc = rt.alloc();
+    let (table, machine) = (cluster_table(alloc)?, cluster_machine(alloc)?);
+    let classic = GraphemeClusterSegmenterBorrowed::new(&table)?;
+    let neo = GraphemeClusterSegmenterBorrowed::new_neo(&machine)?;
+    for number in 0..TEXTS {
+        let text = text_of(alloc, number)?;
+        let found = clusters_found(alloc, classic, text.as_str())?;
+        assert!(rt; agrees(alloc, text.as_str(), &found)?, "{text:?}");
+        let by_machine: Vec<usize> = neo.segment_str(text.as_str()).collect(alloc)?;
+        assert!(rt; by_machine.as_slice() == found.str.as_slice(), "{text:?}");
+    }
+    Ok(())
+}
+
+#[test]
+fn classic_sentences_have_equal_ordinals(rt: HostRuntime) -> Result<(), Fail> {
+    let alloc = rt.alloc();
+    let table = sentence_table(alloc)?;
+    let options = SentenceBreakInvariantOptions::default();
+    let sentences = SentenceSegmenterBorrowed::new(&table, None, options)?;
+    for number in 0..TEXTS {
+        let text = text_of(alloc, number)?;
+        let found = sentences_found(alloc, sentences, text.as_str())?;
+        assert!(rt; agrees(alloc, text.as_str(), &found)?, "{text:?}");
+    }
+    Ok(())
+}
