@@ -6,8 +6,6 @@ pub mod devices;
 pub mod lines;
 mod machines;
 pub mod pair_tables;
-#[cfg(test)]
-mod pair_tests;
 pub mod sentences;
 #[cfg(test)]
 mod tests;

@@ -1,7 +1,9 @@
+use super::clusters::clusters_found;
+use super::sentences::sentences_found;
+use super::texts::{TEXTS, agrees, text_of};
 use crate::clusters::cluster_machine;
 use crate::pair_tables::{cluster_table, sentence_table};
-use crate::tests::{ordinals, text_of};
-use icu_segmenter::indices::{Latin1Indices, Utf8CharIndices, Utf16Indices};
+use icu_segmenter::indices::Latin1Indices;
 use icu_segmenter::options::{SentenceBreakInvariantOptions, SentenceBreakOptions};
 use icu_segmenter::provider::{
     BreakState, ClassTable, DataError, RuleBreakData, RuleBreakDataOverride,
@@ -379,60 +381,32 @@ fn refuses_tables_of_clusters(rt: HostRuntime) -> Result<(), Fail> {
     Ok(())
 }
 
-/// Whether a text's classic clusters and sentences have equal ordinals in all encodings that have it, the clusters
-/// those of the bench machine.
-fn agrees(alloc: Global, text: &str) -> Result<bool, Fail> {
-    let bytes: Vec<usize> = Utf8CharIndices::new(text.as_bytes())
-        .map(|item| item.0)
-        .collect(alloc)?;
-    let units: Vec<u16> = text.encode_utf16().collect(alloc)?;
-    let pairs: Vec<usize> = Utf16Indices::new(units.as_slice())
-        .map(|item| item.0)
-        .collect(alloc)?;
-    let narrow: Vec<u8> = text
-        .chars()
-        .filter_map(|c| u8::try_from(c as u32).ok())
-        .collect(alloc)?;
-    let is_narrow = narrow.len() == bytes.len();
+#[test]
+fn classic_clusters_have_equal_ordinals(rt: HostRuntime) -> Result<(), Fail> {
+    let alloc = rt.alloc();
     let (table, machine) = (cluster_table(alloc)?, cluster_machine(alloc)?);
-    let clusters = GraphemeClusterSegmenterBorrowed::new(&table)?;
-    let of_str: Vec<usize> = clusters.segment_str(text).collect(alloc)?;
-    let of_utf8: Vec<usize> = clusters.segment_utf8(text.as_bytes()).collect(alloc)?;
-    let of_utf16: Vec<usize> = clusters.segment_utf16(units.as_slice()).collect(alloc)?;
-    let of_latin1: Vec<usize> = clusters.segment_latin1(narrow.as_slice()).collect(alloc)?;
+    let classic = GraphemeClusterSegmenterBorrowed::new(&table)?;
     let neo = GraphemeClusterSegmenterBorrowed::new_neo(&machine)?;
-    let by_machine: Vec<usize> = neo.segment_str(text).collect(alloc)?;
-    let expected = ordinals(alloc, of_str.as_slice(), bytes.as_slice())?;
-    let found = ordinals(alloc, of_utf16.as_slice(), pairs.as_slice())?;
-    let same_clusters = of_utf8.as_slice() == of_str.as_slice()
-        && by_machine.as_slice() == of_str.as_slice()
-        && found.as_slice() == expected.as_slice()
-        && (!is_narrow || of_latin1.as_slice() == expected.as_slice());
-    let table = sentence_table(alloc)?;
-    let options = SentenceBreakInvariantOptions::default();
-    let sentences = SentenceSegmenterBorrowed::new(&table, None, options)?;
-    let of_str: Vec<usize> = sentences.segment_str(text).collect(alloc)?;
-    let of_utf8: Vec<usize> = sentences.segment_utf8(text.as_bytes()).collect(alloc)?;
-    let of_utf16: Vec<usize> = sentences.segment_utf16(units.as_slice()).collect(alloc)?;
-    let of_latin1: Vec<usize> = sentences.segment_latin1(narrow.as_slice()).collect(alloc)?;
-    let expected = ordinals(alloc, of_str.as_slice(), bytes.as_slice())?;
-    let found = ordinals(alloc, of_utf16.as_slice(), pairs.as_slice())?;
-    Ok(
-        same_clusters
-            && of_utf8.as_slice() == of_str.as_slice()
-            && found.as_slice() == expected.as_slice()
-            && (!is_narrow || of_latin1.as_slice() == expected.as_slice()),
-    )
+    for number in 0..TEXTS {
+        let text = text_of(alloc, number)?;
+        let found = clusters_found(alloc, classic, text.as_str())?;
+        assert!(rt; agrees(alloc, text.as_str(), &found)?, "{text:?}");
+        let by_machine: Vec<usize> = neo.segment_str(text.as_str()).collect(alloc)?;
+        assert!(rt; by_machine.as_slice() == found.str.as_slice(), "{text:?}");
+    }
+    Ok(())
 }
 
 #[test]
-fn equal_ordinals_of_short_texts(rt: HostRuntime) -> Result<(), Fail> {
+fn classic_sentences_have_equal_ordinals(rt: HostRuntime) -> Result<(), Fail> {
     let alloc = rt.alloc();
-    for (length, count) in [(0, 1), (1, 10), (2, 100), (3, 1000)] {
-        for number in 0..count {
-            let text = text_of(alloc, length, number)?;
-            assert!(rt; agrees(alloc, text.as_str())?, "{text:?}");
-        }
+    let table = sentence_table(alloc)?;
+    let options = SentenceBreakInvariantOptions::default();
+    let sentences = SentenceSegmenterBorrowed::new(&table, None, options)?;
+    for number in 0..TEXTS {
+        let text = text_of(alloc, number)?;
+        let found = sentences_found(alloc, sentences, text.as_str())?;
+        assert!(rt; agrees(alloc, text.as_str(), &found)?, "{text:?}");
     }
     Ok(())
 }

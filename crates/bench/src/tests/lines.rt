@@ -1,0 +1,276 @@
+// Lines.
+use super::machines::{looks_at_the_next, looks_past_b, tailoring_of, takes_all, with_symbols};
+use super::texts::{Found, TEXTS, agrees, in_latin1, in_utf16, text_of};
+use crate::clusters::cluster_machine;
+use crate::lines::{line_machine, line_tailorings};
+use icu_segmenter::iterators::LineBreakIterator;
+use icu_segmenter::options::{
+    LanguageIdentifier, LineBreakOptions, LineBreakStrictness, LineBreakWordOption,
+};
+use icu_segmenter::provider::{
+    ComplexScript, DataError, LineTailorings, SegmenterStateMachine, Symbol,
+};
+use icu_segmenter::scaffold::RuleBreakType;
+use icu_segmenter::{LineSegmenter, LineSegmenterBorrowed};
+use std::alloc::{AllocError, Global};
+use std::test::Fail;
+
+const BREAK_ALL: Option<LineBreakWordOption> = Some(LineBreakWordOption::BreakAll);
+
+const ANYWHERE: Option<LineBreakStrictness> = Some(LineBreakStrictness::Anywhere);
+
+/// Where a text may be broken, and where it must be.
+#[derive(Drop)]
+struct Breaks {
+    places: Vec<usize>,
+    mandatory: Vec<usize>,
+}
+
+fn breaks_of<'s, Y: RuleBreakType<'s>>(
+    alloc: Global,
+    mut lines: LineBreakIterator<'_, 's, Y>,
+) -> Result<Breaks, AllocError> {
+    let mut places = Vec::new(alloc);
+    let mut mandatory = Vec::new(alloc);
+    while let Some(place) = lines.next() {
+        places.push(place)?;
+        if lines.is_mandatory() {
+            mandatory.push(place)?;
+        }
+    }
+    Ok(Breaks { places, mandatory })
+}
+
+/// The breaks of a text in each encoding, and those of them that are mandatory.
+fn lines_found(
+    alloc: Global,
+    segmenter: LineSegmenterBorrowed<'_>,
+    text: &str,
+) -> Result<(Found, Found), AllocError> {
+    let units = in_utf16(alloc, text)?;
+    let narrow = in_latin1(alloc, text)?;
+    let of_str = breaks_of(alloc, segmenter.segment_str(text))?;
+    let of_utf8 = breaks_of(alloc, segmenter.segment_utf8(text.as_bytes()))?;
+    let of_utf16 = breaks_of(alloc, segmenter.segment_utf16(units.as_slice()))?;
+    let of_latin1 = breaks_of(alloc, segmenter.segment_latin1(narrow.as_slice()))?;
+    let places = Found {
+        str: of_str.places,
+        utf8: of_utf8.places,
+        utf16: of_utf16.places,
+        latin1: of_latin1.places,
+    };
+    let mandatory = Found {
+        str: of_str.mandatory,
+        utf8: of_utf8.mandatory,
+        utf16: of_utf16.mandatory,
+        latin1: of_latin1.mandatory,
+    };
+    Ok((places, mandatory))
+}
+
+/// A segmenter by this machine and this tailoring for `BreakAll`, with the bench clusters.
+fn segmenter_of(
+    alloc: Global,
+    machine: SegmenterStateMachine,
+    breakall: &[(Symbol, ComplexScript)],
+    options: LineBreakOptions<'_>,
+) -> Result<Result<LineSegmenter, DataError>, Fail> {
+    let clusters = cluster_machine(alloc)?;
+    let tailorings = LineTailorings {
+        breakall: Some(tailoring_of(alloc, breakall)?),
+        ..LineTailorings::default()
+    };
+    Ok(LineSegmenter::try_new_neo_for_non_complex_scripts(machine, tailorings, clusters, options))
+}
+
+/// A segmenter by the bench data.
+fn bench_segmenter(
+    alloc: Global,
+    options: LineBreakOptions<'_>,
+) -> Result<Result<LineSegmenter, DataError>, AllocError> {
+    let machine = line_machine(alloc)?;
+    let clusters = cluster_machine(alloc)?;
+    let tailorings = line_tailorings(alloc)?;
+    Ok(LineSegmenter::try_new_neo_for_non_complex_scripts(machine, tailorings, clusters, options))
+}
+
+#[test]
+fn lines_of_texts(rt: HostRuntime) -> Result<(), Fail> {
+    let alloc = rt.alloc();
+    let segmenter = bench_segmenter(alloc, LineBreakOptions::default())??;
+    let rows: [(&str, &[usize], &[usize]); 8] = [
+        (
+            "Hello World. Xin chào thế giới!",
+            &[0, 6, 13, 17, 23, 29, 36],
+            &[36],
+        ),
+        (
+            "this has a mandatory\nline break",
+            &[0, 5, 9, 11, 21, 26, 31],
+            &[21, 31],
+        ),
+        ("", &[0], &[]),
+        ("\n\n", &[0, 1, 2], &[1, 2]),
+        ("a\r\nb", &[0, 3, 4], &[3, 4]),
+        ("一二 ก", &[0, 3, 7, 10], &[10]),
+        ("ภาษาไทย", &[0, 21], &[21]),
+        ("\u{E9} \u{C0}\n b", &[0, 3, 6, 7, 8], &[6, 8]),
+    ];
+    for (text, places, mandatory) in rows {
+        let found = lines_found(alloc, segmenter.as_borrowed(), text)?;
+        assert_eq!(rt; found.0.str.as_slice(), places, "{text:?}");
+        assert_eq!(rt; found.1.str.as_slice(), mandatory, "{text:?}");
+        assert!(rt; agrees(alloc, text, &found.0)?, "{text:?}");
+        assert!(rt; agrees(alloc, text, &found.1)?, "{text:?}");
+    }
+    Ok(())
+}
+
+#[test]
+fn options_choose_the_machine(rt: HostRuntime) -> Result<(), Fail> {
+    let alloc = rt.alloc();
+    let rows: [(_, _, &str, &[usize], &[usize]); 9] = [
+        (None, BREAK_ALL, "ab", &[0, 1, 2], &[2]),
+        (None, BREAK_ALL, "ab\n", &[0, 1, 3], &[3]),
+        (None, BREAK_ALL, "aกb", &[0, 1, 4, 5], &[5]),
+        (ANYWHERE, None, "a\u{301}b", &[0, 3, 4], &[]),
+        (ANYWHERE, None, "ab\n", &[0, 1, 2, 3], &[]),
+        (ANYWHERE, BREAK_ALL, "ab\n", &[0, 1, 3], &[3]),
+        (ANYWHERE, BREAK_ALL, "a\u{301}b", &[0, 1, 3, 4], &[4]),
+        (Some(LineBreakStrictness::Strict), None, "ab", &[0, 2], &[2]),
+        (None, Some(LineBreakWordOption::Normal), "ab", &[0, 2], &[2]),
+    ];
+    for (strictness, word_option, text, places, mandatory) in rows {
+        let options = LineBreakOptions {
+            strictness,
+            word_option,
+            content_locale: None,
+        };
+        let segmenter = bench_segmenter(alloc, options)??;
+        let found = lines_found(alloc, segmenter.as_borrowed(), text)?;
+        assert_eq!(rt; found.0.str.as_slice(), places, "{options:?} {text:?}");
+        assert_eq!(rt; found.1.str.as_slice(), mandatory, "{options:?} {text:?}");
+        assert!(rt; agrees(alloc, text, &found.0)?, "{options:?} {text:?}");
+        assert!(rt; agrees(alloc, text, &found.1)?, "{options:?} {text:?}");
+    }
+    Ok(())
+}
+
+#[test]
+fn tailorings_that_are_not_there_are_missed(rt: HostRuntime) -> Result<(), Fail> {
+    let alloc = rt.alloc();
+    let japanese = LanguageIdentifier::try_from_language("ja");
+    let english = LanguageIdentifier::try_from_language("en");
+    let missing = Some(DataError::MissingTailoring);
+    let keep_all = Some(LineBreakWordOption::KeepAll);
+    let strict = Some(LineBreakStrictness::Strict);
+    for (strictness, word_option, language, want) in [
+        (Some(LineBreakStrictness::Loose), None, &None, missing),
+        (Some(LineBreakStrictness::Normal), None, &english, missing),
+        (strict, None, &japanese, missing),
+        (strict, None, &english, None),
+        (ANYWHERE, keep_all, &None, missing),
+        (ANYWHERE, None, &japanese, None),
+    ] {
+        let options = LineBreakOptions {
+            strictness,
+            word_option,
+            content_locale: language.as_ref(),
+        };
+        let refused = bench_segmenter(alloc, options)?.err();
+        assert_eq!(rt; refused, want, "{options:?}");
+    }
+    Ok(())
+}
+
+/// The bench machine of lines, where U+00E9 alone has a script.
+fn complex_machine(alloc: Global) -> Result<SegmenterStateMachine, Fail> {
+    let machine = line_machine(alloc)?;
+    let map = machine.pseudo_symbol_map();
+    with_symbols(alloc, &machine, &[(0xE9, 0xE9, 5)], map)
+}
+
+#[test]
+fn data_are_refused_by_the_lowest_fault(rt: HostRuntime) -> Result<(), Fail> {
+    let alloc = rt.alloc();
+    let break_all = LineBreakOptions {
+        word_option: BREAK_ALL,
+        ..LineBreakOptions::default()
+    };
+    let anywhere = LineBreakOptions {
+        strictness: ANYWHERE,
+        ..LineBreakOptions::default()
+    };
+    let complex = Some(DataError::ComplexBelow0100);
+    let out_of_range = Some(DataError::SymbolOutOfRange);
+    let (thai, none) = (ComplexScript::Thai, ComplexScript::None);
+    let rows: [(_, &[(Symbol, ComplexScript)], _); 6] = [
+        (LineBreakOptions::default(), &[], complex),
+        (break_all, &[(9, thai)], complex),
+        (break_all, &[(9, none)], out_of_range),
+        (break_all, &[], out_of_range),
+        (break_all, &[(4, none)], None),
+        (anywhere, &[(9, thai)], None),
+    ];
+    for (options, breakall, want) in rows {
+        let refused = segmenter_of(alloc, complex_machine(alloc)?, breakall, options)?.err();
+        assert_eq!(rt; refused, want, "{options:?} {breakall:?}");
+    }
+    let refused = segmenter_of(alloc, line_machine(alloc)?, &[], break_all)?.err();
+    assert_eq!(rt; refused, out_of_range);
+    Ok(())
+}
+
+#[test]
+fn lines_of_machines(rt: HostRuntime) -> Result<(), Fail> {
+    let alloc = rt.alloc();
+    let clusters = cluster_machine(alloc)?;
+    let tailorings = LineTailorings::default();
+    let rows: [(SegmenterStateMachine, &str, &[usize], &[usize]); 3] = [
+        (looks_past_b(alloc)?, "cabbb", &[0, 1, 2, 3, 4, 5], &[2]),
+        (takes_all(alloc)?, "xxx", &[0, 3], &[3]),
+        (looks_at_the_next(alloc)?, "aba", &[0, 1, 2, 3], &[1, 2, 3]),
+    ];
+    for (machine, text, places, mandatory) in rows {
+        let segmenter = LineSegmenterBorrowed::new_neo_for_non_complex_scripts(
+            &machine,
+            tailorings.as_borrowed(),
+            &clusters,
+            LineBreakOptions::default(),
+        )?;
+        let found = breaks_of(alloc, segmenter.segment_utf8(text.as_bytes()))?;
+        assert_eq!(rt; found.places.as_slice(), places, "{text:?}");
+        assert_eq!(rt; found.mandatory.as_slice(), mandatory, "{text:?}");
+    }
+    Ok(())
+}
+
+#[test]
+fn lines_have_equal_ordinals(rt: HostRuntime) -> Result<(), Fail> {
+    let alloc = rt.alloc();
+    let segmenter = bench_segmenter(alloc, LineBreakOptions::default())??;
+    for number in 0..TEXTS {
+        let text = text_of(alloc, number)?;
+        let (breaks, mandatory) = lines_found(alloc, segmenter.as_borrowed(), text.as_str())?;
+        assert!(rt; agrees(alloc, text.as_str(), &breaks)?, "{text:?}");
+        assert!(rt; agrees(alloc, text.as_str(), &mandatory)?, "{text:?}");
+    }
+    Ok(())
+}
+
+#[test]
+fn lines_end_for_ever(rt: HostRuntime) -> Result<(), Fail> {
+    let segmenter = bench_segmenter(rt.alloc(), LineBreakOptions::default())??;
+    let mut lines = segmenter.as_borrowed().segment_utf16(&[0x0A]);
+    assert!(rt; !lines.is_mandatory());
+    for (place, is_mandatory) in [
+        (Some(0), false),
+        (Some(1), true),
+        (None, false),
+        (None, false),
+    ] {
+        assert_eq!(rt; lines.next(), place);
+        assert_eq!(rt; lines.is_mandatory(), is_mandatory, "{place:?}");
+    }
+    Ok(())
+}
