@@ -1,5 +1,5 @@
 -- What the boundaries of a text are found by.
-use Rattle.std.specs.Prelude.{ℕ, Option, List, map}
+use Rattle.std.specs.Prelude.{ℕ, Option, List}
 use Rattle.seg_text.specs.Places.{places}
 use Rattle.seg_data.specs.Machine.{Machine}
 use Rattle.seg_data.specs.PairTable.{PairTable}

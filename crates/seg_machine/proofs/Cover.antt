@@ -1,5 +1,5 @@
 -- The boundaries of a text rise strictly from its start to its end.
-use Rattle.std.proofs.Common.{◌≡◌, ◌≢◌, ℕ, zero, suc, ◌<◌, ◌≤◌, List, [], ◌∷◌, map, drop, refl, sym, subst, arith}
+use Rattle.std.proofs.Common.{◌≡◌, ◌≢◌, ℕ, ◌<◌, List, [], ◌∷◌, map, drop, refl, sym, subst}
 use Rattle.seg_data.specs.Machine.{Machine, symbols_of}
 use Rattle.seg_data.specs.Checked.{IsChecked}
 use Rattle.seg_data.proofs.Picks.{pick-bounds}

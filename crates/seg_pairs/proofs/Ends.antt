@@ -1,23 +1,23 @@
 -- Boundaries as places, break by break.
-use Rattle.std.proofs.Common.{◌≡◌, ℕ, zero, suc, ◌+◌, ◌<◌, ◌≤◌, List, [], ◌∷◌, length, map, drop, refl, sym, ap, ◌∙◌, subst, arith}
-use Rattle.std.specs.Prelude.{Option, Some, None}
+use Rattle.std.proofs.Common.{◌≡◌, ℕ, zero, suc, ◌+◌, ◌<◌, List, [], ◌∷◌, length, map, drop, refl, sym, ap, ◌∙◌, subst, arith}
+use Rattle.std.specs.Prelude.{Option}
 use Rattle.std.proofs.lemmas.List.{drop-drop, drop-map, length-map}
 use Rattle.seg_text.specs.Items.{place_of, code_points, IsRising}
 use Rattle.seg_text.specs.Places.{placed, places, RisesTo, IsCover}
 use Rattle.seg_text.proofs.Places.{IsRising-drop, place_of-drop-lt}
 use Rattle.seg_data.specs.declared.inner.pairs.PairDataBorrowed.{PairDataBorrowed}
 use Rattle.seg_data.specs.PairData.{pair_table_of, override_of, class_by}
-use Rattle.seg_data.specs.PairTable.{PairTable, class_of}
+use Rattle.seg_data.specs.PairTable.{PairTable}
 use Rattle.seg_data.specs.Segments.{ends_from}
 use Rattle.seg_data.specs.Table.{Table}
 use Rattle.seg_pairs.specs.declared.elements.Element.{Element}
 use Rattle.seg_pairs.specs.Verdict.{Verdict, verdict}
 use Rattle.seg_pairs.specs.Verdict.Verdict.{BreakAfter, GoAfter, RunBegins}
-use Rattle.seg_pairs.specs.Breaks.{LeadsTo, AreBreaks, go_on, chain_within, chain, break_and, breaks_within, breaks, IsForward}
+use Rattle.seg_pairs.specs.Breaks.{AreBreaks, go_on, chain_within, chain, break_and, breaks_within, breaks}
 use Rattle.seg_pairs.specs.Elements.{classes_of, place_at}
 use Rattle.seg_pairs.specs.Items.{element_of, elements_of}
 use Rattle.seg_pairs.specs.PairBoundaries.{classes_by, table_boundaries, IsBroken, element_placed, element_verdict, break_ends}
-use Rattle.seg_pairs.proofs.Chains.{breaks-nil, breaks-next, breaks-exist, leads-some}
+use Rattle.seg_pairs.proofs.Chains.{breaks-next, breaks-exist, leads-some}
 use Rattle.seg_pairs.proofs.Forward.{verdict-forward, verdict-no-run, on-classes}
 
 -- the places after so many of some things, by the place of the first of those that are left

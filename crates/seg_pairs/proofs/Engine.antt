@@ -1,5 +1,5 @@
 -- What an engine gives, call by call.
-use Rattle.std.proofs.Common.{◌≡◌, ℕ, ◌+◌, ◌<◌, Bool, true, false, Option, Some, None, List, [], ◌∷◌, drop, refl, sym, ap, ◌∙◌, subst}
+use Rattle.std.proofs.Common.{◌≡◌, ℕ, ◌+◌, ◌<◌, Bool, true, Option, Some, None, List, [], ◌∷◌, drop, refl, sym, ap, ◌∙◌, subst}
 use Rattle.std.specs.Prelude.{⊤, IfSome}
 use Rattle.std.specs.Iterator.{YieldsFirst, MakesProgress, item_count}
 use Rattle.seg_text.proofs.Cursor.{fewer-left}
@@ -9,7 +9,6 @@ use Rattle.seg_data.specs.declared.inner.pairs.PairDataBorrowed.{PairDataBorrowe
 use Rattle.seg_data.specs.PairData.{pair_table_of, override_of}
 use Rattle.seg_data.specs.PairTable.{PairTable}
 use Rattle.seg_pairs.specs.declared.elements.Element.{Element}
-use Rattle.seg_pairs.specs.declared.rules.Outcome.{Outcome}
 use Rattle.seg_pairs.specs.declared.rules.Outcome.TheVariants.{Break as BreakOut, Run as RunOut}
 use Rattle.seg_pairs.specs.Verdict.{Verdict, verdict}
 use Rattle.seg_pairs.specs.Verdict.Verdict.{BreakAfter, GoAfter, RunBegins}

@@ -1,14 +1,13 @@
 -- What a walk's stop says.
-use Rattle.std.proofs.Common.{◌≡◌, ◌≢◌, ℕ, suc, ◌<◌, ◌==◌, Bool, true, false, cond, Option, Some, None, List, [], ◌∷◌, length, drop, refl, sym, ap, ◌∙◌, subst, arith, eq-eqb}
+use Rattle.std.proofs.Common.{◌≡◌, ◌≢◌, ℕ, ◌<◌, ◌==◌, Bool, true, cond, Option, Some, None, List, [], ◌∷◌, length, drop, refl, sym, ap, ◌∙◌, subst, arith, eq-eqb}
 use Rattle.std.proofs.lemmas.Bool.{ne_eqb}
 use Rattle.std.proofs.lemmas.List.{drop-map, drop-drop, length-drop}
 use Rattle.seg_data.specs.declared.provider.pairs.BreakState.{BreakState}
 use Rattle.seg_data.specs.declared.provider.pairs.BreakState.TheVariants.{Break as BreakEntry, Keep, NoMatch, Intermediate, Index}
-use Rattle.seg_data.specs.BreakStates.{named_state}
 use Rattle.seg_data.specs.PairTable.{PairTable, entry_of}
 use Rattle.seg_pairs.specs.declared.elements.Element.{Element}
 use Rattle.seg_pairs.specs.Elements.{classes_of, onto}
-use Rattle.seg_pairs.specs.Walk.{Walk, walk}
+use Rattle.seg_pairs.specs.Walk.{Walk}
 use Rattle.seg_pairs.specs.Verdict.{Verdict, stop_verdict, end_verdict, walk_verdict, named_verdict, first_verdict, verdict, complex_verdict}
 use Rattle.seg_pairs.specs.Stop.{IsStop, class_at, walk_of}
 use Rattle.seg_pairs.specs.declared.rules.Step.{Step}

@@ -1,4 +1,4 @@
-use Rattle.std.proofs.Common.{ℕ, List, ◌∷◌, refl, ap, subst}
+use Rattle.std.proofs.Common.{◌∷◌, refl, ap, subst}
 use Rattle.std.proofs.lemmas.Bool.{both_ways}
 use Rattle.seg_data.specs.PairData.{pair_table_of}
 use Rattle.seg_data.specs.PairTable.{PairTable}
@@ -8,7 +8,7 @@ use Rattle.seg_pairs.specs.PairBoundaries.{element_verdict}
 use Rattle.seg_pairs.specs.Items.{elements_of}
 use Rattle.seg_pairs.specs.Steps.{EndsIn}
 use Rattle.seg_pairs.specs.declared.rules.Outcome.TheVariants.{Break}
-use Rattle.seg_pairs.proofs.Engine.{Gives, gives-next, end-left, run-never, rest-empty, none-left, below-of}
+use Rattle.seg_pairs.proofs.Engine.{gives-next, end-left, run-never, rest-empty, none-left, below-of}
 use Rattle.seg_pairs.proofs.rule_segmenter_v1.RuleBreakIteratorIterator.next.Goals as goal
 
 pub returns-in_default-clause-steps : goal.returns-in_default-clause-steps
