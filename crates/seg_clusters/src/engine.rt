@@ -77,6 +77,7 @@ impl<'data, I: Cursor> Iterator for Boundaries<'data, I> {
 
     ghost remaining = { item_count boundaries_left };
 
+    #[inline(always)]
     fn next(&mut self) -> Option<usize> {
         match self {
             Boundaries::Classic(engine) => engine.next(),

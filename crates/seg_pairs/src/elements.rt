@@ -65,6 +65,7 @@ impl<'data, I: Cursor> Elements for Items<'data, I> {
 
     ghost table = { λ s. pair_table_of s.pairs };
 
+    #[inline(always)]
     fn next_element(&mut self) -> Option<Element> {
         match self.cursor.next_item() {
             Some((place, code_point)) => {

@@ -122,6 +122,7 @@ impl<'data> PairDataBorrowed<'data> {
 
     /// The class of a code point: that of the override where there is one and it isn't 0, or else
     /// that of the table.
+    #[inline(always)]
     pub fn class(self, code_point: u32) -> u8
         ensures value { result ≡ class_by self.entry code_point }
         ensures below { result < (pair_table_of self.entry).property_count }
