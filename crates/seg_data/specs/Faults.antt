@@ -106,6 +106,6 @@ abbrev pub HasTailoringFault : Machine → Option (List (ℕ × ComplexScript)) 
 HasTailoringFault m (Some map) SymbolOutOfRange = HasMachineFault (tailored m (Some map)) SymbolOutOfRange
 HasTailoringFault m _ _ = ⊥
 
--- a code point below U+0100 has a script, so that texts without dictionaries' scripts can't be told by their encoding
+-- a code point below U+0100, which Latin-1 has too, has a script
 abbrev pub HasComplexBelow0100 : Machine → Type 0
 HasComplexBelow0100 m = (code_point : ℕ) × (code_point < 0x100) × ((symbol_and_script m code_point).1 ≢ NoScript)

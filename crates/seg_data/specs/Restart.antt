@@ -15,5 +15,6 @@ RestartsBy boundaries =
     → drop (suc k) (boundaries code_points)
     ≡ shifted ordinal (drop 1 (boundaries (drop ordinal code_points)))
 
+-- so it is with the boundaries of a machine
 abbrev pub HasRestart : Machine → Type 0
 HasRestart m = RestartsBy (machine_boundaries m)
