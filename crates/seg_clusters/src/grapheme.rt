@@ -48,6 +48,7 @@ impl<'data, 's, Y: RuleBreakType<'s>> Iterator for GraphemeClusterBreakIterator<
 
     ghost remaining = { item_count clusters_left };
 
+    #[inline(always)]
     fn next(&mut self) -> Option<usize> {
         self.boundaries.next()
     }

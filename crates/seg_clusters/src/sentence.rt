@@ -68,6 +68,7 @@ impl<'data, 's, Y: RuleBreakType<'s>> Iterator for SentenceBreakIterator<'data, 
 
     ghost remaining = { item_count sentences_left };
 
+    #[inline(always)]
     fn next(&mut self) -> Option<usize> {
         self.boundaries.next()
     }

@@ -1,6 +1,8 @@
 pub mod Anywhere
 pub mod Options
 pub mod Ranges
+pub mod Runs
+pub mod Paged
 pub mod Lowest
 pub mod Steps
 pub mod Picks

@@ -45,7 +45,7 @@ no-overlap ranges k kept end (j, before, after, here, next, low) =
     let apart = kept j before after (omega arith) here next in
     omega arith
 
-found-at : (ranges : List (ℕ × ℕ × ℕ)) (i code_point : ℕ) → i < length ranges
+pub found-at : (ranges : List (ℕ × ℕ × ℕ)) (i code_point : ℕ) → i < length ranges
     → (get_or ranges i (0, 0, 0)).0 ≤ code_point → code_point ≤ (get_or ranges i (0, 0, 0)).1
     → find (holds code_point) (drop i ranges) ≡ Some (get_or ranges i (0, 0, 0))
 found-at ranges i code_point within low high =

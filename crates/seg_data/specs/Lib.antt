@@ -1,5 +1,6 @@
 pub mod Language
 pub mod Table
+pub mod Pages
 pub mod Machine
 pub mod Pick
 pub mod Segments

@@ -68,6 +68,7 @@ impl<'data, 's, Y: RuleBreakType<'s>> Iterator for LineBreakIterator<'data, 's, 
 
     ghost remaining = { item_count line_places };
 
+    #[inline(always)]
     fn next(&mut self) -> Option<usize>
         ensures steps { YieldsFirst line_places self.old result self.new × GivesLine self.old result self.new }
         ensures goes { MakesProgress (λ _. ⊤) (item_count line_places) self.old result self.new }

@@ -72,6 +72,7 @@ impl<'data, I: Cursor> Iterator for RuleBreakIterator<'data, I> {
 
     ghost remaining = { item_count places_left };
 
+    #[inline(always)]
     fn next(&mut self) -> Option<usize>
         ensures steps { YieldsFirst places_left self.old result self.new × GivesNext self.old result self.new }
         ensures goes { MakesProgress (λ _. ⊤) (item_count places_left) self.old result self.new }

@@ -85,6 +85,7 @@ impl<'data, I: Cursor> Iterator for RuleBreakIterator<'data, I> {
 
     ghost remaining = { item_count places_coming };
 
+    #[inline(always)]
     fn next(&mut self) -> Option<usize>
         ensures steps { YieldsFirst places_coming self.old result self.new × GivesBreak self.old result self.new }
         ensures goes { MakesProgress (λ _. ⊤) (item_count places_coming) self.old result self.new }

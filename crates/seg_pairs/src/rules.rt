@@ -69,6 +69,7 @@ impl<'data> Rules for Pairs<'data> {
 
     ghost table = { λ s. s.table.now };
 
+    #[inline(always)]
     fn step<E: Elements>(&self, left: Element, rest: &mut E) -> Step {
         match rest.next_element() {
             Some(right) => pair_step(self.table, left, right, rest),
@@ -111,6 +112,7 @@ impl<'data> Rules for ComplexPairs<'data> {
 
 /// The next boundary after `left`, or the run that begins before it: where the rules' verdicts to go
 /// on lead. `rest` has the elements after `left`, and then those after the one that was read last.
+#[inline(always)]
 pub fn next_break<E: Elements, R: Rules>(rules: &R, left: Element, rest: &mut E) -> Outcome
     requires left { left.class < (R.table rules.now).property_count }
     requires table { E.table rest.old ≡ R.table rules.now }
@@ -133,6 +135,7 @@ pub fn next_break<E: Elements, R: Rules>(rules: &R, left: Element, rest: &mut E)
 /// The step of a pair table from `left`, which `right` follows.
 ///
 /// `rest` has the elements after `right`, and then those after the one that the step has read.
+#[inline(always)]
 pub fn pair_step<E: Elements>(
     table: &RuleBreakData,
     left: Element,
@@ -147,7 +150,11 @@ pub fn pair_step<E: Elements>(
     ensures end { E.end rest.new ≡ E.end rest.old }
     ensures table { E.table rest.new ≡ E.table rest.old }
 {
-    match table.entry(left.class, right.class) {
+    let entry = table.entry(left.class, right.class);
+    if let BreakState::Keep = entry {
+        return Step::Go(right);
+    }
+    match entry {
         BreakState::Keep => Step::Go(right),
         BreakState::Break => Step::Break(left.class, Some(right)),
         BreakState::NoMatch => Step::Break(left.class, Some(right)),
@@ -157,6 +164,7 @@ pub fn pair_step<E: Elements>(
 }
 
 /// The step where the entry of the two names a state.
+#[inline(always)]
 fn walk_step<E: Elements>(
     table: &RuleBreakData,
     state: u8,
@@ -197,6 +205,7 @@ fn walk_step<E: Elements>(
 }
 
 /// A boundary at the place that was saved: the elements are read again from there on.
+#[inline(always)]
 fn go_back<E: Elements>(rest: &mut E, saved_rest: E, saved: Element, class: u8) -> Step
     ensures rest { rest.new ≡ saved_rest }
     ensures step { result ≡ Step.Break class (Some saved) }

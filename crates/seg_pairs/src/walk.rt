@@ -32,6 +32,7 @@ pub struct Stop<E: Elements> {
 /// Walks on from a state that the entry of two elements names, as far as entries name states.
 ///
 /// `rest` has the elements after `right`, and then those after the one before which the walk stops.
+#[inline(never)]
 pub fn walk<E: Elements>(
     table: &RuleBreakData,
     start: u8,

@@ -155,9 +155,26 @@ fn character(code: u32) -> char
     character
 }
 
-/// Reads the first item where no ASCII stands: how many bytes it takes, and its character.
+/// Reads the first item where no ASCII stands: how many bytes it takes, and its character. The
+/// beginnings of most sequences of three bytes are tried first.
 #[inline(never)]
 fn read_wide(bytes: &[u8]) -> (usize, char)
+    requires { 0x80 ≤ slice_index bytes.now 0 }
+    ensures { result ≡ read_utf8 bytes.now }
+{
+    let first = bytes[0];
+    if 0xE1 <= first && first <= 0xEC {
+        return read_three(bytes, 0x80, 0xBF);
+    }
+    if first == 0xE0 {
+        return read_three(bytes, 0xA0, 0xBF);
+    }
+    read_other(bytes)
+}
+
+/// The same, in the order of Table 3-7.
+#[inline(never)]
+fn read_other(bytes: &[u8]) -> (usize, char)
     requires { 0x80 ≤ slice_index bytes.now 0 }
     ensures { result ≡ read_utf8 bytes.now }
 {
@@ -188,6 +205,7 @@ fn read_two(bytes: &[u8]) -> (usize, char)
 }
 
 /// Reads a sequence of three bytes, or what begins one, where the second byte is from `low` to `high`.
+#[inline(always)]
 fn read_three(bytes: &[u8], low: u8, high: u8) -> (usize, char)
     requires low { 0xE0 ≤ slice_index bytes.now 0 }
     requires high { slice_index bytes.now 0 ≤ 0xEF }

@@ -1,10 +1,17 @@
-use Rattle.seg_data.proofs.Ranges.{found-value, default-value}
+use Rattle.std.proofs.Common.{◌/◌, ◌<◌, length, arith}
+use Rattle.seg_data.proofs.Paged.{paged-within, paged-value}
 use Rattle.seg_data.proofs.provider.table.ClassTable.get32.Goals as goal
 
-pub returns-then-code_point-range : goal.returns-then-code_point-range
-returns-then-code_point-range c =
-    rw (← c.self.view_is) (found-value _ _ _ _ _ c.deref-range-items.ensures.value c.loop-range-test.true c.loop-range.invariant c.if-range-code_point.true c.if-code_point-range.true)
+pub index-requires-then-page-len : goal.index-requires-then-page-len
+index-requires-then-page-len c =
+    let pages = c.self.inside.pages.ok.0 in
+    let values = c.self.inside.values.ok.0 in
+    let within : c.args.code_point / 128 < length c.self.inside.pages.items = omega arith in
+    let there = paged-within _ _ _ c.args.code_point _ c.self.invariant.1 within c.index.ensures in
+    omega arith
 
-pub returns : goal.returns
-returns c =
-    rw (← c.self.view_is) (default-value _ _ _ _ _ c.deref-range-items.ensures.value c.loop-range-test.false c.loop-range.invariant)
+pub returns-then-page-len : goal.returns-then-page-len
+returns-then-page-len c =
+    let pages = c.self.inside.pages.ok.0 in
+    let within : c.args.code_point / 128 < length c.self.inside.pages.items = omega arith in
+    rw (← c.self.view_is) (paged-value _ _ _ c.args.code_point _ _ c.self.invariant.1 within c.index.ensures c.index-then-page-len.ensures)
