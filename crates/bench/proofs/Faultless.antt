@@ -6,17 +6,18 @@ use Rattle.std.proofs.lemmas.List.Sums.{AllPass-from_list_all}
 use Rattle.std.proofs.lemmas.Bool.{cases_eq}
 use Rattle.std.proofs.lemmas.Bool.Decides.{nat_tests}
 use Rattle.std.proofs.lemmas.Option.{none-some, same_Some}
-use Rattle.seg_data.specs.declared.provider.Acceptance.{Acceptance}
-use Rattle.seg_data.specs.declared.provider.Acceptance.TheVariants.{Continue, Accept, Conditional}
 use Rattle.seg_data.specs.declared.provider.DataError.{DataError}
 use Rattle.seg_data.specs.declared.provider.DataError.TheVariants.{RangeOrder, RangePast10FFFF, TableSize, ClassOutOfRange, StateOutOfRange, StartRowKeeps, ComplexItems, ComplexBelow0100, StateCount, TransitionSize, TransitionOutOfRange, SymbolOutOfRange, TooManyLookaheads, LookaheadOutOfRange, EndCycle, Stalls, MissingTailoring}
 use Rattle.seg_data.specs.Table.{named_values}
-use Rattle.seg_data.specs.Machine.{Machine, IsSymbolOf, symbol_count, step, state_at, walk}
-use Rattle.seg_data.specs.Pick.{HasStall, pick}
-use Rattle.seg_data.specs.Search.{AreFollowed, IsFollowed, enter, is_pick}
-use Rattle.seg_data.specs.Faults.{HasMachineFault, IsFaultless, IsStray, NamesPast}
-use Rattle.seg_data.proofs.Searches.{stall_free}
-use Rattle.seg_data.proofs.Walks.{walk-next, walk-end}
+use Rattle.seg_data.specs.Faults.{IsFaultless}
+use Rattle.seg_machine.specs.declared.provider.Acceptance.{Acceptance}
+use Rattle.seg_machine.specs.declared.provider.Acceptance.TheVariants.{Continue, Accept, Conditional}
+use Rattle.seg_machine.specs.Machine.{Machine, IsSymbolOf, symbol_count, step, state_at, walk}
+use Rattle.seg_machine.specs.Pick.{HasStall, pick}
+use Rattle.seg_machine.specs.Search.{AreFollowed, IsFollowed, enter, is_pick}
+use Rattle.seg_machine.specs.MachineFaults.{HasMachineFault, IsStray, NamesPast}
+use Rattle.seg_machine.proofs.Searches.{stall_free}
+use Rattle.seg_machine.proofs.Walks.{walk-next, walk-end}
 
 -- the numbers below a count pass
 unfoldable pub all_below : (ℕ → Bool) → ℕ → Bool

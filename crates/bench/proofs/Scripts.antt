@@ -3,8 +3,8 @@ use Rattle.std.proofs.Common.{◌≡◌, ℕ, Bool, true, false, refl}
 use Rattle.seg_data.specs.declared.provider.ComplexScript.{ComplexScript}
 use Rattle.seg_data.specs.declared.provider.ComplexScript.TheVariants.{None as NoScript}
 use Rattle.seg_data.specs.Table.{value_of}
-use Rattle.seg_data.specs.Machine.{Machine, symbol_and_script}
-use Rattle.seg_data.specs.Faults.{HasComplexBelow0100}
+use Rattle.seg_machine.specs.Machine.{Machine, symbol_and_script}
+use Rattle.seg_machine.specs.MachineFaults.{HasComplexBelow0100}
 use Rattle.bench.specs.Lines.{line_machine}
 use Rattle.bench.proofs.Faultless.{all_below, all_below-at}
 

@@ -1,7 +1,7 @@
 -- The bench machine of grapheme clusters, a hand-written one for tests and for the program.
 use Rattle.std.specs.Prelude.{ℕ, Option, None, List, [], ◌∷◌}
-use Rattle.seg_data.specs.declared.provider.Acceptance.{Acceptance}
-use Rattle.seg_data.specs.declared.provider.Acceptance.TheVariants.{Continue, Accept}
+use Rattle.seg_machine.specs.declared.provider.Acceptance.{Acceptance}
+use Rattle.seg_machine.specs.declared.provider.Acceptance.TheVariants.{Continue, Accept}
 use Rattle.icu_segmenter.specs.Table.{Table}
 use Rattle.icu_segmenter.specs.Machine.{Machine, machine}
 

@@ -1,7 +1,7 @@
 -- The bench pair tables of grapheme clusters and of sentences, hand-written ones for tests and for the program.
 use Rattle.std.specs.Prelude.{List, [], ◌∷◌}
-use Rattle.seg_data.specs.declared.provider.pairs.BreakState.{BreakState}
-use Rattle.seg_data.specs.declared.provider.pairs.BreakState.TheVariants.{Break, Keep, Index}
+use Rattle.seg_pairs.specs.declared.provider.pairs.BreakState.{BreakState}
+use Rattle.seg_pairs.specs.declared.provider.pairs.BreakState.TheVariants.{Break, Keep, Index}
 use Rattle.icu_segmenter.specs.Table.{Table}
 use Rattle.icu_segmenter.specs.PairTable.{PairTable, pair_table}
 

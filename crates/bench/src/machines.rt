@@ -1,7 +1,8 @@
 //! State machines from parts that stand in the code.
 
 ghost use Rattle.std.specs.Prelude.{◌≡◌, IfOk};
-ghost use Rattle.icu_segmenter.specs.Faults.{HasMachineFault, HasRangeFault, IsFaultless};
+ghost use Rattle.icu_segmenter.specs.Faults.{HasRangeFault, IsFaultless};
+ghost use Rattle.icu_segmenter.specs.MachineFaults.{HasMachineFault};
 ghost use Rattle.icu_segmenter.specs.Machine.{machine};
 ghost use Rattle.icu_segmenter.specs.Table.{table};
 

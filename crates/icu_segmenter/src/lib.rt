@@ -7,9 +7,19 @@
 
 pub use seg_clusters::grapheme::{GraphemeClusterSegmenter, GraphemeClusterSegmenterBorrowed};
 pub use seg_clusters::sentence::{SentenceSegmenter, SentenceSegmenterBorrowed};
-pub use seg_data::provider;
 pub use seg_lines::line::{LineSegmenter, LineSegmenterBorrowed};
 pub use seg_text::{indices, scaffold};
+
+/// The data of segmenters, each checked once, where it is made: tables of classes, state machines and pair tables
+/// with what replaces parts of them, and what is wrong where they are refused.
+pub mod provider {
+    pub use seg_data::provider::{ClassTable, ComplexScript, DataError, LanguageIdentifier};
+    pub use seg_lines::provider::{LineTailorings, LineTailoringsBorrowed};
+    pub use seg_machine::provider::{
+        Acceptance, Lookahead, SegmenterStateMachine, SegmenterStateMachineOverride, State, Symbol,
+    };
+    pub use seg_pairs::provider::{BreakState, RuleBreakData, RuleBreakDataOverride};
+}
 
 /// The iterators that the `segment_` calls give.
 pub mod iterators {

@@ -2,7 +2,7 @@
 use Rattle.std.proofs.Common.{◌≡◌, ℕ, List, map, drop}
 use Rattle.seg_text.specs.Items.{place_of, code_points}
 use Rattle.seg_text.specs.Places.{places}
-use Rattle.seg_data.proofs.Restarts.{restarts}
+use Rattle.seg_machine.proofs.Restarts.{restarts}
 use Rattle.seg_machine.proofs.Ordinals.{boundaries-ordinals}
 use Rattle.seg_pairs.proofs.Restarts.{restarts as pair-restarts, table-ordinals}
 use Rattle.seg_clusters.specs.Rules.{Rules, boundaries_by, ordinals_by, HasRestartBy}

@@ -1,8 +1,8 @@
 -- What is seen of the engine of a segmenter.
 use Rattle.std.specs.Prelude.{ℕ, List}
-use Rattle.seg_data.specs.PairData.{pair_table_of, override_of, owned_pair_table, owned_override}
-use Rattle.seg_data.specs.Tailored.{machine_of, owned_machine}
-use Rattle.seg_machine.specs.Boundaries.{places_left}
+use Rattle.seg_machine.specs.Tailored.{machine_of, owned_machine}
+use Rattle.seg_machine.specs.MachineBoundaries.{places_left}
+use Rattle.seg_pairs.specs.PairData.{pair_table_of, override_of, owned_pair_table, owned_override}
 use Rattle.seg_pairs.specs.PairBoundaries.{places_coming}
 use Rattle.seg_clusters.specs.declared.engine.Engine.{Engine}
 use Rattle.seg_clusters.specs.declared.engine.Engine.TheVariants.{Classic, Neo}

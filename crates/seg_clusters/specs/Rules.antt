@@ -1,12 +1,12 @@
 -- What the boundaries of a text are found by.
 use Rattle.std.specs.Prelude.{ℕ, Option, List}
 use Rattle.seg_text.specs.Places.{places}
-use Rattle.seg_data.specs.Machine.{Machine}
-use Rattle.seg_data.specs.PairTable.{PairTable}
-use Rattle.seg_data.specs.Restart.{RestartsBy}
-use Rattle.seg_data.specs.Segments.{machine_boundaries}
+use Rattle.seg_text.specs.Boundaries.{RestartsBy}
 use Rattle.seg_data.specs.Table.{Table}
-use Rattle.seg_machine.specs.Boundaries.{boundaries, IsSegmented}
+use Rattle.seg_machine.specs.Machine.{Machine}
+use Rattle.seg_machine.specs.Segments.{machine_boundaries}
+use Rattle.seg_machine.specs.MachineBoundaries.{boundaries, IsSegmented}
+use Rattle.seg_pairs.specs.PairTable.{PairTable}
 use Rattle.seg_pairs.specs.PairBoundaries.{pair_boundaries, table_boundaries, IsBroken}
 
 pub data Rules : Type 0 where

@@ -7,8 +7,9 @@ ghost use Rattle.seg_text.specs.Places.{places, IsCover};
 ghost use Rattle.seg_clusters.specs.Engine.{rules_in, owned_rules_in, boundaries_left};
 ghost use Rattle.seg_clusters.specs.Rules.{boundaries_by, IsFoundBy};
 
-use seg_data::inner::{PairData, PairDataBorrowed, TailoredMachine, TailoredMachineBorrowed};
 use seg_machine::rule_segmenter_v2;
+use seg_machine::tailored_machine::{TailoredMachine, TailoredMachineBorrowed};
+use seg_pairs::pair_data::{PairData, PairDataBorrowed};
 use seg_pairs::rule_segmenter_v1;
 use seg_text::inner::Cursor;
 

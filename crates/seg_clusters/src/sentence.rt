@@ -7,21 +7,22 @@ ghost use Rattle.seg_text.specs.Items.{place_of};
 ghost use Rattle.seg_text.specs.Latin1.{latin1_items};
 ghost use Rattle.seg_text.specs.Utf8.{utf8_items};
 ghost use Rattle.seg_text.specs.Utf16.{utf16_items};
-ghost use Rattle.seg_data.specs.Faults.{HasTailoringFault, IsFaultless, IsLowestFault};
-ghost use Rattle.seg_data.specs.Machine.{tailored};
-ghost use Rattle.seg_data.specs.Overriding.{table_in};
-ghost use Rattle.seg_data.specs.PairFaults.{HasPairDataFault};
 ghost use Rattle.seg_text.specs.Places.{places, IsCover};
+ghost use Rattle.seg_data.specs.Faults.{IsFaultless, IsLowestFault};
+ghost use Rattle.seg_machine.specs.MachineFaults.{HasTailoringFault};
+ghost use Rattle.seg_machine.specs.Machine.{tailored};
+ghost use Rattle.seg_pairs.specs.Overriding.{table_in};
+ghost use Rattle.seg_pairs.specs.PairFaults.{HasPairDataFault};
 ghost use Rattle.seg_clusters.specs.Engine.{rules_in, boundaries_left};
 ghost use Rattle.seg_clusters.specs.Rules.{boundaries_by, IsFoundBy};
 ghost use Rattle.seg_clusters.specs.Rules.Rules.{ByTable, ByMachine};
 
 use crate::engine::{Boundaries, Engine, OwnedEngine};
-use seg_data::inner::{PairData, PairDataBorrowed, TailoredMachine, TailoredMachineBorrowed};
-use seg_data::provider::{
-    DataError, LanguageIdentifier, RuleBreakData, RuleBreakDataOverride, SegmenterStateMachine,
-    SegmenterStateMachineOverride,
-};
+use seg_data::provider::{DataError, LanguageIdentifier};
+use seg_machine::provider::{SegmenterStateMachine, SegmenterStateMachineOverride};
+use seg_machine::tailored_machine::{TailoredMachine, TailoredMachineBorrowed};
+use seg_pairs::pair_data::{PairData, PairDataBorrowed};
+use seg_pairs::provider::{RuleBreakData, RuleBreakDataOverride};
 use seg_text::indices::{Latin1Indices, StrCharIndices, Utf8CharIndices, Utf16Indices};
 use seg_text::inner::Cursor;
 use seg_text::scaffold::{Latin1, PotentiallyIllFormedUtf8, RuleBreakType, Utf8, Utf16};

@@ -4,15 +4,3 @@ pub mod Ranges
 pub mod Runs
 pub mod Paged
 pub mod Lowest
-pub mod Steps
-pub mod Picks
-pub mod Walks
-pub mod Bare
-pub mod Sets
-pub mod Settled
-pub mod Searches
-pub mod Tables
-pub mod Machines
-pub mod Segmentations
-pub mod Pairs
-pub mod Restarts

@@ -1,15 +1,10 @@
 -- Options, and which of them have a value.
-use Rattle.std.proofs.Common.{◌≡◌, ℕ, ◌⊎◌, ◌||◌, Bool, true, false, Option, Some, None, refl, inl, inr}
+use Rattle.std.proofs.Common.{◌≡◌, ◌⊎◌, ◌||◌, Bool, true, false, Option, Some, None, refl, inl, inr}
 use Rattle.std.specs.Option.{is_some, option_map}
-use Rattle.seg_data.specs.Pick.{either}
 
 pub option-cases : {X : Type 0} (found : Option X) → (found ≡ None) ⊎ ((x : X) × (found ≡ Some x))
 option-cases None = inl refl
 option-cases (Some x) = inr (x, refl)
-
-pub some-either : (first second : Option (ℕ × ℕ)) → is_some (either first second) ≡ (is_some first || is_some second)
-some-either (Some found) second = refl
-some-either None second = refl
 
 pub some-map : {X Y : Type 0} (f : X → Y) (found : Option X) → is_some (option_map f found) ≡ is_some found
 some-map f (Some x) = refl

@@ -1,6 +1,4 @@
-//! Checked data for text segmentation: tables of classes and symbols, and state machines.
+//! Tables that give code points their classes, languages, and the faults of data.
 #![tactic(auto)]
 
-pub mod inner;
-pub mod laws;
 pub mod provider;

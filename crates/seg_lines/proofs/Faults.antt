@@ -2,8 +2,9 @@
 use Rattle.std.proofs.Common.{◌≡◌, ℕ, List, Option, inl, inr}
 use Rattle.seg_data.specs.declared.provider.ComplexScript.{ComplexScript}
 use Rattle.seg_data.specs.declared.provider.DataError.{DataError}
-use Rattle.seg_data.specs.Machine.{Machine, tailored}
-use Rattle.seg_data.specs.Faults.{HasComplexBelow0100, HasTailoringFault, IsFaultless, IsLowestFault}
+use Rattle.seg_machine.specs.Machine.{Machine, tailored}
+use Rattle.seg_data.specs.Faults.{IsFaultless, IsLowestFault}
+use Rattle.seg_machine.specs.MachineFaults.{HasComplexBelow0100, HasTailoringFault}
 use Rattle.seg_lines.specs.Lines.{HasFaultWith}
 use Rattle.std.specs.Prelude.{Some}
 

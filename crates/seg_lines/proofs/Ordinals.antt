@@ -1,9 +1,9 @@
 -- The boundaries of lines are the places of their ordinals.
 use Rattle.std.proofs.Common.{◌≡◌, ◌==◌, ℕ, Bool, List, [], ◌∷◌, map, drop, refl, ap}
 use Rattle.seg_text.specs.Items.{place_of, code_points}
-use Rattle.seg_data.specs.Machine.{Machine}
-use Rattle.seg_data.specs.Segments.{machine_boundaries}
-use Rattle.seg_machine.specs.Boundaries.{boundaries, placed}
+use Rattle.seg_machine.specs.Machine.{Machine}
+use Rattle.seg_machine.specs.Segments.{machine_boundaries}
+use Rattle.seg_machine.specs.MachineBoundaries.{boundaries, placed}
 use Rattle.seg_lines.specs.Lines.{line_ordinals, marked}
 
 marked-placed : (items : List (ℕ × ℕ)) (end : ℕ) (counted : List (ℕ × ℕ))

@@ -1,3 +1,4 @@
 pub mod Options
 pub mod Tailorings
 pub mod Lines
+pub mod LineTailorings

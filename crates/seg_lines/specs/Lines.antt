@@ -4,15 +4,15 @@ use Rattle.std.specs.Option.{option_map}
 use Rattle.seg_data.specs.declared.provider.ComplexScript.{ComplexScript}
 use Rattle.seg_data.specs.declared.provider.DataError.{DataError}
 use Rattle.seg_data.specs.declared.provider.DataError.TheVariants.{ComplexBelow0100, MissingTailoring}
-use Rattle.seg_data.specs.Machine.{Machine, tailored}
-use Rattle.seg_data.specs.Faults.{HasComplexBelow0100, HasTailoringFault}
-use Rattle.seg_data.specs.Segments.{machine_boundaries}
-use Rattle.seg_data.specs.Tailored.{machine_of, owned_machine}
-use Rattle.seg_machine.specs.Boundaries.{places_left}
+use Rattle.seg_machine.specs.Machine.{Machine, tailored}
+use Rattle.seg_machine.specs.MachineFaults.{HasComplexBelow0100, HasTailoringFault}
+use Rattle.seg_machine.specs.Segments.{machine_boundaries}
+use Rattle.seg_machine.specs.Tailored.{machine_of, owned_machine}
+use Rattle.seg_machine.specs.MachineBoundaries.{places_left}
 use Rattle.seg_lines.specs.declared.line.options.Tailoring.{Tailoring}
 use Rattle.seg_lines.specs.declared.line.options.MachineChoice.{MachineChoice}
 use Rattle.seg_lines.specs.declared.line.options.MachineChoice.TheVariants.{Clusters, Lines}
-use Rattle.seg_data.specs.declared.provider.line_tailorings.LineTailorings.{LineTailorings}
+use Rattle.seg_lines.specs.declared.provider.LineTailorings.{LineTailorings}
 use Rattle.seg_lines.specs.declared.line.LineSegmenter.{LineSegmenter}
 use Rattle.seg_lines.specs.declared.line.LineSegmenterBorrowed.{LineSegmenterBorrowed}
 use Rattle.seg_lines.specs.declared.line.LineBreakIterator.{LineBreakIterator}

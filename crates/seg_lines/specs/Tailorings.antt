@@ -3,7 +3,7 @@ use Rattle.std.specs.Prelude.{ℕ, Option, List}
 use Rattle.seg_data.specs.declared.provider.ComplexScript.{ComplexScript}
 use Rattle.seg_lines.specs.declared.line.options.Tailoring.{Tailoring}
 use Rattle.seg_lines.specs.declared.line.options.Tailoring.TheVariants as tailoring
-use Rattle.seg_data.specs.declared.provider.line_tailorings.LineTailorings.{LineTailorings}
+use Rattle.seg_lines.specs.declared.provider.LineTailorings.{LineTailorings}
 
 -- the map of the tailoring of this name, where it was handed in
 abbrev pub tailoring_named : LineTailorings → Tailoring → Option (List (ℕ × ComplexScript))

@@ -1,8 +1,8 @@
 //! Laws of the boundaries of lines.
 ghost use Rattle.std.specs.Prelude.{◌≡◌, ℕ, Bool, List, drop, map};
 ghost use Rattle.seg_text.specs.Items.{place_of, code_points};
-ghost use Rattle.seg_data.specs.Restart.{HasRestart};
-ghost use Rattle.seg_machine.specs.Boundaries.{boundaries};
+ghost use Rattle.seg_machine.specs.Restart.{HasRestart};
+ghost use Rattle.seg_machine.specs.MachineBoundaries.{boundaries};
 ghost use Rattle.seg_lines.specs.Lines.{line_machine, line_ordinals, marked};
 
 use crate::line::LineSegmenterBorrowed;

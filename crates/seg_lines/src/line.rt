@@ -6,8 +6,8 @@ ghost use Rattle.seg_text.specs.Latin1.{latin1_items};
 ghost use Rattle.seg_text.specs.Utf8.{utf8_items};
 ghost use Rattle.seg_text.specs.Utf16.{utf16_items};
 ghost use Rattle.seg_data.specs.Faults.{IsFaultless, IsLowestFault};
-ghost use Rattle.seg_data.specs.Tailored.{machine_of};
-ghost use Rattle.seg_machine.specs.Boundaries.{boundaries, places_left, IsSegmented, IsCover};
+ghost use Rattle.seg_machine.specs.Tailored.{machine_of};
+ghost use Rattle.seg_machine.specs.MachineBoundaries.{boundaries, places_left, IsSegmented, IsCover};
 ghost use Rattle.seg_lines.specs.Lines.{marked};
 ghost use Rattle.seg_lines.specs.Options.{machine_choice};
 
@@ -17,14 +17,14 @@ mod tailorings;
 #[cfg(test)]
 mod tests;
 
+use crate::provider::{LineTailorings, LineTailoringsBorrowed};
 use neo::{lent_line_machine, owned_line_machine};
 pub use options::{LineBreakOptions, LineBreakStrictness, LineBreakWordOption};
 use options::{MachineChoice, choice_of};
-use seg_data::inner::{TailoredMachine, TailoredMachineBorrowed};
-use seg_data::provider::{
-    DataError, LineTailorings, LineTailoringsBorrowed, SegmenterStateMachine,
-};
+use seg_data::provider::DataError;
+use seg_machine::provider::SegmenterStateMachine;
 use seg_machine::rule_segmenter_v2::RuleBreakIterator;
+use seg_machine::tailored_machine::{TailoredMachine, TailoredMachineBorrowed};
 use seg_text::indices::{Latin1Indices, StrCharIndices, Utf8CharIndices, Utf16Indices};
 use seg_text::inner::Cursor;
 use seg_text::scaffold::{Latin1, PotentiallyIllFormedUtf8, RuleBreakType, Utf8, Utf16};
@@ -127,7 +127,7 @@ pub struct LineSegmenterBorrowed<'data> {
 
 impl<'data> LineSegmenterBorrowed<'data> {
     ghost use Rattle.seg_lines.specs.Lines.{line_machine, lines_left, line_places, is_mandatory, chosen_machine, HasLineFault};
-    ghost use Rattle.seg_data.specs.LineTailorings.{lent};
+    ghost use Rattle.seg_lines.specs.LineTailorings.{lent};
 
     /// A segmenter by the state machine of lines, or by that of clusters where the strictness is
     /// `Anywhere` and the word option `Normal`, which refuses nothing. Otherwise

@@ -1,13 +1,14 @@
 -- The boundaries of a text rise strictly from its start to its end.
 use Rattle.std.proofs.Common.{◌≡◌, ◌≢◌, ℕ, ◌<◌, List, [], ◌∷◌, map, drop, refl, sym, subst}
-use Rattle.seg_data.specs.Machine.{Machine, symbols_of}
-use Rattle.seg_data.specs.Checked.{IsChecked}
-use Rattle.seg_data.proofs.Picks.{pick-bounds}
-use Rattle.seg_data.proofs.Segmentations.{segments-exist, symbols_of-text}
-use Rattle.seg_data.specs.Segments.{IsSegmentation, segments, ends_from}
+use Rattle.seg_text.specs.Boundaries.{ends_from}
 use Rattle.seg_text.specs.Items.{place_of, code_points, IsRising}
 use Rattle.seg_text.proofs.Places.{IsRising-drop, place_of-drop-lt}
-use Rattle.seg_machine.specs.Boundaries.{placed, places, boundaries, IsSegmented, RisesTo, IsCover}
+use Rattle.seg_machine.specs.Machine.{Machine, symbols_of}
+use Rattle.seg_machine.specs.Checked.{IsChecked}
+use Rattle.seg_machine.proofs.Picks.{pick-bounds}
+use Rattle.seg_machine.proofs.Segmentations.{segments-exist, symbols_of-text}
+use Rattle.seg_machine.specs.Segments.{IsSegmentation, segments}
+use Rattle.seg_machine.specs.MachineBoundaries.{placed, places, boundaries, IsSegmented, RisesTo, IsCover}
 use Rattle.seg_machine.proofs.Ends.{symbols-drop, ends-next}
 
 nonempty : (symbol : ℕ) (symbols : List ℕ) → symbol ∷ symbols ≢ []

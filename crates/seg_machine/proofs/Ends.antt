@@ -1,10 +1,11 @@
 -- The boundaries that are left, segment by segment.
 use Rattle.std.proofs.Common.{◌≡◌, ℕ, ◌+◌, List, [], ◌∷◌, map, drop, refl, arith}
 use Rattle.std.proofs.lemmas.List.{drop-drop, drop-map}
-use Rattle.seg_data.specs.Machine.{Machine, symbols_of}
-use Rattle.seg_data.specs.Segments.{segments, first_segments, ends_from}
+use Rattle.seg_text.specs.Boundaries.{ends_from}
 use Rattle.seg_text.specs.Items.{place_of, code_points}
-use Rattle.seg_machine.specs.Boundaries.{placed, boundaries, segment_ends}
+use Rattle.seg_machine.specs.Machine.{Machine, symbols_of}
+use Rattle.seg_machine.specs.Segments.{segments, first_segments}
+use Rattle.seg_machine.specs.MachineBoundaries.{placed, boundaries, segment_ends}
 
 pub boundaries-start : (m : Machine) (items : List (ℕ × ℕ)) (end : ℕ) → boundaries m items end ≡ (place_of items end, 0) ∷ segment_ends m items end
 unfolding boundaries segment_ends

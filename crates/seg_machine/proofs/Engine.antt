@@ -5,10 +5,10 @@ use Rattle.std.specs.Prelude.{⊤}
 use Rattle.std.specs.Iterator.{MakesProgress, item_count}
 use Rattle.seg_text.proofs.Cursor.{fewer-left}
 use Rattle.seg_text.specs.Items.{place_of, code_points}
-use Rattle.seg_data.specs.Machine.{Machine, symbols_of}
-use Rattle.seg_data.specs.Pick.{pick}
-use Rattle.seg_data.proofs.Segmentations.{segments-next}
-use Rattle.seg_machine.specs.Boundaries.{Coming, coming, places, places_left}
+use Rattle.seg_machine.specs.Machine.{Machine, symbols_of}
+use Rattle.seg_machine.specs.Pick.{pick}
+use Rattle.seg_machine.proofs.Segmentations.{segments-next}
+use Rattle.seg_machine.specs.MachineBoundaries.{Coming, coming, places, places_left}
 use Rattle.seg_machine.proofs.Ends.{boundaries-start, segment_ends-none, segment_ends-next}
 
 -- what a call owes that gives a boundary: it was the first that was left, and has its status

@@ -4,11 +4,11 @@ use Rattle.std.specs.Prelude.{slice_get, ◌↔◌, IfSome}
 use Rattle.std.specs.Option.{option_map, option_map_or}
 use Rattle.std.proofs.lemmas.Bool.{cases_lt, cases_eq, cond-true, cond-false, ne_eqb}
 use Rattle.std.proofs.lemmas.Option.{none-some, same_Some, slice_get_within}
-use Rattle.seg_data.specs.declared.provider.Acceptance.{Acceptance}
-use Rattle.seg_data.specs.declared.provider.Acceptance.TheVariants.{Continue, Accept, Conditional}
-use Rattle.seg_data.specs.Checked.{IsChecked}
-use Rattle.seg_data.specs.Machine.{Machine, IsTextSymbol, step, run, scan}
-use Rattle.seg_data.specs.Pick.{either, later, last_step, accepted, named, condition, first_condition, pick}
+use Rattle.seg_machine.specs.declared.provider.Acceptance.{Acceptance}
+use Rattle.seg_machine.specs.declared.provider.Acceptance.TheVariants.{Continue, Accept, Conditional}
+use Rattle.seg_machine.specs.Checked.{IsChecked}
+use Rattle.seg_machine.specs.Machine.{Machine, IsTextSymbol, step, run, scan}
+use Rattle.seg_machine.specs.Pick.{either, later, last_step, accepted, named, condition, first_condition, pick}
 use Rattle.seg_machine.specs.Scan.{entries}
 use Rattle.seg_machine.specs.Law.{AcceptsAt, NamesAt, HoldsAt, IsFirstHeld, NoneHolds, IsLastAccepted, IsPick}
 use Rattle.seg_machine.proofs.Scanned.{first_condition-none, first_condition-some, first_condition-nil, run-more}

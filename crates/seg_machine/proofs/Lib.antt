@@ -1,3 +1,14 @@
+pub mod Transitions
+pub mod Picks
+pub mod Walks
+pub mod Bare
+pub mod Sets
+pub mod Settled
+pub mod Searches
+pub mod Tables
+pub mod Machines
+pub mod Segmentations
+pub mod Restarts
 pub mod Steps
 pub mod Scanned
 pub mod Ends

@@ -2,9 +2,9 @@
 use Rattle.std.proofs.Common.{◌≡◌, ℕ, List, map, drop}
 use Rattle.seg_text.specs.Items.{place_of, code_points}
 use Rattle.seg_text.proofs.Places.{places-placed}
-use Rattle.seg_data.specs.Machine.{Machine}
-use Rattle.seg_data.specs.Segments.{machine_boundaries}
-use Rattle.seg_machine.specs.Boundaries.{boundaries, ordinals, places}
+use Rattle.seg_machine.specs.Machine.{Machine}
+use Rattle.seg_machine.specs.Segments.{machine_boundaries}
+use Rattle.seg_machine.specs.MachineBoundaries.{boundaries, ordinals, places}
 
 pub boundaries-ordinals : (m : Machine) (items : List (ℕ × ℕ)) (end : ℕ)
     → places (boundaries m items end) ≡ map (λ ordinal. place_of (drop ordinal items) end) (ordinals m (code_points items))

@@ -1,10 +1,11 @@
 -- The boundaries that small machines find, by computing them.
 use Rattle.std.proofs.Common.{◌≡◌, [], ◌∷◌, refl}
+use Rattle.seg_text.specs.Boundaries.{ends_from}
 use Rattle.seg_data.specs.Table.{value_of}
-use Rattle.seg_data.specs.Machine.{symbol_and_script, step, run, scan, state_at}
-use Rattle.seg_data.specs.Pick.{last_step, first_condition, pick}
-use Rattle.seg_data.specs.Segments.{segments, first_segments, ends_from}
-use Rattle.seg_machine.specs.Boundaries.{boundaries}
+use Rattle.seg_machine.specs.Machine.{symbol_and_script, step, run, scan, state_at}
+use Rattle.seg_machine.specs.Pick.{last_step, first_condition, pick}
+use Rattle.seg_machine.specs.Segments.{segments, first_segments}
+use Rattle.seg_machine.specs.MachineBoundaries.{boundaries}
 use Rattle.seg_machine.specs.Rows.{boundaries_of, condition_at_end, condition_on_own_name, accepted_two_past_end, accepted_from_start, start_accepts, named_past_end}
 
 -- the rows

@@ -5,15 +5,15 @@ use Rattle.std.specs.Option.{option_map, option_map_or}
 use Rattle.std.proofs.lemmas.Bool.{cases_lt, cases_eq, cond-true, cond-false, ne_eqb}
 use Rattle.std.proofs.Math.ListN.{set}
 use Rattle.std.proofs.lemmas.List.{map-append, length-map, length-replicate, drop_min, drop-drop, length-set, get_or-set_same, get_or-set_other}
-use Rattle.seg_data.specs.declared.provider.Acceptance.{Acceptance}
-use Rattle.seg_data.specs.declared.provider.Acceptance.TheVariants.{Continue, Accept, Conditional}
-use Rattle.seg_data.specs.Machine.{Machine, symbol_and_script, symbols_of, step, run, scan, state_at}
-use Rattle.seg_data.specs.Pick.{either, last_step, accepted, named, condition, first_condition, picked_step, pick}
-use Rattle.seg_data.specs.Checked.{IsChecked}
-use Rattle.seg_data.specs.Faults.{NamesPast}
-use Rattle.seg_data.proofs.Segmentations.{symbols_of-text}
 use Rattle.seg_text.specs.Items.{place_of, code_points}
-use Rattle.seg_machine.specs.Boundaries.{placed}
+use Rattle.seg_machine.specs.declared.provider.Acceptance.{Acceptance}
+use Rattle.seg_machine.specs.declared.provider.Acceptance.TheVariants.{Continue, Accept, Conditional}
+use Rattle.seg_machine.specs.Machine.{Machine, symbol_and_script, symbols_of, step, run, scan, state_at}
+use Rattle.seg_machine.specs.Pick.{either, last_step, accepted, named, condition, first_condition, picked_step, pick}
+use Rattle.seg_machine.specs.Checked.{IsChecked}
+use Rattle.seg_machine.specs.MachineFaults.{NamesPast}
+use Rattle.seg_machine.proofs.Segmentations.{symbols_of-text}
+use Rattle.seg_machine.specs.MachineBoundaries.{placed}
 use Rattle.seg_machine.specs.Scan.{future, entries, kept_for, held, accept_at, keep_at, Remembered, Scanned}
 use Rattle.seg_machine.proofs.Steps.{at_step, last_step-push}
 

@@ -1,8 +1,8 @@
 -- The last of some steps, where one more is taken.
 use Rattle.std.proofs.Common.{◌≡◌, ℕ, suc, Option, Some, None, List, [], ◌∷◌, ◌++◌, length, refl, ◌∙◌, ap}
 use Rattle.std.specs.Option.{option_map}
-use Rattle.seg_data.specs.declared.provider.Acceptance.{Acceptance}
-use Rattle.seg_data.specs.Pick.{either, later, last_step}
+use Rattle.seg_machine.specs.declared.provider.Acceptance.{Acceptance}
+use Rattle.seg_machine.specs.Pick.{either, later, last_step}
 
 -- the value of a state, at a step
 abbrev pub at_step : ℕ → Option ℕ → Option (ℕ × ℕ)

@@ -1,7 +1,7 @@
 -- The pick of a text in its own words, over the states that its scan enters. Index i is that of step i + 1.
 use Rattle.std.specs.Prelude.{◌≡◌, ℕ, suc, ◌<◌, ◌⊎◌, min, Option, Some, List, slice_get}
-use Rattle.seg_data.specs.declared.provider.Acceptance.{Acceptance}
-use Rattle.seg_data.specs.declared.provider.Acceptance.TheVariants.{Accept, Conditional}
+use Rattle.seg_machine.specs.declared.provider.Acceptance.{Acceptance}
+use Rattle.seg_machine.specs.declared.provider.Acceptance.TheVariants.{Accept, Conditional}
 
 -- this step enters a state that accepts, with a status
 pub record AcceptsAt (states : List (Acceptance × Option ℕ)) (i status : ℕ) : Type 0 where

@@ -1,10 +1,10 @@
 -- Small machines, and texts of so many letters, whose boundaries are known.
 use Rattle.std.specs.Prelude.{ℕ, zero, suc, ◌+◌, Option, Some, None, List, [], ◌∷◌}
-use Rattle.seg_data.specs.declared.provider.Acceptance.{Acceptance}
-use Rattle.seg_data.specs.declared.provider.Acceptance.TheVariants.{Continue, Accept, Conditional}
 use Rattle.seg_data.specs.Table.{table}
-use Rattle.seg_data.specs.Machine.{Machine, machine}
-use Rattle.seg_machine.specs.Boundaries.{boundaries}
+use Rattle.seg_machine.specs.declared.provider.Acceptance.{Acceptance}
+use Rattle.seg_machine.specs.declared.provider.Acceptance.TheVariants.{Continue, Accept, Conditional}
+use Rattle.seg_machine.specs.Machine.{Machine, machine}
+use Rattle.seg_machine.specs.MachineBoundaries.{boundaries}
 
 -- each code point has symbol 1; the transitions are those on symbol 0, state by state, and then those on symbol 1
 abbrev pub small : List (Acceptance × Option ℕ) → List ℕ → Machine

@@ -1,12 +1,12 @@
 -- What a scan keeps as it reads a text.
 use Rattle.std.specs.Prelude.{◌≡◌, ℕ, ◌<◌, Option, Some, None, List, [], ◌++◌, drop, map, length, replicate, slice_set, slice_index_or}
 use Rattle.std.specs.Option.{option_map}
-use Rattle.seg_data.specs.Machine.{Machine, symbols_of, run, scan, state_at}
-use Rattle.seg_data.specs.declared.provider.Acceptance.{Acceptance}
-use Rattle.seg_data.specs.declared.provider.Acceptance.TheVariants.{Conditional}
-use Rattle.seg_data.specs.Pick.{either, accepted, named, last_step, first_condition}
 use Rattle.seg_text.specs.Items.{code_points}
-use Rattle.seg_machine.specs.Boundaries.{placed}
+use Rattle.seg_machine.specs.Machine.{Machine, symbols_of, run, scan, state_at}
+use Rattle.seg_machine.specs.declared.provider.Acceptance.{Acceptance}
+use Rattle.seg_machine.specs.declared.provider.Acceptance.TheVariants.{Conditional}
+use Rattle.seg_machine.specs.Pick.{either, accepted, named, last_step, first_condition}
+use Rattle.seg_machine.specs.MachineBoundaries.{placed}
 
 -- the states that are still to come, from a state and what is left of the text
 abbrev pub future : Machine → ℕ → List (ℕ × ℕ) → List ℕ

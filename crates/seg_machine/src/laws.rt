@@ -1,12 +1,13 @@
-//! Laws of picks.
+//! Laws of picks and of segments.
 ghost use Rattle.std.specs.Prelude.{◌≡◌, ◌↔◌, ℕ, ◌+◌, Some, List, [], ◌∷◌, ◌++◌, length, replicate, All};
-ghost use Rattle.seg_data.specs.Machine.{IsTextSymbol, run, scan};
-ghost use Rattle.seg_data.specs.Pick.{pick};
+ghost use Rattle.seg_machine.specs.Machine.{IsTextSymbol, run, scan};
+ghost use Rattle.seg_machine.specs.Pick.{pick};
 ghost use Rattle.seg_machine.specs.Law.{IsPick};
 ghost use Rattle.seg_machine.specs.Rows.{boundaries_of, condition_at_end, condition_on_own_name, accepted_two_past_end, accepted_from_start, start_accepts, named_past_end};
 ghost use Rattle.seg_machine.specs.Scan.{entries};
+ghost use Rattle.seg_machine.specs.Segments.{IsSegmentation, segments};
 
-use seg_data::provider::SegmenterStateMachine;
+use crate::provider::SegmenterStateMachine;
 
 /// Does nothing. Its contract tells what a pick is: the first condition that holds decides, and
 /// otherwise the last acceptance; and that more symbols of the end change no scan.
@@ -15,6 +16,14 @@ pub fn picks_are_first_or_last(machine: &SegmenterStateMachine)
         ↔ IsPick (entries machine.now (scan machine.now symbols)) (length symbols) n status }
     ensures end { (symbols : List ℕ) (k : ℕ) → All (IsTextSymbol machine.now) symbols
         → run machine.now 0 (symbols ++ replicate (k + length machine.now.states) 0) ≡ scan machine.now symbols }
+{
+    machine.check();
+}
+
+/// Does nothing. Its contract tells that each text has one segmentation by the machine.
+pub fn segments_are_one(machine: &SegmenterStateMachine)
+    ensures exists { (symbols : List ℕ) → All (IsTextSymbol machine.now) symbols → IsSegmentation machine.now symbols (segments machine.now symbols) }
+    ensures only { (symbols : List ℕ) (others : List (ℕ × ℕ)) → IsSegmentation machine.now symbols others → others ≡ segments machine.now symbols }
 {
     machine.check();
 }

@@ -1,5 +1,7 @@
-//! The state machine engine: a text's segments are the picks of a checked machine.
+//! State machines, checked and tailored, and their engine: a text's segments are the picks of a checked machine.
 #![tactic(auto)]
 
 pub mod laws;
+pub mod provider;
 pub mod rule_segmenter_v2;
+pub mod tailored_machine;

@@ -4,16 +4,16 @@ ghost use Rattle.std.specs.Prelude.{◌≡◌, ◌≢◌, ◌<◌, ◌≤◌, �
 ghost use Rattle.std.specs.Option.{option_map, option_map_or};
 ghost use Rattle.std.specs.Iterator.{YieldsFirst, MakesProgress, item_count};
 ghost use Rattle.seg_text.specs.Items.{code_points, place_of};
-ghost use Rattle.seg_data.specs.Faults.{NamesPast};
-ghost use Rattle.seg_data.specs.Machine.{step, symbol_count, symbols_of};
-ghost use Rattle.seg_data.specs.Pick.{pick};
-ghost use Rattle.seg_data.specs.Tailored.{machine_of};
-ghost use Rattle.seg_machine.specs.Boundaries.{placed, boundaries, places_left, GivesNext, IsSegmented, IsCover};
+ghost use Rattle.seg_machine.specs.MachineFaults.{NamesPast};
+ghost use Rattle.seg_machine.specs.Machine.{step, symbol_count, symbols_of};
+ghost use Rattle.seg_machine.specs.Pick.{pick};
+ghost use Rattle.seg_machine.specs.Tailored.{machine_of};
+ghost use Rattle.seg_machine.specs.MachineBoundaries.{placed, boundaries, places_left, GivesNext, IsSegmented, IsCover};
 ghost use Rattle.seg_machine.specs.Scan.{accept_at, future, held, keep_at};
 
+use crate::provider::{Acceptance, Lookahead, SegmenterStateMachine, Symbol};
+use crate::tailored_machine::TailoredMachineBorrowed;
 use arrayvec::ArrayVec;
-use seg_data::inner::TailoredMachineBorrowed;
-use seg_data::provider::{Acceptance, Lookahead, SegmenterStateMachine, Symbol};
 use seg_text::inner::Cursor;
 use std::marker::Model;
 
@@ -30,8 +30,8 @@ pub struct RuleBreakIterator<'data, I: Cursor> {
 
 impl<'data, I: Cursor> Model for RuleBreakIterator<'data, I> {
     ghost use Rattle.std.specs.Prelude.{◌≡◌, false};
-    ghost use Rattle.seg_data.specs.Tailored.{machine_of};
-    ghost use Rattle.seg_machine.specs.Boundaries.{Coming, coming};
+    ghost use Rattle.seg_machine.specs.Tailored.{machine_of};
+    ghost use Rattle.seg_machine.specs.MachineBoundaries.{Coming, coming};
 
     ghost Value = { Coming };
 

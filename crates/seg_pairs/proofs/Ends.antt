@@ -5,11 +5,11 @@ use Rattle.std.proofs.lemmas.List.{drop-drop, drop-map, length-map}
 use Rattle.seg_text.specs.Items.{place_of, code_points, IsRising}
 use Rattle.seg_text.specs.Places.{placed, places, RisesTo, IsCover}
 use Rattle.seg_text.proofs.Places.{IsRising-drop, place_of-drop-lt}
-use Rattle.seg_data.specs.declared.inner.pairs.PairDataBorrowed.{PairDataBorrowed}
-use Rattle.seg_data.specs.PairData.{pair_table_of, override_of, class_by}
-use Rattle.seg_data.specs.PairTable.{PairTable}
-use Rattle.seg_data.specs.Segments.{ends_from}
+use Rattle.seg_text.specs.Boundaries.{ends_from}
 use Rattle.seg_data.specs.Table.{Table}
+use Rattle.seg_pairs.specs.declared.pair_data.PairDataBorrowed.{PairDataBorrowed}
+use Rattle.seg_pairs.specs.PairData.{pair_table_of, override_of, class_by}
+use Rattle.seg_pairs.specs.PairTable.{PairTable}
 use Rattle.seg_pairs.specs.declared.elements.Element.{Element}
 use Rattle.seg_pairs.specs.Verdict.{Verdict, verdict}
 use Rattle.seg_pairs.specs.Verdict.Verdict.{BreakAfter, GoAfter, RunBegins}

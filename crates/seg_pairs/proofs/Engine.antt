@@ -5,9 +5,9 @@ use Rattle.std.specs.Iterator.{YieldsFirst, MakesProgress, item_count}
 use Rattle.seg_text.proofs.Cursor.{fewer-left}
 use Rattle.seg_text.specs.Items.{place_of, IsRising}
 use Rattle.seg_text.specs.Places.{IsCover, places}
-use Rattle.seg_data.specs.declared.inner.pairs.PairDataBorrowed.{PairDataBorrowed}
-use Rattle.seg_data.specs.PairData.{pair_table_of, override_of}
-use Rattle.seg_data.specs.PairTable.{PairTable}
+use Rattle.seg_pairs.specs.declared.pair_data.PairDataBorrowed.{PairDataBorrowed}
+use Rattle.seg_pairs.specs.PairData.{pair_table_of, override_of}
+use Rattle.seg_pairs.specs.PairTable.{PairTable}
 use Rattle.seg_pairs.specs.declared.elements.Element.{Element}
 use Rattle.seg_pairs.specs.declared.rules.Outcome.TheVariants.{Break as BreakOut, Run as RunOut}
 use Rattle.seg_pairs.specs.Verdict.{Verdict, verdict}

@@ -6,11 +6,10 @@ use Rattle.std.proofs.lemmas.List.{drop-drop, drop-map}
 use Rattle.seg_text.specs.Items.{place_of, code_points}
 use Rattle.seg_text.specs.Places.{places}
 use Rattle.seg_text.proofs.Places.{places-placed}
-use Rattle.seg_data.specs.PairTable.{PairTable}
-use Rattle.seg_data.specs.Segments.{ends_from}
-use Rattle.seg_data.specs.Restart.{RestartsBy, shifted}
+use Rattle.seg_text.specs.Boundaries.{RestartsBy, ends_from, shifted}
+use Rattle.seg_text.proofs.Boundaries.{ends-start, ends-cons, none-found}
 use Rattle.seg_data.specs.Table.{Table}
-use Rattle.seg_data.proofs.Restarts.{ends-start, ends-cons, none-found}
+use Rattle.seg_pairs.specs.PairTable.{PairTable}
 use Rattle.seg_pairs.specs.Verdict.{Verdict, verdict}
 use Rattle.seg_pairs.specs.Breaks.{breaks, IsForward, HasNoRun}
 use Rattle.seg_pairs.specs.PairBoundaries.{classes_by, pair_boundaries, pair_ordinals, table_boundaries}

@@ -1,7 +1,7 @@
 -- The boundaries that small tables find, by computing them.
 use Rattle.std.proofs.Common.{◌≡◌, [], ◌∷◌, refl}
-use Rattle.seg_data.specs.declared.provider.pairs.BreakState.TheVariants.{Index, Intermediate}
-use Rattle.seg_data.specs.PairTable.{entry_of}
+use Rattle.seg_pairs.specs.declared.provider.pairs.BreakState.TheVariants.{Index, Intermediate}
+use Rattle.seg_pairs.specs.PairTable.{entry_of}
 use Rattle.seg_pairs.specs.Breaks.{breaks, breaks_within, chain, chain_within}
 use Rattle.seg_pairs.specs.Rows.{breaks_of, retreating, classed}
 use Rattle.seg_pairs.specs.Verdict.{verdict, named_verdict}

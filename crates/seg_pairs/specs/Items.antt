@@ -1,7 +1,7 @@
 -- The items of a text as elements.
 use Rattle.std.specs.Prelude.{ℕ, List, map}
-use Rattle.seg_data.specs.declared.inner.pairs.PairDataBorrowed.{PairDataBorrowed}
-use Rattle.seg_data.specs.PairData.{class_by}
+use Rattle.seg_pairs.specs.declared.pair_data.PairDataBorrowed.{PairDataBorrowed}
+use Rattle.seg_pairs.specs.PairData.{class_by}
 use Rattle.seg_pairs.specs.declared.elements.Element.{Element}
 
 -- an item with the class of its code point

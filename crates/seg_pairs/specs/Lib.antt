@@ -1,3 +1,9 @@
+pub mod BreakStates
+pub mod PairTable
+pub mod PairFaults
+pub mod SamePairs
+pub mod PairData
+pub mod Overriding
 pub mod Elements
 pub mod Items
 pub mod Walk

@@ -2,9 +2,9 @@
 use Rattle.std.specs.Prelude.{◌≡◌, ℕ, zero, suc, Bool, Option, List, [], ◌∷◌, drop, map, slice_index_or, if◌then◌else◌, MatchOption}
 use Rattle.seg_text.specs.Items.{code_points}
 use Rattle.seg_text.specs.Places.{placed, places}
-use Rattle.seg_data.specs.PairTable.{PairTable, class_of}
-use Rattle.seg_data.specs.Segments.{ends_from}
+use Rattle.seg_text.specs.Boundaries.{ends_from}
 use Rattle.seg_data.specs.Table.{Table}
+use Rattle.seg_pairs.specs.PairTable.{PairTable, class_of}
 use Rattle.seg_pairs.specs.declared.elements.Element.{Element}
 use Rattle.seg_pairs.specs.Breaks.{AreBreaks, breaks}
 use Rattle.seg_pairs.specs.Elements.{classes_of, place_at}

@@ -1,9 +1,9 @@
 -- Small tables whose boundaries are known: class 1 is x and 2 is y, 3 and 4 are composites.
 use Rattle.std.specs.Prelude.{ℕ, List, [], ◌∷◌}
-use Rattle.seg_data.specs.declared.provider.pairs.BreakState.{BreakState}
-use Rattle.seg_data.specs.declared.provider.pairs.BreakState.TheVariants.{Break, Keep, NoMatch, Index}
-use Rattle.seg_data.specs.PairTable.{PairTable, pair_table}
 use Rattle.seg_data.specs.Table.{table}
+use Rattle.seg_pairs.specs.declared.provider.pairs.BreakState.{BreakState}
+use Rattle.seg_pairs.specs.declared.provider.pairs.BreakState.TheVariants.{Break, Keep, NoMatch, Index}
+use Rattle.seg_pairs.specs.PairTable.{PairTable, pair_table}
 use Rattle.seg_pairs.specs.Breaks.{breaks}
 use Rattle.seg_pairs.specs.Verdict.{verdict}
 

@@ -1,12 +1,12 @@
 //! Laws of boundaries by pair tables.
 
 ghost use Rattle.std.specs.Prelude.{◌≡◌, ℕ, List, [], ◌∷◌, Contains};
-ghost use Rattle.seg_data.specs.declared.provider.pairs.BreakState.TheVariants.{Index, Intermediate};
+ghost use Rattle.seg_pairs.specs.declared.provider.pairs.BreakState.TheVariants.{Index, Intermediate};
 ghost use Rattle.seg_pairs.specs.Breaks.{AreBreaks, breaks};
 ghost use Rattle.seg_pairs.specs.Rows.{breaks_of, retreating, classed};
 ghost use Rattle.seg_pairs.specs.Verdict.{verdict, complex_verdict};
 
-use seg_data::provider::RuleBreakData;
+use crate::provider::RuleBreakData;
 
 /// Does nothing. Its contract tells that each list of classes has one list of boundaries by the table.
 pub fn breaks_are_one(table: &RuleBreakData)

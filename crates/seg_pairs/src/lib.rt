@@ -1,8 +1,10 @@
-//! The pair table engine: a text's boundaries by the pairs of its classes.
+//! Pair tables, checked, with their overrides, and their engine: a text's boundaries by the pairs of its classes.
 #![tactic(auto)]
 
 pub mod elements;
 pub mod laws;
+pub mod pair_data;
+pub mod provider;
 pub mod rule_segmenter_v1;
 pub mod rules;
 pub mod walk;

@@ -4,14 +4,14 @@ ghost use Rattle.std.specs.Prelude.{◌≡◌, ⊤};
 ghost use Rattle.std.specs.Iterator.{YieldsFirst, MakesProgress, item_count};
 ghost use Rattle.seg_text.specs.Items.{place_of};
 ghost use Rattle.seg_text.specs.Places.{IsCover};
-ghost use Rattle.seg_data.specs.PairData.{pair_table_of, override_of};
+ghost use Rattle.seg_pairs.specs.PairData.{pair_table_of, override_of};
 ghost use Rattle.seg_pairs.specs.PairBoundaries.{table_boundaries, places_coming, status_of, GivesBreak, IsBroken};
 ghost use Rattle.seg_pairs.specs.Elements.{onto, place_at};
 ghost use Rattle.seg_pairs.specs.Items.{elements_of};
 
 use crate::elements::{Element, Elements, Items};
+use crate::pair_data::PairDataBorrowed;
 use crate::rules::{Outcome, Pairs, next_break};
-use seg_data::inner::PairDataBorrowed;
 use seg_text::inner::Cursor;
 use std::marker::Model;
 
@@ -29,7 +29,7 @@ pub struct RuleBreakIterator<'data, I: Cursor> {
 
 impl<'data, I: Cursor> Model for RuleBreakIterator<'data, I> {
     ghost use Rattle.std.specs.Prelude.{◌≡◌, ◌<◌, false, None, [], IfSome};
-    ghost use Rattle.seg_data.specs.PairData.{pair_table_of};
+    ghost use Rattle.seg_pairs.specs.PairData.{pair_table_of};
     ghost use Rattle.seg_pairs.specs.PairBoundaries.{Coming, coming};
     ghost use Rattle.seg_pairs.specs.Elements.{onto};
     ghost use Rattle.seg_pairs.specs.Items.{elements_of};

@@ -1,12 +1,12 @@
 //! Walks through the states of a pair table.
 
 ghost use Rattle.std.specs.Prelude.{◌≡◌, ◌<◌, ◌||◌, ◌⊎◌, Some, None, List, ◌∷◌, IfSome, MatchOption, if◌then◌else◌};
-ghost use Rattle.seg_data.specs.BreakStates.{is_intermediate, named_state};
+ghost use Rattle.seg_pairs.specs.BreakStates.{is_intermediate, named_state};
 ghost use Rattle.seg_pairs.specs.Stop.{IsStop, class_at};
 ghost use Rattle.seg_pairs.specs.Walk.{is_class};
 
 use crate::elements::{Element, Elements};
-use seg_data::provider::{BreakState, RuleBreakData};
+use crate::provider::{BreakState, RuleBreakData};
 
 /// Where a walk stops, and what it saved.
 #[derive(Drop)]

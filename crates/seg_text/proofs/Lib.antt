@@ -10,3 +10,4 @@ pub mod Utf8Stable
 pub mod Str
 pub mod StrTiling
 pub mod Places
+pub mod Boundaries

@@ -6,3 +6,4 @@ pub mod Cursor
 pub mod Reader
 pub mod Rising
 pub mod Places
+pub mod Boundaries

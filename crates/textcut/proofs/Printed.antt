@@ -2,7 +2,7 @@
 use Rattle.std.proofs.Common.{◌≡◌, ℕ, Bool, List, [], ◌∷◌, map, Option, Result, Ok, Err, OnOk, refl, sym, ◌∙◌, ap}
 use Rattle.std.specs.Iterator.{YieldsFirst, Drains}
 use Rattle.std.specs.Io.KnownBytes.{Appends}
-use Rattle.icu_segmenter.specs.Boundaries.{places}
+use Rattle.icu_segmenter.specs.MachineBoundaries.{places}
 use Rattle.icu_segmenter.specs.Lines.{marked}
 use Rattle.textcut.specs.Lines.{lines_of}
 

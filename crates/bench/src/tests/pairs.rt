@@ -12,7 +12,7 @@ use icu_segmenter::{
     GraphemeClusterSegmenter, GraphemeClusterSegmenterBorrowed, SentenceSegmenter,
     SentenceSegmenterBorrowed,
 };
-use seg_data::inner::PairDataBorrowed;
+use seg_pairs::pair_data::PairDataBorrowed;
 use seg_pairs::rule_segmenter_v1::RuleBreakIterator;
 use std::alloc::{AllocError, Global};
 use std::test::Fail;

@@ -82,29 +82,29 @@ impl ClassTable {
         run_from(self.ranges.as_slice(), self.default, code_point).0
     }
 
-    // The ranges, from the lowest on.
-    pub(super) fn ranges(&self) -> &[(u32, u32, u8)]
+    /// The ranges, from the lowest on: each is (first, last, value), with both ends in it.
+    pub fn ranges(&self) -> &[(u32, u32, u8)]
         ensures { result.now ≡ self.now.ranges }
     {
         self.ranges.as_slice()
     }
 
-    // The value of the code points that no range holds.
-    pub(super) fn default(&self) -> u8
+    /// The value of the code points that no range holds.
+    pub fn default(&self) -> u8
         ensures { result ≡ self.now.default }
     {
         self.default
     }
 
-    // Whether the value is the default or that of a range.
-    pub(crate) fn names(&self, value: u8) -> bool
+    /// Whether the value is the default or that of a range.
+    pub fn names(&self, value: u8) -> bool
         ensures { IsTrue result ↔ Contains (named_values self.now) value }
     {
         self.default() == value || has_value(self.ranges(), value)
     }
 
-    // Whether the default or the value of a range is this one or above it.
-    pub(crate) fn names_from(&self, value: u8) -> bool
+    /// Whether the default or the value of a range is this one or above it.
+    pub fn names_from(&self, value: u8) -> bool
         ensures { IsTrue result ↔ Any (λ named. value ≤ named) (named_values self.now) }
     {
         value <= self.default() || has_value_from(self.ranges(), value)

@@ -3,17 +3,18 @@ ghost use Rattle.std.specs.Prelude.{◌≡◌, Some, None, IfOk, IfErr};
 ghost use Rattle.std.specs.Option.{option_map};
 ghost use Rattle.seg_data.specs.declared.provider.DataError.TheVariants.{MissingTailoring};
 ghost use Rattle.seg_data.specs.Faults.{IsFaultless, IsLowestFault};
-ghost use Rattle.seg_data.specs.Machine.{tailored};
-ghost use Rattle.seg_data.specs.Tailored.{machine_of, owned_machine};
+ghost use Rattle.seg_machine.specs.Machine.{tailored};
+ghost use Rattle.seg_machine.specs.Tailored.{machine_of, owned_machine};
 ghost use Rattle.seg_lines.specs.Lines.{line_machine_for, tailoring_for, HasFaultWith};
-ghost use Rattle.seg_data.specs.LineTailorings.{lent};
+ghost use Rattle.seg_lines.specs.LineTailorings.{lent};
 
 use crate::line::options::Tailoring;
 use crate::line::tailorings::{lent_named, owned_named};
-use seg_data::inner::{TailoredMachine, TailoredMachineBorrowed, has_complex_below_0100};
-use seg_data::provider::{
-    DataError, LineTailorings, LineTailoringsBorrowed, SegmenterStateMachine,
-    SegmenterStateMachineOverride,
+use crate::provider::{LineTailorings, LineTailoringsBorrowed};
+use seg_data::provider::DataError;
+use seg_machine::provider::{SegmenterStateMachine, SegmenterStateMachineOverride};
+use seg_machine::tailored_machine::{
+    TailoredMachine, TailoredMachineBorrowed, has_complex_below_0100,
 };
 
 // The machine of lines with the tailoring of this name, if there is a name, all lent.

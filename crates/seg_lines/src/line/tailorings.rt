@@ -1,11 +1,12 @@
 //! The tailorings of machines of lines, by their names.
 ghost use Rattle.std.specs.Prelude.{◌≡◌};
 ghost use Rattle.std.specs.Option.{option_map};
-ghost use Rattle.seg_data.specs.LineTailorings.{lent};
+ghost use Rattle.seg_lines.specs.LineTailorings.{lent};
 ghost use Rattle.seg_lines.specs.Tailorings.{tailoring_named};
 
 use crate::line::options::Tailoring;
-use seg_data::provider::{LineTailorings, LineTailoringsBorrowed, SegmenterStateMachineOverride};
+use crate::provider::{LineTailorings, LineTailoringsBorrowed};
+use seg_machine::provider::SegmenterStateMachineOverride;
 
 // The tailoring of this name, lent.
 pub(super) fn lent_named<'data>(

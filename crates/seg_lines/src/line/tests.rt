@@ -1,9 +1,9 @@
 use crate::line::options::{MachineChoice, Tailoring, choice_of};
 use crate::line::tailorings::{lent_named, owned_named};
 use crate::line::{LineBreakOptions, LineBreakStrictness, LineBreakWordOption};
-use seg_data::provider::{
-    ComplexScript, LanguageIdentifier, LineTailorings, SegmenterStateMachineOverride,
-};
+use crate::provider::LineTailorings;
+use seg_data::provider::{ComplexScript, LanguageIdentifier};
+use seg_machine::provider::SegmenterStateMachineOverride;
 use std::test::Fail;
 
 const BREAK_ALL: Option<LineBreakWordOption> = Some(LineBreakWordOption::BreakAll);

@@ -1,6 +1,6 @@
 -- The machine is simple, so it has no fault.
 use Rattle.std.proofs.Common.{rules}
-use Rattle.seg_data.specs.Machine.{step, state_at, symbol_count}
+use Rattle.seg_machine.specs.Machine.{step, state_at, symbol_count}
 use Rattle.bench.proofs.Faultless.{all_below, simple-faultless}
 use Rattle.bench.proofs.sentences.sentence_machine.Goals as goal
 

@@ -1,7 +1,7 @@
 -- The iterator has all the boundaries left when it is made.
 use Rattle.std.proofs.Common.{◌∙◌, ap, length}
 use Rattle.icu_segmenter.specs.Lines.{line_places}
-use Rattle.icu_segmenter.specs.Boundaries.{boundaries}
+use Rattle.icu_segmenter.specs.MachineBoundaries.{boundaries}
 use Rattle.icu_segmenter.specs.Places.{places}
 use Rattle.icu_segmenter.specs.Utf8.{utf8_items}
 use Rattle.textcut.proofs.Printed.{lines-are_left, same-places}

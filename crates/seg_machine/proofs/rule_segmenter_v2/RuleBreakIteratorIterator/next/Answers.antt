@@ -1,5 +1,5 @@
 use Rattle.std.proofs.Common.{◌∙◌, ap, sym, refl}
-use Rattle.seg_machine.specs.Boundaries.{places}
+use Rattle.seg_machine.specs.MachineBoundaries.{places}
 use Rattle.seg_machine.proofs.Engine.{gives-start, gives-next, end-left, not_at_end}
 use Rattle.seg_machine.proofs.rule_segmenter_v2.RuleBreakIteratorIterator.next.Goals as goal
 

@@ -1,8 +1,8 @@
 use Rattle.std.proofs.Common.{◌∷◌, refl, ap, subst}
 use Rattle.std.proofs.lemmas.Bool.{both_ways}
-use Rattle.seg_data.specs.PairData.{pair_table_of}
-use Rattle.seg_data.specs.PairTable.{PairTable}
 use Rattle.seg_text.specs.Places.{places}
+use Rattle.seg_pairs.specs.PairData.{pair_table_of}
+use Rattle.seg_pairs.specs.PairTable.{PairTable}
 use Rattle.seg_pairs.specs.Breaks.{chain}
 use Rattle.seg_pairs.specs.PairBoundaries.{element_verdict}
 use Rattle.seg_pairs.specs.Items.{elements_of}

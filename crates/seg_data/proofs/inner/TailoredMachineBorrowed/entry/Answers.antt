@@ -1,7 +1,0 @@
-use Rattle.std.proofs.Common.{refl}
-use Rattle.seg_data.specs.Machine.{state_at}
-use Rattle.seg_data.proofs.inner.TailoredMachineBorrowed.entry.Goals as goal
-
-pub returns : goal.returns
-unfolding state_at
-returns c = rw c.states.ensures refl

@@ -1,8 +1,0 @@
-use Rattle.std.proofs.Common.{refl}
-use Rattle.seg_data.proofs.Machines.{stray-parts}
-use Rattle.seg_data.proofs.provider.machine.SegmenterStateMachine.has_stray_symbol.Goals as goal
-
-pub returns : goal.returns
-returns c =
-    stray-parts c.args.self.now _ _ _ _ _ c.symbols.ensures (rw (c.states.ensures, c.transitions.ensures) refl) c.pseudo_symbol_shift-shift.ensures
-    c.has_stray_symbol.ensures

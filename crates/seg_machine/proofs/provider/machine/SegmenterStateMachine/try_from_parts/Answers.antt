@@ -1,0 +1,16 @@
+use Rattle.std.proofs.lemmas.Result.{err_from_is_err_and}
+use Rattle.seg_machine.proofs.Machines.{checked-from}
+use Rattle.seg_machine.proofs.provider.machine.SegmenterStateMachine.try_from_parts.Goals as goal
+
+pub returns-in_err-check_parts-clause-refused : goal.returns-in_err-check_parts-clause-refused
+returns-in_err-check_parts-clause-refused c =
+    let p = err_from_is_err_and c.from_residual.result c.from_residual.ensures.1 in
+    rw (p.1, p.2, ← c.as_slice.ensures.value, ← c.as_slice-2.ensures.value, ← c.as_slice-3.ensures.value) c.in_err-check_parts.ensures.refused
+
+pub invariant_of-result : goal.invariant_of-result
+invariant_of-result c =
+    checked-from _ (rw (← c.as_slice.ensures.value, ← c.as_slice-2.ensures.value, ← c.as_slice-3.ensures.value) c.in_ok-check_parts.ensures.accepted)
+
+pub returns-clause-stall_free : goal.returns-clause-stall_free
+returns-clause-stall_free c =
+    (checked-from _ (rw (← c.as_slice.ensures.value, ← c.as_slice-2.ensures.value, ← c.as_slice-3.ensures.value) c.in_ok-check_parts.ensures.accepted)).stall_free

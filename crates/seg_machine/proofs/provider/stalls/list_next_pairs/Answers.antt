@@ -1,0 +1,40 @@
+use Rattle.std.proofs.Common.{◌<◌, length, sym, ap, arith}
+use Rattle.seg_machine.specs.Machine.{IsTextSymbol, symbol_count, state_at}
+use Rattle.seg_machine.specs.Search.{bare}
+use Rattle.seg_machine.proofs.Searches.{stalls-step, listing-push, listing-stop}
+use Rattle.seg_machine.proofs.provider.stalls.list_next_pairs.Goals as goal
+use Rattle.seg_machine.proofs.provider.stalls.list_next_pairs.Goals.{in-Some-enter_state, in_default-enter_state}
+
+pub next_of-requires-clause-symbol : goal.next_of-requires-clause-symbol
+unfolding symbol_count
+next_of-requires-clause-symbol c = omega arith
+
+pub returns-in_default-clause-stalls : goal.returns-in_default-clause-stalls
+unfolding symbol_count
+returns-in_default-clause-stalls c =
+    λ stalls. stalls-step (bare c.args.states.now c.args.transitions.now) c.args.state c.args.kept c.loop-symbol.symbol c.requires.pair (omega arith, omega arith) (sym c.in_default.ensures.value)
+
+pub enter_state-requires-clause-named : goal.enter_state-requires-clause-named
+unfolding state_at
+enter_state-requires-clause-named c = c.requires.bounded.lookaheads c.in-Some.next
+
+pub loop-symbol-preserved : goal.loop-symbol-preserved
+unfolding symbol_count state_at
+loop-symbol-preserved c =
+    let m = bare c.args.states.now c.args.transitions.now in
+    let text : IsTextSymbol m c.loop-symbol.symbol = (omega arith, omega arith) in
+    let leads = sym c.in-Some.ensures.value in
+    let within : c.in-Some.next < length c.args.states.now = c.in-Some.ensures.state in
+    elim c.match-enter_state.branch [
+      | in-Some-enter_state w ↦
+          rw (w.found-is, ap (λ v. v.items) w.pairs-is)
+          (listing-push m _ _ _ _ _ _ _ _ c.in-Some.next w.in-Some-enter_state.after c.loop-symbol.invariant c.requires.pair text leads within
+          (sym w.in-Some-enter_state.ensures.after) w.in-Some-enter_state.ensures.in_range w.list_pair.ensures.table w.list_pair.ensures.listed w.list_pair.ensures.more)
+      | in_default-enter_state w ↦
+          rw (w.found-is, ap (λ v. v.items) w.pairs-is)
+          (listing-stop m _ _ _ _ _ _ c.in-Some.next c.loop-symbol.invariant leads (sym w.in_default-enter_state.ensures.after))
+    ]
+
+pub returns-clause-followed : goal.returns-clause-followed
+unfolding symbol_count
+returns-clause-followed c = λ all symbol below above. c.loop-symbol.invariant.followed symbol (omega arith) above

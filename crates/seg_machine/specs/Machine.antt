@@ -1,0 +1,83 @@
+-- State machines over the symbols of code points.
+use Rattle.std.specs.Prelude.{ℕ, zero, suc, ◌+◌, ◌-◌, ◌*◌, ◌/◌, ◌<◌, ◌==◌, nat_lt, if◌then◌else◌, Option, Some, None, List, [], ◌∷◌, ◌++◌, length, map, replicate, slice_index, slice_index_or}
+use Rattle.std.specs.Option.{option_map_or, option_and_then}
+use Rattle.seg_data.specs.declared.provider.ComplexScript.{ComplexScript}
+use Rattle.seg_data.specs.declared.provider.ComplexScript.TheVariants.{None as NoScript}
+use Rattle.seg_data.specs.Table.{Table, value_of}
+use Rattle.seg_machine.specs.declared.provider.Acceptance.{Acceptance}
+use Rattle.seg_machine.specs.declared.provider.Acceptance.TheVariants.{Continue}
+
+-- each state says what it accepts, and names at most one lookahead
+pub record Machine : Type 0 where
+  pub symbols : Table
+  pub states : List (Acceptance × Option ℕ)
+  pub transitions : List ℕ
+  pub num_lookaheads : ℕ
+  pub pseudo_symbol_shift : ℕ
+  pub pseudo_symbol_map : List (ℕ × ComplexScript)
+
+-- the machine of these parts
+abbrev pub machine :
+    Table → List (Acceptance × Option ℕ) → List ℕ → ℕ → ℕ → List (ℕ × ComplexScript) → Machine
+machine symbols states transitions num_lookaheads shift map = record {
+  symbols = symbols;
+  states = states;
+  transitions = transitions;
+  num_lookaheads = num_lookaheads;
+  pseudo_symbol_shift = shift;
+  pseudo_symbol_map = map;
+}
+
+-- the machine with a tailoring, if there is one: it takes the place of the map
+abbrev pub tailored : Machine → Option (List (ℕ × ComplexScript)) → Machine
+tailored m None = m
+tailored m (Some map) = record m { pseudo_symbol_map = map }
+
+-- the symbol and the script of a code point: the pseudo symbols, from the shift on, are entries of the map
+unfoldable pub symbol_and_script : Machine → ℕ → ℕ × ComplexScript
+symbol_and_script m code_point =
+    let value = value_of m.symbols code_point in
+    if nat_lt value m.pseudo_symbol_shift
+    then (value, NoScript)
+    else slice_index_or m.pseudo_symbol_map (value - m.pseudo_symbol_shift) (0, NoScript)
+
+abbrev pub symbols_of : Machine → List ℕ → List ℕ
+symbols_of m code_points = map (λ code_point. (symbol_and_script m code_point).0) code_points
+
+-- how many symbols the transitions are for; symbol 0 is the end of the text
+unfoldable pub symbol_count : Machine → ℕ
+symbol_count m = length m.transitions / length m.states
+
+-- of so many symbols, those that a code point may have
+abbrev pub IsSymbolOf : ℕ → ℕ → Type 0
+IsSymbolOf count symbol = (0 < symbol) × (symbol < count)
+
+-- the symbols that a code point may have
+abbrev pub IsTextSymbol : Machine → ℕ → Type 0
+IsTextSymbol m symbol = IsSymbolOf (symbol_count m) symbol
+
+-- the state that a symbol leads to; 255 stands for none
+unfoldable pub step : Machine → ℕ → ℕ → Option ℕ
+step m state symbol =
+    let next = slice_index m.transitions (state + symbol * length m.states) in
+    if next == 255 then None else Some next
+
+-- the states that the symbols lead to from a state, up to the first that leads to none
+unfoldable pub run : Machine → ℕ → List ℕ → List ℕ
+run m state [] = []
+run m state (symbol ∷ symbols) =
+    option_map_or (λ next. next ∷ run m next symbols) (step m state symbol) []
+
+-- the scan of a text: the states that its symbols and then symbol 0, again and again, lead to from START (state 0).
+-- Where symbol 0 goes round in no cycle, it leads on at most as often as there are states.
+unfoldable pub scan : Machine → List ℕ → List ℕ
+scan m symbols = run m 0 (symbols ++ replicate (length m.states) 0)
+
+-- the state that symbol 0, so many times, leads to from a state
+unfoldable pub walk : Machine → ℕ → ℕ → Option ℕ
+walk m state zero = Some state
+walk m state (suc steps) = option_and_then (λ next. walk m next steps) (step m state 0)
+
+-- what a state accepts and names
+unfoldable pub state_at : Machine → ℕ → Acceptance × Option ℕ
+state_at m state = slice_index_or m.states state (Continue, None)

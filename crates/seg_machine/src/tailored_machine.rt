@@ -1,0 +1,196 @@
+//! Machines with their tailorings, as engines read them. It isn't part of the library's surface.
+ghost use Rattle.std.specs.Prelude.{◌≡◌, ◌↔◌, ℕ, ◌<◌, IsTrue, IfOk, IfErr, IfSome, Some, length};
+ghost use Rattle.std.specs.Option.{option_map};
+ghost use Rattle.seg_data.specs.Faults.{IsFaultless, IsLowestFault};
+ghost use Rattle.seg_machine.specs.Checked.{HasTextSymbols, IsChecked};
+ghost use Rattle.seg_machine.specs.MachineFaults.{HasComplexBelow0100, HasTailoringFault};
+ghost use Rattle.seg_machine.specs.Machine.{IsTextSymbol, state_at, step, symbol_and_script, symbol_count, tailored};
+
+use crate::provider::{
+    Acceptance, Lookahead, SegmenterStateMachine, SegmenterStateMachineOverride, State, Symbol,
+};
+use seg_data::provider::{ComplexScript, DataError};
+
+/// A checked machine with its tailoring, if there is one.
+#[derive(Debug, Drop)]
+pub struct TailoredMachine {
+    machine: SegmenterStateMachine,
+    tailoring: Option<SegmenterStateMachineOverride>,
+    ghost text_symbols: { HasTextSymbols (tailored machine tailoring) },
+}
+
+impl TailoredMachine {
+    ghost use Rattle.seg_machine.specs.Tailored.{machine_of, owned_machine};
+
+    /// The machine as it is.
+    pub fn untailored(machine: SegmenterStateMachine) -> Self
+        ensures { owned_machine result ≡ machine }
+    {
+        machine.check();
+        TailoredMachine {
+            machine,
+            tailoring: None,
+        }
+    }
+
+    /// The machine with its tailoring, if there is one. `SymbolOutOfRange` where they don't fit.
+    pub fn try_new(
+        machine: SegmenterStateMachine,
+        tailoring: Option<SegmenterStateMachineOverride>,
+    ) -> Result<Self, DataError>
+        ensures accepted { IfOk result (λ t. (owned_machine t ≡ tailored machine tailoring) × IsFaultless (HasTailoringFault machine tailoring)) }
+        ensures refused { IfErr result (IsLowestFault (HasTailoringFault machine tailoring)) }
+    {
+        TailoredMachineBorrowed::try_new(&machine, tailoring.as_ref())?.check();
+        Ok(TailoredMachine { machine, tailoring })
+    }
+
+    /// The same machine, lent.
+    pub fn as_borrowed(&self) -> TailoredMachineBorrowed<'_>
+        ensures { machine_of result ≡ owned_machine self.now }
+    {
+        TailoredMachineBorrowed {
+            machine: &self.machine,
+            pseudo_symbol_map: map_of(&self.machine, self.tailoring.as_ref()),
+        }
+    }
+}
+
+/// A checked machine, tailored or not, that is lent. It is what engines read, step by step.
+#[derive(Clone, Copy, Debug)]
+pub struct TailoredMachineBorrowed<'data> {
+    machine: &'data SegmenterStateMachine,
+    pseudo_symbol_map: &'data [(Symbol, ComplexScript)],
+    ghost text_symbols: { HasTextSymbols (tailored machine.now (Some pseudo_symbol_map.now)) },
+}
+
+impl<'data> TailoredMachineBorrowed<'data> {
+    ghost use Rattle.seg_machine.specs.Tailored.{machine_of};
+
+    /// The machine as it is.
+    pub fn untailored(machine: &'data SegmenterStateMachine) -> Self
+        ensures { machine_of result ≡ machine.now }
+    {
+        machine.check();
+        TailoredMachineBorrowed {
+            machine,
+            pseudo_symbol_map: machine.pseudo_symbol_map(),
+        }
+    }
+
+    /// The machine with its tailoring, if there is one. `SymbolOutOfRange` where they don't fit.
+    pub fn try_new(
+        machine: &'data SegmenterStateMachine,
+        tailoring: Option<&'data SegmenterStateMachineOverride>,
+    ) -> Result<Self, DataError>
+        ensures accepted { IfOk result (λ t. (machine_of t ≡ tailored machine.now (option_map (λ t. t.now) tailoring.entry))
+            × IsFaultless (HasTailoringFault machine.now (option_map (λ t. t.now) tailoring.entry))) }
+        ensures refused { IfErr result (IsLowestFault (HasTailoringFault machine.now (option_map (λ t. t.now) tailoring.entry))) }
+    {
+        let Some(tailoring) = tailoring else {
+            return Ok(TailoredMachineBorrowed::untailored(machine));
+        };
+        let pseudo_symbol_map = tailoring.pseudo_symbol_map();
+        if machine.has_stray_symbol(pseudo_symbol_map) {
+            return Err(DataError::SymbolOutOfRange);
+        }
+        Ok(TailoredMachineBorrowed {
+            machine,
+            pseudo_symbol_map,
+        })
+    }
+
+    /// How many lookaheads there are.
+    pub fn num_lookaheads(&self) -> usize
+        ensures { result ≡ (machine_of self.now).num_lookaheads }
+    {
+        self.machine.num_lookaheads()
+    }
+
+    /// The symbol of a code point.
+    pub fn symbol(&self, code_point: u32) -> Symbol
+        ensures value { result ≡ (symbol_and_script (machine_of self.now) code_point).0 }
+        ensures text { IsTextSymbol (machine_of self.now) result }
+    {
+        let value = self.machine.symbols().get32(code_point);
+        let shift = self.machine.pseudo_symbol_shift();
+        if value < shift {
+            value
+        } else {
+            self.pseudo_symbol_map[(value - shift) as usize].0
+        }
+    }
+
+    /// The state that a symbol leads to from a state, or `None` where it leads to none.
+    pub fn next_state(&self, state: State, symbol: Symbol) -> Option<State>
+        requires state { state < length (machine_of self.now).states }
+        requires symbol { symbol < symbol_count (machine_of self.now) }
+        ensures value { result ≡ step (machine_of self.now) state symbol }
+        ensures state { IfSome result (λ next. next < length (machine_of self.now).states) }
+    {
+        self.machine.next_state(state, symbol)
+    }
+
+    /// What a state accepts, and the lookahead that it names.
+    pub fn entry(&self, state: State) -> (Acceptance, Option<Lookahead>)
+        requires { state < length (machine_of self.now).states }
+        ensures { result ≡ state_at (machine_of self.now) state }
+    {
+        self.machine.states()[state as usize]
+    }
+
+    /// Does nothing. Its contract tells what holds of each machine.
+    pub fn check(&self)
+        ensures { IsChecked (machine_of self.now) }
+    {
+        self.machine.check();
+    }
+}
+
+/// Whether a code point below U+0100 has a script, by the machine with its tailoring, if there is one.
+pub fn has_complex_below_0100(
+    machine: &SegmenterStateMachine,
+    tailoring: Option<&SegmenterStateMachineOverride>,
+) -> bool
+    ensures { IsTrue result ↔ HasComplexBelow0100 (tailored machine.now (option_map (λ t. t.now) tailoring.entry)) }
+{
+    let pseudo_symbol_map = map_of(machine, tailoring);
+    for code_point in 0..0x100u32 {
+        if script_of(machine, pseudo_symbol_map, code_point) != ComplexScript::None {
+            return true;
+        }
+    }
+    false
+}
+
+// The map of the machine with its tailoring, if there is one.
+fn map_of<'data>(
+    machine: &'data SegmenterStateMachine,
+    tailoring: Option<&'data SegmenterStateMachineOverride>,
+) -> &'data [(Symbol, ComplexScript)]
+    ensures { tailored machine.now (Some result.now) ≡ tailored machine.now (option_map (λ t. t.now) tailoring.entry) }
+{
+    match tailoring {
+        Some(tailoring) => tailoring.pseudo_symbol_map(),
+        None => machine.pseudo_symbol_map(),
+    }
+}
+
+// The script of a code point by the machine with this map, which may lack the code point's entry.
+fn script_of(
+    machine: &SegmenterStateMachine,
+    pseudo_symbol_map: &[(Symbol, ComplexScript)],
+    code_point: u32,
+) -> ComplexScript
+    ensures { result ≡ (symbol_and_script (tailored machine.now (Some pseudo_symbol_map.now)) code_point).1 }
+{
+    let value = machine.symbols().get32(code_point);
+    let shift = machine.pseudo_symbol_shift();
+    if value < shift {
+        return ComplexScript::None;
+    }
+    match pseudo_symbol_map.get((value - shift) as usize) {
+        Some(entry) => entry.1,
+        None => ComplexScript::None,
+    }
+}
