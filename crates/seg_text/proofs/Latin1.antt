@@ -3,8 +3,8 @@ use Rattle.std.proofs.Common.{◌≡◌, ℕ, zero, suc, ◌+◌, ◌<◌, ◌�
 use Rattle.std.proofs.lemmas.List.{drop_more}
 use Rattle.seg_text.specs.Latin1.{ReadsLatin1, read_latin1, latin1_items}
 use Rattle.seg_text.specs.Items.{items_by, code_points}
-use Rattle.seg_text.specs.Reader.{items_by-nil, items_by-cons}
-use Rattle.seg_text.specs.Rising.{read_latin1-reader}
+use Rattle.seg_text.specs.Lemmas.Readers.{items_by-nil, items_by-cons}
+use Rattle.seg_text.specs.Lemmas.Rising.{read_latin1-reader}
 use Rattle.seg_text.proofs.Items.{IsReaderOf}
 use Rattle.seg_text.proofs.Slice.{IsStable}
 

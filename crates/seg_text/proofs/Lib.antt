@@ -1,5 +1,5 @@
 pub mod Items
-pub mod Cursor
+pub mod Cursors
 pub mod Latin1
 pub mod Utf8Rows
 pub mod Utf8
@@ -10,4 +10,6 @@ pub mod Utf8Stable
 pub mod Str
 pub mod StrTiling
 pub mod Places
-pub mod Boundaries
+pub mod Stretches
+pub mod Restarts
+pub mod Covers

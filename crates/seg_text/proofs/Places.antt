@@ -1,25 +1,34 @@
--- The places of items that rise.
-use Rattle.std.proofs.Common.{◌≡◌, ℕ, zero, suc, ◌<◌, ◌≤◌, List, [], ◌∷◌, map, drop, refl, ap, arith}
-use Rattle.seg_text.specs.Items.{place_of, IsRising}
-use Rattle.seg_text.specs.Places.{placed, places}
+-- The places of items that rise, and boundaries that stand at them.
+use Rattle.std.proofs.Common.{◌≡◌, ℕ, zero, suc, ◌<◌, ◌≤◌, List, [], ◌∷◌, ◌++◌, map, drop, refl, ap, sym, arith}
+use Rattle.std.proofs.lemmas.List.{drop-drop, drop-map}
+use Rattle.seg_text.specs.Items.{Item, Text, place_of, rest_after, code_points, IsRising}
+use Rattle.seg_text.specs.Boundaries.{Boundary, shift_all, boundary_in}
 
-pub IsRising-drop : (items : List (ℕ × ℕ)) (end n : ℕ) → IsRising items end → IsRising (drop n items) end
+pub IsRising-drop : (items : List Item) (end n : ℕ) → IsRising items end → IsRising (drop n items) end
 IsRising-drop items end zero rising = rising
 IsRising-drop [] end (suc n) rising = rising
 IsRising-drop (item ∷ items) end (suc n) rising = IsRising-drop items end n rising.1
 
-place_of-drop-le : (items : List (ℕ × ℕ)) (end n : ℕ) → IsRising items end → place_of items end ≤ place_of (drop n items) end
+place_of-drop-le : (items : List Item) (end n : ℕ) → IsRising items end → place_of items end ≤ place_of (drop n items) end
 place_of-drop-le items end zero rising = omega arith
 place_of-drop-le [] end (suc n) rising = omega arith
 place_of-drop-le (item ∷ items) end (suc n) rising = omega (arith, place_of-drop-le items end n rising.1, rising.0)
 
-pub place_of-drop-lt : (item : ℕ × ℕ) (items : List (ℕ × ℕ)) (end n : ℕ) → IsRising (item ∷ items) end → 0 < n → item.0 < place_of (drop n (item ∷ items)) end
+pub place_of-drop-lt : (item : Item) (items : List Item) (end n : ℕ) → IsRising (item ∷ items) end → 0 < n
+    → item.0 < place_of (drop n (item ∷ items)) end
 place_of-drop-lt item items end zero rising some = absurd (omega arith)
 place_of-drop-lt item items end (suc n) rising some = omega (arith, place_of-drop-le items end n rising.1, rising.0)
 
--- the places of boundaries are the places of their ordinals
-pub places-placed : (items : List (ℕ × ℕ)) (end : ℕ) (counted : List (ℕ × ℕ))
-    → places (map (placed items end) counted) ≡ map (λ ordinal. place_of (drop ordinal items) end) (places counted)
-places-placed items end [] = refl
-places-placed items end (boundary ∷ counted) =
-    ap (λ rest. place_of (drop boundary.0 items) end ∷ rest) (places-placed items end counted)
+pub code_points-drop : (n : ℕ) (items : List Item) → code_points (drop n items) ≡ drop n (code_points items)
+code_points-drop n items = sym (drop-map (λ (item : Item). item.1) n items)
+
+-- later boundaries of a text are those of what is left
+pub in-shift_all : (text : Text) (n : ℕ) (counted : List Boundary)
+    → map (boundary_in text) (shift_all n counted) ≡ map (boundary_in (rest_after n text)) counted
+in-shift_all text n [] = refl
+in-shift_all text n (boundary ∷ counted) = rw (drop-drop boundary.offset n text.items, in-shift_all text n counted) refl
+
+pub in-append : (text : Text) (some others : List Boundary)
+    → map (boundary_in text) (some ++ others) ≡ map (boundary_in text) some ++ map (boundary_in text) others
+in-append text [] others = refl
+in-append text (boundary ∷ some) others = ap (λ (rest : List Boundary). boundary_in text boundary ∷ rest) (in-append text some others)

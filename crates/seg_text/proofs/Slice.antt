@@ -1,18 +1,18 @@
 -- The items of a slice, over any reader that stops where an item ends.
 use Rattle.std.proofs.Common.{◌≡◌, ℕ, zero, suc, ◌+◌, ◌-◌, ◌<◌, ◌≤◌, List, [], ◌∷◌, length, take, drop, refl, ap, sym, ◌∙◌, arith}
-use Rattle.std.proofs.lemmas.List.{length-drop, drop-drop, drop-take}
-use Rattle.seg_text.specs.Items.{place_of, items_by, shifted_back}
-use Rattle.seg_text.specs.Reader.{IsReader, items_by-nil, items_by-cons, place_of-items_by}
-use Rattle.seg_text.proofs.Cursor.{items_by-from, seek-within, seek-left, seek-end}
+use Rattle.std.proofs.lemmas.List.{length-take, length-drop, drop-drop, drop-take}
+use Rattle.seg_text.specs.Items.{Text, slice_of, place_of, items_by, shifted_back, Reader}
+use Rattle.seg_text.specs.Lemmas.Readers.{IsReader, items_by-nil, items_by-cons, place_of-items_by}
+use Rattle.seg_text.proofs.Cursors.{items_by-from, seek-within, seek-left, seek-end}
 
 -- what it reads of an item doesn't change where the units after the item are cut off
-pub record IsStable (read : List ℕ → ℕ × ℕ) : Type 0 where
+pub record IsStable (read : Reader) : Type 0 where
   pub reader : IsReader read
   pub stable : (most unit : ℕ) (units : List ℕ) → (read (unit ∷ units)).0 ≤ most
       → read (take most (unit ∷ units)) ≡ read (unit ∷ units)
 
 -- the place of the k-th item is not before the first
-place-after : (read : List ℕ → ℕ × ℕ) → IsReader read → (k place : ℕ) (units : List ℕ)
+place-after : (read : Reader) → IsReader read → (k place : ℕ) (units : List ℕ)
     → place ≤ place_of (drop k (items_by read place units)) (place + length units)
 place-after read reader k place units =
     let from = items_by-from read reader k place units in
@@ -24,7 +24,7 @@ place-after read reader k place units =
     rw (from.same, at) (omega arith)
 
 -- the first item ends before the place of the k-th after it
-step-after : (read : List ℕ → ℕ × ℕ) → IsReader read → (k place most unit : ℕ) (units : List ℕ)
+step-after : (read : Reader) → IsReader read → (k place most unit : ℕ) (units : List ℕ)
     → place + most ≡ place_of (drop (suc k) (items_by read place (unit ∷ units))) (place + length (unit ∷ units))
     → let taken : ℕ = (read (unit ∷ units)).0 in let rest : List ℕ = drop taken (unit ∷ units) in
     (taken ≤ most) × (place + most ≡ place_of (drop k (items_by read (place + taken) rest)) ((place + taken) + length rest))
@@ -39,7 +39,7 @@ step-after read reader k place most unit units here =
     (omega (arith, after), there)
 
 -- the items of the units up to the place of the k-th item are the first k, each place less `from`
-pub slice-items : (read : List ℕ → ℕ × ℕ) → IsStable read → (k from place most : ℕ) (units : List ℕ) → from ≤ place
+pub slice-items : (read : Reader) → IsStable read → (k from place most : ℕ) (units : List ℕ) → from ≤ place
     → place + most ≡ place_of (drop k (items_by read place units)) (place + length units)
     → items_by read (place - from) (take most units) ≡ shifted_back from (take k (items_by read place units))
 slice-items read stable zero from place most units before here =
@@ -66,7 +66,7 @@ slice-items read stable (suc k) from place (suc most) (unit ∷ units) before he
     (ap (λ items. (place - from, (read (unit ∷ units)).1) ∷ items) more)
 
 -- the two places of a slice are in order, and its items are those between them
-slice-found : (read : List ℕ → ℕ × ℕ) → IsStable read → (j k from to start : ℕ) (text : List ℕ) → start ≤ length text
+slice-found : (read : Reader) → IsStable read → (j k from to start : ℕ) (text : List ℕ) → start ≤ length text
     → from ≡ place_of (drop j (items_by read start (drop start text))) (start + length (drop start text))
     → to ≡ place_of (drop (j + k) (items_by read start (drop start text))) (start + length (drop start text))
     → (from ≤ to)
@@ -83,16 +83,24 @@ slice-found read stable j k from to start text inside begins ends =
     let items = slice-items read stable k from from (to - from) (drop from text) (omega arith) (parts ∙ reaches) in
     (after, rw (nothing, left) at items)
 
-pub slice-order : (read : List ℕ → ℕ × ℕ) → IsStable read → (j k from to start : ℕ) (text : List ℕ) → start ≤ length text
+pub slice-order : (read : Reader) → IsStable read → (j k from to start : ℕ) (text : List ℕ) → start ≤ length text
     → from ≡ place_of (drop j (items_by read start (drop start text))) (start + length (drop start text))
     → to ≡ place_of (drop (j + k) (items_by read start (drop start text))) (start + length (drop start text))
     → from ≤ to
 slice-order read stable j k from to start text inside begins ends =
     (slice-found read stable j k from to start text inside begins ends).0
 
-pub slice-left : (read : List ℕ → ℕ × ℕ) → IsStable read → (j k from to start : ℕ) (text : List ℕ) → start ≤ length text
+-- as a text
+pub slice-text : (read : Reader) → IsStable read → (j k from to start : ℕ) (text : List ℕ) → start ≤ length text
     → from ≡ place_of (drop j (items_by read start (drop start text))) (start + length (drop start text))
     → to ≡ place_of (drop (j + k) (items_by read start (drop start text))) (start + length (drop start text))
-    → items_by read 0 (take (to - from) (drop from text)) ≡ shifted_back from (take k (drop j (items_by read start (drop start text))))
-slice-left read stable j k from to start text inside begins ends =
-    (slice-found read stable j k from to start text inside begins ends).1
+    → let part : List ℕ = take (to - from) (drop from text) in
+    let slice : Text = record { items = items_by read 0 part; end = 0 + length part } in
+    slice ≡ slice_of j k (record { items = items_by read start (drop start text); end = start + length (drop start text) })
+slice-text read stable j k from to start text inside begins ends =
+    let found = slice-found read stable j k from to start text inside begins ends in
+    let order : from ≤ to = found.0 in
+    let within : to ≤ length text = seek-within read stable.reader (j + k) to start text inside ends in
+    let long : 0 + length (take (to - from) (drop from text)) ≡ to - from =
+    omega (arith, length-take (to - from) (drop from text), length-drop from text) in
+    rw (found.1, long, ← begins, ← ends) refl

@@ -8,11 +8,11 @@ use Rattle.std.specs.Char.{IsScalar, encode_utf8}
 use Rattle.std.specs.Str.{IsUtf8, IsCharBoundary, all_scalars, chars, encode_utf8_all}
 use Rattle.std.proofs.str.Laws.{one, two, three, four}
 use Rattle.std.proofs.Math.Utf8.{scalar, scalar_cases}
-use Rattle.seg_text.specs.Items.{IsTiling, place_of, items_by, code_points}
-use Rattle.seg_text.specs.Reader.{items_by-nil, items_by-cons, place_of-items_by}
-use Rattle.seg_text.specs.Rising.{read_utf8-reader}
-use Rattle.seg_text.specs.Utf8.{rows, trail, IsWellFormed, ReadsWellFormed, scalar_of, read_utf8, utf8_items}
-use Rattle.seg_text.proofs.Cursor.{seek-within, taken-within}
+use Rattle.seg_text.specs.Items.{IsTiling, place_of, items_by, code_points, Reading}
+use Rattle.seg_text.specs.Lemmas.Readers.{items_by-nil, items_by-cons, place_of-items_by}
+use Rattle.seg_text.specs.Lemmas.Rising.{read_utf8-reader}
+use Rattle.seg_text.specs.Utf8.{rows, trail, IsWellFormed, ReadsWellFormed, scalar_of, read_utf8, utf8_items, Range}
+use Rattle.seg_text.proofs.Cursors.{seek-within, taken-within}
 use Rattle.seg_text.proofs.Utf8.{read_utf8-of}
 use Rattle.seg_text.proofs.Utf8Reads.{ascii-at}
 
@@ -24,14 +24,14 @@ record Spells (c : ℕ) (bytes : List ℕ) : Type 0 where
   pub scalar : c ≡ scalar_of bytes
 
 -- three bytes of the k-th row
-in-three : (k : ℕ) (first second : ℕ × ℕ) (a b c : ℕ) → k < 9
+in-three : (k : ℕ) (first second : Range) (a b c : ℕ) → k < 9
     → slice_index_or rows k (first ∷ second ∷ trail ∷ []) ≡ first ∷ second ∷ trail ∷ []
     → first.0 ≤ a → a ≤ first.1 → second.0 ≤ b → b ≤ second.1 → 0x80 ≤ c → c ≤ 0xBF → IsWellFormed (a ∷ b ∷ c ∷ [])
 in-three k first second a b c here is low_a high_a low_b high_b low_c high_c =
     (first ∷ second ∷ trail ∷ [], (k, here, is), (low_a, high_a, (low_b, high_b, (low_c, high_c, tt))), refl)
 
 -- and four
-in-four : (k : ℕ) (first second : ℕ × ℕ) (a b c d : ℕ) → k < 9
+in-four : (k : ℕ) (first second : Range) (a b c d : ℕ) → k < 9
     → slice_index_or rows k (first ∷ second ∷ trail ∷ trail ∷ []) ≡ first ∷ second ∷ trail ∷ trail ∷ []
     → first.0 ≤ a → a ≤ first.1 → second.0 ≤ b → b ≤ second.1 → 0x80 ≤ c → c ≤ 0xBF → 0x80 ≤ d → d ≤ 0xBF
     → IsWellFormed (a ∷ b ∷ c ∷ d ∷ [])
@@ -181,7 +181,7 @@ utf8_items-well_formed place bytes (cs, (are, is)) = rw (← is) (encodes-tile c
 -- ---- the places of items
 
 -- what is left of a text after its next item is a text again
-pub next-utf8 : (start : ℕ) (text : List ℕ) (found : ℕ × ℕ) → start < length text → IsUtf8 (drop start text)
+pub next-utf8 : (start : ℕ) (text : List ℕ) (found : Reading) → start < length text → IsUtf8 (drop start text)
     → found ≡ read_utf8 (drop start text) → IsUtf8 (drop (start + found.0) text)
 next-utf8 start text found inside is reads =
     rw (← drop-drop found.0 start text, reads) (rest-utf8 (drop start text) is (omega (arith, length-drop start text)))

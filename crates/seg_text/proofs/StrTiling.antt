@@ -8,8 +8,8 @@ use Rattle.std.proofs.str.Laws.{one, two, three, four}
 use Rattle.std.specs.Prelude.{slice_index_or}
 use Rattle.std.specs.Char.{IsScalar, encode_utf8}
 use Rattle.std.specs.Str.{IsUtf8}
-use Rattle.seg_text.specs.Items.{IsTiling}
-use Rattle.seg_text.specs.Utf8.{rows, trail, Fits, IsWellFormed, ReadsWellFormed}
+use Rattle.seg_text.specs.Items.{IsTiling, Item}
+use Rattle.seg_text.specs.Utf8.{rows, trail, Fits, IsWellFormed, ReadsWellFormed, Ranges, Range}
 
 -- what is below the surrogates, or above them, is a scalar value
 scalar-in : (c : ℕ) → (c < 0xD800) ⊎ ((0xE000 ≤ c) × (c < 0x11_0000)) → IsScalar c
@@ -83,7 +83,7 @@ row-two (a ∷ []) fits long = absurd (omega arith)
 row-two (a ∷ b ∷ []) (low_a, high_a, (low_b, high_b, _)) long = spelt-two a b low_a high_a low_b high_b
 row-two (a ∷ b ∷ d ∷ bytes) fits long = absurd (omega arith)
 
-row-three : (first second : ℕ × ℕ) (bytes : List ℕ) → 0xE0 ≤ first.0 → first.1 ≤ 0xEF → 0x80 ≤ second.0 → second.1 ≤ 0xBF
+row-three : (first second : Range) (bytes : List ℕ) → 0xE0 ≤ first.0 → first.1 ≤ 0xEF → 0x80 ≤ second.0 → second.1 ≤ 0xBF
     → (0xE1 ≤ first.0) ⊎ (0xA0 ≤ second.0) → (first.1 ≤ 0xEC) ⊎ ((0xEE ≤ first.0) ⊎ (second.1 ≤ 0x9F))
     → Fits (first ∷ second ∷ trail ∷ []) bytes → length bytes ≡ 3 → IsUtf8 bytes
 row-three first second [] low high start end not_below no_surrogate fits long = absurd (omega arith)
@@ -102,7 +102,7 @@ row-three first second (a ∷ b ∷ d ∷ []) low high start end not_below no_su
     side (inr (inr most)) = inr (inr (omega arith))
 row-three first second (a ∷ b ∷ d ∷ e ∷ bytes) low high start end not_below no_surrogate fits long = absurd (omega arith)
 
-row-four : (first second : ℕ × ℕ) (bytes : List ℕ) → 0xF0 ≤ first.0 → first.1 ≤ 0xF4 → 0x80 ≤ second.0 → second.1 ≤ 0xBF
+row-four : (first second : Range) (bytes : List ℕ) → 0xF0 ≤ first.0 → first.1 ≤ 0xF4 → 0x80 ≤ second.0 → second.1 ≤ 0xBF
     → (0xF1 ≤ first.0) ⊎ (0x90 ≤ second.0) → (first.1 ≤ 0xF3) ⊎ (second.1 ≤ 0x8F)
     → Fits (first ∷ second ∷ trail ∷ trail ∷ []) bytes → length bytes ≡ 4 → IsUtf8 bytes
 row-four first second [] low high start end not_below not_above fits long = absurd (omega arith)
@@ -122,11 +122,11 @@ row-four first second (a ∷ b ∷ d ∷ e ∷ []) low high start end not_below 
 row-four first second (a ∷ b ∷ d ∷ e ∷ f ∷ bytes) low high start end not_below not_above fits long = absurd (omega arith)
 
 -- each row of a table gives a text, where it is full
-abbrev AreTexts : List ℕ → List (List (ℕ × ℕ)) → Type 0
+abbrev AreTexts : List ℕ → List Ranges → Type 0
 AreTexts bytes [] = Unit {0}
 AreTexts bytes (row ∷ table) = (Fits row bytes → length bytes ≡ length row → IsUtf8 bytes) × AreTexts bytes table
 
-text-at : (bytes : List ℕ) (table : List (List (ℕ × ℕ))) (k : ℕ) (row : List (ℕ × ℕ)) → AreTexts bytes table
+text-at : (bytes : List ℕ) (table : List Ranges) (k : ℕ) (row : Ranges) → AreTexts bytes table
     → k < length table → slice_index_or table k row ≡ row → Fits row bytes → length bytes ≡ length row → IsUtf8 bytes
 text-at bytes [] k row all here is fits long = absurd (omega arith)
 text-at bytes (first ∷ table) zero row all here is fits long = (rw is at all.0) fits long
@@ -174,7 +174,7 @@ well_formed-utf8 : (bytes : List ℕ) → IsWellFormed bytes → IsUtf8 bytes
 well_formed-utf8 bytes (row, (k, here, is), fits, long) = text-at bytes rows k row (rows-texts bytes) here is fits long
 
 -- and so are those that tile the bytes, one after the other
-pub tiling-utf8 : (items : List (ℕ × ℕ)) (place : ℕ) (bytes : List ℕ) → IsTiling ReadsWellFormed items place bytes → IsUtf8 bytes
+pub tiling-utf8 : (items : List Item) (place : ℕ) (bytes : List ℕ) → IsTiling ReadsWellFormed items place bytes → IsUtf8 bytes
 tiling-utf8 [] place bytes none = rw none IsUtf8-nil
 tiling-utf8 (item ∷ items) place bytes (_, (taken, _, _, reads, tiles)) =
     rw (← take-append-drop taken bytes)

@@ -4,7 +4,7 @@ use Rattle.std.specs.Prelude.{◌==◌, bit_and}
 use Rattle.std.proofs.lemmas.List.{drop_more}
 use Rattle.std.proofs.lemmas.Bool.{eq-eqb, ne_eqb, cases_eq, and_from, and_left, and_right}
 use Rattle.seg_text.specs.Utf16.{IsHighSurrogate, IsLowSurrogate, IsPair, ReadsUtf16, pair_of, read_utf16}
-use Rattle.seg_text.specs.Rising.{read_utf16-reader}
+use Rattle.seg_text.specs.Lemmas.Rising.{read_utf16-reader}
 use Rattle.seg_text.proofs.Items.{IsReaderOf}
 use Rattle.seg_text.proofs.Slice.{IsStable}
 

@@ -3,30 +3,30 @@ use Rattle.std.proofs.Common.{◌≡◌, ◌≢◌, ℕ, zero, suc, ◌<◌, ◌
 use Rattle.std.specs.Prelude.{Option, Some, None, find, Contains, slice_index_or}
 use Rattle.std.proofs.lemmas.List.{length-take-le}
 use Rattle.std.proofs.lemmas.Bool.{eq-eqb, ne_eqb, cases_eq}
-use Rattle.seg_text.specs.Utf8.{rows, IsBeginning, IsWellFormed, ReadsUtf8, fitting, read_row, read_utf8, scalar_of}
-use Rattle.seg_text.specs.Rising.{read_utf8-reader}
+use Rattle.seg_text.specs.Utf8.{rows, IsBeginning, IsWellFormed, ReadsUtf8, fitting, read_row, read_utf8, scalar_of, Ranges}
+use Rattle.seg_text.specs.Lemmas.Rising.{read_utf8-reader}
 use Rattle.seg_text.proofs.Items.{IsReaderOf}
 use Rattle.seg_text.proofs.Utf8Rows.{fitting-bounds, fitting-fits, fits-fitting, begins, find-belongs, found-belongs}
 
 -- the row is not full, and so what stands there is ill-formed
-pub read_row-part : (row : List (ℕ × ℕ)) (bytes : List ℕ) → fitting row bytes ≢ length row
+pub read_row-part : (row : Ranges) (bytes : List ℕ) → fitting row bytes ≢ length row
     → read_row row bytes ≡ (fitting row bytes, 0xFFFD)
 unfolding read_row
 read_row-part row bytes part = rw (ne_eqb (fitting row bytes) (length row) part) refl
 
-pub read_row-whole : (row : List (ℕ × ℕ)) (bytes : List ℕ) → fitting row bytes ≡ length row
+pub read_row-whole : (row : Ranges) (bytes : List ℕ) → fitting row bytes ≡ length row
     → read_row row bytes ≡ (length row, scalar_of (take (length row) bytes))
 unfolding read_row
 read_row-whole row bytes whole = rw (whole, eq-eqb (length row) (length row) refl) refl
 
 -- the row that the first byte belongs to is the only one
-pub read_utf8-row : (row : List (ℕ × ℕ)) (bytes : List ℕ) → Contains rows row → 0 < fitting row bytes
+pub read_utf8-row : (row : Ranges) (bytes : List ℕ) → Contains rows row → 0 < fitting row bytes
     → read_utf8 bytes ≡ read_row row bytes
 unfolding read_utf8
 read_utf8-row row bytes among some =
     rw (find-belongs rows bytes among.0 row refl among.1 among.2 some) refl
 
-same-row : (a b : List (ℕ × ℕ)) (bytes : List ℕ) → Contains rows a → Contains rows b → 0 < fitting a bytes → 0 < fitting b bytes
+same-row : (a b : Ranges) (bytes : List ℕ) → Contains rows a → Contains rows b → 0 < fitting a bytes → 0 < fitting b bytes
     → a ≡ b
 same-row a b bytes in_a in_b some_a some_b =
     let found_a = find-belongs rows bytes in_a.0 a refl in_a.1 in_a.2 some_a in
@@ -34,12 +34,12 @@ same-row a b bytes in_a in_b some_a some_b =
     cc
 
 -- no row is empty
-abbrev filled : List (List (ℕ × ℕ)) → Bool
+abbrev filled : List Ranges → Bool
 filled [] = true
 filled ([] ∷ table) = false
 filled ((range ∷ row) ∷ table) = filled table
 
-some-range : (table : List (List (ℕ × ℕ))) (k : ℕ) (row : List (ℕ × ℕ)) → filled table ≡ true → k < length table
+some-range : (table : List Ranges) (k : ℕ) (row : Ranges) → filled table ≡ true → k < length table
     → slice_index_or table k row ≡ row → 0 < length row
 some-range [] k row full here is = absurd (omega arith)
 some-range ([] ∷ table) k row full here is = absurd (cc)
@@ -48,32 +48,32 @@ some-range ((range ∷ first) ∷ table) (suc k) row full here is = some-range t
 
 -- a well-formed sequence is that of the row that its first byte belongs to
 well-formed : (bytes : List ℕ) (n : ℕ) → IsWellFormed (take n bytes)
-    → (row : List (ℕ × ℕ)) × Contains rows row × (0 < fitting row bytes) × (length (take n bytes) ≡ length row) × (fitting row bytes ≡ length row)
+    → (row : Ranges) × Contains rows row × (0 < fitting row bytes) × (length (take n bytes) ≡ length row) × (fitting row bytes ≡ length row)
 well-formed bytes n (row, among, fits, whole) =
     let few = fits-fitting row bytes n fits in
     let some = some-range rows among.0 row refl among.1 among.2 in
     let bound = (fitting-bounds row bytes).0 in
     (row, among, omega arith, whole, omega arith)
 
-whole-is : (row : List (ℕ × ℕ)) (bytes : List ℕ) (taken code_point : ℕ) → fitting row bytes ≡ length row → taken ≡ length row
+whole-is : (row : Ranges) (bytes : List ℕ) (taken code_point : ℕ) → fitting row bytes ≡ length row → taken ≡ length row
     → code_point ≡ scalar_of (take taken bytes) → (taken, code_point) ≡ read_row row bytes
 whole-is row bytes taken code_point whole same is = rw (read_row-whole row bytes whole, is, same) refl
 
 -- either one row has a beginning there, or none has
 pub data Row (bytes : List ℕ) : Type 0 where
-  has_row : (row : List (ℕ × ℕ)) → Contains rows row → 0 < fitting row bytes → read_utf8 bytes ≡ read_row row bytes → Row bytes
-  has_none : ((row : List (ℕ × ℕ)) → Contains rows row → fitting row bytes ≡ 0) → read_utf8 bytes ≡ (1, 0xFFFD) → Row bytes
+  has_row : (row : Ranges) → Contains rows row → 0 < fitting row bytes → read_utf8 bytes ≡ read_row row bytes → Row bytes
+  has_none : ((row : Ranges) → Contains rows row → fitting row bytes ≡ 0) → read_utf8 bytes ≡ (1, 0xFFFD) → Row bytes
 
 pub row-of : (bytes : List ℕ) → Row bytes
 unfolding read_utf8
 row-of bytes = on (find (begins bytes) rows) refl
   where
-    zero-or : (row : List (ℕ × ℕ)) (n : ℕ) → fitting row bytes ≡ n → Contains rows row → find (begins bytes) rows ≡ None → fitting row bytes ≡ 0
+    zero-or : (row : Ranges) (n : ℕ) → fitting row bytes ≡ n → Contains rows row → find (begins bytes) rows ≡ None → fitting row bytes ≡ 0
     zero-or row zero is among found = is
     zero-or row (suc n) is among found =
         let other = find-belongs rows bytes among.0 row refl among.1 among.2 (omega arith) in absurd (cc)
 
-    on : (found : Option (List (ℕ × ℕ))) → find (begins bytes) rows ≡ found → Row bytes
+    on : (found : Option Ranges) → find (begins bytes) rows ≡ found → Row bytes
     on None found = has_none (λ row among. zero-or row (fitting row bytes) refl among found) (rw found refl)
     on (Some row) found =
         let belongs = found-belongs rows bytes row found in
@@ -94,7 +94,7 @@ reads unit units = on (row-of (unit ∷ units))
     }))
     on (has_row row among some is) = rw is (full row among some (cases_eq (fitting row (unit ∷ units)) (length row)))
       where
-        full : (row : List (ℕ × ℕ)) → Contains rows row → 0 < fitting row (unit ∷ units)
+        full : (row : Ranges) → Contains rows row → 0 < fitting row (unit ∷ units)
             → (fitting row (unit ∷ units) ≡ length row) ⊎ (fitting row (unit ∷ units) ≡ length row → ⊥)
             → ReadsUtf8 (unit ∷ units) (read_row row (unit ∷ units)).0 (read_row row (unit ∷ units)).1
         full row among some (inl whole) =

@@ -3,28 +3,29 @@ use Rattle.std.proofs.Common.{◌≡◌, ℕ, zero, suc, ◌+◌, ◌-◌, ◌*�
 use Rattle.std.proofs.lemmas.List.{drop_more}
 use Rattle.std.proofs.lemmas.Bool.{cases_lt}
 use Rattle.std.specs.Prelude.{slice_index_or}
-use Rattle.seg_text.specs.Utf8.{rows, fitting, read_row, read_utf8, scalar_of, StandsAt}
+use Rattle.seg_text.specs.Items.{Reading}
+use Rattle.seg_text.specs.Utf8.{rows, fitting, read_row, read_utf8, scalar_of, StandsAt, Ranges, Range}
 use Rattle.seg_text.proofs.Utf8Rows.{head, fitting-step, fitting-stop, fitting-head}
 use Rattle.seg_text.proofs.Utf8.{read_row-part, read_row-whole, read_utf8-row, Row, has_row, has_none, row-of}
 
 -- a row whose bytes don't all stand there
-part : (row : List (ℕ × ℕ)) (bytes : List ℕ) (n : ℕ) → fitting row bytes ≡ n → n < length row → (n, 0xFFFD) ≡ read_row row bytes
+part : (row : Ranges) (bytes : List ℕ) (n : ℕ) → fitting row bytes ≡ n → n < length row → (n, 0xFFFD) ≡ read_row row bytes
 part row bytes n is few = rw (read_row-part row bytes (λ whole. omega arith), is) refl
 
-pub part-one : (first second : ℕ × ℕ) (row : List (ℕ × ℕ)) (bytes : List ℕ) → StandsAt bytes 0 first → (StandsAt bytes 1 second → ⊥)
+pub part-one : (first second : Range) (row : Ranges) (bytes : List ℕ) → StandsAt bytes 0 first → (StandsAt bytes 1 second → ⊥)
     → (1, 0xFFFD) ≡ read_row (first ∷ second ∷ row) bytes
 part-one first second row bytes one absent =
     part (first ∷ second ∷ row) bytes 1
     (fitting-step first (second ∷ row) bytes 0 one ∙ ap suc (fitting-stop second row bytes 1 absent)) (omega arith)
 
-pub part-two : (first second third : ℕ × ℕ) (row : List (ℕ × ℕ)) (bytes : List ℕ) → StandsAt bytes 0 first → StandsAt bytes 1 second
+pub part-two : (first second third : Range) (row : Ranges) (bytes : List ℕ) → StandsAt bytes 0 first → StandsAt bytes 1 second
     → (StandsAt bytes 2 third → ⊥) → (2, 0xFFFD) ≡ read_row (first ∷ second ∷ third ∷ row) bytes
 part-two first second third row bytes one two absent =
     part (first ∷ second ∷ third ∷ row) bytes 2
     (fitting-step first (second ∷ third ∷ row) bytes 0 one ∙ ap suc (fitting-step second (third ∷ row) bytes 1 two
     ∙ ap suc (fitting-stop third row bytes 2 absent))) (omega arith)
 
-pub part-three : (first second third fourth : ℕ × ℕ) (row : List (ℕ × ℕ)) (bytes : List ℕ) → StandsAt bytes 0 first
+pub part-three : (first second third fourth : Range) (row : Ranges) (bytes : List ℕ) → StandsAt bytes 0 first
     → StandsAt bytes 1 second → StandsAt bytes 2 third → (StandsAt bytes 3 fourth → ⊥)
     → (3, 0xFFFD) ≡ read_row (first ∷ second ∷ third ∷ fourth ∷ row) bytes
 part-three first second third fourth row bytes one two three absent =
@@ -33,7 +34,7 @@ part-three first second third fourth row bytes one two three absent =
     ∙ ap suc (fitting-step third (fourth ∷ row) bytes 2 three ∙ ap suc (fitting-stop fourth row bytes 3 absent)))) (omega arith)
 
 -- a row whose bytes all stand there
-pub whole-two : (first second : ℕ × ℕ) (bytes : List ℕ) (code : ℕ) → StandsAt bytes 0 first → StandsAt bytes 1 second
+pub whole-two : (first second : Range) (bytes : List ℕ) (code : ℕ) → StandsAt bytes 0 first → StandsAt bytes 1 second
     → code ≡ (get_or bytes 0 0 - 0xC0) * 0x40 + (get_or bytes 1 0 - 0x80)
     → (2, code) ≡ read_row (first ∷ second ∷ []) bytes
 unfolding fitting scalar_of
@@ -48,7 +49,7 @@ whole-two first second bytes code one two is =
     scalar (a ∷ []) long = absurd (omega arith)
     scalar (a ∷ b ∷ bytes) long = refl
 
-pub whole-three : (first second third : ℕ × ℕ) (bytes : List ℕ) (code : ℕ) → StandsAt bytes 0 first → StandsAt bytes 1 second
+pub whole-three : (first second third : Range) (bytes : List ℕ) (code : ℕ) → StandsAt bytes 0 first → StandsAt bytes 1 second
     → StandsAt bytes 2 third
     → code ≡ (get_or bytes 0 0 - 0xE0) * 0x1000 + (get_or bytes 1 0 - 0x80) * 0x40 + (get_or bytes 2 0 - 0x80)
     → (3, code) ≡ read_row (first ∷ second ∷ third ∷ []) bytes
@@ -66,7 +67,7 @@ whole-three first second third bytes code one two three is =
     scalar (a ∷ b ∷ []) long = absurd (omega arith)
     scalar (a ∷ b ∷ c ∷ bytes) long = refl
 
-pub whole-four : (first second third fourth : ℕ × ℕ) (bytes : List ℕ) (code : ℕ) → StandsAt bytes 0 first → StandsAt bytes 1 second
+pub whole-four : (first second third fourth : Range) (bytes : List ℕ) (code : ℕ) → StandsAt bytes 0 first → StandsAt bytes 1 second
     → StandsAt bytes 2 third → StandsAt bytes 3 fourth
     → code ≡ (get_or bytes 0 0 - 0xF0) * 0x40000 + (get_or bytes 1 0 - 0x80) * 0x1000 + (get_or bytes 2 0 - 0x80) * 0x40
     + (get_or bytes 3 0 - 0x80)
@@ -92,7 +93,7 @@ first-byte [] some = absurd (omega arith)
 first-byte (byte ∷ bytes) some = omega arith
 
 -- a row of the table whose first range holds the first byte
-pub row-at : (k : ℕ) (range : ℕ × ℕ) (row : List (ℕ × ℕ)) (bytes : List ℕ) (found : ℕ × ℕ) → k < 9
+pub row-at : (k : ℕ) (range : Range) (row : Ranges) (bytes : List ℕ) (found : Reading) → k < 9
     → slice_index_or rows k (range ∷ row) ≡ range ∷ row
     → 0x80 ≤ get_or bytes 0 0 → range.0 ≤ get_or bytes 0 0 → get_or bytes 0 0 ≤ range.1
     → (StandsAt bytes 0 range → found ≡ read_row (range ∷ row) bytes) → found ≡ read_utf8 bytes
@@ -100,11 +101,11 @@ row-at k range row bytes found here is wide low high reads =
     let one : StandsAt bytes 0 range = (first-byte bytes wide, low, high) in
     reads one ∙ sym (read_utf8-row (range ∷ row) bytes (k, here, is) (omega (arith, fitting-step range row bytes 0 one)))
 
-abbrev Outside : List ℕ → List (List (ℕ × ℕ)) → Type 0
+abbrev Outside : List ℕ → List Ranges → Type 0
 Outside bytes [] = Unit {0}
 Outside bytes (row ∷ table) = (StandsAt bytes 0 (head row) → ⊥) × Outside bytes table
 
-outside-at : (bytes : List ℕ) (table : List (List (ℕ × ℕ))) (k : ℕ) (row : List (ℕ × ℕ)) → Outside bytes table
+outside-at : (bytes : List ℕ) (table : List Ranges) (k : ℕ) (row : Ranges) → Outside bytes table
     → k < length table → slice_index_or table k row ≡ row → StandsAt bytes 0 (head row) → ⊥
 outside-at bytes [] k row all here is = absurd (omega arith)
 outside-at bytes (first ∷ table) zero row all here is = rw is at all.0
@@ -185,6 +186,6 @@ ascii-at start text inside ascii =
   where
     on : (byte : ℕ) (bytes : List ℕ) → byte < 0x80 → (1, byte) ≡ read_utf8 (byte ∷ bytes)
     on byte bytes ascii =
-        let row : List (ℕ × ℕ) = (0, 0x7F) ∷ [] in
+        let row : Ranges = (0, 0x7F) ∷ [] in
         let one : fitting row (byte ∷ bytes) ≡ 1 = fitting-step (0, 0x7F) [] (byte ∷ bytes) 0 (omega arith, omega arith, omega arith) in
         sym (read_utf8-row row (byte ∷ bytes) (0, omega arith, refl) (omega arith) ∙ read_row-whole row (byte ∷ bytes) one)

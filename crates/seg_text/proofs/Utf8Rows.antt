@@ -4,37 +4,37 @@ use Rattle.std.specs.Prelude.{◌&&◌, Some, find, Contains, slice_index_or}
 use Rattle.std.proofs.lemmas.List.{drop_all}
 use Rattle.std.proofs.lemmas.Bool.{le-leb, lt-leb, lt-ltb, leb-true, leb-false, ltb-true, ltb-false, and_parts, and_from, and_left, and_right}
 use Rattle.std.proofs.Math.Seq.{drop-cons}
-use Rattle.seg_text.specs.Utf8.{Fits, fitting, StandsAt}
+use Rattle.seg_text.specs.Utf8.{Fits, fitting, StandsAt, Ranges, Range}
 
 -- a byte of a row's range, and those of the rest of the row after it
-fitting-in : (range : ℕ × ℕ) (row : List (ℕ × ℕ)) (byte : ℕ) (bytes : List ℕ) → range.0 ≤ byte → byte ≤ range.1
+fitting-in : (range : Range) (row : Ranges) (byte : ℕ) (bytes : List ℕ) → range.0 ≤ byte → byte ≤ range.1
     → fitting (range ∷ row) (byte ∷ bytes) ≡ suc (fitting row bytes)
 unfolding fitting
 fitting-in range row byte bytes above below =
     rw (and_from (nat_le range.0 byte) (nat_le byte range.1) (le-leb _ _ above) (le-leb _ _ below)) refl
 
-fitting-under : (range : ℕ × ℕ) (row : List (ℕ × ℕ)) (byte : ℕ) (bytes : List ℕ) → byte < range.0
+fitting-under : (range : Range) (row : Ranges) (byte : ℕ) (bytes : List ℕ) → byte < range.0
     → fitting (range ∷ row) (byte ∷ bytes) ≡ 0
 unfolding fitting
 fitting-under range row byte bytes out = rw (and_left (nat_le range.0 byte) (nat_le byte range.1) (lt-leb _ _ out)) refl
 
-fitting-over : (range : ℕ × ℕ) (row : List (ℕ × ℕ)) (byte : ℕ) (bytes : List ℕ) → range.1 < byte
+fitting-over : (range : Range) (row : Ranges) (byte : ℕ) (bytes : List ℕ) → range.1 < byte
     → fitting (range ∷ row) (byte ∷ bytes) ≡ 0
 unfolding fitting
 fitting-over range row byte bytes out = rw (and_right (nat_le range.0 byte) (nat_le byte range.1) (lt-leb _ _ out)) refl
 
-fitting-nil : (row : List (ℕ × ℕ)) → fitting row [] ≡ 0
+fitting-nil : (row : Ranges) → fitting row [] ≡ 0
 unfolding fitting
 fitting-nil [] = refl
 fitting-nil (range ∷ row) = refl
 
 -- a byte is in a range, or under it, or over it
-data Lies (range : ℕ × ℕ) (byte : ℕ) : Type 0 where
+data Lies (range : Range) (byte : ℕ) : Type 0 where
   within : range.0 ≤ byte → byte ≤ range.1 → Lies range byte
   under : byte < range.0 → Lies range byte
   over : range.1 < byte → Lies range byte
 
-lies : (range : ℕ × ℕ) (byte : ℕ) → Lies range byte
+lies : (range : Range) (byte : ℕ) → Lies range byte
 lies range byte = first (nat_le range.0 byte) refl (nat_le byte range.1) refl
   where
     first : (low : Bool) → nat_le range.0 byte ≡ low → (high : Bool) → nat_le byte range.1 ≡ high → Lies range byte
@@ -42,7 +42,7 @@ lies range byte = first (nat_le range.0 byte) refl (nat_le byte range.1) refl
     first false low high is = under (leb-false _ _ low)
     first true low false high = over (leb-false _ _ high)
 
-pub fitting-bounds : (row : List (ℕ × ℕ)) (bytes : List ℕ) → (fitting row bytes ≤ length row) × (fitting row bytes ≤ length bytes)
+pub fitting-bounds : (row : Ranges) (bytes : List ℕ) → (fitting row bytes ≤ length row) × (fitting row bytes ≤ length bytes)
 unfolding fitting
 fitting-bounds [] bytes = (omega arith, omega arith)
 fitting-bounds (range ∷ row) [] = (omega arith, omega arith)
@@ -56,7 +56,7 @@ fitting-bounds (range ∷ row) (byte ∷ bytes) = on (lies range byte) (fitting-
     on (over out) more = let is = fitting-over range row byte bytes out in (omega arith, omega arith)
 
 -- the bytes that fit are those that `fitting` counts
-pub fitting-fits : (row : List (ℕ × ℕ)) (bytes : List ℕ) (n : ℕ) → n ≤ fitting row bytes → Fits row (take n bytes)
+pub fitting-fits : (row : Ranges) (bytes : List ℕ) (n : ℕ) → n ≤ fitting row bytes → Fits row (take n bytes)
 unfolding fitting
 fitting-fits row bytes zero few = tt
 fitting-fits row [] (suc n) few = tt
@@ -68,7 +68,7 @@ fitting-fits (range ∷ row) (byte ∷ bytes) (suc n) few = on (lies range byte)
     on (under out) more = let is = fitting-under range row byte bytes out in absurd (omega arith)
     on (over out) more = let is = fitting-over range row byte bytes out in absurd (omega arith)
 
-pub fits-fitting : (row : List (ℕ × ℕ)) (bytes : List ℕ) (n : ℕ) → Fits row (take n bytes) → length (take n bytes) ≤ fitting row bytes
+pub fits-fitting : (row : Ranges) (bytes : List ℕ) (n : ℕ) → Fits row (take n bytes) → length (take n bytes) ≤ fitting row bytes
 fits-fitting row bytes zero fits = omega arith
 fits-fitting row [] (suc n) fits = omega arith
 fits-fitting [] (byte ∷ bytes) (suc n) fits = absurd fits
@@ -78,12 +78,12 @@ fits-fitting (range ∷ row) (byte ∷ bytes) (suc n) (low, high, fits) =
 
 -- ---- by the places of bytes
 
-pub fitting-step : (range : ℕ × ℕ) (row : List (ℕ × ℕ)) (bytes : List ℕ) (i : ℕ) → StandsAt bytes i range
+pub fitting-step : (range : Range) (row : Ranges) (bytes : List ℕ) (i : ℕ) → StandsAt bytes i range
     → fitting (range ∷ row) (drop i bytes) ≡ suc (fitting row (drop (suc i) bytes))
 fitting-step range row bytes i (there, low, high) =
     rw (drop-cons bytes i 0) (fitting-in range row (get_or bytes i 0) (drop (suc i) bytes) low high)
 
-pub fitting-stop : (range : ℕ × ℕ) (row : List (ℕ × ℕ)) (bytes : List ℕ) (i : ℕ) → (StandsAt bytes i range → ⊥)
+pub fitting-stop : (range : Range) (row : Ranges) (bytes : List ℕ) (i : ℕ) → (StandsAt bytes i range → ⊥)
     → fitting (range ∷ row) (drop i bytes) ≡ 0
 fitting-stop range row bytes i not = on (nat_lt i (length bytes)) refl (lies range (get_or bytes i 0))
   where
@@ -99,11 +99,11 @@ fitting-stop range row bytes i not = on (nat_lt i (length bytes)) refl (lies ran
 
 -- ---- the row that a first byte belongs to
 
-abbrev pub head : List (ℕ × ℕ) → ℕ × ℕ
+abbrev pub head : Ranges → Range
 head [] = (0, 0)
 head (range ∷ row) = range
 
-pub fitting-head : (row : List (ℕ × ℕ)) (bytes : List ℕ) → 0 < fitting row bytes → StandsAt bytes 0 (head row)
+pub fitting-head : (row : Ranges) (bytes : List ℕ) → 0 < fitting row bytes → StandsAt bytes 0 (head row)
 unfolding fitting
 fitting-head [] bytes some = absurd (omega arith)
 fitting-head (range ∷ row) [] some = absurd (omega arith)
@@ -115,27 +115,27 @@ fitting-head (range ∷ row) (byte ∷ bytes) some = on (lies range byte)
     on (over out) = let is = fitting-over range row byte bytes out in absurd (omega arith)
 
 -- the first ranges of the rows begin above a number
-abbrev above : ℕ → List (List (ℕ × ℕ)) → Bool
+abbrev above : ℕ → List Ranges → Bool
 above n [] = true
 above n (row ∷ table) = nat_lt n (head row).0 && above n table
 
 -- the first ranges of the rows are in order, and apart
-abbrev pub apart : List (List (ℕ × ℕ)) → Bool
+abbrev pub apart : List Ranges → Bool
 apart [] = true
 apart (row ∷ table) = above (head row).1 table && apart table
 
-above-at : (n : ℕ) (table : List (List (ℕ × ℕ))) (k : ℕ) (row : List (ℕ × ℕ)) → above n table ≡ true
+above-at : (n : ℕ) (table : List Ranges) (k : ℕ) (row : Ranges) → above n table ≡ true
     → k < length table → slice_index_or table k row ≡ row → n < (head row).0
 above-at n [] k row all here is = absurd (omega arith)
 above-at n (first ∷ table) zero row all here is =
     rw is at (ltb-true n (head first).0 (and_parts (nat_lt n (head first).0) (above n table) all).0)
 above-at n (first ∷ table) (suc k) row all here is = above-at n table k row (and_parts (nat_lt n (head first).0) (above n table) all).1 (omega arith) is
 
-abbrev pub begins : List ℕ → List (ℕ × ℕ) → Bool
+abbrev pub begins : List ℕ → Ranges → Bool
 begins bytes row = nat_lt 0 (fitting row bytes)
 
 -- a row that the first byte belongs to is found
-pub find-belongs : (table : List (List (ℕ × ℕ))) (bytes : List ℕ) (k : ℕ) (row : List (ℕ × ℕ)) → apart table ≡ true
+pub find-belongs : (table : List Ranges) (bytes : List ℕ) (k : ℕ) (row : Ranges) → apart table ≡ true
     → k < length table → slice_index_or table k row ≡ row → 0 < fitting row bytes
     → find (begins bytes) table ≡ Some row
 find-belongs [] bytes k row far here is some = absurd (omega arith)
@@ -153,7 +153,7 @@ find-belongs (first ∷ table) bytes (suc k) row far here is some =
         let other = fitting-head first bytes (ltb-true _ _ is) in absurd (omega (arith, other.2, at.1))
 
 -- what is found is such a row
-pub found-belongs : (table : List (List (ℕ × ℕ))) (bytes : List ℕ) (row : List (ℕ × ℕ)) → find (begins bytes) table ≡ Some row
+pub found-belongs : (table : List Ranges) (bytes : List ℕ) (row : Ranges) → find (begins bytes) table ≡ Some row
     → Contains table row × (0 < fitting row bytes)
 found-belongs [] bytes row is = absurd (cc)
 found-belongs (first ∷ table) bytes row is = on (begins bytes first) refl (found-belongs table bytes row)

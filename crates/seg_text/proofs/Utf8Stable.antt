@@ -4,11 +4,12 @@ use Rattle.std.specs.Prelude.{◌&&◌, find, if◌then◌else◌}
 use Rattle.std.specs.Option.{option_map_or}
 use Rattle.std.proofs.lemmas.List.{take-take}
 use Rattle.std.proofs.lemmas.Bool.{lt-ltb, le-ltb, ltb-true, ltb-false}
-use Rattle.seg_text.specs.Utf8.{rows, fitting, read_row, read_utf8}
-use Rattle.seg_text.specs.Rising.{read_utf8-reader}
+use Rattle.seg_text.specs.Items.{Reading}
+use Rattle.seg_text.specs.Utf8.{rows, fitting, read_row, read_utf8, Ranges}
+use Rattle.seg_text.specs.Lemmas.Rising.{read_utf8-reader}
 use Rattle.seg_text.proofs.Slice.{IsStable}
 
-fitting-take : (row : List (ℕ × ℕ)) (most : ℕ) (bytes : List ℕ) → fitting row (take most bytes) ≡ min most (fitting row bytes)
+fitting-take : (row : Ranges) (most : ℕ) (bytes : List ℕ) → fitting row (take most bytes) ≡ min most (fitting row bytes)
 unfolding fitting
 fitting-take [] most bytes = omega arith
 fitting-take (range ∷ row) zero bytes = omega arith
@@ -22,7 +23,7 @@ fitting-take (range ∷ row) (suc most) (byte ∷ bytes) =
     either false cut whole same = omega arith
 
 -- a row whose bytes are all left
-read_row-stable : (row : List (ℕ × ℕ)) (most : ℕ) (bytes : List ℕ) → fitting row bytes ≤ most
+read_row-stable : (row : Ranges) (most : ℕ) (bytes : List ℕ) → fitting row bytes ≤ most
     → read_row row (take most bytes) ≡ read_row row bytes
 unfolding read_row
 read_row-stable row most bytes few =
@@ -30,7 +31,7 @@ read_row-stable row most bytes few =
     rw (same, take-take (fitting row bytes) most bytes few) refl
 
 -- the row that is found is the same
-read_found-stable : (table : List (List (ℕ × ℕ))) (most : ℕ) (bytes : List ℕ) → 0 < most
+read_found-stable : (table : List Ranges) (most : ℕ) (bytes : List ℕ) → 0 < most
     → (option_map_or (λ row. read_row row bytes) (find (λ row. nat_lt 0 (fitting row bytes)) table) (1, 0xFFFD)).0 ≤ most
     → option_map_or (λ row. read_row row (take most bytes)) (find (λ row. nat_lt 0 (fitting row (take most bytes))) table) (1, 0xFFFD)
     ≡ option_map_or (λ row. read_row row bytes) (find (λ row. nat_lt 0 (fitting row bytes)) table) (1, 0xFFFD)
@@ -39,7 +40,7 @@ read_found-stable [] most bytes some few = refl
 read_found-stable (row ∷ table) most bytes some few =
     on (nat_lt 0 (fitting row bytes)) refl few (read_found-stable table most bytes some)
   where
-    found : List ℕ → List (List (ℕ × ℕ)) → ℕ × ℕ
+    found : List ℕ → List Ranges → Reading
     found bytes table = option_map_or (λ row. read_row row bytes) (find (λ row. nat_lt 0 (fitting row bytes)) table) (1, 0xFFFD)
 
     on : (b : Bool) → nat_lt 0 (fitting row bytes) ≡ b → (found bytes (row ∷ table)).0 ≤ most

@@ -1,19 +1,59 @@
--- Boundaries counted in code points, each with a number: its status, or the class before it.
-use Rattle.std.specs.Prelude.{◌≡◌, ℕ, suc, ◌+◌, Some, List, [], ◌∷◌, drop, map, slice_get}
+-- Boundaries: where a list, or a text, may be cut. Each has an offset, in a list so many elements and in a text so many
+-- units, and a status.
+use Rattle.std.specs.Prelude.{◌≡◌, ℕ, suc, ◌+◌, ◌<◌, Option, Some, List, [], ◌∷◌, drop, map, slice_get, MatchOption}
+pub use Rattle.seg_text.specs.declared.boundary.Boundary.{Boundary}
+use Rattle.seg_text.specs.Items.{Text, start_of, rest_after, code_points}
 
--- where the segments end, counted on from a number, each with its status
-unfoldable pub ends_from : ℕ → List (ℕ × ℕ) → List (ℕ × ℕ)
-ends_from before [] = []
-ends_from before ((taken, status) ∷ segments) = (before + taken, status) ∷ ends_from (before + taken) segments
+-- the first boundary of any list
+abbrev pub start : Boundary
+start = record { offset = 0; status = 0 }
 
--- these boundaries, so many code points later, with the same statuses
-abbrev pub shifted : ℕ → List (ℕ × ℕ) → List (ℕ × ℕ)
-shifted before boundaries = map (λ (boundary : ℕ × ℕ). (before + boundary.0, boundary.1)) boundaries
+abbrev pub offsets : List Boundary → List ℕ
+offsets boundaries = map (λ (boundary : Boundary). boundary.offset) boundaries
 
--- after each boundary of a text come those of the rest, taken alone and shifted: all but its first, which is 0
-abbrev pub RestartsBy : (List ℕ → List (ℕ × ℕ)) → Type 0
-RestartsBy boundaries =
-    (code_points : List ℕ) (k ordinal status : ℕ)
-    → slice_get (boundaries code_points) k ≡ Some (ordinal, status)
-    → drop (suc k) (boundaries code_points)
-    ≡ shifted ordinal (drop 1 (boundaries (drop ordinal code_points)))
+-- the same boundary, and the same boundaries, so much later
+abbrev pub shift : ℕ → Boundary → Boundary
+shift before boundary = record { offset = before + boundary.offset; status = boundary.status }
+
+abbrev pub shift_all : ℕ → List Boundary → List Boundary
+shift_all before boundaries = map (shift before) boundaries
+
+-- a boundary of a text's code points, as one of the text: at the place after so many items
+abbrev pub boundary_in : Text → Boundary → Boundary
+boundary_in text counted = record { offset = start_of (rest_after counted.offset text); status = counted.status }
+
+-- the boundaries of a text, where this finds those of a list of code points
+abbrev pub boundaries_in : (List ℕ → List Boundary) → Text → List Boundary
+boundaries_in find text = map (boundary_in text) (find (code_points text.items))
+
+-- the boundaries rise strictly, from one offset on to the end
+abbrev pub RisesTo : ℕ → List Boundary → ℕ → Type 0
+RisesTo from [] end = from ≡ end
+RisesTo from (boundary ∷ boundaries) end = (from < boundary.offset) × RisesTo boundary.offset boundaries end
+
+-- strict cover: the first is the text's start, the last its end, and each is above the one before
+abbrev pub IsCover : Text → List Boundary → Type 0
+IsCover text [] = ⊥
+IsCover text (boundary ∷ boundaries) = (boundary.offset ≡ start_of text) × RisesTo (start_of text) boundaries text.end
+
+-- a list may be cut anew from any of its boundaries: after each come those of the rest, taken alone and shifted, all but
+-- its first, which is at 0
+abbrev pub HasRestart : {X : Type 0} → (List X → List Boundary) → Type 0
+HasRestart {X} find =
+    (xs : List X) (k : ℕ) (boundary : Boundary) → slice_get (find xs) k ≡ Some boundary
+    → drop (suc k) (find xs) ≡ shift_all boundary.offset (drop 1 (find (drop boundary.offset xs)))
+
+-- what an engine has still to give, and the status of the boundary that it gave last: 0 at first and after the end
+pub record Remainder : Type 0 where
+  pub left : List Boundary
+  pub status : ℕ
+
+-- the offsets that are still to come
+abbrev pub offsets_left : Remainder → List ℕ
+offsets_left remainder = offsets remainder.left
+
+-- an engine gave the first boundary that was left, and has its status
+abbrev pub GivesNext : Remainder → Option ℕ → Remainder → Type 0
+GivesNext before given after =
+    MatchOption given ((before.left ≡ []) × (after.left ≡ []) × (after.status ≡ 0))
+    (λ offset. before.left ≡ record { offset = offset; status = after.status } ∷ after.left)

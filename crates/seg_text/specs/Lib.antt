@@ -3,7 +3,6 @@ pub mod Latin1
 pub mod Utf8
 pub mod Utf16
 pub mod Cursor
-pub mod Reader
-pub mod Rising
-pub mod Places
 pub mod Boundaries
+pub mod Stretches
+pub mod Lemmas

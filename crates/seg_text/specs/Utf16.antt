@@ -1,6 +1,6 @@
 -- Possibly ill-formed UTF-16.
-use Rattle.std.specs.Prelude.{◌≡◌, ℕ, ◌+◌, ◌*◌, ◌⊎◌, ◌&&◌, ◌==◌, List, [], ◌∷◌, take, bit_and, if◌then◌else◌}
-use Rattle.seg_text.specs.Items.{items_by}
+use Rattle.std.specs.Prelude.{◌≡◌, ℕ, ◌+◌, ◌*◌, ◌⊎◌, ◌&&◌, ◌==◌, List, [], ◌∷◌, length, take, bit_and, if◌then◌else◌}
+use Rattle.seg_text.specs.Items.{Item, Text, Reader, items_by}
 
 -- a high surrogate, D800 to DBFF: its upper six bits are 110110
 abbrev pub IsHighSurrogate : ℕ → Type 0
@@ -39,12 +39,20 @@ abbrev pub ReadsUtf16 : List ℕ → ℕ → ℕ → Type 0
 ReadsUtf16 units taken code_point = ReadsPair units taken code_point ⊎ ReadsSingle units taken code_point
 
 -- a reader of one item
-unfoldable pub read_utf16 : List ℕ → ℕ × ℕ
+unfoldable pub read_utf16 : Reader
 read_utf16 [] = (1, 0)
 read_utf16 (unit ∷ []) = (1, unit)
 read_utf16 (unit ∷ next ∷ units) =
     if (bit_and unit 0xFC00 == 0xD800) && (bit_and next 0xFC00 == 0xDC00) then (2, pair_of unit next) else (1, unit)
 
 -- the items of possibly ill-formed UTF-16 from a place on
-unfoldable pub utf16_items : ℕ → List ℕ → List (ℕ × ℕ)
+unfoldable pub utf16_items : ℕ → List ℕ → List Item
 utf16_items place units = items_by read_utf16 place units
+
+-- the text of possibly ill-formed UTF-16 from a place on
+abbrev pub utf16_from : ℕ → List ℕ → Text
+utf16_from place units = record { items = utf16_items place units; end = place + length units }
+
+-- the text of possibly ill-formed UTF-16
+abbrev pub utf16 : List ℕ → Text
+utf16 units = utf16_from 0 units

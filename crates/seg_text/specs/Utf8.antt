@@ -1,14 +1,22 @@
 -- Possibly ill-formed UTF-8, by Table 3-7 of the Unicode Standard.
 use Rattle.std.specs.Prelude.{◌≡◌, ℕ, suc, ◌+◌, ◌-◌, ◌*◌, ◌<◌, ◌≤◌, ◌⊎◌, ◌&&◌, ◌==◌, nat_le, nat_lt, List, [], ◌∷◌, length, take, find, Contains, slice_index, if◌then◌else◌}
 use Rattle.std.specs.Option.{option_map_or}
-use Rattle.seg_text.specs.Items.{items_by}
+use Rattle.seg_text.specs.Items.{Item, Text, Reader, Reading, items_by}
+
+-- the first and the last byte of a range, with both in it
+abbrev pub Range : Type 0
+Range = ℕ × ℕ
+
+-- a row of the table: the ranges of a sequence's bytes, one for each
+abbrev pub Ranges : Type 0
+Ranges = List Range
 
 -- the range of the bytes that go on a sequence, where its row says no other
-abbrev pub trail : ℕ × ℕ
+abbrev pub trail : Range
 trail = (0x80, 0xBF)
 
 -- the well-formed sequences: in each row the first and last byte that may stand at each place
-abbrev pub rows : List (List (ℕ × ℕ))
+abbrev pub rows : List Ranges
 rows =
     ((0x00, 0x7F) ∷ [])
     ∷ ((0xC2, 0xDF) ∷ trail ∷ [])
@@ -22,23 +30,23 @@ rows =
     ∷ []
 
 -- a byte stands at an index of the text, and in a range
-abbrev pub StandsAt : List ℕ → ℕ → ℕ × ℕ → Type 0
+abbrev pub StandsAt : List ℕ → ℕ → Range → Type 0
 StandsAt bytes index range =
     (index < length bytes) × (range.0 ≤ slice_index bytes index) × (slice_index bytes index ≤ range.1)
 
 -- the bytes stand in the first ranges of a row, one in each
-abbrev pub Fits : List (ℕ × ℕ) → List ℕ → Type 0
+abbrev pub Fits : Ranges → List ℕ → Type 0
 Fits row [] = Unit {0}
 Fits [] (byte ∷ bytes) = ⊥
 Fits (range ∷ row) (byte ∷ bytes) = (range.0 ≤ byte) × (byte ≤ range.1) × Fits row bytes
 
 -- the beginning of a well-formed sequence
 abbrev pub IsBeginning : List ℕ → Type 0
-IsBeginning bytes = (row : List (ℕ × ℕ)) × Contains rows row × Fits row bytes
+IsBeginning bytes = (row : Ranges) × Contains rows row × Fits row bytes
 
 -- a well-formed sequence
 abbrev pub IsWellFormed : List ℕ → Type 0
-IsWellFormed bytes = (row : List (ℕ × ℕ)) × Contains rows row × Fits row bytes × (length bytes ≡ length row)
+IsWellFormed bytes = (row : Ranges) × Contains rows row × Fits row bytes × (length bytes ≡ length row)
 
 -- the code point of a well-formed sequence: the bits of its bytes that its length doesn't fix
 unfoldable pub scalar_of : List ℕ → ℕ
@@ -65,22 +73,30 @@ abbrev pub ReadsUtf8 : List ℕ → ℕ → ℕ → Type 0
 ReadsUtf8 bytes taken code_point = ReadsWellFormed bytes taken code_point ⊎ ReadsIllFormed bytes taken code_point
 
 -- how many bytes stand in the first ranges of a row
-unfoldable pub fitting : List (ℕ × ℕ) → List ℕ → ℕ
+unfoldable pub fitting : Ranges → List ℕ → ℕ
 fitting [] bytes = 0
 fitting (range ∷ row) [] = 0
 fitting (range ∷ row) (byte ∷ bytes) =
     if nat_le range.0 byte && nat_le byte range.1 then suc (fitting row bytes) else 0
 
 -- what begins with a byte of this row
-unfoldable pub read_row : List (ℕ × ℕ) → List ℕ → ℕ × ℕ
+unfoldable pub read_row : Ranges → List ℕ → Reading
 read_row row bytes =
     let taken = fitting row bytes in
     (taken, if taken == length row then scalar_of (take taken bytes) else 0xFFFD)
 
 -- a reader of one item: the row that the first byte belongs to decides
-unfoldable pub read_utf8 : List ℕ → ℕ × ℕ
+unfoldable pub read_utf8 : Reader
 read_utf8 bytes = option_map_or (λ row. read_row row bytes) (find (λ row. nat_lt 0 (fitting row bytes)) rows) (1, 0xFFFD)
 
 -- the items of possibly ill-formed UTF-8 from a place on
-unfoldable pub utf8_items : ℕ → List ℕ → List (ℕ × ℕ)
+unfoldable pub utf8_items : ℕ → List ℕ → List Item
 utf8_items place bytes = items_by read_utf8 place bytes
+
+-- the text of possibly ill-formed UTF-8 from a place on
+abbrev pub utf8_from : ℕ → List ℕ → Text
+utf8_from place bytes = record { items = utf8_items place bytes; end = place + length bytes }
+
+-- the text of possibly ill-formed UTF-8, or of a str
+abbrev pub utf8 : List ℕ → Text
+utf8 bytes = utf8_from 0 bytes

@@ -1,18 +1,20 @@
 //! What is proved of the definitions themselves: that the items of a text are what the standards say, and no others.
 
-ghost use Rattle.std.specs.Prelude.{◌≡◌, ℕ, List};
+ghost use Rattle.std.specs.Prelude.{◌≡◌, ℕ, true, false, List, [], ◌∷◌};
 ghost use Rattle.std.specs.Str.{IsUtf8, chars};
-ghost use Rattle.seg_text.specs.Items.{IsTiling, code_points};
+ghost use Rattle.seg_text.specs.Items.{Item, IsTiling, code_points};
 ghost use Rattle.seg_text.specs.Latin1.{ReadsLatin1, latin1_items};
 ghost use Rattle.seg_text.specs.Utf8.{ReadsUtf8, ReadsWellFormed, utf8_items};
 ghost use Rattle.seg_text.specs.Utf16.{ReadsUtf16, utf16_items};
+
+use crate::scaffold::{Encoding, Latin1, PotentiallyIllFormedUtf8, Utf8, Utf16};
 
 /// The items of Latin-1 tile the bytes, and no other items do.
 ///
 /// Each byte is an item, and its number is the code point. This holds from any place on.
 pub fn latin1_items_are_one()
     ensures tiles { (place : ℕ) (bytes : List ℕ) → IsTiling ReadsLatin1 (latin1_items place bytes) place bytes }
-    ensures only { (place : ℕ) (bytes : List ℕ) (items : List (ℕ × ℕ))
+    ensures only { (place : ℕ) (bytes : List ℕ) (items : List Item)
         → IsTiling ReadsLatin1 items place bytes → items ≡ latin1_items place bytes }
 {}
 
@@ -22,7 +24,7 @@ pub fn latin1_items_are_one()
 /// beginning of any of them that stands there, at least one byte. This holds from any place on.
 pub fn utf8_items_are_one()
     ensures tiles { (place : ℕ) (bytes : List ℕ) → IsTiling ReadsUtf8 (utf8_items place bytes) place bytes }
-    ensures only { (place : ℕ) (bytes : List ℕ) (items : List (ℕ × ℕ))
+    ensures only { (place : ℕ) (bytes : List ℕ) (items : List Item)
         → IsTiling ReadsUtf8 items place bytes → items ≡ utf8_items place bytes }
 {}
 
@@ -32,7 +34,7 @@ pub fn utf8_items_are_one()
 /// This holds from any place on.
 pub fn utf16_items_are_one()
     ensures tiles { (place : ℕ) (units : List ℕ) → IsTiling ReadsUtf16 (utf16_items place units) place units }
-    ensures only { (place : ℕ) (units : List ℕ) (items : List (ℕ × ℕ))
+    ensures only { (place : ℕ) (units : List ℕ) (items : List Item)
         → IsTiling ReadsUtf16 items place units → items ≡ utf16_items place units }
 {}
 
@@ -44,6 +46,19 @@ pub fn str_is_well_formed(text: &str)
 
 /// And bytes that well-formed sequences tile are those of a `str`. This holds from any place on.
 pub fn well_formed_is_str()
-    ensures utf8 { (place : ℕ) (bytes : List ℕ) (items : List (ℕ × ℕ))
+    ensures utf8 { (place : ℕ) (bytes : List ℕ) (items : List Item)
         → IsTiling ReadsWellFormed items place bytes → IsUtf8 bytes }
 {}
+
+/// Whether Latin-1, `str`, possibly ill-formed UTF-8 and possibly ill-formed UTF-16 can contain scripts of Southeast
+/// Asia: all but Latin-1.
+pub fn encodings_with_southeast_asia() -> [bool; 4]
+    ensures { result ≡ false ∷ true ∷ true ∷ true ∷ [] }
+{
+    [
+        Latin1::CAN_CONTAIN_SA,
+        Utf8::CAN_CONTAIN_SA,
+        PotentiallyIllFormedUtf8::CAN_CONTAIN_SA,
+        Utf16::CAN_CONTAIN_SA,
+    ]
+}

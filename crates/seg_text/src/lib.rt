@@ -1,8 +1,9 @@
 //! Texts as lists of items: cursors that decode them, and the encodings that segmenters take.
 #![tactic(auto)]
 
+pub mod boundary;
+pub mod cursor;
 pub mod indices;
-pub mod inner;
 pub mod laws;
 pub mod scaffold;
 #[cfg(test)]

@@ -3,10 +3,10 @@
 ghost use Rattle.std.specs.Prelude.{◌≡◌, ℕ, ◌+◌, ◌-◌, ◌<◌, Bool, true, false, Option, take, drop, length, ◌==◌};
 ghost use Rattle.std.specs.List.{All};
 ghost use Rattle.std.specs.Iterator.{YieldsFirstBy, IsFinite};
-ghost use Rattle.seg_text.specs.Items.{place_of, code_points, shifted_back};
+ghost use Rattle.seg_text.specs.Items.{IsRising, start_of, rest_after, slice_of, code_points};
 
+use crate::cursor::Cursor;
 use crate::indices::{Latin1Indices, StrCharIndices, Utf8CharIndices, Utf16Indices};
-use crate::inner::Cursor;
 use crate::private::Sealed;
 
 /// What holds of an encoding for any lifetime of the text. Sealed, as `RuleBreakType`.
@@ -37,25 +37,26 @@ pub trait RuleBreakType<'s>: Encoding {
 
     /// Whether all items are read.
     fn is_empty(iter: &Self::IterAttr) -> bool
-        ensures { result ≡ (length (Self.IterAttr.left iter.now) == 0) };
+        ensures { result ≡ (length (Self.IterAttr.text iter.now).items == 0) };
 
     /// The place of the next item, or of the text's end.
     fn offset(iter: &Self::IterAttr) -> usize
-        ensures { result ≡ place_of (Self.IterAttr.left iter.now) (Self.IterAttr.end iter.now) };
+        ensures { result ≡ start_of (Self.IterAttr.text iter.now) };
 
     /// The items from one place up to another, as a text of its own: its places start at 0 again. O(1), takes no memory.
     fn slice(iter: &Self::IterAttr, from: usize, to: usize) -> Self::IterAttr
-        requires { (j k : ℕ) × (from ≡ place_of (drop j (Self.IterAttr.left iter.now)) (Self.IterAttr.end iter.now))
-            × (to ≡ place_of (drop (j + k) (Self.IterAttr.left iter.now)) (Self.IterAttr.end iter.now)) }
-        ensures items { (j k : ℕ) → from ≡ place_of (drop j (Self.IterAttr.left iter.now)) (Self.IterAttr.end iter.now)
-            → to ≡ place_of (drop (j + k) (Self.IterAttr.left iter.now)) (Self.IterAttr.end iter.now)
-            → Self.IterAttr.left result ≡ shifted_back from (take k (drop j (Self.IterAttr.left iter.now))) }
-        ensures end { Self.IterAttr.end result ≡ to - from };
+        requires { (j k : ℕ) × (from ≡ start_of (rest_after j (Self.IterAttr.text iter.now)))
+            × (to ≡ start_of (rest_after (j + k) (Self.IterAttr.text iter.now))) }
+        ensures { (j k : ℕ) → from ≡ start_of (rest_after j (Self.IterAttr.text iter.now))
+            → to ≡ start_of (rest_after (j + k) (Self.IterAttr.text iter.now))
+            → Self.IterAttr.text result ≡ slice_of j k (Self.IterAttr.text iter.now) };
 
-    /// Where `CAN_CONTAIN_SA` is false, the code points that are left are all below U+0100. Does nothing.
+    /// Law: the items that are left are in order, none of them is empty, and they reach to the end of the text; where
+    /// `CAN_CONTAIN_SA` is false, their code points are all below U+0100. Does nothing.
     fn check(iter: &Self::IterAttr)
+        ensures rises { IsRising (Self.IterAttr.text iter.now).items (Self.IterAttr.text iter.now).end }
         ensures narrow { Self.CAN_CONTAIN_SA ≡ false
-            → All (λ code_point. code_point < 0x100) (code_points (Self.IterAttr.left iter.now)) };
+            → All (λ code_point. code_point < 0x100) (code_points (Self.IterAttr.text iter.now).items) };
 
     /// `next` may always be called.
     ghost always: { (s : Self.IterAttr) → Self.IterAttr.can_next s };
@@ -66,7 +67,7 @@ pub trait RuleBreakType<'s>: Encoding {
     /// `next` gives the items, each with its place.
     ghost gives: { (s : Self.IterAttr) (r : Option (ℕ × Self.CharType)) (t : Self.IterAttr)
         → Self.IterAttr.next_gives s r t
-        → YieldsFirstBy (λ (item : ℕ × Self.CharType). (item.0, code_point item.1)) Self.IterAttr.left s r t };
+        → YieldsFirstBy (λ (item : ℕ × Self.CharType). (item.0, code_point item.1)) (λ s. (Self.IterAttr.text s).items) s r t };
 
     /// A character becomes its code point.
     ghost converts: { (c : Self.CharType) (n : ℕ) → Self.CharType.converts c n → n ≡ code_point c };

@@ -1,9 +1,9 @@
 ghost use Rattle.std.specs.Prelude.{◌≡◌, ◌≤◌, ◌<◌, true, drop};
 ghost use Rattle.std.specs.List.{All};
-ghost use Rattle.seg_text.specs.Items.{place_of, code_points};
+ghost use Rattle.seg_text.specs.Items.{start_of, rest_after, code_points};
 
+use crate::cursor::Cursor;
 use crate::indices::{Latin1Indices, StrCharIndices, Utf8CharIndices, Utf16Indices};
-use crate::inner::Cursor;
 use crate::scaffold::{
     Latin1, LineBreakType, PotentiallyIllFormedUtf8, RuleBreakType, Utf8, Utf16, WordBreakType,
 };
@@ -35,7 +35,7 @@ fn expect_items<'s, Y: RuleBreakType<'s>>(
 
 /// The place after so many items, or the end.
 fn place_after<I: Cursor>(text: &I, taken: usize) -> usize
-    ensures { result ≡ place_of (drop taken (I.left text.now)) (I.end text.now) }
+    ensures { result ≡ start_of (rest_after taken (I.text text.now)) }
 {
     let mut rest = text.fork();
     for _i in 0..taken {
@@ -62,7 +62,7 @@ fn expect_slice<'s, Y: RuleBreakType<'s>>(
 
 /// Whether no text of an encoding can need a dictionary, by the bound alone.
 fn is_narrow<'s, Y: RuleBreakType<'s>>(text: &Y::IterAttr) -> bool
-    ensures { result ≡ true → All (λ code_point. code_point < 0x100) (code_points (Y.IterAttr.left text.now)) }
+    ensures { result ≡ true → All (λ code_point. code_point < 0x100) (code_points (Y.IterAttr.text text.now).items) }
 {
     Y::check(text);
     !Y::CAN_CONTAIN_SA

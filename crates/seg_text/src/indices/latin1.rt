@@ -1,10 +1,10 @@
 ghost use Rattle.std.specs.Prelude.{◌≡◌, ◌≤◌, ◌<◌, ℕ, ⊤, drop, length, ◌+◌, ◌==◌};
 ghost use Rattle.std.specs.Iterator.{YieldsFirst, item_count, MakesProgress};
-ghost use Rattle.seg_text.specs.Latin1.{latin1_items};
+ghost use Rattle.seg_text.specs.Latin1.{latin1_items, latin1_from};
 ghost use Rattle.seg_text.specs.Cursor.{Rest, GoesOn};
-ghost use Rattle.seg_text.specs.Rising.{latin1_items-rises};
+ghost use Rattle.seg_text.specs.Lemmas.Rising.{latin1_items-rises};
 
-use crate::inner::Cursor;
+use crate::cursor::Cursor;
 use std::alloc::AllocError;
 use std::marker::Model;
 
@@ -85,9 +85,7 @@ impl<'a> Iterator for Latin1Indices<'a> {
 }
 
 impl<'a> Cursor for Latin1Indices<'a> {
-    ghost left = { λ s. latin1_items s.place s.units };
-
-    ghost end = { λ s. s.place + length s.units };
+    ghost text = { λ s. latin1_from s.place s.units };
 
     fn next_item(&mut self) -> Option<(usize, u32)> {
         match self.next() {

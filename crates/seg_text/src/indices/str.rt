@@ -1,10 +1,10 @@
 ghost use Rattle.std.specs.Prelude.{◌≡◌, ◌≤◌, ◌<◌, ℕ, ⊤, drop, length, ◌+◌, ◌==◌};
 ghost use Rattle.std.specs.Iterator.{YieldsFirst, item_count, MakesProgress};
-ghost use Rattle.seg_text.specs.Utf8.{utf8_items, read_utf8};
+ghost use Rattle.seg_text.specs.Utf8.{utf8_items, utf8_from, read_utf8};
 ghost use Rattle.seg_text.specs.Cursor.{Rest, GoesOn};
-ghost use Rattle.seg_text.specs.Rising.{utf8_items-rises};
+ghost use Rattle.seg_text.specs.Lemmas.Rising.{utf8_items-rises};
 
-use crate::inner::Cursor;
+use crate::cursor::Cursor;
 use std::alloc::AllocError;
 use std::marker::Model;
 
@@ -94,9 +94,7 @@ impl<'a> Iterator for StrCharIndices<'a> {
 }
 
 impl<'a> Cursor for StrCharIndices<'a> {
-    ghost left = { λ s. utf8_items s.place s.units };
-
-    ghost end = { λ s. s.place + length s.units };
+    ghost text = { λ s. utf8_from s.place s.units };
 
     fn next_item(&mut self) -> Option<(usize, u32)> {
         match self.next() {

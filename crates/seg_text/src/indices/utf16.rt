@@ -1,10 +1,10 @@
 ghost use Rattle.std.specs.Prelude.{◌≡◌, ◌≤◌, ◌<◌, ℕ, ⊤, drop, length, ◌+◌, ◌==◌, slice_index};
 ghost use Rattle.std.specs.Iterator.{YieldsFirst, item_count, MakesProgress};
-ghost use Rattle.seg_text.specs.Utf16.{utf16_items, read_utf16, IsHighSurrogate};
+ghost use Rattle.seg_text.specs.Utf16.{utf16_items, utf16_from, read_utf16, IsHighSurrogate};
 ghost use Rattle.seg_text.specs.Cursor.{Rest, GoesOn};
-ghost use Rattle.seg_text.specs.Rising.{utf16_items-rises};
+ghost use Rattle.seg_text.specs.Lemmas.Rising.{utf16_items-rises};
 
-use crate::inner::Cursor;
+use crate::cursor::Cursor;
 use std::alloc::AllocError;
 use std::marker::Model;
 
@@ -94,9 +94,7 @@ impl<'a> Iterator for Utf16Indices<'a> {
 }
 
 impl<'a> Cursor for Utf16Indices<'a> {
-    ghost left = { λ s. utf16_items s.place s.units };
-
-    ghost end = { λ s. s.place + length s.units };
+    ghost text = { λ s. utf16_from s.place s.units };
 
     fn next_item(&mut self) -> Option<(usize, u32)> {
         self.next()

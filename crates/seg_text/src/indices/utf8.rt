@@ -1,11 +1,11 @@
 ghost use Rattle.std.specs.Prelude.{◌≡◌, ◌≤◌, ◌<◌, ℕ, ⊤, ◌↔◌, IsTrue, [], ◌∷◌, drop, length, ◌+◌, ◌==◌, slice_index};
 ghost use Rattle.std.specs.Iterator.{YieldsFirst, item_count, MakesProgress};
 ghost use Rattle.std.specs.Char.{IsScalar};
-ghost use Rattle.seg_text.specs.Utf8.{utf8_items, read_utf8, read_row, trail, StandsAt};
+ghost use Rattle.seg_text.specs.Utf8.{utf8_items, utf8_from, read_utf8, read_row, trail, StandsAt, Range};
 ghost use Rattle.seg_text.specs.Cursor.{Rest, GoesOn};
-ghost use Rattle.seg_text.specs.Rising.{utf8_items-rises};
+ghost use Rattle.seg_text.specs.Lemmas.Rising.{utf8_items-rises};
 
-use crate::inner::Cursor;
+use crate::cursor::Cursor;
 use std::alloc::AllocError;
 use std::marker::Model;
 
@@ -98,9 +98,7 @@ impl<'a> Iterator for Utf8CharIndices<'a> {
 }
 
 impl<'a> Cursor for Utf8CharIndices<'a> {
-    ghost left = { λ s. utf8_items s.place s.units };
-
-    ghost end = { λ s. s.place + length s.units };
+    ghost text = { λ s. utf8_from s.place s.units };
 
     fn next_item(&mut self) -> Option<(usize, u32)> {
         match self.next() {
@@ -155,8 +153,8 @@ fn character(code: u32) -> char
     character
 }
 
-/// Reads the first item where no ASCII stands: how many bytes it takes, and its character. The
-/// beginnings of most sequences of three bytes are tried first.
+/// Reads the first item where no ASCII stands: how many bytes it takes, and its character. The commonest rows of
+/// Table 3-7 come first.
 #[inline(never)]
 fn read_wide(bytes: &[u8]) -> (usize, char)
     requires { 0x80 ≤ slice_index bytes.now 0 }
@@ -172,16 +170,15 @@ fn read_wide(bytes: &[u8]) -> (usize, char)
     read_other(bytes)
 }
 
-/// The same, in the order of Table 3-7.
+/// Reads the first item by one of the other rows.
 #[inline(never)]
 fn read_other(bytes: &[u8]) -> (usize, char)
-    requires { 0x80 ≤ slice_index bytes.now 0 }
+    requires wide { 0x80 ≤ slice_index bytes.now 0 }
+    requires other { 0xE0 ≤ slice_index bytes.now 0 → 0xEC < slice_index bytes.now 0 }
     ensures { result ≡ read_utf8 bytes.now }
 {
     match bytes[0] {
         0xC2..=0xDF => read_two(bytes),
-        0xE0 => read_three(bytes, 0xA0, 0xBF),
-        0xE1..=0xEC => read_three(bytes, 0x80, 0xBF),
         0xED => read_three(bytes, 0x80, 0x9F),
         0xEE..=0xEF => read_three(bytes, 0x80, 0xBF),
         0xF0 => read_four(bytes, 0x90, 0xBF),
@@ -195,7 +192,7 @@ fn read_other(bytes: &[u8]) -> (usize, char)
 fn read_two(bytes: &[u8]) -> (usize, char)
     requires low { 0xC2 ≤ slice_index bytes.now 0 }
     requires high { slice_index bytes.now 0 ≤ 0xDF }
-    ensures { (first : ℕ × ℕ) → StandsAt bytes.now 0 first → result ≡ read_row (first ∷ trail ∷ []) bytes.now }
+    ensures { (first : Range) → StandsAt bytes.now 0 first → result ≡ read_row (first ∷ trail ∷ []) bytes.now }
 {
     if !stands_at(bytes, 1, 0x80, 0xBF) {
         return (1, REPLACEMENT);
@@ -211,7 +208,7 @@ fn read_three(bytes: &[u8], low: u8, high: u8) -> (usize, char)
     requires high { slice_index bytes.now 0 ≤ 0xEF }
     requires trail { (0x80 ≤ low) × (high ≤ 0xBF) }
     requires no_surrogate { slice_index bytes.now 0 ≡ 0xED → high ≤ 0x9F }
-    ensures { (first : ℕ × ℕ) → StandsAt bytes.now 0 first
+    ensures { (first : Range) → StandsAt bytes.now 0 first
         → result ≡ read_row (first ∷ (low, high) ∷ trail ∷ []) bytes.now }
 {
     if !stands_at(bytes, 1, low, high) {
@@ -233,7 +230,7 @@ fn read_four(bytes: &[u8], low: u8, high: u8) -> (usize, char)
     requires trail { (0x80 ≤ low) × (high ≤ 0xBF) }
     requires not_above { slice_index bytes.now 0 ≡ 0xF4 → high ≤ 0x8F }
     requires not_below { slice_index bytes.now 0 ≡ 0xF0 → 0x90 ≤ low }
-    ensures { (first : ℕ × ℕ) → StandsAt bytes.now 0 first
+    ensures { (first : Range) → StandsAt bytes.now 0 first
         → result ≡ read_row (first ∷ (low, high) ∷ trail ∷ trail ∷ []) bytes.now }
 {
     if !stands_at(bytes, 1, low, high) {

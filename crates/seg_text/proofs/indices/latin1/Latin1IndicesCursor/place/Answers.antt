@@ -1,7 +1,7 @@
 use Rattle.std.proofs.Common.{sym, ◌∙◌}
 use Rattle.seg_text.specs.Latin1.{read_latin1, latin1_items}
-use Rattle.seg_text.specs.Reader.{place_of-items_by}
-use Rattle.seg_text.specs.Rising.{read_latin1-reader}
+use Rattle.seg_text.specs.Lemmas.Readers.{place_of-items_by}
+use Rattle.seg_text.specs.Lemmas.Rising.{read_latin1-reader}
 use Rattle.seg_text.proofs.indices.latin1.Latin1IndicesCursor.place.Goals as goal
 
 pub returns : goal.returns

@@ -1,8 +1,8 @@
 use Rattle.std.proofs.Common.{◌+◌, arith}
 use Rattle.seg_text.specs.Latin1.{read_latin1, latin1_items}
-use Rattle.seg_text.specs.Rising.{read_latin1-reader}
-use Rattle.seg_text.proofs.Cursor.{seek-within}
-use Rattle.seg_text.proofs.Slice.{slice-order, slice-left}
+use Rattle.seg_text.specs.Lemmas.Rising.{read_latin1-reader}
+use Rattle.seg_text.proofs.Cursors.{seek-within}
+use Rattle.seg_text.proofs.Slice.{slice-order, slice-text}
 use Rattle.seg_text.proofs.Latin1.{read_latin1-stable}
 use Rattle.seg_text.proofs.indices.latin1.Latin1IndicesCursor.slice.Goals as goal
 
@@ -32,9 +32,9 @@ slice_bounds-new-end c =
           (rw (← c.self.view_is) at c.requires.3),
     )
 
-pub returns-clause-items : goal.returns-clause-items
+pub returns : goal.returns
 unfolding latin1_items
-returns-clause-items c j k begins ends =
+returns c j k begins ends =
     rw (← c.self.view_is, c.new.ensures)
-    (slice-left read_latin1 read_latin1-stable j k _ _ c.self.inside.front_offset c.self.inside.bytes.now c.self.invariant
+    (slice-text read_latin1 read_latin1-stable j k _ _ c.self.inside.front_offset c.self.inside.bytes.now c.self.invariant
     (rw (← c.self.view_is) at begins) (rw (← c.self.view_is) at ends))

@@ -1,7 +1,7 @@
 use Rattle.std.proofs.Common.{arith}
 use Rattle.seg_text.specs.Latin1.{read_latin1, latin1_items}
-use Rattle.seg_text.proofs.Cursor.{next-item, goes-on, stays, nothing-left, fewer-left}
-use Rattle.seg_text.specs.Rising.{read_latin1-reader}
+use Rattle.seg_text.proofs.Cursors.{next-item, goes-on, stays, nothing-left, fewer-left}
+use Rattle.seg_text.specs.Lemmas.Rising.{read_latin1-reader}
 use Rattle.seg_text.proofs.Latin1.{read_latin1-at}
 use Rattle.seg_text.proofs.indices.latin1.Latin1IndicesIterator.next.Goals as goal
 

@@ -1,4 +1,4 @@
-use Rattle.seg_text.proofs.Cursor.{same-end}
+use Rattle.seg_text.proofs.Cursors.{same-end}
 use Rattle.seg_text.proofs.indices.str.StrCharIndicesCursor.next_item.Goals as goal
 
 pub returns-in-Some-clause-end : goal.returns-in-Some-clause-end

@@ -1,6 +1,6 @@
 use Rattle.std.proofs.Common.{◌+◌}
 use Rattle.seg_text.specs.Utf8.{read_utf8, utf8_items}
-use Rattle.seg_text.proofs.Slice.{slice-order, slice-left}
+use Rattle.seg_text.proofs.Slice.{slice-order, slice-text}
 use Rattle.seg_text.proofs.Str.{seek-boundary}
 use Rattle.seg_text.proofs.Utf8Stable.{read_utf8-stable}
 use Rattle.seg_text.proofs.indices.str.StrCharIndicesCursor.slice.Goals as goal
@@ -22,9 +22,9 @@ range-requires-clause-end_boundary c =
     seek-boundary (c.requires.0 + c.requires.1) _ c.self.inside.front_offset _ c.self.invariant.0 c.self.invariant.1
     (rw (← c.self.view_is) at c.requires.3)
 
-pub returns-clause-items : goal.returns-clause-items
+pub returns : goal.returns
 unfolding utf8_items
-returns-clause-items c j k begins ends =
+returns c j k begins ends =
     rw (← c.self.view_is, c.new.ensures, c.range.ensures.value)
-    (slice-left read_utf8 read_utf8-stable j k _ _ c.self.inside.front_offset c.self.inside.text.now c.self.invariant.0
+    (slice-text read_utf8 read_utf8-stable j k _ _ c.self.inside.front_offset c.self.inside.text.now c.self.invariant.0
     (rw (← c.self.view_is) at begins) (rw (← c.self.view_is) at ends))

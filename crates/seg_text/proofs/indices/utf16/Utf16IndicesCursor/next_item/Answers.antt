@@ -1,4 +1,4 @@
-use Rattle.seg_text.proofs.Cursor.{same-end}
+use Rattle.seg_text.proofs.Cursors.{same-end}
 use Rattle.seg_text.proofs.indices.utf16.Utf16IndicesCursor.next_item.Goals as goal
 
 pub returns-clause-end : goal.returns-clause-end

@@ -1,8 +1,8 @@
 use Rattle.std.proofs.Common.{arith}
 use Rattle.std.proofs.lemmas.List.{take_rest}
 use Rattle.seg_text.specs.Utf16.{read_utf16, utf16_items}
-use Rattle.seg_text.specs.Rising.{read_utf16-reader}
-use Rattle.seg_text.proofs.Cursor.{next-item, goes-on, stays, nothing-left, fewer-left, taken-within}
+use Rattle.seg_text.specs.Lemmas.Rising.{read_utf16-reader}
+use Rattle.seg_text.proofs.Cursors.{next-item, goes-on, stays, nothing-left, fewer-left, taken-within}
 use Rattle.seg_text.proofs.Utf16.{single-at}
 use Rattle.seg_text.proofs.indices.utf16.Utf16IndicesIterator.next.Goals as goal
 

@@ -1,6 +1,6 @@
 use Rattle.seg_text.specs.Utf8.{read_utf8, utf8_items}
-use Rattle.seg_text.proofs.Cursor.{seek-within, seek-left, seek-end}
-use Rattle.seg_text.specs.Rising.{read_utf8-reader}
+use Rattle.seg_text.proofs.Cursors.{seek-within, seek-text}
+use Rattle.seg_text.specs.Lemmas.Rising.{read_utf8-reader}
 use Rattle.seg_text.proofs.indices.utf8.Utf8CharIndicesCursor.seek.Goals as goal
 
 pub invariant_of-self : goal.invariant_of-self
@@ -9,12 +9,7 @@ invariant_of-self c =
     seek-within read_utf8 read_utf8-reader c.requires.0 _ c.self.inside.front_offset _ c.self.invariant
     (rw (← c.self.view_is) at c.requires.1)
 
-pub returns-clause-left : goal.returns-clause-left
+pub returns : goal.returns
 unfolding utf8_items
-returns-clause-left c k here =
-    rw (← c.self.view_is)
-    (seek-left read_utf8 read_utf8-reader k _ c.self.inside.front_offset c.self.inside.bytes.now c.self.invariant
-    (rw (← c.self.view_is) at here))
-
-pub returns-clause-end : goal.returns-clause-end
-returns-clause-end c = rw (← c.self.view_is) (seek-end _ _ _ (invariant_of-self c) c.self.invariant)
+returns c k here =
+    rw (← c.self.view_is) (seek-text read_utf8 read_utf8-reader k _ c.self.inside.front_offset c.self.inside.bytes.now c.self.invariant (rw (← c.self.view_is) at here))

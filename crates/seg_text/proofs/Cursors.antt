@@ -6,16 +6,16 @@ use Rattle.std.proofs.Math.Dec.{eqb-suc-zero}
 use Rattle.std.specs.Prelude.{Some, ⊤}
 use Rattle.std.specs.Iterator.{MakesProgress, item_count}
 use Rattle.seg_text.specs.Cursor.{Rest, GoesOn}
-use Rattle.seg_text.specs.Items.{place_of, items_by}
-use Rattle.seg_text.specs.Reader.{IsReader, items_by-nil, items_by-cons, place_of-items_by}
+use Rattle.seg_text.specs.Items.{Text, rest_after, place_of, items_by, Reader, Reading}
+use Rattle.seg_text.specs.Lemmas.Readers.{IsReader, items_by-nil, items_by-cons, place_of-items_by}
 
 -- the items after the first k are those of the units after the first so many
-pub record IsFrom (read : List ℕ → ℕ × ℕ) (k place : ℕ) (units : List ℕ) : Type 0 where
+pub record IsFrom (read : Reader) (k place : ℕ) (units : List ℕ) : Type 0 where
   pub before : ℕ
   pub within : before ≤ length units
   pub same : drop k (items_by read place units) ≡ items_by read (place + before) (drop before units)
 
-pub items_by-from : (read : List ℕ → ℕ × ℕ) → IsReader read → (k place : ℕ) (units : List ℕ) → IsFrom read k place units
+pub items_by-from : (read : Reader) → IsReader read → (k place : ℕ) (units : List ℕ) → IsFrom read k place units
 items_by-from read reader zero place units =
     let start : place + 0 ≡ place = omega arith in
     record { before = 0; within = omega arith; same = rw start refl }
@@ -35,7 +35,7 @@ items_by-from read reader (suc k) place (unit ∷ units) =
     }
 
 -- the place of an item that isn't read yet, and what is left there, where the text is `text` and `start` the place of the cursor
-seek-found : (read : List ℕ → ℕ × ℕ) → IsReader read → (k place start : ℕ) (text : List ℕ) → start ≤ length text
+seek-found : (read : Reader) → IsReader read → (k place start : ℕ) (text : List ℕ) → start ≤ length text
     → place ≡ place_of (drop k (items_by read start (drop start text))) (start + length (drop start text))
     → (place ≤ length text) × (items_by read place (drop place text) ≡ drop k (items_by read start (drop start text)))
 seek-found read reader k place start text inside here =
@@ -49,12 +49,12 @@ seek-found read reader k place start text inside here =
     rw (is, ← drop-drop from.before start text) (sym from.same) in
     (omega (arith, length-drop start text), same)
 
-pub seek-within : (read : List ℕ → ℕ × ℕ) → IsReader read → (k place start : ℕ) (text : List ℕ) → start ≤ length text
+pub seek-within : (read : Reader) → IsReader read → (k place start : ℕ) (text : List ℕ) → start ≤ length text
     → place ≡ place_of (drop k (items_by read start (drop start text))) (start + length (drop start text))
     → place ≤ length text
 seek-within read reader k place start text inside here = (seek-found read reader k place start text inside here).0
 
-pub seek-left : (read : List ℕ → ℕ × ℕ) → IsReader read → (k place start : ℕ) (text : List ℕ) → start ≤ length text
+pub seek-left : (read : Reader) → IsReader read → (k place start : ℕ) (text : List ℕ) → start ≤ length text
     → place ≡ place_of (drop k (items_by read start (drop start text))) (start + length (drop start text))
     → items_by read place (drop place text) ≡ drop k (items_by read start (drop start text))
 seek-left read reader k place start text inside here = (seek-found read reader k place start text inside here).1
@@ -64,8 +64,16 @@ pub seek-end : (place start : ℕ) (text : List ℕ) → place ≤ length text �
     → place + length (drop place text) ≡ start + length (drop start text)
 seek-end place start text inside before = omega (arith, length-drop place text, length-drop start text)
 
+-- what is left there, as a text
+pub seek-text : (read : Reader) → IsReader read → (k place start : ℕ) (text : List ℕ) → start ≤ length text
+    → place ≡ place_of (drop k (items_by read start (drop start text))) (start + length (drop start text))
+    → let there : Text = record { items = items_by read place (drop place text); end = place + length (drop place text) } in
+    there ≡ rest_after k (record { items = items_by read start (drop start text); end = start + length (drop start text) })
+seek-text read reader k place start text inside here =
+    rw (seek-left read reader k place start text inside here, seek-end place start text (seek-within read reader k place start text inside here) inside) refl
+
 -- it is at the end just where no item is left
-pub at-end : (read : List ℕ → ℕ × ℕ) → IsReader read → (start : ℕ) (text : List ℕ) → start ≤ length text
+pub at-end : (read : Reader) → IsReader read → (start : ℕ) (text : List ℕ) → start ≤ length text
     → nat_eq start (length text) ≡ nat_eq (length (items_by read start (drop start text))) 0
 at-end read reader start text inside = on (drop start text) refl
   where
@@ -78,7 +86,7 @@ at-end read reader start text inside = on (drop start text) refl
         rw (items_by-cons read reader start unit units) (ne_eqb start (length text) (λ same. omega arith) ∙ sym (eqb-suc-zero _))
 
 -- what one call of `next` reads
-pub next-item : (read : List ℕ → ℕ × ℕ) → IsReader read → (start : ℕ) (text : List ℕ) (found : ℕ × ℕ) → start < length text
+pub next-item : (read : Reader) → IsReader read → (start : ℕ) (text : List ℕ) (found : Reading) → start < length text
     → found ≡ read (drop start text)
     → items_by read start (drop start text) ≡ (start, found.1) ∷ items_by read (start + found.0) (drop (start + found.0) text)
 next-item read reader start text found inside reads = on (drop start text) refl reads
@@ -102,7 +110,7 @@ pub same-end : (earlier later : Rest) → GoesOn earlier later
 same-end earlier later (taken, within, place, units) =
     omega (arith, ap length units, length-drop taken earlier.units)
 
-pub nothing-left : (read : List ℕ → ℕ × ℕ) (start : ℕ) (text : List ℕ) → length text ≤ start
+pub nothing-left : (read : Reader) (start : ℕ) (text : List ℕ) → length text ≤ start
     → items_by read start (drop start text) ≡ []
 nothing-left read start text past = rw (drop_all start text past) (items_by-nil read start)
 
@@ -113,7 +121,7 @@ fewer-left left s t item gave =
     record { on = λ _. (tt, tt, omega (arith, ap length gave)); keeps = tt; rests = λ _. tt }
 
 -- an item ends within the text
-pub taken-within : (read : List ℕ → ℕ × ℕ) → IsReader read → (start : ℕ) (text : List ℕ) (found : ℕ × ℕ) → start < length text
+pub taken-within : (read : Reader) → IsReader read → (start : ℕ) (text : List ℕ) (found : Reading) → start < length text
     → found ≡ read (drop start text) → start + found.0 ≤ length text
 taken-within read reader start text found inside reads = on (drop start text) refl reads
   where

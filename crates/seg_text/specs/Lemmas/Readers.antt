@@ -1,10 +1,10 @@
 -- What holds of the items that any reader finds, as far as the law that items rise needs it.
 use Rattle.std.proofs.Common.{◌≡◌, ℕ, zero, suc, ◌+◌, ◌<◌, ◌≤◌, List, [], ◌∷◌, length, drop, refl, ap, arith}
 use Rattle.std.proofs.lemmas.List.{length-drop}
-use Rattle.seg_text.specs.Items.{IsRising, place_of, first_items, items_by}
+use Rattle.seg_text.specs.Items.{IsRising, place_of, first_items, items_by, Reader}
 
 -- an item takes one or more units, of those that there are
-pub record IsReader (read : List ℕ → ℕ × ℕ) : Type 0 where
+pub record IsReader (read : Reader) : Type 0 where
   pub some : (unit : ℕ) (units : List ℕ) → 0 < (read (unit ∷ units)).0
   pub within : (unit : ℕ) (units : List ℕ) → (read (unit ∷ units)).0 ≤ suc (length units)
 
@@ -14,7 +14,7 @@ pub fewer : (taken most : ℕ) (unit : ℕ) (units : List ℕ) → 0 < taken →
 fewer taken most unit units some bound = omega (arith, length-drop taken (unit ∷ units))
 
 -- from so many items on, more are the same
-first_items-more : (read : List ℕ → ℕ × ℕ) → IsReader read → (most more place : ℕ) (units : List ℕ)
+first_items-more : (read : Reader) → IsReader read → (most more place : ℕ) (units : List ℕ)
     → length units ≤ most → length units ≤ more → first_items read most place units ≡ first_items read more place units
 unfolding first_items
 first_items-more read reader zero zero place units bound other = refl
@@ -30,12 +30,12 @@ first_items-more read reader (suc most) (suc more) place (unit ∷ units) bound 
     (fewer taken most unit units (reader.some unit units) bound)
     (fewer taken more unit units (reader.some unit units) other))
 
-pub items_by-nil : (read : List ℕ → ℕ × ℕ) (place : ℕ) → items_by read place [] ≡ []
+pub items_by-nil : (read : Reader) (place : ℕ) → items_by read place [] ≡ []
 unfolding first_items items_by
 items_by-nil read place = refl
 
 -- the first item, and those after it
-pub items_by-cons : (read : List ℕ → ℕ × ℕ) → IsReader read → (place unit : ℕ) (units : List ℕ)
+pub items_by-cons : (read : Reader) → IsReader read → (place unit : ℕ) (units : List ℕ)
     → items_by read place (unit ∷ units)
     ≡ (place, (read (unit ∷ units)).1)
     ∷ items_by read (place + (read (unit ∷ units)).0) (drop (read (unit ∷ units)).0 (unit ∷ units))
@@ -47,19 +47,19 @@ items_by-cons read reader place unit units =
     (drop taken (unit ∷ units)) (fewer taken (length units) unit units (reader.some unit units) (omega arith)) (omega arith))
 
 -- the first item begins at the place that the items begin at
-pub place_of-items_by : (read : List ℕ → ℕ × ℕ) → IsReader read → (place : ℕ) (units : List ℕ)
+pub place_of-items_by : (read : Reader) → IsReader read → (place : ℕ) (units : List ℕ)
     → place_of (items_by read place units) (place + length units) ≡ place
 place_of-items_by read reader place [] = rw (items_by-nil read place) (omega arith)
 place_of-items_by read reader place (unit ∷ units) = rw (items_by-cons read reader place unit units) refl
 
 -- there are none just where there are no units
-pub items_by-empty : (read : List ℕ → ℕ × ℕ) → IsReader read → (place : ℕ) (units : List ℕ)
+pub items_by-empty : (read : Reader) → IsReader read → (place : ℕ) (units : List ℕ)
     → items_by read place units ≡ [] → units ≡ []
 items_by-empty read reader place [] none = refl
 items_by-empty read reader place (unit ∷ units) none =
     let some = items_by-cons read reader place unit units in cc
 
-rising-more : (read : List ℕ → ℕ × ℕ) → IsReader read → (most place : ℕ) (units : List ℕ)
+rising-more : (read : Reader) → IsReader read → (most place : ℕ) (units : List ℕ)
     → length units ≤ most → IsRising (items_by read place units) (place + length units)
 rising-more read reader most place [] bound = rw (items_by-nil read place) tt
 rising-more read reader zero place (unit ∷ units) bound = absurd (omega arith)
@@ -75,6 +75,6 @@ rising-more read reader (suc most) place (unit ∷ units) bound =
     rw (items_by-cons read reader place unit units, same) (rw next (omega arith), rises)
 
 -- each item begins before the next one does, and the last before the end
-pub items_by-rises : (read : List ℕ → ℕ × ℕ) → IsReader read → (place : ℕ) (units : List ℕ)
+pub items_by-rises : (read : Reader) → IsReader read → (place : ℕ) (units : List ℕ)
     → IsRising (items_by read place units) (place + length units)
 items_by-rises read reader place units = rising-more read reader (length units) place units (omega arith)

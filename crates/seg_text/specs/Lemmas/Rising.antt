@@ -3,11 +3,11 @@ use Rattle.std.proofs.Common.{◌≡◌, ℕ, suc, ◌+◌, ◌<◌, ◌≤◌, 
 use Rattle.std.proofs.lemmas.Bool.{ltb-true}
 use Rattle.std.specs.Prelude.{◌&&◌, ◌==◌, find, bit_and, if◌then◌else◌}
 use Rattle.std.specs.Option.{option_map_or}
-use Rattle.seg_text.specs.Items.{IsRising}
+use Rattle.seg_text.specs.Items.{IsRising, Reading}
 use Rattle.seg_text.specs.Latin1.{read_latin1, latin1_items}
-use Rattle.seg_text.specs.Utf8.{rows, fitting, read_row, read_utf8, utf8_items}
+use Rattle.seg_text.specs.Utf8.{rows, fitting, read_row, read_utf8, utf8_items, Ranges}
 use Rattle.seg_text.specs.Utf16.{pair_of, read_utf16, utf16_items}
-use Rattle.seg_text.specs.Reader.{IsReader, items_by-rises}
+use Rattle.seg_text.specs.Lemmas.Readers.{IsReader, items_by-rises}
 
 pub read_latin1-reader : IsReader read_latin1
 read_latin1-reader = record { some = λ unit units. omega arith; within = λ unit units. omega arith }
@@ -16,7 +16,7 @@ pub latin1_items-rises : (place : ℕ) (bytes : List ℕ) → IsRising (latin1_i
 unfolding latin1_items
 latin1_items-rises place bytes = items_by-rises read_latin1 read_latin1-reader place bytes
 
-fitting-within : (row : List (ℕ × ℕ)) (bytes : List ℕ) → fitting row bytes ≤ length bytes
+fitting-within : (row : Ranges) (bytes : List ℕ) → fitting row bytes ≤ length bytes
 unfolding fitting
 fitting-within [] bytes = omega arith
 fitting-within (range ∷ row) [] = omega arith
@@ -28,7 +28,7 @@ fitting-within (range ∷ row) (byte ∷ bytes) =
     either false n few = omega arith
 
 -- what is read by the row that is found takes one or more bytes, of those that there are
-read_found-bounds : (table : List (List (ℕ × ℕ))) (bytes : List ℕ) → 0 < length bytes
+read_found-bounds : (table : List Ranges) (bytes : List ℕ) → 0 < length bytes
     → let found = option_map_or (λ row. read_row row bytes) (find (λ row. nat_lt 0 (fitting row bytes)) table) (1, 0xFFFD) in
     (0 < found.0) × (found.0 ≤ length bytes)
 unfolding read_row
@@ -61,7 +61,7 @@ unfolding read_utf16
 read_utf16-bounds unit [] = (omega arith, omega arith)
 read_utf16-bounds unit (next ∷ units) = either ((bit_and unit 0xFC00 == 0xD800) && (bit_and next 0xFC00 == 0xDC00))
   where
-    either : (b : Bool) → let found : ℕ × ℕ = if b then (2, pair_of unit next) else (1, unit) in
+    either : (b : Bool) → let found : Reading = if b then (2, pair_of unit next) else (1, unit) in
         (0 < found.0) × (found.0 ≤ suc (suc (length units)))
     either true = (omega arith, omega arith)
     either false = (omega arith, omega arith)

@@ -1,0 +1,3 @@
+-- Lemmas that the laws of impls need. They state nothing new.
+pub mod Readers
+pub mod Rising

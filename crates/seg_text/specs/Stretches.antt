@@ -1,0 +1,59 @@
+-- A list that is gone through stretch by stretch.
+use Rattle.std.specs.Prelude.{◌≡◌, ℕ, zero, suc, ◌<◌, ◌≤◌, ◌⊎◌, Bool, if◌then◌else◌, List, [], ◌∷◌, ◌++◌, length, drop}
+use Rattle.seg_text.specs.Items.{Text}
+use Rattle.seg_text.specs.Boundaries.{Boundary, Remainder, start, shift_all, boundaries_in}
+
+-- how many elements a stretch has, and the boundaries in it, counted from its first element
+pub record Stretch : Type 0 where
+  pub extent : ℕ
+  pub boundaries : List Boundary
+
+-- the list is these stretches, each the first of what is left (`first`), and has these boundaries: those of its first
+-- stretch, and then those of the rest
+abbrev pub AreThrough : {X : Type 0} → (List X → Stretch) → List X → List Stretch → List Boundary → Type 0
+AreThrough first [] [] found = found ≡ []
+AreThrough first (x ∷ xs) (stretch ∷ stretches) found =
+    (first (x ∷ xs) ≡ stretch)
+    × ((later : List Boundary) × (found ≡ stretch.boundaries ++ shift_all stretch.extent later)
+    × AreThrough first (drop stretch.extent (x ∷ xs)) stretches later)
+AreThrough first [] (stretch ∷ stretches) found = ⊥
+AreThrough first (x ∷ xs) [] found = ⊥
+
+-- the same boundaries as a function, through so many stretches at most
+unfoldable pub through_within : {X : Type 0} → (List X → Stretch) → ℕ → List X → List Boundary
+through_within first zero xs = []
+through_within first (suc most) [] = []
+through_within first (suc most) (x ∷ xs) =
+    let stretch = first (x ∷ xs) in
+    stretch.boundaries ++ shift_all stretch.extent (through_within first most (drop stretch.extent (x ∷ xs)))
+
+unfoldable pub through : {X : Type 0} → (List X → Stretch) → List X → List Boundary
+through first xs = through_within first (length xs) xs
+
+-- all boundaries: that at the start, and then those of the stretches
+abbrev pub boundaries_through : {X : Type 0} → (List X → Stretch) → List X → List Boundary
+boundaries_through first xs = start ∷ through first xs
+
+-- what an engine over a text has still to give: all boundaries of it, or where it has started those of its stretches
+abbrev pub remainder : Bool → (List ℕ → Stretch) → Text → ℕ → Remainder
+remainder started first text status = record {
+  left = if started then boundaries_in (through first) text else boundaries_in (boundaries_through first) text;
+  status = status;
+}
+
+-- each stretch has some of the elements that there are
+abbrev pub IsGoing : {X : Type 0} → (List X → Stretch) → Type 0
+IsGoing {X} first = (x : X) (xs : List X) → 0 < (first (x ∷ xs)).extent
+
+-- a stretch has one boundary, at its end, or none
+abbrev pub HasEndAlone : Stretch → Type 0
+HasEndAlone stretch =
+    (stretch.boundaries ≡ [])
+    ⊎ ((status : ℕ) × (stretch.boundaries ≡ record { offset = stretch.extent; status = status } ∷ []))
+
+-- of so many elements a stretch has some, and all of them only where it has a boundary, which is at its end
+pub record IsWithin (count : ℕ) (stretch : Stretch) : Type 0 where
+  pub some : 0 < stretch.extent
+  pub within : stretch.extent ≤ count
+  pub ends : HasEndAlone stretch
+  pub last : stretch.boundaries ≡ [] → stretch.extent < count
