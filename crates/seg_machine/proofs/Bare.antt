@@ -75,7 +75,7 @@ stall-full m (symbols, some, text, none) = (symbols, some, λ k d less. text-ful
 pub no-stall : (m : Machine) → IsStallFree m → HasStall m → ⊥
 no-stall m free (symbols, some, text, none) = both_ways (is_some (pick m symbols)) (ap is_some none) (free symbols some text)
 
-some-unless : (found : Option (ℕ × ℕ)) → (found ≡ None → ⊥) → IsSome found
+some-unless : {X : Type 0} (found : Option X) → (found ≡ None → ⊥) → IsSome found
 some-unless None other = absurd (other refl)
 some-unless (Some x) other = refl
 

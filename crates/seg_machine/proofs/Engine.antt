@@ -3,46 +3,57 @@ use Rattle.std.proofs.Common.{◌≡◌, ◌≢◌, ℕ, ◌==◌, Bool, true, f
 use Rattle.std.proofs.lemmas.Bool.Decides.{nat_tests}
 use Rattle.std.specs.Prelude.{⊤}
 use Rattle.std.specs.Iterator.{MakesProgress, item_count}
-use Rattle.seg_text.proofs.Cursor.{fewer-left}
-use Rattle.seg_text.specs.Items.{place_of, code_points}
+use Rattle.seg_text.specs.Items.{Item, Text, start_of, rest_after, code_points}
+use Rattle.seg_text.specs.declared.boundary.Boundary.{Boundary}
+use Rattle.seg_text.specs.Boundaries.{Remainder, boundary, boundary_in, offsets, offsets_left}
+use Rattle.seg_text.specs.Stretches.{Stretch, IsGoing, remainder}
+use Rattle.seg_text.proofs.Cursors.{fewer-left}
+use Rattle.seg_text.proofs.Stretches.{text-through-nil, text-through-next}
 use Rattle.seg_machine.specs.Machine.{Machine, symbols_of}
 use Rattle.seg_machine.specs.Pick.{pick}
-use Rattle.seg_machine.proofs.Segmentations.{segments-next}
-use Rattle.seg_machine.specs.MachineBoundaries.{Coming, coming, places, places_left}
-use Rattle.seg_machine.proofs.Ends.{boundaries-start, segment_ends-none, segment_ends-next}
+use Rattle.seg_machine.specs.Segments.{machine_stretch}
+use Rattle.seg_machine.proofs.Segmentations.{machine-picks, machine-going}
 
 -- what a call owes that gives a boundary: it was the first that was left, and has its status
-pub record Gives (before after : Coming) (place : ℕ) : Type 0 where
-  pub steps : (places_left before ≡ place ∷ places_left after) × (before.left ≡ (place, after.status) ∷ after.left)
-  pub goes : MakesProgress (λ _. ⊤) (item_count places_left) before (Some place) after
+pub record Gives (before after : Remainder) (offset : ℕ) : Type 0 where
+  pub steps : (offsets_left before ≡ offset ∷ offsets_left after) × (before.left ≡ boundary offset after.status ∷ after.left)
+  pub goes : MakesProgress (λ _. ⊤) (item_count offsets_left) before (Some offset) after
 
-gives : (before after : Coming) (place : ℕ) → before.left ≡ (place, after.status) ∷ after.left → Gives before after place
-gives before after place is =
-    let steps : places_left before ≡ place ∷ places_left after = ap places is in
-    record { steps = (steps, is); goes = fewer-left places_left before after place steps }
+gives : (before after : Remainder) (offset : ℕ) → before.left ≡ boundary offset after.status ∷ after.left → Gives before after offset
+gives before after offset is =
+    let steps : offsets_left before ≡ offset ∷ offsets_left after = ap offsets is in
+    record { steps = (steps, is); goes = fewer-left offsets_left before after offset steps }
 
-pub gives-start : (m : Machine) (items : List (ℕ × ℕ)) (end : ℕ) (started : Bool) (status place : ℕ)
-    → started ≡ false → status ≡ 0 → place ≡ place_of items end
-    → Gives (coming started m items end status) (coming true m items end status) place
-gives-start m items end started status place off none is =
-    gives _ _ place (rw (off, none, is) (boundaries-start m items end))
+pub gives-start : (first : List ℕ → Stretch) (text : Text) (started : Bool) (status place : ℕ)
+    → started ≡ false → status ≡ 0 → place ≡ start_of text
+    → Gives (remainder started first text status) (remainder true first text status) place
+gives-start first text started status place off none is = gives _ _ place (rw (off, none, is) refl)
 
-pub gives-next : (m : Machine) (items rest : List (ℕ × ℕ)) (end after : ℕ) (started : Bool) (status next place : ℕ)
-    → started ≡ true → items ≢ []
-    → (n : ℕ) × (pick m (symbols_of m (code_points items)) ≡ Some (n, next)) × (rest ≡ drop n items)
-    → after ≡ end → place ≡ place_of rest after
-    → Gives (coming started m items end status) (coming started m rest after next) place
-gives-next m [] rest end after started status next place on some found same is = absurd (some refl)
-gives-next m (item ∷ items) rest end after started status next place on some found same is =
-    gives _ _ place
-    (rw (on, is, same, found.2) (segment_ends-next m (item ∷ items) end found.0 next (segments-next m _ _ (found.0, next) found.1)))
+pub gives-next : (m : Machine) (text rest : Text) (started : Bool) (status next place : ℕ)
+    → started ≡ true → text.items ≢ []
+    → (p : Boundary) × (pick m (symbols_of m (code_points text.items)) ≡ Some p) × (next ≡ p.status) × (rest ≡ rest_after p.offset text)
+    → place ≡ start_of rest
+    → Gives (remainder started (machine_stretch m) text status) (remainder started (machine_stretch m) rest next) place
+gives-next m text rest started status next place on some (p, picks, same, after) is =
+    gives _ _ place (rw (on, is, after, same) (from text.items some picks))
+  where
+    from : (items : List Item) → items ≢ [] → pick m (symbols_of m (code_points items)) ≡ Some p
+        → let whole : Text = record { items = items; end = text.end } in
+        (remainder true (machine_stretch m) whole status).left
+        ≡ boundary_in whole p ∷ (remainder true (machine_stretch m) (rest_after p.offset whole) p.status).left
+    from [] some picks = absurd (some refl)
+    from (item ∷ items) some picks =
+        rw (machine-picks m _ p picks) at (text-through-next (machine_stretch m) (machine-going m) item items text.end)
 
-pub end-left : (m : Machine) (items : List (ℕ × ℕ)) (end : ℕ) (started : Bool) (status : ℕ)
-    → started ≡ true → (length items == 0) ≡ true → (coming started m items end status).left ≡ []
-end-left m [] end started status on none = rw on (segment_ends-none m end)
-end-left m (item ∷ items) end started status on none = absurd (grind (arith, nat_tests))
+pub end-left : (first : List ℕ → Stretch) (text : Text) (started : Bool) (status : ℕ)
+    → started ≡ true → (length text.items == 0) ≡ true → (remainder started first text status).left ≡ []
+end-left first text started status on none = from text.items none
+  where
+    from : (items : List Item) → (length items == 0) ≡ true → (remainder started first (record { items = items; end = text.end }) status).left ≡ []
+    from [] none = rw on (text-through-nil first text.end)
+    from (item ∷ items) none = absurd (grind (arith, nat_tests))
 
 -- a text that isn't at its end
-pub not_at_end : (items : List (ℕ × ℕ)) → (length items == 0) ≡ false → items ≢ []
+pub not_at_end : (items : List Item) → (length items == 0) ≡ false → items ≢ []
 not_at_end [] some none = cc
 not_at_end (item ∷ items) some none = cc

@@ -1,14 +1,16 @@
 -- A pick in its own words.
 use Rattle.std.proofs.Common.{◌≡◌, ℕ, zero, suc, ◌+◌, ◌<◌, ◌==◌, min, Option, Some, None, List, [], ◌∷◌, ◌++◌, length, replicate, All, refl, sym, ◌∙◌, ap, subst, inl, inr, arith, eq-eqb, append_assoc, length-append}
 use Rattle.std.specs.Prelude.{slice_get, ◌↔◌, IfSome}
-use Rattle.std.specs.Option.{option_map, option_map_or}
+use Rattle.std.specs.Option.{option_map, option_map_or, option_or}
+use Rattle.seg_text.specs.declared.boundary.Boundary.{Boundary}
+use Rattle.seg_text.specs.Boundaries.{boundary}
 use Rattle.std.proofs.lemmas.Bool.{cases_lt, cases_eq, cond-true, cond-false, ne_eqb}
 use Rattle.std.proofs.lemmas.Option.{none-some, same_Some, slice_get_within}
 use Rattle.seg_machine.specs.declared.provider.Acceptance.{Acceptance}
 use Rattle.seg_machine.specs.declared.provider.Acceptance.TheVariants.{Continue, Accept, Conditional}
 use Rattle.seg_machine.specs.Checked.{IsChecked}
 use Rattle.seg_machine.specs.Machine.{Machine, IsTextSymbol, step, run, scan}
-use Rattle.seg_machine.specs.Pick.{either, later, last_step, accepted, named, condition, first_condition, pick}
+use Rattle.seg_machine.specs.Pick.{later, last_step, accepted, named, condition, first_condition, pick}
 use Rattle.seg_machine.specs.Scan.{entries}
 use Rattle.seg_machine.specs.Law.{AcceptsAt, NamesAt, HoldsAt, IsFirstHeld, NoneHolds, IsLastAccepted, IsPick}
 use Rattle.seg_machine.proofs.Scanned.{first_condition-none, first_condition-some, first_condition-nil, run-more}
@@ -46,21 +48,21 @@ record IsLastAt (value : Acceptance × Option ℕ → Option ℕ) (states : List
   has : HasAt value states i v
   last : (k other : ℕ) → i < k → HasAt value states k other → ⊥
 
-IsLast : (Acceptance × Option ℕ → Option ℕ) → List (Acceptance × Option ℕ) → Option (ℕ × ℕ) → Type 0
+IsLast : (Acceptance × Option ℕ → Option ℕ) → List (Acceptance × Option ℕ) → Option Boundary → Type 0
 IsLast value states None = (k v : ℕ) → HasAt value states k v → ⊥
-IsLast value states (Some found) = (i : ℕ) × (found.0 ≡ suc i) × IsLastAt value states i found.1
+IsLast value states (Some found) = (i : ℕ) × (found.offset ≡ suc i) × IsLastAt value states i found.status
 
 last-is : (value : Acceptance × Option ℕ → Option ℕ) (states : List (Acceptance × Option ℕ)) → IsLast value states (last_step value states)
 unfolding last_step IsLast
 last-is value [] = has-nil value
 last-is value (state ∷ states) = on (last_step value states) (last-is value states) (value state) refl
   where
-    on : (rest : Option (ℕ × ℕ)) → IsLast value states rest → (here : Option ℕ) → value state ≡ here
-        → IsLast value (state ∷ states) (either (later rest) (option_map (λ v. (1, v)) here))
+    on : (rest : Option Boundary) → IsLast value states rest → (here : Option ℕ) → value state ≡ here
+        → IsLast value (state ∷ states) (option_or (later rest) (option_map (λ v. boundary 1 v) here))
     on (Some found) (i, is, l) here h = (
       suc i,
       ap suc is,
-      record { has = has-later value state states i found.1 l.has; last = after },
+      record { has = has-later value state states i found.status l.has; last = after },
     )
       where
         after : (k other : ℕ) → suc i < k → HasAt value (state ∷ states) k other → ⊥
@@ -132,24 +134,24 @@ condition-fails xs ys state lookahead status none h =
     let named-before = names-has xs h.j lookahead (names-before xs (state ∷ ys) h.j lookahead h.earlier h.names) in
     on (last_step (named lookahead) xs) (last-is (named lookahead) xs) named-before (sym (ap (condition xs) is) ∙ none)
   where
-    on : (found : Option (ℕ × ℕ)) → IsLast (named lookahead) xs found → HasAt (named lookahead) xs h.j lookahead
-        → option_map {U = ℕ × ℕ} (λ (f : ℕ × ℕ). (f.0, status)) found ≡ None → ⊥
+    on : (found : Option Boundary) → IsLast (named lookahead) xs found → HasAt (named lookahead) xs h.j lookahead
+        → option_map {U = Boundary} (λ (f : Boundary). boundary f.offset status) found ≡ None → ⊥
     on None none has is = none h.j lookahead has
     on (Some f) last has is = cc
 
 -- what the first condition that holds picks
-record Held (states : List (Acceptance × Option ℕ)) (found : ℕ × ℕ) : Type 0 where
+record Held (states : List (Acceptance × Option ℕ)) (found : Boundary) : Type 0 where
   i : ℕ
   j : ℕ
   lookahead : ℕ
-  step : found.0 ≡ suc j
-  first : IsFirstHeld states i j lookahead found.1
+  step : found.offset ≡ suc j
+  first : IsFirstHeld states i j lookahead found.status
 
-IsHeld : List (Acceptance × Option ℕ) → Option (ℕ × ℕ) → Type 0
+IsHeld : List (Acceptance × Option ℕ) → Option Boundary → Type 0
 IsHeld states None = NoneHolds states
 IsHeld states (Some found) = Held states found
 
-condition-holds : (xs ys : List (Acceptance × Option ℕ)) (state : Acceptance × Option ℕ) (found : ℕ × ℕ)
+condition-holds : (xs ys : List (Acceptance × Option ℕ)) (state : Acceptance × Option ℕ) (found : Boundary)
     → condition xs state ≡ Some found → NoneBefore (xs ++ state ∷ ys) (length xs) → Held (xs ++ state ∷ ys) found
 unfolding IsLast NoneBefore
 condition-holds xs ys (Continue, name) found is before = cc
@@ -157,11 +159,11 @@ condition-holds xs ys (Accept status, name) found is before = cc
 condition-holds xs ys (Conditional lookahead status, name) found is before =
     on (last_step (named lookahead) xs) (last-is (named lookahead) xs) is
   where
-    on : (f : Option (ℕ × ℕ)) → IsLast (named lookahead) xs f → option_map {U = ℕ × ℕ} (λ (f : ℕ × ℕ). (f.0, status)) f ≡ Some found
+    on : (f : Option Boundary) → IsLast (named lookahead) xs f → option_map {U = Boundary} (λ (f : Boundary). boundary f.offset status) f ≡ Some found
         → Held (xs ++ (Conditional lookahead status, name) ∷ ys) found
     on None none same = cc
     on (Some f) (j, step, l) same =
-        let pair = same_Some {A = ℕ × ℕ} (f.0, status) found same in
+        let pair = same_Some {A = Boundary} (boundary f.offset status) found same in
         let less : j < length xs = slice_get_within xs j l.has.state l.has.here in
         subst (Held (xs ++ (Conditional lookahead status, name) ∷ ys)) pair (record {
           i = length xs;
@@ -171,7 +173,7 @@ condition-holds xs ys (Conditional lookahead status, name) found is before =
           first = record {
             condition = record { name = name; here = slice_get-seam xs ys (Conditional lookahead status, name) };
             earlier = less;
-            names = names-after xs _ j lookahead less (names-from xs j lookahead f.1 l.has);
+            names = names-after xs _ j lookahead less (names-from xs j lookahead f.status l.has);
             last = λ k above below n. l.last k lookahead above (names-has xs k lookahead (names-before xs _ k lookahead below n));
             first = before;
           };
@@ -198,7 +200,7 @@ first-is xs (state ∷ ys) before = on (first-is (xs ++ state ∷ []) ys) (condi
         ]
 
     on : (NoneBefore ((xs ++ state ∷ []) ++ ys) (length (xs ++ state ∷ [])) → IsHeld ((xs ++ state ∷ []) ++ ys) (first_condition (xs ++ state ∷ []) ys))
-        → (found : Option (ℕ × ℕ)) → condition xs state ≡ found → IsHeld (xs ++ state ∷ ys) (first_condition xs (state ∷ ys))
+        → (found : Option Boundary) → condition xs state ≡ found → IsHeld (xs ++ state ∷ ys) (first_condition xs (state ∷ ys))
     on more None none =
         rw (first_condition-none xs ys state none)
         (subst (λ (whole : List (Acceptance × Option ℕ)). IsHeld whole (first_condition (xs ++ state ∷ []) ys)) same
@@ -207,23 +209,23 @@ first-is xs (state ∷ ys) before = on (first-is (xs ++ state ∷ []) ys) (condi
         rw (first_condition-some xs ys state found some) (condition-holds xs ys state found some before)
 
 -- the pick, by what it is made of
-picks : (states : List (Acceptance × Option ℕ)) (symbols n status : ℕ) (held last : Option (ℕ × ℕ))
+picks : (states : List (Acceptance × Option ℕ)) (symbols n status : ℕ) (held last : Option Boundary)
     → IsHeld states held → IsLast accepted states last
-    → option_map {U = ℕ × ℕ} (λ (f : ℕ × ℕ). (min f.0 symbols, f.1)) (either held last) ≡ Some (n, status) → IsPick states symbols n status
+    → option_map {U = Boundary} (λ (f : Boundary). boundary (min f.offset symbols) f.status) (option_or held last) ≡ Some (boundary n status) → IsPick states symbols n status
 unfolding IsHeld IsLast
 picks states symbols n status (Some found) last h l is =
-    let pair = same_Some {A = ℕ × ℕ} (min found.0 symbols, found.1) (n, status) is in
-    let takes : n ≡ min (suc h.j) symbols = sym (ap (λ (p : ℕ × ℕ). p.0) pair) ∙ ap (λ (s : ℕ). min s symbols) h.step in
-    inl (h.i, h.j, h.lookahead, subst (IsFirstHeld states h.i h.j h.lookahead) (ap (λ (p : ℕ × ℕ). p.1) pair) h.first, takes)
+    let pair = same_Some {A = Boundary} (boundary (min found.offset symbols) found.status) (boundary n status) is in
+    let takes : n ≡ min (suc h.j) symbols = sym (ap (λ (p : Boundary). p.offset) pair) ∙ ap (λ (s : ℕ). min s symbols) h.step in
+    inl (h.i, h.j, h.lookahead, subst (IsFirstHeld states h.i h.j h.lookahead) (ap (λ (p : Boundary). p.status) pair) h.first, takes)
 picks states symbols n status None (Some found) none (i, step, l) is =
-    let pair = same_Some {A = ℕ × ℕ} (min found.0 symbols, found.1) (n, status) is in
-    let takes : n ≡ min (suc i) symbols = sym (ap (λ (p : ℕ × ℕ). p.0) pair) ∙ ap (λ (s : ℕ). min s symbols) step in
+    let pair = same_Some {A = Boundary} (boundary (min found.offset symbols) found.status) (boundary n status) is in
+    let takes : n ≡ min (suc i) symbols = sym (ap (λ (p : Boundary). p.offset) pair) ∙ ap (λ (s : ℕ). min s symbols) step in
     inr (
       none,
       (
         i,
-        subst (IsLastAccepted states i) (ap (λ (p : ℕ × ℕ). p.1) pair)
-            (record { accepts = accepts-from states i found.1 l.has; last = λ k other above a. l.last k other above (accepts-has states k other a) }),
+        subst (IsLastAccepted states i) (ap (λ (p : Boundary). p.status) pair)
+            (record { accepts = accepts-from states i found.status l.has; last = λ k other above a. l.last k other above (accepts-has states k other a) }),
         takes,
       ),
     )
@@ -277,8 +279,8 @@ pick-one states symbols n s n2 s2 (inr (none, (i, a, takes))) (inl (i2, j2, l2, 
 pick-one states symbols n s n2 s2 (inr (none, (i, a, takes))) (inr (none2, (i2, a2, takes2))) = taken symbols i s i2 s2 n n2 (accepted-one states i s i2 s2 a a2) takes takes2
 
 -- so what is a pick in these words is the pick
-pick-there : (states : List (Acceptance × Option ℕ)) (held last : Option (ℕ × ℕ)) (symbols n s : ℕ) → IsHeld states held → IsLast accepted states last → IsPick states symbols n s
-    → (f : ℕ × ℕ) × (either held last ≡ Some f)
+pick-there : (states : List (Acceptance × Option ℕ)) (held last : Option Boundary) (symbols n s : ℕ) → IsHeld states held → IsLast accepted states last → IsPick states symbols n s
+    → (f : Boundary) × (option_or held last ≡ Some f)
 unfolding IsHeld IsLast
 pick-there states (Some f) last symbols n s h l p = (f, refl)
 pick-there states None (Some f) symbols n s h l p = (f, refl)
@@ -286,28 +288,28 @@ pick-there states None None symbols n s none no-last (inl (i, j, l, f, takes)) =
 pick-there states None None symbols n s none no-last (inr (nothing, (i, a, takes))) = absurd (no-last i s (accepts-has states i s a.accepts))
 
 pub pick-words : (m : Machine) (symbols : List ℕ) (n status : ℕ)
-    → (pick m symbols ≡ Some (n, status)) ↔ IsPick (entries m (scan m symbols)) (length symbols) n status
+    → (pick m symbols ≡ Some (boundary n status)) ↔ IsPick (entries m (scan m symbols)) (length symbols) n status
 unfolding pick NoneBefore
 pick-words m symbols n status = (there n status, back)
   where
     states : List (Acceptance × Option ℕ)
     states = entries m (scan m symbols)
 
-    found : Option (ℕ × ℕ)
-    found = either (first_condition [] states) (last_step accepted states)
+    found : Option Boundary
+    found = option_or (first_condition [] states) (last_step accepted states)
 
     first : IsHeld states (first_condition [] states)
     first = first-is [] states (λ k lookahead status less h. omega arith)
 
-    there : (n status : ℕ) → option_map {U = ℕ × ℕ} (λ (f : ℕ × ℕ). (min f.0 (length symbols), f.1)) found ≡ Some (n, status) → IsPick states (length symbols) n status
+    there : (n status : ℕ) → option_map {U = Boundary} (λ (f : Boundary). boundary (min f.offset (length symbols)) f.status) found ≡ Some (boundary n status) → IsPick states (length symbols) n status
     there n status is = picks states (length symbols) n status (first_condition [] states) (last_step accepted states) first (last-is accepted states) is
 
-    back : IsPick states (length symbols) n status → option_map {U = ℕ × ℕ} (λ (f : ℕ × ℕ). (min f.0 (length symbols), f.1)) found ≡ Some (n, status)
+    back : IsPick states (length symbols) n status → option_map {U = Boundary} (λ (f : Boundary). boundary (min f.offset (length symbols)) f.status) found ≡ Some (boundary n status)
     back p =
         let some = pick-there states (first_condition [] states) (last_step accepted states) (length symbols) n status first (last-is accepted states) p in
-        let is : option_map {U = ℕ × ℕ} (λ (f : ℕ × ℕ). (min f.0 (length symbols), f.1)) found ≡ Some (min some.0.0 (length symbols), some.0.1) = ap (option_map {U = ℕ × ℕ} (λ (f : ℕ × ℕ). (min f.0 (length symbols), f.1))) some.1 in
+        let is : option_map {U = Boundary} (λ (f : Boundary). boundary (min f.offset (length symbols)) f.status) found ≡ Some (boundary (min some.0.offset (length symbols)) some.0.status) = ap (option_map {U = Boundary} (λ (f : Boundary). boundary (min f.offset (length symbols)) f.status)) some.1 in
         let same = pick-one states (length symbols) _ _ n status (there _ _ is) p in
-        is ∙ ap (λ (k : ℕ). Some (k, some.0.1)) same.0 ∙ ap (λ (t : ℕ). Some (n, t)) same.1
+        is ∙ ap (λ (k : ℕ). Some (boundary k some.0.status)) same.0 ∙ ap (λ (t : ℕ). Some (boundary n t)) same.1
 
 -- more symbols of the end change nothing
 run-longer : (m : Machine) → IsChecked m → (k state : ℕ) → state < length m.states

@@ -8,12 +8,8 @@ pub mod Searches
 pub mod Tables
 pub mod Machines
 pub mod Segmentations
-pub mod Restarts
 pub mod Steps
 pub mod Scanned
-pub mod Ends
-pub mod Cover
 pub mod Engine
 pub mod Law
 pub mod Rows
-pub mod Ordinals

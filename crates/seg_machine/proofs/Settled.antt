@@ -1,17 +1,19 @@
 -- What a search settles is that there is a pick.
 use Rattle.std.proofs.Common.{◌≡◌, ℕ, suc, ◌+◌, ◌-◌, ◌<◌, ◌≤◌, ◌++◌, ◌==◌, ◌||◌, Bool, true, false, cond, List, [], ◌∷◌, length, map, replicate, refl, sym, ap, ◌∙◌, inl, inr, arith}
 use Rattle.std.specs.Prelude.{Option, Some, None}
-use Rattle.std.specs.Option.{is_some, option_map, option_map_or}
+use Rattle.std.specs.Option.{is_some, option_map, option_map_or, option_or}
+use Rattle.seg_text.specs.declared.boundary.Boundary.{Boundary}
+use Rattle.seg_text.specs.Boundaries.{boundary}
 use Rattle.std.proofs.lemmas.Bool.{cases_Bool, cond-true, cond-false}
 use Rattle.seg_data.proofs.Options.{some-map, or-false}
 use Rattle.seg_machine.specs.declared.provider.Acceptance.{Acceptance}
 use Rattle.seg_machine.specs.declared.provider.Acceptance.TheVariants.{Continue, Accept, Conditional}
 use Rattle.seg_machine.specs.Machine.{Machine, step, run, scan, state_at}
-use Rattle.seg_machine.specs.Pick.{either, later, last_step, accepted, named, condition, first_condition, pick}
+use Rattle.seg_machine.specs.Pick.{later, last_step, accepted, named, condition, first_condition, pick}
 use Rattle.seg_machine.specs.Search.{has, keep, is_pick, enter, settles, is_settled}
 use Rattle.seg_machine.proofs.Sets.{has-none, has-keep}
 
-some-either : (first second : Option (ℕ × ℕ)) → is_some (either first second) ≡ (is_some first || is_some second)
+some-either : (first second : Option Boundary) → is_some (option_or first second) ≡ (is_some first || is_some second)
 some-either (Some found) second = refl
 some-either None second = refl
 
@@ -83,7 +85,7 @@ last-cons : (value : Acceptance × Option ℕ → Option ℕ) (state : Acceptanc
     → is_some (last_step value (state ∷ states)) ≡ (is_some (last_step value states) || is_some (value state))
 unfolding last_step
 last-cons value state states =
-    let one : Option (ℕ × ℕ) = option_map (λ (v : ℕ). (1, v)) (value state) in
+    let one : Option Boundary = option_map (λ (v : ℕ). boundary 1 v) (value state) in
     some-either (later (last_step value states)) one
     ∙ ap (λ (b : Bool). b || is_some one) (some-map _ (last_step value states))
     ∙ ap (λ (b : Bool). is_some (last_step value states) || b) (some-map _ (value state))
@@ -131,8 +133,8 @@ pick-way kept earlier (Continue, name) agrees = refl
 pick-way kept earlier (Accept status, name) agrees = refl
 pick-way kept earlier (Conditional lookahead status, name) agrees =
     agrees lookahead
-    ∙ sym (some-map (λ (f : ℕ × ℕ). (f.0, status)) (last_step (named lookahead) earlier))
-    ∙ sym (or-false (is_some {T = ℕ × ℕ} (option_map (λ (f : ℕ × ℕ). (f.0, status)) (last_step (named lookahead) earlier))))
+    ∙ sym (some-map (λ (f : Boundary). boundary f.offset status) (last_step (named lookahead) earlier))
+    ∙ sym (or-false (is_some {T = Boundary} (option_map (λ (f : Boundary). boundary f.offset status) (last_step (named lookahead) earlier))))
 
 settles-stop : (kept : ℕ) (state : Acceptance × Option ℕ) (states : List (Acceptance × Option ℕ)) → is_pick kept state.0 ≡ true → settles kept (state ∷ states) ≡ true
 unfolding settles
@@ -173,6 +175,6 @@ pub pick-settled : (m : Machine) (symbols : List ℕ) → is_some (pick m symbol
 unfolding pick is_settled scan
 pick-settled m symbols =
     let states = map (state_at m) (run m 0 (symbols ++ replicate (length m.states) 0)) in
-    some-map _ (either (first_condition [] states) (last_step accepted states))
+    some-map _ (option_or (first_condition [] states) (last_step accepted states))
     ∙ some-either (first_condition [] states) (last_step accepted states)
     ∙ sym (settles-picked 0 [] states (λ lookahead. has-none lookahead ∙ sym (last-none (named lookahead))))

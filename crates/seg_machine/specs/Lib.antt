@@ -1,14 +1,12 @@
 pub mod Machine
 pub mod Pick
 pub mod Segments
-pub mod Restart
 pub mod MachineFaults
 pub mod Checked
 pub mod Search
 pub mod SameMachines
 pub mod Unaligned
 pub mod Tailored
-pub mod MachineBoundaries
 pub mod Scan
 pub mod Law
 pub mod Rows

@@ -1,23 +1,19 @@
 -- Small machines, and texts of so many letters, whose boundaries are known.
-use Rattle.std.specs.Prelude.{ℕ, zero, suc, ◌+◌, Option, Some, None, List, [], ◌∷◌}
+use Rattle.std.specs.Prelude.{ℕ, replicate, Option, Some, None, List, [], ◌∷◌}
 use Rattle.seg_data.specs.Table.{table}
 use Rattle.seg_machine.specs.declared.provider.Acceptance.{Acceptance}
 use Rattle.seg_machine.specs.declared.provider.Acceptance.TheVariants.{Continue, Accept, Conditional}
 use Rattle.seg_machine.specs.Machine.{Machine, machine}
-use Rattle.seg_machine.specs.MachineBoundaries.{boundaries}
+use Rattle.seg_text.specs.declared.boundary.Boundary.{Boundary}
+use Rattle.seg_machine.specs.Segments.{machine_boundaries}
 
 -- each code point has symbol 1; the transitions are those on symbol 0, state by state, and then those on symbol 1
 abbrev pub small : List (Acceptance × Option ℕ) → List ℕ → Machine
 small states transitions = machine (table [] 1) states transitions 1 5 []
 
--- letters of one unit each, from a place on
-abbrev pub letters : ℕ → ℕ → List (ℕ × ℕ)
-letters place zero = []
-letters place (suc n) = (place, 0x61) ∷ letters (place + 1) n
-
 -- the boundaries of so many letters
-abbrev pub boundaries_of : Machine → ℕ → List (ℕ × ℕ)
-boundaries_of m n = boundaries m (letters 0 n) n
+abbrev pub boundaries_of : Machine → ℕ → List Boundary
+boundaries_of m n = machine_boundaries m (replicate n 0x61)
 
 -- each letter names lookahead 0, and the end enters a condition on it
 abbrev pub condition_at_end : Machine

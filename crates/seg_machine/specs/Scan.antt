@@ -1,16 +1,17 @@
 -- What a scan keeps as it reads a text.
 use Rattle.std.specs.Prelude.{◌≡◌, ℕ, ◌<◌, Option, Some, None, List, [], ◌++◌, drop, map, length, replicate, slice_set, slice_index_or}
-use Rattle.std.specs.Option.{option_map}
-use Rattle.seg_text.specs.Items.{code_points}
+use Rattle.std.specs.Option.{option_map, option_or}
+use Rattle.seg_text.specs.declared.boundary.Boundary.{Boundary}
+use Rattle.seg_text.specs.Boundaries.{boundary, boundary_in}
+use Rattle.seg_text.specs.Items.{Text, code_points, start_of, rest_after}
 use Rattle.seg_machine.specs.Machine.{Machine, symbols_of, run, scan, state_at}
 use Rattle.seg_machine.specs.declared.provider.Acceptance.{Acceptance}
 use Rattle.seg_machine.specs.declared.provider.Acceptance.TheVariants.{Conditional}
-use Rattle.seg_machine.specs.Pick.{either, accepted, named, last_step, first_condition}
-use Rattle.seg_machine.specs.MachineBoundaries.{placed}
+use Rattle.seg_machine.specs.Pick.{accepted, named, last_step, first_condition}
 
 -- the states that are still to come, from a state and what is left of the text
-abbrev pub future : Machine → ℕ → List (ℕ × ℕ) → List ℕ
-future m state left = run m state (symbols_of m (code_points left) ++ replicate (length m.states) 0)
+abbrev pub future : Machine → ℕ → Text → List ℕ
+future m state left = run m state (symbols_of m (code_points left.items) ++ replicate (length m.states) 0)
 
 -- the states of a scan, as what they accept and name
 abbrev pub entries : Machine → List ℕ → List (Acceptance × Option ℕ)
@@ -21,13 +22,13 @@ abbrev pub kept_for : List (Option ℕ) → ℕ → Option ℕ
 kept_for kept lookahead = slice_index_or kept lookahead None
 
 -- where the segment ends by the condition of a state, if it holds: at the place kept for its lookahead
-unfoldable pub held : List (Option ℕ) → Acceptance × Option ℕ → Option (ℕ × ℕ)
-held kept (Conditional lookahead status, _) = option_map (λ place. (place, status)) (kept_for kept lookahead)
+unfoldable pub held : List (Option ℕ) → Acceptance × Option ℕ → Option Boundary
+held kept (Conditional lookahead status, _) = option_map (λ place. boundary place status) (kept_for kept lookahead)
 held kept (_, _) = None
 
 -- the last acceptance, once a state is entered at a place
-unfoldable pub accept_at : ℕ → Acceptance × Option ℕ → Option (ℕ × ℕ) → Option (ℕ × ℕ)
-accept_at place state last = either (option_map (λ status. (place, status)) (accepted state)) last
+unfoldable pub accept_at : ℕ → Acceptance × Option ℕ → Option Boundary → Option Boundary
+accept_at place state last = option_or (option_map (λ status. boundary place status) (accepted state)) last
 
 -- the places kept, once a state is entered at a place
 unfoldable pub keep_at : ℕ → Acceptance × Option ℕ → List (Option ℕ) → List (Option ℕ)
@@ -37,24 +38,24 @@ keep_at place (_, None) kept = kept
 -- what is kept of the states that were entered, as places: for each lookahead the last that named it, and the
 -- last acceptance with its status
 pub record Remembered
-    (items : List (ℕ × ℕ)) (end : ℕ) (entered : List (Acceptance × Option ℕ))
-    (kept : List (Option ℕ)) (last : Option (ℕ × ℕ)) : Type 0 where
+    (text : Text) (entered : List (Acceptance × Option ℕ))
+    (kept : List (Option ℕ)) (last : Option Boundary) : Type 0 where
   pub places :
       (lookahead : ℕ) → lookahead < length kept
-      → kept_for kept lookahead ≡ option_map (λ (f : ℕ × ℕ). (placed items end f).0) (last_step (named lookahead) entered)
-  pub accepted_last : last ≡ option_map (placed items end) (last_step accepted entered)
+      → kept_for kept lookahead ≡ option_map (λ (f : Boundary). start_of (rest_after f.offset text)) (last_step (named lookahead) entered)
+  pub accepted_last : last ≡ option_map (boundary_in text) (last_step accepted entered)
 
 -- the scan of a text, where it has entered some states: what is left of the text, the state that it is in, and
 -- what it remembers of those states; no condition of theirs held
 pub record Scanned
-    (m : Machine) (items : List (ℕ × ℕ)) (end state : ℕ) (left : List (ℕ × ℕ))
-    (kept : List (Option ℕ)) (last : Option (ℕ × ℕ)) : Type 0 where
+    (m : Machine) (text : Text) (state : ℕ) (left : Text)
+    (kept : List (Option ℕ)) (last : Option Boundary) : Type 0 where
   pub entered : List ℕ
-  pub whole : scan m (symbols_of m (code_points items)) ≡ entered ++ future m state left
-  pub rest : left ≡ drop (length entered) items
+  pub whole : scan m (symbols_of m (code_points text.items)) ≡ entered ++ future m state left
+  pub rest : left ≡ rest_after (length entered) text
   pub in_range : state < length m.states
   pub none_held :
-      first_condition [] (entries m (scan m (symbols_of m (code_points items))))
+      first_condition [] (entries m (scan m (symbols_of m (code_points text.items))))
       ≡ first_condition (entries m entered) (entries m (future m state left))
   pub size : length kept ≡ m.num_lookaheads
-  pub remembered : Remembered items end (entries m entered) kept last
+  pub remembered : Remembered text (entries m entered) kept last

@@ -14,6 +14,10 @@ use Rattle.seg_machine.specs.MachineFaults.{NamesPast}
 abbrev pub bare : List (Acceptance × Option ℕ) → List ℕ → Machine
 bare states transitions = machine (table [] 0) states transitions 0 0 []
 
+-- a state, and a set of lookaheads
+abbrev pub Pair : Type 0
+Pair = ℕ × ℕ
+
 -- what the checks of numbers leave
 pub record IsBounded (m : Machine) : Type 0 where
   pub some_state : 0 < length m.states
@@ -60,29 +64,29 @@ pub record Leads (m : Machine) (symbols : List ℕ) (state kept : ℕ) : Type 0 
   pub same : (more : List ℕ) → is_settled m 0 0 (symbols ++ more) ≡ is_settled m state kept more
 
 -- a pair of a state and a set that some symbols, or none, lead to
-pub record IsMet (m : Machine) (pair : ℕ × ℕ) : Type 0 where
+pub record IsMet (m : Machine) (pair : Pair) : Type 0 where
   pub state : pair.0 < length m.states
   pub kept : pair.1 < 16
   pub symbols : List ℕ
   pub leads : Leads m symbols pair.0 pair.1
 
 -- one that some symbols lead to
-pub record IsReached (m : Machine) (pair : ℕ × ℕ) : Type 0 where
+pub record IsReached (m : Machine) (pair : Pair) : Type 0 where
   pub met : IsMet m pair
   pub some : met.symbols ≢ []
 
 -- the symbol leads from the pair to a state that settles it, or to a pair of the list
-pub record IsFollowed (m : Machine) (pairs : List (ℕ × ℕ)) (state kept symbol : ℕ) : Type 0 where
+pub record IsFollowed (m : Machine) (pairs : List Pair) (state kept symbol : ℕ) : Type 0 where
   pub next : ℕ
   pub leads : step m state symbol ≡ Some next
   pub listed : IfSome (enter kept (state_at m next)) (λ after. Contains pairs (next, after))
 
 -- each symbol of a text does
-abbrev pub AreFollowed : Machine → List (ℕ × ℕ) → ℕ → ℕ → Type 0
+abbrev pub AreFollowed : Machine → List Pair → ℕ → ℕ → Type 0
 AreFollowed m pairs state kept = (symbol : ℕ) → symbol < symbol_count m → 0 < symbol → IsFollowed m pairs state kept symbol
 
 -- nothing is left to look at from the pair
-pub record IsDone (m : Machine) (pairs : List (ℕ × ℕ)) (pair : ℕ × ℕ) : Type 0 where
+pub record IsDone (m : Machine) (pairs : List Pair) (pair : Pair) : Type 0 where
   pub at_end : is_settled_at_end m pair.0 pair.1 ≡ true
   pub followed : AreFollowed m pairs pair.0 pair.1
 
@@ -93,6 +97,6 @@ free (true ∷ found) = free found
 free (false ∷ found) = suc (free found)
 
 -- the table says of each pair whether it is in the list
-pub record IsTable (found : List Bool) (pairs : List (ℕ × ℕ)) : Type 0 where
+pub record IsTable (found : List Bool) (pairs : List Pair) : Type 0 where
   pub room : length pairs + free found ≡ length found
   pub listed : (state kept : ℕ) → kept < 16 → slice_index_or found (state * 16 + kept) false ≡ true → Contains pairs (state, kept)

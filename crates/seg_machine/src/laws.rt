@@ -1,18 +1,18 @@
-//! Laws of picks and of segments.
+//! Laws of picks.
 ghost use Rattle.std.specs.Prelude.{◌≡◌, ◌↔◌, ℕ, ◌+◌, Some, List, [], ◌∷◌, ◌++◌, length, replicate, All};
 ghost use Rattle.seg_machine.specs.Machine.{IsTextSymbol, run, scan};
 ghost use Rattle.seg_machine.specs.Pick.{pick};
 ghost use Rattle.seg_machine.specs.Law.{IsPick};
 ghost use Rattle.seg_machine.specs.Rows.{boundaries_of, condition_at_end, condition_on_own_name, accepted_two_past_end, accepted_from_start, start_accepts, named_past_end};
 ghost use Rattle.seg_machine.specs.Scan.{entries};
-ghost use Rattle.seg_machine.specs.Segments.{IsSegmentation, segments};
+ghost use Rattle.seg_text.specs.Boundaries.{boundary};
 
 use crate::provider::SegmenterStateMachine;
 
-/// Does nothing. Its contract tells what a pick is: the first condition that holds decides, and
+/// Law: the pick of a text in its own words. The first condition that holds decides, and
 /// otherwise the last acceptance; and that more symbols of the end change no scan.
 pub fn picks_are_first_or_last(machine: &SegmenterStateMachine)
-    ensures pick { (symbols : List ℕ) (n status : ℕ) → (pick machine.now symbols ≡ Some (n, status))
+    ensures pick { (symbols : List ℕ) (n status : ℕ) → (pick machine.now symbols ≡ Some (boundary n status))
         ↔ IsPick (entries machine.now (scan machine.now symbols)) (length symbols) n status }
     ensures end { (symbols : List ℕ) (k : ℕ) → All (IsTextSymbol machine.now) symbols
         → run machine.now 0 (symbols ++ replicate (k + length machine.now.states) 0) ≡ scan machine.now symbols }
@@ -20,22 +20,14 @@ pub fn picks_are_first_or_last(machine: &SegmenterStateMachine)
     machine.check();
 }
 
-/// Does nothing. Its contract tells that each text has one segmentation by the machine.
-pub fn segments_are_one(machine: &SegmenterStateMachine)
-    ensures exists { (symbols : List ℕ) → All (IsTextSymbol machine.now) symbols → IsSegmentation machine.now symbols (segments machine.now symbols) }
-    ensures only { (symbols : List ℕ) (others : List (ℕ × ℕ)) → IsSegmentation machine.now symbols others → others ≡ segments machine.now symbols }
-{
-    machine.check();
-}
-
-/// Does nothing. Its contract tells the boundaries that small machines find.
+/// Law: the boundaries that small machines find.
 pub fn small_machines_find()
-    ensures condition_at_end { boundaries_of condition_at_end 3 ≡ (0, 0) ∷ (3, 1) ∷ [] }
-    ensures own_name_one { boundaries_of condition_on_own_name 1 ≡ (0, 0) ∷ (1, 0) ∷ [] }
-    ensures own_name_two { boundaries_of condition_on_own_name 2 ≡ (0, 0) ∷ (1, 1) ∷ (2, 0) ∷ [] }
-    ensures own_name_three { boundaries_of condition_on_own_name 3 ≡ (0, 0) ∷ (1, 1) ∷ (2, 1) ∷ (3, 0) ∷ [] }
-    ensures two_past_end { boundaries_of accepted_two_past_end 2 ≡ (0, 0) ∷ (2, 0) ∷ [] }
-    ensures from_start { boundaries_of accepted_from_start 3 ≡ (0, 0) ∷ (3, 0) ∷ [] }
-    ensures start { boundaries_of start_accepts 3 ≡ (0, 0) ∷ (3, 0) ∷ [] }
-    ensures named_past_end { boundaries_of named_past_end 2 ≡ (0, 0) ∷ (2, 1) ∷ [] }
+    ensures condition_at_end { boundaries_of condition_at_end 3 ≡ boundary 0 0 ∷ boundary 3 1 ∷ [] }
+    ensures own_name_one { boundaries_of condition_on_own_name 1 ≡ boundary 0 0 ∷ boundary 1 0 ∷ [] }
+    ensures own_name_two { boundaries_of condition_on_own_name 2 ≡ boundary 0 0 ∷ boundary 1 1 ∷ boundary 2 0 ∷ [] }
+    ensures own_name_three { boundaries_of condition_on_own_name 3 ≡ boundary 0 0 ∷ boundary 1 1 ∷ boundary 2 1 ∷ boundary 3 0 ∷ [] }
+    ensures two_past_end { boundaries_of accepted_two_past_end 2 ≡ boundary 0 0 ∷ boundary 2 0 ∷ [] }
+    ensures from_start { boundaries_of accepted_from_start 3 ≡ boundary 0 0 ∷ boundary 3 0 ∷ [] }
+    ensures start { boundaries_of start_accepts 3 ≡ boundary 0 0 ∷ boundary 3 0 ∷ [] }
+    ensures named_past_end { boundaries_of named_past_end 2 ≡ boundary 0 0 ∷ boundary 2 1 ∷ [] }
 {}

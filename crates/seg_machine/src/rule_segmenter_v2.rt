@@ -1,20 +1,23 @@
 //! Segments by a state machine.
 
-ghost use Rattle.std.specs.Prelude.{◌≡◌, ◌≢◌, ◌<◌, ◌≤◌, ⊤, ℕ, None, IsNone, [], ◌∷◌, drop, length, replicate};
+ghost use Rattle.std.specs.Prelude.{◌≡◌, ◌≢◌, ◌<◌, ◌≤◌, ⊤, ℕ, Some, None, IsNone, [], ◌∷◌, length, replicate};
 ghost use Rattle.std.specs.Option.{option_map, option_map_or};
 ghost use Rattle.std.specs.Iterator.{YieldsFirst, MakesProgress, item_count};
-ghost use Rattle.seg_text.specs.Items.{code_points, place_of};
+ghost use Rattle.seg_text.specs.Items.{code_points, start_of, rest_after};
+ghost use Rattle.seg_text.specs.declared.boundary.Boundary.{Boundary as AnyBoundary};
+ghost use Rattle.seg_text.specs.Boundaries.{GivesNext, IsCover, boundaries_in, boundary_in, offsets_left};
 ghost use Rattle.seg_machine.specs.MachineFaults.{NamesPast};
 ghost use Rattle.seg_machine.specs.Machine.{step, symbol_count, symbols_of};
 ghost use Rattle.seg_machine.specs.Pick.{pick};
+ghost use Rattle.seg_machine.specs.Segments.{machine_boundaries};
 ghost use Rattle.seg_machine.specs.Tailored.{machine_of};
-ghost use Rattle.seg_machine.specs.MachineBoundaries.{placed, boundaries, places_left, GivesNext, IsSegmented, IsCover};
 ghost use Rattle.seg_machine.specs.Scan.{accept_at, future, held, keep_at};
 
 use crate::provider::{Acceptance, Lookahead, SegmenterStateMachine, Symbol};
 use crate::tailored_machine::TailoredMachineBorrowed;
 use arrayvec::ArrayVec;
-use seg_text::inner::Cursor;
+use seg_text::boundary::Boundary;
+use seg_text::cursor::Cursor;
 use std::marker::Model;
 
 /// The boundaries of a text by a state machine: its start, and then the end of each segment.
@@ -31,11 +34,13 @@ pub struct RuleBreakIterator<'data, I: Cursor> {
 impl<'data, I: Cursor> Model for RuleBreakIterator<'data, I> {
     ghost use Rattle.std.specs.Prelude.{◌≡◌, false};
     ghost use Rattle.seg_machine.specs.Tailored.{machine_of};
-    ghost use Rattle.seg_machine.specs.MachineBoundaries.{Coming, coming};
+    ghost use Rattle.seg_text.specs.Boundaries.{Remainder};
+    ghost use Rattle.seg_text.specs.Stretches.{remainder};
+    ghost use Rattle.seg_machine.specs.Segments.{machine_stretch};
 
-    ghost Value = { Coming };
+    ghost Value = { Remainder };
 
-    ghost view = { λ s. coming s.started (machine_of s.machine) (I.left s.rest) (I.end s.rest) s.status };
+    ghost view = { λ s. remainder s.started (machine_stretch (machine_of s.machine)) (I.text s.rest) s.status };
 
     ghost invariant = { λ s. s.started ≡ false → s.status ≡ 0 };
 }
@@ -43,9 +48,8 @@ impl<'data, I: Cursor> Model for RuleBreakIterator<'data, I> {
 impl<'data, I: Cursor> RuleBreakIterator<'data, I> {
     /// The boundaries of what is left of `text`. Takes no memory.
     pub fn new(machine: TailoredMachineBorrowed<'data>, text: I) -> Self
-        ensures left { result.left ≡ boundaries (machine_of machine.entry) (I.left text) (I.end text) }
-        ensures segments { IsSegmented (machine_of machine.entry) (I.left text) (I.end text) result.left }
-        ensures cover { IsCover (place_of (I.left text) (I.end text)) (I.end text) (places_left result) }
+        ensures left { result.left ≡ boundaries_in (machine_boundaries (machine_of machine.entry)) (I.text text) }
+        ensures cover { IsCover (I.text text) result.left }
         ensures status { result.status ≡ 0 }
     {
         machine.check();
@@ -68,14 +72,14 @@ impl<'data, I: Cursor> RuleBreakIterator<'data, I> {
 impl<'data, I: Cursor> Iterator for RuleBreakIterator<'data, I> {
     type Item = usize;
 
-    ghost next_gives = { YieldsFirst places_left };
+    ghost next_gives = { YieldsFirst offsets_left };
 
-    ghost remaining = { item_count places_left };
+    ghost remaining = { item_count offsets_left };
 
     #[inline(always)]
     fn next(&mut self) -> Option<usize>
-        ensures steps { YieldsFirst places_left self.old result self.new × GivesNext self.old result self.new }
-        ensures goes { MakesProgress (λ _. ⊤) (item_count places_left) self.old result self.new }
+        ensures steps { YieldsFirst offsets_left self.old result self.new × GivesNext self.old result self.new }
+        ensures goes { MakesProgress (λ _. ⊤) (item_count offsets_left) self.old result self.new }
     {
         if !self.started {
             self.started = true;
@@ -92,28 +96,27 @@ impl<'data, I: Cursor> Iterator for RuleBreakIterator<'data, I> {
 
 /// Goes on to the end of the next segment, and gives its status.
 fn next_segment<I: Cursor>(machine: &TailoredMachineBorrowed<'_>, rest: &mut I) -> u8
-    requires { I.left rest.old ≢ [] }
-    ensures left { (n : ℕ) × (pick (machine_of machine.now) (symbols_of (machine_of machine.now) (code_points (I.left rest.old))) ≡ Some (n, result))
-        × (I.left rest.new ≡ drop n (I.left rest.old)) }
-    ensures end { I.end rest.new ≡ I.end rest.old }
+    requires { (I.text rest.old).items ≢ [] }
+    ensures { (p : AnyBoundary) × (pick (machine_of machine.now) (symbols_of (machine_of machine.now) (code_points (I.text rest.old).items)) ≡ Some p)
+        × (result ≡ p.status) × (I.text rest.new ≡ rest_after p.offset (I.text rest.old)) }
 {
     machine.check();
-    let Some((place, status)) = scan(machine, rest) else {
+    let Some(picked) = scan(machine, rest) else {
         unreachable!()
     };
-    rest.seek(place);
-    status
+    rest.seek(picked.offset);
+    picked.status
 }
 
-/// The pick of what is left of a text, as the place of the segment's end and its status.
-fn scan<I: Cursor>(machine: &TailoredMachineBorrowed<'_>, rest: &I) -> Option<(usize, u8)>
-    ensures { result ≡ option_map (placed (I.left rest.now) (I.end rest.now))
-        (pick (machine_of machine.now) (symbols_of (machine_of machine.now) (code_points (I.left rest.now)))) }
+/// The pick of what is left of a text: where the segment ends, and its status.
+fn scan<I: Cursor>(machine: &TailoredMachineBorrowed<'_>, rest: &I) -> Option<Boundary>
+    ensures { result ≡ option_map (boundary_in (I.text rest.now))
+        (pick (machine_of machine.now) (symbols_of (machine_of machine.now) (code_points (I.text rest.now).items))) }
 {
     machine.check();
     let mut iter = rest.fork();
     let mut kept = no_places(machine.num_lookaheads());
-    let mut last: Option<(usize, u8)> = None;
+    let mut last: Option<Boundary> = None;
     let mut state = SegmenterStateMachine::START_STATE;
     'scan: loop {
         let symbol = next_symbol(machine, &mut iter);
@@ -132,10 +135,9 @@ fn scan<I: Cursor>(machine: &TailoredMachineBorrowed<'_>, rest: &I) -> Option<(u
 fn next_symbol<I: Cursor>(machine: &TailoredMachineBorrowed<'_>, iter: &mut I) -> Symbol
     ensures symbol { result < symbol_count (machine_of machine.now) }
     ensures future { (state : ℕ) → state < length (machine_of machine.now).states
-        → future (machine_of machine.now) state (I.left iter.old)
-        ≡ option_map_or (λ next. next ∷ future (machine_of machine.now) next (I.left iter.new)) (step (machine_of machine.now) state result) [] }
-    ensures left { I.left iter.new ≡ drop 1 (I.left iter.old) }
-    ensures end { I.end iter.new ≡ I.end iter.old }
+        → future (machine_of machine.now) state (I.text iter.old)
+        ≡ option_map_or (λ next. next ∷ future (machine_of machine.now) next (I.text iter.new)) (step (machine_of machine.now) state result) [] }
+    ensures left { I.text iter.new ≡ rest_after 1 (I.text iter.old) }
 {
     machine.check();
     match iter.next_item() {
@@ -167,18 +169,23 @@ fn enter(
     state: (Acceptance, Option<Lookahead>),
     place: usize,
     kept: &mut Places,
-    last: &mut Option<(usize, u8)>,
-) -> Option<(usize, u8)>
+    last: &mut Option<Boundary>,
+) -> Option<Boundary>
     requires { NamesPast (length kept.old.items) state → ⊥ }
     ensures held { result ≡ held kept.old.items state }
     ensures last { IsNone result → last.new ≡ accept_at place state last.old }
     ensures kept { IsNone result → kept.new.items ≡ keep_at place state kept.old.items }
 {
     match state.0 {
-        Acceptance::Accept(status) => *last = Some((place, status)),
+        Acceptance::Accept(status) => {
+            *last = Some(Boundary {
+                offset: place,
+                status,
+            });
+        }
         Acceptance::Conditional(lookahead, status) => {
-            if let Some(end) = kept[lookahead as usize] {
-                return Some((end, status));
+            if let Some(offset) = kept[lookahead as usize] {
+                return Some(Boundary { offset, status });
             }
         }
         Acceptance::Continue => {}

@@ -2,7 +2,8 @@
 use Rattle.std.proofs.Common.{◌≡◌, ℕ, zero, suc, ◌<◌, ◌≤◌, List, [], ◌∷◌, ◌++◌, map, drop, refl, ap, sym, arith}
 use Rattle.std.proofs.lemmas.List.{drop-drop, drop-map}
 use Rattle.seg_text.specs.Items.{Item, Text, place_of, rest_after, code_points, IsRising}
-use Rattle.seg_text.specs.Boundaries.{Boundary, shift_all, boundary_in}
+use Rattle.seg_text.specs.declared.boundary.Boundary.{Boundary}
+use Rattle.seg_text.specs.Boundaries.{shift_all, boundary_in}
 
 pub IsRising-drop : (items : List Item) (end n : ℕ) → IsRising items end → IsRising (drop n items) end
 IsRising-drop items end zero rising = rising

@@ -4,7 +4,8 @@ use Rattle.std.specs.Prelude.{Option, Some, None}
 use Rattle.std.specs.Option.{option_map}
 use Rattle.std.proofs.lemmas.List.{length-drop, drop-drop, drop-map}
 use Rattle.std.proofs.lemmas.Option.{slice_get-map, same_Some, none-some}
-use Rattle.seg_text.specs.Boundaries.{Boundary, start, shift, shift_all, HasRestart}
+use Rattle.seg_text.specs.declared.boundary.Boundary.{Boundary}
+use Rattle.seg_text.specs.Boundaries.{start, shift, shift_all, HasRestart}
 use Rattle.seg_text.specs.Stretches.{Stretch, through, boundaries_through, IsGoing, HasEndAlone}
 use Rattle.seg_text.proofs.Stretches.{through-nil, through-next}
 

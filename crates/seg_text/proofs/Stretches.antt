@@ -2,7 +2,8 @@
 use Rattle.std.proofs.Common.{◌≡◌, ℕ, zero, suc, ◌<◌, ◌≤◌, List, [], ◌∷◌, ◌++◌, length, map, drop, refl, sym, ap, ◌∙◌, arith}
 use Rattle.std.proofs.lemmas.List.{length-drop}
 use Rattle.seg_text.specs.Items.{Item, Text, rest_after, code_points}
-use Rattle.seg_text.specs.Boundaries.{Boundary, shift_all, boundary_in, boundaries_in}
+use Rattle.seg_text.specs.declared.boundary.Boundary.{Boundary}
+use Rattle.seg_text.specs.Boundaries.{shift_all, boundary_in, boundaries_in}
 use Rattle.seg_text.specs.Stretches.{Stretch, AreThrough, through_within, through, IsGoing}
 use Rattle.seg_text.proofs.Places.{in-append, in-shift_all, code_points-drop}
 

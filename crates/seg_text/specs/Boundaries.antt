@@ -1,26 +1,29 @@
 -- Boundaries: where a list, or a text, may be cut. Each has an offset, in a list so many elements and in a text so many
 -- units, and a status.
 use Rattle.std.specs.Prelude.{◌≡◌, ℕ, suc, ◌+◌, ◌<◌, Option, Some, List, [], ◌∷◌, drop, map, slice_get, MatchOption}
-pub use Rattle.seg_text.specs.declared.boundary.Boundary.{Boundary}
+use Rattle.seg_text.specs.declared.boundary.Boundary.{Boundary}
 use Rattle.seg_text.specs.Items.{Text, start_of, rest_after, code_points}
+
+abbrev pub boundary : ℕ → ℕ → Boundary
+boundary offset status = record { offset = offset; status = status }
 
 -- the first boundary of any list
 abbrev pub start : Boundary
-start = record { offset = 0; status = 0 }
+start = boundary 0 0
 
 abbrev pub offsets : List Boundary → List ℕ
 offsets boundaries = map (λ (boundary : Boundary). boundary.offset) boundaries
 
 -- the same boundary, and the same boundaries, so much later
 abbrev pub shift : ℕ → Boundary → Boundary
-shift before boundary = record { offset = before + boundary.offset; status = boundary.status }
+shift before found = boundary (before + found.offset) found.status
 
 abbrev pub shift_all : ℕ → List Boundary → List Boundary
 shift_all before boundaries = map (shift before) boundaries
 
 -- a boundary of a text's code points, as one of the text: at the place after so many items
 abbrev pub boundary_in : Text → Boundary → Boundary
-boundary_in text counted = record { offset = start_of (rest_after counted.offset text); status = counted.status }
+boundary_in text counted = boundary (start_of (rest_after counted.offset text)) counted.status
 
 -- the boundaries of a text, where this finds those of a list of code points
 abbrev pub boundaries_in : (List ℕ → List Boundary) → Text → List Boundary
@@ -56,4 +59,4 @@ offsets_left remainder = offsets remainder.left
 abbrev pub GivesNext : Remainder → Option ℕ → Remainder → Type 0
 GivesNext before given after =
     MatchOption given ((before.left ≡ []) × (after.left ≡ []) × (after.status ≡ 0))
-    (λ offset. before.left ≡ record { offset = offset; status = after.status } ∷ after.left)
+    (λ offset. before.left ≡ boundary offset after.status ∷ after.left)

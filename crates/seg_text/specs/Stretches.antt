@@ -1,7 +1,8 @@
 -- A list that is gone through stretch by stretch.
 use Rattle.std.specs.Prelude.{◌≡◌, ℕ, zero, suc, ◌<◌, ◌≤◌, ◌⊎◌, Bool, if◌then◌else◌, List, [], ◌∷◌, ◌++◌, length, drop}
 use Rattle.seg_text.specs.Items.{Text}
-use Rattle.seg_text.specs.Boundaries.{Boundary, Remainder, start, shift_all, boundaries_in}
+use Rattle.seg_text.specs.declared.boundary.Boundary.{Boundary}
+use Rattle.seg_text.specs.Boundaries.{Remainder, boundary, start, shift_all, boundaries_in}
 
 -- how many elements a stretch has, and the boundaries in it, counted from its first element
 pub record Stretch : Type 0 where
@@ -49,7 +50,7 @@ IsGoing {X} first = (x : X) (xs : List X) → 0 < (first (x ∷ xs)).extent
 abbrev pub HasEndAlone : Stretch → Type 0
 HasEndAlone stretch =
     (stretch.boundaries ≡ [])
-    ⊎ ((status : ℕ) × (stretch.boundaries ≡ record { offset = stretch.extent; status = status } ∷ []))
+    ⊎ ((status : ℕ) × (stretch.boundaries ≡ boundary stretch.extent status ∷ []))
 
 -- of so many elements a stretch has some, and all of them only where it has a boundary, which is at its end
 pub record IsWithin (count : ℕ) (stretch : Stretch) : Type 0 where

@@ -2,7 +2,7 @@
 ghost use Rattle.std.specs.Prelude.{◌≡◌, ◌≢◌, ℕ, ◌<◌, ◌≤◌, ◌⊎◌, IsTrue, IsFalse, IfSome, IsSomeAnd, All, Contains, List, [], ◌∷◌, ◌++◌, length, slice_index_or};
 ghost use Rattle.seg_machine.specs.MachineFaults.{IsConditionPast, NamesPast};
 ghost use Rattle.seg_machine.specs.Pick.{HasStall, IsStallFree};
-ghost use Rattle.seg_machine.specs.Search.{AreFollowed, IsBounded, IsMet, IsReached, IsTable, bare, enter, has, is_pick, is_settled_at_end, keep};
+ghost use Rattle.seg_machine.specs.Search.{AreFollowed, IsBounded, IsMet, IsReached, IsTable, bare, enter, has, is_pick, is_settled_at_end, keep, Pair};
 
 use crate::provider::transitions::next_of;
 use crate::provider::{Acceptance, Lookahead, State};
@@ -58,7 +58,7 @@ fn list_next_pairs(
     requires reached { All (IsReached (bare states.now transitions.now)) pairs.old.items }
     ensures table { IsTable found.new pairs.new.items }
     ensures reached { All (IsReached (bare states.now transitions.now)) pairs.new.items }
-    ensures more { (more : List (ℕ × ℕ)) × (pairs.new.items ≡ pairs.old.items ++ more) }
+    ensures more { (more : List Pair) × (pairs.new.items ≡ pairs.old.items ++ more) }
     ensures followed { IsTrue result → AreFollowed (bare states.now transitions.now) pairs.new.items state kept }
     ensures stalls { IsFalse result → HasStall (bare states.now transitions.now) }
 {

@@ -4,8 +4,8 @@ use Rattle.seg_machine.specs.Scan.{future, Scanned}
 use Rattle.seg_machine.proofs.rule_segmenter_v2.scan.Given as goal
 
 abbrev pub invariant-scan : goal.invariant-scan
-invariant-scan g l = (g.I.Cursor.end l.iter ≡ g.I.Cursor.end l.rest)
-    × Scanned (machine_of l.machine) (g.I.Cursor.left l.rest) (g.I.Cursor.end l.rest) l.state (g.I.Cursor.left l.iter) l.kept.items l.last
+invariant-scan g l =
+    Scanned (machine_of l.machine) (g.I.Cursor.text l.rest) l.state (g.I.Cursor.text l.iter) l.kept.items l.last
 
 abbrev pub decreases-scan : goal.decreases-scan
-decreases-scan g l = length (future (machine_of l.machine) l.state (g.I.Cursor.left l.iter))
+decreases-scan g l = length (future (machine_of l.machine) l.state (g.I.Cursor.text l.iter))
