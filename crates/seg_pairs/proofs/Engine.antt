@@ -1,61 +1,185 @@
 -- What an engine gives, call by call.
-use Rattle.std.proofs.Common.{◌≡◌, ℕ, ◌+◌, ◌<◌, Bool, true, Option, Some, None, List, [], ◌∷◌, drop, refl, sym, ap, ◌∙◌, subst}
+use Rattle.std.proofs.Common.{◌≡◌, ℕ, zero, suc, ◌+◌, ◌<◌, inl, inr, Bool, true, false, Option, Some, None, List, [], ◌∷◌, length, map, drop, refl, sym, ap, ◌∙◌, subst, arith}
 use Rattle.std.specs.Prelude.{⊤, IfSome}
 use Rattle.std.specs.Iterator.{YieldsFirst, MakesProgress, item_count}
-use Rattle.seg_text.proofs.Cursor.{fewer-left}
-use Rattle.seg_text.specs.Items.{place_of, IsRising}
-use Rattle.seg_text.specs.Places.{IsCover, places}
+use Rattle.std.proofs.lemmas.List.{drop-map, length-map}
+use Rattle.seg_text.specs.declared.boundary.Boundary.{Boundary}
+use Rattle.seg_text.specs.Items.{Item, Text, place_of, start_of, rest_after, code_points, IsRising}
+use Rattle.seg_text.specs.Boundaries.{Remainder, GivesNext, IsCover, boundary, start, boundary_in, boundaries_in, offsets, offsets_left, shift_all}
+use Rattle.seg_text.specs.Stretches.{Stretch, through, boundaries_through, remainder, HasEndAlone, IsGoing, IsWithin}
+use Rattle.seg_text.proofs.Covers.{covers}
+use Rattle.seg_text.proofs.Cursors.{fewer-left}
+use Rattle.seg_text.proofs.Places.{in-shift}
+use Rattle.seg_text.proofs.Stretches.{through-nil, through-map}
+use Rattle.seg_data.specs.Table.{Table}
 use Rattle.seg_pairs.specs.declared.pair_data.PairDataBorrowed.{PairDataBorrowed}
 use Rattle.seg_pairs.specs.PairData.{pair_table_of, override_of}
-use Rattle.seg_pairs.specs.PairTable.{PairTable}
+use Rattle.seg_pairs.specs.PairTable.{PairTable, class_of}
 use Rattle.seg_pairs.specs.declared.elements.Element.{Element}
 use Rattle.seg_pairs.specs.declared.rules.Outcome.TheVariants.{Break as BreakOut, Run as RunOut}
 use Rattle.seg_pairs.specs.Verdict.{Verdict, verdict}
 use Rattle.seg_pairs.specs.Verdict.Verdict.{BreakAfter, GoAfter, RunBegins}
-use Rattle.seg_pairs.specs.Breaks.{chain}
-use Rattle.seg_pairs.specs.Elements.{onto, place_at}
+use Rattle.seg_pairs.specs.Breaks.{status_of, stretch_of, class_stretch, classes_by, table_stretch, table_boundaries}
+use Rattle.seg_pairs.specs.Chains.{chain, TakesOf}
+use Rattle.seg_pairs.specs.Elements.{classes_of, class_text, onto, place_at}
 use Rattle.seg_pairs.specs.Items.{elements_of}
 use Rattle.seg_pairs.specs.Steps.{EndsIn, IsRest}
-use Rattle.seg_pairs.specs.PairBoundaries.{table_boundaries, IsBroken, break_ends, element_verdict, Coming, coming, places_coming, GivesBreak}
-use Rattle.seg_pairs.proofs.Chains.{chain-no-run}
-use Rattle.seg_pairs.proofs.Ends.{start-left, broken, cover, break_ends-none, break_ends-next}
+use Rattle.seg_pairs.proofs.Chains.{chain-no-run, chain-first}
 use Rattle.seg_pairs.proofs.Forward.{verdict-forward, verdict-no-run, on-classes}
 
 pub read-onto : {S : Type 0} (left : S → List Element) (s : S) (first : Option Element) (t : S) → YieldsFirst left s first t → left s ≡ onto first (left t)
 read-onto left s None t gives = gives.0 ∙ sym gives.1
 read-onto left s (Some first) t gives = gives
 
-pub none-left : (pairs : PairDataBorrowed) (items : List (ℕ × ℕ)) → elements_of pairs items ≡ [] → items ≡ []
+pub none-left : (pairs : PairDataBorrowed) (items : List Item) → elements_of pairs items ≡ [] → items ≡ []
 none-left pairs [] none = refl
 none-left pairs (item ∷ items) none = cc
 
+-- the verdict of a table on the first of some elements
+abbrev pub element_verdict : PairTable → List Element → Verdict
+element_verdict t elements = verdict t (classes_of elements)
+
+-- stretches by a table alone: each takes some of what is left, and ends with its one boundary
+
+class-is : (t : PairTable) (class : ℕ) (classes : List ℕ) → class_stretch t (class ∷ classes) ≡ stretch_of t.rule_status_table (length (class ∷ classes)) (verdict t (class ∷ classes))
+unfolding class_stretch
+class-is t class classes = refl
+
+class-within : (t : PairTable) (class : ℕ) (classes : List ℕ) → IsWithin (length (class ∷ classes)) (class_stretch t (class ∷ classes))
+unfolding class_stretch
+class-within t class classes = on (verdict t (class ∷ classes)) refl (verdict-forward t class classes)
+  where
+    on : (w : Verdict) → verdict t (class ∷ classes) ≡ w → TakesOf (length (class ∷ classes)) w
+        → IsWithin (length (class ∷ classes)) (stretch_of t.rule_status_table (length (class ∷ classes)) w)
+    on (BreakAfter n c) is takes = record { some = takes.0; within = takes.1; ends = inr (status_of t.rule_status_table c, refl); last = λ none. cc }
+    on (GoAfter n) is takes = record { some = takes.0; within = omega (arith, takes.1); ends = inl refl; last = λ none. takes.1 }
+    on RunBegins is takes = absurd (verdict-no-run t class classes is)
+
+pub table-within : (t : PairTable) (overriding : Option Table) (x : ℕ) (xs : List ℕ) → IsWithin (length (x ∷ xs)) (table_stretch t overriding (x ∷ xs))
+table-within t overriding x xs =
+    let long : length (classes_by t overriding (x ∷ xs)) ≡ length (x ∷ xs) = length-map (x ∷ xs) (class_of t overriding) in
+    subst (λ n. IsWithin n (table_stretch t overriding (x ∷ xs))) long (class-within t (class_of t overriding x) (classes_by t overriding xs))
+
+pub table-going : (t : PairTable) (overriding : Option Table) → IsGoing (table_stretch t overriding)
+table-going t overriding x xs = (table-within t overriding x xs).some
+
+pub table-alone : (t : PairTable) (overriding : Option Table) (x : ℕ) (xs : List ℕ) → HasEndAlone (table_stretch t overriding (x ∷ xs))
+table-alone t overriding x xs = (table-within t overriding x xs).ends
+
+-- elements as a text
+
+class-start : (elements : List Element) (end : ℕ) → start_of (class_text elements end) ≡ place_at elements end
+class-start [] end = refl
+class-start (element ∷ elements) end = refl
+
+class-after : (n : ℕ) (elements : List Element) (end : ℕ) → rest_after n (class_text elements end) ≡ class_text (drop n elements) end
+class-after n elements end = rw (drop-map {Y = Item} (λ (element : Element). (element.place, element.class)) n elements) refl
+
+class-codes : (elements : List Element) (end : ℕ) → code_points (class_text elements end).items ≡ classes_of elements
+class-codes [] end = refl
+class-codes (element ∷ elements) end = ap (λ (classes : List ℕ). element.class ∷ classes) (class-codes elements end)
+
+-- the boundaries of elements that are left, where those up to the first were given
+abbrev Ends : PairTable → List Element → ℕ → List Boundary
+Ends t elements end = boundaries_in (through (class_stretch t)) (class_text elements end)
+
+ends-none : (t : PairTable) (end : ℕ) → Ends t [] end ≡ []
+ends-none t end = rw (through-nil (class_stretch t)) refl
+
+ends-next : (t : PairTable) (left : Element) (elements : List Element) (end gone n class : ℕ)
+    → chain (element_verdict t) (left ∷ elements) ≡ (gone, BreakAfter n class)
+    → Ends t (left ∷ elements) end
+    ≡ boundary (place_at (drop (gone + n) (left ∷ elements)) end) (status_of t.rule_status_table class) ∷ Ends t (drop (gone + n) (left ∷ elements)) end
+ends-next t left elements end gone n class found =
+    let whole : List Element = left ∷ elements in
+    let rest : List Element = drop (gone + n) whole in
+    let status : ℕ = status_of t.rule_status_table class in
+    let first : List Element → Stretch = λ elements. class_stretch t (classes_of elements) in
+    let begins = chain-first (element_verdict t) (on-classes (verdict t) (verdict-forward t)) t.rule_status_table first (by-class t) left elements gone n class found in
+    let by_class : through (class_stretch t) (classes_of whole) ≡ boundary (gone + n) status ∷ shift_all (gone + n) (through (class_stretch t) (classes_of rest)) =
+    sym (through-map (λ (element : Element). element.class) (class_stretch t) whole) ∙ begins
+    ∙ ap (λ (later : List Boundary). boundary (gone + n) status ∷ shift_all (gone + n) later) (through-map (λ (element : Element). element.class) (class_stretch t) rest) in
+    rw (class-codes whole end, class-codes rest end, by_class, in-shift (class_text whole end) (gone + n), class-after (gone + n) whole end)
+    (ap (λ place. boundary place status ∷ map (boundary_in (class_text rest end)) (through (class_stretch t) (classes_of rest)))
+    (ap start_of (class-after (gone + n) whole end) ∙ class-start rest end))
+  where
+    by-class : (t : PairTable) (x : Element) (xs : List Element)
+        → class_stretch t (classes_of (x ∷ xs)) ≡ stretch_of t.rule_status_table (length (x ∷ xs)) (element_verdict t (x ∷ xs))
+    by-class t x xs = class-is t x.class (classes_of xs) ∙ ap (λ n. stretch_of t.rule_status_table n (element_verdict t (x ∷ xs))) (length-map (x ∷ xs) (λ (element : Element). element.class))
+
 -- a new engine
 
-pub new-left : (pairs : PairDataBorrowed) (items : List (ℕ × ℕ)) (end : ℕ) (t : PairTable) (elements : List Element) (after : ℕ)
-    → t ≡ pair_table_of pairs → after ≡ end → elements_of pairs items ≡ elements
-    → (place_at elements after, 0) ∷ break_ends t elements after ≡ table_boundaries (pair_table_of pairs) (override_of pairs) items end
-new-left pairs items end t elements after same stays is =
-    rw (same, stays) (rw (← is) (start-left pairs items end))
+items-codes : (pairs : PairDataBorrowed) (items : List Item) → classes_of (elements_of pairs items) ≡ classes_by (pair_table_of pairs) (override_of pairs) (code_points items)
+items-codes pairs [] = refl
+items-codes pairs (item ∷ items) = ap (λ (classes : List ℕ). class_of (pair_table_of pairs) (override_of pairs) item.1 ∷ classes) (items-codes pairs items)
 
-pub new-broken : (pairs : PairDataBorrowed) (items : List (ℕ × ℕ)) (end : ℕ) (left : List (ℕ × ℕ)) → left ≡ table_boundaries (pair_table_of pairs) (override_of pairs) items end
-    → IsBroken (pair_table_of pairs) (override_of pairs) items end left
-new-broken pairs items end left is = subst (IsBroken (pair_table_of pairs) (override_of pairs) items end) (sym is) (broken (pair_table_of pairs) (override_of pairs) items end)
+items-place : (pairs : PairDataBorrowed) (items : List Item) (end n : ℕ) → place_of (drop n (class_text (elements_of pairs items) end).items) end ≡ place_of (drop n items) end
+items-place pairs [] end zero = refl
+items-place pairs [] end (suc n) = refl
+items-place pairs (item ∷ items) end zero = refl
+items-place pairs (item ∷ items) end (suc n) = items-place pairs items end n
 
-pub new-cover : (pairs : PairDataBorrowed) (items : List (ℕ × ℕ)) (end : ℕ) (left : List (ℕ × ℕ)) → left ≡ table_boundaries (pair_table_of pairs) (override_of pairs) items end
-    → IsRising items end → IsCover (place_of items end) end (places left)
-new-cover pairs items end left is rising = subst (λ (left : List (ℕ × ℕ)). IsCover (place_of items end) end (places left)) (sym is) (cover (pair_table_of pairs) (override_of pairs) items end rising)
+items-boundaries : (pairs : PairDataBorrowed) (text : Text) (counted : List Boundary)
+    → map (boundary_in (class_text (elements_of pairs text.items) text.end)) counted ≡ map (boundary_in text) counted
+items-boundaries pairs text [] = refl
+items-boundaries pairs text (b ∷ counted) =
+    rw (items-place pairs text.items text.end b.offset, items-boundaries pairs text counted) refl
+
+-- the boundaries of elements, that at their start too
+abbrev All : PairTable → List Element → ℕ → List Boundary
+All t elements end = boundaries_in (boundaries_through (class_stretch t)) (class_text elements end)
+
+items-left : (pairs : PairDataBorrowed) (text : Text)
+    → All (pair_table_of pairs) (elements_of pairs text.items) text.end ≡ boundaries_in (table_boundaries (pair_table_of pairs) (override_of pairs)) text
+items-left pairs text =
+    let p = pair_table_of pairs in
+    let o = override_of pairs in
+    let codes : code_points (class_text (elements_of pairs text.items) text.end).items ≡ classes_by p o (code_points text.items) =
+    class-codes (elements_of pairs text.items) text.end ∙ items-codes pairs text.items in
+    let found : boundaries_through (class_stretch p) (code_points (class_text (elements_of pairs text.items) text.end).items) ≡ table_boundaries p o (code_points text.items) =
+    ap (boundaries_through (class_stretch p)) codes
+    ∙ ap (λ (found : List Boundary). start ∷ found) (sym (through-map (class_of p o) (class_stretch p) (code_points text.items))) in
+    ap (map (boundary_in (class_text (elements_of pairs text.items) text.end))) found
+    ∙ items-boundaries pairs text (table_boundaries p o (code_points text.items))
+
+pub new-left : (pairs : PairDataBorrowed) (text : Text) (t : PairTable) (elements : List Element) (after : ℕ)
+    → t ≡ pair_table_of pairs → after ≡ text.end → elements_of pairs text.items ≡ elements
+    → All t elements after ≡ boundaries_in (table_boundaries (pair_table_of pairs) (override_of pairs)) text
+new-left pairs text t elements after same stays is =
+    let p = pair_table_of pairs in
+    let found : List Boundary = boundaries_in (table_boundaries p (override_of pairs)) text in
+    subst (λ t. All t elements after ≡ found) (sym same)
+    (subst (λ after. All p elements after ≡ found) (sym stays)
+    (subst (λ elements. All p elements text.end ≡ found) is (items-left pairs text)))
+
+pub new-cover : (pairs : PairDataBorrowed) (text : Text) (left : List Boundary) → left ≡ boundaries_in (table_boundaries (pair_table_of pairs) (override_of pairs)) text
+    → IsRising text.items text.end → IsCover text left
+new-cover pairs text left is rising = rw is (covers (table_stretch (pair_table_of pairs) (override_of pairs)) (table-within (pair_table_of pairs) (override_of pairs)) text rising)
 
 -- a call
 
-pub record Gives (before after : Coming) (place : ℕ) : Type 0 where
-  pub steps : YieldsFirst places_coming before (Some place) after × GivesBreak before (Some place) after
-  pub goes : MakesProgress (λ _. ⊤) (item_count places_coming) before (Some place) after
+-- what an engine has still to give, where these elements are left
+abbrev pub Left : Bool → PairTable → List Element → ℕ → ℕ → Remainder
+Left started t elements end class = remainder started (class_stretch t) (class_text elements end) (status_of t.rule_status_table class)
+
+pub record Gives (before after : Remainder) (place : ℕ) : Type 0 where
+  pub steps : YieldsFirst offsets_left before (Some place) after × GivesNext before (Some place) after
+  pub goes : MakesProgress (λ _. ⊤) (item_count offsets_left) before (Some place) after
+
+gives : (before after : Remainder) (place : ℕ) → before.left ≡ boundary place after.status ∷ after.left → Gives before after place
+gives before after place is =
+    let steps : offsets_left before ≡ place ∷ offsets_left after = ap offsets is in
+    record { steps = (steps, is); goes = fewer-left offsets_left before after place steps }
+
+pub gives-start : (t : PairTable) (elements : List Element) (end class place : ℕ) (started : Bool) → started ≡ false → class ≡ 0 → place ≡ place_at elements end
+    → Gives (Left started t elements end class) (Left true t elements end class) place
+gives-start t elements end class place started off none is = gives _ _ place (rw (off, none, is, class-start elements end) refl)
 
 pub gives-next : (t u : PairTable) (now : Option Element) (left : Element) (elements : List Element) (next : Option Element) (rest : List Element)
     (end after : ℕ) (started : Bool) (class next_class place : ℕ) → started ≡ true → now ≡ Some left
     → EndsIn (chain (element_verdict t) (left ∷ elements)) (left ∷ elements) (BreakOut next_class next) rest
     → u ≡ t → after ≡ end → place ≡ place_at (onto next rest) after
-    → Gives (coming started t (onto now elements) end class) (coming started u (onto next rest) after next_class) place
+    → Gives (Left started t (onto now elements) end class) (Left started u (onto next rest) after next_class) place
 gives-next t u now left elements next rest end after started class next_class place on here ends same stays is =
     rw (on, here, same, stays, is, stays) (by (chain (element_verdict t) (left ∷ elements)) refl ends)
   where
@@ -64,21 +188,16 @@ gives-next t u now left elements next rest end after started class next_class pl
     rest-is (Some next) rest whole is = sym is
 
     by : (found : ℕ × Verdict) → chain (element_verdict t) (left ∷ elements) ≡ found → EndsIn found (left ∷ elements) (BreakOut next_class next) rest
-        → Gives (coming true t (left ∷ elements) end class) (coming true t (onto next rest) end next_class) (place_at (onto next rest) end)
+        → Gives (Left true t (left ∷ elements) end class) (Left true t (onto next rest) end next_class) (place_at (onto next rest) end)
     by (gone, BreakAfter n with_class) found (class_is, left_is) =
         let there = rest-is next rest (drop (gone + n) (left ∷ elements)) left_is in
-        let ends : break_ends t (left ∷ elements) end ≡ (place_at (onto next rest) end, next_class) ∷ break_ends t (onto next rest) end =
-        rw (there, class_is) (break_ends-next t left elements end gone n with_class found) in
-        record {
-          steps = (ap places ends, (refl, ends));
-          goes = fewer-left places_coming (coming true t (left ∷ elements) end class) (coming true t (onto next rest) end next_class) (place_at (onto next rest) end) (ap places ends);
-        }
+        gives _ _ _ (rw (there, class_is) (ends-next t left elements end gone n with_class found))
     by (gone, GoAfter n) found ends = absurd ends
     by (gone, RunBegins) found ends = absurd ends
 
 pub end-left : (t : PairTable) (next : Option Element) (elements : List Element) (end class : ℕ) (started : Bool)
-    → started ≡ true → next ≡ None → elements ≡ [] → (coming started t (onto next elements) end class).left ≡ []
-end-left t next elements end class started on none empty = rw (on, none, empty) (break_ends-none t end)
+    → started ≡ true → next ≡ None → elements ≡ [] → (Left started t (onto next elements) end class).left ≡ []
+end-left t next elements end class started on none empty = rw (on, none, empty) (ends-none t end)
 
 pub run-never : (t : PairTable) (left : Element) (elements : List Element) (first second : Element) (rest : List Element)
     → EndsIn (chain (element_verdict t) (left ∷ elements)) (left ∷ elements) (RunOut first second) rest → ⊥
@@ -102,7 +221,7 @@ below-of t u v next same equal below =
     let Below : PairTable → Type 0 = λ t. IfSome next (λ next. next.class < t.property_count) in
     subst Below (same ∙ sym equal) below
 
-pub new-empty : (whole : List Element) (first : Option Element) (pairs : PairDataBorrowed) (items : List (ℕ × ℕ))
+pub new-empty : (whole : List Element) (first : Option Element) (pairs : PairDataBorrowed) (items : List Item)
     → YieldsFirst (λ (elements : List Element). elements) whole first (elements_of pairs items) → first ≡ None → items ≡ []
 new-empty whole None pairs items gives none = none-left pairs items gives.1
 new-empty whole (Some first) pairs items gives none = cc

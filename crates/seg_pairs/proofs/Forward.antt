@@ -10,7 +10,7 @@ use Rattle.seg_pairs.specs.BreakStates.{named_state, is_intermediate}
 use Rattle.seg_pairs.specs.PairTable.{PairTable, entry_of}
 use Rattle.seg_pairs.specs.Walk.{Walk, walk, is_class}
 use Rattle.seg_pairs.specs.Verdict.{Verdict, stop_verdict, end_verdict, walk_verdict, named_verdict, first_verdict, verdict, complex_verdict}
-use Rattle.seg_pairs.specs.Breaks.{TakesOf, IsForward, HasNoRun}
+use Rattle.seg_pairs.specs.Chains.{TakesOf, IsForward, HasNoRun}
 use Rattle.seg_pairs.specs.Elements.{classes_of}
 use Rattle.seg_pairs.specs.declared.elements.Element.{Element}
 use Rattle.seg_pairs.proofs.Walks.{walk-named, walk-stop, walk-end}

@@ -15,7 +15,7 @@ use Rattle.seg_pairs.specs.declared.rules.Step.TheVariants.{Break, Go, Run}
 use Rattle.seg_pairs.specs.Steps.{Lands, EndsIn, IsRest}
 use Rattle.seg_pairs.specs.declared.rules.Outcome.{Outcome}
 use Rattle.seg_pairs.specs.declared.rules.Outcome.TheVariants.{Break as BreakOut, Run as RunOut}
-use Rattle.seg_pairs.specs.Breaks.{chain, TakesOf, IsForward}
+use Rattle.seg_pairs.specs.Chains.{chain, TakesOf, IsForward}
 use Rattle.seg_pairs.proofs.Chains.{IsOnChain, chain-break, chain-run}
 use Rattle.seg_pairs.specs.Verdict.Verdict.{BreakAfter, GoAfter, RunBegins}
 use Rattle.seg_pairs.proofs.Walks.{drop-next}

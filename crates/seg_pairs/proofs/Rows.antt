@@ -2,20 +2,22 @@
 use Rattle.std.proofs.Common.{◌≡◌, [], ◌∷◌, refl}
 use Rattle.seg_pairs.specs.declared.provider.pairs.BreakState.TheVariants.{Index, Intermediate}
 use Rattle.seg_pairs.specs.PairTable.{entry_of}
-use Rattle.seg_pairs.specs.Breaks.{breaks, breaks_within, chain, chain_within}
+use Rattle.seg_text.specs.Boundaries.{boundary}
+use Rattle.seg_text.specs.Stretches.{through, through_within}
+use Rattle.seg_pairs.specs.Breaks.{class_stretch}
 use Rattle.seg_pairs.specs.Rows.{breaks_of, retreating, classed}
 use Rattle.seg_pairs.specs.Verdict.{verdict, named_verdict}
 use Rattle.seg_pairs.specs.Walk.{walk, namings}
 
 pub record Rows : Type 0 where
-  pub back_to_saved : breaks_of (retreating (Index 4)) (1 ∷ 2 ∷ 2 ∷ 2 ∷ []) ≡ (1, 1) ∷ (3, 2) ∷ []
-  pub to_end : breaks_of (retreating (Index 4)) (1 ∷ 2 ∷ 2 ∷ []) ≡ (3, 4) ∷ []
-  pub back_to_intermediate : breaks_of (retreating (Intermediate 4)) (1 ∷ 2 ∷ 2 ∷ 2 ∷ []) ≡ (2, 1) ∷ (2, 2) ∷ []
-  pub back_to_first : breaks_of classed (1 ∷ 2 ∷ 2 ∷ []) ≡ (1, 1) ∷ (1, 2) ∷ (1, 2) ∷ []
-  pub state_reached : breaks_of classed (1 ∷ 2 ∷ 1 ∷ []) ≡ (2, 3) ∷ (1, 1) ∷ []
+  pub back_to_saved : breaks_of (retreating (Index 4)) (1 ∷ 2 ∷ 2 ∷ 2 ∷ []) ≡ boundary 1 1 ∷ boundary 4 2 ∷ []
+  pub to_end : breaks_of (retreating (Index 4)) (1 ∷ 2 ∷ 2 ∷ []) ≡ boundary 3 4 ∷ []
+  pub back_to_intermediate : breaks_of (retreating (Intermediate 4)) (1 ∷ 2 ∷ 2 ∷ 2 ∷ []) ≡ boundary 2 1 ∷ boundary 4 2 ∷ []
+  pub back_to_first : breaks_of classed (1 ∷ 2 ∷ 2 ∷ []) ≡ boundary 1 1 ∷ boundary 2 2 ∷ boundary 3 2 ∷ []
+  pub state_reached : breaks_of classed (1 ∷ 2 ∷ 1 ∷ []) ≡ boundary 2 3 ∷ boundary 3 1 ∷ []
 
 pub rows : Rows
-unfolding breaks breaks_within chain chain_within verdict named_verdict walk namings entry_of
+unfolding through through_within class_stretch verdict named_verdict walk namings entry_of
 rows = record {
   back_to_saved = refl;
   to_end = refl;

@@ -1,12 +1,13 @@
 -- The items of a text as elements.
-use Rattle.std.specs.Prelude.{ℕ, List, map}
+use Rattle.std.specs.Prelude.{List, map}
+use Rattle.seg_text.specs.Items.{Item}
 use Rattle.seg_pairs.specs.declared.pair_data.PairDataBorrowed.{PairDataBorrowed}
 use Rattle.seg_pairs.specs.PairData.{class_by}
 use Rattle.seg_pairs.specs.declared.elements.Element.{Element}
 
 -- an item with the class of its code point
-abbrev pub element_of : PairDataBorrowed → ℕ × ℕ → Element
+abbrev pub element_of : PairDataBorrowed → Item → Element
 element_of pairs item = record { place = item.0; class = class_by pairs item.1 }
 
-abbrev pub elements_of : PairDataBorrowed → List (ℕ × ℕ) → List Element
+abbrev pub elements_of : PairDataBorrowed → List Item → List Element
 elements_of pairs items = map (element_of pairs) items

@@ -9,7 +9,7 @@ pub mod Items
 pub mod Walk
 pub mod Verdict
 pub mod Breaks
+pub mod Chains
 pub mod Stop
 pub mod Steps
-pub mod PairBoundaries
 pub mod Rows

@@ -5,7 +5,7 @@ ghost use Rattle.std.specs.Iterator.{YieldsFirst};
 ghost use Rattle.seg_pairs.specs.PairTable.{PairTable};
 
 use crate::pair_data::PairDataBorrowed;
-use seg_text::inner::Cursor;
+use seg_text::cursor::Cursor;
 
 /// An element of a text: an item, or a base with the marks after it.
 #[derive(Clone, Copy, Debug)]
@@ -59,9 +59,9 @@ impl<'data, I: Cursor> Elements for Items<'data, I> {
     ghost use Rattle.seg_pairs.specs.PairData.{pair_table_of};
     ghost use Rattle.seg_pairs.specs.Items.{elements_of};
 
-    ghost left = { λ s. elements_of s.pairs (I.left s.cursor) };
+    ghost left = { λ s. elements_of s.pairs (I.text s.cursor).items };
 
-    ghost end = { λ s. I.end s.cursor };
+    ghost end = { λ s. (I.text s.cursor).end };
 
     ghost table = { λ s. pair_table_of s.pairs };
 

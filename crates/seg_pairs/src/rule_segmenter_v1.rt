@@ -2,17 +2,15 @@
 
 ghost use Rattle.std.specs.Prelude.{◌≡◌, ⊤};
 ghost use Rattle.std.specs.Iterator.{YieldsFirst, MakesProgress, item_count};
-ghost use Rattle.seg_text.specs.Items.{place_of};
-ghost use Rattle.seg_text.specs.Places.{IsCover};
+ghost use Rattle.seg_text.specs.Boundaries.{GivesNext, IsCover, boundaries_in, offsets_left};
 ghost use Rattle.seg_pairs.specs.PairData.{pair_table_of, override_of};
-ghost use Rattle.seg_pairs.specs.PairBoundaries.{table_boundaries, places_coming, status_of, GivesBreak, IsBroken};
+ghost use Rattle.seg_pairs.specs.Breaks.{table_boundaries};
 ghost use Rattle.seg_pairs.specs.Elements.{onto, place_at};
-ghost use Rattle.seg_pairs.specs.Items.{elements_of};
 
 use crate::elements::{Element, Elements, Items};
 use crate::pair_data::PairDataBorrowed;
 use crate::rules::{Outcome, Pairs, next_break};
-use seg_text::inner::Cursor;
+use seg_text::cursor::Cursor;
 use std::marker::Model;
 
 /// The boundaries of a text by a pair table: its start, and then each that the verdicts of the table
@@ -30,27 +28,29 @@ pub struct RuleBreakIterator<'data, I: Cursor> {
 impl<'data, I: Cursor> Model for RuleBreakIterator<'data, I> {
     ghost use Rattle.std.specs.Prelude.{◌≡◌, ◌<◌, false, None, [], IfSome};
     ghost use Rattle.seg_pairs.specs.PairData.{pair_table_of};
-    ghost use Rattle.seg_pairs.specs.PairBoundaries.{Coming, coming};
-    ghost use Rattle.seg_pairs.specs.Elements.{onto};
+    ghost use Rattle.seg_text.specs.Boundaries.{Remainder};
+    ghost use Rattle.seg_text.specs.Stretches.{remainder};
+    ghost use Rattle.seg_pairs.specs.Breaks.{class_stretch, status_of};
+    ghost use Rattle.seg_pairs.specs.Elements.{onto, class_text};
     ghost use Rattle.seg_pairs.specs.Items.{elements_of};
 
-    ghost Value = { Coming };
+    ghost Value = { Remainder };
 
-    ghost view = { λ s. coming s.started (pair_table_of s.rest.pairs) (onto s.next (elements_of s.rest.pairs (I.left s.rest.cursor))) (I.end s.rest.cursor) s.class };
+    ghost view = { λ s. remainder s.started (class_stretch (pair_table_of s.rest.pairs))
+        (class_text (onto s.next (elements_of s.rest.pairs (I.text s.rest.cursor).items)) (I.text s.rest.cursor).end)
+        (status_of (pair_table_of s.rest.pairs).rule_status_table s.class) };
 
     ghost invariant = { λ s. (s.started ≡ false → s.class ≡ 0)
-        × (s.next ≡ None → I.left s.rest.cursor ≡ [])
+        × (s.next ≡ None → (I.text s.rest.cursor).items ≡ [])
         × IfSome s.next (λ next. next.class < (pair_table_of s.rest.pairs).property_count) };
 }
 
 impl<'data, I: Cursor> RuleBreakIterator<'data, I> {
     /// The boundaries of what is left of `text`. Takes no memory.
     pub fn new(pairs: PairDataBorrowed<'data>, text: I) -> Self
-        ensures left { result.left ≡ table_boundaries (pair_table_of pairs.entry) (override_of pairs.entry) (I.left text) (I.end text) }
-        ensures breaks { IsBroken (pair_table_of pairs.entry) (override_of pairs.entry) (I.left text) (I.end text) result.left }
-        ensures cover { IsCover (place_of (I.left text) (I.end text)) (I.end text) (places_coming result) }
-        ensures class { result.class ≡ 0 }
-        ensures statuses { result.statuses ≡ (pair_table_of pairs.entry).rule_status_table }
+        ensures left { result.left ≡ boundaries_in (table_boundaries (pair_table_of pairs.entry) (override_of pairs.entry)) (I.text text) }
+        ensures cover { IsCover (I.text text) result.left }
+        ensures status { result.status ≡ 0 }
     {
         let mut rest = Items {
             pairs,
@@ -68,7 +68,7 @@ impl<'data, I: Cursor> RuleBreakIterator<'data, I> {
     /// The rule status of the boundary that was given last: that of its class, which is 0 for the
     /// first, before it and after the end. Class 0 has status 0.
     pub fn rule_status(&self) -> u8
-        ensures { result ≡ status_of self.now.statuses self.now.class }
+        ensures { result ≡ self.now.status }
     {
         let statuses = self.rest.pairs.table().rule_status_table();
         match self.class.checked_sub(1) {
@@ -81,14 +81,14 @@ impl<'data, I: Cursor> RuleBreakIterator<'data, I> {
 impl<'data, I: Cursor> Iterator for RuleBreakIterator<'data, I> {
     type Item = usize;
 
-    ghost next_gives = { YieldsFirst places_coming };
+    ghost next_gives = { YieldsFirst offsets_left };
 
-    ghost remaining = { item_count places_coming };
+    ghost remaining = { item_count offsets_left };
 
     #[inline(always)]
     fn next(&mut self) -> Option<usize>
-        ensures steps { YieldsFirst places_coming self.old result self.new × GivesBreak self.old result self.new }
-        ensures goes { MakesProgress (λ _. ⊤) (item_count places_coming) self.old result self.new }
+        ensures steps { YieldsFirst offsets_left self.old result self.new × GivesNext self.old result self.new }
+        ensures goes { MakesProgress (λ _. ⊤) (item_count offsets_left) self.old result self.new }
     {
         if !self.started {
             self.started = true;

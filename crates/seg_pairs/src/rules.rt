@@ -5,7 +5,7 @@ ghost use Rattle.seg_pairs.specs.PairTable.{PairTable};
 ghost use Rattle.seg_pairs.specs.Elements.{classes_of};
 ghost use Rattle.seg_pairs.specs.Steps.{Lands, EndsIn, IsStepBelow, IsOutcomeBelow};
 ghost use Rattle.seg_pairs.specs.Verdict.{verdict, named_verdict, complex_verdict};
-ghost use Rattle.seg_pairs.specs.Breaks.{chain, IsForward};
+ghost use Rattle.seg_pairs.specs.Chains.{chain, IsForward};
 
 use crate::elements::{Element, Elements};
 use crate::provider::{BreakState, RuleBreakData};

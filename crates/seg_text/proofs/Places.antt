@@ -24,10 +24,10 @@ pub code_points-drop : (n : ℕ) (items : List Item) → code_points (drop n ite
 code_points-drop n items = sym (drop-map (λ (item : Item). item.1) n items)
 
 -- later boundaries of a text are those of what is left
-pub in-shift_all : (text : Text) (n : ℕ) (counted : List Boundary)
+pub in-shift : (text : Text) (n : ℕ) (counted : List Boundary)
     → map (boundary_in text) (shift_all n counted) ≡ map (boundary_in (rest_after n text)) counted
-in-shift_all text n [] = refl
-in-shift_all text n (boundary ∷ counted) = rw (drop-drop boundary.offset n text.items, in-shift_all text n counted) refl
+in-shift text n [] = refl
+in-shift text n (boundary ∷ counted) = rw (drop-drop boundary.offset n text.items, in-shift text n counted) refl
 
 pub in-append : (text : Text) (some others : List Boundary)
     → map (boundary_in text) (some ++ others) ≡ map (boundary_in text) some ++ map (boundary_in text) others

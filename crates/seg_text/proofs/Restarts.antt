@@ -15,7 +15,7 @@ shifted-none (boundary ∷ boundaries) =
     let none : 0 + boundary.offset ≡ boundary.offset = omega arith in
     rw (none, shifted-none boundaries) refl
 
-shifted-twice : (n m : ℕ) (boundaries : List Boundary) → shift_all n (shift_all m boundaries) ≡ shift_all (n + m) boundaries
+pub shifted-twice : (n m : ℕ) (boundaries : List Boundary) → shift_all n (shift_all m boundaries) ≡ shift_all (n + m) boundaries
 shifted-twice n m [] = refl
 shifted-twice n m (boundary ∷ boundaries) =
     let sum : n + (m + boundary.offset) ≡ (n + m) + boundary.offset = omega arith in

@@ -1,11 +1,11 @@
 -- A list that is gone through stretch by stretch: its boundaries, the only ones, in a list and in a text.
 use Rattle.std.proofs.Common.{◌≡◌, ℕ, zero, suc, ◌<◌, ◌≤◌, List, [], ◌∷◌, ◌++◌, length, map, drop, refl, sym, ap, ◌∙◌, arith}
-use Rattle.std.proofs.lemmas.List.{length-drop}
+use Rattle.std.proofs.lemmas.List.{length-drop, length-map, drop-map}
 use Rattle.seg_text.specs.Items.{Item, Text, rest_after, code_points}
 use Rattle.seg_text.specs.declared.boundary.Boundary.{Boundary}
 use Rattle.seg_text.specs.Boundaries.{shift_all, boundary_in, boundaries_in}
 use Rattle.seg_text.specs.Stretches.{Stretch, AreThrough, through_within, through, IsGoing}
-use Rattle.seg_text.proofs.Places.{in-append, in-shift_all, code_points-drop}
+use Rattle.seg_text.proofs.Places.{in-append, in-shift, code_points-drop}
 
 fewer : {X : Type 0} (n most : ℕ) (x : X) (xs : List X) → 0 < n → length (x ∷ xs) ≤ suc most → length (drop n (x ∷ xs)) ≤ most
 fewer n most x xs some bound = omega (arith, length-drop n (x ∷ xs))
@@ -71,4 +71,19 @@ pub text-through-next : (first : List ℕ → Stretch) → IsGoing first → (it
 text-through-next first going item items end =
     let text : Text = record { items = item ∷ items; end = end } in
     let stretch = first (code_points (item ∷ items)) in
-    rw (through-next first going item.1 (code_points items), in-append, in-shift_all text stretch.extent, code_points-drop stretch.extent (item ∷ items)) refl
+    rw (through-next first going item.1 (code_points items), in-append, in-shift text stretch.extent, code_points-drop stretch.extent (item ∷ items)) refl
+
+through_within-map : {X Y : Type 0} (f : X → Y) (first : List Y → Stretch) (most : ℕ) (xs : List X)
+    → through_within (λ (xs : List X). first (map f xs)) most xs ≡ through_within first most (map f xs)
+unfolding through_within
+through_within-map f first zero xs = refl
+through_within-map f first (suc most) [] = refl
+through_within-map f first (suc most) (x ∷ xs) =
+    let n = (first (map f (x ∷ xs))).extent in
+    ap (λ (later : List Boundary). (first (map f (x ∷ xs))).boundaries ++ shift_all n later)
+    (through_within-map f first most (drop n (x ∷ xs)) ∙ ap (through_within first most) (sym (drop-map f n (x ∷ xs))))
+
+-- what maps the elements first finds the same
+pub through-map : {X Y : Type 0} (f : X → Y) (first : List Y → Stretch) (xs : List X) → through (λ (xs : List X). first (map f xs)) xs ≡ through first (map f xs)
+unfolding through
+through-map f first xs = rw (length-map xs f) (through_within-map f first (length xs) xs)

@@ -1,40 +1,39 @@
 use Rattle.std.proofs.Common.{◌∷◌, refl, ap, subst}
 use Rattle.std.proofs.lemmas.Bool.{both_ways}
-use Rattle.seg_text.specs.Places.{places}
+use Rattle.seg_text.specs.Boundaries.{offsets}
 use Rattle.seg_pairs.specs.PairData.{pair_table_of}
 use Rattle.seg_pairs.specs.PairTable.{PairTable}
-use Rattle.seg_pairs.specs.Breaks.{chain}
-use Rattle.seg_pairs.specs.PairBoundaries.{element_verdict}
+use Rattle.seg_pairs.specs.Chains.{chain}
 use Rattle.seg_pairs.specs.Items.{elements_of}
 use Rattle.seg_pairs.specs.Steps.{EndsIn}
 use Rattle.seg_pairs.specs.declared.rules.Outcome.TheVariants.{Break}
-use Rattle.seg_pairs.proofs.Engine.{gives-next, end-left, run-never, rest-empty, none-left, below-of}
+use Rattle.seg_pairs.proofs.Engine.{element_verdict, gives-next, end-left, run-never, rest-empty, none-left, below-of}
 use Rattle.seg_pairs.proofs.rule_segmenter_v1.RuleBreakIteratorIterator.next.Goals as goal
 
 pub returns-in_default-clause-steps : goal.returns-in_default-clause-steps
 returns-in_default-clause-steps g c =
     let s = c.self.inside in
     let t = pair_table_of s.rest.pairs in
-    let elements = elements_of s.rest.pairs (g.I.Cursor.left s.rest.cursor) in
+    let elements = elements_of s.rest.pairs (g.I.Cursor.text s.rest.cursor).items in
     let empty = ap (elements_of s.rest.pairs) (c.self.invariant.1 c.in_default.is) in
-    let none = end-left t s.next elements (g.I.Cursor.end s.rest.cursor) s.class s.started c.if-not-self.false c.in_default.is empty in
-    let after = end-left t s.next elements (g.I.Cursor.end s.rest.cursor) 0 s.started c.if-not-self.false c.in_default.is empty in
-    rw (← c.self.view_is) ((ap places none, ap places after), (refl, (none, after, refl)))
+    let none = end-left t s.next elements (g.I.Cursor.text s.rest.cursor).end s.class s.started c.if-not-self.false c.in_default.is empty in
+    let after = end-left t s.next elements (g.I.Cursor.text s.rest.cursor).end 0 s.started c.if-not-self.false c.in_default.is empty in
+    rw (← c.self.view_is) ((ap offsets none, ap offsets after), (none, after, refl))
 
 pub unreachable-requires : goal.unreachable-requires
 unreachable-requires g c =
     let s = c.self.inside in
     let after = c.next_break.new.rest in
-    run-never c.table.result.now c.in-Some.left (elements_of s.rest.pairs (g.I.Cursor.left s.rest.cursor)) c.in-Run._first c.in-Run._second (elements_of after.pairs (g.I.Cursor.left after.cursor)) c.in-Run.ensures.ends
+    run-never c.table.result.now c.in-Some.left (elements_of s.rest.pairs (g.I.Cursor.text s.rest.cursor).items) c.in-Run._first c.in-Run._second (elements_of after.pairs (g.I.Cursor.text after.cursor).items) c.in-Run.ensures.ends
 
 pub invariant_of-self-2 : goal.invariant_of-self-2
 invariant_of-self-2 g c =
     let s = c.self.inside in
     let after = c.next_break.new.rest in
-    let whole = c.in-Some.left ∷ elements_of s.rest.pairs (g.I.Cursor.left s.rest.cursor) in (
+    let whole = c.in-Some.left ∷ elements_of s.rest.pairs (g.I.Cursor.text s.rest.cursor).items in (
       λ off. absurd (both_ways s.started off c.if-not-self.false),
-      λ none. none-left after.pairs (g.I.Cursor.left after.cursor)
-          (rest-empty (chain (element_verdict c.table.result.now) whole) whole c.in-Break.class c.in-Break.next (elements_of after.pairs (g.I.Cursor.left after.cursor)) c.in-Break.ensures.ends none),
+      λ none. none-left after.pairs (g.I.Cursor.text after.cursor).items
+          (rest-empty (chain (element_verdict c.table.result.now) whole) whole c.in-Break.class c.in-Break.next (elements_of after.pairs (g.I.Cursor.text after.cursor).items) c.in-Break.ensures.ends none),
       below-of c.table.result.now (pair_table_of s.rest.pairs) (pair_table_of after.pairs) c.in-Break.next c.table.ensures c.in-Break.ensures.table c.in-Break.ensures.class,
     )
 
@@ -43,12 +42,12 @@ returns-clause-steps g c =
     let s = c.self.inside in
     let after = c.next_break.new.rest in
     let t = pair_table_of s.rest.pairs in
-    let elements = elements_of s.rest.pairs (g.I.Cursor.left s.rest.cursor) in
+    let elements = elements_of s.rest.pairs (g.I.Cursor.text s.rest.cursor).items in
     let whole = c.in-Some.left ∷ elements in
-    let rest = elements_of after.pairs (g.I.Cursor.left after.cursor) in
+    let rest = elements_of after.pairs (g.I.Cursor.text after.cursor).items in
     let ends = subst (λ (t : PairTable). EndsIn (chain (element_verdict t) whole) whole (Break c.in-Break.class c.in-Break.next) rest) c.table.ensures c.in-Break.ensures.ends in
     rw (← c.self.view_is)
-    ((gives-next t (pair_table_of after.pairs) s.next c.in-Some.left elements c.in-Break.next rest (g.I.Cursor.end s.rest.cursor) (g.I.Cursor.end after.cursor)
+    ((gives-next t (pair_table_of after.pairs) s.next c.in-Some.left elements c.in-Break.next rest (g.I.Cursor.text s.rest.cursor).end (g.I.Cursor.text after.cursor).end
     s.started s.class c.in-Break.class c.place_before-2.result c.if-not-self.false c.in-Some.is ends c.in-Break.ensures.table c.in-Break.ensures.end c.place_before-2.ensures).steps)
 
 pub returns-clause-goes : goal.returns-clause-goes
@@ -56,10 +55,10 @@ returns-clause-goes g c =
     let s = c.self.inside in
     let after = c.next_break.new.rest in
     let t = pair_table_of s.rest.pairs in
-    let elements = elements_of s.rest.pairs (g.I.Cursor.left s.rest.cursor) in
+    let elements = elements_of s.rest.pairs (g.I.Cursor.text s.rest.cursor).items in
     let whole = c.in-Some.left ∷ elements in
-    let rest = elements_of after.pairs (g.I.Cursor.left after.cursor) in
+    let rest = elements_of after.pairs (g.I.Cursor.text after.cursor).items in
     let ends = subst (λ (t : PairTable). EndsIn (chain (element_verdict t) whole) whole (Break c.in-Break.class c.in-Break.next) rest) c.table.ensures c.in-Break.ensures.ends in
     rw (← c.self.view_is)
-    ((gives-next t (pair_table_of after.pairs) s.next c.in-Some.left elements c.in-Break.next rest (g.I.Cursor.end s.rest.cursor) (g.I.Cursor.end after.cursor)
+    ((gives-next t (pair_table_of after.pairs) s.next c.in-Some.left elements c.in-Break.next rest (g.I.Cursor.text s.rest.cursor).end (g.I.Cursor.text after.cursor).end
     s.started s.class c.in-Break.class c.place_before-2.result c.if-not-self.false c.in-Some.is ends c.in-Break.ensures.table c.in-Break.ensures.end c.place_before-2.ensures).goes)
