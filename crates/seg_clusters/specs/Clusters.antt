@@ -1,18 +1,23 @@
 -- What is seen of the segmenters of grapheme clusters.
 use Rattle.std.specs.Prelude.{ℕ, List}
+use Rattle.seg_text.specs.declared.boundary.Boundary.{Boundary}
+use Rattle.seg_text.specs.Boundaries.{offsets}
 use Rattle.seg_clusters.specs.declared.grapheme.GraphemeClusterSegmenter.{GraphemeClusterSegmenter}
 use Rattle.seg_clusters.specs.declared.grapheme.GraphemeClusterSegmenterBorrowed.{GraphemeClusterSegmenterBorrowed}
 use Rattle.seg_clusters.specs.declared.grapheme.GraphemeClusterBreakIterator.{GraphemeClusterBreakIterator}
-use Rattle.seg_clusters.specs.Engine.{rules_in, owned_rules_in, boundaries_left}
-use Rattle.seg_clusters.specs.Rules.{Rules}
+use Rattle.seg_engine.specs.Engine.{rules_of, owned_rules}
+use Rattle.seg_engine.specs.Rules.{Rules}
 
 -- what a segmenter finds boundaries by
 abbrev pub cluster_rules : GraphemeClusterSegmenterBorrowed → Rules
-cluster_rules segmenter = rules_in segmenter.engine
+cluster_rules segmenter = rules_of segmenter.engine
 
 abbrev pub owned_cluster_rules : GraphemeClusterSegmenter → Rules
-owned_cluster_rules segmenter = owned_rules_in segmenter.engine
+owned_cluster_rules segmenter = owned_rules segmenter.engine
 
--- the boundaries that an iterator has still to give
-abbrev pub clusters_left : {Y C I : Type 0} → GraphemeClusterBreakIterator Y C I → List ℕ
-clusters_left iterator = boundaries_left iterator.boundaries
+-- the boundaries that an iterator has still to give, and their places
+abbrev pub clusters_left : {Y C I : Type 0} → GraphemeClusterBreakIterator Y C I → List Boundary
+clusters_left iterator = iterator.boundaries.left
+
+abbrev pub clusters_places : {Y C I : Type 0} → GraphemeClusterBreakIterator Y C I → List ℕ
+clusters_places iterator = offsets (clusters_left iterator)

@@ -1,4 +1,2 @@
-pub mod Rules
-pub mod Engine
 pub mod Clusters
 pub mod Sentences

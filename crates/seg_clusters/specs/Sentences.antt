@@ -1,18 +1,23 @@
 -- What is seen of the segmenters of sentences.
 use Rattle.std.specs.Prelude.{ℕ, List}
+use Rattle.seg_text.specs.declared.boundary.Boundary.{Boundary}
+use Rattle.seg_text.specs.Boundaries.{offsets}
 use Rattle.seg_clusters.specs.declared.sentence.SentenceSegmenter.{SentenceSegmenter}
 use Rattle.seg_clusters.specs.declared.sentence.SentenceSegmenterBorrowed.{SentenceSegmenterBorrowed}
 use Rattle.seg_clusters.specs.declared.sentence.SentenceBreakIterator.{SentenceBreakIterator}
-use Rattle.seg_clusters.specs.Engine.{rules_in, owned_rules_in, boundaries_left}
-use Rattle.seg_clusters.specs.Rules.{Rules}
+use Rattle.seg_engine.specs.Engine.{rules_of, owned_rules}
+use Rattle.seg_engine.specs.Rules.{Rules}
 
 -- what a segmenter finds boundaries by
 abbrev pub sentence_rules : SentenceSegmenterBorrowed → Rules
-sentence_rules segmenter = rules_in segmenter.engine
+sentence_rules segmenter = rules_of segmenter.engine
 
 abbrev pub owned_sentence_rules : SentenceSegmenter → Rules
-owned_sentence_rules segmenter = owned_rules_in segmenter.engine
+owned_sentence_rules segmenter = owned_rules segmenter.engine
 
--- the boundaries that an iterator has still to give
-abbrev pub sentences_left : {Y C I : Type 0} → SentenceBreakIterator Y C I → List ℕ
-sentences_left iterator = boundaries_left iterator.boundaries
+-- the boundaries that an iterator has still to give, and their places
+abbrev pub sentences_left : {Y C I : Type 0} → SentenceBreakIterator Y C I → List Boundary
+sentences_left iterator = iterator.boundaries.left
+
+abbrev pub sentences_places : {Y C I : Type 0} → SentenceBreakIterator Y C I → List ℕ
+sentences_places iterator = offsets (sentences_left iterator)

@@ -2,25 +2,25 @@
 
 ghost use Rattle.std.specs.Prelude.{◌≡◌, ℕ, None, List, length, IfOk, IfErr, IsOkAnd};
 ghost use Rattle.std.specs.Iterator.{YieldsFirst, item_count};
-ghost use Rattle.seg_text.specs.Items.{place_of};
-ghost use Rattle.seg_text.specs.Latin1.{latin1_items};
-ghost use Rattle.seg_text.specs.Utf8.{utf8_items};
-ghost use Rattle.seg_text.specs.Utf16.{utf16_items};
-ghost use Rattle.seg_text.specs.Places.{places, IsCover};
+ghost use Rattle.seg_text.specs.Items.{start_of};
+ghost use Rattle.seg_text.specs.Latin1.{latin1};
+ghost use Rattle.seg_text.specs.Utf8.{utf8};
+ghost use Rattle.seg_text.specs.Utf16.{utf16};
+ghost use Rattle.seg_text.specs.Boundaries.{IsCover};
 ghost use Rattle.seg_data.specs.Faults.{IsFaultless, IsLowestFault};
 ghost use Rattle.seg_pairs.specs.PairFaults.{HasPairDataFault};
-ghost use Rattle.seg_clusters.specs.Engine.{rules_in, boundaries_left};
-ghost use Rattle.seg_clusters.specs.Rules.{boundaries_by, IsFoundBy};
-ghost use Rattle.seg_clusters.specs.Rules.Rules.{ByTable, ByMachine};
+ghost use Rattle.seg_engine.specs.Engine.{rules_of};
+ghost use Rattle.seg_engine.specs.Rules.{boundaries_of};
+ghost use Rattle.seg_engine.specs.Rules.Rules.{ByTable, ByMachine};
 
-use crate::engine::{Boundaries, Engine, OwnedEngine};
+use seg_engine::engine::{Boundaries, Engine, OwnedEngine};
 use seg_data::provider::DataError;
 use seg_machine::provider::SegmenterStateMachine;
 use seg_machine::tailored_machine::{TailoredMachine, TailoredMachineBorrowed};
 use seg_pairs::pair_data::{PairData, PairDataBorrowed};
 use seg_pairs::provider::RuleBreakData;
 use seg_text::indices::{Latin1Indices, StrCharIndices, Utf8CharIndices, Utf16Indices};
-use seg_text::inner::Cursor;
+use seg_text::cursor::Cursor;
 use seg_text::scaffold::{Latin1, PotentiallyIllFormedUtf8, RuleBreakType, Utf8, Utf16};
 use std::marker::PhantomData;
 
@@ -43,13 +43,13 @@ impl<'data, 's, Y: RuleBreakType<'s>> Drop for GraphemeClusterBreakIterator<'dat
 }
 
 impl<'data, 's, Y: RuleBreakType<'s>> Iterator for GraphemeClusterBreakIterator<'data, 's, Y> {
-    ghost use Rattle.seg_clusters.specs.Clusters.{clusters_left};
+    ghost use Rattle.seg_clusters.specs.Clusters.{clusters_places};
 
     type Item = usize;
 
-    ghost next_gives = { YieldsFirst clusters_left };
+    ghost next_gives = { YieldsFirst clusters_places };
 
-    ghost remaining = { item_count clusters_left };
+    ghost remaining = { item_count clusters_places };
 
     #[inline(always)]
     fn next(&mut self) -> Option<usize> {
@@ -101,7 +101,7 @@ impl GraphemeClusterSegmenter {
 /// Finds grapheme clusters with data that are lent to it.
 #[derive(Clone, Copy, Debug)]
 pub struct GraphemeClusterSegmenterBorrowed<'data> {
-    engine: Engine<'data>,
+    pub(crate) engine: Engine<'data>,
 }
 
 impl<'data> GraphemeClusterSegmenterBorrowed<'data> {
@@ -131,11 +131,7 @@ impl<'data> GraphemeClusterSegmenterBorrowed<'data> {
 
     /// The boundaries of the clusters of a `str`, in bytes: those of its bytes as UTF-8. Takes no memory.
     pub fn segment_str<'s>(self, input: &'s str) -> GraphemeClusterBreakIterator<'data, 's, Utf8>
-        ensures boundaries { clusters_left result
-            ≡ places (boundaries_by (cluster_rules self.entry) (utf8_items 0 input.now) (length input.now)) }
-        ensures segments { (found : List (ℕ × ℕ))
-            × IsFoundBy (cluster_rules self.entry) (utf8_items 0 input.now) (length input.now) found
-            × (clusters_left result ≡ places found) }
+        ensures boundaries { clusters_left result ≡ boundaries_of (cluster_rules self.entry) (utf8 input.now) }
         ensures cover { IsCover 0 (length input.now) (clusters_left result) }
     {
         segment(self.engine, StrCharIndices::new(input))
@@ -147,11 +143,7 @@ impl<'data> GraphemeClusterSegmenterBorrowed<'data> {
         self,
         input: &'s [u8],
     ) -> GraphemeClusterBreakIterator<'data, 's, PotentiallyIllFormedUtf8>
-        ensures boundaries { clusters_left result
-            ≡ places (boundaries_by (cluster_rules self.entry) (utf8_items 0 input.now) (length input.now)) }
-        ensures segments { (found : List (ℕ × ℕ))
-            × IsFoundBy (cluster_rules self.entry) (utf8_items 0 input.now) (length input.now) found
-            × (clusters_left result ≡ places found) }
+        ensures boundaries { clusters_left result ≡ boundaries_of (cluster_rules self.entry) (utf8 input.now) }
         ensures cover { IsCover 0 (length input.now) (clusters_left result) }
     {
         segment(self.engine, Utf8CharIndices::new(input))
@@ -162,11 +154,7 @@ impl<'data> GraphemeClusterSegmenterBorrowed<'data> {
         self,
         input: &'s [u8],
     ) -> GraphemeClusterBreakIterator<'data, 's, Latin1>
-        ensures boundaries { clusters_left result
-            ≡ places (boundaries_by (cluster_rules self.entry) (latin1_items 0 input.now) (length input.now)) }
-        ensures segments { (found : List (ℕ × ℕ))
-            × IsFoundBy (cluster_rules self.entry) (latin1_items 0 input.now) (length input.now) found
-            × (clusters_left result ≡ places found) }
+        ensures boundaries { clusters_left result ≡ boundaries_of (cluster_rules self.entry) (latin1 input.now) }
         ensures cover { IsCover 0 (length input.now) (clusters_left result) }
     {
         segment(self.engine, Latin1Indices::new(input))
@@ -178,11 +166,7 @@ impl<'data> GraphemeClusterSegmenterBorrowed<'data> {
         self,
         input: &'s [u16],
     ) -> GraphemeClusterBreakIterator<'data, 's, Utf16>
-        ensures boundaries { clusters_left result
-            ≡ places (boundaries_by (cluster_rules self.entry) (utf16_items 0 input.now) (length input.now)) }
-        ensures segments { (found : List (ℕ × ℕ))
-            × IsFoundBy (cluster_rules self.entry) (utf16_items 0 input.now) (length input.now) found
-            × (clusters_left result ≡ places found) }
+        ensures boundaries { clusters_left result ≡ boundaries_of (cluster_rules self.entry) (utf16 input.now) }
         ensures cover { IsCover 0 (length input.now) (clusters_left result) }
     {
         segment(self.engine, Utf16Indices::new(input))
@@ -194,11 +178,8 @@ fn segment<'data, 's, Y: RuleBreakType<'s>>(
     engine: Engine<'data>,
     text: Y::IterAttr,
 ) -> GraphemeClusterBreakIterator<'data, 's, Y>
-    ensures boundaries { boundaries_left result.boundaries ≡ places (boundaries_by (rules_in engine.entry) (Y.IterAttr.left text) (Y.IterAttr.end text)) }
-    ensures segments { (found : List (ℕ × ℕ))
-        × IsFoundBy (rules_in engine.entry) (Y.IterAttr.left text) (Y.IterAttr.end text) found
-        × (boundaries_left result.boundaries ≡ places found) }
-    ensures cover { IsCover (place_of (Y.IterAttr.left text) (Y.IterAttr.end text)) (Y.IterAttr.end text) (boundaries_left result.boundaries) }
+    ensures boundaries { result.boundaries.left ≡ boundaries_of (rules_of engine.entry) (Y.IterAttr.text text) }
+    ensures cover { IsCover (start_of (Y.IterAttr.text text)) (Y.IterAttr.text text).end result.boundaries.left }
 {
     GraphemeClusterBreakIterator {
         boundaries: engine.boundaries(text),

@@ -3,28 +3,28 @@
 ghost use Rattle.std.specs.Prelude.{◌≡◌, ℕ, List, length, IfOk, IfErr};
 ghost use Rattle.std.specs.Iterator.{YieldsFirst, item_count};
 ghost use Rattle.std.specs.Option.{option_map};
-ghost use Rattle.seg_text.specs.Items.{place_of};
-ghost use Rattle.seg_text.specs.Latin1.{latin1_items};
-ghost use Rattle.seg_text.specs.Utf8.{utf8_items};
-ghost use Rattle.seg_text.specs.Utf16.{utf16_items};
-ghost use Rattle.seg_text.specs.Places.{places, IsCover};
+ghost use Rattle.seg_text.specs.Items.{start_of};
+ghost use Rattle.seg_text.specs.Latin1.{latin1};
+ghost use Rattle.seg_text.specs.Utf8.{utf8};
+ghost use Rattle.seg_text.specs.Utf16.{utf16};
+ghost use Rattle.seg_text.specs.Boundaries.{IsCover};
 ghost use Rattle.seg_data.specs.Faults.{IsFaultless, IsLowestFault};
 ghost use Rattle.seg_machine.specs.MachineFaults.{HasTailoringFault};
 ghost use Rattle.seg_machine.specs.Machine.{tailored};
 ghost use Rattle.seg_pairs.specs.Overriding.{table_in};
 ghost use Rattle.seg_pairs.specs.PairFaults.{HasPairDataFault};
-ghost use Rattle.seg_clusters.specs.Engine.{rules_in, boundaries_left};
-ghost use Rattle.seg_clusters.specs.Rules.{boundaries_by, IsFoundBy};
-ghost use Rattle.seg_clusters.specs.Rules.Rules.{ByTable, ByMachine};
+ghost use Rattle.seg_engine.specs.Engine.{rules_of};
+ghost use Rattle.seg_engine.specs.Rules.{boundaries_of};
+ghost use Rattle.seg_engine.specs.Rules.Rules.{ByTable, ByMachine};
 
-use crate::engine::{Boundaries, Engine, OwnedEngine};
+use seg_engine::engine::{Boundaries, Engine, OwnedEngine};
 use seg_data::provider::{DataError, LanguageIdentifier};
 use seg_machine::provider::{SegmenterStateMachine, SegmenterStateMachineOverride};
 use seg_machine::tailored_machine::{TailoredMachine, TailoredMachineBorrowed};
 use seg_pairs::pair_data::{PairData, PairDataBorrowed};
 use seg_pairs::provider::{RuleBreakData, RuleBreakDataOverride};
 use seg_text::indices::{Latin1Indices, StrCharIndices, Utf8CharIndices, Utf16Indices};
-use seg_text::inner::Cursor;
+use seg_text::cursor::Cursor;
 use seg_text::scaffold::{Latin1, PotentiallyIllFormedUtf8, RuleBreakType, Utf8, Utf16};
 use std::marker::PhantomData;
 
@@ -61,13 +61,13 @@ impl<'data, 's, Y: RuleBreakType<'s>> Drop for SentenceBreakIterator<'data, 's, 
 }
 
 impl<'data, 's, Y: RuleBreakType<'s>> Iterator for SentenceBreakIterator<'data, 's, Y> {
-    ghost use Rattle.seg_clusters.specs.Sentences.{sentences_left};
+    ghost use Rattle.seg_clusters.specs.Sentences.{sentences_places};
 
     type Item = usize;
 
-    ghost next_gives = { YieldsFirst sentences_left };
+    ghost next_gives = { YieldsFirst sentences_places };
 
-    ghost remaining = { item_count sentences_left };
+    ghost remaining = { item_count sentences_places };
 
     #[inline(always)]
     fn next(&mut self) -> Option<usize> {
@@ -133,7 +133,7 @@ impl SentenceSegmenter {
 /// Finds sentences with data that are lent to it.
 #[derive(Clone, Copy, Debug)]
 pub struct SentenceSegmenterBorrowed<'data> {
-    engine: Engine<'data>,
+    pub(crate) engine: Engine<'data>,
 }
 
 impl<'data> SentenceSegmenterBorrowed<'data> {
@@ -177,11 +177,7 @@ impl<'data> SentenceSegmenterBorrowed<'data> {
 
     /// The boundaries of the sentences of a `str`, in bytes: those of its bytes as UTF-8. Takes no memory.
     pub fn segment_str<'s>(self, input: &'s str) -> SentenceBreakIterator<'data, 's, Utf8>
-        ensures boundaries { sentences_left result
-            ≡ places (boundaries_by (sentence_rules self.entry) (utf8_items 0 input.now) (length input.now)) }
-        ensures segments { (found : List (ℕ × ℕ))
-            × IsFoundBy (sentence_rules self.entry) (utf8_items 0 input.now) (length input.now) found
-            × (sentences_left result ≡ places found) }
+        ensures boundaries { sentences_left result ≡ boundaries_of (sentence_rules self.entry) (utf8 input.now) }
         ensures cover { IsCover 0 (length input.now) (sentences_left result) }
     {
         segment(self.engine, StrCharIndices::new(input))
@@ -193,11 +189,7 @@ impl<'data> SentenceSegmenterBorrowed<'data> {
         self,
         input: &'s [u8],
     ) -> SentenceBreakIterator<'data, 's, PotentiallyIllFormedUtf8>
-        ensures boundaries { sentences_left result
-            ≡ places (boundaries_by (sentence_rules self.entry) (utf8_items 0 input.now) (length input.now)) }
-        ensures segments { (found : List (ℕ × ℕ))
-            × IsFoundBy (sentence_rules self.entry) (utf8_items 0 input.now) (length input.now) found
-            × (sentences_left result ≡ places found) }
+        ensures boundaries { sentences_left result ≡ boundaries_of (sentence_rules self.entry) (utf8 input.now) }
         ensures cover { IsCover 0 (length input.now) (sentences_left result) }
     {
         segment(self.engine, Utf8CharIndices::new(input))
@@ -205,11 +197,7 @@ impl<'data> SentenceSegmenterBorrowed<'data> {
 
     /// The boundaries of the sentences of Latin-1, in bytes. Takes no memory.
     pub fn segment_latin1<'s>(self, input: &'s [u8]) -> SentenceBreakIterator<'data, 's, Latin1>
-        ensures boundaries { sentences_left result
-            ≡ places (boundaries_by (sentence_rules self.entry) (latin1_items 0 input.now) (length input.now)) }
-        ensures segments { (found : List (ℕ × ℕ))
-            × IsFoundBy (sentence_rules self.entry) (latin1_items 0 input.now) (length input.now) found
-            × (sentences_left result ≡ places found) }
+        ensures boundaries { sentences_left result ≡ boundaries_of (sentence_rules self.entry) (latin1 input.now) }
         ensures cover { IsCover 0 (length input.now) (sentences_left result) }
     {
         segment(self.engine, Latin1Indices::new(input))
@@ -218,11 +206,7 @@ impl<'data> SentenceSegmenterBorrowed<'data> {
     /// The boundaries of the sentences of possibly ill-formed UTF-16, in 16-bit units. A surrogate that stands alone
     /// counts as itself. Takes no memory.
     pub fn segment_utf16<'s>(self, input: &'s [u16]) -> SentenceBreakIterator<'data, 's, Utf16>
-        ensures boundaries { sentences_left result
-            ≡ places (boundaries_by (sentence_rules self.entry) (utf16_items 0 input.now) (length input.now)) }
-        ensures segments { (found : List (ℕ × ℕ))
-            × IsFoundBy (sentence_rules self.entry) (utf16_items 0 input.now) (length input.now) found
-            × (sentences_left result ≡ places found) }
+        ensures boundaries { sentences_left result ≡ boundaries_of (sentence_rules self.entry) (utf16 input.now) }
         ensures cover { IsCover 0 (length input.now) (sentences_left result) }
     {
         segment(self.engine, Utf16Indices::new(input))
@@ -234,11 +218,8 @@ fn segment<'data, 's, Y: RuleBreakType<'s>>(
     engine: Engine<'data>,
     text: Y::IterAttr,
 ) -> SentenceBreakIterator<'data, 's, Y>
-    ensures boundaries { boundaries_left result.boundaries ≡ places (boundaries_by (rules_in engine.entry) (Y.IterAttr.left text) (Y.IterAttr.end text)) }
-    ensures segments { (found : List (ℕ × ℕ))
-        × IsFoundBy (rules_in engine.entry) (Y.IterAttr.left text) (Y.IterAttr.end text) found
-        × (boundaries_left result.boundaries ≡ places found) }
-    ensures cover { IsCover (place_of (Y.IterAttr.left text) (Y.IterAttr.end text)) (Y.IterAttr.end text) (boundaries_left result.boundaries) }
+    ensures boundaries { result.boundaries.left ≡ boundaries_of (rules_of engine.entry) (Y.IterAttr.text text) }
+    ensures cover { IsCover (start_of (Y.IterAttr.text text)) (Y.IterAttr.text text).end result.boundaries.left }
 {
     SentenceBreakIterator {
         boundaries: engine.boundaries(text),

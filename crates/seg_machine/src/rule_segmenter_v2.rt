@@ -49,7 +49,7 @@ impl<'data, I: Cursor> RuleBreakIterator<'data, I> {
     /// The boundaries of what is left of `text`. Takes no memory.
     pub fn new(machine: TailoredMachineBorrowed<'data>, text: I) -> Self
         ensures left { result.left ≡ boundaries_in (machine_boundaries (machine_of machine.entry)) (I.text text) }
-        ensures cover { IsCover (I.text text) result.left }
+        ensures cover { IsCover (start_of (I.text text)) (I.text text).end result.left }
         ensures status { result.status ≡ 0 }
     {
         machine.check();

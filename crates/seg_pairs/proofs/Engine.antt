@@ -153,7 +153,7 @@ new-left pairs text t elements after same stays is =
     (subst (λ elements. All p elements text.end ≡ found) is (items-left pairs text)))
 
 pub new-cover : (pairs : PairDataBorrowed) (text : Text) (left : List Boundary) → left ≡ boundaries_in (table_boundaries (pair_table_of pairs) (override_of pairs)) text
-    → IsRising text.items text.end → IsCover text left
+    → IsRising text.items text.end → IsCover (start_of text) text.end left
 new-cover pairs text left is rising = rw is (covers (table_stretch (pair_table_of pairs) (override_of pairs)) (table-within (pair_table_of pairs) (override_of pairs)) text rising)
 
 -- a call

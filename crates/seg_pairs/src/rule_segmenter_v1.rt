@@ -2,6 +2,7 @@
 
 ghost use Rattle.std.specs.Prelude.{◌≡◌, ⊤};
 ghost use Rattle.std.specs.Iterator.{YieldsFirst, MakesProgress, item_count};
+ghost use Rattle.seg_text.specs.Items.{start_of};
 ghost use Rattle.seg_text.specs.Boundaries.{GivesNext, IsCover, boundaries_in, offsets_left};
 ghost use Rattle.seg_pairs.specs.PairData.{pair_table_of, override_of};
 ghost use Rattle.seg_pairs.specs.Breaks.{table_boundaries};
@@ -49,7 +50,7 @@ impl<'data, I: Cursor> RuleBreakIterator<'data, I> {
     /// The boundaries of what is left of `text`. Takes no memory.
     pub fn new(pairs: PairDataBorrowed<'data>, text: I) -> Self
         ensures left { result.left ≡ boundaries_in (table_boundaries (pair_table_of pairs.entry) (override_of pairs.entry)) (I.text text) }
-        ensures cover { IsCover (I.text text) result.left }
+        ensures cover { IsCover (start_of (I.text text)) (I.text text).end result.left }
         ensures status { result.status ≡ 0 }
     {
         let mut rest = Items {

@@ -1,6 +1,7 @@
 -- The boundaries of a text that is gone through stretch by stretch rise strictly from its start to its end.
 use Rattle.std.proofs.Common.{◌≡◌, ℕ, zero, suc, ◌<◌, ◌≤◌, List, [], ◌∷◌, ◌++◌, length, map, drop, refl, ap, inl, inr, arith}
 use Rattle.std.proofs.lemmas.List.{length-drop, length-map}
+use Rattle.seg_text.specs.declared.boundary.Boundary.{Boundary}
 use Rattle.seg_text.specs.Items.{Item, Text, place_of, start_of, rest_after, code_points, IsRising}
 use Rattle.seg_text.specs.Boundaries.{boundary_in, boundaries_in, RisesTo, IsCover}
 use Rattle.seg_text.specs.Stretches.{Stretch, through, boundaries_through, IsGoing, HasEndAlone, IsWithin}
@@ -56,6 +57,10 @@ module _ (first : List ℕ → Stretch) (within : (x : ℕ) (xs : List ℕ) → 
       let few : length (drop n (item ∷ items)) ≤ most = omega (arith, bound, length-drop n (item ∷ items), going item.1 (code_points items)) in
       λ from none low. stretch-rises item items end from rising low (rises most (drop n (item ∷ items)) end few (IsRising-drop (item ∷ items) end n rising))
 
-  pub covers : (whole : Text) → IsRising whole.items whole.end → IsCover whole (boundaries_in (boundaries_through first) whole)
+  pub covers : (whole : Text) → IsRising whole.items whole.end → IsCover (start_of whole) whole.end (boundaries_in (boundaries_through first) whole)
   covers whole rising =
       (refl, rises (length whole.items) whole.items whole.end (omega arith) rising (start_of whole) (λ empty. ap (λ (left : List Item). place_of left whole.end) empty) (omega arith))
+
+-- a whole text begins at 0, and ends after all of its units
+pub cover-whole : (start end units : ℕ) (boundaries : List Boundary) → start ≡ 0 → end ≡ units → IsCover start end boundaries → IsCover 0 units boundaries
+cover-whole start end units boundaries begins ends cover = rw (begins, ends) at cover

@@ -34,10 +34,10 @@ abbrev pub RisesTo : ℕ → List Boundary → ℕ → Type 0
 RisesTo from [] end = from ≡ end
 RisesTo from (boundary ∷ boundaries) end = (from < boundary.offset) × RisesTo boundary.offset boundaries end
 
--- strict cover: the first is the text's start, the last its end, and each is above the one before
-abbrev pub IsCover : Text → List Boundary → Type 0
-IsCover text [] = ⊥
-IsCover text (boundary ∷ boundaries) = (boundary.offset ≡ start_of text) × RisesTo (start_of text) boundaries text.end
+-- strict cover: the first is the start, the last the end, and each is above the one before
+abbrev pub IsCover : ℕ → ℕ → List Boundary → Type 0
+IsCover start end [] = ⊥
+IsCover start end (boundary ∷ boundaries) = (boundary.offset ≡ start) × RisesTo start boundaries end
 
 -- a list may be cut anew from any of its boundaries: after each come those of the rest, taken alone and shifted, all but
 -- its first, which is at 0

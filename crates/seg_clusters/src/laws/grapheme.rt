@@ -1,38 +1,46 @@
-//! Laws of cluster boundaries.
+//! Laws of the boundaries of grapheme clusters.
 
-ghost use Rattle.std.specs.Prelude.{◌≡◌, ℕ, List, drop, length, map};
-ghost use Rattle.seg_text.specs.Items.{place_of, code_points};
-ghost use Rattle.seg_text.specs.Utf8.{utf8_items};
-ghost use Rattle.seg_text.specs.Places.{places};
-ghost use Rattle.seg_clusters.specs.Rules.{boundaries_by, ordinals_by, HasRestartBy};
+ghost use Rattle.std.specs.Prelude.{◌≡◌, ℕ, List, map};
+ghost use Rattle.seg_text.specs.declared.boundary.Boundary.{Boundary};
+ghost use Rattle.seg_text.specs.Items.{Text, code_points};
+ghost use Rattle.seg_text.specs.Boundaries.{boundary_in, HasRestart};
+ghost use Rattle.seg_text.specs.Utf8.{utf8};
 ghost use Rattle.seg_clusters.specs.Clusters.{cluster_rules, clusters_left};
+ghost use Rattle.seg_engine.specs.Rules.{AreBoundaries, boundaries_by, boundaries_of};
 
 use crate::grapheme::{GraphemeClusterBreakIterator, GraphemeClusterSegmenterBorrowed};
+use seg_engine::laws;
 use seg_text::scaffold::{PotentiallyIllFormedUtf8, Utf8};
 
-/// Does nothing. Its contract tells that the ordinals of a text's boundaries, counted in code points, are one function
-/// of the machine or the table and the decoded list, which names no place, length or encoding; the boundaries are the places of
-/// these ordinals. So texts with equal code points, in whatever encodings, have boundaries at equal ordinals.
+/// Law: a list of code points has exactly one list of boundaries, in code points: the first is at its start, and each
+/// other one comes from the first stretch of what is left.
+pub fn boundaries_are_one(segmenter: GraphemeClusterSegmenterBorrowed<'_>)
+    ensures exists { (code_points : List ℕ) → AreBoundaries (cluster_rules segmenter.entry) code_points (boundaries_by (cluster_rules segmenter.entry) code_points) }
+    ensures only { (code_points : List ℕ) (found : List Boundary)
+        → AreBoundaries (cluster_rules segmenter.entry) code_points found → found ≡ boundaries_by (cluster_rules segmenter.entry) code_points }
+{
+    laws::boundaries_are_one(segmenter.engine);
+}
+
+/// Law: two texts with equal code points, in whatever encodings, have the same boundaries, counted in code points.
 pub fn equal_code_points(segmenter: GraphemeClusterSegmenterBorrowed<'_>)
-    ensures ordinals { (items : List (ℕ × ℕ)) (end : ℕ)
-        → places (boundaries_by (cluster_rules segmenter.entry) items end)
-        ≡ map (λ ordinal. place_of (drop ordinal items) end) (ordinals_by (cluster_rules segmenter.entry) (code_points items)) }
-    ensures equal { (items others : List (ℕ × ℕ)) → code_points items ≡ code_points others
-        → ordinals_by (cluster_rules segmenter.entry) (code_points items) ≡ ordinals_by (cluster_rules segmenter.entry) (code_points others) }
+    ensures { (one other : Text) → code_points one.items ≡ code_points other.items
+        → (counted : List Boundary) × (boundaries_of (cluster_rules segmenter.entry) one ≡ map (boundary_in one) counted)
+        × (boundaries_of (cluster_rules segmenter.entry) other ≡ map (boundary_in other) counted) }
 {
-    let _ = segmenter;
+    laws::equal_code_points(segmenter.engine);
 }
 
-/// Does nothing. Its contract tells that a text may be segmented anew from any of its boundaries: for every list of code
-/// points, the boundaries after one of them are those of the rest taken alone, shifted, each with the same status or class.
+/// Law: a text may be segmented anew from any of its boundaries: for every list of code points, the boundaries after one of
+/// them are those of the rest taken alone, shifted, with the same statuses.
 pub fn restart(segmenter: GraphemeClusterSegmenterBorrowed<'_>)
-    ensures { HasRestartBy (cluster_rules segmenter.entry) }
+    ensures { HasRestart (boundaries_by (cluster_rules segmenter.entry)) }
 {
-    let _ = segmenter;
+    laws::restart(segmenter.engine);
 }
 
-/// The clusters of a `str`, and those of its bytes as UTF-8: one list, since a `str` is the special case of UTF-8 in
-/// which no item is ill-formed.
+/// Law: the clusters of a `str` are those of its bytes as UTF-8, since a `str` is the special case of UTF-8 in which no
+/// item is ill-formed.
 pub fn str_and_its_bytes<'data, 's>(
     segmenter: GraphemeClusterSegmenterBorrowed<'data>,
     text: &'s str,
@@ -41,8 +49,7 @@ pub fn str_and_its_bytes<'data, 's>(
     GraphemeClusterBreakIterator<'data, 's, PotentiallyIllFormedUtf8>,
 )
     ensures one { clusters_left result.0 ≡ clusters_left result.1 }
-    ensures boundaries { clusters_left result.0
-        ≡ places (boundaries_by (cluster_rules segmenter.entry) (utf8_items 0 text.now) (length text.now)) }
+    ensures boundaries { clusters_left result.0 ≡ boundaries_of (cluster_rules segmenter.entry) (utf8 text.now) }
 {
     (
         segmenter.segment_str(text),

@@ -1,30 +1,38 @@
 //! Laws of the boundaries of sentences.
 
-ghost use Rattle.std.specs.Prelude.{◌≡◌, ℕ, List, drop, map};
-ghost use Rattle.seg_text.specs.Items.{place_of, code_points};
-ghost use Rattle.seg_text.specs.Places.{places};
-ghost use Rattle.seg_clusters.specs.Rules.{boundaries_by, ordinals_by, HasRestartBy};
+ghost use Rattle.std.specs.Prelude.{◌≡◌, ℕ, List, map};
+ghost use Rattle.seg_text.specs.declared.boundary.Boundary.{Boundary};
+ghost use Rattle.seg_text.specs.Items.{Text, code_points};
+ghost use Rattle.seg_text.specs.Boundaries.{boundary_in, HasRestart};
 ghost use Rattle.seg_clusters.specs.Sentences.{sentence_rules};
+ghost use Rattle.seg_engine.specs.Rules.{AreBoundaries, boundaries_by, boundaries_of};
 
 use crate::sentence::SentenceSegmenterBorrowed;
+use seg_engine::laws;
 
-/// Does nothing. Its contract tells that the ordinals of a text's boundaries, counted in code points, are one function
-/// of the machine or the table and the decoded list, which names no place, length or encoding; the boundaries are the places of
-/// these ordinals. So texts with equal code points, in whatever encodings, have boundaries at equal ordinals.
-pub fn equal_code_points(segmenter: SentenceSegmenterBorrowed<'_>)
-    ensures ordinals { (items : List (ℕ × ℕ)) (end : ℕ)
-        → places (boundaries_by (sentence_rules segmenter.entry) items end)
-        ≡ map (λ ordinal. place_of (drop ordinal items) end) (ordinals_by (sentence_rules segmenter.entry) (code_points items)) }
-    ensures equal { (items others : List (ℕ × ℕ)) → code_points items ≡ code_points others
-        → ordinals_by (sentence_rules segmenter.entry) (code_points items) ≡ ordinals_by (sentence_rules segmenter.entry) (code_points others) }
+/// Law: a list of code points has exactly one list of boundaries, in code points: the first is at its start, and each
+/// other one comes from the first stretch of what is left.
+pub fn boundaries_are_one(segmenter: SentenceSegmenterBorrowed<'_>)
+    ensures exists { (code_points : List ℕ) → AreBoundaries (sentence_rules segmenter.entry) code_points (boundaries_by (sentence_rules segmenter.entry) code_points) }
+    ensures only { (code_points : List ℕ) (found : List Boundary)
+        → AreBoundaries (sentence_rules segmenter.entry) code_points found → found ≡ boundaries_by (sentence_rules segmenter.entry) code_points }
 {
-    let _ = segmenter;
+    laws::boundaries_are_one(segmenter.engine);
 }
 
-/// Does nothing. Its contract tells that a text may be segmented anew from any of its boundaries: for every list of code
-/// points, the boundaries after one of them are those of the rest taken alone, shifted, each with the same status or class.
-pub fn restart(segmenter: SentenceSegmenterBorrowed<'_>)
-    ensures { HasRestartBy (sentence_rules segmenter.entry) }
+/// Law: two texts with equal code points, in whatever encodings, have the same boundaries, counted in code points.
+pub fn equal_code_points(segmenter: SentenceSegmenterBorrowed<'_>)
+    ensures { (one other : Text) → code_points one.items ≡ code_points other.items
+        → (counted : List Boundary) × (boundaries_of (sentence_rules segmenter.entry) one ≡ map (boundary_in one) counted)
+        × (boundaries_of (sentence_rules segmenter.entry) other ≡ map (boundary_in other) counted) }
 {
-    let _ = segmenter;
+    laws::equal_code_points(segmenter.engine);
+}
+
+/// Law: a text may be segmented anew from any of its boundaries: for every list of code points, the boundaries after one of
+/// them are those of the rest taken alone, shifted, with the same statuses.
+pub fn restart(segmenter: SentenceSegmenterBorrowed<'_>)
+    ensures { HasRestart (boundaries_by (sentence_rules segmenter.entry)) }
+{
+    laws::restart(segmenter.engine);
 }

@@ -1,0 +1,36 @@
+-- What the boundaries of a text are found by.
+use Rattle.std.specs.Prelude.{◌≡◌, ℕ, Option, List, ◌∷◌}
+use Rattle.seg_text.specs.declared.boundary.Boundary.{Boundary}
+use Rattle.seg_text.specs.Items.{Text}
+use Rattle.seg_text.specs.Boundaries.{start, boundaries_in}
+use Rattle.seg_text.specs.Stretches.{Stretch, AreThrough, boundaries_through}
+use Rattle.seg_data.specs.Table.{Table}
+use Rattle.seg_machine.specs.Machine.{Machine}
+use Rattle.seg_machine.specs.Segments.{machine_stretch}
+use Rattle.seg_pairs.specs.Breaks.{table_stretch}
+use Rattle.seg_pairs.specs.PairTable.{PairTable}
+
+pub data Rules : Type 0 where
+  -- a pair table and its override, if there is one
+  ByTable : PairTable → Option Table → Rules
+  -- a state machine
+  ByMachine : Machine → Rules
+
+-- the first stretch of some code points: by what the table says of the first, or up to the machine's pick
+abbrev pub first_stretch : Rules → List ℕ → Stretch
+first_stretch (ByTable t overriding) = table_stretch t overriding
+first_stretch (ByMachine m) = machine_stretch m
+
+-- the boundaries of a list of code points
+abbrev pub boundaries_by : Rules → List ℕ → List Boundary
+boundaries_by rules code_points = boundaries_through (first_stretch rules) code_points
+
+-- the boundaries of a text: those of its code points, at the places of its items
+abbrev pub boundaries_of : Rules → Text → List Boundary
+boundaries_of rules text = boundaries_in (boundaries_by rules) text
+
+-- the same as a relation: a boundary at the start, and then those of stretches that are each the first of what is left
+abbrev pub AreBoundaries : Rules → List ℕ → List Boundary → Type 0
+AreBoundaries rules code_points found =
+    (stretches : List Stretch) × ((later : List Boundary) × (found ≡ start ∷ later)
+    × AreThrough (first_stretch rules) code_points stretches later)

@@ -1,0 +1,118 @@
+//! The engine of a segmenter: that of a pair table, or that of a state machine.
+
+ghost use Rattle.std.specs.Prelude.{◌≡◌, ⊤};
+ghost use Rattle.std.specs.Iterator.{YieldsFirst, MakesProgress, item_count};
+ghost use Rattle.seg_text.specs.Items.{start_of};
+ghost use Rattle.seg_text.specs.Boundaries.{GivesNext, IsCover, offsets_left};
+ghost use Rattle.seg_engine.specs.Engine.{rules_of, owned_rules};
+ghost use Rattle.seg_engine.specs.Rules.{boundaries_of};
+
+use seg_machine::rule_segmenter_v2;
+use seg_machine::tailored_machine::{TailoredMachine, TailoredMachineBorrowed};
+use seg_pairs::pair_data::{PairData, PairDataBorrowed};
+use seg_pairs::rule_segmenter_v1;
+use seg_text::cursor::Cursor;
+use std::marker::Model;
+
+/// What the boundaries of a text are found by.
+#[derive(Debug, Drop)]
+pub enum OwnedEngine {
+    /// A pair table, with its override.
+    Classic(PairData),
+    /// A state machine, with its tailoring.
+    Neo(TailoredMachine),
+}
+
+impl OwnedEngine {
+    /// The same, lent.
+    pub fn as_borrowed(&self) -> Engine<'_>
+        ensures { rules_of result ≡ owned_rules self.now }
+    {
+        match self {
+            OwnedEngine::Classic(pairs) => Engine::Classic(pairs.as_borrowed()),
+            OwnedEngine::Neo(machine) => Engine::Neo(machine.as_borrowed()),
+        }
+    }
+}
+
+/// What the boundaries of a text are found by, lent.
+#[derive(Clone, Copy, Debug)]
+pub enum Engine<'data> {
+    /// A pair table, with its override.
+    Classic(PairDataBorrowed<'data>),
+    /// A state machine, with its tailoring.
+    Neo(TailoredMachineBorrowed<'data>),
+}
+
+impl<'data> Engine<'data> {
+    /// The boundaries of what is left of a text. Takes no memory.
+    pub fn boundaries<I: Cursor>(self, text: I) -> Boundaries<'data, I>
+        ensures boundaries { result.left ≡ boundaries_of (rules_of self.entry) (I.text text) }
+        ensures cover { IsCover (start_of (I.text text)) (I.text text).end result.left }
+        ensures status { result.status ≡ 0 }
+    {
+        match self {
+            Engine::Classic(pairs) => Boundaries {
+                by: BoundariesBy::Classic(rule_segmenter_v1::RuleBreakIterator::new(pairs, text)),
+            },
+            Engine::Neo(machine) => Boundaries {
+                by: BoundariesBy::Neo(rule_segmenter_v2::RuleBreakIterator::new(machine, text)),
+            },
+        }
+    }
+}
+
+/// The boundaries of a text, as places, by either engine.
+#[derive(Drop)]
+pub struct Boundaries<'data, I: Cursor> {
+    by: BoundariesBy<'data, I>,
+}
+
+/// Which engine gives them.
+#[derive(Drop)]
+enum BoundariesBy<'data, I: Cursor> {
+    /// That of a pair table.
+    Classic(rule_segmenter_v1::RuleBreakIterator<'data, I>),
+    /// That of a state machine.
+    Neo(rule_segmenter_v2::RuleBreakIterator<'data, I>),
+}
+
+impl<'data, I: Cursor> Model for Boundaries<'data, I> {
+    ghost use Rattle.seg_text.specs.Boundaries.{Remainder};
+    ghost use Rattle.seg_engine.specs.Remainders.{remainder_by};
+
+    ghost Value = { Remainder };
+
+    ghost view = { λ s. remainder_by s.by };
+}
+
+impl<'data, I: Cursor> Boundaries<'data, I> {
+    /// The status of the boundary that was given last: 0 for the first, before it and after the end.
+    pub fn status(&self) -> u8
+        ensures { result ≡ self.now.status }
+    {
+        match &self.by {
+            BoundariesBy::Classic(engine) => engine.rule_status(),
+            BoundariesBy::Neo(engine) => engine.status(),
+        }
+    }
+}
+
+impl<'data, I: Cursor> Iterator for Boundaries<'data, I> {
+    type Item = usize;
+
+    ghost next_gives = { YieldsFirst offsets_left };
+
+    ghost remaining = { item_count offsets_left };
+
+    #[inline(always)]
+    fn next(&mut self) -> Option<usize>
+        ensures steps { YieldsFirst offsets_left self.old result self.new × GivesNext self.old result self.new }
+        ensures goes { MakesProgress (λ _. ⊤) (item_count offsets_left) self.old result self.new }
+    {
+        match &mut self.by {
+            BoundariesBy::Classic(engine) => engine.next(),
+            BoundariesBy::Neo(engine) => engine.next(),
+        }
+    }
+}
