@@ -1,14 +1,15 @@
 -- Lines: the machine that finds their breaks, the faults of its data, and what is seen of segmenters and iterators.
-use Rattle.std.specs.Prelude.{◌≡◌, ◌⊎◌, ℕ, ◌==◌, Bool, false, Option, Some, None, List, [], ◌∷◌, map, MatchOption}
+use Rattle.std.specs.Prelude.{◌≡◌, ◌⊎◌, ℕ, ◌==◌, Bool, Option, Some, None, List}
 use Rattle.std.specs.Option.{option_map}
 use Rattle.seg_data.specs.declared.provider.ComplexScript.{ComplexScript}
 use Rattle.seg_data.specs.declared.provider.DataError.{DataError}
 use Rattle.seg_data.specs.declared.provider.DataError.TheVariants.{ComplexBelow0100, MissingTailoring}
 use Rattle.seg_machine.specs.Machine.{Machine, tailored}
 use Rattle.seg_machine.specs.MachineFaults.{HasComplexBelow0100, HasTailoringFault}
-use Rattle.seg_machine.specs.Segments.{machine_boundaries}
-use Rattle.seg_machine.specs.Tailored.{machine_of, owned_machine}
-use Rattle.seg_machine.specs.MachineBoundaries.{places_left}
+use Rattle.seg_text.specs.declared.boundary.Boundary.{Boundary}
+use Rattle.seg_text.specs.Boundaries.{offsets}
+use Rattle.seg_engine.specs.Engine.{rules_of, owned_rules}
+use Rattle.seg_engine.specs.Rules.{Rules}
 use Rattle.seg_lines.specs.declared.line.options.Tailoring.{Tailoring}
 use Rattle.seg_lines.specs.declared.line.options.MachineChoice.{MachineChoice}
 use Rattle.seg_lines.specs.declared.line.options.MachineChoice.TheVariants.{Clusters, Lines}
@@ -44,35 +45,20 @@ abbrev pub HasLineFault : Machine → LineTailorings → MachineChoice → DataE
 HasLineFault lines tailorings Clusters fault = ⊥
 HasLineFault lines tailorings (Lines name) fault = HasFaultWith lines (tailoring_for tailorings name) fault
 
--- the machine of a segmenter
-abbrev pub line_machine : LineSegmenterBorrowed → Machine
-line_machine segmenter = machine_of segmenter.machine
+-- what a segmenter finds line breaks by
+abbrev pub line_rules : LineSegmenterBorrowed → Rules
+line_rules segmenter = rules_of segmenter.engine
 
-abbrev pub owned_line_machine : LineSegmenter → Machine
-owned_line_machine segmenter = owned_machine segmenter.machine
+abbrev pub owned_line_rules : LineSegmenter → Rules
+owned_line_rules segmenter = owned_rules segmenter.engine
 
--- boundaries with their statuses, as lines: a break is mandatory where the status is 1
-abbrev pub marked : List (ℕ × ℕ) → List (ℕ × Bool)
-marked boundaries = map (λ (boundary : ℕ × ℕ). (boundary.0, boundary.1 == 1)) boundaries
+-- the boundaries that an iterator has still to give, and their places
+abbrev pub lines_left : {Y C I : Type 0} → LineBreakIterator Y C I → List Boundary
+lines_left iterator = iterator.boundaries.left
 
--- the boundaries of a list of code points, counted in code points, with whether each is mandatory
-abbrev pub line_ordinals : Machine → List ℕ → List (ℕ × Bool)
-line_ordinals m code_points = marked (machine_boundaries m code_points)
-
--- the boundaries that an iterator has still to give, with whether each is mandatory
-abbrev pub lines_left : {Y C I : Type 0} → LineBreakIterator Y C I → List (ℕ × Bool)
-lines_left iterator = marked iterator.engine.left
-
--- their places
 abbrev pub line_places : {Y C I : Type 0} → LineBreakIterator Y C I → List ℕ
-line_places iterator = places_left iterator.engine
+line_places iterator = offsets (lines_left iterator)
 
--- is the boundary that was given last mandatory
+-- is the boundary that was given last mandatory: a break is where its status is 1
 abbrev pub is_mandatory : {Y C I : Type 0} → LineBreakIterator Y C I → Bool
-is_mandatory iterator = iterator.engine.status == 1
-
--- an iterator gave the first boundary that was left, and has its mark
-abbrev pub GivesLine : {Y C I : Type 0} → LineBreakIterator Y C I → Option ℕ → LineBreakIterator Y C I → Type 0
-GivesLine before given after =
-    MatchOption given ((lines_left before ≡ []) × (lines_left after ≡ []) × (is_mandatory after ≡ false))
-    (λ place. lines_left before ≡ (place, is_mandatory after) ∷ lines_left after)
+is_mandatory iterator = iterator.boundaries.status == 1

@@ -1,14 +1,15 @@
 //! Lines: where a text may be broken into lines, and where it must be.
-ghost use Rattle.std.specs.Prelude.{◌≡◌, ℕ, false, List, length, IfOk, IfErr};
+ghost use Rattle.std.specs.Prelude.{◌≡◌, false, length, IfOk, IfErr};
 ghost use Rattle.std.specs.Iterator.{YieldsFirst, item_count};
-ghost use Rattle.seg_text.specs.Items.{place_of};
-ghost use Rattle.seg_text.specs.Latin1.{latin1_items};
-ghost use Rattle.seg_text.specs.Utf8.{utf8_items};
-ghost use Rattle.seg_text.specs.Utf16.{utf16_items};
+ghost use Rattle.seg_text.specs.Items.{start_of};
+ghost use Rattle.seg_text.specs.Boundaries.{IsCover};
+ghost use Rattle.seg_text.specs.Latin1.{latin1};
+ghost use Rattle.seg_text.specs.Utf8.{utf8};
+ghost use Rattle.seg_text.specs.Utf16.{utf16};
 ghost use Rattle.seg_data.specs.Faults.{IsFaultless, IsLowestFault};
-ghost use Rattle.seg_machine.specs.Tailored.{machine_of};
-ghost use Rattle.seg_machine.specs.MachineBoundaries.{boundaries, places_left, IsSegmented, IsCover};
-ghost use Rattle.seg_lines.specs.Lines.{marked};
+ghost use Rattle.seg_engine.specs.Engine.{rules_of};
+ghost use Rattle.seg_engine.specs.Rules.{boundaries_of};
+ghost use Rattle.seg_engine.specs.Rules.Rules.{ByMachine};
 ghost use Rattle.seg_lines.specs.Options.{machine_choice};
 
 mod neo;
@@ -23,10 +24,10 @@ pub use options::{LineBreakOptions, LineBreakStrictness, LineBreakWordOption};
 use options::{MachineChoice, choice_of};
 use seg_data::provider::DataError;
 use seg_machine::provider::SegmenterStateMachine;
-use seg_machine::rule_segmenter_v2::RuleBreakIterator;
+use seg_engine::engine::{Boundaries, Engine, OwnedEngine};
 use seg_machine::tailored_machine::{TailoredMachine, TailoredMachineBorrowed};
 use seg_text::indices::{Latin1Indices, StrCharIndices, Utf8CharIndices, Utf16Indices};
-use seg_text::inner::Cursor;
+use seg_text::cursor::Cursor;
 use seg_text::scaffold::{Latin1, PotentiallyIllFormedUtf8, RuleBreakType, Utf8, Utf16};
 use std::marker::PhantomData;
 
@@ -35,13 +36,16 @@ use std::marker::PhantomData;
 ///
 /// First 0, then each place where a line may be broken; the last is the text's length. After None it is None for ever.
 pub struct LineBreakIterator<'data, 's, Y: RuleBreakType<'s>> {
-    engine: RuleBreakIterator<'data, Y::IterAttr>,
+    boundaries: Boundaries<'data, Y::IterAttr>,
     text: PhantomData<&'s ()>,
 }
 
 impl<'data, 's, Y: RuleBreakType<'s>> Drop for LineBreakIterator<'data, 's, Y> {
     fn drop(self) {
-        let LineBreakIterator { engine: _, text: _ } = self;
+        let LineBreakIterator {
+            boundaries: _,
+            text: _,
+        } = self;
     }
 }
 
@@ -53,14 +57,15 @@ impl<'data, 's, Y: RuleBreakType<'s>> LineBreakIterator<'data, 's, Y> {
     pub fn is_mandatory(&self) -> bool
         ensures { result ≡ is_mandatory self.now }
     {
-        self.engine.status() == 1
+        self.boundaries.status() == 1
     }
 }
 
 impl<'data, 's, Y: RuleBreakType<'s>> Iterator for LineBreakIterator<'data, 's, Y> {
     ghost use Rattle.std.specs.Prelude.{⊤};
     ghost use Rattle.std.specs.Iterator.{MakesProgress};
-    ghost use Rattle.seg_lines.specs.Lines.{line_places, GivesLine};
+    ghost use Rattle.seg_text.specs.Boundaries.{GivesNext};
+    ghost use Rattle.seg_lines.specs.Lines.{line_places};
 
     type Item = usize;
 
@@ -70,21 +75,21 @@ impl<'data, 's, Y: RuleBreakType<'s>> Iterator for LineBreakIterator<'data, 's, 
 
     #[inline(always)]
     fn next(&mut self) -> Option<usize>
-        ensures steps { YieldsFirst line_places self.old result self.new × GivesLine self.old result self.new }
+        ensures steps { YieldsFirst line_places self.old result self.new × GivesNext self.old.boundaries result self.new.boundaries }
         ensures goes { MakesProgress (λ _. ⊤) (item_count line_places) self.old result self.new }
     {
-        self.engine.next()
+        self.boundaries.next()
     }
 }
 
 /// Finds line breaks with data of its own.
 #[derive(Debug, Drop)]
 pub struct LineSegmenter {
-    machine: TailoredMachine,
+    engine: OwnedEngine,
 }
 
 impl LineSegmenter {
-    ghost use Rattle.seg_lines.specs.Lines.{line_machine, owned_line_machine, chosen_machine, HasLineFault};
+    ghost use Rattle.seg_lines.specs.Lines.{line_rules, owned_line_rules, chosen_machine, HasLineFault};
 
     /// A segmenter by the state machine of lines, or by that of clusters where the strictness is
     /// `Anywhere` and the word option `Normal`, which refuses nothing. Otherwise
@@ -98,7 +103,7 @@ impl LineSegmenter {
         clusters: SegmenterStateMachine,
         options: LineBreakOptions<'_>,
     ) -> Result<Self, DataError>
-        ensures accepted { IfOk result (λ segmenter. (owned_line_machine segmenter ≡ chosen_machine machine tailorings clusters (machine_choice options.entry))
+        ensures accepted { IfOk result (λ segmenter. (owned_line_rules segmenter ≡ ByMachine (chosen_machine machine tailorings clusters (machine_choice options.entry)))
             × IsFaultless (HasLineFault machine tailorings (machine_choice options.entry))) }
         ensures refused { IfErr result (IsLowestFault (HasLineFault machine tailorings (machine_choice options.entry))) }
     {
@@ -106,15 +111,17 @@ impl LineSegmenter {
             MachineChoice::Clusters => TailoredMachine::untailored(clusters),
             MachineChoice::Lines(name) => owned_line_machine(machine, tailorings, name)?,
         };
-        Ok(LineSegmenter { machine })
+        Ok(LineSegmenter {
+            engine: OwnedEngine::Neo(machine),
+        })
     }
 
     /// The same segmenter over lent data, which segments texts.
     pub fn as_borrowed(&self) -> LineSegmenterBorrowed<'_>
-        ensures { line_machine result ≡ owned_line_machine self.now }
+        ensures { line_rules result ≡ owned_line_rules self.now }
     {
         LineSegmenterBorrowed {
-            machine: self.machine.as_borrowed(),
+            engine: self.engine.as_borrowed(),
         }
     }
 }
@@ -122,11 +129,11 @@ impl LineSegmenter {
 /// Finds line breaks with data that are lent to it.
 #[derive(Clone, Copy, Debug)]
 pub struct LineSegmenterBorrowed<'data> {
-    machine: TailoredMachineBorrowed<'data>,
+    pub(crate) engine: Engine<'data>,
 }
 
 impl<'data> LineSegmenterBorrowed<'data> {
-    ghost use Rattle.seg_lines.specs.Lines.{line_machine, lines_left, line_places, is_mandatory, chosen_machine, HasLineFault};
+    ghost use Rattle.seg_lines.specs.Lines.{line_rules, lines_left, is_mandatory, chosen_machine, HasLineFault};
     ghost use Rattle.seg_lines.specs.LineTailorings.{lent};
 
     /// A segmenter by the state machine of lines, or by that of clusters where the strictness is
@@ -141,7 +148,7 @@ impl<'data> LineSegmenterBorrowed<'data> {
         clusters: &'data SegmenterStateMachine,
         options: LineBreakOptions<'_>,
     ) -> Result<Self, DataError>
-        ensures accepted { IfOk result (λ segmenter. (line_machine segmenter ≡ chosen_machine machine.now (lent tailorings.entry) clusters.now (machine_choice options.entry))
+        ensures accepted { IfOk result (λ segmenter. (line_rules segmenter ≡ ByMachine (chosen_machine machine.now (lent tailorings.entry) clusters.now (machine_choice options.entry)))
             × IsFaultless (HasLineFault machine.now (lent tailorings.entry) (machine_choice options.entry))) }
         ensures refused { IfErr result (IsLowestFault (HasLineFault machine.now (lent tailorings.entry) (machine_choice options.entry))) }
     {
@@ -149,20 +156,18 @@ impl<'data> LineSegmenterBorrowed<'data> {
             MachineChoice::Clusters => TailoredMachineBorrowed::untailored(clusters),
             MachineChoice::Lines(name) => lent_line_machine(machine, tailorings, name)?,
         };
-        Ok(LineSegmenterBorrowed { machine })
+        Ok(LineSegmenterBorrowed {
+            engine: Engine::Neo(machine),
+        })
     }
 
     /// The boundaries of the lines of a `str`, in bytes: those of its bytes as UTF-8, each with whether it is mandatory. Takes no memory.
     pub fn segment_str<'s>(self, input: &'s str) -> LineBreakIterator<'data, 's, Utf8>
-        ensures boundaries { lines_left result
-            ≡ marked (boundaries (line_machine self.entry) (utf8_items 0 input.now) (length input.now)) }
-        ensures segments { (found : List (ℕ × ℕ))
-            × IsSegmented (line_machine self.entry) (utf8_items 0 input.now) (length input.now) found
-            × (lines_left result ≡ marked found) }
-        ensures cover { IsCover 0 (length input.now) (line_places result) }
+        ensures boundaries { lines_left result ≡ boundaries_of (line_rules self.entry) (utf8 input.now) }
+        ensures cover { IsCover 0 (length input.now) (lines_left result) }
         ensures mark { is_mandatory result ≡ false }
     {
-        segment(self.machine, StrCharIndices::new(input))
+        segment(self.engine, StrCharIndices::new(input))
     }
 
     /// The boundaries of the lines of possibly ill-formed UTF-8, in bytes. Each longest beginning of a
@@ -171,59 +176,44 @@ impl<'data> LineSegmenterBorrowed<'data> {
         self,
         input: &'s [u8],
     ) -> LineBreakIterator<'data, 's, PotentiallyIllFormedUtf8>
-        ensures boundaries { lines_left result
-            ≡ marked (boundaries (line_machine self.entry) (utf8_items 0 input.now) (length input.now)) }
-        ensures segments { (found : List (ℕ × ℕ))
-            × IsSegmented (line_machine self.entry) (utf8_items 0 input.now) (length input.now) found
-            × (lines_left result ≡ marked found) }
-        ensures cover { IsCover 0 (length input.now) (line_places result) }
+        ensures boundaries { lines_left result ≡ boundaries_of (line_rules self.entry) (utf8 input.now) }
+        ensures cover { IsCover 0 (length input.now) (lines_left result) }
         ensures mark { is_mandatory result ≡ false }
     {
-        segment(self.machine, Utf8CharIndices::new(input))
+        segment(self.engine, Utf8CharIndices::new(input))
     }
 
     /// The boundaries of the lines of Latin-1, in bytes. Takes no memory.
     pub fn segment_latin1<'s>(self, input: &'s [u8]) -> LineBreakIterator<'data, 's, Latin1>
-        ensures boundaries { lines_left result
-            ≡ marked (boundaries (line_machine self.entry) (latin1_items 0 input.now) (length input.now)) }
-        ensures segments { (found : List (ℕ × ℕ))
-            × IsSegmented (line_machine self.entry) (latin1_items 0 input.now) (length input.now) found
-            × (lines_left result ≡ marked found) }
-        ensures cover { IsCover 0 (length input.now) (line_places result) }
+        ensures boundaries { lines_left result ≡ boundaries_of (line_rules self.entry) (latin1 input.now) }
+        ensures cover { IsCover 0 (length input.now) (lines_left result) }
         ensures mark { is_mandatory result ≡ false }
     {
-        segment(self.machine, Latin1Indices::new(input))
+        segment(self.engine, Latin1Indices::new(input))
     }
 
     /// The boundaries of the lines of possibly ill-formed UTF-16, in 16-bit units. A surrogate that stands alone
     /// counts as itself. Takes no memory.
     pub fn segment_utf16<'s>(self, input: &'s [u16]) -> LineBreakIterator<'data, 's, Utf16>
-        ensures boundaries { lines_left result
-            ≡ marked (boundaries (line_machine self.entry) (utf16_items 0 input.now) (length input.now)) }
-        ensures segments { (found : List (ℕ × ℕ))
-            × IsSegmented (line_machine self.entry) (utf16_items 0 input.now) (length input.now) found
-            × (lines_left result ≡ marked found) }
-        ensures cover { IsCover 0 (length input.now) (line_places result) }
+        ensures boundaries { lines_left result ≡ boundaries_of (line_rules self.entry) (utf16 input.now) }
+        ensures cover { IsCover 0 (length input.now) (lines_left result) }
         ensures mark { is_mandatory result ≡ false }
     {
-        segment(self.machine, Utf16Indices::new(input))
+        segment(self.engine, Utf16Indices::new(input))
     }
 }
 
 /// The lines of what is left of a text.
 fn segment<'data, 's, Y: RuleBreakType<'s>>(
-    machine: TailoredMachineBorrowed<'data>,
+    engine: Engine<'data>,
     text: Y::IterAttr,
 ) -> LineBreakIterator<'data, 's, Y>
-    ensures boundaries { marked result.engine.left ≡ marked (boundaries (machine_of machine.entry) (Y.IterAttr.left text) (Y.IterAttr.end text)) }
-    ensures segments { (found : List (ℕ × ℕ))
-        × IsSegmented (machine_of machine.entry) (Y.IterAttr.left text) (Y.IterAttr.end text) found
-        × (marked result.engine.left ≡ marked found) }
-    ensures cover { IsCover (place_of (Y.IterAttr.left text) (Y.IterAttr.end text)) (Y.IterAttr.end text) (places_left result.engine) }
-    ensures status { result.engine.status ≡ 0 }
+    ensures boundaries { result.boundaries.left ≡ boundaries_of (rules_of engine.entry) (Y.IterAttr.text text) }
+    ensures cover { IsCover (start_of (Y.IterAttr.text text)) (Y.IterAttr.text text).end result.boundaries.left }
+    ensures status { result.boundaries.status ≡ 0 }
 {
     LineBreakIterator {
-        engine: RuleBreakIterator::new(machine, text),
+        boundaries: engine.boundaries(text),
         text: PhantomData,
     }
 }

@@ -1,9 +1,14 @@
 -- The boundaries of a text that is gone through stretch by stretch rise strictly from its start to its end.
-use Rattle.std.proofs.Common.{◌≡◌, ℕ, zero, suc, ◌<◌, ◌≤◌, List, [], ◌∷◌, ◌++◌, length, map, drop, refl, ap, inl, inr, arith}
+use Rattle.std.proofs.Common.{◌≡◌, ℕ, zero, suc, ◌+◌, ◌<◌, ◌≤◌, List, [], ◌∷◌, ◌++◌, length, map, drop, refl, ap, inl, inr, arith, zero-add}
 use Rattle.std.proofs.lemmas.List.{length-drop, length-map}
 use Rattle.seg_text.specs.declared.boundary.Boundary.{Boundary}
-use Rattle.seg_text.specs.Items.{Item, Text, place_of, start_of, rest_after, code_points, IsRising}
+use Rattle.seg_text.specs.Items.{Item, Reader, Text, place_of, start_of, rest_after, code_points, items_by, IsRising}
 use Rattle.seg_text.specs.Boundaries.{boundary_in, boundaries_in, RisesTo, IsCover}
+use Rattle.seg_text.specs.Latin1.{read_latin1, latin1_items, latin1}
+use Rattle.seg_text.specs.Utf8.{read_utf8, utf8_items, utf8}
+use Rattle.seg_text.specs.Utf16.{read_utf16, utf16_items, utf16}
+use Rattle.seg_text.specs.Lemmas.Readers.{IsReader, place_of-items_by}
+use Rattle.seg_text.specs.Lemmas.Rising.{read_latin1-reader, read_utf8-reader, read_utf16-reader}
 use Rattle.seg_text.specs.Stretches.{Stretch, through, boundaries_through, IsGoing, HasEndAlone, IsWithin}
 use Rattle.seg_text.proofs.Places.{IsRising-drop, place_of-drop-lt}
 use Rattle.seg_text.proofs.Stretches.{text-through-nil, text-through-next}
@@ -61,6 +66,20 @@ module _ (first : List ℕ → Stretch) (within : (x : ℕ) (xs : List ℕ) → 
   covers whole rising =
       (refl, rises (length whole.items) whole.items whole.end (omega arith) rising (start_of whole) (λ empty. ap (λ (left : List Item). place_of left whole.end) empty) (omega arith))
 
--- a whole text begins at 0, and ends after all of its units
-pub cover-whole : (start end units : ℕ) (boundaries : List Boundary) → start ≡ 0 → end ≡ units → IsCover start end boundaries → IsCover 0 units boundaries
-cover-whole start end units boundaries begins ends cover = rw (begins, ends) at cover
+-- the texts of whole inputs begin at 0, and end after all of their units
+
+cover-whole : (read : Reader) → IsReader read → (units : List ℕ) (boundaries : List Boundary)
+    → IsCover (place_of (items_by read 0 units) (0 + length units)) (0 + length units) boundaries → IsCover 0 (length units) boundaries
+cover-whole read reader units boundaries cover = rw (place_of-items_by read reader 0 units, zero-add (length units)) at cover
+
+pub cover-latin1 : (bytes : List ℕ) (boundaries : List Boundary) → IsCover (start_of (latin1 bytes)) (latin1 bytes).end boundaries → IsCover 0 (length bytes) boundaries
+unfolding latin1_items
+cover-latin1 bytes boundaries cover = cover-whole read_latin1 read_latin1-reader bytes boundaries cover
+
+pub cover-utf8 : (bytes : List ℕ) (boundaries : List Boundary) → IsCover (start_of (utf8 bytes)) (utf8 bytes).end boundaries → IsCover 0 (length bytes) boundaries
+unfolding utf8_items
+cover-utf8 bytes boundaries cover = cover-whole read_utf8 read_utf8-reader bytes boundaries cover
+
+pub cover-utf16 : (units : List ℕ) (boundaries : List Boundary) → IsCover (start_of (utf16 units)) (utf16 units).end boundaries → IsCover 0 (length units) boundaries
+unfolding utf16_items
+cover-utf16 units boundaries cover = cover-whole read_utf16 read_utf16-reader units boundaries cover

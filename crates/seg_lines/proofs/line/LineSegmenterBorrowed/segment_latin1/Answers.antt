@@ -1,10 +1,5 @@
-use Rattle.std.proofs.Common.{zero-add}
-use Rattle.seg_text.specs.Reader.{place_of-items_by}
-use Rattle.seg_text.specs.Rising.{read_latin1-reader}
-use Rattle.seg_text.specs.Latin1.{latin1_items}
-use Rattle.seg_machine.proofs.Cover.{cover-text}
+use Rattle.seg_text.proofs.Covers.{cover-latin1}
 use Rattle.seg_lines.proofs.line.LineSegmenterBorrowed.segment_latin1.Goals as goal
 
 pub returns-clause-cover : goal.returns-clause-cover
-unfolding latin1_items
-returns-clause-cover c = cover-text _ _ _ _ (place_of-items_by _ read_latin1-reader 0 _) (zero-add _) (rw c.new.ensures at c.segment.ensures.cover)
+returns-clause-cover c = cover-latin1 _ _ (rw c.new.ensures at c.segment.ensures.cover)

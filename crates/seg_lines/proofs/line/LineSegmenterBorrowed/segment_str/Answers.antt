@@ -1,10 +1,5 @@
-use Rattle.std.proofs.Common.{zero-add}
-use Rattle.seg_text.specs.Reader.{place_of-items_by}
-use Rattle.seg_text.specs.Rising.{read_utf8-reader}
-use Rattle.seg_text.specs.Utf8.{utf8_items}
-use Rattle.seg_machine.proofs.Cover.{cover-text}
+use Rattle.seg_text.proofs.Covers.{cover-utf8}
 use Rattle.seg_lines.proofs.line.LineSegmenterBorrowed.segment_str.Goals as goal
 
 pub returns-clause-cover : goal.returns-clause-cover
-unfolding utf8_items
-returns-clause-cover c = cover-text _ _ _ _ (place_of-items_by _ read_utf8-reader 0 _) (zero-add _) (rw c.new.ensures at c.segment.ensures.cover)
+returns-clause-cover c = cover-utf8 _ _ (rw c.new.ensures at c.segment.ensures.cover)
