@@ -8,5 +8,5 @@ abbrev pub invariant-loop-offset : goal.invariant-loop-offset
 invariant-loop-offset l = record {
   filled : IsFilled (table l.ranges l.default) l.start l.initial.values.items l.values.items l.offset;
   grows : HasGrown l.initial.values.items l.values.items;
-  run : IsRun (table l.ranges l.default) (l.start + l.offset) l.value l.last;
+  run : IsRun (table l.ranges l.default) (l.start + l.offset) l.value l.last
 }

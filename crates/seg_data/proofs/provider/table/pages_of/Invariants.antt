@@ -9,5 +9,5 @@ invariant-loop-page l = record {
   count : length l.pages.items ≡ l.page;
   stand : ArePages (table l.ranges l.default) l.pages.items l.values.items;
   blocks : AreBlocks l.page l.values.items;
-  plain : IsPlain l.values.items l.plain;
+  plain : IsPlain l.values.items l.plain
 }
