@@ -160,7 +160,7 @@ never-stalls m passed (symbols, some, text, none) =
     let start : AreFollowed m [] 0 0 = λ symbol below above. followed m symbol above (all_below-at _ (symbol_count m) symbol passed below) in
     has-value (pick m symbols) none (stall_free m [] (λ pair listed. absurd (omega arith)) start symbols some text)
   where
-    has-value : (picked : Option (ℕ × ℕ)) → picked ≡ None → IsSome picked → ⊥
+    has-value : {X : Type 0} (picked : Option X) → picked ≡ None → IsSome picked → ⊥
     has-value picked none some = cc
 
 pub record IsSimple (m : Machine) : Type 0 where

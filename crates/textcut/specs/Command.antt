@@ -1,9 +1,9 @@
 -- The words of each command, and what it prints of a text.
-use Rattle.std.specs.Prelude.{◌≢◌, ℕ, None, List, [], ◌∷◌, length, map, codes}
+use Rattle.std.specs.Prelude.{◌≢◌, ℕ, None, List, [], ◌∷◌, map, codes}
 use Rattle.std.specs.Borrow.{Bor}
-use Rattle.icu_segmenter.specs.Utf8.{utf8_items}
-use Rattle.icu_segmenter.specs.Places.{places}
-use Rattle.icu_segmenter.specs.Rules.{Rules, boundaries_by}
+use Rattle.icu_segmenter.specs.Utf8.{utf8}
+use Rattle.icu_segmenter.specs.Boundaries.{offsets}
+use Rattle.icu_segmenter.specs.Rules.{Rules, boundaries_of}
 use Rattle.icu_segmenter.specs.Rules.Rules.{ByTable, ByMachine}
 use Rattle.bench.specs.Clusters.{cluster_machine}
 use Rattle.bench.specs.Sentences.{sentence_machine}
@@ -36,6 +36,6 @@ rules_of SentenceClassic = ByTable sentence_table None
 rules_of SentenceNeo = ByMachine sentence_machine
 rules_of LineNeo = ByMachine line_machine
 
--- the boundaries that a command prints of a text
-abbrev pub boundaries_of : Command → List ℕ → List ℕ
-boundaries_of command bytes = places (boundaries_by (rules_of command) (utf8_items 0 bytes) (length bytes))
+-- the places of boundaries that a command prints of a text
+abbrev pub places_of : Command → List ℕ → List ℕ
+places_of command bytes = offsets (boundaries_of (rules_of command) (utf8 bytes))

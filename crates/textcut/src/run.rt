@@ -2,12 +2,12 @@
 ghost use Rattle.std.specs.Prelude.{◌≡◌, ◌≢◌, ◌≤◌, ◌↔◌, ℕ, List, OnOk, IfOk, IfErr, IfSome, IsErrOf, length};
 ghost use Rattle.std.specs.Iterator.{IsFinite, Drains};
 ghost use Rattle.std.specs.Io.KnownBytes.{Appends, IsAtEnd};
-ghost use Rattle.icu_segmenter.specs.Utf8.{utf8_items};
-ghost use Rattle.icu_segmenter.specs.Places.{places};
-ghost use Rattle.icu_segmenter.specs.Rules.{boundaries_by};
+ghost use Rattle.icu_segmenter.specs.Utf8.{utf8};
+ghost use Rattle.icu_segmenter.specs.Boundaries.{offsets};
+ghost use Rattle.icu_segmenter.specs.Rules.{boundaries_of};
 ghost use Rattle.icu_segmenter.specs.Clusters.{cluster_rules};
 ghost use Rattle.icu_segmenter.specs.Sentences.{sentence_rules};
-ghost use Rattle.textcut.specs.Command.{texts, words_of, IsNoCommand, boundaries_of};
+ghost use Rattle.textcut.specs.Command.{texts, words_of, IsNoCommand, places_of};
 ghost use Rattle.textcut.specs.Failure.{status_of};
 ghost use Rattle.textcut.specs.Lines.{lines_of};
 ghost use Rattle.textcut.specs.declared.failure.Failure.{Failure as AnyFailure};
@@ -44,7 +44,7 @@ pub fn run<I: Read, O: Write, E: Write>(
     ensures read_all { result ≡ 0 → IsAtEnd (I.remaining input.new) }
     ensures printed { result ≡ 0 → (command : AnyCommand) → texts words.now ≡ words_of command
         → IfSome (I.remaining input.old) (λ bytes.
-        Appends (O.contents out.old) (O.contents out.new) (lines_of (boundaries_of command bytes))) }
+        Appends (O.contents out.old) (O.contents out.new) (lines_of (places_of command bytes))) }
     ensures silent { result ≡ 0 → err.new ≡ err.old }
     ensures failed { result ≢ 0 → (failure : AnyFailure) × (status_of failure ≡ result)
         × (failure ≢ Failure.WriteFailed → out.new ≡ out.old) }
@@ -67,7 +67,7 @@ fn try_run<I: Read, O: Write>(
     ensures read_all { OnOk result (IsAtEnd (I.remaining input.new)) }
     ensures printed { OnOk result ((command : AnyCommand) → texts words.now ≡ words_of command
         → IfSome (I.remaining input.old) (λ bytes.
-        Appends (O.contents out.old) (O.contents out.new) (lines_of (boundaries_of command bytes)))) }
+        Appends (O.contents out.old) (O.contents out.new) (lines_of (places_of command bytes)))) }
 {
     let command = command_of(words).ok_or(Failure::Usage)?;
     let text = read_text(alloc, input)?;
@@ -95,7 +95,7 @@ fn print_boundaries<O: Write>(
     out: &mut O,
 ) -> Result<(), Failure>
     ensures printed { OnOk result
-        (Appends (O.contents out.old) (O.contents out.new) (lines_of (boundaries_of command text.now))) }
+        (Appends (O.contents out.old) (O.contents out.new) (lines_of (places_of command text.now))) }
     ensures unwritten { IsErrOf result Failure.NoMemory → out.new ≡ out.old }
     ensures cause { result ≢ Err Failure.Usage × result ≢ Err Failure.ReadFailed }
 {
@@ -110,7 +110,7 @@ fn print_boundaries<O: Write>(
 
 fn print_clusters_by_table<O: Write>(alloc: Global, text: &[u8], out: &mut O) -> Result<(), Failure>
     ensures printed { OnOk result
-        (Appends (O.contents out.old) (O.contents out.new) (lines_of (boundaries_of Command.GraphemeClassic text.now))) }
+        (Appends (O.contents out.old) (O.contents out.new) (lines_of (places_of Command.GraphemeClassic text.now))) }
     ensures unwritten { IsErrOf result Failure.NoMemory → out.new ≡ out.old }
     ensures cause { result ≢ Err Failure.Usage × result ≢ Err Failure.ReadFailed }
 {
@@ -127,7 +127,7 @@ fn print_clusters_by_machine<O: Write>(
     out: &mut O,
 ) -> Result<(), Failure>
     ensures printed { OnOk result
-        (Appends (O.contents out.old) (O.contents out.new) (lines_of (boundaries_of Command.GraphemeNeo text.now))) }
+        (Appends (O.contents out.old) (O.contents out.new) (lines_of (places_of Command.GraphemeNeo text.now))) }
     ensures unwritten { IsErrOf result Failure.NoMemory → out.new ≡ out.old }
     ensures cause { result ≢ Err Failure.Usage × result ≢ Err Failure.ReadFailed }
 {
@@ -144,7 +144,7 @@ fn print_sentences_by_table<O: Write>(
     out: &mut O,
 ) -> Result<(), Failure>
     ensures printed { OnOk result
-        (Appends (O.contents out.old) (O.contents out.new) (lines_of (boundaries_of Command.SentenceClassic text.now))) }
+        (Appends (O.contents out.old) (O.contents out.new) (lines_of (places_of Command.SentenceClassic text.now))) }
     ensures unwritten { IsErrOf result Failure.NoMemory → out.new ≡ out.old }
     ensures cause { result ≢ Err Failure.Usage × result ≢ Err Failure.ReadFailed }
 {
@@ -162,7 +162,7 @@ fn print_sentences_by_machine<O: Write>(
     out: &mut O,
 ) -> Result<(), Failure>
     ensures printed { OnOk result
-        (Appends (O.contents out.old) (O.contents out.new) (lines_of (boundaries_of Command.SentenceNeo text.now))) }
+        (Appends (O.contents out.old) (O.contents out.new) (lines_of (places_of Command.SentenceNeo text.now))) }
     ensures unwritten { IsErrOf result Failure.NoMemory → out.new ≡ out.old }
     ensures cause { result ≢ Err Failure.Usage × result ≢ Err Failure.ReadFailed }
 {
@@ -180,7 +180,7 @@ fn print_clusters<O: Write>(
     out: &mut O,
 ) -> Result<(), Failure>
     ensures printed { OnOk result (Appends (O.contents out.old) (O.contents out.new)
-        (lines_of (places (boundaries_by (cluster_rules clusters.entry) (utf8_items 0 text.now) (length text.now))))) }
+        (lines_of (offsets (boundaries_of (cluster_rules clusters.entry) (utf8 text.now))))) }
     ensures cause { IfErr result (λ failure. failure ≡ Failure.WriteFailed) }
 {
     print_numbers(clusters.segment_utf8(text), out)
@@ -192,7 +192,7 @@ fn print_sentences<O: Write>(
     out: &mut O,
 ) -> Result<(), Failure>
     ensures printed { OnOk result (Appends (O.contents out.old) (O.contents out.new)
-        (lines_of (places (boundaries_by (sentence_rules sentences.entry) (utf8_items 0 text.now) (length text.now))))) }
+        (lines_of (offsets (boundaries_of (sentence_rules sentences.entry) (utf8 text.now))))) }
     ensures cause { IfErr result (λ failure. failure ≡ Failure.WriteFailed) }
 {
     print_numbers(sentences.segment_utf8(text), out)
@@ -200,7 +200,7 @@ fn print_sentences<O: Write>(
 
 fn print_line_breaks<O: Write>(alloc: Global, text: &[u8], out: &mut O) -> Result<(), Failure>
     ensures printed { OnOk result
-        (Appends (O.contents out.old) (O.contents out.new) (lines_of (boundaries_of Command.LineNeo text.now))) }
+        (Appends (O.contents out.old) (O.contents out.new) (lines_of (places_of Command.LineNeo text.now))) }
     ensures unwritten { IsErrOf result Failure.NoMemory → out.new ≡ out.old }
     ensures cause { result ≢ Err Failure.Usage × result ≢ Err Failure.ReadFailed }
 {

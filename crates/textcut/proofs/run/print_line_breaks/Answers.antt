@@ -1,10 +1,11 @@
 -- The iterator has all the boundaries left when it is made.
-use Rattle.std.proofs.Common.{◌∙◌, ap, length}
+use Rattle.std.proofs.Common.{◌∙◌, ap}
+use Rattle.icu_segmenter.specs.Boundaries.{offsets}
 use Rattle.icu_segmenter.specs.Lines.{line_places}
-use Rattle.icu_segmenter.specs.MachineBoundaries.{boundaries}
-use Rattle.icu_segmenter.specs.Places.{places}
-use Rattle.icu_segmenter.specs.Utf8.{utf8_items}
-use Rattle.textcut.proofs.Printed.{lines-are_left, same-places}
+use Rattle.icu_segmenter.specs.Rules.{boundaries_of}
+use Rattle.icu_segmenter.specs.Rules.Rules.{ByMachine}
+use Rattle.icu_segmenter.specs.Utf8.{utf8}
+use Rattle.textcut.proofs.Printed.{lines-are_left}
 use Rattle.textcut.proofs.LineFaults.{no-fault, chosen-untailored}
 use Rattle.textcut.proofs.run.print_line_breaks.Goals as goal
 
@@ -14,6 +15,6 @@ unreachable-requires g c =
 
 pub returns-clause-printed : goal.returns-clause-printed
 returns-clause-printed g c =
-    let machine = c.as_borrowed.ensures ∙ c.in-Ok.ensures.accepted.0 ∙ chosen-untailored _ _ c.default-options.result c.default-options.ensures _ ∙ c.in_ok-machine.ensures in
+    let rules = c.as_borrowed.ensures ∙ c.in-Ok.ensures.accepted.0 ∙ ap ByMachine (chosen-untailored _ _ c.default-options.result c.default-options.ensures _ ∙ c.in_ok-machine.ensures) in
     lines-are_left line_places _ _ _ _ _ c.print_numbers.ensures.printed
-    (same-places _ _ c.segment_utf8.ensures.boundaries ∙ ap (λ m. places (boundaries m (utf8_items 0 c.args.text.now) (length c.args.text.now))) machine)
+    (ap offsets (c.segment_utf8.ensures.boundaries ∙ ap (λ rules. boundaries_of rules (utf8 c.args.text.now)) rules))
