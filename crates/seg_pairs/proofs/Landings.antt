@@ -5,13 +5,14 @@ use Rattle.std.proofs.lemmas.List.{drop-map, drop-drop, length-drop}
 use Rattle.seg_pairs.specs.declared.provider.pairs.BreakState.{BreakState}
 use Rattle.seg_pairs.specs.declared.provider.pairs.BreakState.TheVariants.{Break as BreakEntry, Keep, NoMatch, Intermediate, Index}
 use Rattle.seg_pairs.specs.PairTable.{PairTable, entry_of}
+use Rattle.seg_pairs.specs.BreakStates.{named_state}
 use Rattle.seg_pairs.specs.declared.elements.Element.{Element}
 use Rattle.seg_pairs.specs.Elements.{classes_of, onto}
 use Rattle.seg_pairs.specs.Walk.{Walk}
 use Rattle.seg_pairs.specs.Verdict.{Verdict, stop_verdict, end_verdict, walk_verdict, named_verdict, first_verdict, verdict, complex_verdict}
 use Rattle.seg_pairs.specs.Stop.{IsStop, class_at, walk_of}
 use Rattle.seg_pairs.specs.declared.rules.Step.{Step}
-use Rattle.seg_pairs.specs.declared.rules.Step.TheVariants.{Break, Go, Run}
+use Rattle.seg_pairs.specs.declared.rules.Step.TheVariants.{Break, End, Go, Run}
 use Rattle.seg_pairs.specs.Steps.{Lands, EndsIn, IsRest}
 use Rattle.seg_pairs.specs.declared.rules.Outcome.{Outcome}
 use Rattle.seg_pairs.specs.declared.rules.Outcome.TheVariants.{Break as BreakOut, Run as RunOut}
@@ -63,9 +64,9 @@ module _ (t : PairTable) (start : ℕ) (left right : Element) (after : List Elem
   lands-go element is keep =
       lands-by (GoAfter w.stop) (Go element) rest (verdict-next element is ∙ ap (stop_verdict w) keep) (rest-at ∙ ap (λ n. onto n rest) is)
 
-  pub lands-break : (element : Element) → next ≡ Some element → entry ≡ BreakEntry → LandsOn (Break state (Some element)) rest
+  pub lands-break : (element : Element) → next ≡ Some element → entry ≡ BreakEntry → LandsOn (Break element state) rest
   lands-break element is break =
-      lands-by (BreakAfter w.stop w.state) (Break state (Some element)) rest (verdict-next element is ∙ ap (stop_verdict w) break)
+      lands-by (BreakAfter w.stop w.state) (Break element state) rest (verdict-next element is ∙ ap (stop_verdict w) break)
       (sym stop.in_state, rest-at ∙ ap (λ n. onto n rest) is)
 
   back-stop : (e : BreakState) → (e ≡ Keep → ⊥) → (e ≡ BreakEntry → ⊥) → stop_verdict w e ≡ BreakAfter w.saved w.class
@@ -75,13 +76,13 @@ module _ (t : PairTable) (start : ℕ) (left right : Element) (after : List Elem
   back-stop (Index q) keep break = refl
   back-stop (Intermediate q) keep break = refl
 
-  pub lands-back : (element : Element) → next ≡ Some element → (entry ≡ Keep → ⊥) → (entry ≡ BreakEntry → ⊥) → LandsOn (Break class (Some saved)) saved_rest
+  pub lands-back : (element : Element) → next ≡ Some element → (entry ≡ Keep → ⊥) → (entry ≡ BreakEntry → ⊥) → LandsOn (Break saved class) saved_rest
   lands-back element is keep break =
-      lands-by (BreakAfter w.saved w.class) (Break class (Some saved)) saved_rest (verdict-next element is ∙ back-stop entry keep break) (sym stop.saved_class, saved-at)
+      lands-by (BreakAfter w.saved w.class) (Break saved class) saved_rest (verdict-next element is ∙ back-stop entry keep break) (sym stop.saved_class, saved-at)
 
-  pub lands-end-back : next ≡ None → entry ≡ NoMatch → LandsOn (Break class (Some saved)) saved_rest
+  pub lands-end-back : next ≡ None → entry ≡ NoMatch → LandsOn (Break saved class) saved_rest
   lands-end-back is no_match =
-      lands-by (BreakAfter w.saved w.class) (Break class (Some saved)) saved_rest (verdict-end is ∙ ap (end_verdict w) no_match) (sym stop.saved_class, saved-at)
+      lands-by (BreakAfter w.saved w.class) (Break saved class) saved_rest (verdict-end is ∙ ap (end_verdict w) no_match) (sym stop.saved_class, saved-at)
 
   at-end : (e : BreakState) → (e ≡ NoMatch → ⊥) → end_verdict w e ≡ BreakAfter w.stop w.state
   at-end NoMatch other = absurd (other refl)
@@ -90,10 +91,10 @@ module _ (t : PairTable) (start : ℕ) (left right : Element) (after : List Elem
   at-end (Index q) other = refl
   at-end (Intermediate q) other = refl
 
-  pub lands-end : next ≡ None → (entry ≡ NoMatch → ⊥) → LandsOn (Break state None) rest
+  pub lands-end : next ≡ None → (entry ≡ NoMatch → ⊥) → LandsOn (End state) rest
   lands-end is other =
-      lands-by (BreakAfter w.stop w.state) (Break state None) rest (verdict-end is ∙ at-end entry other)
-      (sym stop.in_state, (rest-at ∙ ap (λ n. onto n rest) is ∙ stop.at_end is, stop.at_end is))
+      lands-by (BreakAfter w.stop w.state) (End state) rest (verdict-end is ∙ at-end entry other)
+      (sym stop.in_state, rest-at ∙ ap (λ n. onto n rest) is ∙ stop.at_end is, stop.at_end is)
 
 -- the step where the first entry names a state, or says what there is
 
@@ -105,18 +106,45 @@ unfolding verdict
 lands-first t left right after entry step rest is lands =
     subst (λ e. Lands (first_verdict t left.class (classes_of (left ∷ right ∷ after)) e) (left ∷ right ∷ after) step rest) is lands
 
+-- where the entry names a state, the verdict is that of the walk from there
+pub lands-named : (t : PairTable) (left right : Element) (after : List Element) (entry : BreakState) (state : ℕ) (step : Step) (rest : List Element)
+    → entry ≡ entry_of t left.class right.class → named_state entry ≡ Some state
+    → Lands (named_verdict t state left.class (classes_of (left ∷ right ∷ after))) (left ∷ right ∷ after) step rest
+    → Lands (verdict t (classes_of (left ∷ right ∷ after))) (left ∷ right ∷ after) step rest
+lands-named t left right after entry state step rest is names lands =
+    lands-first t left right after entry step rest is
+    (subst (λ v. Lands v (left ∷ right ∷ after) step rest) (sym (by_walk entry names)) lands)
+  where
+    by_walk : (entry : BreakState) → named_state entry ≡ Some state
+        → first_verdict t left.class (classes_of (left ∷ right ∷ after)) entry ≡ named_verdict t state left.class (classes_of (left ∷ right ∷ after))
+    by_walk BreakEntry names = cc
+    by_walk Keep names = cc
+    by_walk NoMatch names = cc
+    by_walk (Index q) names = cc
+    by_walk (Intermediate q) names = cc
+
+-- where it names none, and isn't `Keep`, a boundary stands between the two
+pub lands-between : (t : PairTable) (left right : Element) (after : List Element) (entry : BreakState)
+    → entry ≡ entry_of t left.class right.class → named_state entry ≡ None → (entry ≡ Keep → ⊥)
+    → Lands (verdict t (classes_of (left ∷ right ∷ after))) (left ∷ right ∷ after) (Break right left.class) after
+lands-between t left right after BreakEntry is none other = lands-first t left right after BreakEntry _ after is (refl, refl)
+lands-between t left right after Keep is none other = absurd (other refl)
+lands-between t left right after NoMatch is none other = lands-first t left right after NoMatch _ after is (refl, refl)
+lands-between t left right after (Index q) is none other = cc
+lands-between t left right after (Intermediate q) is none other = cc
+
 -- the step from the last element
 pub lands-last : (t : PairTable) (left : Element) (after rest : List Element) → after ≡ [] → rest ≡ []
-    → Lands (verdict t (classes_of (left ∷ after))) (left ∷ after) (Break left.class None) rest
+    → Lands (verdict t (classes_of (left ∷ after))) (left ∷ after) (End left.class) rest
 unfolding verdict
-lands-last t left after rest is none = rw is (refl, (refl, none))
+lands-last t left after rest is none = rw is (refl, refl, none)
 
 -- the steps where elements may be complex
 
 pub complex-last : (t : PairTable) (left : Element) (after rest : List Element) → after ≡ [] → rest ≡ []
-    → Lands (complex_verdict t (classes_of (left ∷ after))) (left ∷ after) (Break left.class None) rest
+    → Lands (complex_verdict t (classes_of (left ∷ after))) (left ∷ after) (End left.class) rest
 unfolding complex_verdict
-complex-last t left after rest is none = rw is (refl, (refl, none))
+complex-last t left after rest is none = rw is (refl, refl, none)
 
 abbrev by-complex : PairTable → Element → Element → List Element → Bool → Bool → Verdict
 by-complex t left right more second first =
@@ -133,12 +161,12 @@ complex-pair t left right after more step rest is other lands =
 
 pub complex-break : (t : PairTable) (left right : Element) (after more : List Element)
     → after ≡ right ∷ more → right.class ≡ t.complex_property → left.class ≢ t.complex_property
-    → Lands (complex_verdict t (classes_of (left ∷ after))) (left ∷ after) (Break left.class (Some right)) more
+    → Lands (complex_verdict t (classes_of (left ∷ after))) (left ∷ after) (Break right left.class) more
 unfolding complex_verdict
 complex-break t left right after more is complex other =
     rw is
-    (subst (λ b. Lands (by-complex t left right more b (left.class == t.complex_property)) (left ∷ right ∷ more) (Break left.class (Some right)) more) (sym (eq-eqb right.class t.complex_property complex))
-    (subst (λ b. Lands (by-complex t left right more true b) (left ∷ right ∷ more) (Break left.class (Some right)) more) (sym (ne_eqb left.class t.complex_property other)) (refl, refl)))
+    (subst (λ b. Lands (by-complex t left right more b (left.class == t.complex_property)) (left ∷ right ∷ more) (Break right left.class) more) (sym (eq-eqb right.class t.complex_property complex))
+    (subst (λ b. Lands (by-complex t left right more true b) (left ∷ right ∷ more) (Break right left.class) more) (sym (ne_eqb left.class t.complex_property other)) (refl, refl)))
 
 pub complex-run : (t : PairTable) (left right : Element) (after more : List Element)
     → after ≡ right ∷ more → right.class ≡ t.complex_property → left.class ≡ t.complex_property
@@ -160,14 +188,27 @@ module _ (v : List Element → Verdict) (whole : List Element) (x : Element) (xs
       let whole_is : (on.gone, w) ≡ chain v whole = ap (λ (n : ℕ). (n, w)) (sym passed) ∙ ap (λ (u : Verdict). ((chain v whole).0, u)) (sym last) in
       subst (λ (f : ℕ × Verdict). EndsIn f whole outcome rest) whole_is ends
 
-  pub ends-break : (class : ℕ) (next : Option Element) (rest : List Element) → Lands (v (x ∷ xs)) (x ∷ xs) (Break class next) rest
-      → EndsIn (chain v whole) whole (BreakOut class next) rest
+  ends-boundary : (class : ℕ) (next : Option Element) (rest : List Element) (n with_class : ℕ) → v (x ∷ xs) ≡ BreakAfter n with_class
+      → class ≡ with_class → IsRest next rest (drop n (x ∷ xs)) → EndsIn (chain v whole) whole (BreakOut class next) rest
+  ends-boundary class next rest n with_class is same left =
+      ends-at (BreakOut class next) rest (BreakAfter n with_class) (chain-break v forward x xs n with_class is)
+      (same, subst (λ elements. IsRest next rest elements) (ap (drop n) on.here ∙ drop-drop n on.gone whole) left)
+
+  pub ends-break : (class : ℕ) (next : Element) (rest : List Element) → Lands (v (x ∷ xs)) (x ∷ xs) (Break next class) rest
+      → EndsIn (chain v whole) whole (BreakOut class (Some next)) rest
   ends-break class next rest lands = by (v (x ∷ xs)) refl lands
     where
-      by : (w : Verdict) → v (x ∷ xs) ≡ w → Lands w (x ∷ xs) (Break class next) rest → EndsIn (chain v whole) whole (BreakOut class next) rest
-      by (BreakAfter n with_class) is (same, left) =
-          ends-at (BreakOut class next) rest (BreakAfter n with_class) (chain-break v forward x xs n with_class is)
-          (same, subst (λ elements. IsRest next rest elements) (ap (drop n) on.here ∙ drop-drop n on.gone whole) left)
+      by : (w : Verdict) → v (x ∷ xs) ≡ w → Lands w (x ∷ xs) (Break next class) rest → EndsIn (chain v whole) whole (BreakOut class (Some next)) rest
+      by (BreakAfter n with_class) is (same, left) = ends-boundary class (Some next) rest n with_class is same left
+      by (GoAfter n) is lands = absurd lands
+      by RunBegins is lands = absurd lands
+
+  pub ends-end : (class : ℕ) (rest : List Element) → Lands (v (x ∷ xs)) (x ∷ xs) (End class) rest
+      → EndsIn (chain v whole) whole (BreakOut class None) rest
+  ends-end class rest lands = by (v (x ∷ xs)) refl lands
+    where
+      by : (w : Verdict) → v (x ∷ xs) ≡ w → Lands w (x ∷ xs) (End class) rest → EndsIn (chain v whole) whole (BreakOut class None) rest
+      by (BreakAfter n with_class) is (same, at_end, none) = ends-boundary class None rest n with_class is same (at_end, none)
       by (GoAfter n) is lands = absurd lands
       by RunBegins is lands = absurd lands
 

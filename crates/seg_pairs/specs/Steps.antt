@@ -2,7 +2,7 @@
 use Rattle.std.specs.Prelude.{◌≡◌, ℕ, ◌+◌, ◌<◌, Option, Some, None, List, [], ◌∷◌, drop, IfSome}
 use Rattle.seg_pairs.specs.declared.elements.Element.{Element}
 use Rattle.seg_pairs.specs.declared.rules.Step.{Step}
-use Rattle.seg_pairs.specs.declared.rules.Step.TheVariants.{Break, Go, Run}
+use Rattle.seg_pairs.specs.declared.rules.Step.TheVariants.{Break, End, Go, Run}
 use Rattle.seg_pairs.specs.declared.rules.Outcome.{Outcome}
 use Rattle.seg_pairs.specs.declared.rules.Outcome.TheVariants.{Break as BreakOut, Run as RunOut}
 use Rattle.seg_pairs.specs.Verdict.{Verdict}
@@ -15,7 +15,8 @@ IsRest (Some next) left elements = elements ≡ next ∷ left
 
 -- the step is what the verdict says, and leaves the elements after those that it takes
 abbrev pub Lands : Verdict → List Element → Step → List Element → Type 0
-Lands (BreakAfter taken with_class) elements (Break class next) left = (class ≡ with_class) × IsRest next left (drop taken elements)
+Lands (BreakAfter taken with_class) elements (Break next class) left = (class ≡ with_class) × (drop taken elements ≡ next ∷ left)
+Lands (BreakAfter taken with_class) elements (End class) left = (class ≡ with_class) × (drop taken elements ≡ []) × (left ≡ [])
 Lands (GoAfter taken) elements (Go next) left = drop taken elements ≡ next ∷ left
 Lands RunBegins elements (Run second) left = drop 1 elements ≡ second ∷ left
 Lands verdict elements step left = ⊥
@@ -28,7 +29,8 @@ EndsIn found elements outcome left = ⊥
 
 -- the class of the element that was read already is below this number
 abbrev pub IsStepBelow : ℕ → Step → Type 0
-IsStepBelow count (Break class next) = IfSome next (λ next. next.class < count)
+IsStepBelow count (Break next class) = next.class < count
+IsStepBelow count (End class) = Unit {0}
 IsStepBelow count (Go next) = next.class < count
 IsStepBelow count (Run second) = second.class < count
 

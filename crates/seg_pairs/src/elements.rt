@@ -10,10 +10,10 @@ use seg_text::cursor::Cursor;
 /// An element of a text: an item, or a base with the marks after it.
 #[derive(Clone, Copy, Debug)]
 pub struct Element {
-    /// Where it begins: bytes in str, UTF-8 and Latin-1, 16-bit units in UTF-16.
-    pub place: usize,
     /// Its class.
     pub class: u8,
+    /// Where it begins: bytes in str, UTF-8 and Latin-1, 16-bit units in UTF-16.
+    pub place: usize,
 }
 
 /// A cursor over the elements of a text, each read once.

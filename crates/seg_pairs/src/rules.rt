@@ -1,6 +1,6 @@
 //! What comes after an element of a text: a boundary, none, or a run of complex elements.
 
-ghost use Rattle.std.specs.Prelude.{◌≡◌, ◌<◌, ℕ, Some, List, ◌∷◌};
+ghost use Rattle.std.specs.Prelude.{◌≡◌, ◌<◌, ℕ, List, ◌∷◌};
 ghost use Rattle.seg_pairs.specs.PairTable.{PairTable};
 ghost use Rattle.seg_pairs.specs.Elements.{classes_of};
 ghost use Rattle.seg_pairs.specs.Steps.{Lands, EndsIn, IsStepBelow, IsOutcomeBelow};
@@ -14,8 +14,10 @@ use crate::walk::{Stop, walk};
 /// What a verdict on an element leads to.
 #[derive(Clone, Copy, Debug)]
 pub enum Step {
-    /// A boundary, with this class, before this element or at the end of the text.
-    Break(u8, Option<Element>),
+    /// A boundary before this element, with this class.
+    Break(Element, u8),
+    /// A boundary at the end of the text, with this class.
+    End(u8),
     /// No boundary before this element, of which the next verdict is asked.
     Go(Element),
     /// A run of complex elements begins with the element that was asked of. This is its second.
@@ -73,7 +75,7 @@ impl<'data> Rules for Pairs<'data> {
     fn step<E: Elements>(&self, left: Element, rest: &mut E) -> Step {
         match rest.next_element() {
             Some(right) => pair_step(self.table, left, right, rest),
-            None => Step::Break(left.class, None),
+            None => Step::End(left.class),
         }
     }
 
@@ -96,13 +98,13 @@ impl<'data> Rules for ComplexPairs<'data> {
     fn step<E: Elements>(&self, left: Element, rest: &mut E) -> Step {
         let complex = self.table.complex_property();
         let Some(right) = rest.next_element() else {
-            return Step::Break(left.class, None);
+            return Step::End(left.class);
         };
         if right.class != complex {
             return pair_step(self.table, left, right, rest);
         }
         if left.class != complex {
-            return Step::Break(left.class, Some(right));
+            return Step::Break(right, left.class);
         }
         Step::Run(right)
     }
@@ -126,7 +128,8 @@ pub fn next_break<E: Elements, R: Rules>(rules: &R, left: Element, rest: &mut E)
     loop {
         match rules.step(left, rest) {
             Step::Go(next) => left = next,
-            Step::Break(class, next) => return Outcome::Break(class, next),
+            Step::Break(next, class) => return Outcome::Break(class, Some(next)),
+            Step::End(class) => return Outcome::Break(class, None),
             Step::Run(second) => return Outcome::Run(left, second),
         }
     }
@@ -154,12 +157,9 @@ pub fn pair_step<E: Elements>(
     if let BreakState::Keep = entry {
         return Step::Go(right);
     }
-    match entry {
-        BreakState::Keep => Step::Go(right),
-        BreakState::Break => Step::Break(left.class, Some(right)),
-        BreakState::NoMatch => Step::Break(left.class, Some(right)),
-        BreakState::Index(state) => walk_step(table, state, left, right, rest),
-        BreakState::Intermediate(state) => walk_step(table, state, left, right, rest),
+    match entry.named() {
+        Some(state) => walk_step(table, state, left, right, rest),
+        None => Step::Break(right, left.class),
     }
 }
 
@@ -194,12 +194,12 @@ fn walk_step<E: Elements>(
     match next {
         Some(next) => match entry {
             BreakState::Keep => Step::Go(next),
-            BreakState::Break => Step::Break(state, Some(next)),
+            BreakState::Break => Step::Break(next, state),
             _ => go_back(rest, saved_rest, saved, saved_class),
         },
         None => match entry {
             BreakState::NoMatch => go_back(rest, saved_rest, saved, saved_class),
-            _ => Step::Break(state, None),
+            _ => Step::End(state),
         },
     }
 }
@@ -208,8 +208,8 @@ fn walk_step<E: Elements>(
 #[inline(always)]
 fn go_back<E: Elements>(rest: &mut E, saved_rest: E, saved: Element, class: u8) -> Step
     ensures rest { rest.new ≡ saved_rest }
-    ensures step { result ≡ Step.Break class (Some saved) }
+    ensures step { result ≡ Step.Break saved class }
 {
     *rest = saved_rest;
-    Step::Break(class, Some(saved))
+    Step::Break(saved, class)
 }

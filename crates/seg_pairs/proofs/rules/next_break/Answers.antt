@@ -1,6 +1,6 @@
 use Rattle.std.proofs.Common.{◌∙◌}
 use Rattle.seg_pairs.proofs.Chains.{on_chain-go}
-use Rattle.seg_pairs.proofs.Landings.{goes-from, ends-break, ends-run}
+use Rattle.seg_pairs.proofs.Landings.{goes-from, ends-break, ends-end, ends-run}
 use Rattle.seg_pairs.proofs.rules.next_break.Goals as goal
 
 pub loop-next-smaller : goal.loop-next-smaller
@@ -22,6 +22,14 @@ returns-in-Break g c = record {
   class = c.in-Break.ensures.class;
   end = c.in-Break.ensures.end ∙ c.loop-next.invariant.end;
   table = c.in-Break.ensures.table ∙ c.loop-next.invariant.table;
+}
+
+pub returns-in-End : goal.returns-in-End
+returns-in-End g c = record {
+  ends = ends-end (g.R.Rules.verdict c.args.rules.now) _ _ _ c.check.ensures c.loop-next.invariant.on _ _ c.in-End.ensures.lands;
+  class = tt;
+  end = c.in-End.ensures.end ∙ c.loop-next.invariant.end;
+  table = c.in-End.ensures.table ∙ c.loop-next.invariant.table;
 }
 
 pub returns-in-Run : goal.returns-in-Run
