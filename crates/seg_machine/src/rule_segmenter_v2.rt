@@ -95,6 +95,7 @@ impl<'data, I: Cursor> Iterator for RuleBreakIterator<'data, I> {
 }
 
 /// Goes on to the end of the next segment, and gives its status.
+#[inline(never)]
 fn next_segment<I: Cursor>(machine: &TailoredMachineBorrowed<'_>, rest: &mut I) -> u8
     requires { (I.text rest.old).items ≢ [] }
     ensures { (p : AnyBoundary) × (pick (machine_of machine.now) (symbols_of (machine_of machine.now) (code_points (I.text rest.old).items)) ≡ Some p)
