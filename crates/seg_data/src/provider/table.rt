@@ -2,28 +2,22 @@
 ghost use Rattle.std.specs.Prelude.{◌≡◌, ℕ, ◌+◌, ◌*◌, ◌==◌, ◌<◌, ◌≤◌, ◌↔◌, IsTrue, IfOk, IfErr, OnOk, Any, Contains, length};
 ghost use Rattle.seg_data.specs.Faults.{HasOverlap, HasRangeFault, IsFaultless, IsLowestFault};
 ghost use Rattle.seg_data.specs.Same.{same_table, same_table-laws};
-ghost use Rattle.seg_data.specs.Pages.{ArePages, AreBlocks, IsFilled, IsPageAt, IsPlain, IsRun, IsFirstReaching, HasGrown};
 ghost use Rattle.seg_data.specs.Table.{named_values, table, value_of};
 
+mod pages;
+mod runs;
+
 use crate::provider::DataError;
-use std::alloc::{AllocError, Global};
+use pages::Pages;
+use runs::run_from;
 use std::marker::Model;
-
-// How many code points a page has.
-const PAGE_LEN: u32 = 128;
-
-// How many pages the code points make.
-const PAGE_COUNT: u16 = 0x2200;
 
 /// A table that gives each code point a value: that of the range that holds it, or a default.
 #[derive(Debug, Drop)]
 pub struct ClassTable {
     ranges: Vec<(u32, u32, u8)>,
     default: u8,
-    // For each page, from U+0000 on, the number of the block of values that it has: as many pages as
-    // memory had room for.
-    pages: Vec<u16>,
-    values: Vec<u8>,
+    pages: Pages,
 }
 
 impl Model for ClassTable {
@@ -39,24 +33,28 @@ impl Model for ClassTable {
     ghost use Rattle.seg_data.specs.Table.{table};
 
     ghost invariant = { λ t. IsFaultless (HasRangeFault t.ranges.items)
-        × ArePages (table t.ranges.items t.default) t.pages.items t.values.items };
+        × ArePages (table t.ranges.items t.default) t.pages.numbers.items t.pages.values.items };
 }
 
 impl ClassTable {
     /// The table of these ranges, each (first, last, value) with both ends in it, and of this
     /// default. `RangeOrder` where a first is above its last or isn't above the last of the range
     /// before, and otherwise `RangePast10FFFF` where a last is above U+10FFFF.
+    ///
+    /// Takes memory from the allocator of `ranges`, so that a look-up takes two reads: some 17 KB for
+    /// the 8,704 pages of 128 code points, and 128 bytes for each block of values, which pages of one
+    /// value share. Refuses nothing for want of memory: where it is missing, look-ups are by halving
+    /// the ranges.
     pub fn try_from_ranges(ranges: Vec<(u32, u32, u8)>, default: u8) -> Result<Self, DataError>
         ensures accepted { IfOk result (λ t. (t ≡ table ranges.items default) × IsFaultless (HasRangeFault ranges.items)) }
         ensures refused { IfErr result (IsLowestFault (HasRangeFault ranges.items)) }
     {
         check_ranges(ranges.as_slice())?;
-        let (pages, values) = pages_of(*ranges.allocator(), ranges.as_slice(), default);
+        let pages = Pages::new(*ranges.allocator(), ranges.as_slice(), default);
         Ok(ClassTable {
             ranges,
             default,
             pages,
-            values,
         })
     }
 
@@ -66,15 +64,13 @@ impl ClassTable {
     pub fn get32(&self, code_point: u32) -> u8
         ensures { result ≡ value_of self.now code_point }
     {
-        let page = (code_point / PAGE_LEN) as usize;
-        if page < self.pages.len() {
-            let block = self.pages[page] as usize;
-            return self.values[block * PAGE_LEN as usize + (code_point % PAGE_LEN) as usize];
+        match self.pages.get(code_point) {
+            Some(value) => value,
+            None => self.search(code_point),
         }
-        self.search(code_point)
     }
 
-    // The value of a code point, by the ranges alone.
+    // The value of a code point, by halving the ranges.
     #[inline(never)]
     fn search(&self, code_point: u32) -> u8
         ensures { result ≡ value_of self.now code_point }
@@ -82,7 +78,7 @@ impl ClassTable {
         run_from(self.ranges.as_slice(), self.default, code_point).0
     }
 
-    /// The ranges, from the lowest on: each is (first, last, value), with both ends in it.
+    /// The ranges, each (first, last, value) with both ends in it, from the lowest code points on.
     pub fn ranges(&self) -> &[(u32, u32, u8)]
         ensures { result.now ≡ self.now.ranges }
     {
@@ -123,119 +119,6 @@ impl PartialEq for ClassTable {
     {
         self.ranges == other.ranges && self.default == other.default
     }
-}
-
-// The place of the first range that doesn't end before a code point, or how many ranges there are.
-fn first_reaching(ranges: &[(u32, u32, u8)], code_point: u32) -> usize
-    requires { IsFaultless (HasRangeFault ranges.now) }
-    ensures { IsFirstReaching ranges.now code_point result }
-{
-    let mut low = 0;
-    let mut high = ranges.len();
-    while low < high {
-        let middle = low + (high - low) / 2;
-        if ranges[middle].1 < code_point {
-            low = middle + 1;
-        } else {
-            high = middle;
-        }
-    }
-    low
-}
-
-// The value of a code point, and a code point from there on up to which all have that value.
-fn run_from(ranges: &[(u32, u32, u8)], default: u8, code_point: u32) -> (u8, u32)
-    requires { IsFaultless (HasRangeFault ranges.now) }
-    ensures run { IsRun (table ranges.now default) code_point result.0 result.1 }
-    ensures reaches { code_point ≤ result.1 }
-{
-    let place = first_reaching(ranges, code_point);
-    if place < ranges.len() {
-        let (first, last, value) = ranges[place];
-        if first <= code_point {
-            (value, last)
-        } else {
-            (default, first - 1)
-        }
-    } else {
-        (default, u32::MAX)
-    }
-}
-
-// The pages of the table of these ranges and this default, and their blocks of values: as many pages
-// as memory has room for.
-fn pages_of(alloc: Global, ranges: &[(u32, u32, u8)], default: u8) -> (Vec<u16>, Vec<u8>)
-    requires { IsFaultless (HasRangeFault ranges.now) }
-    ensures { ArePages (table ranges.now default) result.0.items result.1.items }
-{
-    let mut pages = Vec::new(alloc);
-    let mut values = Vec::new(alloc);
-    let mut plain = None;
-    for page in 0..PAGE_COUNT {
-        let Ok(block) = block_of(ranges, default, page, &mut values, &mut plain) else {
-            return (pages, values);
-        };
-        if pages.push(block).is_err() {
-            return (pages, values);
-        }
-    }
-    (pages, values)
-}
-
-// The block of a page: that of the last page that had one value alone, where this one has that
-// value alone too, or else a new one.
-fn block_of(
-    ranges: &[(u32, u32, u8)],
-    default: u8,
-    page: u16,
-    values: &mut Vec<u8>,
-    plain: &mut Option<(u8, u16)>,
-) -> Result<u16, AllocError>
-    requires sorted { IsFaultless (HasRangeFault ranges.now) }
-    requires page { page < 0x2200 }
-    requires blocks { AreBlocks page values.old.items }
-    requires plain { IsPlain values.old.items plain.old }
-    ensures stands { IfOk result (IsPageAt (table ranges.now default) values.new.items page) }
-    ensures blocks { OnOk result (AreBlocks (page + 1) values.new.items) }
-    ensures plain { OnOk result (IsPlain values.new.items plain.new) }
-    ensures grows { HasGrown values.old.items values.new.items }
-{
-    let start = page as u32 * PAGE_LEN;
-    let (value, last) = run_from(ranges, default, start);
-    let whole = PAGE_LEN - 1 <= last - start;
-    if let Some((plain_value, block)) = *plain {
-        if whole && plain_value == value {
-            return Ok(block);
-        }
-    }
-    let block = (values.len() / PAGE_LEN as usize) as u16;
-    fill(ranges, default, start, values)?;
-    if whole {
-        *plain = Some((value, block));
-    }
-    Ok(block)
-}
-
-// Adds the values of a page.
-fn fill(
-    ranges: &[(u32, u32, u8)],
-    default: u8,
-    start: u32,
-    values: &mut Vec<u8>,
-) -> Result<(), AllocError>
-    requires sorted { IsFaultless (HasRangeFault ranges.now) }
-    requires start { start < 0x110000 }
-    ensures filled { OnOk result (IsFilled (table ranges.now default) start values.old.items values.new.items 128) }
-    ensures grows { HasGrown values.old.items values.new.items }
-{
-    let (mut value, mut last) = run_from(ranges, default, start);
-    for offset in 0..PAGE_LEN {
-        if last < start + offset {
-            (value, last) = run_from(ranges, default, start + offset);
-        }
-        values.push(value)?;
-    }
-    Ok(())
 }
 
 // Whether the ranges are in order, and end by U+10FFFF.

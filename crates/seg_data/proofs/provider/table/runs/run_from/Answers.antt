@@ -1,6 +1,6 @@
 use Rattle.std.proofs.Common.{arith}
 use Rattle.seg_data.proofs.Runs.{run-in, run-before}
-use Rattle.seg_data.proofs.provider.table.run_from.Goals as goal
+use Rattle.seg_data.proofs.provider.table.runs.run_from.Goals as goal
 
 pub returns-then-first-code_point-clause-run : goal.returns-then-first-code_point-clause-run
 returns-then-first-code_point-clause-run c = run-in _ _ _ _ c.first_reaching-place.ensures c.if-place-ranges.true c.if-first-code_point.true

@@ -1,6 +1,6 @@
 use Rattle.std.proofs.Common.{◌+◌, ◌-◌, ◌/◌, arith}
 use Rattle.seg_data.proofs.Runs.{all-before}
-use Rattle.seg_data.proofs.provider.table.first_reaching.Goals as goal
+use Rattle.seg_data.proofs.provider.table.runs.first_reaching.Goals as goal
 
 pub loop-low-preserved-then-ranges-middle : goal.loop-low-preserved-then-ranges-middle
 loop-low-preserved-then-ranges-middle c = record {
