@@ -10,10 +10,11 @@ mod runs;
 use crate::provider::DataError;
 use pages::Pages;
 use runs::run_from;
+use std::fmt::{self, Debug, Formatter};
 use std::marker::Model;
 
 /// A table that gives each code point a value: that of the range that holds it, or a default.
-#[derive(Debug, Drop)]
+#[derive(Drop)]
 pub struct ClassTable {
     ranges: Vec<(u32, u32, u8)>,
     default: u8,
@@ -104,6 +105,16 @@ impl ClassTable {
         ensures { IsTrue result ↔ Any (λ named. value ≤ named) (named_values self.now) }
     {
         value <= self.default() || has_value_from(self.ranges(), value)
+    }
+}
+
+impl Debug for ClassTable {
+    // The ranges and the default: the pages only say the same again.
+    fn fmt<W: fmt::Write>(&self, f: &mut Formatter<W>) -> fmt::Result {
+        f.debug_struct("ClassTable")
+            .field("ranges", &self.ranges)
+            .field("default", &self.default)
+            .finish()
     }
 }
 

@@ -18,7 +18,7 @@ const PAGE_COUNT: u16 = 0x2200;
 
 /// The values of a table's code points, in pages from U+0000 on: all, or as many as memory had room
 /// for. The values of a page are a block, which pages of one value share.
-#[derive(Debug, Drop)]
+#[derive(Drop)]
 pub(super) struct Pages {
     // The number of each page's block.
     numbers: Vec<u16>,
