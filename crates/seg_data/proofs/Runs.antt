@@ -1,5 +1,5 @@
 -- The first range that reaches a code point, and the value of a code point by it.
-use Rattle.std.proofs.Common.{◌≡◌, ℕ, zero, suc, ◌+◌, ◌-◌, ◌<◌, ◌≤◌, cond, leb, List, length, get_or, drop, refl, sym, ap, ◌∙◌, inl, inr, arith}
+use Rattle.std.proofs.Common.{◌≡◌, ℕ, zero, suc, ◌+◌, ◌-◌, ◌<◌, ◌≤◌, cond, leb, List, length, get_or, drop, refl, ap, ◌∙◌, inl, inr, arith}
 use Rattle.std.specs.Prelude.{None, Some, find}
 use Rattle.std.proofs.lemmas.Bool.{cases_lt, lt-leb, and_left, and_right}
 use Rattle.std.proofs.lemmas.List.{drop_more, drop_all}

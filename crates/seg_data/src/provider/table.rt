@@ -18,6 +18,7 @@ use std::marker::Model;
 pub struct ClassTable {
     ranges: Vec<(u32, u32, u8)>,
     default: u8,
+    // The same values by pages: no part of the Model's value, nor of what `==` compares.
     pages: Pages,
 }
 
@@ -44,14 +45,16 @@ impl ClassTable {
     ///
     /// Takes memory from the allocator of `ranges`, so that a look-up takes two reads: some 17 KB for
     /// the 8,704 pages of 128 code points, and 128 bytes for each block of values, which pages of one
-    /// value share. Refuses nothing for want of memory: where it is missing, look-ups are by halving
-    /// the ranges.
+    /// value share (1.1 MB if none does). Refuses nothing for want of memory: where it is missing,
+    /// look-ups are by halving the ranges.
     pub fn try_from_ranges(ranges: Vec<(u32, u32, u8)>, default: u8) -> Result<Self, DataError>
         ensures accepted { IfOk result (λ t. (t ≡ table ranges.items default) × IsFaultless (HasRangeFault ranges.items)) }
         ensures refused { IfErr result (IsLowestFault (HasRangeFault ranges.items)) }
     {
         check_ranges(ranges.as_slice())?;
-        let pages = Pages::new(*ranges.allocator(), ranges.as_slice(), default);
+        let mut pages = Pages::new(*ranges.allocator());
+        // Where memory is missing, there are fewer pages.
+        let _ = pages.add_all(ranges.as_slice(), default);
         Ok(ClassTable {
             ranges,
             default,

@@ -1,5 +1,5 @@
 //! The values of a table's code points, page by page, so that a look-up takes two reads.
-ghost use Rattle.std.specs.Prelude.{◌≡◌, ◌+◌, ◌<◌, IfOk, IfSome, OnOk, length};
+ghost use Rattle.std.specs.Prelude.{◌≡◌, ◌+◌, ◌/◌, ◌<◌, IfOk, IfSome, IsSome, OnOk, length};
 ghost use Rattle.seg_data.specs.Faults.{HasRangeFault, IsFaultless};
 ghost use Rattle.seg_data.specs.Pages.{AreBlocks, ArePages, HasGrown, IsFilled, IsPageAt, IsPlain};
 ghost use Rattle.seg_data.specs.Table.{Table, table, value_of};
@@ -27,28 +27,24 @@ pub(super) struct Pages {
 }
 
 impl Pages {
-    /// The pages of the table of these ranges and this default.
-    pub(super) fn new(alloc: Global, ranges: &[(u32, u32, u8)], default: u8) -> Self
-        requires { IsFaultless (HasRangeFault ranges.now) }
-        ensures { ArePages (table ranges.now default) result.numbers.items result.values.items }
+    /// No pages.
+    pub(super) fn new(alloc: Global) -> Self
+        ensures numbers { length result.numbers.items ≡ 0 }
+        ensures values { length result.values.items ≡ 0 }
     {
-        let mut pages = Pages {
+        Pages {
             numbers: Vec::new(alloc),
             values: Vec::new(alloc),
-        };
-        // Where memory is missing, the pages end early.
-        let _ = pages.add_all(ranges, default);
-        pages.numbers.shrink_to_fit();
-        pages.values.shrink_to_fit();
-        pages
+        }
     }
 
     /// The value of a code point, if its page is there.
     #[inline(always)]
     pub(super) fn get(&self, code_point: u32) -> Option<u8>
         requires { (t : Table) × ArePages t self.now.numbers.items self.now.values.items }
-        ensures { (t : Table) → ArePages t self.now.numbers.items self.now.values.items
+        ensures value { (t : Table) → ArePages t self.now.numbers.items self.now.values.items
             → IfSome result (λ value. value ≡ value_of t code_point) }
+        ensures there { code_point / 128 < length self.now.numbers.items → IsSome result }
     {
         let page = (code_point / PAGE_LEN) as usize;
         if page < self.numbers.len() {
@@ -59,8 +55,27 @@ impl Pages {
         }
     }
 
-    // Adds all pages, or as many as memory has room for.
-    fn add_all(&mut self, ranges: &[(u32, u32, u8)], default: u8) -> Result<(), AllocError>
+    /// Adds the pages of the table of these ranges and this default: all, or, where memory is
+    /// missing, as many as it had room for.
+    pub(super) fn add_all(
+        &mut self,
+        ranges: &[(u32, u32, u8)],
+        default: u8,
+    ) -> Result<(), AllocError>
+        requires sorted { IsFaultless (HasRangeFault ranges.now) }
+        requires no_pages { length self.old.numbers.items ≡ 0 }
+        requires no_values { length self.old.values.items ≡ 0 }
+        ensures stand { ArePages (table ranges.now default) self.new.numbers.items self.new.values.items }
+        ensures all { OnOk result (length self.new.numbers.items ≡ 0x2200) }
+    {
+        let added = self.add_pages(ranges, default);
+        self.numbers.shrink_to_fit();
+        self.values.shrink_to_fit();
+        added
+    }
+
+    // Adds all pages, in memory that may be more than they need.
+    fn add_pages(&mut self, ranges: &[(u32, u32, u8)], default: u8) -> Result<(), AllocError>
         requires sorted { IsFaultless (HasRangeFault ranges.now) }
         requires no_pages { length self.old.numbers.items ≡ 0 }
         requires no_values { length self.old.values.items ≡ 0 }

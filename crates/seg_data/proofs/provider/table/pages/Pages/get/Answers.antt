@@ -1,5 +1,5 @@
 use Rattle.std.proofs.Common.{◌/◌, ◌<◌, length, arith}
-use Rattle.seg_data.proofs.Paged.{paged-within, paged-value}
+use Rattle.seg_data.proofs.Paged.{paged-within}
 use Rattle.seg_data.proofs.provider.table.pages.Pages.get.Goals as goal
 
 pub index-requires-then-page-len : goal.index-requires-then-page-len
