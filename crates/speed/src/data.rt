@@ -1,0 +1,97 @@
+// The data of each engine, small and real.
+
+use crate::engine::Engine;
+use crate::segmenter::Segmenter;
+use anyhow::Result;
+use bench::clusters::cluster_machine;
+use bench::lines::{line_machine, line_tailorings};
+use bench::pair_tables::{cluster_table, sentence_table};
+use bench::sentences::sentence_machine;
+use icu_segmenter::options::{LineBreakOptions, SentenceBreakOptions};
+use icu_segmenter::provider::{ClassTable, RuleBreakData, SegmenterStateMachine};
+use icu_segmenter::{GraphemeClusterSegmenter, LineSegmenter, SentenceSegmenter};
+use std::alloc::Global;
+
+/// The engine with its small data, or with this class table in place of theirs. The errors are want of
+/// memory, and that the table doesn't fit the data.
+pub fn segmenter_of(
+    alloc: Global,
+    engine: Engine,
+    classes: Option<ClassTable>,
+) -> Result<Segmenter> {
+    match engine {
+        Engine::GraphemeClassic => clusters_by_table(table_with(alloc, cluster_table(alloc)?, classes)?),
+        Engine::GraphemeNeo => clusters_by_machine(machine_with(alloc, cluster_machine(alloc)?, classes)?),
+        Engine::SentenceClassic => sentences_by_table(table_with(alloc, sentence_table(alloc)?, classes)?),
+        Engine::SentenceNeo => sentences_by_machine(machine_with(alloc, sentence_machine(alloc)?, classes)?),
+        Engine::LineNeo => lines_by_machine(alloc, machine_with(alloc, line_machine(alloc)?, classes)?),
+    }
+}
+
+// The table, with these classes if there are any.
+fn table_with(
+    alloc: Global,
+    table: RuleBreakData,
+    classes: Option<ClassTable>,
+) -> Result<RuleBreakData> {
+    let Some(classes) = classes else {
+        return Ok(table);
+    };
+    Ok(RuleBreakData::try_from_parts(
+        classes,
+        Vec::from_slice(alloc, table.break_state_table())?,
+        Vec::from_slice(alloc, table.rule_status_table())?,
+        table.property_count(),
+        table.last_codepoint_property(),
+        table.sot_property(),
+        table.eot_property(),
+        table.complex_property(),
+    )?)
+}
+
+// The machine, with these symbols if there are any.
+fn machine_with(
+    alloc: Global,
+    machine: SegmenterStateMachine,
+    symbols: Option<ClassTable>,
+) -> Result<SegmenterStateMachine> {
+    let Some(symbols) = symbols else {
+        return Ok(machine);
+    };
+    Ok(SegmenterStateMachine::try_from_parts(
+        symbols,
+        Vec::from_slice(alloc, machine.states())?,
+        Vec::from_slice(alloc, machine.transitions())?,
+        machine.num_lookaheads(),
+        machine.pseudo_symbol_shift(),
+        Vec::from_slice(alloc, machine.pseudo_symbol_map())?,
+    )?)
+}
+
+fn clusters_by_table(table: RuleBreakData) -> Result<Segmenter> {
+    Ok(Segmenter::Clusters(GraphemeClusterSegmenter::try_new(table)?))
+}
+
+fn clusters_by_machine(machine: SegmenterStateMachine) -> Result<Segmenter> {
+    Ok(Segmenter::Clusters(GraphemeClusterSegmenter::try_new_neo(machine)?))
+}
+
+fn sentences_by_table(table: RuleBreakData) -> Result<Segmenter> {
+    let options = SentenceBreakOptions::default();
+    Ok(Segmenter::Sentences(SentenceSegmenter::try_new(table, None, options)?))
+}
+
+fn sentences_by_machine(machine: SegmenterStateMachine) -> Result<Segmenter> {
+    let options = SentenceBreakOptions::default();
+    Ok(Segmenter::Sentences(SentenceSegmenter::try_new_neo(machine, None, options)?))
+}
+
+fn lines_by_machine(alloc: Global, machine: SegmenterStateMachine) -> Result<Segmenter> {
+    let segmenter = LineSegmenter::try_new_neo_for_non_complex_scripts(
+        machine,
+        line_tailorings(alloc)?,
+        cluster_machine(alloc)?,
+        LineBreakOptions::default(),
+    )?;
+    Ok(Segmenter::Lines(segmenter))
+}

@@ -1,0 +1,131 @@
+// A property of Unicode as the ranges of a class table.
+
+use crate::engine::Engine;
+use std::alloc::{AllocError, Global};
+use ucd_breaks::{GraphemeClusterBreak, LineBreak, SentenceBreak};
+
+/// A property of Unicode, and the class that each of its values has in a table.
+#[derive(Drop)]
+pub struct Classes {
+    /// The property, as runs of code points, which `ucd_table` reads.
+    pub runs: &'static [u32],
+    /// The number of the value of most code points, which no range has.
+    pub plain: u32,
+    /// The class of that value, and of those that aren't listed.
+    pub default: u8,
+    /// The numbers of values, and their classes.
+    pub listed: &'static [(u32, u8)],
+}
+
+const CLUSTERS: [(u32, u8); 5] = [
+    (GraphemeClusterBreak::Cr as u32, 1),
+    (GraphemeClusterBreak::Lf as u32, 2),
+    (GraphemeClusterBreak::Extend as u32, 3),
+    (GraphemeClusterBreak::SpacingMark as u32, 3),
+    (GraphemeClusterBreak::Zwj as u32, 3),
+];
+
+const CLUSTER_SYMBOLS: [(u32, u8); 5] = [
+    (GraphemeClusterBreak::Cr as u32, 2),
+    (GraphemeClusterBreak::Lf as u32, 3),
+    (GraphemeClusterBreak::Extend as u32, 4),
+    (GraphemeClusterBreak::SpacingMark as u32, 4),
+    (GraphemeClusterBreak::Zwj as u32, 4),
+];
+
+const SENTENCES: [(u32, u8); 6] = [
+    (SentenceBreak::STerm as u32, 1),
+    (SentenceBreak::ATerm as u32, 1),
+    (SentenceBreak::Sp as u32, 2),
+    (SentenceBreak::Cr as u32, 3),
+    (SentenceBreak::Lf as u32, 3),
+    (SentenceBreak::Sep as u32, 3),
+];
+
+const SENTENCE_SYMBOLS: [(u32, u8); 6] = [
+    (SentenceBreak::STerm as u32, 2),
+    (SentenceBreak::ATerm as u32, 2),
+    (SentenceBreak::Sp as u32, 3),
+    (SentenceBreak::Cr as u32, 4),
+    (SentenceBreak::Lf as u32, 4),
+    (SentenceBreak::Sep as u32, 4),
+];
+
+/// Spaces, mandatory breaks, ideographs and what breaks as they do; of the pseudo symbols that of Thai, for all complex scripts, and that of letters.
+const LINE_SYMBOLS: [(u32, u8); 12] = [
+    (LineBreak::Space as u32, 2),
+    (LineBreak::MandatoryBreak as u32, 3),
+    (LineBreak::CarriageReturn as u32, 3),
+    (LineBreak::LineFeed as u32, 3),
+    (LineBreak::NextLine as u32, 3),
+    (LineBreak::Ideographic as u32, 4),
+    (LineBreak::H2 as u32, 4),
+    (LineBreak::H3 as u32, 4),
+    (LineBreak::EBase as u32, 4),
+    (LineBreak::EModifier as u32, 4),
+    (LineBreak::ComplexContext as u32, 5),
+    (LineBreak::Alphabetic as u32, 7),
+];
+
+/// The classes that come closest to those of the engine's small data.
+pub fn classes_of(engine: Engine) -> Classes {
+    match engine {
+        Engine::GraphemeClassic => clusters(0, &CLUSTERS),
+        Engine::GraphemeNeo => clusters(1, &CLUSTER_SYMBOLS),
+        Engine::SentenceClassic => sentences(0, &SENTENCES),
+        Engine::SentenceNeo => sentences(1, &SENTENCE_SYMBOLS),
+        Engine::LineNeo => lines(1, &LINE_SYMBOLS),
+    }
+}
+
+fn clusters(default: u8, listed: &'static [(u32, u8)]) -> Classes {
+    Classes {
+        runs: GraphemeClusterBreak::runs(),
+        plain: GraphemeClusterBreak::Other as u32,
+        default,
+        listed,
+    }
+}
+
+fn sentences(default: u8, listed: &'static [(u32, u8)]) -> Classes {
+    Classes {
+        runs: SentenceBreak::runs(),
+        plain: SentenceBreak::Other as u32,
+        default,
+        listed,
+    }
+}
+
+fn lines(default: u8, listed: &'static [(u32, u8)]) -> Classes {
+    Classes {
+        runs: LineBreak::runs(),
+        plain: LineBreak::Unknown as u32,
+        default,
+        listed,
+    }
+}
+
+// The class of a value.
+fn class_of(classes: &Classes, value: u32) -> u8 {
+    for (listed, class) in classes.listed {
+        if *listed == value && value != classes.plain {
+            return *class;
+        }
+    }
+    classes.default
+}
+
+/// The runs with another value than the plain one, each as a range (first, last, class). Neighbours
+/// of one class are not joined. The only error is want of memory.
+pub fn ranges_of(alloc: Global, classes: &Classes) -> Result<Vec<(u32, u32, u8)>, AllocError> {
+    let mut ranges = Vec::new(alloc);
+    let mut start = 0;
+    for run in classes.runs {
+        let (end, value) = (run / 2048, run % 2048);
+        if value != classes.plain {
+            ranges.push((start, end.saturating_sub(1), class_of(classes, value)))?;
+        }
+        start = end;
+    }
+    Ok(ranges)
+}

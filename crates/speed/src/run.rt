@@ -1,0 +1,89 @@
+// The program, over any runtime and writers.
+ghost use Rattle.std.specs.Prelude.{◌<◌, length};
+
+use crate::engine::{ENGINES, is_chosen, is_engine};
+use crate::trial::{PASSES, Trial};
+use anyhow::{Context, Result, ensure};
+use std::alloc::{AllocError, Global};
+use std::fs;
+use std::io;
+use std::io::Write;
+use std::rt::{Clock, Files};
+
+// How many bytes a text has at least: it is the file's, as often as that takes.
+const TEXT_LEN: usize = 300_000;
+
+const USAGE: &str = "usage: speed [grapheme-classic|grapheme-neo|sentence-classic|sentence-neo|line-neo].. FILE\n";
+
+/// Measures the engines that the words name over the text of the file that the last word names, and
+/// returns the exit status: 0, or 2 where the words are no command's.
+pub fn run<R: AllocGlobal + Files + Clock, O: Write, E: Write>(
+    rt: &R,
+    words: &[&str],
+    out: &mut O,
+    err: &mut E,
+) -> Result<u8> {
+    let Some((file, engines)) = words.split_last() else {
+        return refuse(err);
+    };
+    if !engines.iter().all(|word| is_engine(word)) {
+        return refuse(err);
+    }
+    let bytes = fs::read(rt, *file).context("reading the file")?;
+    ensure!(!bytes.is_empty(), "the file is empty");
+    let text = repeated(rt.alloc(), bytes.as_slice())?;
+    let mut trials = trials_of(rt, engines)?;
+    measure(rt, trials.as_mut_slice(), text.as_slice())?;
+    print(trials.as_slice(), text.len(), out, err)?;
+    Ok(0)
+}
+
+// Says how the program is called, and returns the status of a wrong call.
+fn refuse<E: Write>(err: &mut E) -> Result<u8> {
+    err.write_all(USAGE.as_bytes())?;
+    Ok(2)
+}
+
+// The bytes, as often as makes a text that is long enough.
+fn repeated(alloc: Global, bytes: &[u8]) -> Result<Vec<u8>, AllocError>
+    requires { 0 < length bytes.now }
+{
+    bytes.repeat(alloc, TEXT_LEN / bytes.len() + 1)
+}
+
+// The engines that the words name, each with both data.
+fn trials_of<R: AllocGlobal + Clock>(rt: &R, engines: &[&str]) -> Result<Vec<Trial>> {
+    let alloc = rt.alloc();
+    let mut trials = Vec::new(alloc);
+    for engine in ENGINES {
+        if is_chosen(engines, engine) {
+            trials.push(Trial::small(alloc, engine)?).map_err(AllocError::from)?;
+            trials.push(Trial::real(rt, alloc, engine)?).map_err(AllocError::from)?;
+        }
+    }
+    Ok(trials)
+}
+
+// Goes over the text with each engine in turn, and that again and again, so that what disturbs the
+// machine disturbs them all.
+fn measure<C: Clock>(clock: &C, trials: &mut [Trial], text: &[u8]) -> io::Result<()> {
+    for _ in 0..PASSES {
+        for trial in trials.iter_mut() {
+            trial.pass(clock, text)?;
+        }
+    }
+    Ok(())
+}
+
+fn print<O: Write, E: Write>(
+    trials: &[Trial],
+    len: usize,
+    out: &mut O,
+    err: &mut E,
+) -> io::Result<()> {
+    for trial in trials {
+        trial.print_found(out)?;
+        trial.print_time(len, err)?;
+    }
+    out.flush()
+}

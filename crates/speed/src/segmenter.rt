@@ -1,0 +1,28 @@
+// Segmenters of any kind.
+
+use crate::tally::{Tally, tally_of};
+use icu_segmenter::{GraphemeClusterSegmenter, LineSegmenter, SentenceSegmenter};
+
+/// A segmenter with data of its own.
+#[derive(Drop)]
+pub enum Segmenter {
+    /// Of grapheme clusters.
+    Clusters(GraphemeClusterSegmenter),
+    /// Of sentences.
+    Sentences(SentenceSegmenter),
+    /// Of lines.
+    Lines(LineSegmenter),
+}
+
+impl Segmenter {
+    /// The boundaries of a text in possibly ill-formed UTF-8, counted and added up.
+    pub fn tally(&self, text: &[u8]) -> Tally {
+        match self {
+            Segmenter::Clusters(clusters) => tally_of(clusters.as_borrowed().segment_utf8(text)),
+            Segmenter::Sentences(sentences) => {
+                tally_of(sentences.as_borrowed().segment_utf8(text))
+            }
+            Segmenter::Lines(lines) => tally_of(lines.as_borrowed().segment_utf8(text)),
+        }
+    }
+}
