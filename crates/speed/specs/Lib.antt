@@ -1,0 +1,4 @@
+pub mod Classes
+pub mod Command
+pub mod Segmenter
+pub mod Tally

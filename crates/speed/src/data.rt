@@ -1,4 +1,7 @@
 // The data of each engine, small and real.
+ghost use Rattle.std.specs.Prelude.{◌≡◌, None, IfOk};
+ghost use Rattle.icu_segmenter.specs.Rules.Rules.{ByTable, ByMachine};
+ghost use Rattle.speed.specs.Segmenter.{machine_with, rules_of, rules_with, table_with};
 
 use crate::engine::Engine;
 use crate::segmenter::Segmenter;
@@ -18,7 +21,9 @@ pub fn segmenter_of(
     alloc: Global,
     engine: Engine,
     classes: Option<ClassTable>,
-) -> Result<Segmenter> {
+) -> Result<Segmenter>
+    ensures { IfOk result (λ segmenter. rules_of segmenter ≡ rules_with engine classes) }
+{
     match engine {
         Engine::GraphemeClassic => clusters_by_table(table_with(alloc, cluster_table(alloc)?, classes)?),
         Engine::GraphemeNeo => clusters_by_machine(machine_with(alloc, cluster_machine(alloc)?, classes)?),
@@ -33,7 +38,9 @@ fn table_with(
     alloc: Global,
     table: RuleBreakData,
     classes: Option<ClassTable>,
-) -> Result<RuleBreakData> {
+) -> Result<RuleBreakData>
+    ensures { IfOk result (λ made. made ≡ table_with table classes) }
+{
     let Some(classes) = classes else {
         return Ok(table);
     };
@@ -54,7 +61,9 @@ fn machine_with(
     alloc: Global,
     machine: SegmenterStateMachine,
     symbols: Option<ClassTable>,
-) -> Result<SegmenterStateMachine> {
+) -> Result<SegmenterStateMachine>
+    ensures { IfOk result (λ made. made ≡ machine_with machine symbols) }
+{
     let Some(symbols) = symbols else {
         return Ok(machine);
     };
@@ -68,25 +77,35 @@ fn machine_with(
     )?)
 }
 
-fn clusters_by_table(table: RuleBreakData) -> Result<Segmenter> {
+fn clusters_by_table(table: RuleBreakData) -> Result<Segmenter>
+    ensures { IfOk result (λ segmenter. rules_of segmenter ≡ ByTable table None) }
+{
     Ok(Segmenter::Clusters(GraphemeClusterSegmenter::try_new(table)?))
 }
 
-fn clusters_by_machine(machine: SegmenterStateMachine) -> Result<Segmenter> {
+fn clusters_by_machine(machine: SegmenterStateMachine) -> Result<Segmenter>
+    ensures { IfOk result (λ segmenter. rules_of segmenter ≡ ByMachine machine) }
+{
     Ok(Segmenter::Clusters(GraphemeClusterSegmenter::try_new_neo(machine)?))
 }
 
-fn sentences_by_table(table: RuleBreakData) -> Result<Segmenter> {
+fn sentences_by_table(table: RuleBreakData) -> Result<Segmenter>
+    ensures { IfOk result (λ segmenter. rules_of segmenter ≡ ByTable table None) }
+{
     let options = SentenceBreakOptions::default();
     Ok(Segmenter::Sentences(SentenceSegmenter::try_new(table, None, options)?))
 }
 
-fn sentences_by_machine(machine: SegmenterStateMachine) -> Result<Segmenter> {
+fn sentences_by_machine(machine: SegmenterStateMachine) -> Result<Segmenter>
+    ensures { IfOk result (λ segmenter. rules_of segmenter ≡ ByMachine machine) }
+{
     let options = SentenceBreakOptions::default();
     Ok(Segmenter::Sentences(SentenceSegmenter::try_new_neo(machine, None, options)?))
 }
 
-fn lines_by_machine(alloc: Global, machine: SegmenterStateMachine) -> Result<Segmenter> {
+fn lines_by_machine(alloc: Global, machine: SegmenterStateMachine) -> Result<Segmenter>
+    ensures { IfOk result (λ segmenter. rules_of segmenter ≡ ByMachine machine) }
+{
     let segmenter = LineSegmenter::try_new_neo_for_non_complex_scripts(
         machine,
         line_tailorings(alloc)?,

@@ -1,4 +1,7 @@
 // The engines, and the words that the command line has for them.
+ghost use Rattle.std.specs.Prelude.{◌⊎◌, [], Any, ◌≡◌, ◌≢◌, ◌↔◌, IsTrue, IsNone, IfSome, MatchOption};
+ghost use Rattle.speed.specs.declared.engine.Engine.{Engine as AnyEngine};
+ghost use Rattle.speed.specs.Command.{IsCommand, IsEngineWord, IsNoCommand, texts, word_of};
 
 /// What is measured: what is found, and by which engine.
 #[derive(Clone, Copy, Debug, PartialEq, Eq)]
@@ -35,7 +38,9 @@ pub enum Data {
 
 impl Engine {
     /// The word of this engine.
-    pub fn word(self) -> &'static str {
+    pub fn word(self) -> &'static str
+        ensures { result.now ≡ word_of self }
+    {
         match self {
             Engine::GraphemeClassic => "grapheme-classic",
             Engine::GraphemeNeo => "grapheme-neo",
@@ -56,12 +61,37 @@ impl Data {
     }
 }
 
+/// The engine that has this word.
+pub fn engine_of(word: &str) -> Option<Engine>
+    ensures { MatchOption result ((engine : AnyEngine) → word.now ≢ word_of engine) (λ engine. word.now ≡ word_of engine) }
+{
+    match word {
+        "grapheme-classic" => Some(Engine::GraphemeClassic),
+        "grapheme-neo" => Some(Engine::GraphemeNeo),
+        "sentence-classic" => Some(Engine::SentenceClassic),
+        "sentence-neo" => Some(Engine::SentenceNeo),
+        "line-neo" => Some(Engine::LineNeo),
+        _ => None,
+    }
+}
+
 /// Whether the word is an engine's.
-pub fn is_engine(word: &str) -> bool {
-    ENGINES.iter().any(|engine| engine.word() == word)
+pub fn is_engine(word: &str) -> bool
+    ensures { IsTrue result ↔ IsEngineWord word.now }
+{
+    engine_of(word).is_some()
+}
+
+// Whether the word is this engine's.
+fn has_word(word: &str, engine: Engine) -> bool
+    ensures { IsTrue result ↔ (word.now ≡ word_of engine) }
+{
+    word == engine.word()
 }
 
 /// Whether these words ask for the engine: all engines where there is no word.
-pub fn is_chosen(engines: &[&str], engine: Engine) -> bool {
-    engines.is_empty() || engines.iter().any(|word| *word == engine.word())
+pub fn is_chosen(engines: &[&str], engine: Engine) -> bool
+    ensures { IsTrue result ↔ ((engines.now ≡ []) ⊎ Any (λ word. word.now ≡ word_of engine) engines.now) }
+{
+    engines.is_empty() || engines.iter().any(|word| has_word(word, engine))
 }

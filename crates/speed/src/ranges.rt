@@ -1,4 +1,11 @@
 // A property of Unicode as the ranges of a class table.
+ghost use Rattle.std.specs.Prelude.{◌≡◌, ℕ, ◌≤◌, IfOk};
+ghost use Rattle.ucd_table.specs.Steps.{IsPartition, IsRunsOf, run_value};
+ghost use Rattle.ucd_breaks.specs.GraphemeClusterBreak.{grapheme_cluster_break, grapheme_cluster_break_number};
+ghost use Rattle.ucd_breaks.specs.SentenceBreak.{sentence_break, sentence_break_number};
+ghost use Rattle.ucd_breaks.specs.LineBreak.{line_break, line_break_number};
+ghost use Rattle.icu_segmenter.specs.Table.{table, value_of};
+ghost use Rattle.speed.specs.Classes.{class_in, default_class, listed_classes, value_number};
 
 use crate::engine::Engine;
 use std::alloc::{AllocError, Global};
@@ -15,6 +22,8 @@ pub struct Classes {
     pub default: u8,
     /// The numbers of values, and their classes.
     pub listed: &'static [(u32, u8)],
+    ghost partition: { IsPartition runs.now },
+    ghost unlisted: { class_in listed.now default plain ≡ default },
 }
 
 const CLUSTERS: [(u32, u8); 5] = [
@@ -68,7 +77,11 @@ const LINE_SYMBOLS: [(u32, u8); 12] = [
 ];
 
 /// The classes that come closest to those of the engine's small data.
-pub fn classes_of(engine: Engine) -> Classes {
+pub fn classes_of(engine: Engine) -> Classes
+    ensures property { IsRunsOf result.runs.now (value_number engine) }
+    ensures default { result.default ≡ default_class engine }
+    ensures listed { result.listed.now ≡ listed_classes engine }
+{
     match engine {
         Engine::GraphemeClassic => clusters(0, &CLUSTERS),
         Engine::GraphemeNeo => clusters(1, &CLUSTER_SYMBOLS),
@@ -78,7 +91,12 @@ pub fn classes_of(engine: Engine) -> Classes {
     }
 }
 
-fn clusters(default: u8, listed: &'static [(u32, u8)]) -> Classes {
+fn clusters(default: u8, listed: &'static [(u32, u8)]) -> Classes
+    requires { class_in listed.now default 12 ≡ default }
+    ensures property { IsRunsOf result.runs.now (λ c. grapheme_cluster_break_number (grapheme_cluster_break c)) }
+    ensures default { result.default ≡ default }
+    ensures listed { result.listed.now ≡ listed.now }
+{
     Classes {
         runs: GraphemeClusterBreak::runs(),
         plain: GraphemeClusterBreak::Other as u32,
@@ -87,7 +105,12 @@ fn clusters(default: u8, listed: &'static [(u32, u8)]) -> Classes {
     }
 }
 
-fn sentences(default: u8, listed: &'static [(u32, u8)]) -> Classes {
+fn sentences(default: u8, listed: &'static [(u32, u8)]) -> Classes
+    requires { class_in listed.now default 14 ≡ default }
+    ensures property { IsRunsOf result.runs.now (λ c. sentence_break_number (sentence_break c)) }
+    ensures default { result.default ≡ default }
+    ensures listed { result.listed.now ≡ listed.now }
+{
     Classes {
         runs: SentenceBreak::runs(),
         plain: SentenceBreak::Other as u32,
@@ -96,7 +119,12 @@ fn sentences(default: u8, listed: &'static [(u32, u8)]) -> Classes {
     }
 }
 
-fn lines(default: u8, listed: &'static [(u32, u8)]) -> Classes {
+fn lines(default: u8, listed: &'static [(u32, u8)]) -> Classes
+    requires { class_in listed.now default 46 ≡ default }
+    ensures property { IsRunsOf result.runs.now (λ c. line_break_number (line_break c)) }
+    ensures default { result.default ≡ default }
+    ensures listed { result.listed.now ≡ listed.now }
+{
     Classes {
         runs: LineBreak::runs(),
         plain: LineBreak::Unknown as u32,
@@ -106,9 +134,11 @@ fn lines(default: u8, listed: &'static [(u32, u8)]) -> Classes {
 }
 
 // The class of a value.
-fn class_of(classes: &Classes, value: u32) -> u8 {
+fn class_of(classes: &Classes, value: u32) -> u8
+    ensures { result ≡ class_in classes.now.listed.now classes.now.default value }
+{
     for (listed, class) in classes.listed {
-        if *listed == value && value != classes.plain {
+        if *listed == value {
             return *class;
         }
     }
@@ -117,13 +147,16 @@ fn class_of(classes: &Classes, value: u32) -> u8 {
 
 /// The runs with another value than the plain one, each as a range (first, last, class). Neighbours
 /// of one class are not joined. The only error is want of memory.
-pub fn ranges_of(alloc: Global, classes: &Classes) -> Result<Vec<(u32, u32, u8)>, AllocError> {
+pub fn ranges_of(alloc: Global, classes: &Classes) -> Result<Vec<(u32, u32, u8)>, AllocError>
+    ensures { IfOk result (λ ranges. (c : ℕ) → c ≤ 0x10FFFF → value_of (table ranges.items classes.now.default) c
+        ≡ class_in classes.now.listed.now classes.now.default (run_value classes.now.runs.now c)) }
+{
     let mut ranges = Vec::new(alloc);
     let mut start = 0;
     for run in classes.runs {
         let (end, value) = (run / 2048, run % 2048);
         if value != classes.plain {
-            ranges.push((start, end.saturating_sub(1), class_of(classes, value)))?;
+            ranges.push((start, end - 1, class_of(classes, value)))?;
         }
         start = end;
     }

@@ -1,4 +1,5 @@
 // Segmenters of any kind.
+ghost use Rattle.std.specs.Prelude.{◌≡◌};
 
 use crate::tally::{Tally, tally_of};
 use icu_segmenter::{GraphemeClusterSegmenter, LineSegmenter, SentenceSegmenter};
@@ -15,8 +16,12 @@ pub enum Segmenter {
 }
 
 impl Segmenter {
+    ghost use Rattle.speed.specs.Segmenter.{rules_of, tally_by};
+
     /// The boundaries of a text in possibly ill-formed UTF-8, counted and added up.
-    pub fn tally(&self, text: &[u8]) -> Tally {
+    pub fn tally(&self, text: &[u8]) -> Tally
+        ensures { result ≡ tally_by (rules_of self.now) text.now }
+    {
         match self {
             Segmenter::Clusters(clusters) => tally_of(clusters.as_borrowed().segment_utf8(text)),
             Segmenter::Sentences(sentences) => {
