@@ -1,5 +1,7 @@
 // The program, over any runtime and writers.
-ghost use Rattle.std.specs.Prelude.{◌<◌, length};
+ghost use Rattle.std.specs.Prelude.{◌≡◌, ◌⊎◌, ℕ, ◌*◌, take, ◌<◌, ◌≤◌, ◌↔◌, IfOk, IsNone, IfSome, length};
+ghost use Rattle.std.specs.List.{repeat};
+ghost use Rattle.speed.specs.Command.{IsCommand, IsNoCommand, texts};
 
 use crate::engine::{ENGINES, is_chosen, is_engine};
 use crate::trial::{PASSES, Trial};
@@ -10,7 +12,7 @@ use std::io;
 use std::io::Write;
 use std::rt::{Clock, Files};
 
-// How many bytes a text has at least: it is the file's, as often as that takes.
+// How many bytes a text has at most.
 const TEXT_LEN: usize = 300_000;
 
 const USAGE: &str = "usage: speed [grapheme-classic|grapheme-neo|sentence-classic|sentence-neo|line-neo].. FILE\n";
@@ -22,14 +24,15 @@ pub fn run<R: AllocGlobal + Files + Clock, O: Write, E: Write>(
     words: &[&str],
     out: &mut O,
     err: &mut E,
-) -> Result<u8> {
-    let Some((file, engines)) = words.split_last() else {
+) -> Result<u8>
+    ensures range { IfOk result (λ status. (status ≡ 0) ⊎ (status ≡ 2)) }
+    ensures usage { IfOk result (λ status. status ≡ 2 ↔ IsNoCommand (texts words.now)) }
+    ensures unwritten { IsNoCommand (texts words.now) → out.new ≡ out.old }
+{
+    let Some((file, engines)) = request_of(words) else {
         return refuse(err);
     };
-    if !engines.iter().all(|word| is_engine(word)) {
-        return refuse(err);
-    }
-    let bytes = fs::read(rt, *file).context("reading the file")?;
+    let bytes = fs::read(rt, file).context("reading the file")?;
     ensure!(!bytes.is_empty(), "the file is empty");
     let text = repeated(rt.alloc(), bytes.as_slice())?;
     let mut trials = trials_of(rt, engines)?;
@@ -38,17 +41,34 @@ pub fn run<R: AllocGlobal + Files + Clock, O: Write, E: Write>(
     Ok(0)
 }
 
+// The file that the words name, and the engines' words before it.
+fn request_of<'a>(words: &'a [&'a str]) -> Option<(&'a str, &'a [&'a str])>
+    ensures refused { IsNone result ↔ IsNoCommand (texts words.now) }
+    ensures given { IfSome result (λ request. IsCommand (texts words.now) (texts request.1.now) request.0.now) }
+{
+    let (file, engines) = words.split_last()?;
+    if engines.iter().all(|word| is_engine(word)) {
+        Some((file, engines))
+    } else {
+        None
+    }
+}
+
 // Says how the program is called, and returns the status of a wrong call.
-fn refuse<E: Write>(err: &mut E) -> Result<u8> {
+fn refuse<E: Write>(err: &mut E) -> Result<u8>
+    ensures { IfOk result (λ status. status ≡ 2) }
+{
     err.write_all(USAGE.as_bytes())?;
     Ok(2)
 }
 
-// The bytes, as often as makes a text that is long enough.
+// The bytes, cut off where they are too many, as often as they have room.
 fn repeated(alloc: Global, bytes: &[u8]) -> Result<Vec<u8>, AllocError>
     requires { 0 < length bytes.now }
+    ensures { IfOk result (λ text. (count : ℕ) × (text.items ≡ repeat count (take TEXT_LEN bytes.now)) × (length text.items ≤ TEXT_LEN) × (TEXT_LEN < 2 * length text.items)) }
 {
-    bytes.repeat(alloc, TEXT_LEN / bytes.len() + 1)
+    let start = &bytes[..bytes.len().min(TEXT_LEN)];
+    start.repeat(alloc, TEXT_LEN / start.len())
 }
 
 // The engines that the words name, each with both data.

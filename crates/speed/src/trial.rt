@@ -1,4 +1,8 @@
 // Segmenters, and how long they took.
+ghost use Rattle.std.specs.Prelude.{◌≡◌, ◌≤◌, ◌*◌, ◌/◌, None, OnOk, IfOk, max};
+ghost use Rattle.std.specs.Duration.{as_nanos};
+ghost use Rattle.icu_segmenter.specs.Table.{Table};
+ghost use Rattle.speed.specs.Classes.{IsRealTable};
 
 use crate::data::segmenter_of;
 use crate::engine::{Data, Engine};
@@ -31,7 +35,7 @@ pub struct Trial {
     /// The engine.
     pub engine: Engine,
     /// Which data it has.
-    pub data: Data,
+    pub source: Data,
     /// The segmenter.
     pub segmenter: Segmenter,
     /// How its class table was made, if it is one of real data.
@@ -43,11 +47,17 @@ pub struct Trial {
 }
 
 impl Trial {
+    ghost use Rattle.std.specs.Prelude.{Some};
+    ghost use Rattle.speed.specs.Segmenter.{rules_of, rules_with, tally_by};
+
     /// The engine with its small data. The only error is want of memory.
-    pub fn small(alloc: Global, engine: Engine) -> Result<Trial> {
+    pub fn small(alloc: Global, engine: Engine) -> Result<Trial>
+        ensures rules { IfOk result (λ trial. rules_of trial.segmenter ≡ rules_with engine None) }
+        ensures names { IfOk result (λ trial. (trial.engine ≡ engine) × (trial.source ≡ Data.Small)) }
+    {
         Ok(Trial {
             engine,
-            data: Data::Small,
+            source: Data::Small,
             segmenter: segmenter_of(alloc, engine, None)?,
             making: None,
             tally: Tally::default(),
@@ -56,18 +66,15 @@ impl Trial {
     }
 
     /// The engine with its real data. The errors are want of memory, and a clock that can't be read.
-    pub fn real<C: Clock>(clock: &C, alloc: Global, engine: Engine) -> Result<Trial> {
-        let classes = classes_of(engine);
-        let ranges = ranges_of(alloc, &classes)?;
-        let best = making_time(clock, alloc, ranges.as_slice(), classes.default)?;
-        let making = Making {
-            ranges: ranges.len(),
-            best,
-        };
-        let table = ClassTable::try_from_ranges(ranges, classes.default)?;
+    pub fn real<C: Clock>(clock: &C, alloc: Global, engine: Engine) -> Result<Trial>
+        ensures rules { IfOk result (λ trial. (table : Table) × IsRealTable engine table
+            × (rules_of trial.segmenter ≡ rules_with engine (Some table))) }
+        ensures names { IfOk result (λ trial. (trial.engine ≡ engine) × (trial.source ≡ Data.Real)) }
+    {
+        let (table, making) = real_table(clock, alloc, engine)?;
         Ok(Trial {
             engine,
-            data: Data::Real,
+            source: Data::Real,
             segmenter: segmenter_of(alloc, engine, Some(table))?,
             making: Some(making),
             tally: Tally::default(),
@@ -76,7 +83,13 @@ impl Trial {
     }
 
     /// Goes over the text once. The only error is a clock that can't be read.
-    pub fn pass<C: Clock>(&mut self, clock: &C, text: &[u8]) -> io::Result<()> {
+    pub fn pass<C: Clock>(&mut self, clock: &C, text: &[u8]) -> io::Result<()>
+        ensures tally { OnOk result (self.new.tally ≡ tally_by (rules_of self.old.segmenter) text.now) }
+        ensures same { self.new.segmenter ≡ self.old.segmenter }
+        ensures names { (self.new.engine ≡ self.old.engine) × (self.new.source ≡ self.old.source) }
+        ensures making { self.new.making ≡ self.old.making }
+        ensures best { as_nanos self.new.best ≤ as_nanos self.old.best }
+    {
         let start = Instant::now(clock)?;
         self.tally = self.segmenter.tally(text);
         self.best = self.best.min(start.elapsed(clock)?);
@@ -85,7 +98,7 @@ impl Trial {
 
     /// Prints what is the same each time.
     pub fn print_found<O: Write>(&self, out: &mut O) -> io::Result<()> {
-        let (engine, data) = (self.engine.word(), self.data.word());
+        let (engine, data) = (self.engine.word(), self.source.word());
         let Tally { count, sum } = self.tally;
         write!(out, "{engine} {data}: {count} boundaries, sum {sum}")?;
         if let Some(making) = self.making {
@@ -97,7 +110,7 @@ impl Trial {
 
     /// Prints what differs each time, over a text of this length.
     pub fn print_time<E: Write>(&self, len: usize, err: &mut E) -> io::Result<()> {
-        let (engine, data) = (self.engine.word(), self.data.word());
+        let (engine, data) = (self.engine.word(), self.source.word());
         let rate = megabytes_a_second(len, self.best);
         write!(err, "{engine} {data}: {rate} MB/s")?;
         if let Some(making) = self.making {
@@ -106,6 +119,21 @@ impl Trial {
         }
         writeln!(err, "")
     }
+}
+
+// The class table of the engine's real data, and how it was made.
+fn real_table<C: Clock>(clock: &C, alloc: Global, engine: Engine) -> Result<(ClassTable, Making)>
+    ensures { IfOk result (λ made. IsRealTable engine made.0) }
+{
+    let classes = classes_of(engine);
+    let ranges = ranges_of(alloc, &classes)?;
+    let best = making_time(clock, alloc, ranges.as_slice(), classes.default)?;
+    let making = Making {
+        ranges: ranges.len(),
+        best,
+    };
+    let table = ClassTable::try_from_ranges(ranges, classes.default)?;
+    Ok((table, making))
 }
 
 // How long it takes at best to make a class table.
@@ -119,14 +147,15 @@ fn making_time<C: Clock>(
     for _ in 0..PASSES {
         let copy = Vec::from_slice(alloc, ranges)?;
         let start = Instant::now(clock)?;
-        let table = ClassTable::try_from_ranges(copy, default)?;
+        let _table = ClassTable::try_from_ranges(copy, default)?;
         best = best.min(start.elapsed(clock)?);
-        let _ = table;
     }
     Ok(best)
 }
 
 // How many millions of bytes are done in a second, where so many take so long.
-fn megabytes_a_second(len: usize, time: Duration) -> u128 {
+fn megabytes_a_second(len: usize, time: Duration) -> u128
+    ensures { result ≡ len * 1000 / max 1 (as_nanos time) }
+{
     len as u128 * 1000 / time.as_nanos().max(1)
 }
