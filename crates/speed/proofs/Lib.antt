@@ -1,2 +1,4 @@
 mod Counted
 mod Ranged
+mod Repeated
+mod Words

@@ -1,5 +1,5 @@
 -- The values of a table whose ranges are made of runs.
-use Rattle.std.proofs.Common.{◌≡◌, ℕ, ◌+◌, ◌-◌, ◌/◌, ◌%◌, ◌<◌, ◌≤◌, ◌&&◌, true, false, nat_le, List, [], ◌∷◌, ◌++◌, map, length, drop, slice_index, refl, sym, ap, subst, ◌∙◌, inl, inr, arith, le-leb, eqb-true, drop_of_length-le}
+use Rattle.std.proofs.Common.{◌≡◌, ℕ, ◌+◌, ◌-◌, ◌/◌, ◌%◌, ◌<◌, ◌≤◌, true, false, List, [], ◌∷◌, ◌++◌, map, length, drop, slice_index, refl, sym, ap, subst, ◌∙◌, inl, inr, arith, le-leb, eqb-true, drop_of_length-le}
 use Rattle.std.specs.Prelude.{Some, None, find, Option}
 use Rattle.std.specs.Option.{option_map_or, option_or}
 use Rattle.std.proofs.lemmas.Bool.{cases_lt, and_left, and_right, and_from, lt-leb}

@@ -1,12 +1,8 @@
 -- The words of the command line.
-use Rattle.std.specs.Prelude.{◌≡◌, ℕ, List, [], ◌∷◌, ◌++◌, map, codes, All}
+use Rattle.std.specs.Prelude.{◌≡◌, ℕ, ◌-◌, ◌<◌, List, length, take, codes, All}
 use Rattle.std.specs.Borrow.{Bor}
 use Rattle.speed.specs.declared.engine.Engine.{Engine}
 use Rattle.speed.specs.declared.engine.Engine.TheVariants.{GraphemeClassic, GraphemeNeo, SentenceClassic, SentenceNeo, LineNeo}
-
--- the texts that references point to
-abbrev pub texts : List (Bor (List ℕ)) → List (List ℕ)
-texts words = map (λ word. word.now) words
 
 -- the word of an engine
 abbrev pub word_of : Engine → List ℕ
@@ -17,13 +13,10 @@ word_of SentenceNeo = codes "sentence-neo"
 word_of LineNeo = codes "line-neo"
 
 -- some engine has the word
-abbrev pub IsEngineWord : List ℕ → Type 0
-IsEngineWord word = (engine : Engine) × (word ≡ word_of engine)
+pub record IsEngineWord (word : List ℕ) : Type 0 where
+  pub engine : Engine
+  pub named : word ≡ word_of engine
 
--- words of engines, if any, and then a file's
-pub record IsCommand (words engines : List (List ℕ)) (file : List ℕ) : Type 0 where
-  pub parts : words ≡ engines ++ file ∷ []
-  pub named : All IsEngineWord engines
-
-abbrev pub IsNoCommand : List (List ℕ) → Type 0
-IsNoCommand words = (engines : List (List ℕ)) (file : List ℕ) → IsCommand words engines file → ⊥
+-- there is a last word, which is a file's, and the words before it are engines'
+abbrev pub IsCommand : List (Bor (List ℕ)) → Type 0
+IsCommand words = (0 < length words) × All (λ word. IsEngineWord word.now) (take (length words - 1) words)

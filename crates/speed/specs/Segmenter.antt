@@ -1,5 +1,5 @@
 -- What each segmenter finds boundaries by.
-use Rattle.std.specs.Prelude.{ℕ, Option, Some, None, List, [], length}
+use Rattle.std.specs.Prelude.{ℕ, Option, Some, None, List, length}
 use Rattle.icu_segmenter.specs.Clusters.{owned_cluster_rules}
 use Rattle.icu_segmenter.specs.Lines.{owned_line_machine}
 use Rattle.icu_segmenter.specs.Machine.{Machine, machine}

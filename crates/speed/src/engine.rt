@@ -1,7 +1,7 @@
 // The engines, and the words that the command line has for them.
-ghost use Rattle.std.specs.Prelude.{◌⊎◌, [], Any, ◌≡◌, ◌≢◌, ◌↔◌, IsTrue, IsNone, IfSome, MatchOption};
+ghost use Rattle.std.specs.Prelude.{◌≡◌, ◌≢◌, ◌⊎◌, ◌↔◌, [], All, Any, IsTrue, MatchOption};
 ghost use Rattle.speed.specs.declared.engine.Engine.{Engine as AnyEngine};
-ghost use Rattle.speed.specs.Command.{IsCommand, IsEngineWord, IsNoCommand, texts, word_of};
+ghost use Rattle.speed.specs.Command.{IsEngineWord, word_of};
 
 /// What is measured: what is found, and by which engine.
 #[derive(Clone, Copy, Debug, PartialEq, Eq)]
@@ -75,8 +75,15 @@ pub fn engine_of(word: &str) -> Option<Engine>
     }
 }
 
-/// Whether the word is an engine's.
-pub fn is_engine(word: &str) -> bool
+/// Whether each word is an engine's.
+pub fn are_engines(words: &[&str]) -> bool
+    ensures { IsTrue result ↔ All (λ word. IsEngineWord word.now) words.now }
+{
+    words.iter().all(|word| is_engine(word))
+}
+
+// Whether the word is an engine's.
+fn is_engine(word: &str) -> bool
     ensures { IsTrue result ↔ IsEngineWord word.now }
 {
     engine_of(word).is_some()

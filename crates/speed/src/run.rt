@@ -1,9 +1,9 @@
 // The program, over any runtime and writers.
-ghost use Rattle.std.specs.Prelude.{◌≡◌, ◌⊎◌, ℕ, ◌*◌, take, ◌<◌, ◌≤◌, ◌↔◌, IfOk, IsNone, IfSome, length};
+ghost use Rattle.std.specs.Prelude.{◌≡◌, ◌*◌, ◌<◌, ◌≤◌, ◌⊎◌, ◌↔◌, ℕ, [], ◌∷◌, ◌++◌, length, min, take, IfOk, IfSome, IsSome};
 ghost use Rattle.std.specs.List.{repeat};
-ghost use Rattle.speed.specs.Command.{IsCommand, IsNoCommand, texts};
+ghost use Rattle.speed.specs.Command.{IsCommand};
 
-use crate::engine::{ENGINES, is_chosen, is_engine};
+use crate::engine::{ENGINES, are_engines, is_chosen};
 use crate::trial::{PASSES, Trial};
 use anyhow::{Context, Result, ensure};
 use std::alloc::{AllocError, Global};
@@ -26,8 +26,8 @@ pub fn run<R: AllocGlobal + Files + Clock, O: Write, E: Write>(
     err: &mut E,
 ) -> Result<u8>
     ensures range { IfOk result (λ status. (status ≡ 0) ⊎ (status ≡ 2)) }
-    ensures usage { IfOk result (λ status. status ≡ 2 ↔ IsNoCommand (texts words.now)) }
-    ensures unwritten { IsNoCommand (texts words.now) → out.new ≡ out.old }
+    ensures usage { IfOk result (λ status. status ≡ 0 ↔ IsCommand words.now) }
+    ensures unwritten { (IsCommand words.now → ⊥) → out.new ≡ out.old }
 {
     let Some((file, engines)) = request_of(words) else {
         return refuse(err);
@@ -43,11 +43,11 @@ pub fn run<R: AllocGlobal + Files + Clock, O: Write, E: Write>(
 
 // The file that the words name, and the engines' words before it.
 fn request_of<'a>(words: &'a [&'a str]) -> Option<(&'a str, &'a [&'a str])>
-    ensures refused { IsNone result ↔ IsNoCommand (texts words.now) }
-    ensures given { IfSome result (λ request. IsCommand (texts words.now) (texts request.1.now) request.0.now) }
+    ensures refused { IsSome result ↔ IsCommand words.now }
+    ensures given { IfSome result (λ request. request.1.now ++ request.0 ∷ [] ≡ words.now) }
 {
     let (file, engines) = words.split_last()?;
-    if engines.iter().all(|word| is_engine(word)) {
+    if are_engines(engines) {
         Some((file, engines))
     } else {
         None
@@ -65,7 +65,9 @@ fn refuse<E: Write>(err: &mut E) -> Result<u8>
 // The bytes, cut off where they are too many, as often as they have room.
 fn repeated(alloc: Global, bytes: &[u8]) -> Result<Vec<u8>, AllocError>
     requires { 0 < length bytes.now }
-    ensures { IfOk result (λ text. (count : ℕ) × (text.items ≡ repeat count (take TEXT_LEN bytes.now)) × (length text.items ≤ TEXT_LEN) × (TEXT_LEN < 2 * length text.items)) }
+    ensures copies { IfOk result (λ text. (count : ℕ) × (text.items ≡ repeat count (take (min (length bytes.now) TEXT_LEN) bytes.now))) }
+    ensures fits { IfOk result (λ text. length text.items ≤ TEXT_LEN) }
+    ensures long { IfOk result (λ text. TEXT_LEN < 2 * length text.items) }
 {
     let start = &bytes[..bytes.len().min(TEXT_LEN)];
     start.repeat(alloc, TEXT_LEN / start.len())
