@@ -17,19 +17,34 @@ use std::alloc::Global;
 
 /// The engine with its small data, or with this class table in place of theirs. The errors are want of
 /// memory, and that the table doesn't fit the data.
-pub fn segmenter_of(
-    alloc: Global,
-    engine: Engine,
-    classes: Option<ClassTable>,
-) -> Result<Segmenter>
+pub fn segmenter_of(alloc: Global, engine: Engine, classes: Option<ClassTable>) -> Result<Segmenter>
     ensures { IfOk result (λ segmenter. rules_of segmenter ≡ rules_with engine classes) }
 {
     match engine {
-        Engine::GraphemeClassic => clusters_by_table(table_with(alloc, cluster_table(alloc)?, classes)?),
-        Engine::GraphemeNeo => clusters_by_machine(machine_with(alloc, cluster_machine(alloc)?, classes)?),
-        Engine::SentenceClassic => sentences_by_table(table_with(alloc, sentence_table(alloc)?, classes)?),
-        Engine::SentenceNeo => sentences_by_machine(machine_with(alloc, sentence_machine(alloc)?, classes)?),
-        Engine::LineNeo => lines_by_machine(alloc, machine_with(alloc, line_machine(alloc)?, classes)?),
+        Engine::GraphemeClassic => clusters_by_table(table_with(
+            alloc,
+            cluster_table(alloc)?,
+            classes,
+        )?),
+        Engine::GraphemeNeo => clusters_by_machine(machine_with(
+            alloc,
+            cluster_machine(alloc)?,
+            classes,
+        )?),
+        Engine::SentenceClassic => sentences_by_table(table_with(
+            alloc,
+            sentence_table(alloc)?,
+            classes,
+        )?),
+        Engine::SentenceNeo => sentences_by_machine(machine_with(
+            alloc,
+            sentence_machine(alloc)?,
+            classes,
+        )?),
+        Engine::LineNeo => lines_by_machine(
+            alloc,
+            machine_with(alloc, line_machine(alloc)?, classes)?,
+        ),
     }
 }
 

@@ -7,15 +7,18 @@ use crate::engine::{ENGINES, are_engines, is_chosen};
 use crate::trial::{PASSES, Trial};
 use anyhow::{Context, Result, ensure};
 use std::alloc::{AllocError, Global};
-use std::fs;
-use std::io;
 use std::io::Write;
 use std::rt::{Clock, Files};
+use std::{fs, io};
+
+#[cfg(test)]
+mod tests;
 
 // How many bytes a text has at most.
 const TEXT_LEN: usize = 300_000;
 
-const USAGE: &str = "usage: speed [grapheme-classic|grapheme-neo|sentence-classic|sentence-neo|line-neo].. FILE\n";
+const USAGE: &str =
+    "usage: speed [grapheme-classic|grapheme-neo|sentence-classic|sentence-neo|line-neo].. FILE\n";
 
 /// Measures the engines that the words name over the text of the file that the last word names, and
 /// returns the exit status: 0, or 2 where the words are no command's.
@@ -79,8 +82,12 @@ fn trials_of<R: AllocGlobal + Clock>(rt: &R, engines: &[&str]) -> Result<Vec<Tri
     let mut trials = Vec::new(alloc);
     for engine in ENGINES {
         if is_chosen(engines, engine) {
-            trials.push(Trial::small(alloc, engine)?).map_err(AllocError::from)?;
-            trials.push(Trial::real(rt, alloc, engine)?).map_err(AllocError::from)?;
+            trials
+                .push(Trial::small(alloc, engine)?)
+                .map_err(AllocError::from)?;
+            trials
+                .push(Trial::real(rt, alloc, engine)?)
+                .map_err(AllocError::from)?;
         }
     }
     Ok(trials)

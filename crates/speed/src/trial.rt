@@ -18,7 +18,7 @@ use std::rt::Clock;
 use std::time::{Duration, Instant};
 
 /// How often everything is done: the best time counts.
-pub const PASSES: usize = 25;
+pub const PASSES: usize = 100;
 
 /// How a class table was made.
 #[derive(Clone, Copy, Debug, PartialEq, Eq)]

@@ -7,5 +7,5 @@ use Rattle.speed.proofs.ranges.ranges_of.Given as goal
 abbrev pub invariant-loop-run : goal.invariant-loop-run
 invariant-loop-run l = record {
   at : IsAt l.classes.runs.now l.run-index l.start;
-  made : IsMade (class_in l.classes.listed.now l.classes.default) l.classes.default l.classes.runs.now l.start l.ranges.items
+  made : IsMade (class_in l.classes.listed.now l.classes.default) l.classes.default l.classes.runs.now l.start l.ranges.items;
 }
