@@ -31,6 +31,7 @@ fn prints_how_many_boundaries_there_are(rt: HostRuntime) {
     assert!(rt; written.is_ok());
     let (mut out, mut err) = (Vec::new(rt.alloc()), Vec::new(rt.alloc()));
     let status = run(&rt, &["line-neo", "lines.txt"], &mut out, &mut err);
+    assert!(rt; fs::remove_file(&rt, "lines.txt").is_ok());
     assert!(rt; matches!(status, Ok(0)));
     let lines = "line-neo small: 100001 boundaries, sum 15000149997\n";
     assert!(rt; out.as_slice().starts_with(lines.as_bytes()));
@@ -61,11 +62,14 @@ fn fails_where_the_file_or_a_writer_does(rt: HostRuntime) {
     let written = fs::write(&rt, "empty.txt", "");
     assert!(rt; written.is_ok());
     assert!(rt; run(&rt, &["empty.txt"], &mut out, &mut err).is_err());
+    assert!(rt; fs::remove_file(&rt, "empty.txt").is_ok());
     let written = fs::write(&rt, "letter.txt", "a");
     assert!(rt; written.is_ok());
     let (room, can_flush) = (20, true);
     let mut out = FailingWriter { room, can_flush };
-    assert!(rt; run(&rt, &["line-neo", "letter.txt"], &mut out, &mut err).is_err());
+    let status = run(&rt, &["line-neo", "letter.txt"], &mut out, &mut err);
+    assert!(rt; fs::remove_file(&rt, "letter.txt").is_ok());
+    assert!(rt; status.is_err());
 }
 
 #[test]
