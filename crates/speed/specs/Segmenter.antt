@@ -1,15 +1,15 @@
 -- What each segmenter finds boundaries by.
-use Rattle.std.specs.Prelude.{ℕ, Option, Some, None, List, length}
+use Rattle.std.specs.Prelude.{ℕ, Option, Some, None, List}
 use Rattle.icu_segmenter.specs.Clusters.{owned_cluster_rules}
-use Rattle.icu_segmenter.specs.Lines.{owned_line_machine}
+use Rattle.icu_segmenter.specs.Lines.{owned_line_rules}
 use Rattle.icu_segmenter.specs.Machine.{Machine, machine}
 use Rattle.icu_segmenter.specs.PairTable.{PairTable, pair_table}
-use Rattle.icu_segmenter.specs.Places.{places}
-use Rattle.icu_segmenter.specs.Rules.{Rules, boundaries_by}
+use Rattle.icu_segmenter.specs.Boundaries.{offsets}
+use Rattle.icu_segmenter.specs.Rules.{Rules, boundaries_of}
 use Rattle.icu_segmenter.specs.Rules.Rules.{ByTable, ByMachine}
 use Rattle.icu_segmenter.specs.Sentences.{owned_sentence_rules}
 use Rattle.icu_segmenter.specs.Table.{Table}
-use Rattle.icu_segmenter.specs.Utf8.{utf8_items}
+use Rattle.icu_segmenter.specs.Utf8.{utf8}
 use Rattle.bench.specs.Clusters.{cluster_machine}
 use Rattle.bench.specs.Lines.{line_machine}
 use Rattle.bench.specs.PairTables.{cluster_table, sentence_table}
@@ -45,8 +45,8 @@ rules_with LineNeo classes = ByMachine (machine_with line_machine classes)
 abbrev pub rules_of : Segmenter → Rules
 rules_of (Clusters clusters) = owned_cluster_rules clusters
 rules_of (Sentences sentences) = owned_sentence_rules sentences
-rules_of (Lines lines) = ByMachine (owned_line_machine lines)
+rules_of (Lines lines) = owned_line_rules lines
 
 -- its boundaries of a text in UTF-8, counted and added up
 abbrev pub tally_by : Rules → List ℕ → Tally
-tally_by rules text = tally_of (places (boundaries_by rules (utf8_items 0 text) (length text)))
+tally_by rules text = tally_of (offsets (boundaries_of rules (utf8 text)))
