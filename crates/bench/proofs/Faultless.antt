@@ -12,7 +12,7 @@ use Rattle.seg_data.specs.Table.{named_values}
 use Rattle.seg_data.specs.Faults.{IsFaultless}
 use Rattle.seg_machine.specs.declared.provider.Acceptance.{Acceptance}
 use Rattle.seg_machine.specs.declared.provider.Acceptance.TheVariants.{Continue, Accept, Conditional}
-use Rattle.seg_machine.specs.Machine.{Machine, IsSymbolOf, symbol_count, step, state_at, walk}
+use Rattle.seg_machine.specs.Machine.{Machine, IsSymbolOf, symbol_count, step, state_at, state_after_ends}
 use Rattle.seg_machine.specs.Pick.{HasStall, pick}
 use Rattle.seg_machine.specs.Search.{AreFollowed, IsFollowed, enter, is_pick}
 use Rattle.seg_machine.specs.MachineFaults.{HasMachineFault, IsStray, NamesPast}
@@ -126,15 +126,15 @@ is-some test None passed = cc
 is-some test (Some x) passed = (x, refl, passed)
 
 -- symbol 0 goes round in no cycle
-no-walk : (m : Machine) (state other steps : ℕ) → step m state 0 ≡ None → walk m state (suc steps) ≡ Some other → ⊥
+no-walk : (m : Machine) (state other steps : ℕ) → step m state 0 ≡ None → state_after_ends m state (suc steps) ≡ Some other → ⊥
 no-walk m state other steps none round = none-some other (sym (walk-end m state steps none) ∙ round)
 
-no-round : (m : Machine) (state next steps : ℕ) → step m state 0 ≡ Some next → step m next 0 ≡ None → walk m next steps ≡ Some state → ⊥
-unfolding walk
+no-round : (m : Machine) (state next steps : ℕ) → step m state 0 ≡ Some next → step m next 0 ≡ None → state_after_ends m next steps ≡ Some state → ⊥
+unfolding state_after_ends
 no-round m state next zero leads none round = let back : step m next 0 ≡ Some next = subst (λ q. step m q 0 ≡ Some next) (sym (same_Some next state round)) leads in none-some next (sym none ∙ back)
 no-round m state next (suc steps) leads none round = no-walk m next state steps none round
 
-no-cycle : (m : Machine) (state steps : ℕ) → ends_soon m state ≡ true → walk m state (suc steps) ≡ Some state → ⊥
+no-cycle : (m : Machine) (state steps : ℕ) → ends_soon m state ≡ true → state_after_ends m state (suc steps) ≡ Some state → ⊥
 no-cycle m state steps passed round =
     elim (if-some _ (step m state 0) passed) [
       | inl none ↦ no-walk m state state steps none round

@@ -2,4 +2,4 @@ pub mod Language
 pub mod Table
 pub mod Pages
 pub mod Faults
-pub mod Same
+pub mod Lemmas

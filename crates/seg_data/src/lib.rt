@@ -1,4 +1,5 @@
 //! Tables that give code points their classes, languages, and the faults of data.
 #![tactic(auto)]
 
+pub mod named_values;
 pub mod provider;

@@ -5,7 +5,7 @@ use Rattle.std.specs.Option.{is_some}
 use Rattle.std.proofs.lemmas.Bool.{both_ways}
 use Rattle.seg_data.specs.declared.provider.ComplexScript.{ComplexScript}
 use Rattle.seg_data.proofs.Options.{option-cases}
-use Rattle.seg_machine.specs.Machine.{Machine, IsTextSymbol, tailored, symbol_count, step, run, scan, walk, state_at}
+use Rattle.seg_machine.specs.Machine.{Machine, IsTextSymbol, tailored, symbol_count, step, run, scan, state_after_ends, state_at}
 use Rattle.seg_machine.specs.Pick.{pick, HasStall, IsStallFree}
 use Rattle.seg_machine.specs.MachineFaults.{HasEndCycle}
 use Rattle.seg_machine.specs.Search.{bare}
@@ -38,8 +38,8 @@ pick-plain : (m : Machine) (symbols : List ℕ) → pick (plain m) symbols ≡ p
 unfolding pick scan
 pick-plain m symbols = rw (run-plain m 0, map-plain m) refl
 
-walk-plain : (m : Machine) (q steps : ℕ) → walk (plain m) q steps ≡ walk m q steps
-unfolding walk
+walk-plain : (m : Machine) (q steps : ℕ) → state_after_ends (plain m) q steps ≡ state_after_ends m q steps
+unfolding state_after_ends
 walk-plain m q zero = refl
 walk-plain m q (suc steps) =
     elim (option-cases (step m q 0)) [

@@ -1,12 +1,12 @@
 -- What an engine gives, call by call.
-use Rattle.std.proofs.Common.{◌≡◌, ◌≢◌, ℕ, ◌==◌, Bool, true, false, Some, List, [], ◌∷◌, length, drop, refl, ap, arith}
+use Rattle.std.proofs.Common.{◌≡◌, ◌≢◌, ℕ, ◌==◌, Bool, true, false, Some, List, [], ◌∷◌, length, refl, ap, arith}
 use Rattle.std.proofs.lemmas.Bool.Decides.{nat_tests}
 use Rattle.std.specs.Prelude.{⊤}
 use Rattle.std.specs.Iterator.{MakesProgress, item_count}
 use Rattle.seg_text.specs.Items.{Item, Text, start_of, rest_after, code_points}
 use Rattle.seg_text.specs.declared.boundary.Boundary.{Boundary}
 use Rattle.seg_text.specs.Boundaries.{Remainder, boundary, boundary_in, offsets, offsets_left}
-use Rattle.seg_text.specs.Stretches.{Stretch, IsGoing, remainder}
+use Rattle.seg_text.specs.Stretches.{Stretch, remainder}
 use Rattle.seg_text.proofs.Cursors.{fewer-left}
 use Rattle.seg_text.proofs.Stretches.{text-through-nil, text-through-next}
 use Rattle.seg_machine.specs.Machine.{Machine, symbols_of}

@@ -10,7 +10,7 @@ use Rattle.seg_machine.specs.declared.provider.Acceptance.{Acceptance}
 use Rattle.seg_machine.specs.declared.provider.Acceptance.TheVariants.{Continue, Accept, Conditional}
 use Rattle.seg_machine.specs.Checked.{IsChecked}
 use Rattle.seg_machine.specs.Machine.{Machine, IsTextSymbol, step, run, scan}
-use Rattle.seg_machine.specs.Pick.{later, last_step, accepted, named, condition, first_condition, pick}
+use Rattle.seg_machine.specs.Pick.{later, last_step, acceptance_status, naming, condition, first_condition, pick}
 use Rattle.seg_machine.specs.Scan.{entries}
 use Rattle.seg_machine.specs.Law.{AcceptsAt, NamesAt, HoldsAt, IsFirstHeld, NoneHolds, IsLastAccepted, IsPick}
 use Rattle.seg_machine.proofs.Scanned.{first_condition-none, first_condition-some, first_condition-nil, run-more}
@@ -84,7 +84,7 @@ last-is value (state ∷ states) = on (last_step value states) (last-is value st
         nowhere (suc k) other has = none k other (has-sooner value state states k other has)
 
 -- what it is to have a value
-named-is : (lookahead v : ℕ) (state : Acceptance × Option ℕ) → named lookahead state ≡ Some v → (acceptance : Acceptance) × (state ≡ (acceptance, Some lookahead))
+named-is : (lookahead v : ℕ) (state : Acceptance × Option ℕ) → naming lookahead state ≡ Some v → (acceptance : Acceptance) × (state ≡ (acceptance, Some lookahead))
 named-is lookahead v (acceptance, None) is = cc
 named-is lookahead v (acceptance, Some name) is =
     elim (cases_eq name lookahead) [
@@ -92,26 +92,26 @@ named-is lookahead v (acceptance, Some name) is =
       | inr other ↦ absurd (none-some v (sym (cond-false (name == lookahead) (Some name) None (ne_eqb name lookahead other)) ∙ is))
     ]
 
-named-has : (lookahead : ℕ) (acceptance : Acceptance) → named lookahead (acceptance, Some lookahead) ≡ Some lookahead
+named-has : (lookahead : ℕ) (acceptance : Acceptance) → naming lookahead (acceptance, Some lookahead) ≡ Some lookahead
 named-has lookahead acceptance = cond-true (lookahead == lookahead) (Some lookahead) None (eq-eqb lookahead lookahead refl)
 
-accepted-is : (status : ℕ) (state : Acceptance × Option ℕ) → accepted state ≡ Some status → state ≡ (Accept status, state.1)
+accepted-is : (status : ℕ) (state : Acceptance × Option ℕ) → acceptance_status state ≡ Some status → state ≡ (Accept status, state.1)
 accepted-is status (Continue, name) is = cc
 accepted-is status (Conditional lookahead other, name) is = cc
 accepted-is status (Accept other, name) is = ap (λ (s : ℕ). (Accept s, name)) (same_Some other status is)
 
-names-from : (states : List (Acceptance × Option ℕ)) (j lookahead v : ℕ) → HasAt (named lookahead) states j v → NamesAt states j lookahead
+names-from : (states : List (Acceptance × Option ℕ)) (j lookahead v : ℕ) → HasAt (naming lookahead) states j v → NamesAt states j lookahead
 names-from states j lookahead v h =
     let is = named-is lookahead v h.state h.has in
     record { acceptance = is.0; here = h.here ∙ ap Some is.1 }
 
-names-has : (states : List (Acceptance × Option ℕ)) (j lookahead : ℕ) → NamesAt states j lookahead → HasAt (named lookahead) states j lookahead
+names-has : (states : List (Acceptance × Option ℕ)) (j lookahead : ℕ) → NamesAt states j lookahead → HasAt (naming lookahead) states j lookahead
 names-has states j lookahead n = record { state = (n.acceptance, Some lookahead); here = n.here; has = named-has lookahead n.acceptance }
 
-accepts-from : (states : List (Acceptance × Option ℕ)) (i status : ℕ) → HasAt accepted states i status → AcceptsAt states i status
+accepts-from : (states : List (Acceptance × Option ℕ)) (i status : ℕ) → HasAt acceptance_status states i status → AcceptsAt states i status
 accepts-from states i status h = record { name = h.state.1; here = h.here ∙ ap Some (accepted-is status h.state h.has) }
 
-accepts-has : (states : List (Acceptance × Option ℕ)) (i status : ℕ) → AcceptsAt states i status → HasAt accepted states i status
+accepts-has : (states : List (Acceptance × Option ℕ)) (i status : ℕ) → AcceptsAt states i status → HasAt acceptance_status states i status
 accepts-has states i status a = record { state = (Accept status, a.name); here = a.here; has = refl }
 
 -- names before a seam
@@ -132,9 +132,9 @@ unfolding IsLast
 condition-fails xs ys state lookahead status none h =
     let is : state ≡ (Conditional lookahead status, h.condition.name) = same_Some state _ (sym (slice_get-seam xs ys state) ∙ h.condition.here) in
     let named-before = names-has xs h.j lookahead (names-before xs (state ∷ ys) h.j lookahead h.earlier h.names) in
-    on (last_step (named lookahead) xs) (last-is (named lookahead) xs) named-before (sym (ap (condition xs) is) ∙ none)
+    on (last_step (naming lookahead) xs) (last-is (naming lookahead) xs) named-before (sym (ap (condition xs) is) ∙ none)
   where
-    on : (found : Option Boundary) → IsLast (named lookahead) xs found → HasAt (named lookahead) xs h.j lookahead
+    on : (found : Option Boundary) → IsLast (naming lookahead) xs found → HasAt (naming lookahead) xs h.j lookahead
         → option_map {U = Boundary} (λ (f : Boundary). boundary f.offset status) found ≡ None → ⊥
     on None none has is = none h.j lookahead has
     on (Some f) last has is = cc
@@ -157,9 +157,9 @@ unfolding IsLast NoneBefore
 condition-holds xs ys (Continue, name) found is before = cc
 condition-holds xs ys (Accept status, name) found is before = cc
 condition-holds xs ys (Conditional lookahead status, name) found is before =
-    on (last_step (named lookahead) xs) (last-is (named lookahead) xs) is
+    on (last_step (naming lookahead) xs) (last-is (naming lookahead) xs) is
   where
-    on : (f : Option Boundary) → IsLast (named lookahead) xs f → option_map {U = Boundary} (λ (f : Boundary). boundary f.offset status) f ≡ Some found
+    on : (f : Option Boundary) → IsLast (naming lookahead) xs f → option_map {U = Boundary} (λ (f : Boundary). boundary f.offset status) f ≡ Some found
         → Held (xs ++ (Conditional lookahead status, name) ∷ ys) found
     on None none same = cc
     on (Some f) (j, step, l) same =
@@ -209,9 +209,9 @@ first-is xs (state ∷ ys) before = on (first-is (xs ++ state ∷ []) ys) (condi
         rw (first_condition-some xs ys state found some) (condition-holds xs ys state found some before)
 
 -- the pick, by what it is made of
-picks : (states : List (Acceptance × Option ℕ)) (symbols n status : ℕ) (held last : Option Boundary)
-    → IsHeld states held → IsLast accepted states last
-    → option_map {U = Boundary} (λ (f : Boundary). boundary (min f.offset symbols) f.status) (option_or held last) ≡ Some (boundary n status) → IsPick states symbols n status
+picks : (states : List (Acceptance × Option ℕ)) (symbols n status : ℕ) (condition_end last : Option Boundary)
+    → IsHeld states condition_end → IsLast acceptance_status states last
+    → option_map {U = Boundary} (λ (f : Boundary). boundary (min f.offset symbols) f.status) (option_or condition_end last) ≡ Some (boundary n status) → IsPick states symbols n status
 unfolding IsHeld IsLast
 picks states symbols n status (Some found) last h l is =
     let pair = same_Some {A = Boundary} (boundary (min found.offset symbols) found.status) (boundary n status) is in
@@ -279,8 +279,8 @@ pick-one states symbols n s n2 s2 (inr (none, (i, a, takes))) (inl (i2, j2, l2, 
 pick-one states symbols n s n2 s2 (inr (none, (i, a, takes))) (inr (none2, (i2, a2, takes2))) = taken symbols i s i2 s2 n n2 (accepted-one states i s i2 s2 a a2) takes takes2
 
 -- so what is a pick in these words is the pick
-pick-there : (states : List (Acceptance × Option ℕ)) (held last : Option Boundary) (symbols n s : ℕ) → IsHeld states held → IsLast accepted states last → IsPick states symbols n s
-    → (f : Boundary) × (option_or held last ≡ Some f)
+pick-there : (states : List (Acceptance × Option ℕ)) (condition_end last : Option Boundary) (symbols n s : ℕ) → IsHeld states condition_end → IsLast acceptance_status states last → IsPick states symbols n s
+    → (f : Boundary) × (option_or condition_end last ≡ Some f)
 unfolding IsHeld IsLast
 pick-there states (Some f) last symbols n s h l p = (f, refl)
 pick-there states None (Some f) symbols n s h l p = (f, refl)
@@ -296,17 +296,17 @@ pick-words m symbols n status = (there n status, back)
     states = entries m (scan m symbols)
 
     found : Option Boundary
-    found = option_or (first_condition [] states) (last_step accepted states)
+    found = option_or (first_condition [] states) (last_step acceptance_status states)
 
     first : IsHeld states (first_condition [] states)
     first = first-is [] states (λ k lookahead status less h. omega arith)
 
     there : (n status : ℕ) → option_map {U = Boundary} (λ (f : Boundary). boundary (min f.offset (length symbols)) f.status) found ≡ Some (boundary n status) → IsPick states (length symbols) n status
-    there n status is = picks states (length symbols) n status (first_condition [] states) (last_step accepted states) first (last-is accepted states) is
+    there n status is = picks states (length symbols) n status (first_condition [] states) (last_step acceptance_status states) first (last-is acceptance_status states) is
 
     back : IsPick states (length symbols) n status → option_map {U = Boundary} (λ (f : Boundary). boundary (min f.offset (length symbols)) f.status) found ≡ Some (boundary n status)
     back p =
-        let some = pick-there states (first_condition [] states) (last_step accepted states) (length symbols) n status first (last-is accepted states) p in
+        let some = pick-there states (first_condition [] states) (last_step acceptance_status states) (length symbols) n status first (last-is acceptance_status states) p in
         let is : option_map {U = Boundary} (λ (f : Boundary). boundary (min f.offset (length symbols)) f.status) found ≡ Some (boundary (min some.0.offset (length symbols)) some.0.status) = ap (option_map {U = Boundary} (λ (f : Boundary). boundary (min f.offset (length symbols)) f.status)) some.1 in
         let same = pick-one states (length symbols) _ _ n status (there _ _ is) p in
         is ∙ ap (λ (k : ℕ). Some (boundary k some.0.status)) same.0 ∙ ap (λ (t : ℕ). Some (boundary n t)) same.1

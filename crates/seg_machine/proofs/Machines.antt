@@ -140,9 +140,9 @@ unfolding state_at
 lookaheads-from m state absent past = no-past m.num_lookaheads m.states state absent past
 
 past-less : (count : ℕ) (state : Acceptance × Option ℕ) → count ≤ 4 → NamesPast 4 state → NamesPast count state
-past-less count (Conditional lookahead status, named) few (inr past) = inr (omega arith)
-past-less count (Accept status, named) few (inr past) = absurd past
-past-less count (Continue, named) few (inr past) = absurd past
+past-less count (Conditional lookahead status, naming) few (inr past) = inr (omega arith)
+past-less count (Accept status, naming) few (inr past) = absurd past
+past-less count (Continue, naming) few (inr past) = absurd past
 past-less count (acceptance, Some lookahead) few (inl past) = inl (omega arith)
 past-less count (acceptance, None) few (inl past) = absurd past
 

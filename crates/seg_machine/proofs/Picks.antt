@@ -8,7 +8,7 @@ use Rattle.std.proofs.lemmas.Option.{none-some, same_Some}
 use Rattle.seg_machine.specs.declared.provider.Acceptance.{Acceptance}
 use Rattle.seg_machine.specs.declared.provider.Acceptance.TheVariants.{Continue, Accept, Conditional}
 use Rattle.seg_machine.specs.Machine.{Machine, scan, state_at}
-use Rattle.seg_machine.specs.Pick.{later, last_step, accepted, named, condition, first_condition, picked_step, pick}
+use Rattle.seg_machine.specs.Pick.{later, last_step, acceptance_status, naming, condition, first_condition, picked_step, pick}
 
 -- a pick's step, if there is one, is at least 1
 abbrev IsAhead : Option Boundary → Type 0
@@ -36,7 +36,7 @@ ahead-status (Some found) status ahead = ahead
 ahead-status None status ahead = tt
 
 ahead-condition : (earlier : List (Acceptance × Option ℕ)) (state : Acceptance × Option ℕ) → IsAhead (condition earlier state)
-ahead-condition earlier (Conditional lookahead status, names) = ahead-status (last_step (named lookahead) earlier) status (ahead-last (named lookahead) earlier)
+ahead-condition earlier (Conditional lookahead status, names) = ahead-status (last_step (naming lookahead) earlier) status (ahead-last (naming lookahead) earlier)
 ahead-condition earlier (Accept status, names) = tt
 ahead-condition earlier (Continue, names) = tt
 
@@ -46,7 +46,7 @@ ahead-first earlier [] = tt
 ahead-first earlier (state ∷ states) = ahead-either (condition earlier state) _ (ahead-condition earlier state) (ahead-first (earlier ++ state ∷ []) states)
 
 ahead-picked : (states : List (Acceptance × Option ℕ)) → IsAhead (picked_step states)
-ahead-picked states = ahead-either (first_condition [] states) _ (ahead-first [] states) (ahead-last accepted states)
+ahead-picked states = ahead-either (first_condition [] states) _ (ahead-first [] states) (ahead-last acceptance_status states)
 
 bounds-of : (found : Option Boundary) (n : ℕ) (p : Boundary) → IsAhead found → 0 < n
     → option_map (λ (f : Boundary). boundary (min f.offset n) f.status) found ≡ Some p → (0 < p.offset) × (p.offset ≤ n)

@@ -1,5 +1,5 @@
 -- The scan of a text, step by step.
-use Rattle.std.proofs.Common.{◌≡◌, ◌≢◌, ℕ, zero, suc, ◌<◌, ◌==◌, Bool, true, false, Option, Some, None, List, [], ◌∷◌, ◌++◌, length, drop, replicate, min, IsSome, refl, sym, ◌∙◌, ap, arith, eq-eqb, ◌+◌, append_assoc, append-nil, length-append, inl, inr, subst}
+use Rattle.std.proofs.Common.{◌≡◌, ◌≢◌, ℕ, zero, suc, ◌<◌, ◌==◌, Bool, true, false, Option, Some, None, List, [], ◌∷◌, ◌++◌, length, replicate, min, IsSome, refl, sym, ◌∙◌, ap, arith, eq-eqb, ◌+◌, append_assoc, append-nil, length-append, inl, inr, subst}
 use Rattle.std.specs.Prelude.{is_some, IsNone}
 use Rattle.std.specs.Option.{option_map, option_map_or, option_or}
 use Rattle.seg_text.specs.declared.boundary.Boundary.{Boundary}
@@ -11,11 +11,11 @@ use Rattle.seg_text.specs.Items.{Item, Text, start_of, rest_after, code_points}
 use Rattle.seg_machine.specs.declared.provider.Acceptance.{Acceptance}
 use Rattle.seg_machine.specs.declared.provider.Acceptance.TheVariants.{Continue, Accept, Conditional}
 use Rattle.seg_machine.specs.Machine.{Machine, symbol_and_script, symbols_of, step, run, scan, state_at}
-use Rattle.seg_machine.specs.Pick.{last_step, accepted, named, condition, first_condition, picked_step, pick}
+use Rattle.seg_machine.specs.Pick.{last_step, acceptance_status, naming, condition, first_condition, picked_step, pick}
 use Rattle.seg_machine.specs.Checked.{IsChecked}
 use Rattle.seg_machine.specs.MachineFaults.{NamesPast}
 use Rattle.seg_machine.proofs.Segmentations.{symbols_of-text}
-use Rattle.seg_machine.specs.Scan.{future, entries, kept_for, held, accept_at, keep_at, Remembered, Scanned}
+use Rattle.seg_machine.specs.Scan.{future, entries, place_for, condition_end, acceptance_after, places_after, Remembered, Scanned}
 use Rattle.seg_machine.proofs.Steps.{at_step, last_step-push}
 
 -- symbol 0 once more changes nothing, where it leads on less often than it is there
@@ -80,7 +80,7 @@ at_step-placed text n place None e = refl
 at_step-placed text n place (Some v) e = rw e refl
 
 -- nothing is kept at first
-none-kept : (n lookahead : ℕ) → kept_for (replicate n None) lookahead ≡ None
+none-kept : (n lookahead : ℕ) → place_for (replicate n None) lookahead ≡ None
 none-kept zero lookahead = refl
 none-kept (suc n) zero = refl
 none-kept (suc n) (suc lookahead) = none-kept n lookahead
@@ -99,42 +99,42 @@ asked-within kept lookahead status name within =
 
 -- a state more
 places-step : (text : Text) (place : ℕ) (entered : List (Acceptance × Option ℕ)) (kept : List (Option ℕ)) (state : Acceptance × Option ℕ) (lookahead : ℕ)
-    → kept_for kept lookahead ≡ option_map (λ (f : Boundary). start_of (rest_after f.offset text)) (last_step (named lookahead) entered)
+    → place_for kept lookahead ≡ option_map (λ (f : Boundary). start_of (rest_after f.offset text)) (last_step (naming lookahead) entered)
     → place ≡ start_of (rest_after (suc (length entered)) text) → (NamesPast (length kept) state → ⊥)
-    → kept_for (keep_at place state kept) lookahead
-    ≡ option_map (λ (f : Boundary). start_of (rest_after f.offset text)) (option_or (at_step (suc (length entered)) (named lookahead state)) (last_step (named lookahead) entered))
-unfolding keep_at
+    → place_for (places_after place state kept) lookahead
+    ≡ option_map (λ (f : Boundary). start_of (rest_after f.offset text)) (option_or (at_step (suc (length entered)) (naming lookahead state)) (last_step (naming lookahead) entered))
+unfolding places_after
 places-step text place entered kept (acceptance, None) lookahead before here within = before
 places-step text place entered kept (acceptance, Some name) lookahead before here within =
     elim (cases_eq name lookahead) [
       | inl same ↦ rw (cond-true (name == lookahead) (Some name) None (eq-eqb name lookahead same))
-          (subst (λ (l : ℕ). kept_for (set kept name (Some place)) l ≡ Some (start_of (rest_after (suc (length entered)) text))) same
+          (subst (λ (l : ℕ). place_for (set kept name (Some place)) l ≡ Some (start_of (rest_after (suc (length entered)) text))) same
           (get_or-set_same kept name (Some place) None (named-within kept acceptance name within) ∙ ap Some here))
       | inr other ↦ rw (cond-false (name == lookahead) (Some name) None (ne_eqb name lookahead other))
           (get_or-set_other kept name lookahead (Some place) None (λ same. other (sym same)) ∙ before)
     ]
 
-length-keep : (place : ℕ) (state : Acceptance × Option ℕ) (kept : List (Option ℕ)) → length (keep_at place state kept) ≡ length kept
-unfolding keep_at
+length-keep : (place : ℕ) (state : Acceptance × Option ℕ) (kept : List (Option ℕ)) → length (places_after place state kept) ≡ length kept
+unfolding places_after
 length-keep place (acceptance, None) kept = refl
 length-keep place (acceptance, Some name) kept = length-set kept name (Some place)
 
 last-step : (text : Text) (place : ℕ) (entered : List (Acceptance × Option ℕ)) (state : Acceptance × Option ℕ) (last : Option Boundary)
-    → last ≡ option_map (boundary_in text) (last_step accepted entered) → place ≡ start_of (rest_after (suc (length entered)) text)
-    → accept_at place state last ≡ option_map (boundary_in text) (last_step accepted (entered ++ state ∷ []))
-unfolding accept_at
+    → last ≡ option_map (boundary_in text) (last_step acceptance_status entered) → place ≡ start_of (rest_after (suc (length entered)) text)
+    → acceptance_after place state last ≡ option_map (boundary_in text) (last_step acceptance_status (entered ++ state ∷ []))
+unfolding acceptance_after
 last-step text place entered state last before here =
-    sym (ap (option_map (boundary_in text)) (last_step-push accepted entered state)
-    ∙ either-placed text (at_step (suc (length entered)) (accepted state)) (last_step accepted entered)
-    ∙ ap (λ (f : Option Boundary). option_or f (option_map (boundary_in text) (last_step accepted entered))) (at_step-placed text (suc (length entered)) place (accepted state) here)
-    ∙ ap (option_or (at_step place (accepted state))) (sym before))
+    sym (ap (option_map (boundary_in text)) (last_step-push acceptance_status entered state)
+    ∙ either-placed text (at_step (suc (length entered)) (acceptance_status state)) (last_step acceptance_status entered)
+    ∙ ap (λ (f : Option Boundary). option_or f (option_map (boundary_in text) (last_step acceptance_status entered))) (at_step-placed text (suc (length entered)) place (acceptance_status state) here)
+    ∙ ap (option_or (at_step place (acceptance_status state))) (sym before))
 
 remembered-step : (text : Text) (place : ℕ) (entered : List (Acceptance × Option ℕ)) (state : Acceptance × Option ℕ) (kept : List (Option ℕ)) (last : Option Boundary)
     → Remembered text entered kept last → place ≡ start_of (rest_after (suc (length entered)) text) → (NamesPast (length kept) state → ⊥)
-    → Remembered text (entered ++ state ∷ []) (keep_at place state kept) (accept_at place state last)
+    → Remembered text (entered ++ state ∷ []) (places_after place state kept) (acceptance_after place state last)
 remembered-step text place entered state kept last r here within = record {
   places = λ lookahead below.
-      rw (last_step-push (named lookahead) entered state)
+      rw (last_step-push (naming lookahead) entered state)
       (places-step text place entered kept state lookahead (r.places lookahead (rw (length-keep place state kept) at below)) here within);
   accepted_last = last-step text place entered state last r.accepted_last here;
 }
@@ -142,12 +142,12 @@ remembered-step text place entered state kept last r here within = record {
 -- a condition holds just where a place is kept, and picks it
 held-condition : (text : Text) (entered : List (Acceptance × Option ℕ)) (state : Acceptance × Option ℕ) (kept : List (Option ℕ)) (last : Option Boundary)
     → Remembered text entered kept last → (NamesPast (length kept) state → ⊥)
-    → held kept state ≡ option_map (boundary_in text) (condition entered state)
-unfolding held
+    → condition_end kept state ≡ option_map (boundary_in text) (condition entered state)
+unfolding condition_end
 held-condition text entered (Continue, name) kept last r within = refl
 held-condition text entered (Accept status, name) kept last r within = refl
 held-condition text entered (Conditional lookahead status, name) kept last r within =
-    rw (r.places lookahead (asked-within kept lookahead status name within)) (on (last_step (named lookahead) entered))
+    rw (r.places lookahead (asked-within kept lookahead status name within)) (on (last_step (naming lookahead) entered))
   where
     on : (f : Option Boundary) → option_map {T = ℕ} {U = Boundary} (λ place. boundary place status) (option_map (λ (f : Boundary). start_of (rest_after f.offset text)) f)
         ≡ option_map (boundary_in text) (option_map (λ (f : Boundary). boundary f.offset status) f)
@@ -211,8 +211,8 @@ within m state kept checked size past = checked.lookaheads state (subst (λ (n :
 scanned-step : (m : Machine) (text : Text) (state : ℕ) (left : Text) (kept : List (Option ℕ)) (last : Option Boundary)
     (symbol : ℕ) (rest : Text) (next place : ℕ)
     → IsChecked m → Scanned m text state left kept last → BeginsBy m state left symbol rest → step m state symbol ≡ Some next
-    → next < length m.states → rest ≡ rest_after 1 left → place ≡ start_of rest → None ≡ held kept (state_at m next)
-    → Scanned m text next rest (keep_at place (state_at m next) kept) (accept_at place (state_at m next) last)
+    → next < length m.states → rest ≡ rest_after 1 left → place ≡ start_of rest → None ≡ condition_end kept (state_at m next)
+    → Scanned m text next rest (places_after place (state_at m next) kept) (acceptance_after place (state_at m next) last)
 scanned-step m text state left kept last symbol rest next place checked s begins leads bound r p none =
     let future-is = begins-some m state left symbol rest next begins leads in
     let names = within m next kept checked s.size in
@@ -247,15 +247,15 @@ scanned-stop m text state left kept last symbol rest s begins stops =
     let no-condition : first_condition [] (entries m (scan m (symbols_of m (code_points text.items)))) ≡ None =
     s.none_held ∙ ap (λ (xs : List ℕ). first_condition (entries m s.entered) (entries m xs)) none ∙ first_condition-nil (entries m s.entered) in
     s.remembered.accepted_last
-    ∙ sym (pick-placed m text (last_step accepted (entries m s.entered))
-    (ap (λ (f : Option Boundary). option_or f (last_step accepted (entries m (scan m (symbols_of m (code_points text.items)))))) no-condition
-    ∙ ap (λ (xs : List ℕ). last_step accepted (entries m xs)) all))
+    ∙ sym (pick-placed m text (last_step acceptance_status (entries m s.entered))
+    (ap (λ (f : Option Boundary). option_or f (last_step acceptance_status (entries m (scan m (symbols_of m (code_points text.items)))))) no-condition
+    ∙ ap (λ (xs : List ℕ). last_step acceptance_status (entries m xs)) all))
 
 -- a condition holds: it is the first, and the pick
 scanned-held : (m : Machine) (text : Text) (state : ℕ) (left : Text) (kept : List (Option ℕ)) (last : Option Boundary)
     (symbol : ℕ) (rest : Text) (next : ℕ) (found : Boundary)
     → IsChecked m → Scanned m text state left kept last → BeginsBy m state left symbol rest → step m state symbol ≡ Some next
-    → Some found ≡ held kept (state_at m next)
+    → Some found ≡ condition_end kept (state_at m next)
     → Some found ≡ option_map (boundary_in text) (pick m (symbols_of m (code_points text.items)))
 scanned-held m text state left kept last symbol rest next found checked s begins leads is =
     let future-is = begins-some m state left symbol rest next begins leads in
@@ -265,7 +265,7 @@ scanned-held m text state left kept last symbol rest next found checked s begins
     s.none_held ∙ ap (λ (xs : List ℕ). first_condition (entries m s.entered) (entries m xs)) future-is
     ∙ first_condition-some (entries m s.entered) (entries m (future m next rest)) (state_at m next) picked.0 picked.1 in
     ap Some picked.2
-    ∙ sym (pick-placed m text (Some picked.0) (ap (λ (f : Option Boundary). option_or f (last_step accepted (entries m (scan m (symbols_of m (code_points text.items)))))) first))
+    ∙ sym (pick-placed m text (Some picked.0) (ap (λ (f : Option Boundary). option_or f (last_step acceptance_status (entries m (scan m (symbols_of m (code_points text.items)))))) first))
 
 none-from : (found : Option Boundary) → is_some found ≡ false → found ≡ None
 none-from None is = refl
@@ -290,12 +290,12 @@ pub turn : (m : Machine) (text : Text) (state : ℕ) (left : Text) (kept : List 
     → IsChecked m → Scanned m text state left kept last → ((q : ℕ) → q < length m.states → BeginsBy m q left symbol rest)
     → to ≡ step m state symbol → to ≡ Some next → next < length m.states
     → rest ≡ rest_after 1 left → place ≡ start_of rest
-    → entry ≡ state_at m next → found ≡ held kept entry → test ≡ is_some found → test ≡ false
-    → (IsNone found → last-after ≡ accept_at place entry last) → (IsNone found → kept-after ≡ keep_at place entry kept)
+    → entry ≡ state_at m next → found ≡ condition_end kept entry → test ≡ is_some found → test ≡ false
+    → (IsNone found → last-after ≡ acceptance_after place entry last) → (IsNone found → kept-after ≡ places_after place entry kept)
     → Scanned m text next rest kept-after last-after
 turn m text state left kept last symbol rest to next place entry found test kept-after last-after checked s begins value leads bound r p e h tests fails l k =
     let is : found ≡ None = none-from found (sym tests ∙ fails) in
-    let none : None ≡ held kept (state_at m next) = sym is ∙ h ∙ ap (held kept) e in
+    let none : None ≡ condition_end kept (state_at m next) = sym is ∙ h ∙ ap (condition_end kept) e in
     rw (l (rw is refl), k (rw is refl), e)
     (scanned-step m text state left kept last symbol rest next place checked s (begins state s.in_range) (sym value ∙ leads) bound r p none)
 
@@ -303,11 +303,11 @@ pub turn-held : (m : Machine) (text : Text) (state : ℕ) (left : Text) (kept : 
     (symbol : ℕ) (rest : Text) (to : Option ℕ) (next : ℕ) (entry : Acceptance × Option ℕ) (found : Option Boundary) (test : Bool)
     → IsChecked m → Scanned m text state left kept last → ((q : ℕ) → q < length m.states → BeginsBy m q left symbol rest) → rest ≡ rest_after 1 left
     → to ≡ step m state symbol → to ≡ Some next
-    → entry ≡ state_at m next → found ≡ held kept entry → test ≡ is_some found → test ≡ true
+    → entry ≡ state_at m next → found ≡ condition_end kept entry → test ≡ is_some found → test ≡ true
     → found ≡ option_map (boundary_in text) (pick m (symbols_of m (code_points text.items)))
 turn-held m text state left kept last symbol rest to next entry found test checked s begins r value leads e h tests holds =
     let f = some-from found (sym tests ∙ holds) in
-    f.1 ∙ scanned-held m text state left kept last symbol rest next f.0 checked s (begins state s.in_range) (sym value ∙ leads) (sym f.1 ∙ h ∙ ap (held kept) e)
+    f.1 ∙ scanned-held m text state left kept last symbol rest next f.0 checked s (begins state s.in_range) (sym value ∙ leads) (sym f.1 ∙ h ∙ ap (condition_end kept) e)
 
 -- what is left after an item, and after none
 pub one-less : (old new : Text) (item : Item) → old.items ≡ item ∷ new.items → new.end ≡ old.end → new ≡ rest_after 1 old

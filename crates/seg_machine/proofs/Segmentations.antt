@@ -1,5 +1,5 @@
 -- The segments of a text are stretches: each takes some of it, and by a checked machine ends with a boundary.
-use Rattle.std.proofs.Common.{◌≡◌, ◌≢◌, ℕ, suc, ◌+◌, ◌<◌, ◌≤◌, List, [], ◌∷◌, length, get_or, All, refl, ap, inl, inr, arith}
+use Rattle.std.proofs.Common.{◌≡◌, ◌≢◌, ℕ, ◌<◌, List, [], ◌∷◌, length, get_or, All, refl, inl, inr, arith}
 use Rattle.std.specs.Prelude.{Option, Some, None, IsSome}
 use Rattle.std.specs.Option.{option_map_or}
 use Rattle.std.proofs.lemmas.Bool.{false≢true}

@@ -9,7 +9,7 @@ use Rattle.seg_data.proofs.Options.{some-map, or-false}
 use Rattle.seg_machine.specs.declared.provider.Acceptance.{Acceptance}
 use Rattle.seg_machine.specs.declared.provider.Acceptance.TheVariants.{Continue, Accept, Conditional}
 use Rattle.seg_machine.specs.Machine.{Machine, step, run, scan, state_at}
-use Rattle.seg_machine.specs.Pick.{later, last_step, accepted, named, condition, first_condition, pick}
+use Rattle.seg_machine.specs.Pick.{later, last_step, acceptance_status, naming, condition, first_condition, pick}
 use Rattle.seg_machine.specs.Search.{has, keep, is_pick, enter, settles, is_settled}
 use Rattle.seg_machine.proofs.Sets.{has-none, has-keep}
 
@@ -110,7 +110,7 @@ first-cons earlier state states = some-either (condition earlier state) (first_c
 
 -- the set has the lookaheads that these states name
 abbrev Agrees : ℕ → List (Acceptance × Option ℕ) → Type 0
-Agrees kept earlier = (lookahead : ℕ) → has kept lookahead ≡ is_some (last_step (named lookahead) earlier)
+Agrees kept earlier = (lookahead : ℕ) → has kept lookahead ≡ is_some (last_step (naming lookahead) earlier)
 
 some-if : (b : Bool) (x : ℕ) → is_some (cond b (Some x) None) ≡ b
 some-if true x = refl
@@ -120,21 +120,21 @@ agrees-more : (kept : ℕ) (earlier : List (Acceptance × Option ℕ)) (state : 
 agrees-more kept earlier (acceptance, Some name) agrees lookahead =
     has-keep kept name lookahead
     ∙ ap (λ (b : Bool). b || name == lookahead) (agrees lookahead)
-    ∙ ap (λ (b : Bool). is_some (last_step (named lookahead) earlier) || b) (sym (some-if (name == lookahead) name))
-    ∙ sym (last-more (named lookahead) earlier (acceptance, Some name))
+    ∙ ap (λ (b : Bool). is_some (last_step (naming lookahead) earlier) || b) (sym (some-if (name == lookahead) name))
+    ∙ sym (last-more (naming lookahead) earlier (acceptance, Some name))
 agrees-more kept earlier (acceptance, None) agrees lookahead =
     agrees lookahead
-    ∙ sym (or-false (is_some (last_step (named lookahead) earlier)))
-    ∙ sym (last-more (named lookahead) earlier (acceptance, None))
+    ∙ sym (or-false (is_some (last_step (naming lookahead) earlier)))
+    ∙ sym (last-more (naming lookahead) earlier (acceptance, None))
 
 pick-way : (kept : ℕ) (earlier : List (Acceptance × Option ℕ)) (state : Acceptance × Option ℕ) → Agrees kept earlier
-    → is_pick kept state.0 ≡ (is_some (condition earlier state) || is_some (accepted state))
+    → is_pick kept state.0 ≡ (is_some (condition earlier state) || is_some (acceptance_status state))
 pick-way kept earlier (Continue, name) agrees = refl
 pick-way kept earlier (Accept status, name) agrees = refl
 pick-way kept earlier (Conditional lookahead status, name) agrees =
     agrees lookahead
-    ∙ sym (some-map (λ (f : Boundary). boundary f.offset status) (last_step (named lookahead) earlier))
-    ∙ sym (or-false (is_some {T = Boundary} (option_map (λ (f : Boundary). boundary f.offset status) (last_step (named lookahead) earlier))))
+    ∙ sym (some-map (λ (f : Boundary). boundary f.offset status) (last_step (naming lookahead) earlier))
+    ∙ sym (or-false (is_some {T = Boundary} (option_map (λ (f : Boundary). boundary f.offset status) (last_step (naming lookahead) earlier))))
 
 settles-stop : (kept : ℕ) (state : Acceptance × Option ℕ) (states : List (Acceptance × Option ℕ)) → is_pick kept state.0 ≡ true → settles kept (state ∷ states) ≡ true
 unfolding settles
@@ -153,15 +153,15 @@ unfolding first_condition
 first-none earlier = refl
 
 settles-picked : (kept : ℕ) (earlier states : List (Acceptance × Option ℕ)) → Agrees kept earlier
-    → settles kept states ≡ (is_some (first_condition earlier states) || is_some (last_step accepted states))
-settles-picked kept earlier [] agrees = rw (settles-none kept, first-none earlier, last-none accepted) refl
+    → settles kept states ≡ (is_some (first_condition earlier states) || is_some (last_step acceptance_status states))
+settles-picked kept earlier [] agrees = rw (settles-none kept, first-none earlier, last-none acceptance_status) refl
 settles-picked kept earlier (state ∷ states) agrees =
     let c = is_some (condition earlier state) in
     let f = is_some (first_condition (earlier ++ state ∷ []) states) in
-    let l = is_some (last_step accepted states) in
-    let a = is_some (accepted state) in
+    let l = is_some (last_step acceptance_status states) in
+    let a = is_some (acceptance_status state) in
     let way = pick-way kept earlier state agrees in
-    let parts : (is_some (first_condition earlier (state ∷ states)) || is_some (last_step accepted (state ∷ states))) ≡ ((c || f) || (l || a)) = rw (first-cons earlier state states, last-cons accepted state states) refl in
+    let parts : (is_some (first_condition earlier (state ∷ states)) || is_some (last_step acceptance_status (state ∷ states))) ≡ ((c || f) || (l || a)) = rw (first-cons earlier state states, last-cons acceptance_status state states) refl in
     elim (cases_Bool (is_pick kept state.0)) [
       | inl yes_pick ↦ settles-stop kept state states yes_pick ∙ sym (parts ∙ or-way c f l a (sym way ∙ yes_pick))
       | inr no_pick ↦
@@ -175,6 +175,6 @@ pub pick-settled : (m : Machine) (symbols : List ℕ) → is_some (pick m symbol
 unfolding pick is_settled scan
 pick-settled m symbols =
     let states = map (state_at m) (run m 0 (symbols ++ replicate (length m.states) 0)) in
-    some-map _ (option_or (first_condition [] states) (last_step accepted states))
-    ∙ some-either (first_condition [] states) (last_step accepted states)
-    ∙ sym (settles-picked 0 [] states (λ lookahead. has-none lookahead ∙ sym (last-none (named lookahead))))
+    some-map _ (option_or (first_condition [] states) (last_step acceptance_status states))
+    ∙ some-either (first_condition [] states) (last_step acceptance_status states)
+    ∙ sym (settles-picked 0 [] states (λ lookahead. has-none lookahead ∙ sym (last-none (naming lookahead))))

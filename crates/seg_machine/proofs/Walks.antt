@@ -5,24 +5,24 @@ use Rattle.std.specs.Option.{is_some, option_map_or}
 use Rattle.std.proofs.lemmas.Bool.{both_ways, cases_lt, cases_eq, cond-true, cond-false, lt-ltb, le-ltb}
 use Rattle.std.proofs.lemmas.Option.{none-some, same_Some}
 use Rattle.seg_data.proofs.Options.{option-cases}
-use Rattle.seg_machine.specs.Machine.{Machine, step, run, walk}
+use Rattle.seg_machine.specs.Machine.{Machine, step, run, state_after_ends}
 use Rattle.seg_machine.specs.MachineFaults.{HasEndCycle}
 use Rattle.seg_machine.proofs.Transitions.{leads-to}
 
-pub walk-next : (m : Machine) (q next steps : ℕ) → step m q 0 ≡ Some next → walk m q (suc steps) ≡ walk m next steps
-unfolding walk
+pub walk-next : (m : Machine) (q next steps : ℕ) → step m q 0 ≡ Some next → state_after_ends m q (suc steps) ≡ state_after_ends m next steps
+unfolding state_after_ends
 walk-next m q next steps leads = rw leads refl
 
-pub walk-end : (m : Machine) (q steps : ℕ) → step m q 0 ≡ None → walk m q (suc steps) ≡ None
-unfolding walk
+pub walk-end : (m : Machine) (q steps : ℕ) → step m q 0 ≡ None → state_after_ends m q (suc steps) ≡ None
+unfolding state_after_ends
 walk-end m q steps ends = rw ends refl
 
-walk-zero : (m : Machine) (q : ℕ) → walk m q 0 ≡ Some q
-unfolding walk
+walk-zero : (m : Machine) (q : ℕ) → state_after_ends m q 0 ≡ Some q
+unfolding state_after_ends
 walk-zero m q = refl
 
--- a walk, and then one from where it ends
-pub walk-add : (m : Machine) (q a b r : ℕ) → walk m q a ≡ Some r → walk m q (a + b) ≡ walk m r b
+-- a state_after_ends, and then one from where it ends
+pub walk-add : (m : Machine) (q a b r : ℕ) → state_after_ends m q a ≡ Some r → state_after_ends m q (a + b) ≡ state_after_ends m r b
 walk-add m q zero b r is =
     let same : q ≡ r = same_Some q r (sym (walk-zero m q) ∙ is) in
     let none : zero + b ≡ b = omega arith in
@@ -34,12 +34,12 @@ walk-add m q (suc a) b r is =
       | inr (next, leads) ↦ rw one (walk-next m q next (a + b) leads ∙ walk-add m next a b r (sym (walk-next m q next a leads) ∙ is))
     ]
 
--- where a walk leads on, so does a shorter one
-pub walk-before : (m : Machine) (q a b r : ℕ) → walk m q (a + b) ≡ Some r → (p : ℕ) × (walk m q a ≡ Some p)
+-- where a state_after_ends leads on, so does a shorter one
+pub walk-before : (m : Machine) (q a b r : ℕ) → state_after_ends m q (a + b) ≡ Some r → (p : ℕ) × (state_after_ends m q a ≡ Some p)
 walk-before m q zero b r is = (q, walk-zero m q)
 walk-before m q (suc a) b r is =
     let one : suc a + b ≡ suc (a + b) = omega arith in
-    let long : walk m q (suc (a + b)) ≡ Some r = ap (walk m q) (sym one) ∙ is in
+    let long : state_after_ends m q (suc (a + b)) ≡ Some r = ap (state_after_ends m q) (sym one) ∙ is in
     elim (option-cases (step m q 0)) [
       | inl ends ↦ absurd (none-some r (sym (walk-end m q (a + b) ends) ∙ long))
       | inr (next, leads) ↦
@@ -51,7 +51,7 @@ walk-before m q (suc a) b r is =
 abbrev pub EndsInRange : Machine → Type 0
 EndsInRange m = (state : ℕ) → state < length m.states → IfSome (step m state 0) (λ next. next < length m.states)
 
-walk-within : (m : Machine) (q a r : ℕ) → EndsInRange m → q < length m.states → walk m q a ≡ Some r → r < length m.states
+walk-within : (m : Machine) (q a r : ℕ) → EndsInRange m → q < length m.states → state_after_ends m q a ≡ Some r → r < length m.states
 walk-within m q zero r range here is = let same : q ≡ r = same_Some q r (sym (walk-zero m q) ∙ is) in omega arith
 walk-within m q (suc a) r range here is =
     elim (option-cases (step m q 0)) [
@@ -60,7 +60,7 @@ walk-within m q (suc a) r range here is =
     ]
 
 -- a round, again and again
-walk-round : (m : Machine) (q round k : ℕ) → walk m q round ≡ Some q → walk m q (k * round) ≡ Some q
+walk-round : (m : Machine) (q round k : ℕ) → state_after_ends m q round ≡ Some q → state_after_ends m q (k * round) ≡ Some q
 walk-round m q round zero is = let none : zero * round ≡ 0 = omega arith in rw none (walk-zero m q)
 walk-round m q round (suc k) is =
     let more : suc k * round ≡ round + k * round = omega arith in
@@ -70,11 +70,11 @@ some-is : {X : Type 0} (found : Option X) (x : X) → found ≡ Some x → is_so
 some-is found x is = rw is refl
 
 -- from a state on a cycle symbol 0 leads on for ever
-pub cycle-leads : (m : Machine) (q steps n : ℕ) → walk m q (suc steps) ≡ Some q → is_some (walk m q n) ≡ true
+pub cycle-leads : (m : Machine) (q steps n : ℕ) → state_after_ends m q (suc steps) ≡ Some q → is_some (state_after_ends m q n) ≡ true
 cycle-leads m q steps n round =
     let long : n * suc steps ≡ n + n * steps = omega arith in
-    let before = walk-before m q n (n * steps) q (ap (walk m q) (sym long) ∙ walk-round m q (suc steps) n round) in
-    some-is (walk m q n) before.0 before.1
+    let before = walk-before m q n (n * steps) q (ap (state_after_ends m q) (sym long) ∙ walk-round m q (suc steps) n round) in
+    some-is (state_after_ends m q n) before.0 before.1
 
 -- is the value among the first n
 among : (n : ℕ) (f : ℕ → ℕ) (v : ℕ) → ((i : ℕ) × (i < n) × (f i ≡ v)) ⊎ ((i : ℕ) → i < n → f i ≡ v → ⊥)
@@ -125,18 +125,18 @@ two-same (suc n) f below =
           (i, j, less, omega arith, squeeze-same top (f i) (f j) (other i (omega arith)) (other j within) same)
     ]
 
--- where the walk is, or 0
+-- where the state_after_ends is, or 0
 abbrev place : Machine → ℕ → ℕ → ℕ
-place m q k = option_map_or (λ x. x) (walk m q k) 0
+place m q k = option_map_or (λ x. x) (state_after_ends m q k) 0
 
-placed : (m : Machine) (q n r k : ℕ) → walk m q n ≡ Some r → k < suc n → (p : ℕ) × (walk m q k ≡ Some p) × (place m q k ≡ p)
+placed : (m : Machine) (q n r k : ℕ) → state_after_ends m q n ≡ Some r → k < suc n → (p : ℕ) × (state_after_ends m q k ≡ Some p) × (place m q k ≡ p)
 placed m q n r k is less =
     let whole : n ≡ k + (n - k) = omega arith in
-    let before = walk-before m q k (n - k) r (ap (walk m q) (sym whole) ∙ is) in
+    let before = walk-before m q k (n - k) r (ap (state_after_ends m q) (sym whole) ∙ is) in
     (before.0, before.1, ap (λ found. option_map_or (λ x. x) found 0) before.1)
 
--- a walk of as many steps as there are states comes back to a state
-pub long-cycle : (m : Machine) (q r : ℕ) → EndsInRange m → q < length m.states → walk m q (length m.states) ≡ Some r → HasEndCycle m
+-- a state_after_ends of as many steps as there are states comes back to a state
+pub long-cycle : (m : Machine) (q r : ℕ) → EndsInRange m → q < length m.states → state_after_ends m q (length m.states) ≡ Some r → HasEndCycle m
 long-cycle m q r range here is =
     let n = length m.states in
     let below : (k : ℕ) → k < suc n → place m q k < n = λ k less.
@@ -147,11 +147,11 @@ long-cycle m q r range here is =
     let (p2, at2, there2) = placed m q n r j is within in
     let again : p2 ≡ p = sym there2 ∙ sym same ∙ there in
     let apart : j ≡ i + suc (j - suc i) = omega arith in
-    let back : walk m p (suc (j - suc i)) ≡ Some p2 = sym (walk-add m q i (suc (j - suc i)) p at) ∙ ap (walk m q) (sym apart) ∙ at2 in
+    let back : state_after_ends m p (suc (j - suc i)) ≡ Some p2 = sym (walk-add m q i (suc (j - suc i)) p at) ∙ ap (state_after_ends m q) (sym apart) ∙ at2 in
     (p, j - suc i, walk-within m q i p range here at, back ∙ ap Some again)
 
--- a walk that ends before some steps gives fewer states
-run-short : (m : Machine) (q k : ℕ) → walk m q k ≡ None → length (run m q (replicate k 0)) < k
+-- a state_after_ends that ends before some steps gives fewer states
+run-short : (m : Machine) (q k : ℕ) → state_after_ends m q k ≡ None → length (run m q (replicate k 0)) < k
 unfolding run
 run-short m q zero is = absurd (none-some q (sym is ∙ walk-zero m q))
 run-short m q (suc k) is =
@@ -165,35 +165,35 @@ run-short m q (suc k) is =
 pub ends-from : (m : Machine) → EndsInRange m → (HasEndCycle m → ⊥) → (state : ℕ) → state < length m.states
     → length (run m state (replicate (length m.states) 0)) < length m.states
 ends-from m range none state here =
-    elim (option-cases (walk m state (length m.states))) [
+    elim (option-cases (state_after_ends m state (length m.states))) [
       | inl ends ↦ run-short m state (length m.states) ends
       | inr (r, is) ↦ absurd (none (long-cycle m state r range here is))
     ]
 
--- the steps of a walk, with so many of them done
+-- the steps of a state_after_ends, with so many of them done
 
 steps-more : (n k : ℕ) → k < n → n - k ≡ suc (n - (k + 1))
 steps-more n k less = omega arith
 
-pub steps-end : (m : Machine) (q n k : ℕ) (all : Option ℕ) → step m q 0 ≡ None → k < n → walk m q (n - k) ≡ all → false ≡ is_some all
-steps-end m q n k all ends less is = ap is_some (sym (walk-end m q (n - (k + 1)) ends) ∙ sym (ap (walk m q) (steps-more n k less)) ∙ is)
+pub steps-end : (m : Machine) (q n k : ℕ) (all : Option ℕ) → step m q 0 ≡ None → k < n → state_after_ends m q (n - k) ≡ all → false ≡ is_some all
+steps-end m q n k all ends less is = ap is_some (sym (walk-end m q (n - (k + 1)) ends) ∙ sym (ap (state_after_ends m q) (steps-more n k less)) ∙ is)
 
-pub steps-next : (m : Machine) (q next n k : ℕ) (all : Option ℕ) → step m q 0 ≡ Some next → k < n → walk m q (n - k) ≡ all → walk m next (n - (k + 1)) ≡ all
-steps-next m q next n k all leads less is = sym (walk-next m q next (n - (k + 1)) leads) ∙ sym (ap (walk m q) (steps-more n k less)) ∙ is
+pub steps-next : (m : Machine) (q next n k : ℕ) (all : Option ℕ) → step m q 0 ≡ Some next → k < n → state_after_ends m q (n - k) ≡ all → state_after_ends m next (n - (k + 1)) ≡ all
+steps-next m q next n k all leads less is = sym (walk-next m q next (n - (k + 1)) leads) ∙ sym (ap (state_after_ends m q) (steps-more n k less)) ∙ is
 
-pub steps-all : (m : Machine) (q n k : ℕ) (all : Option ℕ) → n ≤ k → walk m q (n - k) ≡ all → true ≡ is_some all
+pub steps-all : (m : Machine) (q n k : ℕ) (all : Option ℕ) → n ≤ k → state_after_ends m q (n - k) ≡ all → true ≡ is_some all
 steps-all m q n k all past is =
     let none : n - k ≡ 0 = omega arith in
-    ap is_some (sym (walk-zero m q) ∙ sym (ap (walk m q) none) ∙ is)
+    ap is_some (sym (walk-zero m q) ∙ sym (ap (state_after_ends m q) none) ∙ is)
 
 -- a state from which symbol 0 leads on is there just where there is a cycle
-pub cycle-from : (m : Machine) (q : ℕ) → EndsInRange m → q < length m.states → is_some (walk m q (length m.states)) ≡ true → HasEndCycle m
+pub cycle-from : (m : Machine) (q : ℕ) → EndsInRange m → q < length m.states → is_some (state_after_ends m q (length m.states)) ≡ true → HasEndCycle m
 cycle-from m q range here on =
-    elim (option-cases (walk m q (length m.states))) [
-      | inl none ↦ absurd (both_ways (is_some (walk m q (length m.states))) (ap is_some none) on)
+    elim (option-cases (state_after_ends m q (length m.states))) [
+      | inl none ↦ absurd (both_ways (is_some (state_after_ends m q (length m.states))) (ap is_some none) on)
       | inr (r, is) ↦ long-cycle m q r range here is
     ]
 
-pub cycle-none : (m : Machine) → ((q : ℕ) → q < length m.states → is_some (walk m q (length m.states)) ≡ false) → HasEndCycle m → ⊥
+pub cycle-none : (m : Machine) → ((q : ℕ) → q < length m.states → is_some (state_after_ends m q (length m.states)) ≡ false) → HasEndCycle m → ⊥
 cycle-none m ends (q, steps, here, round) =
-    both_ways (is_some (walk m q (length m.states))) (ends q here) (cycle-leads m q steps (length m.states) round)
+    both_ways (is_some (state_after_ends m q (length m.states))) (ends q here) (cycle-leads m q steps (length m.states) round)

@@ -4,9 +4,9 @@ pub mod Segments
 pub mod MachineFaults
 pub mod Checked
 pub mod Search
-pub mod SameMachines
 pub mod Unaligned
 pub mod Tailored
 pub mod Scan
 pub mod Law
 pub mod Rows
+pub mod Lemmas

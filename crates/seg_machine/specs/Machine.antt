@@ -74,9 +74,9 @@ unfoldable pub scan : Machine → List ℕ → List ℕ
 scan m symbols = run m 0 (symbols ++ replicate (length m.states) 0)
 
 -- the state that symbol 0, so many times, leads to from a state
-unfoldable pub walk : Machine → ℕ → ℕ → Option ℕ
-walk m state zero = Some state
-walk m state (suc steps) = option_and_then (λ next. walk m next steps) (step m state 0)
+unfoldable pub state_after_ends : Machine → ℕ → ℕ → Option ℕ
+state_after_ends m state zero = Some state
+state_after_ends m state (suc steps) = option_and_then (λ next. state_after_ends m next steps) (step m state 0)
 
 -- what a state accepts and names
 unfoldable pub state_at : Machine → ℕ → Acceptance × Option ℕ

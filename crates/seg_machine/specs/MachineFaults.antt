@@ -7,7 +7,7 @@ use Rattle.seg_data.specs.declared.provider.ComplexScript.TheVariants.{None as N
 use Rattle.seg_data.specs.Table.{named_values}
 use Rattle.seg_machine.specs.declared.provider.Acceptance.{Acceptance}
 use Rattle.seg_machine.specs.declared.provider.Acceptance.TheVariants.{Continue, Accept, Conditional}
-use Rattle.seg_machine.specs.Machine.{Machine, IsSymbolOf, IsTextSymbol, tailored, symbol_and_script, symbol_count, walk}
+use Rattle.seg_machine.specs.Machine.{Machine, IsSymbolOf, IsTextSymbol, tailored, symbol_and_script, symbol_count, state_after_ends}
 use Rattle.seg_machine.specs.Pick.{HasStall}
 
 -- of so many symbols, with this shift and so many entries of the map, a value gives no symbol of a text
@@ -27,7 +27,7 @@ NamesPast count state = IsSomeAnd state.1 (λ lookahead. count ≤ lookahead) �
 
 -- from some state, symbol 0 leads back to it
 abbrev pub HasEndCycle : Machine → Type 0
-HasEndCycle m = (state steps : ℕ) × (state < length m.states) × (walk m state (suc steps) ≡ Some state)
+HasEndCycle m = (state steps : ℕ) × (state < length m.states) × (state_after_ends m state (suc steps) ≡ Some state)
 
 -- the faults of a machine's parts
 abbrev pub HasMachineFault : Machine → DataError → Type 0

@@ -18,19 +18,19 @@ last_step value (state ∷ states) =
     option_or (later (last_step value states)) (option_map (λ v. boundary 1 v) (value state))
 
 -- the status that a state accepts with
-abbrev pub accepted : Acceptance × Option ℕ → Option ℕ
-accepted (Accept status, named) = Some status
-accepted (_, named) = None
+abbrev pub acceptance_status : Acceptance × Option ℕ → Option ℕ
+acceptance_status (Accept status, naming) = Some status
+acceptance_status (_, naming) = None
 
 -- the lookahead, where the state names it
-abbrev pub named : ℕ → Acceptance × Option ℕ → Option ℕ
-named lookahead (acceptance, Some name) = if name == lookahead then Some name else None
-named lookahead (acceptance, None) = None
+abbrev pub naming : ℕ → Acceptance × Option ℕ → Option ℕ
+naming lookahead (acceptance, Some name) = if name == lookahead then Some name else None
+naming lookahead (acceptance, None) = None
 
 -- what a condition picks after earlier states, if it holds there: the last of them that names its lookahead
 abbrev pub condition : List (Acceptance × Option ℕ) → Acceptance × Option ℕ → Option Boundary
 condition earlier (Conditional lookahead status, _) =
-    option_map (λ (f : Boundary). boundary f.offset status) (last_step (named lookahead) earlier)
+    option_map (λ (f : Boundary). boundary f.offset status) (last_step (naming lookahead) earlier)
 condition earlier (_, _) = None
 
 -- what the first condition that holds picks
@@ -41,7 +41,7 @@ first_condition earlier (state ∷ states) =
 
 -- the first condition that holds, or else the last acceptance
 abbrev pub picked_step : List (Acceptance × Option ℕ) → Option Boundary
-picked_step states = option_or (first_condition [] states) (last_step accepted states)
+picked_step states = option_or (first_condition [] states) (last_step acceptance_status states)
 
 -- the pick of a text's symbols: how many the segment takes (steps at the end take no more), and its status
 unfoldable pub pick : Machine → List ℕ → Option Boundary

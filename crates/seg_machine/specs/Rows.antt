@@ -21,13 +21,13 @@ condition_at_end =
     small ((Continue, None) ∷ (Continue, Some 0) ∷ (Conditional 0 1, None) ∷ [])
     (255 ∷ 2 ∷ 255 ∷ 1 ∷ 1 ∷ 255 ∷ [])
 
--- each letter enters a condition on the lookahead that it names too, and the end is accepted
+-- each letter enters a condition on the lookahead that it names too, and the end is acceptance_status
 abbrev pub condition_on_own_name : Machine
 condition_on_own_name =
     small ((Continue, None) ∷ (Conditional 0 1, Some 0) ∷ (Accept 0, None) ∷ [])
     (255 ∷ 2 ∷ 255 ∷ 1 ∷ 1 ∷ 255 ∷ [])
 
--- the end is accepted after two steps there
+-- the end is acceptance_status after two steps there
 abbrev pub accepted_two_past_end : Machine
 accepted_two_past_end =
     small ((Continue, None) ∷ (Continue, None) ∷ (Continue, None) ∷ (Accept 0, None) ∷ [])

@@ -1,5 +1,5 @@
 -- What a scan keeps as it reads a text.
-use Rattle.std.specs.Prelude.{◌≡◌, ℕ, ◌<◌, Option, Some, None, List, [], ◌++◌, drop, map, length, replicate, slice_set, slice_index_or}
+use Rattle.std.specs.Prelude.{◌≡◌, ℕ, ◌<◌, Option, Some, None, List, [], ◌++◌, map, length, replicate, slice_set, slice_index_or}
 use Rattle.std.specs.Option.{option_map, option_or}
 use Rattle.seg_text.specs.declared.boundary.Boundary.{Boundary}
 use Rattle.seg_text.specs.Boundaries.{boundary, boundary_in}
@@ -7,7 +7,7 @@ use Rattle.seg_text.specs.Items.{Text, code_points, start_of, rest_after}
 use Rattle.seg_machine.specs.Machine.{Machine, symbols_of, run, scan, state_at}
 use Rattle.seg_machine.specs.declared.provider.Acceptance.{Acceptance}
 use Rattle.seg_machine.specs.declared.provider.Acceptance.TheVariants.{Conditional}
-use Rattle.seg_machine.specs.Pick.{accepted, named, last_step, first_condition}
+use Rattle.seg_machine.specs.Pick.{acceptance_status, naming, last_step, first_condition}
 
 -- the states that are still to come, from a state and what is left of the text
 abbrev pub future : Machine → ℕ → Text → List ℕ
@@ -18,35 +18,35 @@ abbrev pub entries : Machine → List ℕ → List (Acceptance × Option ℕ)
 entries m states = map (state_at m) states
 
 -- the place that is kept for a lookahead, if there is one
-abbrev pub kept_for : List (Option ℕ) → ℕ → Option ℕ
-kept_for kept lookahead = slice_index_or kept lookahead None
+abbrev pub place_for : List (Option ℕ) → ℕ → Option ℕ
+place_for kept lookahead = slice_index_or kept lookahead None
 
 -- where the segment ends by the condition of a state, if it holds: at the place kept for its lookahead
-unfoldable pub held : List (Option ℕ) → Acceptance × Option ℕ → Option Boundary
-held kept (Conditional lookahead status, _) = option_map (λ place. boundary place status) (kept_for kept lookahead)
-held kept (_, _) = None
+unfoldable pub condition_end : List (Option ℕ) → Acceptance × Option ℕ → Option Boundary
+condition_end kept (Conditional lookahead status, _) = option_map (λ place. boundary place status) (place_for kept lookahead)
+condition_end kept (_, _) = None
 
 -- the last acceptance, once a state is entered at a place
-unfoldable pub accept_at : ℕ → Acceptance × Option ℕ → Option Boundary → Option Boundary
-accept_at place state last = option_or (option_map (λ status. boundary place status) (accepted state)) last
+unfoldable pub acceptance_after : ℕ → Acceptance × Option ℕ → Option Boundary → Option Boundary
+acceptance_after place state last = option_or (option_map (λ status. boundary place status) (acceptance_status state)) last
 
 -- the places kept, once a state is entered at a place
-unfoldable pub keep_at : ℕ → Acceptance × Option ℕ → List (Option ℕ) → List (Option ℕ)
-keep_at place (_, Some lookahead) kept = slice_set kept lookahead (Some place)
-keep_at place (_, None) kept = kept
+unfoldable pub places_after : ℕ → Acceptance × Option ℕ → List (Option ℕ) → List (Option ℕ)
+places_after place (_, Some lookahead) kept = slice_set kept lookahead (Some place)
+places_after place (_, None) kept = kept
 
--- what is kept of the states that were entered, as places: for each lookahead the last that named it, and the
+-- what is kept of the states that were entered, as places: for each lookahead the last that naming it, and the
 -- last acceptance with its status
 pub record Remembered
     (text : Text) (entered : List (Acceptance × Option ℕ))
     (kept : List (Option ℕ)) (last : Option Boundary) : Type 0 where
   pub places :
       (lookahead : ℕ) → lookahead < length kept
-      → kept_for kept lookahead ≡ option_map (λ (f : Boundary). start_of (rest_after f.offset text)) (last_step (named lookahead) entered)
-  pub accepted_last : last ≡ option_map (boundary_in text) (last_step accepted entered)
+      → place_for kept lookahead ≡ option_map (λ (f : Boundary). start_of (rest_after f.offset text)) (last_step (naming lookahead) entered)
+  pub accepted_last : last ≡ option_map (boundary_in text) (last_step acceptance_status entered)
 
 -- the scan of a text, where it has entered some states: what is left of the text, the state that it is in, and
--- what it remembers of those states; no condition of theirs held
+-- what it remembers of those states; no condition of theirs condition_end
 pub record Scanned
     (m : Machine) (text : Text) (state : ℕ) (left : Text)
     (kept : List (Option ℕ)) (last : Option Boundary) : Type 0 where

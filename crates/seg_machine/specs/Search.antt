@@ -1,5 +1,5 @@
 -- The search for a text without a pick. It follows pairs of a state and a set of lookaheads: those that the
--- states up to here have named. Bit k of a set's number is lookahead k.
+-- states up to here have naming. Bit k of a set's number is lookahead k.
 use Rattle.std.specs.Prelude.{◌≡◌, ◌≢◌, ℕ, suc, ◌+◌, ◌*◌, ◌^◌, ◌<◌, ◌≤◌, ◌==◌, Bool, true, false, if◌then◌else◌, Option, Some, None, List, [], ◌∷◌, ◌++◌, length, map, replicate, slice_index_or, IfSome, All, Contains}
 use Rattle.std.specs.Int.{bit_at}
 use Rattle.std.specs.Int.Bits.{bit_or}

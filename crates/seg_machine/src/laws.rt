@@ -5,19 +5,20 @@ ghost use Rattle.seg_machine.specs.Pick.{pick};
 ghost use Rattle.seg_machine.specs.Law.{IsPick};
 ghost use Rattle.seg_machine.specs.Rows.{boundaries_of, condition_at_end, condition_on_own_name, accepted_two_past_end, accepted_from_start, start_accepts, named_past_end};
 ghost use Rattle.seg_machine.specs.Scan.{entries};
+ghost use Rattle.seg_machine.specs.Tailored.{machine_of};
 ghost use Rattle.seg_text.specs.Boundaries.{boundary};
 
-use crate::provider::SegmenterStateMachine;
+use crate::tailored_machine::TailoredMachineBorrowed;
 
-/// Law: the pick of a text in its own words. The first condition that holds decides, and
-/// otherwise the last acceptance; and that more symbols of the end change no scan.
-pub fn picks_are_first_or_last(machine: &SegmenterStateMachine)
-    ensures pick { (symbols : List ℕ) (n status : ℕ) → (pick machine.now symbols ≡ Some (boundary n status))
-        ↔ IsPick (entries machine.now (scan machine.now symbols)) (length symbols) n status }
-    ensures end { (symbols : List ℕ) (k : ℕ) → All (IsTextSymbol machine.now) symbols
-        → run machine.now 0 (symbols ++ replicate (k + length machine.now.states) 0) ≡ scan machine.now symbols }
+/// Law: the pick of a text in its own words, with the machine's tailoring: the first condition that holds decides, and
+/// otherwise the last acceptance. More symbols of the end change no scan.
+pub fn picks_are_first_or_last(machine: TailoredMachineBorrowed<'_>)
+    ensures pick { (symbols : List ℕ) (n status : ℕ) → (pick (machine_of machine.entry) symbols ≡ Some (boundary n status))
+        ↔ IsPick (entries (machine_of machine.entry) (scan (machine_of machine.entry) symbols)) (length symbols) n status }
+    ensures end { (symbols : List ℕ) (k : ℕ) → All (IsTextSymbol (machine_of machine.entry)) symbols
+        → run (machine_of machine.entry) 0 (symbols ++ replicate (k + length (machine_of machine.entry).states) 0) ≡ scan (machine_of machine.entry) symbols }
 {
-    machine.check();
+    machine.facts();
 }
 
 /// Law: the boundaries that small machines find.

@@ -11,7 +11,7 @@ ghost use Rattle.seg_machine.specs.Machine.{step, symbol_count, symbols_of};
 ghost use Rattle.seg_machine.specs.Pick.{pick};
 ghost use Rattle.seg_machine.specs.Segments.{machine_boundaries};
 ghost use Rattle.seg_machine.specs.Tailored.{machine_of};
-ghost use Rattle.seg_machine.specs.Scan.{accept_at, future, held, keep_at};
+ghost use Rattle.seg_machine.specs.Scan.{acceptance_after, future, condition_end, places_after};
 
 use crate::provider::{Acceptance, Lookahead, SegmenterStateMachine, Symbol};
 use crate::tailored_machine::TailoredMachineBorrowed;
@@ -52,7 +52,7 @@ impl<'data, I: Cursor> RuleBreakIterator<'data, I> {
         ensures cover { IsCover (start_of (I.text text)) (I.text text).end result.left }
         ensures status { result.status ≡ 0 }
     {
-        machine.check();
+        machine.facts();
         RuleBreakIterator {
             machine,
             rest: text,
@@ -101,7 +101,7 @@ fn next_segment<I: Cursor>(machine: &TailoredMachineBorrowed<'_>, rest: &mut I) 
     ensures { (p : AnyBoundary) × (pick (machine_of machine.now) (symbols_of (machine_of machine.now) (code_points (I.text rest.old).items)) ≡ Some p)
         × (result ≡ p.status) × (I.text rest.new ≡ rest_after p.offset (I.text rest.old)) }
 {
-    machine.check();
+    machine.facts();
     let Some(picked) = scan(machine, rest) else {
         unreachable!()
     };
@@ -114,7 +114,7 @@ fn scan<I: Cursor>(machine: &TailoredMachineBorrowed<'_>, rest: &I) -> Option<Bo
     ensures { result ≡ option_map (boundary_in (I.text rest.now))
         (pick (machine_of machine.now) (symbols_of (machine_of machine.now) (code_points (I.text rest.now).items))) }
 {
-    machine.check();
+    machine.facts();
     let mut iter = rest.fork();
     let mut kept = no_places(machine.num_lookaheads());
     let mut last: Option<Boundary> = None;
@@ -140,7 +140,7 @@ fn next_symbol<I: Cursor>(machine: &TailoredMachineBorrowed<'_>, iter: &mut I) -
         ≡ option_map_or (λ next. next ∷ future (machine_of machine.now) next (I.text iter.new)) (step (machine_of machine.now) state result) [] }
     ensures left { I.text iter.new ≡ rest_after 1 (I.text iter.old) }
 {
-    machine.check();
+    machine.facts();
     match iter.next_item() {
         Some((_, code_point)) => machine.symbol(code_point),
         None => SegmenterStateMachine::EOT_SYMBOL,
@@ -165,7 +165,7 @@ fn no_places(lookaheads: usize) -> Places
 /// Enters a state at a place, and gives the segment's end and status where its condition holds: at
 /// the place kept for its lookahead. Else an acceptance is remembered, and the place is kept for
 /// the lookahead that the state names.
-#[tactic(auto, unfolding(crate::specs::Scan::held, crate::specs::Scan::accept_at, crate::specs::Scan::keep_at))]
+#[tactic(auto, unfolding(crate::specs::Scan::condition_end, crate::specs::Scan::acceptance_after, crate::specs::Scan::places_after))]
 fn enter(
     state: (Acceptance, Option<Lookahead>),
     place: usize,
@@ -173,9 +173,9 @@ fn enter(
     last: &mut Option<Boundary>,
 ) -> Option<Boundary>
     requires { NamesPast (length kept.old.items) state → ⊥ }
-    ensures held { result ≡ held kept.old.items state }
-    ensures last { IsNone result → last.new ≡ accept_at place state last.old }
-    ensures kept { IsNone result → kept.new.items ≡ keep_at place state kept.old.items }
+    ensures condition_end { result ≡ condition_end kept.old.items state }
+    ensures last { IsNone result → last.new ≡ acceptance_after place state last.old }
+    ensures kept { IsNone result → kept.new.items ≡ places_after place state kept.old.items }
 {
     match state.0 {
         Acceptance::Accept(status) => {

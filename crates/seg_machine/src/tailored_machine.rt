@@ -26,7 +26,7 @@ impl TailoredMachine {
     pub fn untailored(machine: SegmenterStateMachine) -> Self
         ensures { owned_machine result ≡ machine }
     {
-        machine.check();
+        machine.facts();
         TailoredMachine {
             machine,
             tailoring: None,
@@ -41,7 +41,7 @@ impl TailoredMachine {
         ensures accepted { IfOk result (λ t. (owned_machine t ≡ tailored machine tailoring) × IsFaultless (HasTailoringFault machine tailoring)) }
         ensures refused { IfErr result (IsLowestFault (HasTailoringFault machine tailoring)) }
     {
-        TailoredMachineBorrowed::try_new(&machine, tailoring.as_ref())?.check();
+        TailoredMachineBorrowed::try_new(&machine, tailoring.as_ref())?.facts();
         Ok(TailoredMachine { machine, tailoring })
     }
 
@@ -71,7 +71,7 @@ impl<'data> TailoredMachineBorrowed<'data> {
     pub fn untailored(machine: &'data SegmenterStateMachine) -> Self
         ensures { machine_of result ≡ machine.now }
     {
-        machine.check();
+        machine.facts();
         TailoredMachineBorrowed {
             machine,
             pseudo_symbol_map: machine.pseudo_symbol_map(),
@@ -139,11 +139,11 @@ impl<'data> TailoredMachineBorrowed<'data> {
         self.machine.states()[state as usize]
     }
 
-    /// Does nothing. Its contract tells what holds of each machine.
-    pub fn check(&self)
+    /// Law: what holds of each machine.
+    pub fn facts(&self)
         ensures { IsChecked (machine_of self.now) }
     {
-        self.machine.check();
+        self.machine.facts();
     }
 }
 

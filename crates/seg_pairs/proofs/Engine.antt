@@ -16,7 +16,7 @@ use Rattle.seg_pairs.specs.declared.pair_data.PairDataBorrowed.{PairDataBorrowed
 use Rattle.seg_pairs.specs.PairData.{pair_table_of, override_of}
 use Rattle.seg_pairs.specs.PairTable.{PairTable, class_of}
 use Rattle.seg_pairs.specs.declared.elements.Element.{Element}
-use Rattle.seg_pairs.specs.declared.rules.Outcome.TheVariants.{Break as BreakOut, Run as RunOut}
+use Rattle.seg_pairs.specs.declared.verdicts.Outcome.TheVariants.{Break as BreakOut, Run as RunOut}
 use Rattle.seg_pairs.specs.Verdict.{Verdict, verdict}
 use Rattle.seg_pairs.specs.Verdict.Verdict.{BreakAfter, GoAfter, RunBegins}
 use Rattle.seg_pairs.specs.Breaks.{status_of, stretch_of, class_stretch, classes_by, table_stretch, table_boundaries}

@@ -11,11 +11,11 @@ use Rattle.seg_pairs.specs.Elements.{classes_of, onto}
 use Rattle.seg_pairs.specs.Walk.{Walk}
 use Rattle.seg_pairs.specs.Verdict.{Verdict, stop_verdict, end_verdict, walk_verdict, named_verdict, first_verdict, verdict, complex_verdict}
 use Rattle.seg_pairs.specs.Stop.{IsStop, class_at, walk_of}
-use Rattle.seg_pairs.specs.declared.rules.Step.{Step}
-use Rattle.seg_pairs.specs.declared.rules.Step.TheVariants.{Break, End, Go, Run}
+use Rattle.seg_pairs.specs.declared.verdicts.Step.{Step}
+use Rattle.seg_pairs.specs.declared.verdicts.Step.TheVariants.{Break, End, Go, Run}
 use Rattle.seg_pairs.specs.Steps.{Lands, EndsIn, IsRest}
-use Rattle.seg_pairs.specs.declared.rules.Outcome.{Outcome}
-use Rattle.seg_pairs.specs.declared.rules.Outcome.TheVariants.{Break as BreakOut, Run as RunOut}
+use Rattle.seg_pairs.specs.declared.verdicts.Outcome.{Outcome}
+use Rattle.seg_pairs.specs.declared.verdicts.Outcome.TheVariants.{Break as BreakOut, Run as RunOut}
 use Rattle.seg_pairs.specs.Chains.{chain, TakesOf, IsForward}
 use Rattle.seg_pairs.proofs.Chains.{IsOnChain, chain-break, chain-run}
 use Rattle.seg_pairs.specs.Verdict.Verdict.{BreakAfter, GoAfter, RunBegins}

@@ -1,7 +1,6 @@
 pub mod BreakStates
 pub mod PairTable
 pub mod PairFaults
-pub mod SamePairs
 pub mod PairData
 pub mod Overriding
 pub mod Elements
@@ -13,3 +12,4 @@ pub mod Chains
 pub mod Stop
 pub mod Steps
 pub mod Rows
+pub mod Lemmas

@@ -1,10 +1,10 @@
 -- Steps of an engine: what a verdict on the first of some elements leads to, and which are left.
 use Rattle.std.specs.Prelude.{◌≡◌, ℕ, ◌+◌, ◌<◌, Option, Some, None, List, [], ◌∷◌, drop, IfSome}
 use Rattle.seg_pairs.specs.declared.elements.Element.{Element}
-use Rattle.seg_pairs.specs.declared.rules.Step.{Step}
-use Rattle.seg_pairs.specs.declared.rules.Step.TheVariants.{Break, End, Go, Run}
-use Rattle.seg_pairs.specs.declared.rules.Outcome.{Outcome}
-use Rattle.seg_pairs.specs.declared.rules.Outcome.TheVariants.{Break as BreakOut, Run as RunOut}
+use Rattle.seg_pairs.specs.declared.verdicts.Step.{Step}
+use Rattle.seg_pairs.specs.declared.verdicts.Step.TheVariants.{Break, End, Go, Run}
+use Rattle.seg_pairs.specs.declared.verdicts.Outcome.{Outcome}
+use Rattle.seg_pairs.specs.declared.verdicts.Outcome.TheVariants.{Break as BreakOut, Run as RunOut}
 use Rattle.seg_pairs.specs.Verdict.{Verdict}
 use Rattle.seg_pairs.specs.Verdict.Verdict.{BreakAfter, GoAfter, RunBegins}
 

@@ -31,7 +31,10 @@ walk_verdict t w (class ∷ classes) = stop_verdict w (entry_of t w.state class)
 -- the walk of elements with these classes whose first two name a state: the place before the second is saved, with
 -- the class of the first
 abbrev pub walk_from : PairTable → ℕ → ℕ → List ℕ → Walk
-walk_from t state first after = walk t state 2 1 first after
+walk_from t state first after =
+    let second : ℕ = 1 in
+    let third : ℕ = 2 in
+    walk t state third second first after
 
 unfoldable pub named_verdict : PairTable → ℕ → ℕ → List ℕ → Verdict
 named_verdict t state first classes =
@@ -46,15 +49,19 @@ first_verdict t first classes Keep = GoAfter 1
 first_verdict t first classes (Index state) = named_verdict t state first classes
 first_verdict t first classes (Intermediate state) = named_verdict t state first classes
 
--- the verdict of the table on the first of some elements with these classes (it isn't asked where there are none)
+-- what stands for the verdict on no elements, which is never asked for
+abbrev pub unasked : Verdict
+unasked = RunBegins
+
+-- the verdict of the table on the first of some elements with these classes
 unfoldable pub verdict : PairTable → List ℕ → Verdict
-verdict t [] = RunBegins
+verdict t [] = unasked
 verdict t (first ∷ []) = BreakAfter 1 first
 verdict t (first ∷ second ∷ after) = first_verdict t first (first ∷ second ∷ after) (entry_of t first second)
 
 -- the same where elements may be complex: a boundary stands before one after another, and two begin a run
 unfoldable pub complex_verdict : PairTable → List ℕ → Verdict
-complex_verdict t [] = RunBegins
+complex_verdict t [] = unasked
 complex_verdict t (first ∷ []) = BreakAfter 1 first
 complex_verdict t (first ∷ second ∷ after) =
     if second == t.complex_property

@@ -5,6 +5,7 @@ ghost use Rattle.seg_pairs.specs.PairTable.{Overrides};
 
 use crate::provider::pair_checks::{keeps_start_before, overrides, overrides_by, overrides_from};
 use crate::provider::{RuleBreakData, RuleBreakDataOverride};
+use seg_data::named_values::names;
 use seg_data::provider::DataError;
 
 /// A pair table and the override that it is used with, if there is one. The classes that the
@@ -86,7 +87,7 @@ impl<'data> PairDataBorrowed<'data> {
             × (HasPairDataFault table.now (table_in overriding.entry) ClassOutOfRange → ⊥)) }
         ensures refused { IfErr result (λ fault. (fault ≡ ClassOutOfRange) × HasPairDataFault table.now (table_in overriding.entry) ClassOutOfRange) }
     {
-        table.check();
+        table.facts();
         if overrides_from(overriding, table.property_count()) {
             return Err(DataError::ClassOutOfRange);
         }
@@ -128,7 +129,7 @@ impl<'data> PairDataBorrowed<'data> {
         ensures value { result ≡ class_by self.entry code_point }
         ensures below { result < (pair_table_of self.entry).property_count }
     {
-        self.table.check();
+        self.table.facts();
         let Some(classes) = self.overriding else {
             return self.table.property_table().get32(code_point);
         };
@@ -143,14 +144,14 @@ impl<'data> PairDataBorrowed<'data> {
     pub fn names(self, class: u8) -> bool
         ensures { IsTrue result ↔ Names (pair_table_of self.entry) (override_of self.entry) class }
     {
-        self.table.property_table().names(class) || overrides(self.overriding, class)
+        names(self.table.property_table(), class) || overrides(self.overriding, class)
     }
 
     /// Whether no boundary stands between the text's start and some class of code points.
     pub fn keeps_start(self) -> bool
         ensures { IsTrue result ↔ HasPairDataFault (pair_table_of self.entry) (override_of self.entry) StartRowKeeps }
     {
-        self.table.check();
+        self.table.facts();
         for class in 0..self.table.property_count() {
             if keeps_start_before(self.table, class) && self.names(class) {
                 return true;

@@ -10,7 +10,7 @@ ghost use Rattle.seg_pairs.specs.Elements.{onto, place_at};
 
 use crate::elements::{Element, Elements, Items};
 use crate::pair_data::PairDataBorrowed;
-use crate::rules::{Outcome, Pairs, next_break};
+use crate::verdicts::{Outcome, TableVerdicts, next_break};
 use seg_text::cursor::Cursor;
 use std::marker::Model;
 
@@ -99,7 +99,7 @@ impl<'data, I: Cursor> Iterator for RuleBreakIterator<'data, I> {
             self.class = 0;
             return None;
         };
-        let rules = Pairs {
+        let rules = TableVerdicts {
             table: self.rest.pairs.table(),
         };
         match next_break(&rules, left, &mut self.rest) {

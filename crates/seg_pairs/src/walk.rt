@@ -52,7 +52,7 @@ pub fn walk<E: Elements>(
     ensures saved_end { E.end result.saved_rest ≡ E.end rest.old }
     ensures saved_table { E.table result.saved_rest ≡ E.table rest.old }
 {
-    table.check();
+    table.facts();
     let (mut state, mut before) = (start, right);
     let (mut saved_before, mut saved, mut saved_rest) = (left, right, rest.fork());
     let mut saved_class = left.class;
@@ -89,7 +89,7 @@ fn class_before(table: &RuleBreakData, next: Option<Element>) -> u8
     ensures value { result ≡ class_at table.now next }
     ensures below { result < table.now.property_count }
 {
-    table.check();
+    table.facts();
     match next {
         Some(element) => element.class,
         None => table.eot_property(),

@@ -53,7 +53,7 @@ pub trait RuleBreakType<'s>: Encoding {
 
     /// Law: the items that are left are in order, none of them is empty, and they reach to the end of the text; where
     /// `CAN_CONTAIN_SA` is false, their code points are all below U+0100. Does nothing.
-    fn check(iter: &Self::IterAttr)
+    fn facts(iter: &Self::IterAttr)
         ensures rises { IsRising (Self.IterAttr.text iter.now).items (Self.IterAttr.text iter.now).end }
         ensures narrow { Self.CAN_CONTAIN_SA ≡ false
             → All (λ code_point. code_point < 0x100) (code_points (Self.IterAttr.text iter.now).items) };
@@ -108,7 +108,7 @@ impl<'s> RuleBreakType<'s> for Latin1 {
         iter.slice(from, to)
     }
 
-    fn check(iter: &Latin1Indices<'s>) {
+    fn facts(iter: &Latin1Indices<'s>) {
         check_bytes(iter.as_slice())
     }
 
@@ -163,7 +163,7 @@ impl<'s> RuleBreakType<'s> for Utf8 {
         iter.slice(from, to)
     }
 
-    fn check(_iter: &StrCharIndices<'s>) {}
+    fn facts(_iter: &StrCharIndices<'s>) {}
 
     ghost always = { λ _. tt };
 
@@ -209,7 +209,7 @@ impl<'s> RuleBreakType<'s> for PotentiallyIllFormedUtf8 {
         iter.slice(from, to)
     }
 
-    fn check(_iter: &Utf8CharIndices<'s>) {}
+    fn facts(_iter: &Utf8CharIndices<'s>) {}
 
     ghost always = { λ _. tt };
 
@@ -255,7 +255,7 @@ impl<'s> RuleBreakType<'s> for Utf16 {
         iter.slice(from, to)
     }
 
-    fn check(_iter: &Utf16Indices<'s>) {}
+    fn facts(_iter: &Utf16Indices<'s>) {}
 
     ghost always = { λ _. tt };
 

@@ -64,7 +64,7 @@ fn expect_slice<'s, Y: RuleBreakType<'s>>(
 fn is_narrow<'s, Y: RuleBreakType<'s>>(text: &Y::IterAttr) -> bool
     ensures { result ≡ true → All (λ code_point. code_point < 0x100) (code_points (Y.IterAttr.text text.now).items) }
 {
-    Y::check(text);
+    Y::facts(text);
     !Y::CAN_CONTAIN_SA
 }
 

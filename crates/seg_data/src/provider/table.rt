@@ -1,8 +1,8 @@
 //! Tables of values by ranges of code points.
-ghost use Rattle.std.specs.Prelude.{◌≡◌, ℕ, ◌+◌, ◌*◌, ◌==◌, ◌<◌, ◌≤◌, ◌↔◌, IsTrue, IfOk, IfErr, OnOk, Any, Contains, length};
+ghost use Rattle.std.specs.Prelude.{◌≡◌, ℕ, ◌+◌, ◌*◌, ◌==◌, ◌<◌, ◌≤◌, ◌↔◌, IsTrue, IfOk, IfErr, OnOk, Any, length};
 ghost use Rattle.seg_data.specs.Faults.{HasOverlap, HasRangeFault, IsFaultless, IsLowestFault};
-ghost use Rattle.seg_data.specs.Same.{same_table, same_table-laws};
-ghost use Rattle.seg_data.specs.Table.{named_values, table, value_of};
+ghost use Rattle.seg_data.specs.Lemmas.Same.{same_table, same_table-laws};
+ghost use Rattle.seg_data.specs.Table.{table, value_of};
 
 mod pages;
 mod runs;
@@ -95,20 +95,6 @@ impl ClassTable {
     {
         self.default
     }
-
-    /// Whether the value is the default or that of a range.
-    pub fn names(&self, value: u8) -> bool
-        ensures { IsTrue result ↔ Contains (named_values self.now) value }
-    {
-        self.default() == value || has_value(self.ranges(), value)
-    }
-
-    /// Whether the default or the value of a range is this one or above it.
-    pub fn names_from(&self, value: u8) -> bool
-        ensures { IsTrue result ↔ Any (λ named. value ≤ named) (named_values self.now) }
-    {
-        value <= self.default() || has_value_from(self.ranges(), value)
-    }
 }
 
 impl Debug for ClassTable {
@@ -173,18 +159,4 @@ fn has_past_10ffff(ranges: &[(u32, u32, u8)]) -> bool
     ensures { IsTrue result ↔ Any (λ range. 0x10FFFF < range.1) ranges.now }
 {
     ranges.iter().any(|range| 0x10FFFF < range.1)
-}
-
-// Whether a range has the value.
-fn has_value(ranges: &[(u32, u32, u8)], value: u8) -> bool
-    ensures { IsTrue result ↔ Any (λ range. range.2 ≡ value) ranges.now }
-{
-    ranges.iter().any(|range| range.2 == value)
-}
-
-// Whether a range has the value, or one above it.
-fn has_value_from(ranges: &[(u32, u32, u8)], value: u8) -> bool
-    ensures { IsTrue result ↔ Any (λ range. value ≤ range.2) ranges.now }
-{
-    ranges.iter().any(|range| value <= range.2)
 }

@@ -2,7 +2,7 @@
 ghost use Rattle.std.specs.Prelude.{◌≡◌, ℕ, ◌<◌, ◌↔◌, IsTrue, length};
 ghost use Rattle.std.specs.Option.{is_some};
 ghost use Rattle.seg_machine.specs.MachineFaults.{HasEndCycle};
-ghost use Rattle.seg_machine.specs.Machine.{walk};
+ghost use Rattle.seg_machine.specs.Machine.{state_after_ends};
 ghost use Rattle.seg_machine.specs.Search.{IsBounded, bare};
 
 use crate::provider::transitions::next_of;
@@ -28,7 +28,7 @@ pub(super) fn has_end_cycle(
 fn leads_on(states: &[(Acceptance, Option<Lookahead>)], transitions: &[State], state: State) -> bool
     requires bounded { IsBounded (bare states.now transitions.now) }
     requires state { state < length states.now }
-    ensures { result ≡ is_some (walk (bare states.now transitions.now) state (length states.now)) }
+    ensures { result ≡ is_some (state_after_ends (bare states.now transitions.now) state (length states.now)) }
 {
     let mut current = state;
     for _step in 0..states.len() {

@@ -6,7 +6,7 @@ ghost use Rattle.seg_machine.specs.Checked.{IsChecked};
 ghost use Rattle.seg_machine.specs.MachineFaults.{HasMachineFault};
 ghost use Rattle.seg_machine.specs.Machine.{machine, step, symbol_count, tailored};
 ghost use Rattle.seg_machine.specs.Pick.{IsStallFree};
-ghost use Rattle.seg_machine.specs.SameMachines.{same_machine, same_machine-laws};
+ghost use Rattle.seg_machine.specs.Lemmas.SameMachines.{same_machine, same_machine-laws};
 
 use crate::provider::checks::{check_parts, has_stray_symbol};
 use crate::provider::transitions::next_of;
@@ -136,7 +136,7 @@ impl SegmenterStateMachine {
         ensures value { result ≡ step self.now state symbol }
         ensures state { IfSome result (λ next. next < length self.now.states) }
     {
-        self.check();
+        self.facts();
         next_of(self.states(), self.transitions(), state, symbol as usize)
     }
 
@@ -145,14 +145,14 @@ impl SegmenterStateMachine {
     pub(crate) fn has_stray_symbol(&self, pseudo_symbol_map: &[(Symbol, ComplexScript)]) -> bool
         ensures { IsTrue result ↔ HasMachineFault (tailored self.now (Some pseudo_symbol_map.now)) SymbolOutOfRange }
     {
-        self.check();
+        self.facts();
         let count = self.transitions().len() / self.states().len();
         let shift = self.pseudo_symbol_shift();
         has_stray_symbol(self.symbols(), count, shift, pseudo_symbol_map)
     }
 
-    /// Does nothing. Its contract tells what holds of each machine.
-    pub fn check(&self)
+    /// Law: what holds of each machine.
+    pub(crate) fn facts(&self)
         ensures { IsChecked self.now }
     {
         let _symbols = &self.symbols;

@@ -2,7 +2,7 @@
 ghost use Rattle.std.specs.Prelude.{◌≡◌, ◌↔◌, IsTrue, IfOk, IfErr};
 ghost use Rattle.seg_data.specs.Faults.{IsFaultless, IsLowestFault};
 ghost use Rattle.seg_machine.specs.MachineFaults.{HasOverrideFault};
-ghost use Rattle.seg_machine.specs.SameMachines.{same_map, same_map-laws};
+ghost use Rattle.seg_machine.specs.Lemmas.SameMachines.{same_map, same_map-laws};
 
 use crate::provider::{SegmenterStateMachine, Symbol};
 use seg_data::provider::{ComplexScript, DataError};

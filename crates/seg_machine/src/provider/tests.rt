@@ -298,9 +298,9 @@ fn reads_parts(rt: HostRuntime) -> Result<(), Fail> {
     assert_eq!(rt; made.pseudo_symbol_shift(), 5);
     assert_eq!(rt; made.pseudo_symbol_map().len(), 1);
     segments_are_one(&made);
-    made.check();
+    made.facts();
     let read = TailoredMachineBorrowed::untailored(&made);
-    read.check();
+    read.facts();
     for (code_point, symbol, next) in [(97, 1, 1), (99, 2, 4), (100, 3, 4), (0xE01, 3, 4)] {
         let given = read.symbol(code_point);
         assert_eq!(rt; given, symbol);

@@ -8,6 +8,7 @@ ghost use Rattle.seg_pairs.specs.PairFaults.{HasPartsFault, KeepsStart, NamesSta
 ghost use Rattle.seg_pairs.specs.PairTable.{Overrides};
 
 use crate::provider::{BreakState, RuleBreakData, RuleBreakDataOverride};
+use seg_data::named_values::{names, names_from};
 use seg_data::provider::{ClassTable, DataError};
 
 // The lowest fault of a pair table's parts, if there is one.
@@ -24,7 +25,7 @@ pub(super) fn check_pairs(
     if count == 0 || entries.len() != count as usize * count as usize {
         return Err(DataError::TableSize);
     }
-    if classes.names_from(count) {
+    if names_from(classes, count) {
         return Err(DataError::ClassOutOfRange);
     }
     if sot >= count || eot >= count || names_state_past(entries, count) {
@@ -55,7 +56,7 @@ pub(crate) fn overrides(overriding: Option<&RuleBreakDataOverride>, class: u8) -
     ensures { IsTrue result ↔ Overrides (table_in overriding.entry) class }
 {
     match overriding {
-        Some(classes) => overrides_by(class) && classes.property_table_override().names(class),
+        Some(classes) => overrides_by(class) && names(classes.property_table_override(), class),
         None => false,
     }
 }
@@ -73,7 +74,7 @@ pub(crate) fn overrides_from(overriding: Option<&RuleBreakDataOverride>, class: 
     ensures { IsTrue result ↔ ((named : ℕ) × Overrides (table_in overriding.entry) named × (class ≤ named)) }
 {
     match overriding {
-        Some(classes) => classes.property_table_override().names_from(class),
+        Some(classes) => names_from(classes.property_table_override(), class),
         None => false,
     }
 }
@@ -83,7 +84,7 @@ pub(crate) fn keeps_start_before(table: &RuleBreakData, class: u8) -> bool
     requires { class < table.now.property_count }
     ensures { IsTrue result ↔ KeepsStart table.now class }
 {
-    table.check();
+    table.facts();
     let entry = table.entry(table.sot_property(), class);
     entry != BreakState::Break && entry != BreakState::NoMatch
 }

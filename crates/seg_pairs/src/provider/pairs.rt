@@ -1,11 +1,11 @@
 //! Pair tables over the classes of code points.
 ghost use Rattle.std.specs.Prelude.{◌≡◌, ℕ, ◌<◌, ◌↔◌, IsTrue, IfOk, IfErr, IsOkAnd};
 ghost use Rattle.seg_data.specs.Faults.{IsFaultless, IsLowestFault};
-ghost use Rattle.seg_data.specs.Same.{same_table, same_table-laws};
+ghost use Rattle.seg_data.specs.Lemmas.Same.{same_table, same_table-laws};
 ghost use Rattle.seg_pairs.specs.BreakStates.{HasBreakByte, break_byte_of, break_state_of, named_state, is_intermediate};
 ghost use Rattle.seg_pairs.specs.PairFaults.{HasPairFault};
 ghost use Rattle.seg_pairs.specs.PairTable.{IsPairTable, entry_of, pair_table};
-ghost use Rattle.seg_pairs.specs.SamePairs.{same_pair_table, same_pair_table-laws};
+ghost use Rattle.seg_pairs.specs.Lemmas.SamePairs.{same_pair_table, same_pair_table-laws};
 
 use crate::provider::pair_checks::check_pairs;
 use seg_data::provider::{ClassTable, DataError};
@@ -64,7 +64,7 @@ impl BreakState {
     }
 
     /// The state that this names, if it names one.
-    pub fn named(self) -> Option<u8>
+    pub(crate) fn named(self) -> Option<u8>
         ensures { result ≡ named_state self }
     {
         match self {
@@ -75,7 +75,7 @@ impl BreakState {
     }
 
     /// Whether this is an `Intermediate`.
-    pub fn is_intermediate(self) -> bool
+    pub(crate) fn is_intermediate(self) -> bool
         ensures { result ≡ is_intermediate self }
     {
         match self {
@@ -212,7 +212,7 @@ impl RuleBreakData {
 // What engines read of a pair table, entry by entry.
 impl RuleBreakData {
     /// What stands between a class or state and the class after it.
-    pub fn entry(&self, left: u8, right: u8) -> BreakState
+    pub(crate) fn entry(&self, left: u8, right: u8) -> BreakState
         requires left { left < self.now.property_count }
         requires right { right < self.now.property_count }
         ensures value { result ≡ entry_of self.now left right }
@@ -221,8 +221,8 @@ impl RuleBreakData {
         self.break_state_table[left as usize * self.property_count as usize + right as usize]
     }
 
-    /// Does nothing. Its contract tells what holds of each pair table.
-    pub fn check(&self)
+    /// Law: what holds of each pair table.
+    pub(crate) fn facts(&self)
         ensures { IsPairTable self.now }
     {
         let _property_table = &self.property_table;

@@ -4,7 +4,7 @@ use Rattle.seg_machine.proofs.Scanned.{pick-some, found-pick, none-picked}
 use Rattle.seg_machine.proofs.rule_segmenter_v2.next_segment.Goals as goal
 
 pub unreachable-requires : goal.unreachable-requires
-unreachable-requires g c = none-picked _ _ (sym c.in_default.is ∙ c.scan.ensures) (pick-some _ c.check.ensures _ c.requires)
+unreachable-requires g c = none-picked _ _ (sym c.in_default.is ∙ c.scan.ensures) (pick-some _ c.facts.ensures _ c.requires)
 
 pub seek-requires : goal.seek-requires
 seek-requires g c =

@@ -9,10 +9,10 @@ pub returns-in-Some-clause-left : goal.returns-in-Some-clause-left
 returns-in-Some-clause-left g c = one-less _ _ _ c.in-Some.ensures.gives c.in-Some.ensures.end
 
 pub returns-in-None-clause-symbol : goal.returns-in-None-clause-symbol
-returns-in-None-clause-symbol g c = omega (arith, c.check.ensures.text_symbols 0)
+returns-in-None-clause-symbol g c = omega (arith, c.facts.ensures.text_symbols 0)
 
 pub returns-in-None-clause-future : goal.returns-in-None-clause-future
-returns-in-None-clause-future g c = λ state here. begins-end _ c.check.ensures _ _ c.in-None.ensures.gives.0 c.in-None.ensures.gives.1 c.in-None.ensures.end state here
+returns-in-None-clause-future g c = λ state here. begins-end _ c.facts.ensures _ _ c.in-None.ensures.gives.0 c.in-None.ensures.gives.1 c.in-None.ensures.end state here
 
 pub returns-in-None-clause-left : goal.returns-in-None-clause-left
 returns-in-None-clause-left g c = none-less _ _ c.in-None.ensures.gives.0 c.in-None.ensures.gives.1 c.in-None.ensures.end

@@ -2,7 +2,7 @@ use Rattle.seg_machine.proofs.Scanned.{scanned-start, turn-stop, turn, turn-held
 use Rattle.seg_machine.proofs.rule_segmenter_v2.scan.Goals as goal
 
 pub scan-init : goal.scan-init
-scan-init g c = rw c.fork-iter.ensures (scanned-start _ _ _ _ c.check.ensures c.num_lookaheads.ensures c.no_places-kept.ensures)
+scan-init g c = rw c.fork-iter.ensures (scanned-start _ _ _ _ c.facts.ensures c.num_lookaheads.ensures c.no_places-kept.ensures)
 
 pub returns-in_default : goal.returns-in_default
 returns-in_default g c =
@@ -11,13 +11,13 @@ returns-in_default g c =
 
 pub returns-then-is_some : goal.returns-then-is_some
 returns-then-is_some g c =
-    turn-held _ _ _ _ _ _ _ _ _ _ _ _ _ c.check.ensures c.scan.invariant c.next_symbol-symbol.ensures.future c.next_symbol-symbol.ensures.left
-    c.next_state.ensures.value c.in-Some.is c.entry.ensures c.enter-found.ensures.held c.is_some.ensures c.if-is_some.true
+    turn-held _ _ _ _ _ _ _ _ _ _ _ _ _ c.facts.ensures c.scan.invariant c.next_symbol-symbol.ensures.future c.next_symbol-symbol.ensures.left
+    c.next_state.ensures.value c.in-Some.is c.entry.ensures c.enter-found.ensures.condition_end c.is_some.ensures c.if-is_some.true
 
 pub scan-preserved : goal.scan-preserved
 scan-preserved g c =
-    turn _ _ _ _ _ _ _ _ _ _ _ _ _ _ _ _ c.check.ensures c.scan.invariant c.next_symbol-symbol.ensures.future
+    turn _ _ _ _ _ _ _ _ _ _ _ _ _ _ _ _ c.facts.ensures c.scan.invariant c.next_symbol-symbol.ensures.future
     c.next_state.ensures.value c.in-Some.is c.in-Some.ensures.state
     c.next_symbol-symbol.ensures.left c.place.ensures
-    c.entry.ensures c.enter-found.ensures.held c.is_some.ensures c.if-is_some.false
+    c.entry.ensures c.enter-found.ensures.condition_end c.is_some.ensures c.if-is_some.false
     c.enter-found.ensures.last c.enter-found.ensures.kept

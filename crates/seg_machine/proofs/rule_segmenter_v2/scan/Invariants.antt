@@ -1,4 +1,4 @@
-use Rattle.std.proofs.Common.{◌≡◌, length}
+use Rattle.std.proofs.Common.{length}
 use Rattle.seg_machine.specs.Tailored.{machine_of}
 use Rattle.seg_machine.specs.Scan.{future, Scanned}
 use Rattle.seg_machine.proofs.rule_segmenter_v2.scan.Given as goal

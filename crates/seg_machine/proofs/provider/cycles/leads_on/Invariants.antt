@@ -1,5 +1,5 @@
 use Rattle.std.proofs.Common.{◌≡◌, ◌-◌, ◌<◌, length}
-use Rattle.seg_machine.specs.Machine.{walk}
+use Rattle.seg_machine.specs.Machine.{state_after_ends}
 use Rattle.seg_machine.specs.Search.{bare}
 use Rattle.seg_machine.proofs.provider.cycles.leads_on.Given as goal
 
@@ -7,5 +7,5 @@ use Rattle.seg_machine.proofs.provider.cycles.leads_on.Given as goal
 abbrev pub invariant-loop-step : goal.invariant-loop-step
 invariant-loop-step l = record {
   here : l.current < length l.states;
-  same : walk (bare l.states l.transitions) l.current (length l.states - l._step) ≡ walk (bare l.states l.transitions) l.state (length l.states);
+  same : state_after_ends (bare l.states l.transitions) l.current (length l.states - l._step) ≡ state_after_ends (bare l.states l.transitions) l.state (length l.states);
 }

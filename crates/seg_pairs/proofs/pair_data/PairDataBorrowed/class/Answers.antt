@@ -9,7 +9,7 @@ returns-in_default-clause-value c =
     (rw c.property_table.ensures at c.get32.ensures) ∙ sym (class-table _ _ _ (ap table_in c.in_default.is))
 
 pub returns-in_default-clause-below : goal.returns-in_default-clause-below
-returns-in_default-clause-below c = class-below _ _ _ c.check.ensures (rw c.property_table.ensures at c.get32.ensures)
+returns-in_default-clause-below c = class-below _ _ _ c.facts.ensures (rw c.property_table.ensures at c.get32.ensures)
 
 pub returns-then-overrides_by-clause-value : goal.returns-then-overrides_by-clause-value
 returns-then-overrides_by-clause-value c =
@@ -27,4 +27,4 @@ returns-clause-value c =
     (rw c.property_table-2.ensures at c.get32-2.ensures) ∙ sym (class-zero _ _ _ _ (ap table_in c.in-Some.is) (sym read ∙ not-other _ (iff_false c.overrides_by.ensures c.if-overrides_by.false)))
 
 pub returns-clause-below : goal.returns-clause-below
-returns-clause-below c = class-below _ _ _ c.check.ensures (rw c.property_table-2.ensures at c.get32-2.ensures)
+returns-clause-below c = class-below _ _ _ c.facts.ensures (rw c.property_table-2.ensures at c.get32-2.ensures)

@@ -6,5 +6,5 @@ use Rattle.seg_pairs.proofs.pair_data.PairDataBorrowed.keeps_start.Goals as goal
 pub returns : goal.returns
 returns c = (
   λ e. absurd (false≢true e),
-  λ keeps. absurd (none-keeps _ _ _ c.check.ensures c.args.self.fits c.loop-class.invariant (omega (arith, c.loop-class-test.false, c.property_count-class-end.ensures)) keeps),
+  λ keeps. absurd (none-keeps _ _ _ c.facts.ensures c.args.self.fits c.loop-class.invariant (omega (arith, c.loop-class-test.false, c.property_count-class-end.ensures)) keeps),
 )

@@ -6,7 +6,7 @@ use Rattle.seg_pairs.specs.PairTable.{PairTable}
 use Rattle.seg_pairs.specs.Chains.{chain}
 use Rattle.seg_pairs.specs.Items.{elements_of}
 use Rattle.seg_pairs.specs.Steps.{EndsIn}
-use Rattle.seg_pairs.specs.declared.rules.Outcome.TheVariants.{Break}
+use Rattle.seg_pairs.specs.declared.verdicts.Outcome.TheVariants.{Break}
 use Rattle.seg_pairs.proofs.Engine.{element_verdict, gives-next, end-left, run-never, rest-empty, none-left, below-of}
 use Rattle.seg_pairs.proofs.rule_segmenter_v1.RuleBreakIteratorIterator.next.Goals as goal
 

@@ -1,7 +1,7 @@
 use Rattle.std.proofs.Common.{rules, arith}
 use Rattle.std.proofs.lemmas.Bool.Decides.{Decides-at}
 use Rattle.std.proofs.lemmas.Grind.{common_steps}
-use Rattle.seg_data.specs.Same.{same_table-decides}
+use Rattle.seg_data.specs.Lemmas.Same.{same_table-decides}
 use Rattle.seg_data.proofs.provider.table.ClassTablePartialEq.eq.Goals as goal
 
 pub returns-then-eq-clause-same : goal.returns-then-eq-clause-same

@@ -4,7 +4,7 @@ use Rattle.seg_machine.proofs.Machines.{bounded-checked, count-plain}
 use Rattle.seg_machine.proofs.provider.machine.SegmenterStateMachine.next_state.Goals as goal
 
 pub next_of-requires-clause-bounded : goal.next_of-requires-clause-bounded
-next_of-requires-clause-bounded c = rw (c.states.ensures, c.transitions.ensures) (bounded-checked c.args.self.now c.check.ensures)
+next_of-requires-clause-bounded c = rw (c.states.ensures, c.transitions.ensures) (bounded-checked c.args.self.now c.facts.ensures)
 
 pub next_of-requires-clause-symbol : goal.next_of-requires-clause-symbol
 next_of-requires-clause-symbol c = rw (c.states.ensures, c.transitions.ensures) (count-plain c.args.self.now c.args.symbol c.requires.symbol)

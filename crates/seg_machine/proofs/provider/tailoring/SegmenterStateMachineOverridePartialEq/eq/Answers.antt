@@ -1,7 +1,7 @@
 use Rattle.std.proofs.Common.{rules, arith}
 use Rattle.std.proofs.lemmas.Bool.Decides.{Decides-at}
 use Rattle.std.proofs.lemmas.Grind.{common_steps}
-use Rattle.seg_machine.specs.SameMachines.{same_map-decides}
+use Rattle.seg_machine.specs.Lemmas.SameMachines.{same_map-decides}
 use Rattle.seg_machine.proofs.provider.tailoring.SegmenterStateMachineOverridePartialEq.eq.Goals as goal
 
 pub returns-clause-same : goal.returns-clause-same

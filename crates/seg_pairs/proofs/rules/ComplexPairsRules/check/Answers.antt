@@ -1,6 +1,0 @@
-use Rattle.seg_pairs.specs.Verdict.{complex_verdict}
-use Rattle.seg_pairs.proofs.Forward.{complex-forward, on-classes}
-use Rattle.seg_pairs.proofs.rules.ComplexPairsRules.check.Goals as goal
-
-pub returns : goal.returns
-returns c = on-classes (complex_verdict c.args.self.now.table.now) (complex-forward c.args.self.now.table.now)

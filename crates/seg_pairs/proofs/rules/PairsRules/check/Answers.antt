@@ -1,6 +1,0 @@
-use Rattle.seg_pairs.specs.Verdict.{verdict}
-use Rattle.seg_pairs.proofs.Forward.{verdict-forward, on-classes}
-use Rattle.seg_pairs.proofs.rules.PairsRules.check.Goals as goal
-
-pub returns : goal.returns
-returns c = on-classes (verdict c.args.self.now.table.now) (verdict-forward c.args.self.now.table.now)

@@ -1,0 +1,215 @@
+//! What comes after an element of a text: a boundary, none, or a run of complex elements.
+
+ghost use Rattle.std.specs.Prelude.{◌≡◌, ◌<◌, ℕ, List, ◌∷◌};
+ghost use Rattle.seg_pairs.specs.PairTable.{PairTable};
+ghost use Rattle.seg_pairs.specs.Elements.{classes_of};
+ghost use Rattle.seg_pairs.specs.Steps.{Lands, EndsIn, IsStepBelow, IsOutcomeBelow};
+ghost use Rattle.seg_pairs.specs.Verdict.{verdict, named_verdict, complex_verdict};
+ghost use Rattle.seg_pairs.specs.Chains.{chain, IsForward};
+
+use crate::elements::{Element, Elements};
+use crate::provider::{BreakState, RuleBreakData};
+use crate::walk::{Stop, walk};
+
+/// What a verdict on an element leads to.
+#[derive(Clone, Copy, Debug)]
+pub enum Step {
+    /// A boundary before this element, with this class.
+    Break(Element, u8),
+    /// A boundary at the end of the text, with this class.
+    End(u8),
+    /// No boundary before this element, of which the next verdict is asked.
+    Go(Element),
+    /// A run of complex elements begins with the element that was asked of. This is its second.
+    Run(Element),
+}
+
+/// What the verdicts from an element on lead to.
+#[derive(Clone, Copy, Debug)]
+pub enum Outcome {
+    /// A boundary, with this class, before this element or at the end of the text.
+    Break(u8, Option<Element>),
+    /// A run of complex elements that begins with these two.
+    Run(Element, Element),
+}
+
+/// What comes after an element, by some rules.
+pub trait Verdicts {
+    ghost use Rattle.seg_pairs.specs.declared.elements.Element.{Element};
+    ghost use Rattle.seg_pairs.specs.Verdict.{Verdict};
+
+    /// The verdict on the first of these elements.
+    ghost verdict: { Self → List Element → Verdict };
+
+    /// The pair table whose classes the elements have.
+    ghost table: { Self → PairTable };
+
+    /// What the verdict on `left` leads to. `rest` has the elements after `left`, and then those
+    /// after the one that the step has read.
+    fn step<E: Elements>(&self, left: Element, rest: &mut E) -> Step
+        requires left { left.class < (table self.now).property_count }
+        requires table { E.table rest.old ≡ table self.now }
+        ensures lands { Lands (verdict self.now (left ∷ E.left rest.old)) (left ∷ E.left rest.old) result (E.left rest.new) }
+        ensures class { IsStepBelow (table self.now).property_count result }
+        ensures end { E.end rest.new ≡ E.end rest.old }
+        ensures table { E.table rest.new ≡ E.table rest.old };
+
+    /// Law: a verdict takes some of the elements that there are.
+    fn facts(&self)
+        ensures { IsForward (verdict self.now) };
+}
+
+/// The rules of a pair table alone. No run begins by them.
+#[derive(Clone, Copy, Debug)]
+pub struct TableVerdicts<'data> {
+    /// The table.
+    pub table: &'data RuleBreakData,
+}
+
+impl<'data> Verdicts for TableVerdicts<'data> {
+    ghost verdict = { λ s elements. verdict s.table.now (classes_of elements) };
+
+    ghost table = { λ s. s.table.now };
+
+    #[inline(always)]
+    fn step<E: Elements>(&self, left: Element, rest: &mut E) -> Step {
+        match rest.next_element() {
+            Some(right) => pair_step(self.table, left, right, rest),
+            None => Step::End(left.class),
+        }
+    }
+
+    fn facts(&self) {}
+}
+
+/// The rules of a pair table where elements may be complex: a boundary stands before a complex one
+/// after another, and two begin a run.
+#[derive(Clone, Copy, Debug)]
+pub struct ComplexVerdicts<'data> {
+    /// The table.
+    pub table: &'data RuleBreakData,
+}
+
+impl<'data> Verdicts for ComplexVerdicts<'data> {
+    ghost verdict = { λ s elements. complex_verdict s.table.now (classes_of elements) };
+
+    ghost table = { λ s. s.table.now };
+
+    fn step<E: Elements>(&self, left: Element, rest: &mut E) -> Step {
+        let complex = self.table.complex_property();
+        let Some(right) = rest.next_element() else {
+            return Step::End(left.class);
+        };
+        if right.class != complex {
+            return pair_step(self.table, left, right, rest);
+        }
+        if left.class != complex {
+            return Step::Break(right, left.class);
+        }
+        Step::Run(right)
+    }
+
+    fn facts(&self) {}
+}
+
+/// The next boundary after `left`, or the run that begins before it: where the rules' verdicts to go
+/// on lead. `rest` has the elements after `left`, and then those after the one that was read last.
+#[inline(always)]
+pub fn next_break<E: Elements, R: Verdicts>(rules: &R, left: Element, rest: &mut E) -> Outcome
+    requires left { left.class < (R.table rules.now).property_count }
+    requires table { E.table rest.old ≡ R.table rules.now }
+    ensures ends { EndsIn (chain (R.verdict rules.now) (left ∷ E.left rest.old)) (left ∷ E.left rest.old) result (E.left rest.new) }
+    ensures class { IsOutcomeBelow (R.table rules.now).property_count result }
+    ensures end { E.end rest.new ≡ E.end rest.old }
+    ensures table { E.table rest.new ≡ E.table rest.old }
+{
+    rules.facts();
+    let mut left = left;
+    loop {
+        match rules.step(left, rest) {
+            Step::Go(next) => left = next,
+            Step::Break(next, class) => return Outcome::Break(class, Some(next)),
+            Step::End(class) => return Outcome::Break(class, None),
+            Step::Run(second) => return Outcome::Run(left, second),
+        }
+    }
+}
+
+/// The step of a pair table from `left`, which `right` follows.
+///
+/// `rest` has the elements after `right`, and then those after the one that the step has read.
+#[inline(always)]
+pub fn pair_step<E: Elements>(
+    table: &RuleBreakData,
+    left: Element,
+    right: Element,
+    rest: &mut E,
+) -> Step
+    requires left { left.class < table.now.property_count }
+    requires right { right.class < table.now.property_count }
+    requires table { E.table rest.old ≡ table.now }
+    ensures lands { Lands (verdict table.now (classes_of (left ∷ right ∷ E.left rest.old))) (left ∷ right ∷ E.left rest.old) result (E.left rest.new) }
+    ensures class { IsStepBelow table.now.property_count result }
+    ensures end { E.end rest.new ≡ E.end rest.old }
+    ensures table { E.table rest.new ≡ E.table rest.old }
+{
+    let entry = table.entry(left.class, right.class);
+    if let BreakState::Keep = entry {
+        return Step::Go(right);
+    }
+    match entry.named() {
+        Some(state) => walk_step(table, state, left, right, rest),
+        None => Step::Break(right, left.class),
+    }
+}
+
+/// The step where the entry of the two names a state.
+#[inline(always)]
+fn walk_step<E: Elements>(
+    table: &RuleBreakData,
+    state: u8,
+    left: Element,
+    right: Element,
+    rest: &mut E,
+) -> Step
+    requires state { state < table.now.property_count }
+    requires right { right.class < table.now.property_count }
+    requires table { E.table rest.old ≡ table.now }
+    ensures lands { Lands (named_verdict table.now state left.class (classes_of (left ∷ right ∷ E.left rest.old))) (left ∷ right ∷ E.left rest.old) result (E.left rest.new) }
+    ensures class { IsStepBelow table.now.property_count result }
+    ensures end { E.end rest.new ≡ E.end rest.old }
+    ensures table { E.table rest.new ≡ E.table rest.old }
+{
+    let stop = walk(table, state, left, right, rest);
+    let Stop {
+        state,
+        entry,
+        before: _,
+        next,
+        saved_before: _,
+        saved,
+        saved_rest,
+        saved_class,
+    } = stop;
+    match next {
+        Some(next) => match entry {
+            BreakState::Keep => Step::Go(next),
+            BreakState::Break => Step::Break(next, state),
+            _ => go_back(rest, saved_rest, saved, saved_class),
+        },
+        None => match entry {
+            BreakState::NoMatch => go_back(rest, saved_rest, saved, saved_class),
+            _ => Step::End(state),
+        },
+    }
+}
+
+/// A boundary at the place that was saved: the elements are read again from there on.
+#[inline(always)]
+fn go_back<E: Elements>(rest: &mut E, saved_rest: E, saved: Element, class: u8) -> Step
+    ensures rest { rest.new ≡ saved_rest }
+    ensures step { result ≡ Step.Break saved class }
+{
+    *rest = saved_rest;
+    Step::Break(saved, class)
+}

@@ -1,0 +1,5 @@
+use Rattle.seg_text.specs.Lemmas.Rising.{utf8_items-rises}
+use Rattle.seg_text.proofs.scaffold.PotentiallyIllFormedUtf8RuleBreakType.facts.Goals as goal
+
+pub returns : goal.returns
+returns c = record { rises = utf8_items-rises c.args._iter.now.place c.args._iter.now.units; narrow = λ can. cc }
