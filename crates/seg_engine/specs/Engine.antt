@@ -1,5 +1,4 @@
 -- What is seen of an engine, and of the boundaries that it gives.
-use Rattle.seg_text.specs.Boundaries.{Remainder}
 use Rattle.seg_machine.specs.Tailored.{machine_of, owned_machine}
 use Rattle.seg_pairs.specs.PairData.{pair_table_of, override_of, owned_pair_table, owned_override}
 use Rattle.seg_engine.specs.declared.engine.Engine.{Engine}

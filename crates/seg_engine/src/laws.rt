@@ -1,11 +1,8 @@
 //! Laws of the boundaries of texts, whatever rules they are found by.
 
-ghost use Rattle.std.specs.Prelude.{◌≡◌, ℕ, List, map};
-ghost use Rattle.seg_text.specs.declared.boundary.Boundary.{Boundary};
-ghost use Rattle.seg_text.specs.Items.{Text, code_points};
-ghost use Rattle.seg_text.specs.Boundaries.{boundary_in, HasRestart};
+ghost use Rattle.seg_text.specs.Boundaries.{HasRestart};
 ghost use Rattle.seg_engine.specs.Engine.{rules_of};
-ghost use Rattle.seg_engine.specs.Rules.{AreBoundaries, boundaries_by, boundaries_of};
+ghost use Rattle.seg_engine.specs.Rules.{HasEqualOrdinals, HasOneAnswer, boundaries_by};
 
 use crate::engine::Engine;
 
@@ -13,20 +10,15 @@ use crate::engine::Engine;
 /// other one comes from the first stretch of what is left. Such a stretch is the machine's pick, or what the verdict of the
 /// table takes.
 pub fn boundaries_are_one(engine: Engine<'_>)
-    ensures exists { (code_points : List ℕ) → AreBoundaries (rules_of engine.entry) code_points (boundaries_by (rules_of engine.entry) code_points) }
-    ensures only { (code_points : List ℕ) (found : List Boundary)
-        → AreBoundaries (rules_of engine.entry) code_points found → found ≡ boundaries_by (rules_of engine.entry) code_points }
+    ensures { HasOneAnswer (rules_of engine.entry) }
 {
     let _ = engine;
 }
 
-/// Law: counted in code points, the boundaries of a text and their statuses are one function of the rules and of the
-/// decoded list, which names no place, length or encoding. So two texts with equal code points, in whatever encodings,
-/// have the same boundaries, each at the place of its ordinal.
+/// Law: two texts with equal code points, in whatever encodings, have the same boundaries, counted in code points, with
+/// the same statuses: one function of the rules and of the decoded list, which names no place, length or encoding.
 pub fn equal_code_points(engine: Engine<'_>)
-    ensures { (one other : Text) → code_points one.items ≡ code_points other.items
-        → (counted : List Boundary) × (boundaries_of (rules_of engine.entry) one ≡ map (boundary_in one) counted)
-        × (boundaries_of (rules_of engine.entry) other ≡ map (boundary_in other) counted) }
+    ensures { HasEqualOrdinals (rules_of engine.entry) }
 {
     let _ = engine;
 }

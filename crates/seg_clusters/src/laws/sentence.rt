@@ -1,30 +1,25 @@
 //! Laws of the boundaries of sentences.
 
-ghost use Rattle.std.specs.Prelude.{◌≡◌, ℕ, List, map};
-ghost use Rattle.seg_text.specs.declared.boundary.Boundary.{Boundary};
-ghost use Rattle.seg_text.specs.Items.{Text, code_points};
-ghost use Rattle.seg_text.specs.Boundaries.{boundary_in, HasRestart};
+ghost use Rattle.seg_text.specs.Boundaries.{HasRestart};
+ghost use Rattle.seg_engine.specs.Rules.{HasEqualOrdinals, HasOneAnswer, boundaries_by};
 ghost use Rattle.seg_clusters.specs.Sentences.{sentence_rules};
-ghost use Rattle.seg_engine.specs.Rules.{AreBoundaries, boundaries_by, boundaries_of};
 
 use crate::sentence::SentenceSegmenterBorrowed;
 use seg_engine::laws;
 
 /// Law: a list of code points has exactly one list of boundaries, in code points: the first is at its start, and each
-/// other one comes from the first stretch of what is left.
+/// other one comes from the first stretch of what is left. Such a stretch is the machine's pick, or what the verdict of the
+/// table takes.
 pub fn boundaries_are_one(segmenter: SentenceSegmenterBorrowed<'_>)
-    ensures exists { (code_points : List ℕ) → AreBoundaries (sentence_rules segmenter.entry) code_points (boundaries_by (sentence_rules segmenter.entry) code_points) }
-    ensures only { (code_points : List ℕ) (found : List Boundary)
-        → AreBoundaries (sentence_rules segmenter.entry) code_points found → found ≡ boundaries_by (sentence_rules segmenter.entry) code_points }
+    ensures { HasOneAnswer (sentence_rules segmenter.entry) }
 {
     laws::boundaries_are_one(segmenter.engine);
 }
 
-/// Law: two texts with equal code points, in whatever encodings, have the same boundaries, counted in code points.
+/// Law: two texts with equal code points, in whatever encodings, have the same boundaries, counted in code points, with
+/// the same statuses: one function of the rules and of the decoded list, which names no place, length or encoding.
 pub fn equal_code_points(segmenter: SentenceSegmenterBorrowed<'_>)
-    ensures { (one other : Text) → code_points one.items ≡ code_points other.items
-        → (counted : List Boundary) × (boundaries_of (sentence_rules segmenter.entry) one ≡ map (boundary_in one) counted)
-        × (boundaries_of (sentence_rules segmenter.entry) other ≡ map (boundary_in other) counted) }
+    ensures { HasEqualOrdinals (sentence_rules segmenter.entry) }
 {
     laws::equal_code_points(segmenter.engine);
 }
