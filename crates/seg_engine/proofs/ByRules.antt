@@ -3,15 +3,15 @@ use Rattle.std.proofs.Common.{ℕ, List, ◌∷◌, map, refl, sym, ap, ◌∙�
 use Rattle.seg_text.specs.declared.boundary.Boundary.{Boundary}
 use Rattle.seg_text.specs.Items.{code_points}
 use Rattle.seg_text.specs.Boundaries.{start, boundary_in, HasRestart}
-use Rattle.seg_text.specs.Stretches.{IsGoing, HasEndAlone}
-use Rattle.seg_text.proofs.Stretches.{through-are, through-only}
+use Rattle.seg_text.specs.Stretches.{HasProgress, HasEndAlone}
+use Rattle.seg_text.proofs.Stretches.{later-are, later-only}
 use Rattle.seg_text.proofs.Restarts.{restarts}
 use Rattle.seg_machine.proofs.Segmentations.{machine-going, machine-alone}
 use Rattle.seg_pairs.proofs.Engine.{table-going, table-alone}
 use Rattle.seg_engine.specs.Rules.{Rules, HasEqualOrdinals, HasOneAnswer, first_stretch, boundaries_by}
 use Rattle.seg_engine.specs.Rules.Rules.{ByTable, ByMachine}
 
-going : (rules : Rules) → IsGoing (first_stretch rules)
+going : (rules : Rules) → HasProgress (first_stretch rules)
 going (ByTable t overriding) = table-going t overriding
 going (ByMachine m) = machine-going m
 
@@ -21,9 +21,9 @@ alone (ByMachine m) = machine-alone m
 
 pub one-by : (rules : Rules) → HasOneAnswer rules
 one-by rules = record {
-  exists = λ cps. let are = through-are (first_stretch rules) (going rules) cps in (are.0, (_, refl, are.1));
+  exists = λ cps. let are = later-are (first_stretch rules) (going rules) cps in (are.0, (_, refl, are.1));
   only = λ cps found are.
-      are.1.1 ∙ ap (λ (later : List Boundary). start ∷ later) (through-only (first_stretch rules) (going rules) cps are.0 are.1.0 are.1.2);
+      are.1.1 ∙ ap (λ (later : List Boundary). start ∷ later) (later-only (first_stretch rules) (going rules) cps are.0 are.1.0 are.1.2);
 }
 
 pub restarts-by : (rules : Rules) → HasRestart (boundaries_by rules)

@@ -3,7 +3,7 @@ use Rattle.std.specs.Prelude.{◌≡◌, ℕ, Option, List, ◌∷◌, map}
 use Rattle.seg_text.specs.declared.boundary.Boundary.{Boundary}
 use Rattle.seg_text.specs.Items.{Text, code_points}
 use Rattle.seg_text.specs.Boundaries.{start, boundary_in, boundaries_in}
-use Rattle.seg_text.specs.Stretches.{Stretch, AreThrough, boundaries_through}
+use Rattle.seg_text.specs.Stretches.{Stretch, AreLaterBoundaries, list_boundaries}
 use Rattle.seg_data.specs.Table.{Table}
 use Rattle.seg_machine.specs.Machine.{Machine}
 use Rattle.seg_machine.specs.Segments.{machine_stretch}
@@ -23,7 +23,7 @@ first_stretch (ByMachine m) = machine_stretch m
 
 -- the boundaries of a list of code points
 abbrev pub boundaries_by : Rules → List ℕ → List Boundary
-boundaries_by rules code_points = boundaries_through (first_stretch rules) code_points
+boundaries_by rules code_points = list_boundaries (first_stretch rules) code_points
 
 -- the boundaries of a text: those of its code points, at the places of its items
 abbrev pub boundaries_of : Rules → Text → List Boundary
@@ -33,7 +33,7 @@ boundaries_of rules text = boundaries_in (boundaries_by rules) text
 abbrev pub AreBoundaries : Rules → List ℕ → List Boundary → Type 0
 AreBoundaries rules code_points found =
     (stretches : List Stretch) × ((later : List Boundary) × (found ≡ start ∷ later)
-    × AreThrough (first_stretch rules) code_points stretches later)
+    × AreLaterBoundaries (first_stretch rules) code_points stretches later)
 
 -- each list of code points has such boundaries, and no others
 pub record HasOneAnswer (rules : Rules) : Type 0 where

@@ -8,7 +8,7 @@ use Rattle.seg_text.specs.declared.boundary.Boundary.{Boundary}
 use Rattle.seg_text.specs.Boundaries.{Remainder, boundary, boundary_in, offsets, offsets_left}
 use Rattle.seg_text.specs.Stretches.{Stretch, remainder}
 use Rattle.seg_text.proofs.Cursors.{fewer-left}
-use Rattle.seg_text.proofs.Stretches.{text-through-nil, text-through-next}
+use Rattle.seg_text.proofs.Stretches.{text-later-nil, text-later-next}
 use Rattle.seg_machine.specs.Machine.{Machine, symbols_of}
 use Rattle.seg_machine.specs.Pick.{pick}
 use Rattle.seg_machine.specs.Segments.{machine_stretch}
@@ -43,14 +43,14 @@ gives-next m text rest started status next place on some (p, picks, same, after)
         ≡ boundary_in whole p ∷ (remainder true (machine_stretch m) (rest_after p.offset whole) p.status).left
     from [] some picks = absurd (some refl)
     from (item ∷ items) some picks =
-        rw (machine-picks m _ p picks) at (text-through-next (machine_stretch m) (machine-going m) item items text.end)
+        rw (machine-picks m _ p picks) at (text-later-next (machine_stretch m) (machine-going m) item items text.end)
 
 pub end-left : (first : List ℕ → Stretch) (text : Text) (started : Bool) (status : ℕ)
     → started ≡ true → (length text.items == 0) ≡ true → (remainder started first text status).left ≡ []
 end-left first text started status on none = from text.items none
   where
     from : (items : List Item) → (length items == 0) ≡ true → (remainder started first (record { items = items; end = text.end }) status).left ≡ []
-    from [] none = rw on (text-through-nil first text.end)
+    from [] none = rw on (text-later-nil first text.end)
     from (item ∷ items) none = absurd (grind (arith, nat_tests))
 
 -- a text that isn't at its end

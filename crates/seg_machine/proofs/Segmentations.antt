@@ -5,7 +5,7 @@ use Rattle.std.specs.Option.{option_map_or}
 use Rattle.std.proofs.lemmas.Bool.{false≢true}
 use Rattle.std.proofs.lemmas.List.{get_or-map, length-map}
 use Rattle.seg_text.specs.declared.boundary.Boundary.{Boundary}
-use Rattle.seg_text.specs.Stretches.{Stretch, IsGoing, HasEndAlone, IsWithin}
+use Rattle.seg_text.specs.Stretches.{Stretch, HasProgress, HasEndAlone, IsWithin}
 use Rattle.seg_machine.specs.Machine.{Machine, IsTextSymbol, symbol_and_script, symbols_of}
 use Rattle.seg_machine.specs.Pick.{pick}
 use Rattle.seg_machine.specs.Segments.{machine_stretch}
@@ -31,7 +31,7 @@ pub machine-picks : (m : Machine) (code_points : List ℕ) (picked : Boundary) �
 unfolding machine_stretch
 machine-picks m code_points picked is = rw is refl
 
-pub machine-going : (m : Machine) → IsGoing (machine_stretch m)
+pub machine-going : (m : Machine) → HasProgress (machine_stretch m)
 unfolding machine_stretch
 machine-going m x xs = on (pick m (symbols_of m (x ∷ xs))) refl
   where

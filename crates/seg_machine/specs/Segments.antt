@@ -2,7 +2,7 @@
 use Rattle.std.specs.Prelude.{ℕ, List, [], ◌∷◌, length}
 use Rattle.std.specs.Option.{option_map_or}
 use Rattle.seg_text.specs.declared.boundary.Boundary.{Boundary}
-use Rattle.seg_text.specs.Stretches.{Stretch, boundaries_through}
+use Rattle.seg_text.specs.Stretches.{Stretch, list_boundaries}
 use Rattle.seg_machine.specs.Machine.{Machine, symbols_of}
 use Rattle.seg_machine.specs.Pick.{pick}
 
@@ -16,4 +16,4 @@ machine_stretch m code_points =
 
 -- the boundaries of a list of code points
 abbrev pub machine_boundaries : Machine → List ℕ → List Boundary
-machine_boundaries m code_points = boundaries_through (machine_stretch m) code_points
+machine_boundaries m code_points = list_boundaries (machine_stretch m) code_points

@@ -4,8 +4,8 @@ use Rattle.std.proofs.lemmas.List.{length-drop, drop-drop}
 use Rattle.seg_pairs.specs.Verdict.{Verdict}
 use Rattle.seg_pairs.specs.Verdict.Verdict.{BreakAfter, GoAfter, RunBegins}
 use Rattle.seg_text.specs.Boundaries.{boundary, shift_all}
-use Rattle.seg_text.specs.Stretches.{Stretch, through, IsGoing}
-use Rattle.seg_text.proofs.Stretches.{through-next}
+use Rattle.seg_text.specs.Stretches.{Stretch, later_boundaries, HasProgress}
+use Rattle.seg_text.proofs.Stretches.{later-next}
 use Rattle.seg_text.proofs.Restarts.{shifted-twice}
 use Rattle.seg_pairs.specs.Breaks.{status_of, stretch_of}
 use Rattle.seg_pairs.specs.Chains.{go_on, chain_within, chain, TakesOf, IsForward, HasNoRun}
@@ -112,7 +112,7 @@ on_chain-go v whole x next xs after n forward on goes is =
 -- the boundary that a chain ends in is the first, and those after it are those of what is left
 module _ {X : Type 0} (v : List X → Verdict) (forward : IsForward v) (statuses : List ℕ) (first : List X → Stretch)
     (by : (x : X) (xs : List X) → first (x ∷ xs) ≡ stretch_of statuses (length (x ∷ xs)) (v (x ∷ xs))) where
-  pub by-going : IsGoing first
+  pub by-going : HasProgress first
   by-going x xs = rw (by x xs) (on (v (x ∷ xs)) (forward x xs))
     where
       on : (w : Verdict) → TakesOf (length (x ∷ xs)) w → 0 < (stretch_of statuses (length (x ∷ xs)) w).extent
@@ -122,10 +122,10 @@ module _ {X : Type 0} (v : List X → Verdict) (forward : IsForward v) (statuses
 
   -- the boundaries of some elements are one, after so many, and those of what is left
   abbrev Begins : List X → ℕ → ℕ → Type 0
-  Begins xs n class = through first xs ≡ boundary n (status_of statuses class) ∷ shift_all n (through first (drop n xs))
+  Begins xs n class = later_boundaries first xs ≡ boundary n (status_of statuses class) ∷ shift_all n (later_boundaries first (drop n xs))
 
-  begins-go : (n m class : ℕ) (xs : List X) → Begins (drop n xs) m class → shift_all n (through first (drop n xs))
-      ≡ boundary (n + m) (status_of statuses class) ∷ shift_all (n + m) (through first (drop (n + m) xs))
+  begins-go : (n m class : ℕ) (xs : List X) → Begins (drop n xs) m class → shift_all n (later_boundaries first (drop n xs))
+      ≡ boundary (n + m) (status_of statuses class) ∷ shift_all (n + m) (later_boundaries first (drop (n + m) xs))
   begins-go n m class xs begins =
       let moved : m + n ≡ n + m = omega arith in
       rw (begins, shifted-twice n m, drop-drop m n xs, ← moved) refl
@@ -136,8 +136,8 @@ module _ {X : Type 0} (v : List X → Verdict) (forward : IsForward v) (statuses
   chain-begins (suc most) x xs gone n class bound found =
       on (v (x ∷ xs)) refl (forward x xs) (λ y ys g. chain-begins most y ys g n class)
     where
-      next : through first (x ∷ xs) ≡ (first (x ∷ xs)).boundaries ++ shift_all (first (x ∷ xs)).extent (through first (drop (first (x ∷ xs)).extent (x ∷ xs)))
-      next = through-next first by-going x xs
+      next : later_boundaries first (x ∷ xs) ≡ (first (x ∷ xs)).boundaries ++ shift_all (first (x ∷ xs)).extent (later_boundaries first (drop (first (x ∷ xs)).extent (x ∷ xs)))
+      next = later-next first by-going x xs
 
       on : (w : Verdict) → v (x ∷ xs) ≡ w → TakesOf (length (x ∷ xs)) w
           → ((y : X) (ys : List X) (g : ℕ) → length (y ∷ ys) ≤ most → chain v (y ∷ ys) ≡ (g, BreakAfter n class) → Begins (y ∷ ys) (g + n) class)

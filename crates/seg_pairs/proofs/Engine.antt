@@ -6,11 +6,11 @@ use Rattle.std.proofs.lemmas.List.{drop-map, length-map}
 use Rattle.seg_text.specs.declared.boundary.Boundary.{Boundary}
 use Rattle.seg_text.specs.Items.{Item, Text, place_of, start_of, rest_after, code_points, IsRising}
 use Rattle.seg_text.specs.Boundaries.{Remainder, GivesNext, IsCover, boundary, start, boundary_in, boundaries_in, offsets, offsets_left, shift_all}
-use Rattle.seg_text.specs.Stretches.{Stretch, through, boundaries_through, remainder, HasEndAlone, IsGoing, IsWithin}
+use Rattle.seg_text.specs.Stretches.{Stretch, later_boundaries, list_boundaries, remainder, HasEndAlone, HasProgress, IsWithin}
 use Rattle.seg_text.proofs.Covers.{covers}
 use Rattle.seg_text.proofs.Cursors.{fewer-left}
 use Rattle.seg_text.proofs.Places.{in-shift}
-use Rattle.seg_text.proofs.Stretches.{through-nil, through-map}
+use Rattle.seg_text.proofs.Stretches.{later-nil, later-map}
 use Rattle.seg_data.specs.Table.{Table}
 use Rattle.seg_pairs.specs.declared.pair_data.PairDataBorrowed.{PairDataBorrowed}
 use Rattle.seg_pairs.specs.PairData.{pair_table_of, override_of}
@@ -60,7 +60,7 @@ table-within t overriding x xs =
     let long : length (classes_by t overriding (x ∷ xs)) ≡ length (x ∷ xs) = length-map (x ∷ xs) (class_of t overriding) in
     subst (λ n. IsWithin n (table_stretch t overriding (x ∷ xs))) long (class-within t (class_of t overriding x) (classes_by t overriding xs))
 
-pub table-going : (t : PairTable) (overriding : Option Table) → IsGoing (table_stretch t overriding)
+pub table-going : (t : PairTable) (overriding : Option Table) → HasProgress (table_stretch t overriding)
 table-going t overriding x xs = (table-within t overriding x xs).some
 
 pub table-alone : (t : PairTable) (overriding : Option Table) (x : ℕ) (xs : List ℕ) → HasEndAlone (table_stretch t overriding (x ∷ xs))
@@ -81,10 +81,10 @@ class-codes (element ∷ elements) end = ap (λ (classes : List ℕ). element.cl
 
 -- the boundaries of elements that are left, where those up to the first were given
 abbrev Ends : PairTable → List Element → ℕ → List Boundary
-Ends t elements end = boundaries_in (through (class_stretch t)) (class_text elements end)
+Ends t elements end = boundaries_in (later_boundaries (class_stretch t)) (class_text elements end)
 
 ends-none : (t : PairTable) (end : ℕ) → Ends t [] end ≡ []
-ends-none t end = rw (through-nil (class_stretch t)) refl
+ends-none t end = rw (later-nil (class_stretch t)) refl
 
 ends-next : (t : PairTable) (left : Element) (elements : List Element) (end gone n class : ℕ)
     → chain (element_verdict t) (left ∷ elements) ≡ (gone, BreakAfter n class)
@@ -96,11 +96,11 @@ ends-next t left elements end gone n class found =
     let status : ℕ = status_of t.rule_status_table class in
     let first : List Element → Stretch = λ elements. class_stretch t (classes_of elements) in
     let begins = chain-first (element_verdict t) (on-classes (verdict t) (verdict-forward t)) t.rule_status_table first (by-class t) left elements gone n class found in
-    let by_class : through (class_stretch t) (classes_of whole) ≡ boundary (gone + n) status ∷ shift_all (gone + n) (through (class_stretch t) (classes_of rest)) =
-    sym (through-map (λ (element : Element). element.class) (class_stretch t) whole) ∙ begins
-    ∙ ap (λ (later : List Boundary). boundary (gone + n) status ∷ shift_all (gone + n) later) (through-map (λ (element : Element). element.class) (class_stretch t) rest) in
+    let by_class : later_boundaries (class_stretch t) (classes_of whole) ≡ boundary (gone + n) status ∷ shift_all (gone + n) (later_boundaries (class_stretch t) (classes_of rest)) =
+    sym (later-map (λ (element : Element). element.class) (class_stretch t) whole) ∙ begins
+    ∙ ap (λ (later : List Boundary). boundary (gone + n) status ∷ shift_all (gone + n) later) (later-map (λ (element : Element). element.class) (class_stretch t) rest) in
     rw (class-codes whole end, class-codes rest end, by_class, in-shift (class_text whole end) (gone + n), class-after (gone + n) whole end)
-    (ap (λ place. boundary place status ∷ map (boundary_in (class_text rest end)) (through (class_stretch t) (classes_of rest)))
+    (ap (λ place. boundary place status ∷ map (boundary_in (class_text rest end)) (later_boundaries (class_stretch t) (classes_of rest)))
     (ap start_of (class-after (gone + n) whole end) ∙ class-start rest end))
   where
     by-class : (t : PairTable) (x : Element) (xs : List Element)
@@ -127,7 +127,7 @@ items-boundaries pairs text (b ∷ counted) =
 
 -- the boundaries of elements, that at their start too
 abbrev All : PairTable → List Element → ℕ → List Boundary
-All t elements end = boundaries_in (boundaries_through (class_stretch t)) (class_text elements end)
+All t elements end = boundaries_in (list_boundaries (class_stretch t)) (class_text elements end)
 
 items-left : (pairs : PairDataBorrowed) (text : Text)
     → All (pair_table_of pairs) (elements_of pairs text.items) text.end ≡ boundaries_in (table_boundaries (pair_table_of pairs) (override_of pairs)) text
@@ -136,9 +136,9 @@ items-left pairs text =
     let o = override_of pairs in
     let codes : code_points (class_text (elements_of pairs text.items) text.end).items ≡ classes_by p o (code_points text.items) =
     class-codes (elements_of pairs text.items) text.end ∙ items-codes pairs text.items in
-    let found : boundaries_through (class_stretch p) (code_points (class_text (elements_of pairs text.items) text.end).items) ≡ table_boundaries p o (code_points text.items) =
-    ap (boundaries_through (class_stretch p)) codes
-    ∙ ap (λ (found : List Boundary). start ∷ found) (sym (through-map (class_of p o) (class_stretch p) (code_points text.items))) in
+    let found : list_boundaries (class_stretch p) (code_points (class_text (elements_of pairs text.items) text.end).items) ≡ table_boundaries p o (code_points text.items) =
+    ap (list_boundaries (class_stretch p)) codes
+    ∙ ap (λ (found : List Boundary). start ∷ found) (sym (later-map (class_of p o) (class_stretch p) (code_points text.items))) in
     ap (map (boundary_in (class_text (elements_of pairs text.items) text.end))) found
     ∙ items-boundaries pairs text (table_boundaries p o (code_points text.items))
 

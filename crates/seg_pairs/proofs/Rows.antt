@@ -3,7 +3,7 @@ use Rattle.std.proofs.Common.{◌≡◌, [], ◌∷◌, refl}
 use Rattle.seg_pairs.specs.declared.provider.pairs.BreakState.TheVariants.{Index, Intermediate}
 use Rattle.seg_pairs.specs.PairTable.{entry_of}
 use Rattle.seg_text.specs.Boundaries.{boundary}
-use Rattle.seg_text.specs.Stretches.{through, through_within}
+use Rattle.seg_text.specs.Stretches.{later_boundaries, later_boundaries_within}
 use Rattle.seg_pairs.specs.Breaks.{class_stretch}
 use Rattle.seg_pairs.specs.Rows.{breaks_of, retreating, classed}
 use Rattle.seg_pairs.specs.Verdict.{verdict, named_verdict}
@@ -17,7 +17,7 @@ pub record Rows : Type 0 where
   pub state_reached : breaks_of classed (1 ∷ 2 ∷ 1 ∷ []) ≡ boundary 2 3 ∷ boundary 3 1 ∷ []
 
 pub rows : Rows
-unfolding through through_within class_stretch verdict named_verdict walk namings entry_of
+unfolding later_boundaries later_boundaries_within class_stretch verdict named_verdict walk namings entry_of
 rows = record {
   back_to_saved = refl;
   to_end = refl;

@@ -2,7 +2,7 @@
 use Rattle.std.specs.Prelude.{ℕ, zero, suc, Option, List, [], ◌∷◌, length, map, slice_index_or}
 use Rattle.seg_text.specs.declared.boundary.Boundary.{Boundary}
 use Rattle.seg_text.specs.Boundaries.{boundary}
-use Rattle.seg_text.specs.Stretches.{Stretch, boundaries_through}
+use Rattle.seg_text.specs.Stretches.{Stretch, list_boundaries}
 use Rattle.seg_data.specs.Table.{Table}
 use Rattle.seg_pairs.specs.PairTable.{PairTable, class_of}
 use Rattle.seg_pairs.specs.Verdict.{Verdict, verdict}
@@ -35,4 +35,4 @@ table_stretch t overriding code_points = class_stretch t (classes_by t overridin
 
 -- the boundaries of a list of code points
 abbrev pub table_boundaries : PairTable → Option Table → List ℕ → List Boundary
-table_boundaries t overriding code_points = boundaries_through (table_stretch t overriding) code_points
+table_boundaries t overriding code_points = list_boundaries (table_stretch t overriding) code_points

@@ -1,7 +1,7 @@
 -- Small tables whose boundaries are known: class 1 is x and 2 is y, 3 and 4 are composites.
 use Rattle.std.specs.Prelude.{ℕ, List, [], ◌∷◌}
 use Rattle.seg_text.specs.declared.boundary.Boundary.{Boundary}
-use Rattle.seg_text.specs.Stretches.{through}
+use Rattle.seg_text.specs.Stretches.{later_boundaries}
 use Rattle.seg_data.specs.Table.{table}
 use Rattle.seg_pairs.specs.declared.provider.pairs.BreakState.{BreakState}
 use Rattle.seg_pairs.specs.declared.provider.pairs.BreakState.TheVariants.{Break, Keep, NoMatch, Index}
@@ -10,7 +10,7 @@ use Rattle.seg_pairs.specs.Breaks.{class_stretch}
 
 -- the boundaries of some classes, each with its class: each class has itself as its status
 abbrev pub breaks_of : PairTable → List ℕ → List Boundary
-breaks_of t classes = through (class_stretch t) classes
+breaks_of t classes = later_boundaries (class_stretch t) classes
 
 -- x y leads to 3, y of 3 to `then`, and y of 4 to nothing; classes after the start are apart
 abbrev pub retreating : BreakState → PairTable

@@ -9,30 +9,30 @@ use Rattle.seg_text.specs.Utf8.{read_utf8, utf8_items, utf8}
 use Rattle.seg_text.specs.Utf16.{read_utf16, utf16_items, utf16}
 use Rattle.seg_text.specs.Lemmas.Readers.{IsReader, place_of-items_by}
 use Rattle.seg_text.specs.Lemmas.Rising.{read_latin1-reader, read_utf8-reader, read_utf16-reader}
-use Rattle.seg_text.specs.Stretches.{Stretch, through, boundaries_through, IsGoing, HasEndAlone, IsWithin}
+use Rattle.seg_text.specs.Stretches.{Stretch, later_boundaries, list_boundaries, HasProgress, HasEndAlone, IsWithin}
 use Rattle.seg_text.proofs.Places.{IsRising-drop, place_of-drop-lt}
-use Rattle.seg_text.proofs.Stretches.{text-through-nil, text-through-next}
+use Rattle.seg_text.proofs.Stretches.{text-later-nil, text-later-next}
 
 module _ (first : List ℕ → Stretch) (within : (x : ℕ) (xs : List ℕ) → IsWithin (length (x ∷ xs)) (first (x ∷ xs))) where
-  going : IsGoing first
+  going : HasProgress first
   going x xs = (within x xs).some
 
   -- from a place on, the boundaries of these items rise to the end
   abbrev Rise : List Item → ℕ → ℕ → Type 0
-  Rise items end from = RisesTo from (boundaries_in (through first) (record { items = items; end = end })) end
+  Rise items end from = RisesTo from (boundaries_in (later_boundaries first) (record { items = items; end = end })) end
 
   -- so they do from any place before the items on
   abbrev AllRise : List Item → ℕ → Type 0
   AllRise items end = (from : ℕ) → (items ≡ [] → from ≡ end) → from ≤ place_of items end → Rise items end from
 
   none-rise : (end : ℕ) → AllRise [] end
-  none-rise end from none low = rw (text-through-nil first end) (none refl)
+  none-rise end from none low = rw (text-later-nil first end) (none refl)
 
   -- the boundaries of the first stretch, and those of what is left after it
   stretch-rises : (item : Item) (items : List Item) (end from : ℕ) → IsRising (item ∷ items) end → from ≤ item.0
       → AllRise (drop (first (code_points (item ∷ items))).extent (item ∷ items)) end → Rise (item ∷ items) end from
   stretch-rises item items end from rising low rest =
-      rw (text-through-next first going item items end) (by fits.ends)
+      rw (text-later-next first going item items end) (by fits.ends)
     where
       stretch : Stretch
       stretch = first (code_points (item ∷ items))
@@ -45,7 +45,7 @@ module _ (first : List ℕ → Stretch) (within : (x : ℕ) (xs : List ℕ) → 
 
       by : HasEndAlone stretch
           → RisesTo from (map (boundary_in (record { items = item ∷ items; end = end })) stretch.boundaries
-          ++ boundaries_in (through first) (rest_after stretch.extent (record { items = item ∷ items; end = end }))) end
+          ++ boundaries_in (later_boundaries first) (rest_after stretch.extent (record { items = item ∷ items; end = end }))) end
       by (inl none) =
           let more : stretch.extent < length (code_points (item ∷ items)) = fits.last none in
           rw none (rest from (λ empty. absurd (omega (arith, more, ap length empty, length-drop stretch.extent (item ∷ items), length-map (item ∷ items) (λ (i : Item). i.1))))
@@ -62,7 +62,7 @@ module _ (first : List ℕ → Stretch) (within : (x : ℕ) (xs : List ℕ) → 
       let few : length (drop n (item ∷ items)) ≤ most = omega (arith, bound, length-drop n (item ∷ items), going item.1 (code_points items)) in
       λ from none low. stretch-rises item items end from rising low (rises most (drop n (item ∷ items)) end few (IsRising-drop (item ∷ items) end n rising))
 
-  pub covers : (whole : Text) → IsRising whole.items whole.end → IsCover (start_of whole) whole.end (boundaries_in (boundaries_through first) whole)
+  pub covers : (whole : Text) → IsRising whole.items whole.end → IsCover (start_of whole) whole.end (boundaries_in (list_boundaries first) whole)
   covers whole rising =
       (refl, rises (length whole.items) whole.items whole.end (omega arith) rising (start_of whole) (λ empty. ap (λ (left : List Item). place_of left whole.end) empty) (omega arith))
 

@@ -11,40 +11,40 @@ pub record Stretch : Type 0 where
 
 -- the list is these stretches, each the first of what is left (`first`), and has these boundaries: those of its first
 -- stretch, and then those of the rest
-abbrev pub AreThrough : {X : Type 0} → (List X → Stretch) → List X → List Stretch → List Boundary → Type 0
-AreThrough first [] [] found = found ≡ []
-AreThrough first (x ∷ xs) (stretch ∷ stretches) found =
+abbrev pub AreLaterBoundaries : {X : Type 0} → (List X → Stretch) → List X → List Stretch → List Boundary → Type 0
+AreLaterBoundaries first [] [] found = found ≡ []
+AreLaterBoundaries first (x ∷ xs) (stretch ∷ stretches) found =
     (first (x ∷ xs) ≡ stretch)
     × ((later : List Boundary) × (found ≡ stretch.boundaries ++ shift_all stretch.extent later)
-    × AreThrough first (drop stretch.extent (x ∷ xs)) stretches later)
-AreThrough first [] (stretch ∷ stretches) found = ⊥
-AreThrough first (x ∷ xs) [] found = ⊥
+    × AreLaterBoundaries first (drop stretch.extent (x ∷ xs)) stretches later)
+AreLaterBoundaries first [] (stretch ∷ stretches) found = ⊥
+AreLaterBoundaries first (x ∷ xs) [] found = ⊥
 
 -- the same boundaries as a function, through so many stretches at most
-unfoldable pub through_within : {X : Type 0} → (List X → Stretch) → ℕ → List X → List Boundary
-through_within first zero xs = []
-through_within first (suc most) [] = []
-through_within first (suc most) (x ∷ xs) =
+unfoldable pub later_boundaries_within : {X : Type 0} → (List X → Stretch) → ℕ → List X → List Boundary
+later_boundaries_within first zero xs = []
+later_boundaries_within first (suc most) [] = []
+later_boundaries_within first (suc most) (x ∷ xs) =
     let stretch = first (x ∷ xs) in
-    stretch.boundaries ++ shift_all stretch.extent (through_within first most (drop stretch.extent (x ∷ xs)))
+    stretch.boundaries ++ shift_all stretch.extent (later_boundaries_within first most (drop stretch.extent (x ∷ xs)))
 
-unfoldable pub through : {X : Type 0} → (List X → Stretch) → List X → List Boundary
-through first xs = through_within first (length xs) xs
+unfoldable pub later_boundaries : {X : Type 0} → (List X → Stretch) → List X → List Boundary
+later_boundaries first xs = later_boundaries_within first (length xs) xs
 
 -- all boundaries: that at the start, and then those of the stretches
-abbrev pub boundaries_through : {X : Type 0} → (List X → Stretch) → List X → List Boundary
-boundaries_through first xs = start ∷ through first xs
+abbrev pub list_boundaries : {X : Type 0} → (List X → Stretch) → List X → List Boundary
+list_boundaries first xs = start ∷ later_boundaries first xs
 
 -- what an engine over a text has still to give: all boundaries of it, or where it has started those of its stretches
 abbrev pub remainder : Bool → (List ℕ → Stretch) → Text → ℕ → Remainder
 remainder started first text status = record {
-  left = if started then boundaries_in (through first) text else boundaries_in (boundaries_through first) text;
+  left = if started then boundaries_in (later_boundaries first) text else boundaries_in (list_boundaries first) text;
   status = status;
 }
 
 -- each stretch has some of the elements that there are
-abbrev pub IsGoing : {X : Type 0} → (List X → Stretch) → Type 0
-IsGoing {X} first = (x : X) (xs : List X) → 0 < (first (x ∷ xs)).extent
+abbrev pub HasProgress : {X : Type 0} → (List X → Stretch) → Type 0
+HasProgress {X} first = (x : X) (xs : List X) → 0 < (first (x ∷ xs)).extent
 
 -- a stretch has one boundary, at its end, or none
 abbrev pub HasEndAlone : Stretch → Type 0
