@@ -4,7 +4,7 @@ use Rattle.seg_data.specs.declared.provider.ComplexScript.{ComplexScript}
 use Rattle.seg_data.specs.declared.provider.ComplexScript.TheVariants.{None as NoScript, Myanmar, Thai}
 use Rattle.seg_machine.specs.declared.provider.Acceptance.{Acceptance}
 use Rattle.seg_machine.specs.declared.provider.Acceptance.TheVariants.{Continue, Accept}
-use Rattle.icu_segmenter.specs.declared.provider.LineTailorings.{LineTailorings}
+use Rattle.icu_segmenter.specs.LineTailorings.{TailoringMaps}
 use Rattle.icu_segmenter.specs.Table.{Table}
 use Rattle.icu_segmenter.specs.Machine.{Machine, machine}
 
@@ -47,7 +47,7 @@ abbrev pub breakall : List (ℕ × ComplexScript)
 breakall = (4, NoScript) ∷ (4, NoScript) ∷ (4, NoScript) ∷ []
 
 -- no other tailoring is there
-abbrev pub line_tailorings : LineTailorings
+abbrev pub line_tailorings : TailoringMaps
 line_tailorings = record {
   breakall = Some breakall;
   keepall = None;

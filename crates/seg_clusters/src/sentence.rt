@@ -26,6 +26,7 @@ use seg_pairs::provider::{RuleBreakData, RuleBreakDataOverride};
 use seg_text::cursor::Cursor;
 use seg_text::indices::{Latin1Indices, StrCharIndices, Utf8CharIndices, Utf16Indices};
 use seg_text::scaffold::{Latin1, PotentiallyIllFormedUtf8, RuleBreakType, Utf8, Utf16};
+use std::fmt::Debug;
 use std::marker::PhantomData;
 
 /// The options of sentences that no language changes: none today.
@@ -46,6 +47,7 @@ pub struct SentenceBreakOptions<'a> {
 /// 16-bit units in UTF-16.
 ///
 /// First 0, then the end of each sentence; the last is the text's length. After None it is None for ever.
+#[derive_where(Debug; Y::IterAttr: Debug)]
 pub struct SentenceBreakIterator<'data, 's, Y: RuleBreakType<'s>> {
     boundaries: Boundaries<'data, Y::IterAttr>,
     text: PhantomData<&'s ()>,

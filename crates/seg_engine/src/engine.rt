@@ -63,13 +63,13 @@ impl<'data> Engine<'data> {
 }
 
 /// The boundaries of a text, as places, by either engine.
-#[derive(Drop)]
+#[derive(Debug, Drop)]
 pub struct Boundaries<'data, I: Cursor> {
     by: BoundariesBy<'data, I>,
 }
 
 /// Which engine gives them.
-#[derive(Drop)]
+#[derive(Debug, Drop)]
 enum BoundariesBy<'data, I: Cursor> {
     /// That of a pair table.
     Classic(rule_segmenter_v1::RuleBreakIterator<'data, I>),

@@ -1,6 +1,5 @@
 -- Lines: the machine that finds their breaks, the faults of its data, and what is seen of segmenters and iterators.
 use Rattle.std.specs.Prelude.{◌≡◌, ◌⊎◌, ℕ, ◌==◌, Bool, Option, Some, None, List}
-use Rattle.std.specs.Option.{option_map}
 use Rattle.seg_data.specs.declared.provider.ComplexScript.{ComplexScript}
 use Rattle.seg_data.specs.declared.provider.DataError.{DataError}
 use Rattle.seg_data.specs.declared.provider.DataError.TheVariants.{ComplexBelow0100, MissingTailoring}
@@ -10,19 +9,13 @@ use Rattle.seg_text.specs.declared.boundary.Boundary.{Boundary}
 use Rattle.seg_text.specs.Boundaries.{offsets}
 use Rattle.seg_engine.specs.Engine.{rules_of, owned_rules}
 use Rattle.seg_engine.specs.Rules.{Rules}
-use Rattle.seg_lines.specs.declared.line.options.Tailoring.{Tailoring}
 use Rattle.seg_lines.specs.declared.line.options.MachineChoice.{MachineChoice}
 use Rattle.seg_lines.specs.declared.line.options.MachineChoice.TheVariants.{Clusters, Lines}
-use Rattle.seg_lines.specs.declared.provider.LineTailorings.{LineTailorings}
+use Rattle.seg_lines.specs.LineTailorings.{TailoringMaps}
 use Rattle.seg_lines.specs.declared.line.LineSegmenter.{LineSegmenter}
 use Rattle.seg_lines.specs.declared.line.LineSegmenterBorrowed.{LineSegmenterBorrowed}
 use Rattle.seg_lines.specs.declared.line.LineBreakIterator.{LineBreakIterator}
-use Rattle.seg_lines.specs.Tailorings.{tailoring_named}
-
--- the tailoring of the line machine by this name, if one is named: `None` where it is missing
-abbrev pub tailoring_for : LineTailorings → Option Tailoring → Option (Option (List (ℕ × ComplexScript)))
-tailoring_for tailorings (Some name) = option_map Some (tailoring_named tailorings name)
-tailoring_for tailorings None = Some None
+use Rattle.seg_lines.specs.Tailorings.{tailoring_for}
 
 -- the line machine with the tailoring that is named
 abbrev pub line_machine_for : Machine → Option (Option (List (ℕ × ComplexScript))) → Machine
@@ -36,12 +29,12 @@ HasFaultWith lines (Some tailoring) fault =
     HasTailoringFault lines tailoring fault ⊎ ((fault ≡ ComplexBelow0100) × HasComplexBelow0100 (tailored lines tailoring))
 
 -- the machine that finds the breaks: that of clusters, or that of lines with its tailoring
-abbrev pub chosen_machine : Machine → LineTailorings → Machine → MachineChoice → Machine
+abbrev pub chosen_machine : Machine → TailoringMaps → Machine → MachineChoice → Machine
 chosen_machine lines tailorings clusters Clusters = clusters
 chosen_machine lines tailorings clusters (Lines name) = line_machine_for lines (tailoring_for tailorings name)
 
 -- the faults of a line segmenter's data: none where the machine of clusters finds the breaks
-abbrev pub HasLineFault : Machine → LineTailorings → MachineChoice → DataError → Type 0
+abbrev pub HasLineFault : Machine → TailoringMaps → MachineChoice → DataError → Type 0
 HasLineFault lines tailorings Clusters fault = ⊥
 HasLineFault lines tailorings (Lines name) fault = HasFaultWith lines (tailoring_for tailorings name) fault
 

@@ -29,12 +29,14 @@ use seg_machine::tailored_machine::{TailoredMachine, TailoredMachineBorrowed};
 use seg_text::cursor::Cursor;
 use seg_text::indices::{Latin1Indices, StrCharIndices, Utf8CharIndices, Utf16Indices};
 use seg_text::scaffold::{Latin1, PotentiallyIllFormedUtf8, RuleBreakType, Utf8, Utf16};
+use std::fmt::Debug;
 use std::marker::PhantomData;
 
 /// The boundaries of lines in a text, as places: bytes in str, UTF-8 and Latin-1,
 /// 16-bit units in UTF-16.
 ///
 /// First 0, then each place where a line may be broken; the last is the text's length. After None it is None for ever.
+#[derive_where(Debug; Y::IterAttr: Debug)]
 pub struct LineBreakIterator<'data, 's, Y: RuleBreakType<'s>> {
     boundaries: Boundaries<'data, Y::IterAttr>,
     text: PhantomData<&'s ()>,

@@ -23,7 +23,7 @@ use std::marker::Model;
 /// The boundaries of a text by a state machine: its start, and then the end of each segment.
 ///
 /// Each segment is the pick of the machine for what is left of the text.
-#[derive(Drop)]
+#[derive(Debug, Drop)]
 pub struct RuleBreakIterator<'data, I: Cursor> {
     machine: TailoredMachineBorrowed<'data>,
     rest: I,

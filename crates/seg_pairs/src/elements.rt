@@ -47,7 +47,7 @@ pub trait Elements: Drop {
 }
 
 /// The items of a text as elements, with the classes of a pair table and its override.
-#[derive(Drop)]
+#[derive(Debug, Drop)]
 pub struct Items<'data, I: Cursor> {
     /// What the classes are by.
     pub pairs: PairDataBorrowed<'data>,

@@ -16,7 +16,7 @@ use std::marker::Model;
 
 /// The boundaries of a text by a pair table: its start, and then each that the verdicts of the table
 /// lead to from the one before. For tables by which no run begins.
-#[derive(Drop)]
+#[derive(Debug, Drop)]
 pub struct RuleBreakIterator<'data, I: Cursor> {
     // The first element after the boundary that was given last.
     next: Option<Element>,

@@ -1,7 +1,7 @@
 -- By default options the bench data of lines have no fault.
 use Rattle.std.proofs.Common.{◌≡◌, Some, None, inl, inr, refl}
 use Rattle.icu_segmenter.specs.declared.provider.DataError.{DataError}
-use Rattle.icu_segmenter.specs.declared.provider.LineTailorings.{LineTailorings}
+use Rattle.icu_segmenter.specs.LineTailorings.{TailoringMaps}
 use Rattle.icu_segmenter.specs.declared.options.LineBreakOptions.{LineBreakOptions}
 use Rattle.icu_segmenter.specs.Machine.{Machine}
 use Rattle.icu_segmenter.specs.Options.{machine_choice}
@@ -17,7 +17,7 @@ none fault (inr has) = lines-not_complex has.1
 abbrev pub IsDefault : LineBreakOptions → Type 0
 IsDefault options = (options.strictness ≡ None) × ((options.word_option ≡ None) × (options.content_locale ≡ None))
 
-module _ (machine : Machine) (tailorings : LineTailorings) (options : LineBreakOptions) (default : IsDefault options) where
+module _ (machine : Machine) (tailorings : TailoringMaps) (options : LineBreakOptions) (default : IsDefault options) where
   pub no-fault : (fault : DataError) → machine ≡ line_machine → HasLineFault machine tailorings (machine_choice options) fault → ⊥
   no-fault fault is has = none fault (rw (default.0, default.1.0, default.1.1, is) at has)
 

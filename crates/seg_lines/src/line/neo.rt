@@ -1,15 +1,15 @@
 //! The machines of lines, with the tailorings that options name.
 ghost use Rattle.std.specs.Prelude.{◌≡◌, Some, None, IfOk, IfErr};
 ghost use Rattle.std.specs.Option.{option_map};
-ghost use Rattle.seg_data.specs.declared.provider.DataError.TheVariants.{MissingTailoring};
 ghost use Rattle.seg_data.specs.Faults.{IsFaultless, IsLowestFault};
 ghost use Rattle.seg_machine.specs.Machine.{tailored};
 ghost use Rattle.seg_machine.specs.Tailored.{machine_of, owned_machine};
-ghost use Rattle.seg_lines.specs.Lines.{line_machine_for, tailoring_for, HasFaultWith};
+ghost use Rattle.seg_lines.specs.Lines.{line_machine_for, HasFaultWith};
 ghost use Rattle.seg_lines.specs.LineTailorings.{lent};
+ghost use Rattle.seg_lines.specs.Tailorings.{tailoring_for};
 
 use crate::line::options::Tailoring;
-use crate::line::tailorings::{lent_named, owned_named};
+use crate::line::tailorings::tailoring_for;
 use crate::provider::{LineTailorings, LineTailoringsBorrowed};
 use seg_data::provider::DataError;
 use seg_machine::provider::{SegmenterStateMachine, SegmenterStateMachineOverride};
@@ -27,24 +27,7 @@ pub(super) fn lent_line_machine<'data>(
         × IsFaultless (HasFaultWith machine.now (tailoring_for (lent tailorings.entry) name))) }
     ensures refused { IfErr result (IsLowestFault (HasFaultWith machine.now (tailoring_for (lent tailorings.entry) name))) }
 {
-    lent_with(machine, lent_tailoring(tailorings, name)?)
-}
-
-// The tailoring of this name, if there is a name, lent. `MissingTailoring` where it isn't there.
-fn lent_tailoring<'data>(
-    tailorings: LineTailoringsBorrowed<'data>,
-    name: Option<Tailoring>,
-) -> Result<Option<&'data SegmenterStateMachineOverride>, DataError>
-    ensures found { IfOk result (λ t. tailoring_for (lent tailorings.entry) name ≡ Some (option_map (λ map. map.now) t)) }
-    ensures missing { IfErr result (λ fault. (fault ≡ MissingTailoring) × (tailoring_for (lent tailorings.entry) name ≡ None)) }
-{
-    let Some(name) = name else {
-        return Ok(None);
-    };
-    match lent_named(tailorings, name) {
-        Some(tailoring) => Ok(Some(tailoring)),
-        None => Err(DataError::MissingTailoring),
-    }
+    lent_with(machine, tailoring_for(tailorings, name)?)
 }
 
 // The machine of lines with this tailoring, if there is one, lent.
@@ -72,24 +55,7 @@ pub(super) fn owned_line_machine(
         × IsFaultless (HasFaultWith machine (tailoring_for tailorings name))) }
     ensures refused { IfErr result (IsLowestFault (HasFaultWith machine (tailoring_for tailorings name))) }
 {
-    owned_with(machine, owned_tailoring(tailorings, name)?)
-}
-
-// The tailoring of this name, if there is a name. `MissingTailoring` where it isn't there.
-fn owned_tailoring(
-    tailorings: LineTailorings,
-    name: Option<Tailoring>,
-) -> Result<Option<SegmenterStateMachineOverride>, DataError>
-    ensures found { IfOk result (λ t. tailoring_for tailorings name ≡ Some t) }
-    ensures missing { IfErr result (λ fault. (fault ≡ MissingTailoring) × (tailoring_for tailorings name ≡ None)) }
-{
-    let Some(name) = name else {
-        return Ok(None);
-    };
-    match owned_named(tailorings, name) {
-        Some(tailoring) => Ok(Some(tailoring)),
-        None => Err(DataError::MissingTailoring),
-    }
+    owned_with(machine, tailoring_for(tailorings, name)?)
 }
 
 // The machine of lines with this tailoring, if there is one.

@@ -1,5 +1,5 @@
 use crate::line::options::{MachineChoice, Tailoring, choice_of};
-use crate::line::tailorings::{lent_named, owned_named};
+use crate::line::tailorings::named;
 use crate::line::{LineBreakOptions, LineBreakStrictness, LineBreakWordOption};
 use crate::provider::LineTailorings;
 use seg_data::provider::{ComplexScript, LanguageIdentifier};
@@ -58,8 +58,8 @@ fn finds_tailorings(rt: HostRuntime) -> Result<(), Fail> {
         ..LineTailorings::default()
     };
     let lent = tailorings.as_borrowed();
-    assert!(rt; lent_named(lent, Tailoring::JaLoose).is_none());
-    assert!(rt; lent_named(lent, Tailoring::Loose) == tailorings.loose.as_ref());
-    assert!(rt; owned_named(tailorings, Tailoring::Loose).is_some());
+    assert!(rt; named(lent, Tailoring::JaLoose).is_none());
+    assert!(rt; named(lent, Tailoring::Loose) == tailorings.loose.as_ref());
+    assert!(rt; named(tailorings, Tailoring::Loose).is_some());
     Ok(())
 }
