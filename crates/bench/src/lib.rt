@@ -1,4 +1,7 @@
-//! Data for tests and for the program, written by hand. No claim is made that they agree with UAX #14 or UAX #29.
+//! Sample data, written by hand: machines, pair tables and tailorings for tests, examples and the programs, and readers
+//! and writers that fail. The tests that cross crates stand here too.
+//!
+//! This is no benchmark (crates/speed measures), and no claim is made that the data agree with UAX #14 or UAX #29.
 #![tactic(auto)]
 
 pub mod clusters;

@@ -101,6 +101,14 @@ impl GraphemeClusterSegmenter {
 }
 
 /// Finds grapheme clusters with data that are lent to it.
+///
+/// With the sample data (`bench::clusters`), where U+0301 extends a cluster, `e\u{301}a` has the clusters `e\u{301}` and `a`:
+///
+/// ```text
+/// segmenter.segment_str("e\u{301}a")                    0 3 4      in bytes
+/// segmenter.segment_utf16(&[0x65, 0x301, 0x61])         0 2 3      in 16-bit units
+/// segmenter.segment_str("")                             0
+/// ```
 #[derive(Clone, Copy, Debug)]
 pub struct GraphemeClusterSegmenterBorrowed<'data> {
     pub(crate) engine: Engine<'data>,

@@ -133,6 +133,13 @@ impl SentenceSegmenter {
 }
 
 /// Finds sentences with data that are lent to it.
+///
+/// With the sample data (`bench::sentences`), where a full stop and the spaces after it end a sentence:
+///
+/// ```text
+/// segmenter.segment_str("Hi. Bye.")                     0 4 8      in bytes
+/// segmenter.segment_str("")                             0
+/// ```
 #[derive(Clone, Copy, Debug)]
 pub struct SentenceSegmenterBorrowed<'data> {
     pub(crate) engine: Engine<'data>,

@@ -129,6 +129,14 @@ impl LineSegmenter {
 }
 
 /// Finds line breaks with data that are lent to it.
+///
+/// With the sample data (`bench::lines`), where a line may be broken after spaces, and must be after a line feed and at
+/// the end of the text; ! stands for a break that is mandatory:
+///
+/// ```text
+/// default options            segmenter.segment_str("a b\nc")      0 2 4! 5!      in bytes
+/// the word option BreakAll   segmenter.segment_str("ab c")        0 1 3 4!
+/// ```
 #[derive(Clone, Copy, Debug)]
 pub struct LineSegmenterBorrowed<'data> {
     pub(crate) engine: Engine<'data>,

@@ -1,4 +1,4 @@
-// The data of each engine, small and real.
+//! The data of each engine, small and real.
 ghost use Rattle.std.specs.Prelude.{◌≡◌, None, IfOk};
 ghost use Rattle.icu_segmenter.specs.Rules.Rules.{ByTable, ByMachine};
 ghost use Rattle.speed.specs.Segmenter.{machine_with, rules_of, rules_with, table_with};

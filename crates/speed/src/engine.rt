@@ -1,4 +1,4 @@
-// The engines, and the words that the command line has for them.
+//! The engines, and the words that the command line has for them.
 ghost use Rattle.std.specs.Prelude.{◌≡◌, ◌≢◌, ◌⊎◌, ◌↔◌, [], All, Any, IsTrue, MatchOption};
 ghost use Rattle.speed.specs.declared.engine.Engine.{Engine as AnyEngine};
 ghost use Rattle.speed.specs.Command.{IsEngineWord, word_of};

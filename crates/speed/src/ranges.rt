@@ -1,4 +1,4 @@
-// A property of Unicode as the ranges of a class table.
+//! A property of Unicode as the ranges of a class table.
 ghost use Rattle.std.specs.Prelude.{◌≡◌, ℕ, ◌≤◌, IfOk};
 ghost use Rattle.ucd_table.specs.Steps.{IsPartition, IsRunsOf, run_value};
 ghost use Rattle.ucd_breaks.specs.GraphemeClusterBreak.{grapheme_cluster_break, grapheme_cluster_break_number};

@@ -1,4 +1,4 @@
-// The program, over any runtime and writers.
+//! The program, over any runtime and writers.
 ghost use Rattle.std.specs.Prelude.{◌≡◌, ◌*◌, ◌<◌, ◌≤◌, ◌⊎◌, ◌↔◌, ℕ, [], ◌∷◌, ◌++◌, length, min, take, IfOk, IfSome, IsSome};
 ghost use Rattle.std.specs.List.{repeat};
 ghost use Rattle.speed.specs.Command.{IsCommand};

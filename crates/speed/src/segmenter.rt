@@ -1,4 +1,4 @@
-// Segmenters of any kind.
+//! Segmenters of any kind.
 ghost use Rattle.std.specs.Prelude.{◌≡◌};
 
 use crate::tally::{Tally, tally_of};

@@ -1,4 +1,4 @@
-// The boundaries of a text, counted and added up.
+//! The boundaries of a text, counted and added up.
 ghost use Rattle.std.specs.Prelude.{◌≡◌, ℕ, List};
 ghost use Rattle.std.specs.Iterator.{IsFinite, Drains};
 ghost use Rattle.speed.specs.Tally.{tally_of};

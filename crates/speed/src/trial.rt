@@ -1,4 +1,4 @@
-// Segmenters, and how long they took.
+//! Segmenters, and how long they took.
 ghost use Rattle.std.specs.Prelude.{◌≡◌, ◌≤◌, ◌*◌, ◌/◌, None, OnOk, IfOk, max};
 ghost use Rattle.std.specs.Duration.{as_nanos};
 ghost use Rattle.icu_segmenter.specs.Table.{Table};

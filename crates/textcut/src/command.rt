@@ -1,4 +1,4 @@
-// The command line.
+//! The command line.
 ghost use Rattle.std.specs.Prelude.{◌≡◌, ◌≢◌, MatchOption};
 ghost use Rattle.textcut.specs.Command.{texts, words_of};
 ghost use Rattle.textcut.specs.declared.command.Command.{Command as AnyCommand};

@@ -1,4 +1,4 @@
-// What ends a run early, and what is said of it.
+//! What ends a run early, and what is said of it.
 ghost use Rattle.std.specs.Prelude.{◌≡◌};
 ghost use Rattle.textcut.specs.Failure.{status_of, message_of};
 ghost use Rattle.textcut.specs.declared.failure.Failure.TheVariants.{NoMemory};

@@ -1,4 +1,4 @@
-// Numbers as lines of text.
+//! Numbers as lines of text.
 ghost use Rattle.std.specs.Prelude.{◌≡◌, ℕ, List, OnOk};
 ghost use Rattle.std.specs.Iterator.{IsFinite, Drains};
 ghost use Rattle.std.specs.Io.KnownBytes.{Appends};

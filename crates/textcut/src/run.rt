@@ -1,4 +1,4 @@
-// The program, over any reader and writers.
+//! The program, over any reader and writers.
 ghost use Rattle.std.specs.Prelude.{◌≡◌, ◌≢◌, ◌≤◌, ◌↔◌, ℕ, List, OnOk, IfOk, IfErr, IfSome, IsErrOf, length};
 ghost use Rattle.std.specs.Iterator.{IsFinite, Drains};
 ghost use Rattle.std.specs.Io.KnownBytes.{Appends, IsAtEnd};

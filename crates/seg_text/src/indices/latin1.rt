@@ -1,3 +1,5 @@
+//! A cursor over Latin-1.
+
 ghost use Rattle.std.specs.Prelude.{◌≡◌, ◌≤◌, ◌<◌, ℕ, ⊤, drop, length, ◌+◌, ◌==◌};
 ghost use Rattle.std.specs.Iterator.{YieldsFirst, item_count, MakesProgress};
 ghost use Rattle.seg_text.specs.Latin1.{latin1_items, latin1_from};

@@ -1,3 +1,5 @@
+//! A cursor over a `str`.
+
 ghost use Rattle.std.specs.Prelude.{◌≡◌, ◌≤◌, ◌<◌, ℕ, ⊤, drop, length, ◌+◌, ◌==◌};
 ghost use Rattle.std.specs.Iterator.{YieldsFirst, item_count, MakesProgress};
 ghost use Rattle.seg_text.specs.Utf8.{utf8_items, utf8_from, read_utf8};

@@ -1,3 +1,5 @@
+//! A cursor over possibly ill-formed UTF-16.
+
 ghost use Rattle.std.specs.Prelude.{◌≡◌, ◌≤◌, ◌<◌, ℕ, ⊤, drop, length, ◌+◌, ◌==◌, slice_index};
 ghost use Rattle.std.specs.Iterator.{YieldsFirst, item_count, MakesProgress};
 ghost use Rattle.seg_text.specs.Utf16.{utf16_items, utf16_from, read_utf16, IsHighSurrogate};

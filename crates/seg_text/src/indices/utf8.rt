@@ -1,3 +1,5 @@
+//! A cursor over possibly ill-formed UTF-8.
+
 ghost use Rattle.std.specs.Prelude.{◌≡◌, ◌≤◌, ◌<◌, ℕ, ⊤, ◌↔◌, IsTrue, [], ◌∷◌, drop, length, ◌+◌, ◌==◌, slice_index};
 ghost use Rattle.std.specs.Iterator.{YieldsFirst, item_count, MakesProgress};
 ghost use Rattle.std.specs.Char.{IsScalar};

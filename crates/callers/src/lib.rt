@@ -1,0 +1,9 @@
+//! Callers of the segmenters, proved by the gate. docs/CALLING.md shows them.
+#![tactic(auto)]
+
+pub mod clusters;
+pub mod data;
+pub mod lines;
+pub mod sentences;
+#[cfg(test)]
+mod tests;

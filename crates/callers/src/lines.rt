@@ -1,0 +1,57 @@
+//! Lines.
+ghost use Rattle.std.specs.Prelude.{◌≡◌, ◌==◌, Some, IfOk, IfErr, filter};
+ghost use Rattle.icu_segmenter.specs.Boundaries.{offsets};
+ghost use Rattle.icu_segmenter.specs.Faults.{IsLowestFault};
+ghost use Rattle.icu_segmenter.specs.Lines.{HasFaultWith, line_rules, owned_line_rules};
+ghost use Rattle.icu_segmenter.specs.Machine.{tailored};
+ghost use Rattle.icu_segmenter.specs.Rules.{boundaries_of};
+ghost use Rattle.icu_segmenter.specs.Rules.Rules.{ByMachine};
+ghost use Rattle.icu_segmenter.specs.Utf8.{utf8};
+
+use icu_segmenter::options::{LineBreakOptions, LineBreakWordOption};
+use icu_segmenter::provider::{
+    DataError, LineTailorings, SegmenterStateMachine, SegmenterStateMachineOverride,
+};
+use icu_segmenter::{LineSegmenter, LineSegmenterBorrowed};
+use std::alloc::{AllocError, Global};
+
+/// The places where a line of the text must be broken, in bytes. The only error is want of memory.
+pub fn mandatory_breaks(
+    alloc: Global,
+    segmenter: LineSegmenterBorrowed<'_>,
+    text: &str,
+) -> Result<Vec<usize>, AllocError>
+    ensures { IfOk result (λ places. places.items ≡ offsets (filter (λ boundary. boundary.status == 1) (boundaries_of (line_rules segmenter.entry) (utf8 text.now)))) }
+{
+    let mut lines = segmenter.segment_str(text);
+    let mut places = Vec::new(alloc);
+    while let Some(place) = lines.next() {
+        if lines.is_mandatory() {
+            places.push(place)?;
+        }
+    }
+    Ok(places)
+}
+
+/// A segmenter by the line machine with its tailoring for the word option `BreakAll`.
+///
+/// `ComplexBelow0100` where, with the tailoring, a code point below U+0100 has a script, and otherwise `SymbolOutOfRange`
+/// where the tailoring doesn't fit the machine.
+pub fn breakall_segmenter(
+    machine: SegmenterStateMachine,
+    breakall: SegmenterStateMachineOverride,
+    clusters: SegmenterStateMachine,
+) -> Result<LineSegmenter, DataError>
+    ensures accepted { IfOk result (λ segmenter. owned_line_rules segmenter ≡ ByMachine (tailored machine (Some breakall))) }
+    ensures refused { IfErr result (IsLowestFault (HasFaultWith machine (Some (Some breakall)))) }
+{
+    let tailorings = LineTailorings {
+        breakall: Some(breakall),
+        ..LineTailorings::default()
+    };
+    let options = LineBreakOptions {
+        word_option: Some(LineBreakWordOption::BreakAll),
+        ..LineBreakOptions::default()
+    };
+    LineSegmenter::try_new_neo_for_non_complex_scripts(machine, tailorings, clusters, options)
+}
