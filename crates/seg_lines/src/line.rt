@@ -23,11 +23,11 @@ use neo::{lent_line_machine, owned_line_machine};
 pub use options::{LineBreakOptions, LineBreakStrictness, LineBreakWordOption};
 use options::{MachineChoice, choice_of};
 use seg_data::provider::DataError;
-use seg_machine::provider::SegmenterStateMachine;
 use seg_engine::engine::{Boundaries, Engine, OwnedEngine};
+use seg_machine::provider::SegmenterStateMachine;
 use seg_machine::tailored_machine::{TailoredMachine, TailoredMachineBorrowed};
-use seg_text::indices::{Latin1Indices, StrCharIndices, Utf8CharIndices, Utf16Indices};
 use seg_text::cursor::Cursor;
+use seg_text::indices::{Latin1Indices, StrCharIndices, Utf8CharIndices, Utf16Indices};
 use seg_text::scaffold::{Latin1, PotentiallyIllFormedUtf8, RuleBreakType, Utf8, Utf16};
 use std::marker::PhantomData;
 
