@@ -68,7 +68,7 @@ module _ (first : List ℕ → Stretch) (within : (x : ℕ) (xs : List ℕ) → 
 
 -- the texts of whole inputs begin at 0, and end after all of their units
 
-cover-whole : (read : Reader) → IsReader read → (units : List ℕ) (boundaries : List Boundary)
+cover-whole : (read : Reader ℕ) → IsReader read → (units : List ℕ) (boundaries : List Boundary)
     → IsCover (place_of (items_by read 0 units) (0 + length units)) (0 + length units) boundaries → IsCover 0 (length units) boundaries
 cover-whole read reader units boundaries cover = rw (place_of-items_by read reader 0 units, zero-add (length units)) at cover
 

@@ -10,12 +10,12 @@ use Rattle.seg_text.specs.Items.{Text, rest_after, place_of, items_by, Reader, R
 use Rattle.seg_text.specs.Lemmas.Readers.{IsReader, items_by-nil, items_by-cons, place_of-items_by}
 
 -- the items after the first k are those of the units after the first so many
-pub record IsFrom (read : Reader) (k place : ℕ) (units : List ℕ) : Type 0 where
+pub record IsFrom {U : Type 0} (read : Reader U) (k place : ℕ) (units : List U) : Type 0 where
   pub before : ℕ
   pub within : before ≤ length units
   pub same : drop k (items_by read place units) ≡ items_by read (place + before) (drop before units)
 
-pub items_by-from : (read : Reader) → IsReader read → (k place : ℕ) (units : List ℕ) → IsFrom read k place units
+pub items_by-from : {U : Type 0} (read : Reader U) → IsReader read → (k place : ℕ) (units : List U) → IsFrom read k place units
 items_by-from read reader zero place units =
     let start : place + 0 ≡ place = omega arith in
     record { before = 0; within = omega arith; same = rw start refl }
@@ -35,7 +35,7 @@ items_by-from read reader (suc k) place (unit ∷ units) =
     }
 
 -- the place of an item that isn't read yet, and what is left there, where the text is `text` and `start` the place of the cursor
-seek-found : (read : Reader) → IsReader read → (k place start : ℕ) (text : List ℕ) → start ≤ length text
+seek-found : {U : Type 0} (read : Reader U) → IsReader read → (k place start : ℕ) (text : List U) → start ≤ length text
     → place ≡ place_of (drop k (items_by read start (drop start text))) (start + length (drop start text))
     → (place ≤ length text) × (items_by read place (drop place text) ≡ drop k (items_by read start (drop start text)))
 seek-found read reader k place start text inside here =
@@ -49,23 +49,23 @@ seek-found read reader k place start text inside here =
     rw (is, ← drop-drop from.before start text) (sym from.same) in
     (omega (arith, length-drop start text), same)
 
-pub seek-within : (read : Reader) → IsReader read → (k place start : ℕ) (text : List ℕ) → start ≤ length text
+pub seek-within : {U : Type 0} (read : Reader U) → IsReader read → (k place start : ℕ) (text : List U) → start ≤ length text
     → place ≡ place_of (drop k (items_by read start (drop start text))) (start + length (drop start text))
     → place ≤ length text
 seek-within read reader k place start text inside here = (seek-found read reader k place start text inside here).0
 
-pub seek-left : (read : Reader) → IsReader read → (k place start : ℕ) (text : List ℕ) → start ≤ length text
+pub seek-left : {U : Type 0} (read : Reader U) → IsReader read → (k place start : ℕ) (text : List U) → start ≤ length text
     → place ≡ place_of (drop k (items_by read start (drop start text))) (start + length (drop start text))
     → items_by read place (drop place text) ≡ drop k (items_by read start (drop start text))
 seek-left read reader k place start text inside here = (seek-found read reader k place start text inside here).1
 
 -- the end stays the same
-pub seek-end : (place start : ℕ) (text : List ℕ) → place ≤ length text → start ≤ length text
+pub seek-end : {U : Type 0} (place start : ℕ) (text : List U) → place ≤ length text → start ≤ length text
     → place + length (drop place text) ≡ start + length (drop start text)
 seek-end place start text inside before = omega (arith, length-drop place text, length-drop start text)
 
 -- what is left there, as a text
-pub seek-text : (read : Reader) → IsReader read → (k place start : ℕ) (text : List ℕ) → start ≤ length text
+pub seek-text : {U : Type 0} (read : Reader U) → IsReader read → (k place start : ℕ) (text : List U) → start ≤ length text
     → place ≡ place_of (drop k (items_by read start (drop start text))) (start + length (drop start text))
     → let there : Text = record { items = items_by read place (drop place text); end = place + length (drop place text) } in
     there ≡ rest_after k (record { items = items_by read start (drop start text); end = start + length (drop start text) })
@@ -73,11 +73,11 @@ seek-text read reader k place start text inside here =
     rw (seek-left read reader k place start text inside here, seek-end place start text (seek-within read reader k place start text inside here) inside) refl
 
 -- it is at the end just where no item is left
-pub at-end : (read : Reader) → IsReader read → (start : ℕ) (text : List ℕ) → start ≤ length text
+pub at-end : {U : Type 0} (read : Reader U) → IsReader read → (start : ℕ) (text : List U) → start ≤ length text
     → nat_eq start (length text) ≡ nat_eq (length (items_by read start (drop start text))) 0
-at-end read reader start text inside = on (drop start text) refl
+at-end {U = U} read reader start text inside = on (drop start text) refl
   where
-    on : (units : List ℕ) → drop start text ≡ units → nat_eq start (length text) ≡ nat_eq (length (items_by read start units)) 0
+    on : (units : List U) → drop start text ≡ units → nat_eq start (length text) ≡ nat_eq (length (items_by read start units)) 0
     on [] is =
         let last : start ≡ length text = omega (arith, length-drop start text, ap length is) in
         rw (items_by-nil read start) (eq-eqb start (length text) last)
@@ -86,31 +86,31 @@ at-end read reader start text inside = on (drop start text) refl
         rw (items_by-cons read reader start unit units) (ne_eqb start (length text) (λ same. omega arith) ∙ sym (eqb-suc-zero _))
 
 -- what one call of `next` reads
-pub next-item : (read : Reader) → IsReader read → (start : ℕ) (text : List ℕ) (found : Reading) → start < length text
+pub next-item : {U : Type 0} (read : Reader U) → IsReader read → (start : ℕ) (text : List U) (found : Reading) → start < length text
     → found ≡ read (drop start text)
     → items_by read start (drop start text) ≡ (start, found.1) ∷ items_by read (start + found.0) (drop (start + found.0) text)
-next-item read reader start text found inside reads = on (drop start text) refl reads
+next-item {U = U} read reader start text found inside reads = on (drop start text) refl reads
   where
-    on : (units : List ℕ) → drop start text ≡ units → found ≡ read units
+    on : (units : List U) → drop start text ≡ units → found ≡ read units
         → items_by read start units ≡ (start, found.1) ∷ items_by read (start + found.0) (drop (start + found.0) text)
     on [] is reads = absurd (omega (arith, length-drop start text, ap length is))
     on (unit ∷ units) is reads =
         rw (items_by-cons read reader start unit units, ← reads, ← drop-drop found.0 start text, is) refl
 
 -- and where it comes to
-pub goes-on : (taken start : ℕ) (text : List ℕ) → start + taken ≤ length text
+pub goes-on : {U : Type 0} (taken start : ℕ) (text : List U) → start + taken ≤ length text
     → GoesOn (record { place = start; units = drop start text }) (record { place = start + taken; units = drop (start + taken) text })
 goes-on taken start text inside = (taken, omega (arith, length-drop start text), refl, sym (drop-drop taken start text))
 
-pub stays : (rest : Rest) → GoesOn rest rest
+pub stays : {U : Type 0} (rest : Rest U) → GoesOn rest rest
 stays rest = (0, omega arith, omega arith, refl)
 
-pub same-end : (earlier later : Rest) → GoesOn earlier later
+pub same-end : {U : Type 0} (earlier later : Rest U) → GoesOn earlier later
     → later.place + length later.units ≡ earlier.place + length earlier.units
 same-end earlier later (taken, within, place, units) =
     omega (arith, ap length units, length-drop taken earlier.units)
 
-pub nothing-left : (read : Reader) (start : ℕ) (text : List ℕ) → length text ≤ start
+pub nothing-left : {U : Type 0} (read : Reader U) (start : ℕ) (text : List U) → length text ≤ start
     → items_by read start (drop start text) ≡ []
 nothing-left read start text past = rw (drop_all start text past) (items_by-nil read start)
 
@@ -121,11 +121,11 @@ fewer-left left s t item gave =
     record { on = λ _. (tt, tt, omega (arith, ap length gave)); keeps = tt; rests = λ _. tt }
 
 -- an item ends within the text
-pub taken-within : (read : Reader) → IsReader read → (start : ℕ) (text : List ℕ) (found : Reading) → start < length text
+pub taken-within : {U : Type 0} (read : Reader U) → IsReader read → (start : ℕ) (text : List U) (found : Reading) → start < length text
     → found ≡ read (drop start text) → start + found.0 ≤ length text
-taken-within read reader start text found inside reads = on (drop start text) refl reads
+taken-within {U = U} read reader start text found inside reads = on (drop start text) refl reads
   where
-    on : (units : List ℕ) → drop start text ≡ units → found ≡ read units → start + found.0 ≤ length text
+    on : (units : List U) → drop start text ≡ units → found ≡ read units → start + found.0 ≤ length text
     on [] is reads = absurd (omega (arith, length-drop start text, ap length is))
     on (unit ∷ units) is reads =
         let bound : found.0 ≤ suc (length units) = rw reads (reader.within unit units) in

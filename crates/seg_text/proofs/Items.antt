@@ -4,13 +4,13 @@ use Rattle.seg_text.specs.Items.{IsTiling, items_by, Reader, Item}
 use Rattle.seg_text.specs.Lemmas.Readers.{IsReader, fewer, items_by-nil, items_by-cons}
 
 -- `read` gives the one item that an encoding reads
-pub record IsReaderOf (Reads : List ℕ → ℕ → ℕ → Type 0) (read : Reader) : Type 0 where
+pub record IsReaderOf (Reads : List ℕ → ℕ → ℕ → Type 0) (read : Reader ℕ) : Type 0 where
   pub reader : IsReader read
   pub reads : (unit : ℕ) (units : List ℕ) → Reads (unit ∷ units) (read (unit ∷ units)).0 (read (unit ∷ units)).1
   pub only : (unit : ℕ) (units : List ℕ) (taken code_point : ℕ) → 0 < taken → taken ≤ suc (length units)
       → Reads (unit ∷ units) taken code_point → (taken, code_point) ≡ read (unit ∷ units)
 
-tiling-more : (Reads : List ℕ → ℕ → ℕ → Type 0) (read : Reader) → IsReaderOf Reads read
+tiling-more : (Reads : List ℕ → ℕ → ℕ → Type 0) (read : Reader ℕ) → IsReaderOf Reads read
     → (most place : ℕ) (units : List ℕ) → length units ≤ most → IsTiling Reads (items_by read place units) place units
 tiling-more Reads read of most place [] bound = rw (items_by-nil read place) refl
 tiling-more Reads read of zero place (unit ∷ units) bound = absurd (omega arith)
@@ -30,12 +30,12 @@ tiling-more Reads read of (suc most) place (unit ∷ units) bound =
     )
 
 -- the items tile the units
-pub items_by-tile : (Reads : List ℕ → ℕ → ℕ → Type 0) (read : Reader) → IsReaderOf Reads read
+pub items_by-tile : (Reads : List ℕ → ℕ → ℕ → Type 0) (read : Reader ℕ) → IsReaderOf Reads read
     → (place : ℕ) (units : List ℕ) → IsTiling Reads (items_by read place units) place units
 items_by-tile Reads read of place units = tiling-more Reads read of (length units) place units (omega arith)
 
 -- and nothing else does
-pub items_by-only : (Reads : List ℕ → ℕ → ℕ → Type 0) (read : Reader) → IsReaderOf Reads read
+pub items_by-only : (Reads : List ℕ → ℕ → ℕ → Type 0) (read : Reader ℕ) → IsReaderOf Reads read
     → (place : ℕ) (units : List ℕ) (items : List Item) → IsTiling Reads items place units
     → items ≡ items_by read place units
 items_by-only Reads read of place units [] tiles = rw tiles (sym (items_by-nil read place))

@@ -6,10 +6,10 @@ pub mod Utf8
 pub mod Utf8Reads
 pub mod Utf16
 pub mod Slice
-pub mod Utf8Stable
 pub mod Str
 pub mod StrTiling
 pub mod Places
 pub mod Stretches
 pub mod Restarts
 pub mod Covers
+pub mod Encodings

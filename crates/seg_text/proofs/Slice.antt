@@ -2,17 +2,11 @@
 use Rattle.std.proofs.Common.{◌≡◌, ℕ, zero, suc, ◌+◌, ◌-◌, ◌<◌, ◌≤◌, List, [], ◌∷◌, length, take, drop, refl, ap, sym, ◌∙◌, arith}
 use Rattle.std.proofs.lemmas.List.{length-take, length-drop, drop-drop, drop-take}
 use Rattle.seg_text.specs.Items.{Text, slice_of, place_of, items_by, shifted_back, Reader}
-use Rattle.seg_text.specs.Lemmas.Readers.{IsReader, items_by-nil, items_by-cons, place_of-items_by}
+use Rattle.seg_text.specs.Lemmas.Readers.{IsReader, IsStable, items_by-nil, items_by-cons, place_of-items_by}
 use Rattle.seg_text.proofs.Cursors.{items_by-from, seek-within, seek-left, seek-end}
 
--- what it reads of an item doesn't change where the units after the item are cut off
-pub record IsStable (read : Reader) : Type 0 where
-  pub reader : IsReader read
-  pub stable : (most unit : ℕ) (units : List ℕ) → (read (unit ∷ units)).0 ≤ most
-      → read (take most (unit ∷ units)) ≡ read (unit ∷ units)
-
 -- the place of the k-th item is not before the first
-place-after : (read : Reader) → IsReader read → (k place : ℕ) (units : List ℕ)
+place-after : {U : Type 0} (read : Reader U) → IsReader read → (k place : ℕ) (units : List U)
     → place ≤ place_of (drop k (items_by read place units)) (place + length units)
 place-after read reader k place units =
     let from = items_by-from read reader k place units in
@@ -24,13 +18,13 @@ place-after read reader k place units =
     rw (from.same, at) (omega arith)
 
 -- the first item ends before the place of the k-th after it
-step-after : (read : Reader) → IsReader read → (k place most unit : ℕ) (units : List ℕ)
+step-after : {U : Type 0} (read : Reader U) → IsReader read → (k place most : ℕ) (unit : U) (units : List U)
     → place + most ≡ place_of (drop (suc k) (items_by read place (unit ∷ units))) (place + length (unit ∷ units))
-    → let taken : ℕ = (read (unit ∷ units)).0 in let rest : List ℕ = drop taken (unit ∷ units) in
+    → let taken : ℕ = (read (unit ∷ units)).0 in let rest : List U = drop taken (unit ∷ units) in
     (taken ≤ most) × (place + most ≡ place_of (drop k (items_by read (place + taken) rest)) ((place + taken) + length rest))
-step-after read reader k place most unit units here =
+step-after {U = U} read reader k place most unit units here =
     let taken : ℕ = (read (unit ∷ units)).0 in
-    let rest : List ℕ = drop taken (unit ∷ units) in
+    let rest : List U = drop taken (unit ∷ units) in
     let bound : taken ≤ suc (length units) = reader.within unit units in
     let end : place + suc (length units) ≡ (place + taken) + length rest = omega (arith, length-drop taken (unit ∷ units)) in
     let there : place + most ≡ place_of (drop k (items_by read (place + taken) rest)) ((place + taken) + length rest) =
@@ -39,21 +33,21 @@ step-after read reader k place most unit units here =
     (omega (arith, after), there)
 
 -- the items of the units up to the place of the k-th item are the first k, each place less `from`
-pub slice-items : (read : Reader) → IsStable read → (k from place most : ℕ) (units : List ℕ) → from ≤ place
+pub slice-items : {U : Type 0} (read : Reader U) → IsStable read → (k from place most : ℕ) (units : List U) → from ≤ place
     → place + most ≡ place_of (drop k (items_by read place units)) (place + length units)
     → items_by read (place - from) (take most units) ≡ shifted_back from (take k (items_by read place units))
-slice-items read stable zero from place most units before here =
+slice-items {U = U} read stable zero from place most units before here =
     let none : most ≡ 0 = omega (arith, here ∙ place_of-items_by read stable.reader place units) in
     rw none (items_by-nil read (place - from))
-slice-items read stable (suc k) from place most [] before here =
+slice-items {U = U} read stable (suc k) from place most [] before here =
     let none : most ≡ 0 = omega (arith, rw (items_by-nil read place) at here) in
     rw (none, items_by-nil read place, items_by-nil read (place - from)) refl
-slice-items read stable (suc k) from place zero (unit ∷ units) before here =
+slice-items {U = U} read stable (suc k) from place zero (unit ∷ units) before here =
     let some : 0 < (read (unit ∷ units)).0 = stable.reader.some unit units in
     let after = step-after read stable.reader k place zero unit units here in absurd (omega arith)
-slice-items read stable (suc k) from place (suc most) (unit ∷ units) before here =
+slice-items {U = U} read stable (suc k) from place (suc most) (unit ∷ units) before here =
     let taken : ℕ = (read (unit ∷ units)).0 in
-    let rest : List ℕ = drop taken (unit ∷ units) in
+    let rest : List U = drop taken (unit ∷ units) in
     let after = step-after read stable.reader k place (suc most) unit units here in
     let still : read (unit ∷ take most units) ≡ read (unit ∷ units) = stable.stable (suc most) unit units after.0 in
     let parts : taken + (suc most - taken) ≡ suc most = omega (arith, after.0) in
@@ -66,7 +60,7 @@ slice-items read stable (suc k) from place (suc most) (unit ∷ units) before he
     (ap (λ items. (place - from, (read (unit ∷ units)).1) ∷ items) more)
 
 -- the two places of a slice are in order, and its items are those between them
-slice-found : (read : Reader) → IsStable read → (j k from to start : ℕ) (text : List ℕ) → start ≤ length text
+slice-found : {U : Type 0} (read : Reader U) → IsStable read → (j k from to start : ℕ) (text : List U) → start ≤ length text
     → from ≡ place_of (drop j (items_by read start (drop start text))) (start + length (drop start text))
     → to ≡ place_of (drop (j + k) (items_by read start (drop start text))) (start + length (drop start text))
     → (from ≤ to)
@@ -83,7 +77,7 @@ slice-found read stable j k from to start text inside begins ends =
     let items = slice-items read stable k from from (to - from) (drop from text) (omega arith) (parts ∙ reaches) in
     (after, rw (nothing, left) at items)
 
-pub slice-order : (read : Reader) → IsStable read → (j k from to start : ℕ) (text : List ℕ) → start ≤ length text
+pub slice-order : {U : Type 0} (read : Reader U) → IsStable read → (j k from to start : ℕ) (text : List U) → start ≤ length text
     → from ≡ place_of (drop j (items_by read start (drop start text))) (start + length (drop start text))
     → to ≡ place_of (drop (j + k) (items_by read start (drop start text))) (start + length (drop start text))
     → from ≤ to
@@ -91,10 +85,10 @@ slice-order read stable j k from to start text inside begins ends =
     (slice-found read stable j k from to start text inside begins ends).0
 
 -- as a text
-pub slice-text : (read : Reader) → IsStable read → (j k from to start : ℕ) (text : List ℕ) → start ≤ length text
+pub slice-text : {U : Type 0} (read : Reader U) → IsStable read → (j k from to start : ℕ) (text : List U) → start ≤ length text
     → from ≡ place_of (drop j (items_by read start (drop start text))) (start + length (drop start text))
     → to ≡ place_of (drop (j + k) (items_by read start (drop start text))) (start + length (drop start text))
-    → let part : List ℕ = take (to - from) (drop from text) in
+    → let part : List U = take (to - from) (drop from text) in
     let slice : Text = record { items = items_by read 0 part; end = 0 + length part } in
     slice ≡ slice_of j k (record { items = items_by read start (drop start text); end = start + length (drop start text) })
 slice-text read stable j k from to start text inside begins ends =

@@ -1,32 +1,9 @@
 -- UTF-16's reader.
-use Rattle.std.proofs.Common.{◌≡◌, ℕ, zero, suc, ◌+◌, ◌<◌, ◌≤◌, ◌⊎◌, inl, inr, List, [], ◌∷◌, length, get_or, take, drop, refl, ap, sym, arith}
-use Rattle.std.specs.Prelude.{◌==◌, bit_and}
-use Rattle.std.proofs.lemmas.List.{drop_more}
-use Rattle.std.proofs.lemmas.Bool.{eq-eqb, ne_eqb, cases_eq, and_from, and_left, and_right}
+use Rattle.std.proofs.Common.{◌≡◌, ℕ, suc, ◌<◌, ◌≤◌, inl, inr, List, [], ◌∷◌, length, get_or, refl, ap, sym, arith}
 use Rattle.seg_text.specs.Utf16.{IsHighSurrogate, IsLowSurrogate, IsPair, ReadsUtf16, pair_of, read_utf16}
 use Rattle.seg_text.specs.Lemmas.Rising.{read_utf16-reader}
 use Rattle.seg_text.proofs.Items.{IsReaderOf}
-use Rattle.seg_text.proofs.Slice.{IsStable}
-
--- a pair stands at the start, or none does
-data Start (unit next : ℕ) (units : List ℕ) : Type 0 where
-  pair : IsHighSurrogate unit → IsLowSurrogate next → read_utf16 (unit ∷ next ∷ units) ≡ (2, pair_of unit next) → Start unit next units
-  single : (IsHighSurrogate unit → IsLowSurrogate next → ⊥) → read_utf16 (unit ∷ next ∷ units) ≡ (1, unit) → Start unit next units
-
-start : (unit next : ℕ) (units : List ℕ) → Start unit next units
-unfolding read_utf16
-start unit next units = on (cases_eq (bit_and unit 0xFC00) 0xD800) (cases_eq (bit_and next 0xFC00) 0xDC00)
-  where
-    on : IsHighSurrogate unit ⊎ (IsHighSurrogate unit → ⊥) → IsLowSurrogate next ⊎ (IsLowSurrogate next → ⊥) → Start unit next units
-    on (inl high) (inl low) =
-        pair high low
-        (rw (and_from (bit_and unit 0xFC00 == 0xD800) (bit_and next 0xFC00 == 0xDC00) (eq-eqb _ _ high) (eq-eqb _ _ low)) refl)
-    on (inr high) low =
-        single (λ is other. high is)
-        (rw (and_left (bit_and unit 0xFC00 == 0xD800) (bit_and next 0xFC00 == 0xDC00) (ne_eqb _ _ high)) refl)
-    on (inl high) (inr low) =
-        single (λ is other. low other)
-        (rw (and_right (bit_and unit 0xFC00 == 0xD800) (bit_and next 0xFC00 == 0xDC00) (ne_eqb _ _ low)) refl)
+use Rattle.seg_text.specs.Lemmas.Utf16Stable.{Start, start, pair, single}
 
 -- the units of a pair are the first two
 same-pair : (unit next high low : ℕ) (units : List ℕ) → IsPair (unit ∷ next ∷ units) high low → (unit ≡ high) × (next ≡ low)
@@ -72,36 +49,16 @@ only unit (next ∷ units) taken code_point some within (inr read) = on (start u
 pub read_utf16-of : IsReaderOf ReadsUtf16 read_utf16
 read_utf16-of = record { reader = read_utf16-reader; reads = reads; only = only }
 
-stable : (most unit : ℕ) (units : List ℕ) → (read_utf16 (unit ∷ units)).0 ≤ most
-    → read_utf16 (take most (unit ∷ units)) ≡ read_utf16 (unit ∷ units)
-unfolding read_utf16
-stable zero unit units few = let some = read_utf16-reader.some unit units in absurd (omega arith)
-stable (suc zero) unit [] few = refl
-stable (suc zero) unit (next ∷ units) few = on (start unit next units)
-  where
-    on : Start unit next units → (1, unit) ≡ read_utf16 (unit ∷ next ∷ units)
-    on (pair is_high is_low found) = absurd (omega (arith, rw found at few))
-    on (single none found) = sym found
-stable (suc (suc most)) unit [] few = refl
-stable (suc (suc most)) unit (next ∷ units) few = refl
-
-pub read_utf16-stable : IsStable read_utf16
-read_utf16-stable = record { reader = read_utf16-reader; stable = stable }
-
 -- a unit that begins no pair
-pub single-at : (place : ℕ) (text : List ℕ) → place < length text → (IsHighSurrogate (get_or text place 0) → ⊥)
-    → (1, get_or text place 0) ≡ read_utf16 (drop place text)
+pub single-at : (units : List ℕ) → 0 < length units → (IsHighSurrogate (get_or units 0 0) → ⊥) → (1, get_or units 0 0) ≡ read_utf16 units
 unfolding read_utf16
-single-at place text inside other =
-    rw (drop_more text place 0 inside) (on (get_or text place 0) (drop (place + 1) text) other)
+single-at [] some other = absurd (omega arith)
+single-at (unit ∷ []) some other = refl
+single-at (unit ∷ next ∷ units) some other = by (start unit next units)
   where
-    on : (unit : ℕ) (units : List ℕ) → (IsHighSurrogate unit → ⊥) → (1, unit) ≡ read_utf16 (unit ∷ units)
-    on unit [] other = refl
-    on unit (next ∷ units) other = by (start unit next units)
-      where
-        by : Start unit next units → (1, unit) ≡ read_utf16 (unit ∷ next ∷ units)
-        by (pair is_high is_low found) = absurd (other is_high)
-        by (single none found) = sym found
+    by : Start unit next units → (1, unit) ≡ read_utf16 (unit ∷ next ∷ units)
+    by (pair is_high is_low found) = absurd (other is_high)
+    by (single none found) = sym found
 
 -- a high surrogate that no low one comes after
 pub lone-at : (units : List ℕ) → IsHighSurrogate (get_or units 0 0) → (1 < length units → IsLowSurrogate (get_or units 1 0) → ⊥)

@@ -55,11 +55,11 @@ abbrev pub Reading : Type 0
 Reading = ℕ × ℕ
 
 -- what reads the first item of some units
-abbrev pub Reader : Type 0
-Reader = List ℕ → Reading
+abbrev pub Reader : Type 0 → Type 0
+Reader U = List U → Reading
 
 -- the items that a reader finds from a place on, of which there are so many at most
-unfoldable pub first_items : Reader → ℕ → ℕ → List ℕ → List Item
+unfoldable pub first_items : {U : Type 0} → Reader U → ℕ → ℕ → List U → List Item
 first_items read zero place units = []
 first_items read (suc most) place [] = []
 first_items read (suc most) place (unit ∷ units) =
@@ -67,10 +67,14 @@ first_items read (suc most) place (unit ∷ units) =
     (place, found.1) ∷ first_items read most (place + found.0) (drop found.0 (unit ∷ units))
 
 -- all items that a reader finds from a place on
-unfoldable pub items_by : Reader → ℕ → List ℕ → List Item
+unfoldable pub items_by : {U : Type 0} → Reader U → ℕ → List U → List Item
 items_by read place units = first_items read (length units) place units
 
 -- each item begins before the next one does, and the last before the end
 abbrev pub IsRising : List Item → ℕ → Type 0
 IsRising [] end = Unit {0}
 IsRising (item ∷ items) end = (item.0 < place_of items end) × IsRising items end
+
+-- the text that a reader finds from a place on
+abbrev pub text_by : {U : Type 0} → Reader U → ℕ → List U → Text
+text_by read place units = record { items = items_by read place units; end = place + length units }

@@ -7,7 +7,7 @@ abbrev pub ReadsLatin1 : List ℕ → ℕ → ℕ → Type 0
 ReadsLatin1 bytes taken code_point = (taken ≡ 1) × (take 1 bytes ≡ code_point ∷ [])
 
 -- a reader of one item
-abbrev pub read_latin1 : Reader
+abbrev pub read_latin1 : Reader ℕ
 read_latin1 [] = (1, 0)
 read_latin1 (byte ∷ bytes) = (1, byte)
 

@@ -39,7 +39,7 @@ abbrev pub ReadsUtf16 : List ℕ → ℕ → ℕ → Type 0
 ReadsUtf16 units taken code_point = ReadsPair units taken code_point ⊎ ReadsSingle units taken code_point
 
 -- a reader of one item
-unfoldable pub read_utf16 : Reader
+unfoldable pub read_utf16 : Reader ℕ
 read_utf16 [] = (1, 0)
 read_utf16 (unit ∷ []) = (1, unit)
 read_utf16 (unit ∷ next ∷ units) =

@@ -86,7 +86,7 @@ read_row row bytes =
     (taken, if taken == length row then scalar_of (take taken bytes) else 0xFFFD)
 
 -- a reader of one item: the row that the first byte belongs to decides
-unfoldable pub read_utf8 : Reader
+unfoldable pub read_utf8 : Reader ℕ
 read_utf8 bytes = option_map_or (λ row. read_row row bytes) (find (λ row. nat_lt 0 (fitting row bytes)) rows) (1, 0xFFFD)
 
 -- the items of possibly ill-formed UTF-8 from a place on

@@ -274,3 +274,12 @@ fn lines_end_for_ever(rt: HostRuntime) -> Result<(), Fail> {
     }
     Ok(())
 }
+
+#[test]
+fn iterators_are_shown(rt: HostRuntime) -> Result<(), Fail> {
+    let alloc = rt.alloc();
+    let segmenter = bench_segmenter(alloc, LineBreakOptions::default())??;
+    let shown = format!(in alloc; "{:?}", segmenter.as_borrowed().segment_latin1(b"a"))?;
+    assert!(rt; shown.as_str().starts_with("LineBreakIterator { "));
+    Ok(())
+}

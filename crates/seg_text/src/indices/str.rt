@@ -20,11 +20,11 @@ pub struct StrCharIndices<'a> {
 }
 
 impl<'a> Model for StrCharIndices<'a> {
-    ghost use Rattle.std.specs.Prelude.{◌≤◌, drop, length};
+    ghost use Rattle.std.specs.Prelude.{ℕ, ◌≤◌, drop, length};
     ghost use Rattle.std.specs.Str.{IsUtf8};
     ghost use Rattle.seg_text.specs.Cursor.{Rest};
 
-    ghost Value = { Rest };
+    ghost Value = { Rest ℕ };
 
     ghost view = { λ s. record { place = s.front_offset; units = drop s.front_offset s.text.now } };
 

@@ -1,15 +1,12 @@
 //! A cursor over possibly ill-formed UTF-8.
 
 ghost use Rattle.std.specs.Prelude.{◌≡◌, ◌≤◌, ◌<◌, ℕ, ⊤, ◌↔◌, IsTrue, [], ◌∷◌, drop, length, ◌+◌, ◌==◌, slice_index};
-ghost use Rattle.std.specs.Iterator.{YieldsFirst, item_count, MakesProgress};
 ghost use Rattle.std.specs.Char.{IsScalar};
 ghost use Rattle.seg_text.specs.Utf8.{utf8_items, utf8_from, read_utf8, read_row, trail, StandsAt, Range};
-ghost use Rattle.seg_text.specs.Cursor.{Rest, GoesOn};
-ghost use Rattle.seg_text.specs.Lemmas.Rising.{utf8_items-rises};
+ghost use Rattle.seg_text.specs.Lemmas.Encoded.{utf8-encoding};
 
-use crate::cursor::Cursor;
-use std::alloc::AllocError;
-use std::marker::Model;
+use crate::indices::units::{Indices, ReadsUnits};
+use crate::scaffold::PotentiallyIllFormedUtf8;
 
 /// What stands for an ill-formed part.
 const REPLACEMENT: char = '\u{FFFD}';
@@ -18,121 +15,35 @@ const REPLACEMENT: char = '\u{FFFD}';
 ///
 /// Sequences are those of Table 3-7 of the Unicode Standard. Where none stands, the longest beginning of any
 /// of them that stands there, at least one byte, is one U+FFFD.
-#[derive(Debug, Drop)]
-pub struct Utf8CharIndices<'a> {
-    bytes: &'a [u8],
-    front_offset: usize,
-}
+pub type Utf8CharIndices<'a> = Indices<'a, u8, PotentiallyIllFormedUtf8>;
 
-impl<'a> Model for Utf8CharIndices<'a> {
-    ghost use Rattle.std.specs.Prelude.{◌≤◌, drop, length};
-    ghost use Rattle.seg_text.specs.Cursor.{Rest};
+impl ReadsUnits<u8> for PotentiallyIllFormedUtf8 {
+    type Character = char;
 
-    ghost Value = { Rest };
+    ghost read = { read_utf8 };
 
-    ghost view = { λ s. record { place = s.front_offset; units = drop s.front_offset s.bytes.now } };
+    ghost code_point = { λ c. c };
 
-    ghost invariant = { λ s. s.front_offset ≤ length s.bytes.now };
-}
+    ghost characters = { utf8_items };
 
-impl<'a> Utf8CharIndices<'a> {
-    /// A cursor at the start of `input`.
-    pub fn new(input: &'a [u8]) -> Self
-        ensures { result ≡ record { place = 0; units = input.now } }
-    {
-        Utf8CharIndices {
-            bytes: input,
-            front_offset: 0,
-        }
-    }
-
-    /// The bytes that aren't read yet.
-    pub fn as_slice(&self) -> &'a [u8]
-        ensures { result.now ≡ self.now.units }
-    {
-        &self.bytes[self.front_offset..]
-    }
-
-    /// The place of the next item, in bytes from the text's start.
-    pub fn offset(&self) -> usize
-        ensures { result ≡ self.now.place }
-    {
-        self.front_offset
-    }
-}
-
-impl<'a> Clone for Utf8CharIndices<'a> {
-    ghost is_clone = { λ s r. r ≡ s };
-
-    ghost is_infallible = { λ _. ⊤ };
-
-    fn clone(&self) -> Result<Self, AllocError> {
-        Ok(self.fork())
-    }
-}
-
-impl<'a> Iterator for Utf8CharIndices<'a> {
-    type Item = (usize, char);
-
-    ghost next_gives = { YieldsFirst (λ s. utf8_items s.place s.units) };
-
-    ghost remaining = { item_count (λ s. utf8_items s.place s.units) };
+    ghost text = { utf8_from };
 
     #[inline(always)]
-    fn next(&mut self) -> Option<(usize, char)>
-        ensures steps { YieldsFirst (λ s. utf8_items s.place s.units) self.old result self.new × GoesOn self.old self.new }
-        ensures goes { MakesProgress (λ _. ⊤) (item_count (λ s. utf8_items s.place s.units)) self.old result self.new }
-    {
-        let place = self.front_offset;
-        if place < self.bytes.len() {
-            let byte = self.bytes[place];
-            if byte < 0x80 {
-                self.front_offset = place + 1;
-                return Some((place, byte as char));
-            }
-            let (taken, character) = read_wide(&self.bytes[place..]);
-            self.front_offset = place + taken;
-            Some((place, character))
+    fn read_first(units: &[u8]) -> (usize, char) {
+        let first = units[0];
+        if first < 0x80 {
+            (1, first as char)
         } else {
-            None
-        }
-    }
-}
-
-impl<'a> Cursor for Utf8CharIndices<'a> {
-    ghost text = { λ s. utf8_from s.place s.units };
-
-    fn next_item(&mut self) -> Option<(usize, u32)> {
-        match self.next() {
-            Some((place, character)) => Some((place, character as u32)),
-            None => None,
+            read_wide(units)
         }
     }
 
-    fn fork(&self) -> Self {
-        Utf8CharIndices {
-            bytes: self.bytes,
-            front_offset: self.front_offset,
-        }
+    #[inline(always)]
+    fn code_point(character: char) -> u32 {
+        character as u32
     }
 
-    fn is_at_end(&self) -> bool {
-        self.front_offset == self.bytes.len()
-    }
-
-    fn place(&self) -> usize {
-        self.offset()
-    }
-
-    fn seek(&mut self, place: usize) {
-        self.front_offset = place;
-    }
-
-    fn slice(&self, from: usize, to: usize) -> Self {
-        Utf8CharIndices::new(&self.bytes[from..to])
-    }
-
-    ghost rises = { λ s. utf8_items-rises s.place s.units };
+    ghost is_encoding = { utf8-encoding };
 }
 
 /// Whether a byte stands at an index, and from `low` to `high`.
