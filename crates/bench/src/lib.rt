@@ -5,7 +5,6 @@
 #![tactic(auto)]
 
 pub mod clusters;
-pub mod devices;
 pub mod lines;
 mod machines;
 pub mod pair_tables;

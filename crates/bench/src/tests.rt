@@ -1,4 +1,5 @@
 mod clusters;
+mod laws;
 mod lines;
 mod machines;
 mod pairs;

@@ -4,6 +4,10 @@ ghost use Rattle.seg_text.specs.Items.{start_of, rest_after, code_points};
 
 use crate::cursor::Cursor;
 use crate::indices::{Latin1Indices, StrCharIndices, Utf8CharIndices, Utf16Indices};
+use crate::laws::{
+    encodings_with_southeast_asia, latin1_items_are_one, str_is_well_formed, utf8_items_are_one,
+    utf16_items_are_one, well_formed_is_str,
+};
 use crate::scaffold::{
     Latin1, LineBreakType, PotentiallyIllFormedUtf8, RuleBreakType, Utf8, Utf16, WordBreakType,
 };
@@ -168,6 +172,17 @@ fn tells_which_texts_need_a_dictionary(rt: HostRuntime) {
     let utf16 = Utf16Indices::new(&[0xE01]);
     expect_encoding::<Utf16>(&rt, &utf16, true);
     expect_encoding::<Utf8>(&rt, &StrCharIndices::new("ก"), true);
+}
+
+#[test]
+fn laws_of_encodings(rt: HostRuntime) {
+    latin1_items_are_one();
+    utf8_items_are_one();
+    utf16_items_are_one();
+    str_is_well_formed("aé");
+    well_formed_is_str();
+    let want = [false, true, true, true];
+    assert_eq!(rt; encodings_with_southeast_asia(), want);
 }
 
 #[test]

@@ -1,2 +1,3 @@
 mod Printed
 mod LineFaults
+mod Said

@@ -1,5 +1,6 @@
 -- What is said of each failure, and the exit status that it gives.
-use Rattle.std.specs.Prelude.{ℕ, List, codes, ◌∷◌, [], ◌++◌}
+use Rattle.std.specs.Prelude.{ℕ, Option, List, codes, ◌∷◌, [], ◌++◌, take}
+use Rattle.std.specs.Io.KnownBytes.{Appends}
 use Rattle.textcut.specs.declared.failure.Failure.{Failure}
 use Rattle.textcut.specs.declared.failure.Failure.TheVariants.{Usage, ReadFailed, WriteFailed, NoMemory}
 
@@ -14,3 +15,7 @@ message_of Usage = codes "usage: textcut grapheme|sentence|word|line classic|17|
 message_of ReadFailed = codes "textcut: read failed" ++ 10 ∷ []
 message_of WriteFailed = codes "textcut: write failed" ++ 10 ∷ []
 message_of NoMemory = codes "textcut: no memory" ++ 10 ∷ []
+
+-- known bytes grow by a beginning of the message, which may be all of it
+abbrev pub AppendsBeginning : Option (List ℕ) → Option (List ℕ) → List ℕ → Type 0
+AppendsBeginning old new message = (count : ℕ) × Appends old new (take count message)

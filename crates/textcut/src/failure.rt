@@ -1,10 +1,10 @@
 //! What ends a run early, and what is said of it.
 ghost use Rattle.std.specs.Prelude.{◌≡◌};
-ghost use Rattle.textcut.specs.Failure.{status_of, message_of};
+ghost use Rattle.textcut.specs.Failure.{status_of, message_of, AppendsBeginning};
 ghost use Rattle.textcut.specs.declared.failure.Failure.TheVariants.{NoMemory};
 
 use std::alloc::AllocError;
-use std::io::Write;
+use std::io::{ErrorKind, Write};
 
 /// Why nothing, or not all, was printed.
 #[derive(Clone, Copy, Debug, PartialEq, Eq)]
@@ -28,12 +28,12 @@ impl From<AllocError> for Failure {
 }
 
 impl Failure {
-    /// Says what failed, if the writer takes it, and returns the exit status.
+    /// Says what failed, as far as the writer takes it, and returns the exit status, which doesn't depend on the writer.
     pub fn report<E: Write>(self, err: &mut E) -> u8
-        ensures { result ≡ status_of self }
+        ensures status { result ≡ status_of self }
+        ensures said { AppendsBeginning (E.contents err.old) (E.contents err.new) (message_of self) }
     {
-        // What cannot be said changes no status.
-        let _ = err.write_all(self.message().as_bytes());
+        say(err, self.message().as_bytes());
         self.status()
     }
 
@@ -54,6 +54,24 @@ impl Failure {
         match self {
             Failure::Usage => 2,
             _ => 1,
+        }
+    }
+}
+
+// Writes the message, up to where the writer takes no more.
+fn say<E: Write>(err: &mut E, message: &[u8])
+    ensures { AppendsBeginning (E.contents err.old) (E.contents err.new) message.now }
+{
+    let mut said = 0;
+    for _turn in 0..u64::MAX {
+        if said == message.len() {
+            return;
+        }
+        match err.write(&message[said..]) {
+            Ok(0) => return,
+            Ok(count) => said += count,
+            Err(e) if e.kind() == ErrorKind::Interrupted => {}
+            Err(_) => return,
         }
     }
 }

@@ -8,7 +8,7 @@ ghost use Rattle.icu_segmenter.specs.Rules.{boundaries_of};
 ghost use Rattle.icu_segmenter.specs.Clusters.{cluster_rules};
 ghost use Rattle.icu_segmenter.specs.Sentences.{sentence_rules};
 ghost use Rattle.textcut.specs.Command.{texts, words_of, IsNoCommand, places_of};
-ghost use Rattle.textcut.specs.Failure.{status_of};
+ghost use Rattle.textcut.specs.Failure.{status_of, message_of, AppendsBeginning};
 ghost use Rattle.textcut.specs.Lines.{lines_of};
 ghost use Rattle.textcut.specs.declared.failure.Failure.{Failure as AnyFailure};
 ghost use Rattle.textcut.specs.declared.command.Command.{Command as AnyCommand};
@@ -47,6 +47,7 @@ pub fn run<I: Read, O: Write, E: Write>(
         Appends (O.contents out.old) (O.contents out.new) (lines_of (places_of command bytes))) }
     ensures silent { result ≡ 0 → err.new ≡ err.old }
     ensures failed { result ≢ 0 → (failure : AnyFailure) × (status_of failure ≡ result)
+        × AppendsBeginning (E.contents err.old) (E.contents err.new) (message_of failure)
         × (failure ≢ Failure.WriteFailed → out.new ≡ out.old) }
 {
     match try_run(alloc, words, input, out) {

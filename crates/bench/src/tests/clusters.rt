@@ -1,46 +1,66 @@
 // Grapheme clusters.
 use super::machines::{ends_before_b, looks_at_the_next, looks_past_b, runs_before_c, takes_all};
-use super::texts::{Found, TEXTS, agrees, in_latin1, in_utf16, text_of};
+use super::texts::{
+    Found, LINE, PLACES, TEXTS, agrees, expect_found, in_latin1, in_utf16, text_of,
+};
 use crate::clusters::cluster_machine;
+use icu_segmenter::iterators::GraphemeClusterBreakIterator;
 use icu_segmenter::provider::SegmenterStateMachine;
+use icu_segmenter::scaffold::RuleBreakType;
 use icu_segmenter::{GraphemeClusterSegmenter, GraphemeClusterSegmenterBorrowed};
 use std::alloc::{AllocError, Global};
+use std::process::Abort;
 use std::test::Fail;
 
-fn utf8_boundaries(
+/// Asserts where a machine's clusters of bytes as UTF-8 end.
+fn expect_utf8(
+    rt: &impl Abort,
     alloc: Global,
     machine: &SegmenterStateMachine,
     text: &[u8],
-) -> Result<Vec<usize>, Fail> {
+    want: &[usize],
+) -> Result<(), Fail> {
     let segmenter = GraphemeClusterSegmenterBorrowed::new_neo(machine)?;
-    Ok(segmenter.segment_utf8(text).collect(alloc)?)
+    let found: Vec<usize> = segmenter.segment_utf8(text).collect(alloc)?;
+    assert_eq!(rt; found.as_slice(), want, "{text:?}");
+    Ok(())
 }
 
-fn latin1_boundaries(
+fn expect_latin1(
+    rt: &impl Abort,
     alloc: Global,
     machine: &SegmenterStateMachine,
     text: &[u8],
-) -> Result<Vec<usize>, Fail> {
+    want: &[usize],
+) -> Result<(), Fail> {
     let segmenter = GraphemeClusterSegmenterBorrowed::new_neo(machine)?;
-    Ok(segmenter.segment_latin1(text).collect(alloc)?)
+    let found: Vec<usize> = segmenter.segment_latin1(text).collect(alloc)?;
+    assert_eq!(rt; found.as_slice(), want, "{text:?}");
+    Ok(())
 }
 
-fn utf16_boundaries(
+fn expect_utf16(
+    rt: &impl Abort,
     alloc: Global,
     machine: &SegmenterStateMachine,
     text: &[u16],
-) -> Result<Vec<usize>, Fail> {
+    want: &[usize],
+) -> Result<(), Fail> {
     let segmenter = GraphemeClusterSegmenterBorrowed::new_neo(machine)?;
-    Ok(segmenter.segment_utf16(text).collect(alloc)?)
+    let found: Vec<usize> = segmenter.segment_utf16(text).collect(alloc)?;
+    assert_eq!(rt; found.as_slice(), want, "{text:?}");
+    Ok(())
 }
 
-fn str_boundaries(
-    alloc: Global,
-    machine: &SegmenterStateMachine,
-    text: &str,
-) -> Result<Vec<usize>, Fail> {
-    let segmenter = GraphemeClusterSegmenterBorrowed::new_neo(machine)?;
-    Ok(segmenter.segment_str(text).collect(alloc)?)
+/// Asserts what an iterator of clusters gives, call by call.
+pub(super) fn expect_next<'s, Y: RuleBreakType<'s>>(
+    rt: &impl Abort,
+    mut clusters: GraphemeClusterBreakIterator<'_, 's, Y>,
+    want: &[Option<usize>],
+) {
+    for place in want {
+        assert_eq!(rt; clusters.next(), *place);
+    }
 }
 
 /// The boundaries of a text's clusters in each encoding.
@@ -59,19 +79,20 @@ pub(super) fn clusters_found(
     })
 }
 
+/// Whether a text's clusters are at equal ordinals in all encodings.
+pub(super) fn clusters_agree(
+    alloc: Global,
+    segmenter: GraphemeClusterSegmenterBorrowed<'_>,
+    text: &str,
+) -> Result<bool, AllocError> {
+    agrees(alloc, text, &clusters_found(alloc, segmenter, text)?)
+}
+
 #[test]
 fn clusters_of_utf8(rt: HostRuntime) -> Result<(), Fail> {
-    let alloc = rt.alloc();
-    let machine = cluster_machine(alloc)?;
-    let line = "Hello World. Xin chào thế giới!".as_bytes();
+    let machine = cluster_machine(rt.alloc())?;
     let rows: [(&[u8], &[usize]); 12] = [
-        (
-            line,
-            &[
-                0, 1, 2, 3, 4, 5, 6, 7, 8, 9, 10, 11, 12, 13, 14, 15, 16, 17, 18, 19, 21, 22, 23,
-                24, 25, 28, 29, 30, 31, 34, 35, 36,
-            ],
-        ),
+        (LINE.as_bytes(), &PLACES),
         (b"", &[0]),
         (b"\xE0\x80\xED\xA0\x80\xF0\x9F\x98", &[0, 1, 2, 3, 4, 5, 8]),
         (b"a\r\n\xC3\xA9", &[0, 1, 3, 5]),
@@ -85,49 +106,49 @@ fn clusters_of_utf8(rt: HostRuntime) -> Result<(), Fail> {
         (b"a\xFF\xCC\x81", &[0, 1, 4]),
     ];
     for (text, want) in rows {
-        let found = utf8_boundaries(alloc, &machine, text)?;
-        assert_eq!(rt; found.as_slice(), want, "{text:?}");
+        expect_utf8(&rt, rt.alloc(), &machine, text, want)?;
     }
     Ok(())
 }
 
 #[test]
 fn clusters_of_latin1(rt: HostRuntime) -> Result<(), Fail> {
-    let alloc = rt.alloc();
-    let machine = cluster_machine(alloc)?;
-    assert_eq!(rt;
-        latin1_boundaries(alloc, &machine, b"a\r\n\xE9")?.as_slice(),
-        [0, 1, 3, 4].as_slice()
-    );
-    assert_eq!(rt;
-        latin1_boundaries(alloc, &machine, b"")?.as_slice(),
-        [0].as_slice()
-    );
-    Ok(())
+    let machine = cluster_machine(rt.alloc())?;
+    expect_latin1(&rt, rt.alloc(), &machine, b"a\r\n\xE9", &[0, 1, 3, 4])?;
+    expect_latin1(&rt, rt.alloc(), &machine, b"", &[0])
+}
+
+/// Asserts where the segments end that a machine finds.
+fn expect_segments(
+    rt: &impl Abort,
+    alloc: Global,
+    machine: SegmenterStateMachine,
+    text: &[u8],
+    want: &[usize],
+) -> Result<(), Fail> {
+    expect_utf8(rt, alloc, &machine, text, want)
 }
 
 #[test]
 fn segments_of_machines(rt: HostRuntime) -> Result<(), Fail> {
     let alloc = rt.alloc();
-    let rows: [(SegmenterStateMachine, &[u8], &[usize]); 6] = [
-        (runs_before_c(alloc)?, b"aaaa", &[0, 1, 2, 3, 4]),
-        (runs_before_c(alloc)?, b"aaac", &[0, 4]),
-        (looks_past_b(alloc)?, b"cabbb", &[0, 1, 2, 3, 4, 5]),
-        (ends_before_b(alloc)?, b"abc", &[0, 1, 2, 3]),
-        (takes_all(alloc)?, b"xxx", &[0, 3]),
-        (looks_at_the_next(alloc)?, b"aba", &[0, 1, 2, 3]),
-    ];
-    for (machine, text, want) in rows {
-        let found = utf8_boundaries(alloc, &machine, text)?;
-        assert_eq!(rt; found.as_slice(), want, "{text:?}");
-    }
-    Ok(())
+    expect_segments(&rt, alloc, runs_before_c(alloc)?, b"aaaa", &[0, 1, 2, 3, 4])?;
+    expect_segments(&rt, alloc, runs_before_c(alloc)?, b"aaac", &[0, 4])?;
+    expect_segments(
+        &rt,
+        alloc,
+        looks_past_b(alloc)?,
+        b"cabbb",
+        &[0, 1, 2, 3, 4, 5],
+    )?;
+    expect_segments(&rt, alloc, ends_before_b(alloc)?, b"abc", &[0, 1, 2, 3])?;
+    expect_segments(&rt, alloc, takes_all(alloc)?, b"xxx", &[0, 3])?;
+    expect_segments(&rt, alloc, looks_at_the_next(alloc)?, b"aba", &[0, 1, 2, 3])
 }
 
 #[test]
 fn clusters_of_utf16(rt: HostRuntime) -> Result<(), Fail> {
-    let alloc = rt.alloc();
-    let machine = cluster_machine(alloc)?;
+    let machine = cluster_machine(rt.alloc())?;
     let rows: [(&[u16], &[usize]); 4] = [
         (&[], &[0]),
         (&[0xDC00, 0xD800, 0xDC00, 0xD800], &[0, 1, 3, 4]),
@@ -135,8 +156,7 @@ fn clusters_of_utf16(rt: HostRuntime) -> Result<(), Fail> {
         (&[0xD800, 0x301], &[0, 2]),
     ];
     for (text, want) in rows {
-        let found = utf16_boundaries(alloc, &machine, text)?;
-        assert_eq!(rt; found.as_slice(), want, "{text:?}");
+        expect_utf16(&rt, rt.alloc(), &machine, text, want)?;
     }
     Ok(())
 }
@@ -145,22 +165,15 @@ fn clusters_of_utf16(rt: HostRuntime) -> Result<(), Fail> {
 fn clusters_of_a_line(rt: HostRuntime) -> Result<(), Fail> {
     let alloc = rt.alloc();
     let machine = cluster_machine(alloc)?;
-    let line = "Hello World. Xin chào thế giới!";
-    let units: Vec<u16> = line.encode_utf16().collect(alloc)?;
+    let units = in_utf16(alloc, LINE)?;
     let each: Vec<usize> = (0..32).collect(alloc)?;
-    assert_eq!(rt;
-        utf16_boundaries(alloc, &machine, units.as_slice())?.as_slice(),
-        each.as_slice()
-    );
-    let places = utf8_boundaries(alloc, &machine, line.as_bytes())?;
-    assert_eq!(rt;
-        str_boundaries(alloc, &machine, line)?.as_slice(),
-        places.as_slice()
-    );
-    assert_eq!(rt;
-        str_boundaries(alloc, &machine, "")?.as_slice(),
-        [0].as_slice()
-    );
+    expect_utf16(&rt, alloc, &machine, units.as_slice(), each.as_slice())?;
+    let segmenter = GraphemeClusterSegmenterBorrowed::new_neo(&machine)?;
+    let rows: [(&str, &[usize]); 2] = [(LINE, &PLACES), ("", &[0])];
+    for (text, want) in rows {
+        let found = clusters_found(alloc, segmenter, text)?;
+        expect_found(&rt, alloc, text, &found, want)?;
+    }
     Ok(())
 }
 
@@ -171,30 +184,30 @@ fn clusters_have_equal_ordinals(rt: HostRuntime) -> Result<(), Fail> {
     let segmenter = GraphemeClusterSegmenterBorrowed::new_neo(&machine)?;
     for number in 0..TEXTS {
         let text = text_of(alloc, number)?;
-        let found = clusters_found(alloc, segmenter, text.as_str())?;
-        assert!(rt; agrees(alloc, text.as_str(), &found)?, "{text:?}");
+        assert!(rt;
+            clusters_agree(alloc, segmenter, text.as_str())?,
+            "{text:?}"
+        );
     }
     Ok(())
 }
 
 #[test]
 fn clusters_end_for_ever(rt: HostRuntime) -> Result<(), Fail> {
+    let machine = cluster_machine(rt.alloc())?;
+    let segmenter = GraphemeClusterSegmenterBorrowed::new_neo(&machine)?;
+    let want = [Some(0), None, None];
+    expect_next(&rt, segmenter.segment_str(""), &want);
+    expect_next(&rt, segmenter.segment_utf8(b""), &want);
+    expect_next(&rt, segmenter.segment_utf16(&[]), &want);
+    expect_next(&rt, segmenter.segment_latin1(b""), &want);
+    Ok(())
+}
+
+#[test]
+fn owned_segmenters_of_clusters(rt: HostRuntime) -> Result<(), Fail> {
     let owned = GraphemeClusterSegmenter::try_new_neo(cluster_machine(rt.alloc())?)?;
-    let mut utf8 = owned.as_borrowed().segment_utf8(b"");
-    assert_eq!(rt; utf8.next(), Some(0));
-    assert_eq!(rt; utf8.next(), None);
-    assert_eq!(rt; utf8.next(), None);
-    let mut utf16 = owned.as_borrowed().segment_utf16(&[]);
-    assert_eq!(rt; utf16.next(), Some(0));
-    assert_eq!(rt; utf16.next(), None);
-    assert_eq!(rt; utf16.next(), None);
-    let mut str = owned.as_borrowed().segment_str("");
-    assert_eq!(rt; str.next(), Some(0));
-    assert_eq!(rt; str.next(), None);
-    assert_eq!(rt; str.next(), None);
-    let mut latin1 = owned.as_borrowed().segment_latin1(b"");
-    assert_eq!(rt; latin1.next(), Some(0));
-    assert_eq!(rt; latin1.next(), None);
-    assert_eq!(rt; latin1.next(), None);
+    let want = [Some(0), Some(1), Some(3), Some(4), None, None];
+    expect_next(&rt, owned.as_borrowed().segment_latin1(b"a\r\n\xE9"), &want);
     Ok(())
 }

@@ -1,6 +1,8 @@
 // Lines.
-use super::machines::{looks_at_the_next, looks_past_b, tailoring_of, takes_all, with_symbols};
-use super::texts::{Found, TEXTS, agrees, in_latin1, in_utf16, text_of};
+use super::machines::{
+    ends_before_b, looks_at_the_next, looks_past_b, tailoring_of, takes_all, with_symbols,
+};
+use super::texts::{Found, LINE, TEXTS, agrees, expect_found, in_latin1, in_utf16, text_of};
 use crate::clusters::cluster_machine;
 use crate::lines::{line_machine, line_tailorings};
 use icu_segmenter::iterators::LineBreakIterator;
@@ -13,6 +15,7 @@ use icu_segmenter::provider::{
 use icu_segmenter::scaffold::RuleBreakType;
 use icu_segmenter::{LineSegmenter, LineSegmenterBorrowed};
 use std::alloc::{AllocError, Global};
+use std::process::Abort;
 use std::test::Fail;
 
 const BREAK_ALL: Option<LineBreakWordOption> = Some(LineBreakWordOption::BreakAll);
@@ -94,16 +97,35 @@ fn bench_segmenter(
     Ok(LineSegmenter::try_new_neo_for_non_complex_scripts(machine, tailorings, clusters, options))
 }
 
+/// Asserts where a text may be broken and where it must be, in `str`, and at equal ordinals in the other encodings.
+fn expect_lines(
+    rt: &impl Abort,
+    alloc: Global,
+    segmenter: LineSegmenterBorrowed<'_>,
+    text: &str,
+    want: (&[usize], &[usize]),
+) -> Result<(), AllocError> {
+    let (places, mandatory) = lines_found(alloc, segmenter, text)?;
+    expect_found(rt, alloc, text, &places, want.0)?;
+    expect_found(rt, alloc, text, &mandatory, want.1)
+}
+
+/// Whether a text's breaks, and those that are mandatory, are at equal ordinals in all encodings.
+fn lines_agree(
+    alloc: Global,
+    segmenter: LineSegmenterBorrowed<'_>,
+    text: &str,
+) -> Result<bool, AllocError> {
+    let (places, mandatory) = lines_found(alloc, segmenter, text)?;
+    Ok(agrees(alloc, text, &places)? && agrees(alloc, text, &mandatory)?)
+}
+
 #[test]
 fn lines_of_texts(rt: HostRuntime) -> Result<(), Fail> {
     let alloc = rt.alloc();
     let segmenter = bench_segmenter(alloc, LineBreakOptions::default())??;
     let rows: [(&str, &[usize], &[usize]); 8] = [
-        (
-            "Hello World. Xin chào thế giới!",
-            &[0, 6, 13, 17, 23, 29, 36],
-            &[36],
-        ),
+        (LINE, &[0, 6, 13, 17, 23, 29, 36], &[36]),
         (
             "this has a mandatory\nline break",
             &[0, 5, 9, 11, 21, 26, 31],
@@ -117,13 +139,22 @@ fn lines_of_texts(rt: HostRuntime) -> Result<(), Fail> {
         ("\u{E9} \u{C0}\n b", &[0, 3, 6, 7, 8], &[6, 8]),
     ];
     for (text, places, mandatory) in rows {
-        let found = lines_found(alloc, segmenter.as_borrowed(), text)?;
-        assert_eq!(rt; found.0.str.as_slice(), places, "{text:?}");
-        assert_eq!(rt; found.1.str.as_slice(), mandatory, "{text:?}");
-        assert!(rt; agrees(alloc, text, &found.0)?, "{text:?}");
-        assert!(rt; agrees(alloc, text, &found.1)?, "{text:?}");
+        let want = (places, mandatory);
+        expect_lines(&rt, alloc, segmenter.as_borrowed(), text, want)?;
     }
     Ok(())
+}
+
+/// Asserts how a text is broken by the bench data with these options.
+fn expect_bench_lines(
+    rt: &impl Abort,
+    alloc: Global,
+    options: LineBreakOptions<'_>,
+    text: &str,
+    want: (&[usize], &[usize]),
+) -> Result<(), Fail> {
+    let segmenter = bench_segmenter(alloc, options)??;
+    Ok(expect_lines(rt, alloc, segmenter.as_borrowed(), text, want)?)
 }
 
 #[test]
@@ -146,12 +177,7 @@ fn options_choose_the_machine(rt: HostRuntime) -> Result<(), Fail> {
             word_option,
             content_locale: None,
         };
-        let segmenter = bench_segmenter(alloc, options)??;
-        let found = lines_found(alloc, segmenter.as_borrowed(), text)?;
-        assert_eq!(rt; found.0.str.as_slice(), places, "{options:?} {text:?}");
-        assert_eq!(rt; found.1.str.as_slice(), mandatory, "{options:?} {text:?}");
-        assert!(rt; agrees(alloc, text, &found.0)?, "{options:?} {text:?}");
-        assert!(rt; agrees(alloc, text, &found.1)?, "{options:?} {text:?}");
+        expect_bench_lines(&rt, alloc, options, text, (places, mandatory))?;
     }
     Ok(())
 }
@@ -221,28 +247,42 @@ fn data_are_refused_by_the_lowest_fault(rt: HostRuntime) -> Result<(), Fail> {
     Ok(())
 }
 
+/// Asserts how a text is broken by a machine of lines with no tailoring.
+fn expect_machine_lines(
+    rt: &impl Abort,
+    alloc: Global,
+    machine: SegmenterStateMachine,
+    strictness: Option<LineBreakStrictness>,
+    text: &str,
+    want: (&[usize], &[usize]),
+) -> Result<(), Fail> {
+    let clusters = cluster_machine(alloc)?;
+    let tailorings = LineTailorings::default();
+    let options = LineBreakOptions {
+        strictness,
+        ..LineBreakOptions::default()
+    };
+    let segmenter = LineSegmenterBorrowed::new_neo_for_non_complex_scripts(
+        &machine,
+        tailorings.as_borrowed(),
+        &clusters,
+        options,
+    )?;
+    Ok(expect_lines(rt, alloc, segmenter, text, want)?)
+}
+
 #[test]
 fn lines_of_machines(rt: HostRuntime) -> Result<(), Fail> {
     let alloc = rt.alloc();
-    let clusters = cluster_machine(alloc)?;
-    let tailorings = LineTailorings::default();
-    let rows: [(SegmenterStateMachine, &str, &[usize], &[usize]); 3] = [
-        (looks_past_b(alloc)?, "cabbb", &[0, 1, 2, 3, 4, 5], &[2]),
-        (takes_all(alloc)?, "xxx", &[0, 3], &[3]),
-        (looks_at_the_next(alloc)?, "aba", &[0, 1, 2, 3], &[1, 2, 3]),
-    ];
-    for (machine, text, places, mandatory) in rows {
-        let segmenter = LineSegmenterBorrowed::new_neo_for_non_complex_scripts(
-            &machine,
-            tailorings.as_borrowed(),
-            &clusters,
-            LineBreakOptions::default(),
-        )?;
-        let found = breaks_of(alloc, segmenter.segment_utf8(text.as_bytes()))?;
-        assert_eq!(rt; found.places.as_slice(), places, "{text:?}");
-        assert_eq!(rt; found.mandatory.as_slice(), mandatory, "{text:?}");
-    }
-    Ok(())
+    let want: (&[usize], &[usize]) = (&[0, 1, 2, 3, 4, 5], &[2]);
+    expect_machine_lines(&rt, alloc, looks_past_b(alloc)?, None, "cabbb", want)?;
+    let want: (&[usize], &[usize]) = (&[0, 3], &[3]);
+    expect_machine_lines(&rt, alloc, takes_all(alloc)?, None, "xxx", want)?;
+    let want: (&[usize], &[usize]) = (&[0, 1, 2, 3], &[1, 2, 3]);
+    expect_machine_lines(&rt, alloc, looks_at_the_next(alloc)?, None, "aba", want)?;
+    let strict = Some(LineBreakStrictness::Strict);
+    let want: (&[usize], &[usize]) = (&[0, 1, 2, 3], &[1]);
+    expect_machine_lines(&rt, alloc, ends_before_b(alloc)?, strict, "abc", want)
 }
 
 #[test]
@@ -251,27 +291,35 @@ fn lines_have_equal_ordinals(rt: HostRuntime) -> Result<(), Fail> {
     let segmenter = bench_segmenter(alloc, LineBreakOptions::default())??;
     for number in 0..TEXTS {
         let text = text_of(alloc, number)?;
-        let (breaks, mandatory) = lines_found(alloc, segmenter.as_borrowed(), text.as_str())?;
-        assert!(rt; agrees(alloc, text.as_str(), &breaks)?, "{text:?}");
-        assert!(rt; agrees(alloc, text.as_str(), &mandatory)?, "{text:?}");
+        let agree = lines_agree(alloc, segmenter.as_borrowed(), text.as_str())?;
+        assert!(rt; agree, "{text:?}");
     }
     Ok(())
+}
+
+/// Asserts what an iterator of lines gives, call by call, and whether the break is then a mandatory one.
+fn expect_next<'s, Y: RuleBreakType<'s>>(
+    rt: &impl Abort,
+    mut lines: LineBreakIterator<'_, 's, Y>,
+    want: &[(Option<usize>, bool)],
+) {
+    assert!(rt; !lines.is_mandatory());
+    for (place, is_mandatory) in want {
+        assert_eq!(rt; lines.next(), *place);
+        assert_eq!(rt; lines.is_mandatory(), *is_mandatory, "{place:?}");
+    }
 }
 
 #[test]
 fn lines_end_for_ever(rt: HostRuntime) -> Result<(), Fail> {
     let segmenter = bench_segmenter(rt.alloc(), LineBreakOptions::default())??;
-    let mut lines = segmenter.as_borrowed().segment_utf16(&[0x0A]);
-    assert!(rt; !lines.is_mandatory());
-    for (place, is_mandatory) in [
+    let want = [
         (Some(0), false),
         (Some(1), true),
         (None, false),
         (None, false),
-    ] {
-        assert_eq!(rt; lines.next(), place);
-        assert_eq!(rt; lines.is_mandatory(), is_mandatory, "{place:?}");
-    }
+    ];
+    expect_next(&rt, segmenter.as_borrowed().segment_utf16(&[0x0A]), &want);
     Ok(())
 }
 

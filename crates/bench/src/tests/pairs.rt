@@ -1,6 +1,7 @@
 use super::clusters::clusters_found;
-use super::sentences::sentences_found;
-use super::texts::{TEXTS, agrees, text_of};
+use super::sentences::{sentences_agree, sentences_found};
+use super::texts::{LINE, PLACES, TEXTS, agrees, expect_found, text_of};
+use super::{clusters, sentences};
 use crate::clusters::cluster_machine;
 use crate::pair_tables::{cluster_table, sentence_table};
 use icu_segmenter::indices::Latin1Indices;
@@ -15,6 +16,7 @@ use icu_segmenter::{
 use seg_pairs::pair_data::PairDataBorrowed;
 use seg_pairs::rule_segmenter_v1::RuleBreakIterator;
 use std::alloc::{AllocError, Global};
+use std::process::Abort;
 use std::test::Fail;
 
 const KEEP: u8 = 255;
@@ -144,6 +146,18 @@ fn found_by(alloc: Global, table: &RuleBreakData, text: &str) -> Result<Vec<(usi
     Ok(found)
 }
 
+/// Asserts which boundaries the engine finds, each with its status.
+fn expect_breaks(
+    rt: &impl Abort,
+    alloc: Global,
+    table: &RuleBreakData,
+    text: &str,
+    want: &[(usize, u8)],
+) -> Result<(), Fail> {
+    assert_eq!(rt; found_by(alloc, table, text)?.as_slice(), want, "{text}");
+    Ok(())
+}
+
 #[test]
 fn breaks_of_tables(rt: HostRuntime) -> Result<(), Fail> {
     let alloc = rt.alloc();
@@ -154,7 +168,7 @@ fn breaks_of_tables(rt: HostRuntime) -> Result<(), Fail> {
         ("", &[(0, 0)]),
     ];
     for (text, want) in rows {
-        assert_eq!(rt; found_by(alloc, &table, text)?.as_slice(), want, "{text}");
+        expect_breaks(&rt, alloc, &table, text, want)?;
     }
     // The last states, entries and ends that no small table above has; found by a program of definitions alone.
     let rows: [(&[u8], &str, &[(usize, u8)]); 6] = [
@@ -187,7 +201,7 @@ fn breaks_of_tables(rt: HostRuntime) -> Result<(), Fail> {
     ];
     for (bytes, text, want) in rows {
         let table = table_of(alloc, bytes, &OWN_STATUSES)?;
-        assert_eq!(rt; found_by(alloc, &table, text)?.as_slice(), want, "{text}");
+        expect_breaks(&rt, alloc, &table, text, want)?;
     }
     Ok(())
 }
@@ -206,64 +220,63 @@ fn break_states_of_bytes(rt: HostRuntime) {
     }
 }
 
-fn cluster_places(alloc: Global, table: &RuleBreakData, text: &[u8]) -> Result<Vec<usize>, Fail> {
+/// Asserts where a table's clusters of bytes as UTF-8 end.
+fn expect_clusters(
+    rt: &impl Abort,
+    alloc: Global,
+    table: &RuleBreakData,
+    text: &[u8],
+    want: &[usize],
+) -> Result<(), Fail> {
     let segmenter = GraphemeClusterSegmenterBorrowed::new(table)?;
-    Ok(segmenter.segment_utf8(text).collect(alloc)?)
+    let found: Vec<usize> = segmenter.segment_utf8(text).collect(alloc)?;
+    assert_eq!(rt; found.as_slice(), want, "{text:?}");
+    Ok(())
+}
+
+/// Asserts where the boundaries are by the table that goes back, after `x` `y` and `y`, from this entry.
+fn expect_retreat(
+    rt: &impl Abort,
+    alloc: Global,
+    then: u8,
+    text: &[u8],
+    want: &[usize],
+) -> Result<(), Fail> {
+    expect_clusters(rt, alloc, &retreating(alloc, then)?, text, want)
 }
 
 #[test]
 fn classic_clusters(rt: HostRuntime) -> Result<(), Fail> {
     let alloc = rt.alloc();
     let table = cluster_table(alloc)?;
-    let line = "Hello World. Xin chào thế giới!".as_bytes();
     let rows: [(&[u8], &[usize]); 4] = [
-        (
-            line,
-            &[
-                0, 1, 2, 3, 4, 5, 6, 7, 8, 9, 10, 11, 12, 13, 14, 15, 16, 17, 18, 19, 21, 22, 23,
-                24, 25, 28, 29, 30, 31, 34, 35, 36,
-            ],
-        ),
+        (LINE.as_bytes(), &PLACES),
         (b"", &[0]),
         (b"\xE0\x80\xED\xA0\x80\xF0\x9F\x98", &[0, 1, 2, 3, 4, 5, 8]),
         (b"a\r\n\xC3\xA9", &[0, 1, 3, 5]),
     ];
     for (text, want) in rows {
-        assert_eq!(rt;
-            cluster_places(alloc, &table, text)?.as_slice(),
-            want,
-            "{text:?}"
-        );
+        expect_clusters(&rt, alloc, &table, text, want)?;
     }
-    let rows: [(RuleBreakData, &[u8], &[usize]); 3] = [
-        (retreating(alloc, 4)?, b"xyyy", &[0, 1, 4]),
-        (retreating(alloc, 4)?, b"xyy", &[0, 3]),
-        (retreating(alloc, 124)?, b"xyyy", &[0, 2, 4]),
-    ];
-    for (table, text, want) in rows {
-        assert_eq!(rt;
-            cluster_places(alloc, &table, text)?.as_slice(),
-            want,
-            "{text:?}"
-        );
-    }
+    expect_retreat(&rt, alloc, 4, b"xyyy", &[0, 1, 4])?;
+    expect_retreat(&rt, alloc, 4, b"xyy", &[0, 3])?;
+    expect_retreat(&rt, alloc, 124, b"xyyy", &[0, 2, 4])
+}
+
+#[test]
+fn owned_segmenters_of_clusters(rt: HostRuntime) -> Result<(), Fail> {
+    let owned = GraphemeClusterSegmenter::try_new(cluster_table(rt.alloc())?)?;
+    let want = [Some(0), Some(1), Some(3), Some(4), None, None];
+    clusters::expect_next(&rt, owned.as_borrowed().segment_latin1(b"a\r\n\xE9"), &want);
     Ok(())
 }
 
 #[test]
-fn owned_segmenters(rt: HostRuntime) -> Result<(), Fail> {
-    let alloc = rt.alloc();
-    let clusters = GraphemeClusterSegmenter::try_new(cluster_table(alloc)?)?;
-    let mut found = clusters.as_borrowed().segment_latin1(b"a\r\n\xE9");
-    for place in [Some(0), Some(1), Some(3), Some(4), None, None] {
-        assert_eq!(rt; found.next(), place);
-    }
+fn owned_segmenters_of_sentences(rt: HostRuntime) -> Result<(), Fail> {
     let options = SentenceBreakOptions::default();
-    let sentences = SentenceSegmenter::try_new(sentence_table(alloc)?, None, options)?;
-    let mut found = sentences.as_borrowed().segment_utf16(&[]);
-    for place in [Some(0), None, None] {
-        assert_eq!(rt; found.next(), place);
-    }
+    let owned = SentenceSegmenter::try_new(sentence_table(rt.alloc())?, None, options)?;
+    let want = [Some(0), None, None];
+    sentences::expect_next(&rt, owned.as_borrowed().segment_utf16(&[]), &want);
     Ok(())
 }
 
@@ -273,24 +286,46 @@ fn override_of(alloc: Global, class: u8) -> Result<RuleBreakDataOverride, Fail> 
     Ok(RuleBreakDataOverride::try_from_parts(classes)?)
 }
 
+/// Asserts where the sentences of `a; b` end, in Latin-1.
+fn expect_semicolon(
+    rt: &impl Abort,
+    alloc: Global,
+    sentences: SentenceSegmenterBorrowed<'_>,
+    want: &[usize],
+) -> Result<(), Fail> {
+    let found: Vec<usize> = sentences.segment_latin1(b"a; b").collect(alloc)?;
+    assert_eq!(rt; found.as_slice(), want);
+    Ok(())
+}
+
 #[test]
 fn classic_sentences(rt: HostRuntime) -> Result<(), Fail> {
     let alloc = rt.alloc();
     let table = sentence_table(alloc)?;
     let options = SentenceBreakInvariantOptions::default();
     let plain = SentenceSegmenterBorrowed::new(&table, None, options)?;
-    let line = "Hello World. Xin chào thế giới!";
-    let found: Vec<usize> = plain.segment_str(line).collect(alloc)?;
-    assert_eq!(rt; found.as_slice(), [0, 13, 36].as_slice());
-    let found: Vec<usize> = plain.segment_latin1(b"a; b").collect(alloc)?;
-    assert_eq!(rt; found.as_slice(), [0, 4].as_slice());
+    let found = sentences_found(alloc, plain, LINE)?;
+    expect_found(&rt, alloc, LINE, &found, &[0, 13, 36])?;
+    expect_semicolon(&rt, alloc, plain, &[0, 4])
+}
+
+#[test]
+fn overrides_take_the_place_of_the_table(rt: HostRuntime) -> Result<(), Fail> {
+    let alloc = rt.alloc();
+    let table = sentence_table(alloc)?;
+    let options = SentenceBreakInvariantOptions::default();
     let greek = override_of(alloc, 1)?;
     let overriding = SentenceSegmenterBorrowed::new(&table, Some(&greek), options)?;
-    let found: Vec<usize> = overriding.segment_latin1(b"a; b").collect(alloc)?;
-    assert_eq!(rt; found.as_slice(), [0, 3, 4].as_slice());
-    let past = override_of(alloc, 7)?;
+    expect_semicolon(&rt, alloc, overriding, &[0, 3, 4])
+}
+
+#[test]
+fn overrides_past_the_classes_are_refused(rt: HostRuntime) -> Result<(), Fail> {
+    let table = sentence_table(rt.alloc())?;
+    let options = SentenceBreakInvariantOptions::default();
+    let past = override_of(rt.alloc(), 7)?;
     let refused = SentenceSegmenterBorrowed::new(&table, Some(&past), options).err();
-    assert!(rt; refused == Some(DataError::ClassOutOfRange));
+    assert_eq!(rt; refused, Some(DataError::ClassOutOfRange));
     Ok(())
 }
 
@@ -347,38 +382,60 @@ fn refuses_tables(rt: HostRuntime) -> Result<(), Fail> {
     Ok(())
 }
 
+/// The bench table of clusters over its marks alone, where between the text's start and a mark may be no
+/// boundary, and with this class of complex items.
+fn changed_table(
+    alloc: Global,
+    bench: &RuleBreakData,
+    keeps: bool,
+    complex: u8,
+) -> Result<RuleBreakData, Fail> {
+    let mut entries = Vec::from_slice(alloc, bench.break_state_table())?;
+    if keeps && entries.len() > 27 {
+        entries[27] = BreakState::Keep;
+    }
+    let mark = bench.property_table().get32(0x300);
+    let marks = Vec::from_slice(alloc, &[(0x300, 0x36F, mark)])?;
+    Ok(RuleBreakData::try_from_parts(
+        ClassTable::try_from_ranges(marks, 0)?,
+        entries,
+        Vec::new(alloc),
+        bench.property_count(),
+        bench.last_codepoint_property(),
+        bench.sot_property(),
+        bench.eot_property(),
+        complex,
+    )?)
+}
+
 #[test]
 fn refuses_tables_of_clusters(rt: HostRuntime) -> Result<(), Fail> {
-    let alloc = rt.alloc();
-    let bench = cluster_table(alloc)?;
-    let ranges = bench.property_table();
+    let bench = cluster_table(rt.alloc())?;
     for (keeps, complex, want) in [
         (false, 127, None),
         (true, 127, Some(DataError::StartRowKeeps)),
         (false, 3, Some(DataError::ComplexItems)),
         (true, 3, Some(DataError::StartRowKeeps)),
     ] {
-        let mut entries = Vec::from_slice(alloc, bench.break_state_table())?;
-        if keeps && entries.len() > 27 {
-            entries[27] = BreakState::Keep;
-        }
-        let marks = Vec::from_slice(alloc, &[(0x300, 0x36F, ranges.get32(0x300))])?;
-        let classes = ClassTable::try_from_ranges(marks, 0)?;
-        let table = RuleBreakData::try_from_parts(
-            classes,
-            entries,
-            Vec::new(alloc),
-            bench.property_count(),
-            bench.last_codepoint_property(),
-            bench.sot_property(),
-            bench.eot_property(),
-            complex,
-        )?;
-        assert!(rt; GraphemeClusterSegmenterBorrowed::new(&table).err() == want);
+        let table = changed_table(rt.alloc(), &bench, keeps, complex)?;
+        let refused = GraphemeClusterSegmenterBorrowed::new(&table).err();
+        assert_eq!(rt; refused, want);
         assert!(rt; table != bench);
     }
     assert!(rt; bench == bench);
     Ok(())
+}
+
+/// Whether a text's clusters by two segmenters are the same, and at equal ordinals in all encodings.
+fn both_agree(
+    alloc: Global,
+    one: GraphemeClusterSegmenterBorrowed<'_>,
+    other: GraphemeClusterSegmenterBorrowed<'_>,
+    text: &str,
+) -> Result<bool, AllocError> {
+    let by_one = clusters_found(alloc, one, text)?;
+    let by_other: Vec<usize> = other.segment_str(text).collect(alloc)?;
+    Ok(agrees(alloc, text, &by_one)? && by_other.as_slice() == by_one.str.as_slice())
 }
 
 #[test]
@@ -389,10 +446,7 @@ fn classic_clusters_have_equal_ordinals(rt: HostRuntime) -> Result<(), Fail> {
     let neo = GraphemeClusterSegmenterBorrowed::new_neo(&machine)?;
     for number in 0..TEXTS {
         let text = text_of(alloc, number)?;
-        let found = clusters_found(alloc, classic, text.as_str())?;
-        assert!(rt; agrees(alloc, text.as_str(), &found)?, "{text:?}");
-        let by_machine: Vec<usize> = neo.segment_str(text.as_str()).collect(alloc)?;
-        assert!(rt; by_machine.as_slice() == found.str.as_slice(), "{text:?}");
+        assert!(rt; both_agree(alloc, classic, neo, text.as_str())?, "{text:?}");
     }
     Ok(())
 }
@@ -405,8 +459,10 @@ fn classic_sentences_have_equal_ordinals(rt: HostRuntime) -> Result<(), Fail> {
     let sentences = SentenceSegmenterBorrowed::new(&table, None, options)?;
     for number in 0..TEXTS {
         let text = text_of(alloc, number)?;
-        let found = sentences_found(alloc, sentences, text.as_str())?;
-        assert!(rt; agrees(alloc, text.as_str(), &found)?, "{text:?}");
+        assert!(rt;
+            sentences_agree(alloc, sentences, text.as_str())?,
+            "{text:?}"
+        );
     }
     Ok(())
 }

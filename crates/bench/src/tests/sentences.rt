@@ -1,16 +1,19 @@
 // Sentences.
 use super::machines::{tailoring_of, with_symbols};
-use super::texts::{Found, TEXTS, agrees, in_latin1, in_utf16, text_of};
+use super::texts::{Found, LINE, TEXTS, agrees, expect_found, in_latin1, in_utf16, text_of};
 use crate::sentences::sentence_machine;
+use icu_segmenter::iterators::SentenceBreakIterator;
 use icu_segmenter::options::{
     LanguageIdentifier, SentenceBreakInvariantOptions, SentenceBreakOptions,
 };
-use icu_segmenter::provider::{ComplexScript, DataError, SegmenterStateMachine, Symbol};
+use icu_segmenter::provider::{
+    ComplexScript, DataError, SegmenterStateMachine, SegmenterStateMachineOverride, Symbol,
+};
+use icu_segmenter::scaffold::RuleBreakType;
 use icu_segmenter::{SentenceSegmenter, SentenceSegmenterBorrowed};
 use std::alloc::{AllocError, Global};
+use std::process::Abort;
 use std::test::Fail;
-
-type Map<'a> = &'a [(Symbol, ComplexScript)];
 
 /// The boundaries of a text's sentences in each encoding.
 pub(super) fn sentences_found(
@@ -38,7 +41,7 @@ fn sentences_of_texts(rt: HostRuntime) -> Result<(), Fail> {
     };
     let segmenter = SentenceSegmenter::try_new_neo(sentence_machine(alloc)?, None, options)?;
     let rows: [(&str, &[usize]); 6] = [
-        ("Hello World. Xin chào thế giới!", &[0, 13, 36]),
+        (LINE, &[0, 13, 36]),
         ("", &[0]),
         ("a\r\nb", &[0, 2, 3, 4]),
         ("Hi!? no\n\nx ", &[0, 5, 8, 9, 11]),
@@ -47,34 +50,31 @@ fn sentences_of_texts(rt: HostRuntime) -> Result<(), Fail> {
     ];
     for (text, want) in rows {
         let found = sentences_found(alloc, segmenter.as_borrowed(), text)?;
-        assert_eq!(rt; found.str.as_slice(), want, "{text:?}");
-        assert!(rt; agrees(alloc, text, &found)?, "{text:?}");
+        expect_found(&rt, alloc, text, &found, want)?;
     }
     Ok(())
 }
 
-/// The sentences of `a; b` by lent data and by owned ones, where the semicolon is a pseudo symbol
-/// that is as any other character.
-fn around_a_semicolon(
+/// The sentences of `a; b` by lent data, where the semicolon is a pseudo symbol that is as any other character.
+fn lent_sentences(
     alloc: Global,
-    tailoring: Option<Map<'_>>,
-) -> Result<(Vec<usize>, Vec<usize>), Fail> {
+    tailoring: Option<&SegmenterStateMachineOverride>,
+) -> Result<Vec<usize>, Fail> {
     let machine = semicolon_machine(alloc)?;
-    let tailoring = match tailoring {
-        Some(map) => Some(tailoring_of(alloc, map)?),
-        None => None,
-    };
-    let invariant_options = SentenceBreakInvariantOptions::default();
-    let segmenter = SentenceSegmenterBorrowed::new_neo(
-        &machine,
-        tailoring.as_ref(),
-        invariant_options,
-    )?;
-    let lent = segmenter.segment_str("a; b").collect(alloc)?;
+    let options = SentenceBreakInvariantOptions::default();
+    let segmenter = SentenceSegmenterBorrowed::new_neo(&machine, tailoring, options)?;
+    Ok(segmenter.segment_str("a; b").collect(alloc)?)
+}
+
+/// And by owned data.
+fn owned_sentences(
+    alloc: Global,
+    tailoring: Option<SegmenterStateMachineOverride>,
+) -> Result<Vec<usize>, Fail> {
+    let machine = semicolon_machine(alloc)?;
     let options = SentenceBreakOptions::default();
     let segmenter = SentenceSegmenter::try_new_neo(machine, tailoring, options)?;
-    let owned = segmenter.as_borrowed().segment_str("a; b").collect(alloc)?;
-    Ok((lent, owned))
+    Ok(segmenter.as_borrowed().segment_str("a; b").collect(alloc)?)
 }
 
 fn semicolon_machine(alloc: Global) -> Result<SegmenterStateMachine, Fail> {
@@ -94,38 +94,71 @@ fn semicolon_machine(alloc: Global) -> Result<SegmenterStateMachine, Fail> {
 #[test]
 fn tailorings_take_the_place_of_the_map(rt: HostRuntime) -> Result<(), Fail> {
     let alloc = rt.alloc();
-    let rows: [(Option<Map<'_>>, &[usize]); 2] = [
-        (None, &[0, 4]),
-        (Some(&[(2, ComplexScript::None)]), &[0, 3, 4]),
-    ];
-    for (tailoring, want) in rows {
-        let (lent, owned) = around_a_semicolon(alloc, tailoring)?;
-        assert_eq!(rt; lent.as_slice(), want);
-        assert_eq!(rt; owned.as_slice(), want);
-    }
+    let untailored = [0, 4];
+    assert_eq!(rt;
+        lent_sentences(alloc, None)?.as_slice(),
+        untailored.as_slice()
+    );
+    assert_eq!(rt;
+        owned_sentences(alloc, None)?.as_slice(),
+        untailored.as_slice()
+    );
+    let map = [(2, ComplexScript::None)];
+    let tailored = [0, 3, 4];
+    let tailoring = tailoring_of(alloc, &map)?;
+    assert_eq!(rt;
+        lent_sentences(alloc, Some(&tailoring))?.as_slice(),
+        tailored.as_slice()
+    );
+    assert_eq!(rt;
+        owned_sentences(alloc, Some(tailoring))?.as_slice(),
+        tailored.as_slice()
+    );
     Ok(())
+}
+
+/// What lent data, and what owned ones, are refused for, where a tailoring doesn't fit its machine.
+fn refusals(
+    alloc: Global,
+    map: &[(Symbol, ComplexScript)],
+) -> Result<(Option<DataError>, Option<DataError>), Fail> {
+    let machine = semicolon_machine(alloc)?;
+    let tailoring = tailoring_of(alloc, map)?;
+    let options = SentenceBreakInvariantOptions::default();
+    let lent = SentenceSegmenterBorrowed::new_neo(&machine, Some(&tailoring), options).err();
+    let options = SentenceBreakOptions::default();
+    let owned = SentenceSegmenter::try_new_neo(machine, Some(tailoring), options).err();
+    Ok((lent, owned))
 }
 
 #[test]
 fn tailorings_that_do_not_fit_are_refused(rt: HostRuntime) -> Result<(), Fail> {
-    let alloc = rt.alloc();
-    let machine = semicolon_machine(alloc)?;
-    let invariant_options = SentenceBreakInvariantOptions::default();
-    let maps: [Map<'_>; 2] = [&[], &[(5, ComplexScript::None)]];
+    let refused = Some(DataError::SymbolOutOfRange);
+    let maps: [&[(Symbol, ComplexScript)]; 2] = [&[], &[(5, ComplexScript::None)]];
     for map in maps {
-        let tailoring = tailoring_of(alloc, map)?;
-        let lent = SentenceSegmenterBorrowed::new_neo(
-            &machine,
-            Some(&tailoring),
-            invariant_options,
-        );
-        assert_eq!(rt; lent.err(), Some(DataError::SymbolOutOfRange));
-        let options = SentenceBreakOptions::default();
-        let machine = semicolon_machine(alloc)?;
-        let owned = SentenceSegmenter::try_new_neo(machine, Some(tailoring), options);
-        assert_eq!(rt; owned.err(), Some(DataError::SymbolOutOfRange));
+        assert_eq!(rt; refusals(rt.alloc(), map)?, (refused, refused));
     }
     Ok(())
+}
+
+/// Whether a text's sentences are at equal ordinals in all encodings.
+pub(super) fn sentences_agree(
+    alloc: Global,
+    segmenter: SentenceSegmenterBorrowed<'_>,
+    text: &str,
+) -> Result<bool, AllocError> {
+    agrees(alloc, text, &sentences_found(alloc, segmenter, text)?)
+}
+
+/// Asserts what an iterator of sentences gives, call by call.
+pub(super) fn expect_next<'s, Y: RuleBreakType<'s>>(
+    rt: &impl Abort,
+    mut sentences: SentenceBreakIterator<'_, 's, Y>,
+    want: &[Option<usize>],
+) {
+    for place in want {
+        assert_eq!(rt; sentences.next(), *place);
+    }
 }
 
 #[test]
@@ -136,8 +169,10 @@ fn sentences_have_equal_ordinals(rt: HostRuntime) -> Result<(), Fail> {
     let segmenter = SentenceSegmenterBorrowed::new_neo(&machine, None, options)?;
     for number in 0..TEXTS {
         let text = text_of(alloc, number)?;
-        let found = sentences_found(alloc, segmenter, text.as_str())?;
-        assert!(rt; agrees(alloc, text.as_str(), &found)?, "{text:?}");
+        assert!(rt;
+            sentences_agree(alloc, segmenter, text.as_str())?,
+            "{text:?}"
+        );
     }
     Ok(())
 }
@@ -147,10 +182,7 @@ fn sentences_end_for_ever(rt: HostRuntime) -> Result<(), Fail> {
     let machine = sentence_machine(rt.alloc())?;
     let options = SentenceBreakInvariantOptions::default();
     let segmenter = SentenceSegmenterBorrowed::new_neo(&machine, None, options)?;
-    let mut sentences = segmenter.segment_utf16(&[0xD800]);
-    assert_eq!(rt; sentences.next(), Some(0));
-    assert_eq!(rt; sentences.next(), Some(1));
-    assert_eq!(rt; sentences.next(), None);
-    assert_eq!(rt; sentences.next(), None);
+    let want = [Some(0), Some(1), None, None];
+    expect_next(&rt, segmenter.segment_utf16(&[0xD800]), &want);
     Ok(())
 }

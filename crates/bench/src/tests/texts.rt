@@ -1,6 +1,7 @@
 // Texts in each encoding, and boundaries counted in code points.
 use icu_segmenter::indices::{Utf8CharIndices, Utf16Indices};
 use std::alloc::{AllocError, Global};
+use std::process::Abort;
 
 /// The boundaries of one text in each encoding, in Latin-1 those of the code points that it has.
 #[derive(Drop)]
@@ -54,6 +55,28 @@ pub(super) fn agrees(alloc: Global, text: &str, found: &Found) -> Result<bool, A
             && (!is_narrow || found.latin1.as_slice() == expected.as_slice()),
     )
 }
+
+/// Asserts that a text's boundaries are these in `str`, and at equal ordinals in the other encodings.
+pub(super) fn expect_found(
+    rt: &impl Abort,
+    alloc: Global,
+    text: &str,
+    found: &Found,
+    want: &[usize],
+) -> Result<(), AllocError> {
+    assert_eq!(rt; found.str.as_slice(), want, "{text:?}");
+    assert!(rt; agrees(alloc, text, found)?, "{text:?}");
+    Ok(())
+}
+
+/// `Hello World. Xin chào thế giới!` has a cluster at each of its characters.
+pub(super) const LINE: &str = "Hello World. Xin chào thế giới!";
+
+/// The boundaries of the clusters of `LINE`.
+pub(super) const PLACES: [usize; 32] = [
+    0, 1, 2, 3, 4, 5, 6, 7, 8, 9, 10, 11, 12, 13, 14, 15, 16, 17, 18, 19, 21, 22, 23, 24, 25, 28,
+    29, 30, 31, 34, 35, 36,
+];
 
 const CODE_POINTS: [char; 10] = [
     'a',

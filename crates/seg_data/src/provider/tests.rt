@@ -1,3 +1,4 @@
+use crate::laws::complex_script_numbers;
 use crate::provider::{ClassTable, DataError};
 use std::alloc::Global;
 use std::test::Fail;
@@ -25,6 +26,7 @@ fn tells_faults(rt: HostRuntime) -> Result<(), Fail> {
         (DataError::StateOutOfRange, 6, "6 StateOutOfRange: "),
         (DataError::StartRowKeeps, 7, "7 StartRowKeeps: "),
         (DataError::ComplexItems, 8, "8 ComplexItems: "),
+        (DataError::ComplexBelow0100, 9, "9 ComplexBelow0100: "),
         (DataError::StateCount, 11, "11 StateCount: "),
         (DataError::TransitionSize, 12, "12 TransitionSize: "),
         (
@@ -41,12 +43,18 @@ fn tells_faults(rt: HostRuntime) -> Result<(), Fail> {
         ),
         (DataError::EndCycle, 17, "17 EndCycle: "),
         (DataError::Stalls, 18, "18 Stalls: "),
+        (DataError::MissingTailoring, 19, "19 MissingTailoring: "),
     ] {
         assert_eq!(rt; fault.number(), number);
         let shown = format!(in rt.alloc(); "{fault}")?;
         assert!(rt; shown.starts_with(text), "{shown}");
     }
     Ok(())
+}
+
+#[test]
+fn scripts_have_numbers(rt: HostRuntime) {
+    assert_eq!(rt; complex_script_numbers(), [0, 1, 2, 3, 4, 5]);
 }
 
 #[test]

@@ -1,4 +1,4 @@
-use crate::laws::segments_are_one;
+use crate::laws::{picks_are_first_or_last, small_machines_find};
 use crate::provider::{
     Acceptance, Lookahead, SegmenterStateMachine, SegmenterStateMachineOverride, State, Symbol,
 };
@@ -267,10 +267,12 @@ fn reads_bytes(rt: HostRuntime) -> Result<(), Fail> {
     for (byte, acceptance) in [
         (0, Acceptance::Conditional(0, 0)),
         (9, Acceptance::Conditional(1, 1)),
+        (0x0A, Acceptance::Conditional(1, 2)),
         (247, Acceptance::Conditional(30, 7)),
         (248, Acceptance::Accept(0)),
+        (0xF9, Acceptance::Accept(1)),
         (254, Acceptance::Accept(6)),
-        (255, Acceptance::Continue),
+        (0xFF, Acceptance::Continue),
     ] {
         let read = Acceptance::from_unaligned(byte);
         assert_eq!(rt; read, acceptance);
@@ -297,10 +299,11 @@ fn reads_parts(rt: HostRuntime) -> Result<(), Fail> {
     assert_eq!(rt; made.num_lookaheads(), 0);
     assert_eq!(rt; made.pseudo_symbol_shift(), 5);
     assert_eq!(rt; made.pseudo_symbol_map().len(), 1);
-    segments_are_one(&made);
     made.facts();
     let read = TailoredMachineBorrowed::untailored(&made);
     read.facts();
+    picks_are_first_or_last(read);
+    small_machines_find();
     for (code_point, symbol, next) in [(97, 1, 1), (99, 2, 4), (100, 3, 4), (0xE01, 3, 4)] {
         let given = read.symbol(code_point);
         assert_eq!(rt; given, symbol);

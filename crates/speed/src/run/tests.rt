@@ -4,7 +4,7 @@ use crate::data::segmenter_of;
 use crate::engine::Engine;
 use crate::tally::Tally;
 use crate::trial::Trial;
-use bench::devices::FailingWriter;
+use failing_io::FailingWriter;
 use std::io::ErrorKind;
 use std::rt::Clock;
 use std::time::Duration;

@@ -1,6 +1,6 @@
 // Runs over readers and writers in memory, and over ones that fail.
 use super::run;
-use bench::devices::{FailingReader, FailingWriter};
+use failing_io::{FailingReader, FailingWriter};
 use std::alloc::Global;
 use std::io::{ErrorKind, Read};
 

@@ -1,0 +1,64 @@
+// Laws are calls, which return.
+use crate::clusters::cluster_machine;
+use crate::lines::line_machine;
+use crate::pair_tables::cluster_table;
+use crate::sentences::sentence_machine;
+use icu_segmenter::options::{LineBreakOptions, SentenceBreakInvariantOptions};
+use icu_segmenter::provider::LineTailorings;
+use icu_segmenter::{
+    GraphemeClusterSegmenterBorrowed, LineSegmenterBorrowed, SentenceSegmenterBorrowed,
+};
+use seg_clusters::laws::{grapheme, sentence};
+use seg_lines::laws as line;
+use seg_pairs::laws::{no_run_without_complex, small_tables_find};
+use std::test::Fail;
+
+#[test]
+fn laws_of_clusters(rt: HostRuntime) -> Result<(), Fail> {
+    let machine = cluster_machine(rt.alloc())?;
+    let segmenter = GraphemeClusterSegmenterBorrowed::new_neo(&machine)?;
+    grapheme::boundaries_are_one(segmenter);
+    grapheme::equal_code_points(segmenter);
+    grapheme::restart(segmenter);
+    let (mut one, mut other) = grapheme::str_and_its_bytes(segmenter, "a\u{301}b");
+    for place in [Some(0), Some(3), Some(4), None] {
+        assert_eq!(rt; one.next(), place);
+        assert_eq!(rt; other.next(), place);
+    }
+    Ok(())
+}
+
+#[test]
+fn laws_of_sentences(rt: HostRuntime) -> Result<(), Fail> {
+    let machine = sentence_machine(rt.alloc())?;
+    let options = SentenceBreakInvariantOptions::default();
+    let segmenter = SentenceSegmenterBorrowed::new_neo(&machine, None, options)?;
+    sentence::boundaries_are_one(segmenter);
+    sentence::equal_code_points(segmenter);
+    sentence::restart(segmenter);
+    Ok(())
+}
+
+#[test]
+fn laws_of_lines(rt: HostRuntime) -> Result<(), Fail> {
+    let machine = line_machine(rt.alloc())?;
+    let clusters = cluster_machine(rt.alloc())?;
+    let tailorings = LineTailorings::default();
+    let segmenter = LineSegmenterBorrowed::new_neo_for_non_complex_scripts(
+        &machine,
+        tailorings.as_borrowed(),
+        &clusters,
+        LineBreakOptions::default(),
+    )?;
+    line::boundaries_are_one(segmenter);
+    line::equal_code_points(segmenter);
+    line::restart(segmenter);
+    Ok(())
+}
+
+#[test]
+fn laws_of_pair_tables(rt: HostRuntime) -> Result<(), Fail> {
+    no_run_without_complex(&cluster_table(rt.alloc())?);
+    small_tables_find();
+    Ok(())
+}
