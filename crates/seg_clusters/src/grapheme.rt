@@ -13,14 +13,14 @@ ghost use Rattle.seg_engine.specs.Engine.{rules_of};
 ghost use Rattle.seg_engine.specs.Rules.{boundaries_of};
 ghost use Rattle.seg_engine.specs.Rules.Rules.{ByTable, ByMachine};
 
-use seg_engine::engine::{Boundaries, Engine, OwnedEngine};
 use seg_data::provider::DataError;
+use seg_engine::engine::{Boundaries, Engine, OwnedEngine};
 use seg_machine::provider::SegmenterStateMachine;
 use seg_machine::tailored_machine::{TailoredMachine, TailoredMachineBorrowed};
 use seg_pairs::pair_data::{PairData, PairDataBorrowed};
 use seg_pairs::provider::RuleBreakData;
-use seg_text::indices::{Latin1Indices, StrCharIndices, Utf8CharIndices, Utf16Indices};
 use seg_text::cursor::Cursor;
+use seg_text::indices::{Latin1Indices, StrCharIndices, Utf8CharIndices, Utf16Indices};
 use seg_text::scaffold::{Latin1, PotentiallyIllFormedUtf8, RuleBreakType, Utf8, Utf16};
 use std::fmt::Debug;
 use std::marker::PhantomData;
