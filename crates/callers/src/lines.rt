@@ -3,7 +3,7 @@ ghost use Rattle.std.specs.Prelude.{◌≡◌, ◌==◌, Some, IfOk, IfErr, filt
 ghost use Rattle.icu_segmenter.specs.Boundaries.{offsets};
 ghost use Rattle.icu_segmenter.specs.Faults.{IsLowestFault};
 ghost use Rattle.icu_segmenter.specs.Lines.{HasFaultWith, line_rules, owned_line_rules};
-ghost use Rattle.icu_segmenter.specs.Machine.{tailored};
+ghost use Rattle.icu_segmenter.specs.Machine.{with_tailoring};
 ghost use Rattle.icu_segmenter.specs.Rules.{boundaries_of};
 ghost use Rattle.icu_segmenter.specs.Rules.Rules.{ByMachine};
 ghost use Rattle.icu_segmenter.specs.Utf8.{utf8};
@@ -42,7 +42,7 @@ pub fn breakall_segmenter(
     breakall: SegmenterStateMachineOverride,
     clusters: SegmenterStateMachine,
 ) -> Result<LineSegmenter, DataError>
-    ensures accepted { IfOk result (λ segmenter. owned_line_rules segmenter ≡ ByMachine (tailored machine (Some breakall))) }
+    ensures accepted { IfOk result (λ segmenter. owned_line_rules segmenter ≡ ByMachine (with_tailoring machine (Some breakall))) }
     ensures refused { IfErr result (IsLowestFault (HasFaultWith machine (Some (Some breakall)))) }
 {
     let tailorings = LineTailorings {

@@ -3,7 +3,7 @@
 
 ghost use Rattle.std.specs.Prelude.{◌≡◌, Some, IfOk};
 ghost use Rattle.icu_segmenter.specs.Lines.{owned_line_rules};
-ghost use Rattle.icu_segmenter.specs.Machine.{tailored};
+ghost use Rattle.icu_segmenter.specs.Machine.{with_tailoring};
 ghost use Rattle.icu_segmenter.specs.Rules.Rules.{ByMachine};
 ghost use Rattle.bench.specs.Lines.{line_machine, breakall};
 
@@ -29,7 +29,7 @@ fn main(rt: HostRuntime) -> anyhow::Result<()> {
 
 /// A segmenter of lines that may be broken beside each letter.
 fn segmenter_of(alloc: Global) -> anyhow::Result<LineSegmenter>
-    ensures { IfOk result (λ segmenter. owned_line_rules segmenter ≡ ByMachine (tailored line_machine (Some breakall))) }
+    ensures { IfOk result (λ segmenter. owned_line_rules segmenter ≡ ByMachine (with_tailoring line_machine (Some breakall))) }
 {
     let options = LineBreakOptions {
         word_option: Some(LineBreakWordOption::BreakAll),

@@ -86,7 +86,7 @@ impl GraphemeClusterSegmenter {
         ensures { IsOkAnd result (λ segmenter. owned_cluster_rules segmenter ≡ ByMachine machine) }
     {
         Ok(GraphemeClusterSegmenter {
-            engine: OwnedEngine::Neo(TailoredMachine::untailored(machine)),
+            engine: OwnedEngine::Neo(TailoredMachine::without_tailoring(machine)),
         })
     }
 
@@ -135,7 +135,7 @@ impl<'data> GraphemeClusterSegmenterBorrowed<'data> {
         ensures { IsOkAnd result (λ segmenter. cluster_rules segmenter ≡ ByMachine machine.now) }
     {
         Ok(GraphemeClusterSegmenterBorrowed {
-            engine: Engine::Neo(TailoredMachineBorrowed::untailored(machine)),
+            engine: Engine::Neo(TailoredMachineBorrowed::without_tailoring(machine)),
         })
     }
 

@@ -10,7 +10,7 @@ ghost use Rattle.seg_text.specs.Utf16.{utf16};
 ghost use Rattle.seg_text.specs.Boundaries.{IsCover};
 ghost use Rattle.seg_data.specs.Faults.{IsFaultless, IsLowestFault};
 ghost use Rattle.seg_machine.specs.MachineFaults.{HasTailoringFault};
-ghost use Rattle.seg_machine.specs.Machine.{tailored};
+ghost use Rattle.seg_machine.specs.Machine.{with_tailoring};
 ghost use Rattle.seg_pairs.specs.Overriding.{table_in};
 ghost use Rattle.seg_pairs.specs.PairFaults.{HasPairDataFault};
 ghost use Rattle.seg_engine.specs.Engine.{rules_of};
@@ -112,7 +112,7 @@ impl SentenceSegmenter {
         tailoring: Option<SegmenterStateMachineOverride>,
         options: SentenceBreakOptions<'_>,
     ) -> Result<Self, DataError>
-        ensures accepted { IfOk result (λ segmenter. (owned_sentence_rules segmenter ≡ ByMachine (tailored machine tailoring))
+        ensures accepted { IfOk result (λ segmenter. (owned_sentence_rules segmenter ≡ ByMachine (with_tailoring machine tailoring))
             × IsFaultless (HasTailoringFault machine tailoring)) }
         ensures refused { IfErr result (IsLowestFault (HasTailoringFault machine tailoring)) }
     {
@@ -174,7 +174,7 @@ impl<'data> SentenceSegmenterBorrowed<'data> {
         tailoring: Option<&'data SegmenterStateMachineOverride>,
         options: SentenceBreakInvariantOptions,
     ) -> Result<Self, DataError>
-        ensures accepted { IfOk result (λ segmenter. (sentence_rules segmenter ≡ ByMachine (tailored machine.now (option_map (λ t. t.now) tailoring.entry)))
+        ensures accepted { IfOk result (λ segmenter. (sentence_rules segmenter ≡ ByMachine (with_tailoring machine.now (option_map (λ t. t.now) tailoring.entry)))
             × IsFaultless (HasTailoringFault machine.now (option_map (λ t. t.now) tailoring.entry))) }
         ensures refused { IfErr result (IsLowestFault (HasTailoringFault machine.now (option_map (λ t. t.now) tailoring.entry))) }
     {

@@ -5,11 +5,11 @@ use Rattle.std.specs.Option.{option_map}
 use Rattle.seg_lines.specs.declared.line.options.Tailoring.{Tailoring}
 use Rattle.seg_lines.specs.declared.line.options.Tailoring.TheVariants as tailoring
 use Rattle.seg_lines.specs.declared.provider.TailoringsOf.{TailoringsOf}
-use Rattle.seg_lines.specs.LineTailorings.{lent}
+use Rattle.seg_lines.specs.LineTailorings.{lent_tailorings}
 use Rattle.seg_lines.specs.Tailorings.{tailoring_named, tailoring_for}
 
 module _ {T : Type 0} (tailorings : TailoringsOf (Bor T)) where
-  named-lent : (name : Tailoring) → tailoring_named (lent tailorings) name ≡ option_map (λ t. t.now) (tailoring_named tailorings name)
+  named-lent : (name : Tailoring) → tailoring_named (lent_tailorings tailorings) name ≡ option_map (λ t. t.now) (tailoring_named tailorings name)
   named-lent tailoring.BreakAll = refl
   named-lent tailoring.KeepAll = refl
   named-lent tailoring.JaLoose = refl
@@ -23,6 +23,6 @@ module _ {T : Type 0} (tailorings : TailoringsOf (Bor T)) where
   swap None = refl
 
   -- the tailoring that is lent is that of the tailorings that are lent
-  pub for-lent : (name : Option Tailoring) → tailoring_for (lent tailorings) name ≡ option_map (option_map (λ t. t.now)) (tailoring_for tailorings name)
+  pub for-lent : (name : Option Tailoring) → tailoring_for (lent_tailorings tailorings) name ≡ option_map (option_map (λ t. t.now)) (tailoring_for tailorings name)
   for-lent None = refl
   for-lent (Some name) = rw named-lent (swap (tailoring_named tailorings name))

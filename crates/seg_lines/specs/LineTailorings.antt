@@ -10,8 +10,8 @@ abbrev pub TailoringMaps : Type 0
 TailoringMaps = TailoringsOf (List (ℕ × ComplexScript))
 
 -- the tailorings that are lent
-abbrev pub lent : {T : Type 0} → TailoringsOf (Bor T) → TailoringsOf T
-lent tailorings = record {
+abbrev pub lent_tailorings : {T : Type 0} → TailoringsOf (Bor T) → TailoringsOf T
+lent_tailorings tailorings = record {
   breakall = option_map (λ tailoring. tailoring.now) tailorings.breakall;
   keepall = option_map (λ tailoring. tailoring.now) tailorings.keepall;
   ja_loose = option_map (λ tailoring. tailoring.now) tailorings.ja_loose;

@@ -3,7 +3,7 @@ use Rattle.std.specs.Prelude.{◌≡◌, ◌⊎◌, ℕ, ◌==◌, Bool, Option,
 use Rattle.seg_data.specs.declared.provider.ComplexScript.{ComplexScript}
 use Rattle.seg_data.specs.declared.provider.DataError.{DataError}
 use Rattle.seg_data.specs.declared.provider.DataError.TheVariants.{ComplexBelow0100, MissingTailoring}
-use Rattle.seg_machine.specs.Machine.{Machine, tailored}
+use Rattle.seg_machine.specs.Machine.{Machine, with_tailoring}
 use Rattle.seg_machine.specs.MachineFaults.{HasComplexBelow0100, HasTailoringFault}
 use Rattle.seg_text.specs.declared.boundary.Boundary.{Boundary}
 use Rattle.seg_text.specs.Boundaries.{offsets}
@@ -19,14 +19,14 @@ use Rattle.seg_lines.specs.Tailorings.{tailoring_for}
 
 -- the line machine with the tailoring that is named
 abbrev pub line_machine_for : Machine → Option (Option (List (ℕ × ComplexScript))) → Machine
-line_machine_for lines (Some tailoring) = tailored lines tailoring
+line_machine_for lines (Some tailoring) = with_tailoring lines tailoring
 line_machine_for lines None = lines
 
 -- the faults of the line machine with it: where the tailoring is missing, no other is looked for
 abbrev pub HasFaultWith : Machine → Option (Option (List (ℕ × ComplexScript))) → DataError → Type 0
 HasFaultWith lines None fault = fault ≡ MissingTailoring
 HasFaultWith lines (Some tailoring) fault =
-    HasTailoringFault lines tailoring fault ⊎ ((fault ≡ ComplexBelow0100) × HasComplexBelow0100 (tailored lines tailoring))
+    HasTailoringFault lines tailoring fault ⊎ ((fault ≡ ComplexBelow0100) × HasComplexBelow0100 (with_tailoring lines tailoring))
 
 -- the machine that finds the breaks: that of clusters, or that of lines with its tailoring
 abbrev pub chosen_machine : Machine → TailoringMaps → Machine → MachineChoice → Machine

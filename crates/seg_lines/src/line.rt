@@ -110,7 +110,7 @@ impl LineSegmenter {
         ensures refused { IfErr result (IsLowestFault (HasLineFault machine tailorings (machine_choice options.entry))) }
     {
         let machine = match choice_of(options) {
-            MachineChoice::Clusters => TailoredMachine::untailored(clusters),
+            MachineChoice::Clusters => TailoredMachine::without_tailoring(clusters),
             MachineChoice::Lines(name) => owned_line_machine(machine, tailorings, name)?,
         };
         Ok(LineSegmenter {
@@ -144,7 +144,7 @@ pub struct LineSegmenterBorrowed<'data> {
 
 impl<'data> LineSegmenterBorrowed<'data> {
     ghost use Rattle.seg_lines.specs.Lines.{line_rules, lines_left, is_mandatory, chosen_machine, HasLineFault};
-    ghost use Rattle.seg_lines.specs.LineTailorings.{lent};
+    ghost use Rattle.seg_lines.specs.LineTailorings.{lent_tailorings};
 
     /// A segmenter by the state machine of lines, or by that of clusters where the strictness is
     /// `Anywhere` and the word option `Normal`, which refuses nothing. Otherwise
@@ -158,12 +158,12 @@ impl<'data> LineSegmenterBorrowed<'data> {
         clusters: &'data SegmenterStateMachine,
         options: LineBreakOptions<'_>,
     ) -> Result<Self, DataError>
-        ensures accepted { IfOk result (λ segmenter. (line_rules segmenter ≡ ByMachine (chosen_machine machine.now (lent tailorings.entry) clusters.now (machine_choice options.entry)))
-            × IsFaultless (HasLineFault machine.now (lent tailorings.entry) (machine_choice options.entry))) }
-        ensures refused { IfErr result (IsLowestFault (HasLineFault machine.now (lent tailorings.entry) (machine_choice options.entry))) }
+        ensures accepted { IfOk result (λ segmenter. (line_rules segmenter ≡ ByMachine (chosen_machine machine.now (lent_tailorings tailorings.entry) clusters.now (machine_choice options.entry)))
+            × IsFaultless (HasLineFault machine.now (lent_tailorings tailorings.entry) (machine_choice options.entry))) }
+        ensures refused { IfErr result (IsLowestFault (HasLineFault machine.now (lent_tailorings tailorings.entry) (machine_choice options.entry))) }
     {
         let machine = match choice_of(options) {
-            MachineChoice::Clusters => TailoredMachineBorrowed::untailored(clusters),
+            MachineChoice::Clusters => TailoredMachineBorrowed::without_tailoring(clusters),
             MachineChoice::Lines(name) => lent_line_machine(machine, tailorings, name)?,
         };
         Ok(LineSegmenterBorrowed {

@@ -1,6 +1,6 @@
 //! The tailorings of machines of lines.
 ghost use Rattle.std.specs.Prelude.{◌≡◌};
-ghost use Rattle.seg_lines.specs.LineTailorings.{lent};
+ghost use Rattle.seg_lines.specs.LineTailorings.{lent_tailorings};
 
 use seg_machine::provider::SegmenterStateMachineOverride;
 
@@ -34,7 +34,7 @@ pub type LineTailoringsBorrowed<'data> = TailoringsOf<&'data SegmenterStateMachi
 impl LineTailorings {
     /// The same tailorings, lent.
     pub fn as_borrowed(&self) -> LineTailoringsBorrowed<'_>
-        ensures { lent result ≡ self.now }
+        ensures { lent_tailorings result ≡ self.now }
     {
         TailoringsOf {
             breakall: self.breakall.as_ref(),

@@ -5,7 +5,7 @@ use Rattle.std.specs.Option.{is_some}
 use Rattle.std.proofs.lemmas.Bool.{both_ways}
 use Rattle.seg_data.specs.declared.provider.ComplexScript.{ComplexScript}
 use Rattle.seg_data.proofs.Options.{option-cases}
-use Rattle.seg_machine.specs.Machine.{Machine, IsTextSymbol, tailored, symbol_count, step, run, scan, state_after_ends, state_at}
+use Rattle.seg_machine.specs.Machine.{Machine, IsTextSymbol, with_tailoring, symbol_count, step, run, scan, state_after_ends, state_at}
 use Rattle.seg_machine.specs.Pick.{pick, HasStall, IsStallFree}
 use Rattle.seg_machine.specs.MachineFaults.{HasEndCycle}
 use Rattle.seg_machine.specs.Search.{bare}
@@ -82,19 +82,19 @@ some-unless (Some x) other = refl
 pub stall_free-from : (m : Machine) → (HasStall m → ⊥) → IsStallFree m
 stall_free-from m none symbols some text = some-unless (pick m symbols) (λ is. none (symbols, some, text, is))
 
-pub count-tailored : (m : Machine) (map : List (ℕ × ComplexScript)) (symbol : ℕ) → symbol < symbol_count (tailored m (Some map)) → symbol < symbol_count m
+pub count-tailored : (m : Machine) (map : List (ℕ × ComplexScript)) (symbol : ℕ) → symbol < symbol_count (with_tailoring m (Some map)) → symbol < symbol_count m
 unfolding symbol_count
 count-tailored m map symbol below = below
 
-pub step-tailored : (m : Machine) (map : List (ℕ × ComplexScript)) (q symbol : ℕ) → step m q symbol ≡ step (tailored m (Some map)) q symbol
+pub step-tailored : (m : Machine) (map : List (ℕ × ComplexScript)) (q symbol : ℕ) → step m q symbol ≡ step (with_tailoring m (Some map)) q symbol
 unfolding step
 step-tailored m map q symbol = refl
 
 -- a tailoring that gives each code point a symbol of a text leaves the machine checked
-pub checked-tailored : (m : Machine) (map : List (ℕ × ComplexScript)) → IsChecked m → HasTextSymbols (tailored m (Some map)) → IsChecked (tailored m (Some map))
+pub checked-tailored : (m : Machine) (map : List (ℕ × ComplexScript)) → IsChecked m → HasTextSymbols (with_tailoring m (Some map)) → IsChecked (with_tailoring m (Some map))
 unfolding step symbol_count state_at
 checked-tailored m map checked text =
-    let t = tailored m (Some map) in
+    let t = with_tailoring m (Some map) in
     record {
       some_state = checked.some_state;
       few_states = checked.few_states;

@@ -15,7 +15,7 @@ use Rattle.seg_data.proofs.Ranges.{value-named}
 use Rattle.seg_data.proofs.Lowest.{NoneBelow, none-below-more}
 use Rattle.seg_machine.specs.declared.provider.Acceptance.{Acceptance}
 use Rattle.seg_machine.specs.declared.provider.Acceptance.TheVariants.{Continue, Accept, Conditional}
-use Rattle.seg_machine.specs.Machine.{Machine, tailored, IsSymbolOf, IsTextSymbol, symbol_and_script, symbol_count, step, state_at}
+use Rattle.seg_machine.specs.Machine.{Machine, with_tailoring, IsSymbolOf, IsTextSymbol, symbol_and_script, symbol_count, step, state_at}
 use Rattle.seg_machine.specs.Pick.{IsStallFree}
 use Rattle.seg_machine.specs.MachineFaults.{HasMachineFault, HasEndCycle, IsStray, NamesPast}
 use Rattle.seg_machine.specs.Checked.{IsChecked}
@@ -84,7 +84,7 @@ StrayAt m count =
 pub stray-parts : (m : Machine) (map : List (ℕ × ComplexScript)) (symbols : Table) (count shift : ℕ) (found : Bool)
     → symbols ≡ m.symbols → count ≡ length m.transitions / length m.states → shift ≡ m.pseudo_symbol_shift
     → (IsTrue found ↔ (Any (IsStray count shift (length map)) (named_values symbols) ⊎ Any (λ entry. IsSymbolOf count entry.0 → ⊥) map))
-    → (IsTrue found ↔ HasMachineFault (tailored m (Some map)) SymbolOutOfRange)
+    → (IsTrue found ↔ HasMachineFault (with_tailoring m (Some map)) SymbolOutOfRange)
 unfolding symbol_count
 stray-parts m map symbols count shift found same_symbols same_count same_shift tells =
     let Tells : Table → ℕ → ℕ → Type 0 =

@@ -29,9 +29,9 @@ machine symbols states transitions num_lookaheads shift map = record {
 }
 
 -- the machine with a tailoring, if there is one: it takes the place of the map
-abbrev pub tailored : Machine → Option (List (ℕ × ComplexScript)) → Machine
-tailored m None = m
-tailored m (Some map) = record m { pseudo_symbol_map = map }
+abbrev pub with_tailoring : Machine → Option (List (ℕ × ComplexScript)) → Machine
+with_tailoring m None = m
+with_tailoring m (Some map) = record m { pseudo_symbol_map = map }
 
 -- the symbol and the script of a code point: the pseudo symbols, from the shift on, are entries of the map
 unfoldable pub symbol_and_script : Machine → ℕ → ℕ × ComplexScript

@@ -7,7 +7,7 @@ use Rattle.seg_data.specs.declared.provider.ComplexScript.TheVariants.{None as N
 use Rattle.seg_data.specs.Table.{named_values}
 use Rattle.seg_machine.specs.declared.provider.Acceptance.{Acceptance}
 use Rattle.seg_machine.specs.declared.provider.Acceptance.TheVariants.{Continue, Accept, Conditional}
-use Rattle.seg_machine.specs.Machine.{Machine, IsSymbolOf, IsTextSymbol, tailored, symbol_and_script, symbol_count, state_after_ends}
+use Rattle.seg_machine.specs.Machine.{Machine, IsSymbolOf, IsTextSymbol, with_tailoring, symbol_and_script, symbol_count, state_after_ends}
 use Rattle.seg_machine.specs.Pick.{HasStall}
 
 -- of so many symbols, with this shift and so many entries of the map, a value gives no symbol of a text
@@ -60,7 +60,7 @@ HasOverrideFault map _ = ⊥
 
 -- the fault of a tailoring, if there is one, with its machine: the machine that it makes gives stray symbols
 abbrev pub HasTailoringFault : Machine → Option (List (ℕ × ComplexScript)) → DataError → Type 0
-HasTailoringFault m (Some map) SymbolOutOfRange = HasMachineFault (tailored m (Some map)) SymbolOutOfRange
+HasTailoringFault m (Some map) SymbolOutOfRange = HasMachineFault (with_tailoring m (Some map)) SymbolOutOfRange
 HasTailoringFault m _ _ = ⊥
 
 -- a code point below U+0100, which Latin-1 has too, has a script

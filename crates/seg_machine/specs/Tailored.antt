@@ -1,11 +1,11 @@
 -- What is seen of machines with their tailorings.
 use Rattle.std.specs.Prelude.{Some}
-use Rattle.seg_machine.specs.Machine.{Machine, tailored}
+use Rattle.seg_machine.specs.Machine.{Machine, with_tailoring}
 use Rattle.seg_machine.specs.declared.tailored_machine.TailoredMachine.{TailoredMachine}
 use Rattle.seg_machine.specs.declared.tailored_machine.TailoredMachineBorrowed.{TailoredMachineBorrowed}
 
 abbrev pub owned_machine : TailoredMachine → Machine
-owned_machine t = tailored t.machine t.tailoring
+owned_machine t = with_tailoring t.machine t.tailoring
 
 abbrev pub machine_of : TailoredMachineBorrowed → Machine
-machine_of t = tailored t.machine.now (Some t.pseudo_symbol_map.now)
+machine_of t = with_tailoring t.machine.now (Some t.pseudo_symbol_map.now)

@@ -4,7 +4,7 @@ ghost use Rattle.std.specs.Option.{option_map};
 ghost use Rattle.seg_data.specs.Faults.{IsFaultless, IsLowestFault};
 ghost use Rattle.seg_machine.specs.Checked.{HasTextSymbols, IsChecked};
 ghost use Rattle.seg_machine.specs.MachineFaults.{HasComplexBelow0100, HasTailoringFault};
-ghost use Rattle.seg_machine.specs.Machine.{IsTextSymbol, state_at, step, symbol_and_script, symbol_count, tailored};
+ghost use Rattle.seg_machine.specs.Machine.{IsTextSymbol, state_at, step, symbol_and_script, symbol_count, with_tailoring};
 
 use crate::provider::{
     Acceptance, Lookahead, SegmenterStateMachine, SegmenterStateMachineOverride, State, Symbol,
@@ -16,14 +16,14 @@ use seg_data::provider::{ComplexScript, DataError};
 pub struct TailoredMachine {
     machine: SegmenterStateMachine,
     tailoring: Option<SegmenterStateMachineOverride>,
-    ghost text_symbols: { HasTextSymbols (tailored machine tailoring) },
+    ghost text_symbols: { HasTextSymbols (with_tailoring machine tailoring) },
 }
 
 impl TailoredMachine {
     ghost use Rattle.seg_machine.specs.Tailored.{machine_of, owned_machine};
 
     /// The machine as it is.
-    pub fn untailored(machine: SegmenterStateMachine) -> Self
+    pub fn without_tailoring(machine: SegmenterStateMachine) -> Self
         ensures { owned_machine result ≡ machine }
     {
         machine.facts();
@@ -38,7 +38,7 @@ impl TailoredMachine {
         machine: SegmenterStateMachine,
         tailoring: Option<SegmenterStateMachineOverride>,
     ) -> Result<Self, DataError>
-        ensures accepted { IfOk result (λ t. (owned_machine t ≡ tailored machine tailoring) × IsFaultless (HasTailoringFault machine tailoring)) }
+        ensures accepted { IfOk result (λ t. (owned_machine t ≡ with_tailoring machine tailoring) × IsFaultless (HasTailoringFault machine tailoring)) }
         ensures refused { IfErr result (IsLowestFault (HasTailoringFault machine tailoring)) }
     {
         TailoredMachineBorrowed::try_new(&machine, tailoring.as_ref())?.facts();
@@ -61,14 +61,14 @@ impl TailoredMachine {
 pub struct TailoredMachineBorrowed<'data> {
     machine: &'data SegmenterStateMachine,
     pseudo_symbol_map: &'data [(Symbol, ComplexScript)],
-    ghost text_symbols: { HasTextSymbols (tailored machine.now (Some pseudo_symbol_map.now)) },
+    ghost text_symbols: { HasTextSymbols (with_tailoring machine.now (Some pseudo_symbol_map.now)) },
 }
 
 impl<'data> TailoredMachineBorrowed<'data> {
     ghost use Rattle.seg_machine.specs.Tailored.{machine_of};
 
     /// The machine as it is.
-    pub fn untailored(machine: &'data SegmenterStateMachine) -> Self
+    pub fn without_tailoring(machine: &'data SegmenterStateMachine) -> Self
         ensures { machine_of result ≡ machine.now }
     {
         machine.facts();
@@ -83,12 +83,12 @@ impl<'data> TailoredMachineBorrowed<'data> {
         machine: &'data SegmenterStateMachine,
         tailoring: Option<&'data SegmenterStateMachineOverride>,
     ) -> Result<Self, DataError>
-        ensures accepted { IfOk result (λ t. (machine_of t ≡ tailored machine.now (option_map (λ t. t.now) tailoring.entry))
+        ensures accepted { IfOk result (λ t. (machine_of t ≡ with_tailoring machine.now (option_map (λ t. t.now) tailoring.entry))
             × IsFaultless (HasTailoringFault machine.now (option_map (λ t. t.now) tailoring.entry))) }
         ensures refused { IfErr result (IsLowestFault (HasTailoringFault machine.now (option_map (λ t. t.now) tailoring.entry))) }
     {
         let Some(tailoring) = tailoring else {
-            return Ok(TailoredMachineBorrowed::untailored(machine));
+            return Ok(TailoredMachineBorrowed::without_tailoring(machine));
         };
         let pseudo_symbol_map = tailoring.pseudo_symbol_map();
         if machine.has_stray_symbol(pseudo_symbol_map) {
@@ -152,7 +152,7 @@ pub fn has_complex_below_0100(
     machine: &SegmenterStateMachine,
     tailoring: Option<&SegmenterStateMachineOverride>,
 ) -> bool
-    ensures { IsTrue result ↔ HasComplexBelow0100 (tailored machine.now (option_map (λ t. t.now) tailoring.entry)) }
+    ensures { IsTrue result ↔ HasComplexBelow0100 (with_tailoring machine.now (option_map (λ t. t.now) tailoring.entry)) }
 {
     let pseudo_symbol_map = map_of(machine, tailoring);
     for code_point in 0..0x100u32 {
@@ -168,7 +168,7 @@ fn map_of<'data>(
     machine: &'data SegmenterStateMachine,
     tailoring: Option<&'data SegmenterStateMachineOverride>,
 ) -> &'data [(Symbol, ComplexScript)]
-    ensures { tailored machine.now (Some result.now) ≡ tailored machine.now (option_map (λ t. t.now) tailoring.entry) }
+    ensures { with_tailoring machine.now (Some result.now) ≡ with_tailoring machine.now (option_map (λ t. t.now) tailoring.entry) }
 {
     match tailoring {
         Some(tailoring) => tailoring.pseudo_symbol_map(),
@@ -182,7 +182,7 @@ fn script_of(
     pseudo_symbol_map: &[(Symbol, ComplexScript)],
     code_point: u32,
 ) -> ComplexScript
-    ensures { result ≡ (symbol_and_script (tailored machine.now (Some pseudo_symbol_map.now)) code_point).1 }
+    ensures { result ≡ (symbol_and_script (with_tailoring machine.now (Some pseudo_symbol_map.now)) code_point).1 }
 {
     let value = machine.symbols().get32(code_point);
     let shift = machine.pseudo_symbol_shift();

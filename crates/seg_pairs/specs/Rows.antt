@@ -13,8 +13,8 @@ abbrev pub breaks_of : PairTable → List ℕ → List Boundary
 breaks_of t classes = later_boundaries (class_stretch t) classes
 
 -- x y leads to 3, y of 3 to `then`, and y of 4 to nothing; classes after the start are apart
-abbrev pub retreating : BreakState → PairTable
-retreating then = pair_table (table [] 0)
+abbrev pub retreat_table : BreakState → PairTable
+retreat_table then = pair_table (table [] 0)
     (Keep ∷ Keep ∷ Keep ∷ Keep ∷ Keep ∷ Keep ∷ Keep
     ∷ Keep ∷ Keep ∷ Index 3 ∷ Keep ∷ Keep ∷ Keep ∷ Keep
     ∷ Keep ∷ Keep ∷ Keep ∷ Keep ∷ Keep ∷ Keep ∷ Keep
@@ -25,8 +25,8 @@ retreating then = pair_table (table [] 0)
     (1 ∷ 2 ∷ 3 ∷ 4 ∷ []) 7 2 5 6 127
 
 -- x y leads to 3, of which y leads to nothing and x breaks; y y breaks
-abbrev pub classed : PairTable
-classed = pair_table (table [] 0)
+abbrev pub composite_table : PairTable
+composite_table = pair_table (table [] 0)
     (Keep ∷ Keep ∷ Keep ∷ Keep ∷ Keep ∷ Keep
     ∷ Keep ∷ Keep ∷ Index 3 ∷ Keep ∷ Keep ∷ Keep
     ∷ Keep ∷ Keep ∷ Break ∷ Keep ∷ Keep ∷ Keep

@@ -36,8 +36,8 @@ RisesTo from (boundary ∷ boundaries) end = (from < boundary.offset) × RisesTo
 
 -- strict cover: the first is the start, the last the end, and each is above the one before
 abbrev pub IsCover : ℕ → ℕ → List Boundary → Type 0
-IsCover start end [] = ⊥
-IsCover start end (boundary ∷ boundaries) = (boundary.offset ≡ start) × RisesTo start boundaries end
+IsCover from end [] = ⊥
+IsCover from end (boundary ∷ boundaries) = (boundary.offset ≡ from) × RisesTo from boundaries end
 
 -- a list may be cut anew from any of its boundaries: after each come those of the rest, taken alone and shifted, all but
 -- its first, which is at 0

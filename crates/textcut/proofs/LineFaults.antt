@@ -22,5 +22,5 @@ module _ (machine : Machine) (tailorings : TailoringMaps) (options : LineBreakOp
   no-fault fault is has = none fault (rw (default.0, default.1.0, default.1.1, is) at has)
 
   -- the machine of lines finds the breaks as it is
-  pub chosen-untailored : (clusters : Machine) → chosen_machine machine tailorings clusters (machine_choice options) ≡ machine
-  chosen-untailored clusters = rw (default.0, default.1.0, default.1.1) refl
+  pub chosen-plain : (clusters : Machine) → chosen_machine machine tailorings clusters (machine_choice options) ≡ machine
+  chosen-plain clusters = rw (default.0, default.1.0, default.1.1) refl

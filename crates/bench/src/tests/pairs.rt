@@ -109,7 +109,7 @@ fn table_of(alloc: Global, bytes: &[u8], statuses: &[u8]) -> Result<RuleBreakDat
 }
 
 /// `x` `y` leads to 3, of which `y` leads to `then`, and `y` after 4 comes to nothing.
-fn retreating(alloc: Global, then: u8) -> Result<RuleBreakData, Fail> {
+fn retreat_table(alloc: Global, then: u8) -> Result<RuleBreakData, Fail> {
     let mut bytes = [KEEP; 49];
     bytes[7 + 2] = 3;
     bytes[21 + 2] = then;
@@ -242,7 +242,7 @@ fn expect_retreat(
     text: &[u8],
     want: &[usize],
 ) -> Result<(), Fail> {
-    expect_clusters(rt, alloc, &retreating(alloc, then)?, text, want)
+    expect_clusters(rt, alloc, &retreat_table(alloc, then)?, text, want)
 }
 
 #[test]

@@ -2,10 +2,10 @@
 ghost use Rattle.std.specs.Prelude.{◌≡◌, Some, None, IfOk, IfErr};
 ghost use Rattle.std.specs.Option.{option_map};
 ghost use Rattle.seg_data.specs.Faults.{IsFaultless, IsLowestFault};
-ghost use Rattle.seg_machine.specs.Machine.{tailored};
+ghost use Rattle.seg_machine.specs.Machine.{with_tailoring};
 ghost use Rattle.seg_machine.specs.Tailored.{machine_of, owned_machine};
 ghost use Rattle.seg_lines.specs.Lines.{line_machine_for, HasFaultWith};
-ghost use Rattle.seg_lines.specs.LineTailorings.{lent};
+ghost use Rattle.seg_lines.specs.LineTailorings.{lent_tailorings};
 ghost use Rattle.seg_lines.specs.Tailorings.{tailoring_for};
 
 use crate::line::options::Tailoring;
@@ -23,9 +23,9 @@ pub(super) fn lent_line_machine<'data>(
     tailorings: LineTailoringsBorrowed<'data>,
     name: Option<Tailoring>,
 ) -> Result<TailoredMachineBorrowed<'data>, DataError>
-    ensures accepted { IfOk result (λ m. (machine_of m ≡ line_machine_for machine.now (tailoring_for (lent tailorings.entry) name))
-        × IsFaultless (HasFaultWith machine.now (tailoring_for (lent tailorings.entry) name))) }
-    ensures refused { IfErr result (IsLowestFault (HasFaultWith machine.now (tailoring_for (lent tailorings.entry) name))) }
+    ensures accepted { IfOk result (λ m. (machine_of m ≡ line_machine_for machine.now (tailoring_for (lent_tailorings tailorings.entry) name))
+        × IsFaultless (HasFaultWith machine.now (tailoring_for (lent_tailorings tailorings.entry) name))) }
+    ensures refused { IfErr result (IsLowestFault (HasFaultWith machine.now (tailoring_for (lent_tailorings tailorings.entry) name))) }
 {
     lent_with(machine, tailoring_for(tailorings, name)?)
 }
@@ -35,7 +35,7 @@ fn lent_with<'data>(
     machine: &'data SegmenterStateMachine,
     tailoring: Option<&'data SegmenterStateMachineOverride>,
 ) -> Result<TailoredMachineBorrowed<'data>, DataError>
-    ensures accepted { IfOk result (λ m. (machine_of m ≡ tailored machine.now (option_map (λ map. map.now) tailoring.entry))
+    ensures accepted { IfOk result (λ m. (machine_of m ≡ with_tailoring machine.now (option_map (λ map. map.now) tailoring.entry))
         × IsFaultless (HasFaultWith machine.now (Some (option_map (λ map. map.now) tailoring.entry)))) }
     ensures refused { IfErr result (IsLowestFault (HasFaultWith machine.now (Some (option_map (λ map. map.now) tailoring.entry)))) }
 {
@@ -63,7 +63,7 @@ fn owned_with(
     machine: SegmenterStateMachine,
     tailoring: Option<SegmenterStateMachineOverride>,
 ) -> Result<TailoredMachine, DataError>
-    ensures accepted { IfOk result (λ m. (owned_machine m ≡ tailored machine tailoring) × IsFaultless (HasFaultWith machine (Some tailoring))) }
+    ensures accepted { IfOk result (λ m. (owned_machine m ≡ with_tailoring machine tailoring) × IsFaultless (HasFaultWith machine (Some tailoring))) }
     ensures refused { IfErr result (IsLowestFault (HasFaultWith machine (Some tailoring))) }
 {
     if has_complex_below_0100(&machine, tailoring.as_ref()) {

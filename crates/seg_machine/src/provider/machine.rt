@@ -4,7 +4,7 @@ ghost use Rattle.seg_data.specs.declared.provider.DataError.TheVariants.{SymbolO
 ghost use Rattle.seg_data.specs.Faults.{IsFaultless, IsLowestFault};
 ghost use Rattle.seg_machine.specs.Checked.{IsChecked};
 ghost use Rattle.seg_machine.specs.MachineFaults.{HasMachineFault};
-ghost use Rattle.seg_machine.specs.Machine.{machine, step, symbol_count, tailored};
+ghost use Rattle.seg_machine.specs.Machine.{machine, step, symbol_count, with_tailoring};
 ghost use Rattle.seg_machine.specs.Pick.{IsStallFree};
 ghost use Rattle.seg_machine.specs.Lemmas.SameMachines.{same_machine, same_machine-laws};
 
@@ -143,7 +143,7 @@ impl SegmenterStateMachine {
     // Whether the machine with this map in the place of its own has a value that gives no symbol
     // of a text, or an entry of the map gives none.
     pub(crate) fn has_stray_symbol(&self, pseudo_symbol_map: &[(Symbol, ComplexScript)]) -> bool
-        ensures { IsTrue result ↔ HasMachineFault (tailored self.now (Some pseudo_symbol_map.now)) SymbolOutOfRange }
+        ensures { IsTrue result ↔ HasMachineFault (with_tailoring self.now (Some pseudo_symbol_map.now)) SymbolOutOfRange }
     {
         self.facts();
         let count = self.transitions().len() / self.states().len();

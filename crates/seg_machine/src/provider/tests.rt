@@ -300,7 +300,7 @@ fn reads_parts(rt: HostRuntime) -> Result<(), Fail> {
     assert_eq!(rt; made.pseudo_symbol_shift(), 5);
     assert_eq!(rt; made.pseudo_symbol_map().len(), 1);
     made.facts();
-    let read = TailoredMachineBorrowed::untailored(&made);
+    let read = TailoredMachineBorrowed::without_tailoring(&made);
     read.facts();
     picks_are_first_or_last(read);
     small_machines_find();

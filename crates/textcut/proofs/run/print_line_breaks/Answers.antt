@@ -6,7 +6,7 @@ use Rattle.icu_segmenter.specs.Rules.{boundaries_of}
 use Rattle.icu_segmenter.specs.Rules.Rules.{ByMachine}
 use Rattle.icu_segmenter.specs.Utf8.{utf8}
 use Rattle.textcut.proofs.Printed.{lines-are_left}
-use Rattle.textcut.proofs.LineFaults.{no-fault, chosen-untailored}
+use Rattle.textcut.proofs.LineFaults.{no-fault, chosen-plain}
 use Rattle.textcut.proofs.run.print_line_breaks.Goals as goal
 
 pub unreachable-requires : goal.unreachable-requires
@@ -15,6 +15,6 @@ unreachable-requires g c =
 
 pub returns-clause-printed : goal.returns-clause-printed
 returns-clause-printed g c =
-    let rules = c.as_borrowed.ensures ∙ c.in-Ok.ensures.accepted.0 ∙ ap ByMachine (chosen-untailored _ _ c.default-options.result c.default-options.ensures _ ∙ c.in_ok-machine.ensures) in
+    let rules = c.as_borrowed.ensures ∙ c.in-Ok.ensures.accepted.0 ∙ ap ByMachine (chosen-plain _ _ c.default-options.result c.default-options.ensures _ ∙ c.in_ok-machine.ensures) in
     lines-are_left line_places _ _ _ _ _ c.print_numbers.ensures.printed
     (ap offsets (c.segment_utf8.ensures.boundaries ∙ ap (λ rules. boundaries_of rules (utf8 c.args.text.now)) rules))
