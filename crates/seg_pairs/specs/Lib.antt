@@ -11,5 +11,7 @@ pub mod Breaks
 pub mod Chains
 pub mod Stop
 pub mod Steps
+pub mod Runs
+pub mod Ahead
 pub mod Rows
 pub mod Lemmas

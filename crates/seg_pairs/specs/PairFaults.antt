@@ -1,12 +1,12 @@
 -- The faults of pair tables.
-use Rattle.std.specs.Prelude.{◌≡◌, ◌≢◌, ℕ, ◌*◌, ◌≤◌, ◌⊎◌, Option, List, length, IsSomeAnd, Any}
+use Rattle.std.specs.Prelude.{◌≡◌, ◌≢◌, ℕ, ◌*◌, ◌<◌, ◌≤◌, ◌⊎◌, Option, List, length, IsSomeAnd, Any}
 use Rattle.seg_data.specs.declared.provider.DataError.{DataError}
 use Rattle.seg_data.specs.declared.provider.DataError.TheVariants.{TableSize, ClassOutOfRange, StateOutOfRange, StartRowKeeps, ComplexItems}
 use Rattle.seg_data.specs.Table.{Table, named_values}
 use Rattle.seg_pairs.specs.declared.provider.pairs.BreakState.{BreakState}
 use Rattle.seg_pairs.specs.declared.provider.pairs.BreakState.TheVariants.{Break, NoMatch}
 use Rattle.seg_pairs.specs.BreakStates.{named_state}
-use Rattle.seg_pairs.specs.PairTable.{PairTable, Names, Overrides, entry_of}
+use Rattle.seg_pairs.specs.PairTable.{PairTable, Names, Overrides, class_of, entry_of}
 
 -- the entry names a state that isn't below the number of states
 abbrev pub NamesStatePast : ℕ → BreakState → Type 0
@@ -42,3 +42,8 @@ HasPairDataFault t overriding StartRowKeeps = (class : ℕ) × Names t overridin
 -- the table or the override names the class of complex items
 HasPairDataFault t overriding ComplexItems = Names t overriding t.complex_property
 HasPairDataFault t overriding _ = ⊥
+
+-- a code point below U+0100, which Latin-1 has too, is complex
+abbrev pub HasComplexClassBelow0100 : PairTable → Option Table → Type 0
+HasComplexClassBelow0100 t overriding =
+    (code_point : ℕ) × (code_point < 0x100) × (class_of t overriding code_point ≡ t.complex_property)

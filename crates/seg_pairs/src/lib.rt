@@ -6,5 +6,6 @@ pub mod laws;
 pub mod pair_data;
 pub mod provider;
 pub mod rule_segmenter_v1;
+pub mod runs;
 pub mod verdicts;
 pub mod walk;

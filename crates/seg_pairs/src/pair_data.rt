@@ -19,6 +19,7 @@ pub struct PairData {
 
 impl PairData {
     ghost use Rattle.std.specs.Prelude.{◌≡◌, IfOk, IfErr};
+    ghost use Rattle.seg_data.specs.declared.provider.DataError.TheVariants.{ClassOutOfRange};
     ghost use Rattle.seg_data.specs.Faults.{IsFaultless, IsLowestFault};
     ghost use Rattle.seg_pairs.specs.PairData.{pair_table_of, override_of, owned_pair_table, owned_override};
     ghost use Rattle.seg_pairs.specs.PairFaults.{HasPairDataFault};
@@ -34,6 +35,20 @@ impl PairData {
         ensures refused { IfErr result (IsLowestFault (HasPairDataFault table overriding)) }
     {
         let _pairs = PairDataBorrowed::try_plain(&table, overriding.as_ref())?;
+        Ok(PairData { table, overriding })
+    }
+
+    /// A pair table with its override, if there is one. `ClassOutOfRange` where the override names
+    /// a class other than 0 that isn't below the number of classes.
+    pub fn try_new(
+        table: RuleBreakData,
+        overriding: Option<RuleBreakDataOverride>,
+    ) -> Result<Self, DataError>
+        ensures accepted { IfOk result (λ p. (owned_pair_table p ≡ table) × (owned_override p ≡ overriding)
+            × (HasPairDataFault table overriding ClassOutOfRange → ⊥)) }
+        ensures refused { IfErr result (λ fault. (fault ≡ ClassOutOfRange) × HasPairDataFault table overriding ClassOutOfRange) }
+    {
+        let _pairs = PairDataBorrowed::try_new(&table, overriding.as_ref())?;
         Ok(PairData { table, overriding })
     }
 
@@ -63,7 +78,7 @@ impl<'data> PairDataBorrowed<'data> {
     ghost use Rattle.seg_data.specs.Faults.{IsFaultless, IsLowestFault};
     ghost use Rattle.seg_pairs.specs.Overriding.{table_in};
     ghost use Rattle.seg_pairs.specs.PairData.{pair_table_of, override_of, class_by};
-    ghost use Rattle.seg_pairs.specs.PairFaults.{HasPairDataFault};
+    ghost use Rattle.seg_pairs.specs.PairFaults.{HasPairDataFault, HasComplexClassBelow0100};
     ghost use Rattle.seg_pairs.specs.PairTable.{Names};
 
     /// A pair table without an override.
@@ -165,5 +180,17 @@ impl<'data> PairDataBorrowed<'data> {
         ensures { IsTrue result ↔ HasPairDataFault (pair_table_of self.entry) (override_of self.entry) ComplexItems }
     {
         self.names(self.table.complex_property())
+    }
+
+    /// Whether a code point below U+0100 is complex.
+    pub fn has_complex_below_0100(self) -> bool
+        ensures { IsTrue result ↔ HasComplexClassBelow0100 (pair_table_of self.entry) (override_of self.entry) }
+    {
+        for code_point in 0..0x100u32 {
+            if self.class(code_point) == self.table.complex_property() {
+                return true;
+            }
+        }
+        false
     }
 }

@@ -5,11 +5,12 @@ ghost use Rattle.std.specs.Iterator.{YieldsFirst, MakesProgress, item_count};
 ghost use Rattle.seg_text.specs.Items.{start_of};
 ghost use Rattle.seg_text.specs.Boundaries.{GivesNext, IsCover, boundaries_in, offsets_left};
 ghost use Rattle.seg_pairs.specs.PairData.{pair_table_of, override_of};
-ghost use Rattle.seg_pairs.specs.Breaks.{table_boundaries};
+ghost use Rattle.seg_pairs.specs.Breaks.{status_of, table_boundaries};
 ghost use Rattle.seg_pairs.specs.Elements.{onto, place_at};
 
 use crate::elements::{Element, Elements, Items};
 use crate::pair_data::PairDataBorrowed;
+use crate::provider::RuleBreakData;
 use crate::verdicts::{Outcome, TableVerdicts, next_break};
 use seg_text::cursor::Cursor;
 use std::marker::Model;
@@ -71,11 +72,7 @@ impl<'data, I: Cursor> RuleBreakIterator<'data, I> {
     pub fn rule_status(&self) -> u8
         ensures { result ≡ self.now.status }
     {
-        let statuses = self.rest.pairs.table().rule_status_table();
-        match self.class.checked_sub(1) {
-            Some(index) => statuses.get(index as usize).copied().unwrap_or(0),
-            None => 0,
-        }
+        rule_status(self.rest.pairs.table(), self.class)
     }
 }
 
@@ -114,11 +111,21 @@ impl<'data, I: Cursor> Iterator for RuleBreakIterator<'data, I> {
 }
 
 /// The place of this element, or else of the first of the others, or of the text's end.
-fn place_before<E: Elements>(next: Option<Element>, rest: &E) -> usize
+pub(crate) fn place_before<E: Elements>(next: Option<Element>, rest: &E) -> usize
     ensures { result ≡ place_at (onto next (E.left rest.now)) (E.end rest.now) }
 {
     match next {
         Some(element) => element.place,
         None => rest.place(),
+    }
+}
+
+/// The rule status of a class: 0 for class 0, and for each that the table of statuses lacks.
+pub fn rule_status(table: &RuleBreakData, class: u8) -> u8
+    ensures { result ≡ status_of table.now.rule_status_table class }
+{
+    match class.checked_sub(1) {
+        Some(index) => table.rule_status_table().get(index as usize).copied().unwrap_or(0),
+        None => 0,
     }
 }

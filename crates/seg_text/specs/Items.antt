@@ -1,7 +1,8 @@
 -- A text is the list of its items, and the place where it ends. An item begins at a place and has a code point; it ends
 -- where the next one begins, and the last where the text ends. Places are units of the encoding: bytes in UTF-8 and
 -- Latin-1, 16-bit units in UTF-16.
-use Rattle.std.specs.Prelude.{◌≡◌, ℕ, zero, suc, ◌+◌, ◌-◌, ◌<◌, ◌≤◌, List, [], ◌∷◌, length, drop, take, map}
+use Rattle.std.specs.Prelude.{◌≡◌, ℕ, zero, suc, ◌+◌, ◌-◌, ◌<◌, ◌≤◌, Bool, List, [], ◌∷◌, length, drop, take, map}
+use Rattle.std.specs.List.{prefix_len}
 
 -- the place where it begins, and its code point
 abbrev pub Item : Type 0
@@ -24,9 +25,17 @@ start_of text = place_of text.items text.end
 abbrev pub rest_after : ℕ → Text → Text
 rest_after count text = record { items = drop count text.items; end = text.end }
 
+-- the first so many items of a text, which end where the rest begins: their places stay
+abbrev pub text_before : ℕ → Text → Text
+text_before count text = record { items = take count text.items; end = start_of (rest_after count text) }
+
 -- the decoded list: what the items are, and not where
 abbrev pub code_points : List Item → List ℕ
 code_points items = map (λ (item : Item). item.1) items
+
+-- how many of a text's first code points pass a test
+abbrev pub prefix_length : (ℕ → Bool) → Text → ℕ
+prefix_length passes text = prefix_len passes (code_points text.items)
 
 -- the same items in a text that begins at a place of theirs
 abbrev pub shifted_back : ℕ → List Item → List Item

@@ -5,4 +5,5 @@ pub mod Utf16
 pub mod Cursor
 pub mod Boundaries
 pub mod Stretches
+pub mod Cuts
 pub mod Lemmas

@@ -2,7 +2,7 @@
 
 ghost use Rattle.std.specs.Prelude.{◌≡◌, ℕ, ◌+◌, length, ◌==◌};
 ghost use Rattle.std.specs.Iterator.{YieldsFirst};
-ghost use Rattle.seg_text.specs.Items.{Text, IsRising, start_of, rest_after, slice_of};
+ghost use Rattle.seg_text.specs.Items.{Text, IsRising, start_of, rest_after, slice_of, text_before};
 
 /// A cursor over a text, at the place of its next item.
 ///
@@ -38,6 +38,11 @@ pub trait Cursor: Drop {
         requires { (j k : ℕ) × (from ≡ start_of (rest_after j (text self.now))) × (to ≡ start_of (rest_after (j + k) (text self.now))) }
         ensures { (j k : ℕ) → from ≡ start_of (rest_after j (text self.now)) → to ≡ start_of (rest_after (j + k) (text self.now))
             → text result ≡ slice_of j k (text self.now) };
+
+    /// The items before a place, as a text that ends there: their places stay. O(1), takes no memory.
+    fn up_to(&self, to: usize) -> Self
+        requires { (k : ℕ) × (to ≡ start_of (rest_after k (text self.now))) }
+        ensures { (k : ℕ) → to ≡ start_of (rest_after k (text self.now)) → text result ≡ text_before k (text self.now) };
 
     /// The items that aren't read are in order, none of them is empty, and they reach to the end.
     ghost rises: { (s : Self) → IsRising (text s).items (text s).end };

@@ -5,6 +5,7 @@ pub mod boundary;
 pub mod cursor;
 pub mod indices;
 pub mod laws;
+pub mod prefixes;
 pub mod scaffold;
 #[cfg(test)]
 mod tests;

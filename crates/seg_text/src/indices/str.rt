@@ -128,6 +128,13 @@ impl<'a> Cursor for StrCharIndices<'a> {
         StrCharIndices::new(&self.text[from..to])
     }
 
+    fn up_to(&self, to: usize) -> Self {
+        StrCharIndices {
+            text: &self.text[..to],
+            front_offset: self.front_offset,
+        }
+    }
+
     ghost rises = { λ s. utf8_items-rises s.place s.units };
 }
 

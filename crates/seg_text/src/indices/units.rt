@@ -164,5 +164,13 @@ impl<'a, U: Copy, E: ReadsUnits<U>> Cursor for Indices<'a, U, E> {
         Indices::new(&self.units[from..to])
     }
 
+    fn up_to(&self, to: usize) -> Self {
+        Indices {
+            units: &self.units[..to],
+            front_offset: self.front_offset,
+            encoding: PhantomData,
+        }
+    }
+
     ghost rises = { λ s. text-rises _ _ _ _ E.is_encoding s.place s.units };
 }

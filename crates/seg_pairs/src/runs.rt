@@ -1,0 +1,131 @@
+//! Boundaries by a pair table of a text with complex elements, as far as the table finds them: runs of complex elements are
+//! given as texts of their own, to be cut in some other way.
+
+ghost use Rattle.std.specs.Prelude.{◌≡◌};
+ghost use Rattle.seg_text.specs.Items.{start_of};
+ghost use Rattle.seg_pairs.specs.PairData.{pair_table_of, override_of};
+ghost use Rattle.seg_pairs.specs.Runs.{LeadsTo, GoesOn, is_complex};
+
+use crate::elements::{Element, Elements, Items};
+use crate::pair_data::PairDataBorrowed;
+use crate::rule_segmenter_v1::place_before;
+use crate::verdicts::{ComplexVerdicts, Outcome, next_break};
+use seg_text::cursor::Cursor;
+use seg_text::prefixes::{CodePointTest, take_prefix};
+use std::marker::Model;
+
+/// What comes next of a text.
+#[derive(Debug, Drop)]
+pub enum Event<I: Cursor> {
+    /// Its end.
+    End,
+    /// A boundary at this place, with this class.
+    Break(usize, u8),
+    /// A run of complex items, as a text whose places are those of the whole.
+    Run(I),
+}
+
+/// Whether code points are complex.
+#[derive(Clone, Copy, Debug)]
+struct ComplexTest<'data> {
+    pairs: PairDataBorrowed<'data>,
+}
+
+impl<'data> CodePointTest for ComplexTest<'data> {
+    ghost use Rattle.seg_pairs.specs.PairData.{pair_table_of, override_of};
+    ghost use Rattle.seg_pairs.specs.Runs.{is_complex};
+
+    ghost passes = { λ s code_point. is_complex (pair_table_of s.pairs) (override_of s.pairs) code_point };
+
+    fn accepts(&self, code_point: u32) -> bool {
+        self.pairs.class(code_point) == self.pairs.table().complex_property()
+    }
+}
+
+/// A text that is read by a pair table, event by event.
+#[derive(Debug, Drop)]
+pub struct Events<'data, I: Cursor> {
+    pairs: PairDataBorrowed<'data>,
+    // What isn't read yet: as items, ..
+    here: I,
+    // .. and as elements, the first apart.
+    next: Option<Element>,
+    rest: Items<'data, I>,
+}
+
+impl<'data, I: Cursor> Model for Events<'data, I> {
+    ghost use Rattle.seg_pairs.specs.Runs.{Unread};
+    ghost use Rattle.seg_pairs.specs.PairData.{pair_table_of, override_of};
+    ghost use Rattle.seg_pairs.specs.Items.{elements_of};
+    ghost use Rattle.seg_pairs.specs.Ahead.{IsAhead};
+
+    ghost Value = { Unread };
+
+    ghost view = { λ s. record { table = pair_table_of s.pairs; overriding = override_of s.pairs; text = I.text s.here } };
+
+    ghost invariant = { λ s. IsAhead s.pairs (I.text s.here) s.next s.rest.pairs (I.text s.rest.cursor) };
+}
+
+impl<'data, I: Cursor> Events<'data, I> {
+    /// The events of what is left of a text. Takes no memory.
+    pub fn new(pairs: PairDataBorrowed<'data>, text: I) -> Self
+        ensures { result ≡ record { table = pair_table_of pairs.entry; overriding = override_of pairs.entry; text = I.text text } }
+    {
+        let mut rest = Items {
+            pairs,
+            cursor: text.fork(),
+        };
+        let next = rest.next_element();
+        Events {
+            pairs,
+            here: text,
+            next,
+            rest,
+        }
+    }
+
+    /// Where the text that is left begins.
+    pub fn place(&self) -> usize
+        ensures { result ≡ start_of self.now.text }
+    {
+        self.here.place()
+    }
+
+    /// A text of its own in which nothing is left, at the place where the text that is left begins.
+    pub fn nothing(&self) -> I
+        ensures { I.text result ≡ record { items = []; end = start_of self.now.text } }
+    {
+        self.here.up_to(self.here.place())
+    }
+
+    /// What comes next. After the end it is the end for ever.
+    pub fn next_event(&mut self) -> Event<I>
+        ensures leads { LeadsTo I.text self.old result self.new }
+        ensures goes { GoesOn self.old self.new }
+    {
+        let Some(left) = self.next else {
+            return Event::End;
+        };
+        let rules = ComplexVerdicts {
+            table: self.pairs.table(),
+        };
+        match next_break(&rules, left, &mut self.rest) {
+            Outcome::Break(class, next) => {
+                self.next = next;
+                let place = place_before(next, &self.rest);
+                self.here.seek(place);
+                Event::Break(place, class)
+            }
+            Outcome::Run(first, _second) => {
+                self.here.seek(first.place);
+                let run = take_prefix(&mut self.here, &ComplexTest { pairs: self.pairs });
+                self.rest = Items {
+                    pairs: self.pairs,
+                    cursor: self.here.fork(),
+                };
+                self.next = self.rest.next_element();
+                Event::Run(run)
+            }
+        }
+    }
+}
