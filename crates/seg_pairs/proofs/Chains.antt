@@ -11,13 +11,13 @@ use Rattle.seg_pairs.specs.Breaks.{status_of, stretch_of}
 use Rattle.seg_pairs.specs.Chains.{go_on, chain_within, chain, TakesOf, IsForward, HasNoRun}
 
 -- what is left after some, but not all
-record Left {X : Type 0} (n : ℕ) (xs : List X) : Type 0 where
-  first : X
-  others : List X
-  same : drop n xs ≡ first ∷ others
-  fewer : n + length (first ∷ others) ≡ length xs
+pub record Left {X : Type 0} (n : ℕ) (xs : List X) : Type 0 where
+  pub first : X
+  pub others : List X
+  pub same : drop n xs ≡ first ∷ others
+  pub fewer : n + length (first ∷ others) ≡ length xs
 
-left-after : {X : Type 0} (n : ℕ) (xs : List X) → n < length xs → Left n xs
+pub left-after : {X : Type 0} (n : ℕ) (xs : List X) → n < length xs → Left n xs
 left-after {X} n xs less = on (drop n xs) refl
   where
     on : (rest : List X) → drop n xs ≡ rest → Left n xs
@@ -29,14 +29,14 @@ left-after {X} n xs less = on (drop n xs) refl
       fewer = let long = length-drop n xs in let some = ap length is in omega (arith, long, some);
     }
 
+pub go_on-same : (f g : ℕ → ℕ × Verdict) (is : Verdict) → ((n : ℕ) → is ≡ GoAfter n → f n ≡ g n) → go_on f is ≡ go_on g is
+go_on-same f g (BreakAfter n class) same = refl
+go_on-same f g RunBegins same = refl
+go_on-same f g (GoAfter n) same = ap (λ (found : ℕ × Verdict). (n + found.0, found.1)) (same n refl)
+
 module _ {X : Type 0} (v : List X → Verdict) (forward : IsForward v) where
   takes : (x : X) (xs : List X) (is : Verdict) → v (x ∷ xs) ≡ is → TakesOf (length (x ∷ xs)) is
   takes x xs is same = subst (TakesOf (length (x ∷ xs))) same (forward x xs)
-
-  go_on-same : (f g : ℕ → ℕ × Verdict) (is : Verdict) → ((n : ℕ) → is ≡ GoAfter n → f n ≡ g n) → go_on f is ≡ go_on g is
-  go_on-same f g (BreakAfter n class) same = refl
-  go_on-same f g RunBegins same = refl
-  go_on-same f g (GoAfter n) same = ap (λ (found : ℕ × Verdict). (n + found.0, found.1)) (same n refl)
 
   -- more than the elements that there are is no matter
   chain-more : (most more : ℕ) (x : X) (xs : List X) → length (x ∷ xs) ≤ most → length (x ∷ xs) ≤ more → chain_within v most (x ∷ xs) ≡ chain_within v more (x ∷ xs)

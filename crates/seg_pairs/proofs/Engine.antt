@@ -109,7 +109,7 @@ ends-next t left elements end gone n class found =
 
 -- a new engine
 
-items-codes : (pairs : PairDataBorrowed) (items : List Item) → classes_of (elements_of pairs items) ≡ classes_by (pair_table_of pairs) (override_of pairs) (code_points items)
+pub items-codes : (pairs : PairDataBorrowed) (items : List Item) → classes_of (elements_of pairs items) ≡ classes_by (pair_table_of pairs) (override_of pairs) (code_points items)
 items-codes pairs [] = refl
 items-codes pairs (item ∷ items) = ap (λ (classes : List ℕ). class_of (pair_table_of pairs) (override_of pairs) item.1 ∷ classes) (items-codes pairs items)
 
@@ -175,6 +175,10 @@ pub gives-start : (t : PairTable) (elements : List Element) (end class place : �
     → Gives (Left started t elements end class) (Left true t elements end class) place
 gives-start t elements end class place started off none is = gives _ _ place (rw (off, none, is, class-start elements end) refl)
 
+pub rest-is : (next : Option Element) (rest whole : List Element) → IsRest next rest whole → onto next rest ≡ whole
+rest-is None rest whole (none, empty) = empty ∙ sym none
+rest-is (Some next) rest whole is = sym is
+
 pub gives-next : (t u : PairTable) (now : Option Element) (left : Element) (elements : List Element) (next : Option Element) (rest : List Element)
     (end after : ℕ) (started : Bool) (class next_class place : ℕ) → started ≡ true → now ≡ Some left
     → EndsIn (chain (element_verdict t) (left ∷ elements)) (left ∷ elements) (BreakOut next_class next) rest
@@ -183,10 +187,6 @@ pub gives-next : (t u : PairTable) (now : Option Element) (left : Element) (elem
 gives-next t u now left elements next rest end after started class next_class place on here ends same stays is =
     rw (on, here, same, stays, is, stays) (by (chain (element_verdict t) (left ∷ elements)) refl ends)
   where
-    rest-is : (next : Option Element) (rest whole : List Element) → IsRest next rest whole → onto next rest ≡ whole
-    rest-is None rest whole (none, empty) = empty ∙ sym none
-    rest-is (Some next) rest whole is = sym is
-
     by : (found : ℕ × Verdict) → chain (element_verdict t) (left ∷ elements) ≡ found → EndsIn found (left ∷ elements) (BreakOut next_class next) rest
         → Gives (Left true t (left ∷ elements) end class) (Left true t (onto next rest) end next_class) (place_at (onto next rest) end)
     by (gone, BreakAfter n with_class) found (class_is, left_is) =

@@ -8,8 +8,10 @@ use Rattle.seg_text.specs.Boundaries.{boundary, boundaries_in}
 use Rattle.seg_text.specs.Cuts.{Cuts, AreCutsOf, with_status, cut_places}
 use Rattle.seg_text.specs.Stretches.{Stretch, later_boundaries}
 use Rattle.seg_data.specs.Table.{Table}
+use Rattle.seg_pairs.specs.declared.pair_data.PairDataBorrowed.{PairDataBorrowed}
 use Rattle.seg_pairs.specs.declared.runs.Event.{Event}
 use Rattle.seg_pairs.specs.declared.runs.Event.TheVariants.{End, Break, Run}
+use Rattle.seg_pairs.specs.PairData.{pair_table_of, override_of}
 use Rattle.seg_pairs.specs.PairTable.{PairTable, class_of}
 use Rattle.seg_pairs.specs.Verdict.{Verdict, complex_verdict}
 use Rattle.seg_pairs.specs.Verdict.Verdict.{BreakAfter, GoAfter, RunBegins}
@@ -46,6 +48,9 @@ pub record Unread : Type 0 where
   pub table : PairTable
   pub overriding : Option Table
   pub text : Text
+
+abbrev pub unread_by : PairDataBorrowed → Text → Unread
+unread_by pairs text = record { table = pair_table_of pairs; overriding = override_of pairs; text = text }
 
 -- the boundaries of an unread text but that at its start
 abbrev pub unread_boundaries : Cuts → Unread → List Boundary

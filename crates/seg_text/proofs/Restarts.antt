@@ -9,7 +9,7 @@ use Rattle.seg_text.specs.Boundaries.{start, shift, shift_all, HasRestart}
 use Rattle.seg_text.specs.Stretches.{Stretch, later_boundaries, list_boundaries, HasProgress, HasEndAlone}
 use Rattle.seg_text.proofs.Stretches.{later-nil, later-next}
 
-shifted-none : (boundaries : List Boundary) → shift_all 0 boundaries ≡ boundaries
+pub shifted-none : (boundaries : List Boundary) → shift_all 0 boundaries ≡ boundaries
 shifted-none [] = refl
 shifted-none (boundary ∷ boundaries) =
     let none : 0 + boundary.offset ≡ boundary.offset = omega arith in
