@@ -7,16 +7,16 @@ use Rattle.std.proofs.lemmas.List.Sums.{prefix_len-le-length}
 use Rattle.seg_text.specs.declared.boundary.Boundary.{Boundary}
 use Rattle.seg_text.specs.Boundaries.{boundary, shift_all, RisesTo}
 use Rattle.seg_text.specs.Cuts.{Cuts, with_status}
-use Rattle.seg_text.specs.Stretches.{Stretch, later_boundaries, HasProgress}
+use Rattle.seg_text.specs.Stretches.{Stretch, later_boundaries_within, later_boundaries, HasProgress}
 use Rattle.seg_data.specs.Table.{Table}
 use Rattle.seg_pairs.specs.PairTable.{PairTable, class_of}
 use Rattle.seg_pairs.specs.Verdict.{Verdict, verdict, complex_verdict}
 use Rattle.seg_pairs.specs.Verdict.Verdict.{BreakAfter, GoAfter, RunBegins}
 use Rattle.seg_pairs.specs.Chains.{TakesOf, IsForward}
-use Rattle.seg_pairs.specs.Breaks.{status_of, stretch_of, classes_by}
-use Rattle.seg_pairs.specs.Runs.{is_complex, run_length, run_status, stretch_with_runs, complex_stretch}
+use Rattle.seg_pairs.specs.Breaks.{stretch_of, class_stretch, table_stretch, classes_by}
+use Rattle.seg_pairs.specs.Runs.{HasComplexElement, run_length, stretch_with_runs, complex_stretch}
 use Rattle.seg_pairs.proofs.Chained.{Chained, chained}
-use Rattle.seg_pairs.proofs.Forward.{complex-forward, verdict-no-run}
+use Rattle.seg_pairs.proofs.Forward.{complex-forward, verdict-no-run, no-complex}
 
 -- a run begins with a complex element
 run-complex : (t : PairTable) (first : ℕ) (rest : List ℕ) → complex_verdict t (first ∷ rest) ≡ RunBegins → (first == t.complex_property) ≡ true
@@ -56,3 +56,44 @@ module _ (t : PairTable) (overriding : Option Table) where
   complex-chained cuts c cs =
       chained (complex_stretch cuts t overriding) (complex-going cuts) point_verdict point-forward
       (λ x xs n is. ap (stretch_with_runs cuts t overriding (x ∷ xs)) is) c cs
+
+-- two ways to go through a list find the same where their first stretches are the same, here and in all that may be left
+
+module _ {X : Type 0} (first other : List X → Stretch) (Holds : List X → Type 0)
+    (same : (x : X) (xs : List X) → Holds (x ∷ xs) → first (x ∷ xs) ≡ other (x ∷ xs)) (after : (n : ℕ) (xs : List X) → Holds xs → Holds (drop n xs)) where
+  later-same-within : (most : ℕ) (xs : List X) → Holds xs → later_boundaries_within first most xs ≡ later_boundaries_within other most xs
+  unfolding later_boundaries_within
+  later-same-within zero xs holds = refl
+  later-same-within (suc most) [] holds = refl
+  later-same-within (suc most) (x ∷ xs) holds =
+      let n = (first (x ∷ xs)).extent in
+      ap (λ (later : List Boundary). (first (x ∷ xs)).boundaries ++ shift_all n later) (later-same-within most (drop n (x ∷ xs)) (after n (x ∷ xs) holds))
+      ∙ ap (λ (s : Stretch). s.boundaries ++ shift_all s.extent (later_boundaries_within other most (drop s.extent (x ∷ xs)))) (same x xs holds)
+
+  later-same : (xs : List X) → Holds xs → later_boundaries first xs ≡ later_boundaries other xs
+  unfolding later_boundaries
+  later-same xs holds = later-same-within (length xs) xs holds
+
+-- without complex elements cuts are no matter
+
+none-after : (t : PairTable) (overriding : Option Table) (n : ℕ) (xs : List ℕ) → (HasComplexElement t overriding xs → ⊥) → HasComplexElement t overriding (drop n xs) → ⊥
+none-after t overriding zero xs none = none
+none-after t overriding (suc n) [] none = none
+none-after t overriding (suc n) (x ∷ xs) none = none-after t overriding n xs (λ there. none (suc there.0, omega (arith, there.1), there.2))
+
+table-same : (cuts : Cuts) (t : PairTable) (overriding : Option Table) (x : ℕ) (xs : List ℕ) → (HasComplexElement t overriding (x ∷ xs) → ⊥)
+    → complex_stretch cuts t overriding (x ∷ xs) ≡ table_stretch t overriding (x ∷ xs)
+unfolding class_stretch
+table-same cuts t overriding x xs none =
+    ap (stretch_with_runs cuts t overriding (x ∷ xs)) (no-complex t (class_of t overriding x) (classes_by t overriding xs) none)
+    ∙ on (verdict t (classes_by t overriding (x ∷ xs))) (verdict-no-run t (class_of t overriding x) (classes_by t overriding xs))
+  where
+    on : (w : Verdict) → w ≢ RunBegins → stretch_with_runs cuts t overriding (x ∷ xs) w ≡ stretch_of t.rule_status_table (length (classes_by t overriding (x ∷ xs))) w
+    on (BreakAfter n class) other = refl
+    on (GoAfter n) other = refl
+    on RunBegins other = absurd (other refl)
+
+pub without-complex : (cuts : Cuts) (t : PairTable) (overriding : Option Table) (xs : List ℕ) → (HasComplexElement t overriding xs → ⊥)
+    → later_boundaries (complex_stretch cuts t overriding) xs ≡ later_boundaries (table_stretch t overriding) xs
+without-complex cuts t overriding =
+    later-same (complex_stretch cuts t overriding) (table_stretch t overriding) (λ xs. HasComplexElement t overriding xs → ⊥) (table-same cuts t overriding) (none-after t overriding)
