@@ -6,7 +6,7 @@ use Rattle.seg_pairs.specs.Verdict.Verdict.{BreakAfter, GoAfter, RunBegins}
 use Rattle.seg_text.specs.Boundaries.{boundary, shift_all}
 use Rattle.seg_text.specs.Stretches.{Stretch, later_boundaries, HasProgress}
 use Rattle.seg_text.proofs.Stretches.{later-next}
-use Rattle.seg_text.proofs.Restarts.{shifted-twice}
+use Rattle.seg_text.proofs.Places.{shifted-twice}
 use Rattle.seg_pairs.specs.Breaks.{status_of, stretch_of}
 use Rattle.seg_pairs.specs.Chains.{go_on, chain_within, chain, TakesOf, IsForward, HasNoRun}
 

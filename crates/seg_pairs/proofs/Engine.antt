@@ -39,7 +39,7 @@ none-left pairs (item ∷ items) none = cc
 abbrev pub element_verdict : PairTable → List Element → Verdict
 element_verdict t elements = verdict t (classes_of elements)
 
--- stretches by a table alone: each takes some of what is left, and ends with its one boundary
+-- stretches by a table alone: each takes some of what is left, and ends with its one boundary where it has one
 
 class-is : (t : PairTable) (class : ℕ) (classes : List ℕ) → class_stretch t (class ∷ classes) ≡ stretch_of t.rule_status_table (length (class ∷ classes)) (verdict t (class ∷ classes))
 unfolding class_stretch
@@ -51,9 +51,18 @@ class-within t class classes = on (verdict t (class ∷ classes)) refl (verdict-
   where
     on : (w : Verdict) → verdict t (class ∷ classes) ≡ w → TakesOf (length (class ∷ classes)) w
         → IsWithin (length (class ∷ classes)) (stretch_of t.rule_status_table (length (class ∷ classes)) w)
-    on (BreakAfter n c) is takes = record { some = takes.0; within = takes.1; ends = inr (status_of t.rule_status_table c, refl); last = λ none. cc }
-    on (GoAfter n) is takes = record { some = takes.0; within = omega (arith, takes.1); ends = inl refl; last = λ none. takes.1 }
+    on (BreakAfter n c) is takes = record { some = takes.0; within = takes.1; rises = (n, omega arith, (takes.0, refl)); last = λ all. (takes.0, refl) }
+    on (GoAfter n) is takes = record { some = takes.0; within = omega (arith, takes.1); rises = (0, omega arith, refl); last = λ all. absurd (omega (arith, all, takes.1)) }
     on RunBegins is takes = absurd (verdict-no-run t class classes is)
+
+class-alone : (t : PairTable) (classes : List ℕ) → HasEndAlone (class_stretch t classes)
+unfolding class_stretch
+class-alone t classes = on (verdict t classes)
+  where
+    on : (w : Verdict) → HasEndAlone (stretch_of t.rule_status_table (length classes) w)
+    on (BreakAfter n c) = inr (status_of t.rule_status_table c, refl)
+    on (GoAfter n) = inl refl
+    on RunBegins = inl refl
 
 pub table-within : (t : PairTable) (overriding : Option Table) (x : ℕ) (xs : List ℕ) → IsWithin (length (x ∷ xs)) (table_stretch t overriding (x ∷ xs))
 table-within t overriding x xs =
@@ -64,7 +73,7 @@ pub table-going : (t : PairTable) (overriding : Option Table) → HasProgress (t
 table-going t overriding x xs = (table-within t overriding x xs).some
 
 pub table-alone : (t : PairTable) (overriding : Option Table) (x : ℕ) (xs : List ℕ) → HasEndAlone (table_stretch t overriding (x ∷ xs))
-table-alone t overriding x xs = (table-within t overriding x xs).ends
+table-alone t overriding x xs = class-alone t (classes_by t overriding (x ∷ xs))
 
 -- elements as a text
 
