@@ -1,13 +1,14 @@
--- Chains of verdicts to go on, each of which is a stretch without boundaries.
+-- Chains of verdicts, where those to go on are stretches without boundaries.
 use Rattle.std.proofs.Common.{◌≡◌, ℕ, zero, suc, ◌+◌, ◌<◌, ◌≤◌, List, [], ◌∷◌, ◌++◌, length, map, drop, refl, sym, ap, ◌∙◌, subst, arith}
 use Rattle.std.proofs.lemmas.List.{length-drop, drop-drop, drop-map, length-map}
 use Rattle.seg_text.specs.declared.boundary.Boundary.{Boundary}
-use Rattle.seg_text.specs.Boundaries.{shift_all}
+use Rattle.seg_text.specs.Boundaries.{boundary, shift_all}
 use Rattle.seg_text.specs.Stretches.{Stretch, later_boundaries, HasProgress}
 use Rattle.seg_text.proofs.Stretches.{later-next}
-use Rattle.seg_text.proofs.Restarts.{shifted-none, shifted-twice}
+use Rattle.seg_text.proofs.Places.{shifted-none, shifted-twice}
 use Rattle.seg_pairs.specs.Verdict.{Verdict}
 use Rattle.seg_pairs.specs.Verdict.Verdict.{BreakAfter, GoAfter, RunBegins}
+use Rattle.seg_pairs.specs.Breaks.{status_of, stretch_of}
 use Rattle.seg_pairs.specs.Chains.{chain_within, chain, TakesOf, IsForward}
 use Rattle.seg_pairs.proofs.Chains.{left-after, go_on-same, chain-go, chain-break, chain-run}
 
@@ -64,6 +65,30 @@ module _ {X : Type 0} (first : List X → Stretch) (going : HasProgress first) (
 
   pub chained : (x : X) (xs : List X) → Chained first v (x ∷ xs)
   chained x xs = chained-within (length (x ∷ xs)) x xs (omega arith)
+
+-- the boundary that a chain ends in is the first, and those after it are those of what is left
+module _ {X : Type 0} (v : List X → Verdict) (forward : IsForward v) (statuses : List ℕ) (first : List X → Stretch)
+    (by : (x : X) (xs : List X) → first (x ∷ xs) ≡ stretch_of statuses (length (x ∷ xs)) (v (x ∷ xs))) where
+  by-going : HasProgress first
+  by-going x xs = rw (by x xs) (on (v (x ∷ xs)) (forward x xs))
+    where
+      on : (w : Verdict) → TakesOf (length (x ∷ xs)) w → 0 < (stretch_of statuses (length (x ∷ xs)) w).extent
+      on (BreakAfter n class) bounds = bounds.0
+      on (GoAfter n) bounds = bounds.0
+      on RunBegins bounds = omega arith
+
+  pub chain-first : (x : X) (xs : List X) (gone n class : ℕ) → chain v (x ∷ xs) ≡ (gone, BreakAfter n class)
+      → later_boundaries first (x ∷ xs)
+      ≡ boundary (gone + n) (status_of statuses class) ∷ shift_all (gone + n) (later_boundaries first (drop (gone + n) (x ∷ xs)))
+  chain-first x xs gone n class found =
+      let ch = chained first by-going v forward (λ y ys m is. by y ys ∙ ap (stretch_of statuses (length (y ∷ ys))) is) x xs in
+      let ends = sym ch.chain_is ∙ found in
+      let gone_is : ch.gone ≡ gone = ap (λ (found : ℕ × Verdict). found.0) ends in
+      let last_is : v (ch.element ∷ ch.others) ≡ BreakAfter n class = ch.last_is ∙ ap (λ (found : ℕ × Verdict). found.1) ends in
+      let next = later-next first by-going ch.element ch.others
+      ∙ ap (λ (s : Stretch). s.boundaries ++ shift_all s.extent (later_boundaries first (drop s.extent (ch.element ∷ ch.others))))
+      (by ch.element ch.others ∙ ap (stretch_of statuses (length (ch.element ∷ ch.others))) last_is) in
+      ch.later_is ∙ rw (next, shifted-twice ch.gone n, ← ch.there, drop-drop n ch.gone (x ∷ xs), gone_is) refl
 
 -- what maps the elements first has the same chain
 

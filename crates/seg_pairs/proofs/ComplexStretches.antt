@@ -7,15 +7,16 @@ use Rattle.std.proofs.lemmas.List.Sums.{prefix_len-le-length}
 use Rattle.seg_text.specs.declared.boundary.Boundary.{Boundary}
 use Rattle.seg_text.specs.Boundaries.{boundary, shift_all, RisesTo}
 use Rattle.seg_text.specs.Cuts.{Cuts, with_status}
-use Rattle.seg_text.specs.Stretches.{Stretch, later_boundaries_within, later_boundaries, HasProgress}
+use Rattle.seg_text.specs.Stretches.{Stretch, later_boundaries_within, later_boundaries, HasProgress, IsWithin}
 use Rattle.seg_data.specs.Table.{Table}
 use Rattle.seg_pairs.specs.PairTable.{PairTable, class_of}
 use Rattle.seg_pairs.specs.Verdict.{Verdict, verdict, complex_verdict}
 use Rattle.seg_pairs.specs.Verdict.Verdict.{BreakAfter, GoAfter, RunBegins}
 use Rattle.seg_pairs.specs.Chains.{TakesOf, IsForward}
 use Rattle.seg_pairs.specs.Breaks.{stretch_of, class_stretch, table_stretch, classes_by}
-use Rattle.seg_pairs.specs.Runs.{HasComplexElement, run_length, stretch_with_runs, complex_stretch}
+use Rattle.seg_pairs.specs.Runs.{HasComplexElement, is_complex, run_length, run_status, stretch_with_runs, complex_stretch}
 use Rattle.seg_pairs.proofs.Chained.{Chained, chained}
+use Rattle.seg_pairs.proofs.Engine.{verdict-within}
 use Rattle.seg_pairs.proofs.Forward.{complex-forward, verdict-no-run, no-complex}
 
 -- a run begins with a complex element
@@ -56,6 +57,31 @@ module _ (t : PairTable) (overriding : Option Table) where
   complex-chained cuts c cs =
       chained (complex_stretch cuts t overriding) (complex-going cuts) point_verdict point-forward
       (λ x xs n is. ap (stretch_with_runs cuts t overriding (x ∷ xs)) is) c cs
+
+-- cuts that rise to the end of each run give stretches whose boundaries do
+
+rises-status : (one other from end : ℕ) (cuts : List ℕ) → RisesTo from (with_status one cuts) end → RisesTo from (with_status other cuts) end
+rises-status one other from end [] rises = rises
+rises-status one other from end (cut ∷ cuts) rises = (rises.0, rises-status one other cut end cuts rises.1)
+
+pub complex-within : (cuts : Cuts) → ((run : List ℕ) → RisesTo 0 (with_status 0 (cuts run)) (length run))
+    → (t : PairTable) (overriding : Option Table) (c : ℕ) (cs : List ℕ) → IsWithin (length (c ∷ cs)) (complex_stretch cuts t overriding (c ∷ cs))
+complex-within cuts covers t overriding c cs = on (point_verdict t overriding (c ∷ cs)) refl (point-forward t overriding c cs)
+  where
+    on : (w : Verdict) → point_verdict t overriding (c ∷ cs) ≡ w → TakesOf (length (c ∷ cs)) w → IsWithin (length (c ∷ cs)) (stretch_with_runs cuts t overriding (c ∷ cs) w)
+    on (BreakAfter n class) is takes = verdict-within t.rule_status_table (length (c ∷ cs)) (BreakAfter n class) takes (λ other. cc)
+    on (GoAfter n) is takes = verdict-within t.rule_status_table (length (c ∷ cs)) (GoAfter n) takes (λ other. cc)
+    on RunBegins is takes =
+        let n : ℕ = run_length t overriding (c ∷ cs) in
+        let rises : RisesTo 0 (with_status (run_status t) (cuts (take n (c ∷ cs)))) n =
+        rises-status 0 (run_status t) 0 n (cuts (take n (c ∷ cs)))
+        (subst (RisesTo 0 (with_status 0 (cuts (take n (c ∷ cs))))) (length-prefix_len (is_complex t overriding) (c ∷ cs)) (covers (take n (c ∷ cs)))) in
+        record {
+          some = run-some t overriding c cs is;
+          within = prefix_len-le-length (is_complex t overriding) (c ∷ cs);
+          rises = (n, omega arith, rises);
+          last = λ all. rises;
+        }
 
 -- two ways to go through a list find the same where their first stretches are the same, here and in all that may be left
 
