@@ -1,7 +1,6 @@
 -- Chains of verdicts, where those to go on are stretches without boundaries.
 use Rattle.std.proofs.Common.{◌≡◌, ℕ, zero, suc, ◌+◌, ◌<◌, ◌≤◌, List, [], ◌∷◌, ◌++◌, length, map, drop, refl, sym, ap, ◌∙◌, subst, arith}
-use Rattle.std.proofs.lemmas.List.{length-drop, drop-drop, drop-map, length-map}
-use Rattle.seg_text.specs.declared.boundary.Boundary.{Boundary}
+use Rattle.std.proofs.lemmas.List.{drop-drop, drop-map, length-map}
 use Rattle.seg_text.specs.Boundaries.{boundary, shift_all}
 use Rattle.seg_text.specs.Stretches.{Stretch, later_boundaries, HasProgress}
 use Rattle.seg_text.proofs.Stretches.{later-next}

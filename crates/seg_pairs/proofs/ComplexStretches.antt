@@ -1,11 +1,11 @@
 -- Stretches of texts with complex elements: where they end, and what they are where no element is complex.
-use Rattle.std.proofs.Common.{◌≡◌, ◌≢◌, ℕ, zero, suc, ◌+◌, ◌<◌, ◌≤◌, ◌==◌, Bool, true, false, cond, List, [], ◌∷◌, ◌++◌, length, map, take, drop, refl, sym, ap, ◌∙◌, subst, inl, inr, arith}
-use Rattle.std.specs.Prelude.{Option, Contains, if◌then◌else◌}
-use Rattle.std.proofs.lemmas.List.{length-map, length-drop}
+use Rattle.std.proofs.Common.{◌≡◌, ◌≢◌, ℕ, zero, suc, ◌<◌, ◌==◌, Bool, true, false, List, [], ◌∷◌, ◌++◌, length, take, drop, refl, ap, ◌∙◌, subst, arith}
+use Rattle.std.specs.Prelude.{Option, if◌then◌else◌}
+use Rattle.std.proofs.lemmas.List.{length-map}
 use Rattle.std.proofs.lemmas.List.Folds.{length-prefix_len}
 use Rattle.std.proofs.lemmas.List.Sums.{prefix_len-le-length}
 use Rattle.seg_text.specs.declared.boundary.Boundary.{Boundary}
-use Rattle.seg_text.specs.Boundaries.{boundary, shift_all, RisesTo}
+use Rattle.seg_text.specs.Boundaries.{shift_all, RisesTo}
 use Rattle.seg_text.specs.Cuts.{Cuts, with_status}
 use Rattle.seg_text.specs.Stretches.{Stretch, later_boundaries_within, later_boundaries, HasProgress, IsWithin}
 use Rattle.seg_data.specs.Table.{Table}

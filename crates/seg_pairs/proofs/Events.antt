@@ -22,8 +22,8 @@ use Rattle.seg_pairs.specs.Verdict.{Verdict, complex_verdict}
 use Rattle.seg_pairs.specs.Verdict.Verdict.{BreakAfter, GoAfter, RunBegins}
 use Rattle.seg_pairs.specs.Breaks.{status_of}
 use Rattle.seg_pairs.specs.Chains.{chain, TakesOf}
-use Rattle.seg_pairs.specs.Steps.{EndsIn, IsRest}
-use Rattle.seg_pairs.specs.Runs.{Unread, GoesOn, is_complex, run_length, run_status, stretch_with_runs, complex_stretch, unread_by, unread_boundaries}
+use Rattle.seg_pairs.specs.Steps.{EndsIn}
+use Rattle.seg_pairs.specs.Runs.{GoesOn, is_complex, run_length, run_status, stretch_with_runs, complex_stretch, unread_by, unread_boundaries}
 use Rattle.seg_pairs.specs.Ahead.{IsAhead}
 use Rattle.seg_pairs.proofs.Chained.{Chained, chain-map}
 use Rattle.seg_pairs.proofs.ComplexStretches.{point_verdict, point-forward, run-some, complex-going, complex-chained}
