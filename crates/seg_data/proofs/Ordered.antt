@@ -1,7 +1,7 @@
 -- Ranges that a test finds in order have no fault.
-use Rattle.std.proofs.Common.{◌≡◌, ℕ, zero, suc, ◌+◌, ◌<◌, ◌≤◌, Bool, true, false, nat_le, List, [], ◌∷◌, slice_get, refl, ap, arith, inl, inr}
+use Rattle.std.proofs.Common.{◌≡◌, ℕ, zero, suc, ◌+◌, ◌<◌, ◌≤◌, Bool, true, nat_le, List, [], ◌∷◌, slice_get, refl, ap, arith, inl, inr}
 use Rattle.std.specs.Prelude.{◌&&◌, Some, Any}
-use Rattle.std.proofs.lemmas.Bool.{leb-true}
+use Rattle.std.proofs.lemmas.Bool.{leb-true, and_parts}
 use Rattle.std.proofs.lemmas.Option.{same_Some, none-some}
 use Rattle.seg_data.specs.declared.provider.DataError.TheVariants.{RangeOrder, RangePast10FFFF}
 use Rattle.seg_data.specs.Faults.{HasOverlap, HasRangeFault, IsFaultless}
@@ -13,10 +13,6 @@ are_ordered_from low [] = true
 are_ordered_from low (range ∷ ranges) =
     (nat_le low range.0 && nat_le range.0 range.1) && (nat_le range.1 0x10FFFF && are_ordered_from (range.1 + 1) ranges)
 
-both : (a b : Bool) → (a && b) ≡ true → (a ≡ true) × (b ≡ true)
-both true b is = (refl, is)
-both false b is = absurd cc
-
 record AreOrdered (low : ℕ) (range : ℕ × ℕ × ℕ) (ranges : List (ℕ × ℕ × ℕ)) : Type 0 where
   above : low ≤ range.0
   forward : range.0 ≤ range.1
@@ -25,9 +21,9 @@ record AreOrdered (low : ℕ) (range : ℕ × ℕ × ℕ) (ranges : List (ℕ ×
 
 split : (low : ℕ) (range : ℕ × ℕ × ℕ) (ranges : List (ℕ × ℕ × ℕ)) → are_ordered_from low (range ∷ ranges) ≡ true → AreOrdered low range ranges
 split low range ranges ordered =
-    let halves = both (nat_le low range.0 && nat_le range.0 range.1) (nat_le range.1 0x10FFFF && are_ordered_from (range.1 + 1) ranges) ordered in
-    let start = both (nat_le low range.0) (nat_le range.0 range.1) halves.0 in
-    let end = both (nat_le range.1 0x10FFFF) (are_ordered_from (range.1 + 1) ranges) halves.1 in
+    let halves = and_parts (nat_le low range.0 && nat_le range.0 range.1) (nat_le range.1 0x10FFFF && are_ordered_from (range.1 + 1) ranges) ordered in
+    let start = and_parts (nat_le low range.0) (nat_le range.0 range.1) halves.0 in
+    let end = and_parts (nat_le range.1 0x10FFFF) (are_ordered_from (range.1 + 1) ranges) halves.1 in
     record { above = leb-true _ _ start.0; forward = leb-true _ _ start.1; within = leb-true _ _ end.0; rest = end.1 }
 
 not-backward : (low : ℕ) (ranges : List (ℕ × ℕ × ℕ)) → are_ordered_from low ranges ≡ true → Any (λ range. range.1 < range.0) ranges → ⊥
