@@ -24,6 +24,12 @@ piece_stretch cuts run =
 abbrev pub run_cuts : PieceCuts → Cuts
 run_cuts cuts run = offsets (later_boundaries (piece_stretch cuts) run)
 
--- cuts rise strictly from the start, which is none of them, to the end, which is the last
-abbrev pub CutsCover : List ℕ → ℕ → Type 0
-CutsCover cuts end = RisesTo 0 (with_status 0 cuts) end
+-- the cuts of each piece rise strictly from its start, where there is none, and the last is at its end
+abbrev pub CoverPieces : PieceCuts → Type 0
+CoverPieces cuts =
+    (script : ComplexScript) (first : ℕ) (rest : List ℕ)
+    → RisesTo 0 (with_status 0 (cuts script (first ∷ rest))) (length (first ∷ rest))
+
+-- so do the cuts of each run
+abbrev pub CoverRuns : PieceCuts → Type 0
+CoverRuns cuts = (run : List ℕ) → RisesTo 0 (with_status 0 (run_cuts cuts run)) (length run)

@@ -44,9 +44,7 @@ impl<I: Cursor> Iterator for RunCuts<I> {
     ghost remaining = { item_count (λ left. left) };
 
     fn next(&mut self) -> Option<usize> {
-        match self.pieces.next_piece() {
-            Some(_) => Some(self.pieces.place()),
-            None => None,
-        }
+        let _piece = self.pieces.next_piece()?;
+        Some(self.pieces.place())
     }
 }
