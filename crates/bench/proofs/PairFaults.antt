@@ -12,7 +12,7 @@ use Rattle.seg_pairs.specs.declared.provider.pairs.BreakState.{BreakState}
 use Rattle.seg_pairs.specs.declared.provider.pairs.BreakState.TheVariants.{Break, Keep, NoMatch, Intermediate, Index}
 use Rattle.seg_pairs.specs.PairFaults.{HasPairFault, HasPairDataFault, NamesStatePast, KeepsStart}
 use Rattle.seg_pairs.specs.PairTable.{PairTable, entry_of}
-use Rattle.bench.specs.PairTables.{cluster_table, sentence_table}
+use Rattle.bench.specs.PairTables.{cluster_table, sentence_table, word_table}
 use Rattle.bench.proofs.Faultless.{any-refuted}
 
 names_below : ℕ → BreakState → Bool
@@ -45,7 +45,7 @@ is_no_keep Keep keeps passed = cc
 is_no_keep (Index state) keeps passed = cc
 is_no_keep (Intermediate state) keeps passed = cc
 
--- what the tests of a table's parts say
+-- what the tests of a table's parts, and of its row for the text's start, say
 record Passes (t : PairTable) : Type 0 where
   some : nat_lt 0 t.property_count ≡ true
   square : length t.break_state_table ≡ t.property_count * t.property_count
@@ -54,7 +54,6 @@ record Passes (t : PairTable) : Type 0 where
   eot : nat_lt t.eot_property t.property_count ≡ true
   states : list_all (names_below t.property_count) t.break_state_table ≡ true
   starts : list_all (λ class. is_apart (entry_of t t.sot_property class)) (named_values t.property_table) ≡ true
-  plain : list_all (λ class. not (class == t.complex_property)) (named_values t.property_table) ≡ true
 
 faultless : (t : PairTable) → Passes t → IsFaultless (HasPairFault t)
 faultless t passes TableSize (inl none) = let some = passes.some in grind (arith, nat_tests)
@@ -80,48 +79,69 @@ faultless t passes EndCycle has = has
 faultless t passes Stalls has = has
 faultless t passes MissingTailoring has = has
 
-plain-faultless : (t : PairTable) → Passes t → IsFaultless (HasPairDataFault t None)
-plain-faultless t passes ClassOutOfRange (class, named, past) = named
-plain-faultless t passes StartRowKeeps (class, inl named, keeps) =
+starts-no_keep : (t : PairTable) → Passes t → HasPairDataFault t None StartRowKeeps → ⊥
+starts-no_keep t passes (class, inl named, keeps) =
     any-refuted (KeepsStart t) (λ class. is_apart (entry_of t t.sot_property class)) (named_values t.property_table) passes.starts
     (λ class keeps passed. is_no_keep (entry_of t t.sot_property class) keeps passed) (any-contained (KeepsStart t) (named_values t.property_table) class named keeps)
-plain-faultless t passes StartRowKeeps (class, inr named, keeps) = named
-plain-faultless t passes ComplexItems (inl named) =
-    any-refuted (λ class. class ≡ t.complex_property) (λ class. not (class == t.complex_property)) (named_values t.property_table) passes.plain
+starts-no_keep t passes (class, inr named, keeps) = named
+
+-- no class that the table names is the complex one
+abbrev IsPlain : PairTable → Type 0
+IsPlain t = list_all (λ class. not (class == t.complex_property)) (named_values t.property_table) ≡ true
+
+plain-faultless : (t : PairTable) → Passes t → IsPlain t → IsFaultless (HasPairDataFault t None)
+plain-faultless t passes plain ClassOutOfRange (class, named, past) = named
+plain-faultless t passes plain StartRowKeeps has = starts-no_keep t passes has
+plain-faultless t passes plain ComplexItems (inl named) =
+    any-refuted (λ class. class ≡ t.complex_property) (λ class. not (class == t.complex_property)) (named_values t.property_table) plain
     (λ class is passed. absurd (false≢true (ap not (sym (eq-eqb class t.complex_property is)) ∙ passed)))
     (any-contained (λ class. class ≡ t.complex_property) (named_values t.property_table) t.complex_property named refl)
-plain-faultless t passes ComplexItems (inr named) = named
-plain-faultless t passes RangeOrder has = has
-plain-faultless t passes RangePast10FFFF has = has
-plain-faultless t passes TableSize has = has
-plain-faultless t passes StateOutOfRange has = has
-plain-faultless t passes ComplexBelow0100 has = has
-plain-faultless t passes StateCount has = has
-plain-faultless t passes TransitionSize has = has
-plain-faultless t passes TransitionOutOfRange has = has
-plain-faultless t passes SymbolOutOfRange has = has
-plain-faultless t passes TooManyLookaheads has = has
-plain-faultless t passes LookaheadOutOfRange has = has
-plain-faultless t passes EndCycle has = has
-plain-faultless t passes Stalls has = has
-plain-faultless t passes MissingTailoring has = has
+plain-faultless t passes plain ComplexItems (inr named) = named
+plain-faultless t passes plain RangeOrder has = has
+plain-faultless t passes plain RangePast10FFFF has = has
+plain-faultless t passes plain TableSize has = has
+plain-faultless t passes plain StateOutOfRange has = has
+plain-faultless t passes plain ComplexBelow0100 has = has
+plain-faultless t passes plain StateCount has = has
+plain-faultless t passes plain TransitionSize has = has
+plain-faultless t passes plain TransitionOutOfRange has = has
+plain-faultless t passes plain SymbolOutOfRange has = has
+plain-faultless t passes plain TooManyLookaheads has = has
+plain-faultless t passes plain LookaheadOutOfRange has = has
+plain-faultless t passes plain EndCycle has = has
+plain-faultless t passes plain Stalls has = has
+plain-faultless t passes plain MissingTailoring has = has
 
 clusters-pass : Passes cluster_table
 unfolding entry_of names_below is_apart
-clusters-pass = record { some = refl; square = refl; classes = refl; sot = refl; eot = refl; states = refl; starts = refl; plain = refl }
+clusters-pass = record { some = refl; square = refl; classes = refl; sot = refl; eot = refl; states = refl; starts = refl }
 
 sentences-pass : Passes sentence_table
 unfolding entry_of names_below is_apart
-sentences-pass = record { some = refl; square = refl; classes = refl; sot = refl; eot = refl; states = refl; starts = refl; plain = refl }
+sentences-pass = record { some = refl; square = refl; classes = refl; sot = refl; eot = refl; states = refl; starts = refl }
+
+words-pass : Passes word_table
+unfolding entry_of names_below is_apart
+words-pass = record { some = refl; square = refl; classes = refl; sot = refl; eot = refl; states = refl; starts = refl }
 
 pub clusters-sound : IsFaultless (HasPairDataFault cluster_table None)
-clusters-sound = plain-faultless cluster_table clusters-pass
+clusters-sound = plain-faultless cluster_table clusters-pass refl
 
 pub sentences-sound : IsFaultless (HasPairDataFault sentence_table None)
-sentences-sound = plain-faultless sentence_table sentences-pass
+sentences-sound = plain-faultless sentence_table sentences-pass refl
 
 pub clusters-never-refused : (parts : PairTable) → parts ≡ cluster_table → (fault : DataError) → IsLowestFault (HasPairFault parts) fault → ⊥
 clusters-never-refused parts is fault lowest = faultless cluster_table clusters-pass fault (rw is at lowest.is_there)
 
 pub sentences-never-refused : (parts : PairTable) → parts ≡ sentence_table → (fault : DataError) → IsLowestFault (HasPairFault parts) fault → ⊥
 sentences-never-refused parts is fault lowest = faultless sentence_table sentences-pass fault (rw is at lowest.is_there)
+
+pub words-never-refused : (parts : PairTable) → parts ≡ word_table → (fault : DataError) → IsLowestFault (HasPairFault parts) fault → ⊥
+words-never-refused parts is fault lowest = faultless word_table words-pass fault (rw is at lowest.is_there)
+
+-- as words the table has no fault
+pub words-no_class_past : HasPairDataFault word_table None ClassOutOfRange → ⊥
+words-no_class_past has = has.1
+
+pub words-no_keep : HasPairDataFault word_table None StartRowKeeps → ⊥
+words-no_keep has = starts-no_keep word_table words-pass has

@@ -1,11 +1,16 @@
--- No code point below U+0100 has a script in the bench machine of lines.
-use Rattle.std.proofs.Common.{◌≡◌, ℕ, Bool, true, false, refl}
+-- No code point below U+0100 has a script in the bench machines of lines and of words, or is complex in the pair table of words.
+use Rattle.std.proofs.Common.{◌≡◌, ℕ, Bool, true, false, not, ◌==◌, None, refl, sym, ap, ◌∙◌, eq-eqb}
+use Rattle.std.proofs.lemmas.Bool.{false≢true}
 use Rattle.seg_data.specs.declared.provider.ComplexScript.{ComplexScript}
 use Rattle.seg_data.specs.declared.provider.ComplexScript.TheVariants.{None as NoScript}
 use Rattle.seg_data.specs.Table.{value_of}
 use Rattle.seg_machine.specs.Machine.{Machine, symbol_and_script}
 use Rattle.seg_machine.specs.MachineFaults.{HasComplexBelow0100}
+use Rattle.seg_pairs.specs.PairFaults.{HasComplexClassBelow0100}
+use Rattle.seg_pairs.specs.PairTable.{PairTable, class_of}
 use Rattle.bench.specs.Lines.{line_machine}
+use Rattle.bench.specs.PairTables.{word_table}
+use Rattle.bench.specs.Words.{word_machine}
 use Rattle.bench.proofs.Faultless.{all_below, all_below-at}
 
 is_no_script : ComplexScript → Bool
@@ -24,3 +29,20 @@ pub lines-not_complex : HasComplexBelow0100 line_machine → ⊥
 unfolding all_below has_no_script is_no_script symbol_and_script value_of
 lines-not_complex (code_point, below, script) =
     script (no-script _ (all_below-at (has_no_script line_machine) 0x100 code_point refl below))
+
+pub words-not_complex : HasComplexBelow0100 word_machine → ⊥
+unfolding all_below has_no_script is_no_script symbol_and_script value_of
+words-not_complex (code_point, below, script) =
+    script (no-script _ (all_below-at (has_no_script word_machine) 0x100 code_point refl below))
+
+is_not_complex : PairTable → ℕ → Bool
+is_not_complex t code_point = not (class_of t None code_point == t.complex_property)
+
+no-complex : (t : PairTable) (code_point : ℕ) → is_not_complex t code_point ≡ true → class_of t None code_point ≡ t.complex_property → ⊥
+unfolding is_not_complex
+no-complex t code_point passed is = false≢true (ap not (sym (eq-eqb _ _ is)) ∙ passed)
+
+pub word_table-not_complex : HasComplexClassBelow0100 word_table None → ⊥
+unfolding all_below is_not_complex class_of value_of
+word_table-not_complex (code_point, below, complex) =
+    no-complex word_table code_point (all_below-at (is_not_complex word_table) 0x100 code_point refl below) complex

@@ -1,4 +1,5 @@
 pub mod Clusters
 pub mod Sentences
+pub mod Words
 pub mod Lines
 pub mod PairTables

@@ -1,5 +1,5 @@
--- The bench pair tables of grapheme clusters and of sentences, hand-written ones for tests and for the program.
-use Rattle.std.specs.Prelude.{List, [], ◌∷◌}
+-- The bench pair tables of grapheme clusters, of sentences and of words, hand-written ones for tests and for the program.
+use Rattle.std.specs.Prelude.{ℕ, List, [], ◌∷◌}
 use Rattle.seg_pairs.specs.declared.provider.pairs.BreakState.{BreakState}
 use Rattle.seg_pairs.specs.declared.provider.pairs.BreakState.TheVariants.{Break, Keep, Index}
 use Rattle.icu_segmenter.specs.Table.{Table}
@@ -51,3 +51,31 @@ sentence_entries =
 
 abbrev pub sentence_table : PairTable
 sentence_table = pair_table sentence_classes sentence_entries [] 7 3 5 6 127
+
+-- 1 Latin letters, 2 digits, 3 what is complex, 0 any other character
+abbrev pub word_classes : Table
+word_classes = record {
+  ranges =
+      (0x30, 0x39, 2) ∷ (0x41, 0x5A, 1) ∷ (0x61, 0x7A, 1) ∷ (0xC0, 0x24F, 1) ∷ (0xE01, 0xE3A, 3)
+      ∷ (0xE40, 0xE4E, 3) ∷ (0x1000, 0x103F, 3) ∷ (0x1E00, 0x1EFF, 1) ∷ (0x4E00, 0x9FFF, 3)
+      ∷ (0x20000, 0x2A6DF, 3) ∷ [];
+  default = 0;
+}
+
+-- a row for each class, then those of the text's start and end
+abbrev pub word_entries : List BreakState
+word_entries =
+    Break ∷ Break ∷ Break ∷ Break ∷ Break ∷ Break
+    ∷ Break ∷ Keep ∷ Keep ∷ Break ∷ Break ∷ Break
+    ∷ Break ∷ Keep ∷ Keep ∷ Break ∷ Break ∷ Break
+    ∷ Break ∷ Break ∷ Break ∷ Break ∷ Break ∷ Break
+    ∷ Break ∷ Break ∷ Break ∷ Break ∷ Break ∷ Break
+    ∷ Break ∷ Break ∷ Break ∷ Break ∷ Break ∷ Break
+    ∷ []
+
+-- the statuses of classes 1 to 3: 1 is that of a number, and 2 that of a word of letters
+abbrev pub word_statuses : List ℕ
+word_statuses = 2 ∷ 1 ∷ 2 ∷ []
+
+abbrev pub word_table : PairTable
+word_table = pair_table word_classes word_entries word_statuses 6 3 4 5 3

@@ -11,3 +11,4 @@ pub mod pair_tables;
 pub mod sentences;
 #[cfg(test)]
 mod tests;
+pub mod words;

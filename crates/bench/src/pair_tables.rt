@@ -1,7 +1,7 @@
-//! The bench pair tables of grapheme clusters and of sentences.
+//! The bench pair tables of grapheme clusters, of sentences and of words.
 
 ghost use Rattle.std.specs.Prelude.{◌≡◌, None, IfOk};
-ghost use Rattle.bench.specs.PairTables.{cluster_table, sentence_table};
+ghost use Rattle.bench.specs.PairTables.{cluster_table, sentence_table, word_table};
 ghost use Rattle.icu_segmenter.specs.Faults.{IsFaultless};
 ghost use Rattle.icu_segmenter.specs.PairFaults.{HasPairDataFault};
 
@@ -90,6 +90,50 @@ pub fn sentence_table(alloc: Global) -> Result<RuleBreakData, AllocError>
     let statuses = Vec::new(alloc);
     let Ok(table) = RuleBreakData::try_from_parts(classes, entries, statuses, 7, 3, 5, 6, 127)
     else {
+        unreachable!()
+    };
+    Ok(table)
+}
+
+/// Digits, Latin letters, and what is complex: Thai, Myanmar and ideographs.
+const WORD_CLASSES: [(u32, u32, u8); 10] = [
+    (0x30, 0x39, 2),
+    (0x41, 0x5A, 1),
+    (0x61, 0x7A, 1),
+    (0xC0, 0x24F, 1),
+    (0xE01, 0xE3A, 3),
+    (0xE40, 0xE4E, 3),
+    (0x1000, 0x103F, 3),
+    (0x1E00, 0x1EFF, 1),
+    (0x4E00, 0x9FFF, 3),
+    (0x20000, 0x2A6DF, 3),
+];
+
+/// A row for each class from 0 on, then those of the text's start and end.
+const WORD_ENTRIES: [BreakState; 36] = [
+    BREAK, BREAK, BREAK, BREAK, BREAK, BREAK, //
+    BREAK, KEEP, KEEP, BREAK, BREAK, BREAK, // letters
+    BREAK, KEEP, KEEP, BREAK, BREAK, BREAK, // digits
+    BREAK, BREAK, BREAK, BREAK, BREAK, BREAK, //
+    BREAK, BREAK, BREAK, BREAK, BREAK, BREAK, //
+    BREAK, BREAK, BREAK, BREAK, BREAK, BREAK,
+];
+
+/// The statuses of letters, digits and what is complex.
+const WORD_STATUSES: [u8; 3] = [2, 1, 2];
+
+/// The bench pair table of words: a word is a run of letters and digits, with the status of the last
+/// of them, 2 or 1. A complex character has status 2, and any other stands by itself.
+/// The only error is want of memory.
+pub fn word_table(alloc: Global) -> Result<RuleBreakData, AllocError>
+    ensures { IfOk result (λ table. table ≡ word_table) }
+{
+    let Ok(classes) = ClassTable::try_from_ranges(Vec::from_slice(alloc, &WORD_CLASSES)?, 0) else {
+        unreachable!()
+    };
+    let entries = Vec::from_slice(alloc, &WORD_ENTRIES)?;
+    let statuses = Vec::from_slice(alloc, &WORD_STATUSES)?;
+    let Ok(table) = RuleBreakData::try_from_parts(classes, entries, statuses, 6, 3, 4, 5, 3) else {
         unreachable!()
     };
     Ok(table)
