@@ -102,7 +102,7 @@ module _ {X : Type 0} (first other : List X → Stretch) (Holds : List X → Typ
 
 -- without complex elements cuts are no matter
 
-none-after : (t : PairTable) (overriding : Option Table) (n : ℕ) (xs : List ℕ) → (HasComplexElement t overriding xs → ⊥) → HasComplexElement t overriding (drop n xs) → ⊥
+pub none-after : (t : PairTable) (overriding : Option Table) (n : ℕ) (xs : List ℕ) → (HasComplexElement t overriding xs → ⊥) → HasComplexElement t overriding (drop n xs) → ⊥
 none-after t overriding zero xs none = none
 none-after t overriding (suc n) [] none = none
 none-after t overriding (suc n) (x ∷ xs) none = none-after t overriding n xs (λ there. none (suc there.0, omega (arith, there.1), there.2))

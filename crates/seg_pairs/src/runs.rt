@@ -7,6 +7,7 @@ ghost use Rattle.seg_pairs.specs.Runs.{LeadsTo, GoesOn, unread_by};
 
 use crate::elements::{Element, Elements, Items};
 use crate::pair_data::PairDataBorrowed;
+use crate::provider::RuleBreakData;
 use crate::rule_segmenter_v1::place_before;
 use crate::verdicts::{ComplexVerdicts, Outcome, next_break};
 use seg_text::cursor::Cursor;
@@ -79,6 +80,13 @@ impl<'data, I: Cursor> Events<'data, I> {
             next,
             rest,
         }
+    }
+
+    /// The pair table.
+    pub fn table(&self) -> &'data RuleBreakData
+        ensures { result.now ≡ self.now.table }
+    {
+        self.pairs.table()
     }
 
     /// Where the text that is left begins.
