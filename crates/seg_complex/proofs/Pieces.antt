@@ -42,6 +42,7 @@ prefix-has script (code_point ∷ code_points) = on (has_script script code_poin
   where
     rest : ℕ
     rest = prefix_len (has_script script) code_points
+
     on : (b : Bool) → (b ≡ true → script_of code_point ≡ script) → HaveScript script (take rest code_points)
         → HaveScript script (take (cond b (1 + rest) 0) (code_point ∷ code_points))
     on true is later = let one : 1 + rest ≡ suc rest = omega arith in rw one (is refl, later)
@@ -53,6 +54,7 @@ prefix-stops script (code_point ∷ code_points) = on (has_script script code_po
   where
     rest : ℕ
     rest = prefix_len (has_script script) code_points
+
     on : (b : Bool) → has_script script code_point ≡ b → Stops script (drop rest code_points)
         → Stops script (drop (cond b (1 + rest) 0) (code_point ∷ code_points))
     on true is later = let one : 1 + rest ≡ suc rest = omega arith in rw one later
@@ -132,6 +134,7 @@ pieces-on first rest others are = record {
   where
     n : ℕ
     n = piece_length (first ∷ rest)
+
     apart : (k : ℕ) (piece next : List ℕ) → slice_get (take n (first ∷ rest) ∷ others) k ≡ Some piece
         → slice_get (take n (first ∷ rest) ∷ others) (suc k) ≡ Some next → Differ piece next
     apart zero piece next here later = subst (λ (piece : List ℕ). Differ piece next) (same_Some _ _ here) (first-differs first rest others next are later)
