@@ -4,7 +4,6 @@ use Rattle.std.specs.Prelude.{◌&&◌, Option, None, Some, find}
 use Rattle.std.specs.Option.{option_map, option_map_or, option_or}
 use Rattle.std.proofs.lemmas.Bool.{cases_lt, lt-leb, ltb-true, leb-true, and_left, and_right, and_parts}
 use Rattle.std.proofs.lemmas.List.Folds.{find-append}
-use Rattle.seg_data.specs.declared.provider.ComplexScript.{ComplexScript}
 use Rattle.seg_data.specs.declared.provider.ComplexScript.TheVariants.{None as NoScript}
 use Rattle.seg_data.specs.Table as tables
 use Rattle.seg_complex.specs.declared.script_iter.ranges.TheConstants.{RANGES}

@@ -1,4 +1,3 @@
-use Rattle.std.proofs.Common.{◌∙◌}
 use Rattle.seg_complex.proofs.Pieces.{pieces-given, pieces-none}
 use Rattle.seg_complex.proofs.script_iter.ScriptIterator.next_piece.Goals as goal
 
