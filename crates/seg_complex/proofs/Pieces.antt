@@ -2,9 +2,11 @@
 use Rattle.std.proofs.Common.{◌≡◌, ◌≢◌, ℕ, zero, suc, ◌+◌, ◌<◌, ◌≤◌, Bool, true, false, cond, Some, List, [], ◌∷◌, ◌++◌, length, take, drop, slice_get, refl, sym, ap, ◌∙◌, subst, arith}
 use Rattle.std.specs.List.{prefix_len}
 use Rattle.std.proofs.lemmas.Bool.{eq-eqb, eqb-true}
-use Rattle.std.proofs.lemmas.List.{length-drop, take-append-drop}
+use Rattle.std.proofs.lemmas.List.{length-drop, take-append-drop, take-map}
 use Rattle.std.proofs.lemmas.Option.{same_Some, none-some}
 use Rattle.std.proofs.Math.Seq.{take-append_seam, drop-append_seam}
+use Rattle.seg_text.specs.Items.{Item, Text, rest_after, text_before, code_points, prefix_length}
+use Rattle.seg_text.proofs.Places.{code_points-drop}
 use Rattle.seg_data.specs.declared.provider.ComplexScript.{ComplexScript}
 use Rattle.seg_data.specs.declared.provider.ComplexScript.TheVariants.{None, Myanmar, ChineseOrJapanese, Khmer, Lao, Thai}
 use Rattle.seg_complex.specs.Scripts.{script_of, script_number, has_script}
@@ -42,6 +44,7 @@ prefix-has script (code_point ∷ code_points) = on (has_script script code_poin
   where
     rest : ℕ
     rest = prefix_len (has_script script) code_points
+
     on : (b : Bool) → (b ≡ true → script_of code_point ≡ script) → HaveScript script (take rest code_points)
         → HaveScript script (take (cond b (1 + rest) 0) (code_point ∷ code_points))
     on true is later = let one : 1 + rest ≡ suc rest = omega arith in rw one (is refl, later)
@@ -53,6 +56,7 @@ prefix-stops script (code_point ∷ code_points) = on (has_script script code_po
   where
     rest : ℕ
     rest = prefix_len (has_script script) code_points
+
     on : (b : Bool) → has_script script code_point ≡ b → Stops script (drop rest code_points)
         → Stops script (drop (cond b (1 + rest) 0) (code_point ∷ code_points))
     on true is later = let one : 1 + rest ≡ suc rest = omega arith in rw one later
@@ -132,6 +136,7 @@ pieces-on first rest others are = record {
   where
     n : ℕ
     n = piece_length (first ∷ rest)
+
     apart : (k : ℕ) (piece next : List ℕ) → slice_get (take n (first ∷ rest) ∷ others) k ≡ Some piece
         → slice_get (take n (first ∷ rest) ∷ others) (suc k) ≡ Some next → Differ piece next
     apart zero piece next here later = subst (λ (piece : List ℕ). Differ piece next) (same_Some _ _ here) (first-differs first rest others next are later)
@@ -186,3 +191,33 @@ pieces-only code_points ((first ∷ piece) ∷ found) are =
     ∙ ap (λ (rest : List ℕ). (first ∷ piece) ∷ pieces rest) (drop-append_seam (first ∷ piece) (joined found))
     ∙ ap (λ (rest : List (List ℕ)). (first ∷ piece) ∷ rest) (sym (pieces-only (joined found) found (pieces-rest (first ∷ piece) found code_points are))) in
     sym same ∙ ap pieces are.whole
+
+-- the pieces of a text: the one that was given, and then those of what is left
+
+pieces-at : (items : List Item) → 0 < piece_length (code_points items)
+    → pieces (code_points items)
+    ≡ code_points (take (piece_length (code_points items)) items) ∷ pieces (code_points (drop (piece_length (code_points items)) items))
+pieces-at [] some = absurd (omega (arith, some))
+pieces-at (item ∷ items) some =
+    let n = piece_length (code_points (item ∷ items)) in
+    pieces-next item.1 (code_points items)
+    ∙ ap (λ (piece : List ℕ). piece ∷ pieces (drop n (code_points (item ∷ items)))) (take-map (λ (item : Item). item.1) n (item ∷ items))
+    ∙ ap (λ (rest : List ℕ). code_points (take n (item ∷ items)) ∷ pieces rest) (sym (code_points-drop n (item ∷ items)))
+
+pub pieces-given : (script : ComplexScript) (before piece after : Text) (item : Item) (rest : List Item)
+    → before.items ≡ item ∷ rest → script ≡ script_of item.1
+    → piece ≡ text_before (prefix_length (has_script script) before) before
+    → after ≡ rest_after (prefix_length (has_script script) before) before
+    → pieces (code_points before.items) ≡ code_points piece.items ∷ pieces (code_points after.items)
+pieces-given script before piece after item rest is own given left =
+    let count : prefix_length (has_script script) before ≡ piece_length (code_points before.items) =
+    ap (λ script. prefix_length (has_script script) before) own
+    ∙ ap (λ (items : List Item). prefix_len (has_script (script_of item.1)) (code_points items)) is
+    ∙ sym (ap (λ (items : List Item). piece_length (code_points items)) is) in
+    pieces-at before.items (rw is (piece-some item.1 (code_points rest)))
+    ∙ ap (λ n. code_points (take n before.items) ∷ pieces (code_points (drop n before.items))) (sym count)
+    ∙ ap (λ (text : Text). code_points text.items ∷ pieces (code_points (drop (prefix_length (has_script script) before) before.items))) (sym given)
+    ∙ ap (λ (text : Text). code_points piece.items ∷ pieces (code_points text.items)) (sym left)
+
+pub pieces-none : (items : List Item) → items ≡ [] → pieces (code_points items) ≡ []
+pieces-none items none = rw none pieces-nil

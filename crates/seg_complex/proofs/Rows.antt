@@ -4,16 +4,10 @@ use Rattle.std.specs.Prelude.{◌&&◌, Option, None, Some, find}
 use Rattle.std.specs.Option.{option_map, option_map_or, option_or}
 use Rattle.std.proofs.lemmas.Bool.{cases_lt, lt-leb, ltb-true, leb-true, and_left, and_right, and_parts}
 use Rattle.std.proofs.lemmas.List.Folds.{find-append}
-use Rattle.seg_data.specs.declared.provider.ComplexScript.{ComplexScript}
 use Rattle.seg_data.specs.declared.provider.ComplexScript.TheVariants.{None as NoScript}
 use Rattle.seg_data.specs.Table as tables
-use Rattle.seg_data.specs.Faults.{HasRangeFault, IsFaultless}
-use Rattle.seg_data.proofs.Ordered.{ordered-faultless}
 use Rattle.seg_complex.specs.declared.script_iter.ranges.TheConstants.{RANGES}
 use Rattle.seg_complex.specs.Scripts.{Row, script_rows, holds, script_of, script_number}
-
-pub ranges-faultless : IsFaultless (HasRangeFault RANGES)
-ranges-faultless = ordered-faultless RANGES refl
 
 -- a row as a range
 numbered : Row → ℕ × ℕ × ℕ

@@ -4,3 +4,5 @@
 pub mod laws;
 pub mod runs;
 pub mod script_iter;
+#[cfg(test)]
+mod tests;

@@ -1,8 +1,8 @@
 //! Scripts of code points, and pieces of one script of a text.
 
-ghost use Rattle.std.specs.Prelude.{◌≡◌};
-ghost use Rattle.seg_text.specs.Items.{start_of};
-ghost use Rattle.seg_complex.specs.Pieces.{GivesPiece};
+ghost use Rattle.std.specs.Prelude.{◌≡◌, [], ◌∷◌, MatchOption};
+ghost use Rattle.seg_text.specs.Items.{start_of, code_points};
+ghost use Rattle.seg_complex.specs.Pieces.{GivesPiece, pieces};
 ghost use Rattle.seg_complex.specs.Scripts.{script_number, script_of};
 
 mod ranges;
@@ -75,7 +75,9 @@ impl<I: Cursor> ScriptIterator<I> {
     /// The next piece, as a text whose places, in units, are those of the whole, and its script. None at the end, and
     /// from then on. Takes no memory.
     pub fn next_piece(&mut self) -> Option<(I, ComplexScript)>
-        ensures { GivesPiece I.text self.old result self.new }
+        ensures piece { GivesPiece I.text self.old result self.new }
+        ensures pieces { MatchOption result (pieces (code_points self.old.items) ≡ [])
+            (λ piece. pieces (code_points self.old.items) ≡ code_points (I.text piece.0).items ∷ pieces (code_points self.new.items)) }
     {
         let mut ahead = self.rest.fork();
         let (_, first) = ahead.next_item()?;
