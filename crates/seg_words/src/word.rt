@@ -11,7 +11,7 @@ ghost use Rattle.seg_data.specs.Faults.{IsFaultless, IsLowestFault};
 ghost use Rattle.seg_pairs.specs.Overriding.{table_in};
 ghost use Rattle.seg_engine.specs.Engine.{rules_of};
 ghost use Rattle.seg_engine.specs.Rules.Rules.{ByTable, ByMachine};
-ghost use Rattle.seg_words.specs.Rules.{type_of, word_boundaries_of};
+ghost use Rattle.seg_words.specs.WordRules.{type_of, word_boundaries_of};
 ghost use Rattle.seg_words.specs.declared.word.WordType.TheVariants.{None as NoWord};
 
 use crate::boundaries::Boundaries;
@@ -184,7 +184,7 @@ pub struct WordSegmenter {
 
 impl WordSegmenter {
     ghost use Rattle.seg_words.specs.Words.{word_rules, owned_word_rules};
-    ghost use Rattle.seg_words.specs.Faults.{HasWordTableFault, HasWordMachineFault};
+    ghost use Rattle.seg_words.specs.WordFaults.{HasWordTableFault, HasWordMachineFault};
 
     /// A segmenter by a pair table and its override, if there is one; a run of complex characters (those of the class
     /// `complex_property`) is cut after each of its pieces of one script. The pair table of clusters is for words of
@@ -257,7 +257,7 @@ pub struct WordSegmenterBorrowed<'data> {
 
 impl<'data> WordSegmenterBorrowed<'data> {
     ghost use Rattle.seg_words.specs.Words.{word_rules, words_left, word_type};
-    ghost use Rattle.seg_words.specs.Faults.{HasWordTableFault, HasWordMachineFault};
+    ghost use Rattle.seg_words.specs.WordFaults.{HasWordTableFault, HasWordMachineFault};
 
     /// A segmenter by a pair table and its override, if there is one; a run of complex characters (those of the class
     /// `complex_property`) is cut after each of its pieces of one script. The pair table of clusters is for words of

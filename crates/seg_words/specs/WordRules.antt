@@ -8,7 +8,7 @@ use Rattle.seg_machine.specs.Segments.{machine_stretch}
 use Rattle.seg_pairs.specs.Runs.{HasComplexElement, complex_stretch}
 use Rattle.seg_engine.specs.Rules.{Rules}
 use Rattle.seg_engine.specs.Rules.Rules.{ByTable, ByMachine}
-use Rattle.seg_complex.specs.Runs.{at_end, run_cuts}
+use Rattle.seg_complex.specs.RunCuts.{at_end, run_cuts}
 use Rattle.seg_words.specs.declared.word.WordType.{WordType}
 use Rattle.seg_words.specs.declared.word.WordType.TheVariants.{None as NoWord, Number, Letter}
 
