@@ -55,8 +55,8 @@ pub enum WordType {
 
 impl WordType {
     /// Whether it is a word: a number or one of letters.
-    pub fn is_word_like(self) -> bool
-        ensures { result ≡ is_word_like self }
+    pub fn is_word_like(&self) -> bool
+        ensures { result ≡ is_word_like self.now }
     {
         match self {
             WordType::None => false,
