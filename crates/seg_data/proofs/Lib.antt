@@ -4,3 +4,4 @@ pub mod Ranges
 pub mod Runs
 pub mod Paged
 pub mod Lowest
+pub mod Ordered

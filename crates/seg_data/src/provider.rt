@@ -8,7 +8,7 @@ mod table;
 mod tests;
 
 pub use language::LanguageIdentifier;
-pub use table::ClassTable;
+pub use table::{ClassTable, value_by_halving};
 use thiserror::Error;
 
 /// The script of a run of text whose words only a dictionary or a model can tell apart.

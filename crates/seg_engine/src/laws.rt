@@ -1,8 +1,9 @@
 //! Laws of the boundaries of texts, whatever rules they are found by.
 
-ghost use Rattle.seg_text.specs.Boundaries.{HasRestart};
+ghost use Rattle.seg_text.specs.Boundaries.{HasEqualOrdinals, HasRestart};
+ghost use Rattle.seg_text.specs.Stretches.{HasOneAnswer};
 ghost use Rattle.seg_engine.specs.Engine.{rules_of};
-ghost use Rattle.seg_engine.specs.Rules.{HasEqualOrdinals, HasOneAnswer, boundaries_by};
+ghost use Rattle.seg_engine.specs.Rules.{boundaries_by, first_stretch};
 
 use crate::engine::Engine;
 
@@ -10,7 +11,7 @@ use crate::engine::Engine;
 /// other one comes from the first stretch of what is left. Such a stretch is the machine's pick, or what the verdict of the
 /// table takes.
 pub fn boundaries_are_one(engine: Engine<'_>)
-    ensures { HasOneAnswer (rules_of engine.entry) }
+    ensures { HasOneAnswer (first_stretch (rules_of engine.entry)) }
 {
     let _ = engine;
 }
@@ -18,7 +19,7 @@ pub fn boundaries_are_one(engine: Engine<'_>)
 /// Law: two texts with equal code points, in whatever encodings, have the same boundaries, counted in code points, with
 /// the same statuses: one function of the rules and of the decoded list, which names no place, length or encoding.
 pub fn equal_code_points(engine: Engine<'_>)
-    ensures { HasEqualOrdinals (rules_of engine.entry) }
+    ensures { HasEqualOrdinals (boundaries_by (rules_of engine.entry)) }
 {
     let _ = engine;
 }

@@ -58,4 +58,4 @@ machine-within m checked x xs =
     on (Some picked) is some =
         let bounds = pick-bounds m _ picked is (some-symbol m x xs) in
         let long : length (symbols_of m (x ∷ xs)) ≡ length (x ∷ xs) = length-map (x ∷ xs) (λ code_point. (symbol_and_script m code_point).0) in
-        record { some = bounds.0; within = omega (arith, bounds.1, long); ends = inr (picked.status, refl); last = λ none. cc }
+        record { some = bounds.0; within = omega (arith, bounds.1, long); rises = (picked.offset, omega arith, (bounds.0, refl)); last = λ all. (bounds.0, refl) }

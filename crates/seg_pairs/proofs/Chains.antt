@@ -1,23 +1,18 @@
--- Chains of verdicts, and the boundaries that they lead to.
-use Rattle.std.proofs.Common.{◌≡◌, ◌≢◌, ℕ, zero, suc, ◌+◌, ◌<◌, ◌≤◌, List, [], ◌∷◌, ◌++◌, length, drop, refl, sym, ap, ◌∙◌, subst, arith}
+-- Chains of verdicts.
+use Rattle.std.proofs.Common.{◌≡◌, ◌≢◌, ℕ, zero, suc, ◌+◌, ◌<◌, ◌≤◌, List, [], ◌∷◌, length, drop, refl, sym, ap, ◌∙◌, subst, arith}
 use Rattle.std.proofs.lemmas.List.{length-drop, drop-drop}
 use Rattle.seg_pairs.specs.Verdict.{Verdict}
 use Rattle.seg_pairs.specs.Verdict.Verdict.{BreakAfter, GoAfter, RunBegins}
-use Rattle.seg_text.specs.Boundaries.{boundary, shift_all}
-use Rattle.seg_text.specs.Stretches.{Stretch, later_boundaries, HasProgress}
-use Rattle.seg_text.proofs.Stretches.{later-next}
-use Rattle.seg_text.proofs.Restarts.{shifted-twice}
-use Rattle.seg_pairs.specs.Breaks.{status_of, stretch_of}
 use Rattle.seg_pairs.specs.Chains.{go_on, chain_within, chain, TakesOf, IsForward, HasNoRun}
 
 -- what is left after some, but not all
-record Left {X : Type 0} (n : ℕ) (xs : List X) : Type 0 where
-  first : X
-  others : List X
-  same : drop n xs ≡ first ∷ others
-  fewer : n + length (first ∷ others) ≡ length xs
+pub record Left {X : Type 0} (n : ℕ) (xs : List X) : Type 0 where
+  pub first : X
+  pub others : List X
+  pub same : drop n xs ≡ first ∷ others
+  pub fewer : n + length (first ∷ others) ≡ length xs
 
-left-after : {X : Type 0} (n : ℕ) (xs : List X) → n < length xs → Left n xs
+pub left-after : {X : Type 0} (n : ℕ) (xs : List X) → n < length xs → Left n xs
 left-after {X} n xs less = on (drop n xs) refl
   where
     on : (rest : List X) → drop n xs ≡ rest → Left n xs
@@ -29,14 +24,14 @@ left-after {X} n xs less = on (drop n xs) refl
       fewer = let long = length-drop n xs in let some = ap length is in omega (arith, long, some);
     }
 
+pub go_on-same : (f g : ℕ → ℕ × Verdict) (is : Verdict) → ((n : ℕ) → is ≡ GoAfter n → f n ≡ g n) → go_on f is ≡ go_on g is
+go_on-same f g (BreakAfter n class) same = refl
+go_on-same f g RunBegins same = refl
+go_on-same f g (GoAfter n) same = ap (λ (found : ℕ × Verdict). (n + found.0, found.1)) (same n refl)
+
 module _ {X : Type 0} (v : List X → Verdict) (forward : IsForward v) where
   takes : (x : X) (xs : List X) (is : Verdict) → v (x ∷ xs) ≡ is → TakesOf (length (x ∷ xs)) is
   takes x xs is same = subst (TakesOf (length (x ∷ xs))) same (forward x xs)
-
-  go_on-same : (f g : ℕ → ℕ × Verdict) (is : Verdict) → ((n : ℕ) → is ≡ GoAfter n → f n ≡ g n) → go_on f is ≡ go_on g is
-  go_on-same f g (BreakAfter n class) same = refl
-  go_on-same f g RunBegins same = refl
-  go_on-same f g (GoAfter n) same = ap (λ (found : ℕ × Verdict). (n + found.0, found.1)) (same n refl)
 
   -- more than the elements that there are is no matter
   chain-more : (most more : ℕ) (x : X) (xs : List X) → length (x ∷ xs) ≤ most → length (x ∷ xs) ≤ more → chain_within v most (x ∷ xs) ≡ chain_within v more (x ∷ xs)
@@ -108,60 +103,3 @@ on_chain-go v whole x next xs after n forward on goes is =
       passed = omega (arith, on.passed, ap (λ (found : ℕ × Verdict). found.0) step, ap (λ rest. (chain v rest).0) is);
       last = on.last ∙ ap (λ (found : ℕ × Verdict). found.1) step ∙ ap (λ rest. (chain v rest).1) is;
     }
-
--- the boundary that a chain ends in is the first, and those after it are those of what is left
-module _ {X : Type 0} (v : List X → Verdict) (forward : IsForward v) (statuses : List ℕ) (first : List X → Stretch)
-    (by : (x : X) (xs : List X) → first (x ∷ xs) ≡ stretch_of statuses (length (x ∷ xs)) (v (x ∷ xs))) where
-  pub by-going : HasProgress first
-  by-going x xs = rw (by x xs) (on (v (x ∷ xs)) (forward x xs))
-    where
-      on : (w : Verdict) → TakesOf (length (x ∷ xs)) w → 0 < (stretch_of statuses (length (x ∷ xs)) w).extent
-      on (BreakAfter n class) bounds = bounds.0
-      on (GoAfter n) bounds = bounds.0
-      on RunBegins bounds = omega arith
-
-  -- the boundaries of some elements are one, after so many, and those of what is left
-  abbrev Begins : List X → ℕ → ℕ → Type 0
-  Begins xs n class = later_boundaries first xs ≡ boundary n (status_of statuses class) ∷ shift_all n (later_boundaries first (drop n xs))
-
-  begins-go : (n m class : ℕ) (xs : List X) → Begins (drop n xs) m class → shift_all n (later_boundaries first (drop n xs))
-      ≡ boundary (n + m) (status_of statuses class) ∷ shift_all (n + m) (later_boundaries first (drop (n + m) xs))
-  begins-go n m class xs begins =
-      let moved : m + n ≡ n + m = omega arith in
-      rw (begins, shifted-twice n m, drop-drop m n xs, ← moved) refl
-
-  chain-begins : (most : ℕ) (x : X) (xs : List X) (gone n class : ℕ) → length (x ∷ xs) ≤ most → chain v (x ∷ xs) ≡ (gone, BreakAfter n class)
-      → Begins (x ∷ xs) (gone + n) class
-  chain-begins zero x xs gone n class bound found = absurd (omega arith)
-  chain-begins (suc most) x xs gone n class bound found =
-      on (v (x ∷ xs)) refl (forward x xs) (λ y ys g. chain-begins most y ys g n class)
-    where
-      next : later_boundaries first (x ∷ xs) ≡ (first (x ∷ xs)).boundaries ++ shift_all (first (x ∷ xs)).extent (later_boundaries first (drop (first (x ∷ xs)).extent (x ∷ xs)))
-      next = later-next first by-going x xs
-
-      on : (w : Verdict) → v (x ∷ xs) ≡ w → TakesOf (length (x ∷ xs)) w
-          → ((y : X) (ys : List X) (g : ℕ) → length (y ∷ ys) ≤ most → chain v (y ∷ ys) ≡ (g, BreakAfter n class) → Begins (y ∷ ys) (g + n) class)
-          → Begins (x ∷ xs) (gone + n) class
-      on (BreakAfter m with_class) is bounds later =
-          let same = sym (chain-break v forward x xs m with_class is) ∙ found in
-          let gone_is : 0 ≡ gone = ap (λ (f : ℕ × Verdict). f.0) same in
-          let verdict_is : BreakAfter m with_class ≡ BreakAfter n class = ap (λ (f : ℕ × Verdict). f.1) same in
-          let taken_is : m ≡ n = cc in
-          let class_is : with_class ≡ class = cc in
-          let sum : gone + n ≡ m = omega arith in
-          rw (sum, ← class_is) (rw (by x xs, is) at next)
-      on (GoAfter m) is bounds later =
-          let left = left-after m (x ∷ xs) bounds.1 in
-          let same = sym (chain-go v forward x xs m is) ∙ found in
-          let rest : chain v (drop m (x ∷ xs)) ≡ ((chain v (drop m (x ∷ xs))).0, BreakAfter n class) = ap (λ (w : Verdict). ((chain v (drop m (x ∷ xs))).0, w)) (ap (λ (f : ℕ × Verdict). f.1) same) in
-          let sum : m + (chain v (drop m (x ∷ xs))).0 ≡ gone = ap (λ (f : ℕ × Verdict). f.0) same in
-          let whole : gone + n ≡ m + ((chain v (drop m (x ∷ xs))).0 + n) = omega (arith, sum) in
-          let begins : Begins (drop m (x ∷ xs)) ((chain v (drop m (x ∷ xs))).0 + n) class =
-          subst (λ rest. chain v rest ≡ ((chain v rest).0, BreakAfter n class) → Begins rest ((chain v rest).0 + n) class) (sym left.same)
-          (later left.first left.others (chain v (left.first ∷ left.others)).0 (omega (arith, left.fewer, bounds.0))) rest in
-          rw whole ((rw (by x xs, is) at next) ∙ begins-go m ((chain v (drop m (x ∷ xs))).0 + n) class (x ∷ xs) begins)
-      on RunBegins is bounds later =
-          let same : RunBegins ≡ BreakAfter n class = ap (λ (f : ℕ × Verdict). f.1) (sym (chain-run v forward x xs is) ∙ found) in cc
-
-  pub chain-first : (x : X) (xs : List X) (gone n class : ℕ) → chain v (x ∷ xs) ≡ (gone, BreakAfter n class) → Begins (x ∷ xs) (gone + n) class
-  chain-first x xs gone n class found = chain-begins (length (x ∷ xs)) x xs gone n class (omega arith) found

@@ -1,5 +1,5 @@
 -- What an engine gives, call by call.
-use Rattle.std.proofs.Common.{◌≡◌, ℕ, zero, suc, ◌+◌, ◌<◌, inl, inr, Bool, true, false, Option, Some, None, List, [], ◌∷◌, length, map, drop, refl, sym, ap, ◌∙◌, subst, arith}
+use Rattle.std.proofs.Common.{◌≡◌, ◌≢◌, ℕ, zero, suc, ◌+◌, ◌<◌, inl, inr, Bool, true, false, Option, Some, None, List, [], ◌∷◌, length, map, drop, refl, sym, ap, ◌∙◌, subst, arith}
 use Rattle.std.specs.Prelude.{⊤, IfSome}
 use Rattle.std.specs.Iterator.{YieldsFirst, MakesProgress, item_count}
 use Rattle.std.proofs.lemmas.List.{drop-map, length-map}
@@ -24,7 +24,8 @@ use Rattle.seg_pairs.specs.Chains.{chain, TakesOf}
 use Rattle.seg_pairs.specs.Elements.{classes_of, class_text, onto, place_at}
 use Rattle.seg_pairs.specs.Items.{elements_of}
 use Rattle.seg_pairs.specs.Steps.{EndsIn, IsRest}
-use Rattle.seg_pairs.proofs.Chains.{chain-no-run, chain-first}
+use Rattle.seg_pairs.proofs.Chained.{chain-first}
+use Rattle.seg_pairs.proofs.Chains.{chain-no-run}
 use Rattle.seg_pairs.proofs.Forward.{verdict-forward, verdict-no-run, on-classes}
 
 pub read-onto : {S : Type 0} (left : S → List Element) (s : S) (first : Option Element) (t : S) → YieldsFirst left s first t → left s ≡ onto first (left t)
@@ -39,21 +40,30 @@ none-left pairs (item ∷ items) none = cc
 abbrev pub element_verdict : PairTable → List Element → Verdict
 element_verdict t elements = verdict t (classes_of elements)
 
--- stretches by a table alone: each takes some of what is left, and ends with its one boundary
+-- stretches by a table alone: each takes some of what is left, and ends with its one boundary where it has one
 
 class-is : (t : PairTable) (class : ℕ) (classes : List ℕ) → class_stretch t (class ∷ classes) ≡ stretch_of t.rule_status_table (length (class ∷ classes)) (verdict t (class ∷ classes))
 unfolding class_stretch
 class-is t class classes = refl
 
+-- a verdict that begins no run takes some of what is left
+pub verdict-within : (statuses : List ℕ) (count : ℕ) (w : Verdict) → TakesOf count w → w ≢ RunBegins → IsWithin count (stretch_of statuses count w)
+verdict-within statuses count (BreakAfter n class) takes other = record { some = takes.0; within = takes.1; rises = (n, omega arith, (takes.0, refl)); last = λ all. (takes.0, refl) }
+verdict-within statuses count (GoAfter n) takes other = record { some = takes.0; within = omega (arith, takes.1); rises = (0, omega arith, refl); last = λ all. absurd (omega (arith, all, takes.1)) }
+verdict-within statuses count RunBegins takes other = absurd (other refl)
+
 class-within : (t : PairTable) (class : ℕ) (classes : List ℕ) → IsWithin (length (class ∷ classes)) (class_stretch t (class ∷ classes))
 unfolding class_stretch
-class-within t class classes = on (verdict t (class ∷ classes)) refl (verdict-forward t class classes)
+class-within t class classes = verdict-within t.rule_status_table (length (class ∷ classes)) (verdict t (class ∷ classes)) (verdict-forward t class classes) (verdict-no-run t class classes)
+
+class-alone : (t : PairTable) (classes : List ℕ) → HasEndAlone (class_stretch t classes)
+unfolding class_stretch
+class-alone t classes = on (verdict t classes)
   where
-    on : (w : Verdict) → verdict t (class ∷ classes) ≡ w → TakesOf (length (class ∷ classes)) w
-        → IsWithin (length (class ∷ classes)) (stretch_of t.rule_status_table (length (class ∷ classes)) w)
-    on (BreakAfter n c) is takes = record { some = takes.0; within = takes.1; ends = inr (status_of t.rule_status_table c, refl); last = λ none. cc }
-    on (GoAfter n) is takes = record { some = takes.0; within = omega (arith, takes.1); ends = inl refl; last = λ none. takes.1 }
-    on RunBegins is takes = absurd (verdict-no-run t class classes is)
+    on : (w : Verdict) → HasEndAlone (stretch_of t.rule_status_table (length classes) w)
+    on (BreakAfter n c) = inr (status_of t.rule_status_table c, refl)
+    on (GoAfter n) = inl refl
+    on RunBegins = inl refl
 
 pub table-within : (t : PairTable) (overriding : Option Table) (x : ℕ) (xs : List ℕ) → IsWithin (length (x ∷ xs)) (table_stretch t overriding (x ∷ xs))
 table-within t overriding x xs =
@@ -64,7 +74,7 @@ pub table-going : (t : PairTable) (overriding : Option Table) → HasProgress (t
 table-going t overriding x xs = (table-within t overriding x xs).some
 
 pub table-alone : (t : PairTable) (overriding : Option Table) (x : ℕ) (xs : List ℕ) → HasEndAlone (table_stretch t overriding (x ∷ xs))
-table-alone t overriding x xs = (table-within t overriding x xs).ends
+table-alone t overriding x xs = class-alone t (classes_by t overriding (x ∷ xs))
 
 -- elements as a text
 
@@ -109,7 +119,7 @@ ends-next t left elements end gone n class found =
 
 -- a new engine
 
-items-codes : (pairs : PairDataBorrowed) (items : List Item) → classes_of (elements_of pairs items) ≡ classes_by (pair_table_of pairs) (override_of pairs) (code_points items)
+pub items-codes : (pairs : PairDataBorrowed) (items : List Item) → classes_of (elements_of pairs items) ≡ classes_by (pair_table_of pairs) (override_of pairs) (code_points items)
 items-codes pairs [] = refl
 items-codes pairs (item ∷ items) = ap (λ (classes : List ℕ). class_of (pair_table_of pairs) (override_of pairs) item.1 ∷ classes) (items-codes pairs items)
 
@@ -175,6 +185,10 @@ pub gives-start : (t : PairTable) (elements : List Element) (end class place : �
     → Gives (Left started t elements end class) (Left true t elements end class) place
 gives-start t elements end class place started off none is = gives _ _ place (rw (off, none, is, class-start elements end) refl)
 
+pub rest-is : (next : Option Element) (rest whole : List Element) → IsRest next rest whole → onto next rest ≡ whole
+rest-is None rest whole (none, empty) = empty ∙ sym none
+rest-is (Some next) rest whole is = sym is
+
 pub gives-next : (t u : PairTable) (now : Option Element) (left : Element) (elements : List Element) (next : Option Element) (rest : List Element)
     (end after : ℕ) (started : Bool) (class next_class place : ℕ) → started ≡ true → now ≡ Some left
     → EndsIn (chain (element_verdict t) (left ∷ elements)) (left ∷ elements) (BreakOut next_class next) rest
@@ -183,10 +197,6 @@ pub gives-next : (t u : PairTable) (now : Option Element) (left : Element) (elem
 gives-next t u now left elements next rest end after started class next_class place on here ends same stays is =
     rw (on, here, same, stays, is, stays) (by (chain (element_verdict t) (left ∷ elements)) refl ends)
   where
-    rest-is : (next : Option Element) (rest whole : List Element) → IsRest next rest whole → onto next rest ≡ whole
-    rest-is None rest whole (none, empty) = empty ∙ sym none
-    rest-is (Some next) rest whole is = sym is
-
     by : (found : ℕ × Verdict) → chain (element_verdict t) (left ∷ elements) ≡ found → EndsIn found (left ∷ elements) (BreakOut next_class next) rest
         → Gives (Left true t (left ∷ elements) end class) (Left true t (onto next rest) end next_class) (place_at (onto next rest) end)
     by (gone, BreakAfter n with_class) found (class_is, left_is) =

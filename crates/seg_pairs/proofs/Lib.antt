@@ -3,5 +3,8 @@ pub mod Walks
 pub mod Landings
 pub mod Forward
 pub mod Chains
+pub mod Chained
+pub mod ComplexStretches
 pub mod Engine
+pub mod Events
 pub mod Rows

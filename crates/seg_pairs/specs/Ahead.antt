@@ -7,9 +7,10 @@ use Rattle.seg_pairs.specs.PairData.{pair_table_of}
 use Rattle.seg_pairs.specs.Elements.{onto}
 use Rattle.seg_pairs.specs.Items.{elements_of}
 
+-- the first element, where there is one, and the elements of the rest are those of the text
 pub record IsAhead (pairs : PairDataBorrowed) (text : Text) (next : Option Element) (rest_pairs : PairDataBorrowed) (rest : Text) : Type 0 where
   pub same : onto next (elements_of rest_pairs rest.items) ≡ elements_of pairs text.items
-  pub end : rest.end ≡ text.end
-  pub pairs : rest_pairs ≡ pairs
-  pub none : next ≡ None → rest.items ≡ []
+  pub same_end : rest.end ≡ text.end
+  pub same_table : pair_table_of rest_pairs ≡ pair_table_of pairs
+  pub empty : next ≡ None → rest.items ≡ []
   pub below : IfSome next (λ next. next.class < (pair_table_of pairs).property_count)

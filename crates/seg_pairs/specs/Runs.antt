@@ -1,6 +1,6 @@
 -- Boundaries by a pair table in texts with complex elements: a boundary stands before a complex element after another, and
 -- two begin a run, which is cut in some way. After a run the table goes on with the element that follows it.
-use Rattle.std.specs.Prelude.{◌≡◌, ◌≢◌, ℕ, ◌<◌, ◌==◌, Bool, Option, List, [], ◌∷◌, ◌++◌, length, take}
+use Rattle.std.specs.Prelude.{◌≡◌, ◌≢◌, ℕ, ◌<◌, ◌==◌, Bool, Option, List, [], ◌∷◌, ◌++◌, length, take, Contains}
 use Rattle.std.specs.List.{prefix_len}
 use Rattle.seg_text.specs.declared.boundary.Boundary.{Boundary}
 use Rattle.seg_text.specs.Items.{Text, code_points}
@@ -8,8 +8,10 @@ use Rattle.seg_text.specs.Boundaries.{boundary, boundaries_in}
 use Rattle.seg_text.specs.Cuts.{Cuts, AreCutsOf, with_status, cut_places}
 use Rattle.seg_text.specs.Stretches.{Stretch, later_boundaries}
 use Rattle.seg_data.specs.Table.{Table}
+use Rattle.seg_pairs.specs.declared.pair_data.PairDataBorrowed.{PairDataBorrowed}
 use Rattle.seg_pairs.specs.declared.runs.Event.{Event}
 use Rattle.seg_pairs.specs.declared.runs.Event.TheVariants.{End, Break, Run}
+use Rattle.seg_pairs.specs.PairData.{pair_table_of, override_of}
 use Rattle.seg_pairs.specs.PairTable.{PairTable, class_of}
 use Rattle.seg_pairs.specs.Verdict.{Verdict, complex_verdict}
 use Rattle.seg_pairs.specs.Verdict.Verdict.{BreakAfter, GoAfter, RunBegins}
@@ -17,6 +19,10 @@ use Rattle.seg_pairs.specs.Breaks.{status_of, stretch_of, classes_by}
 
 abbrev pub is_complex : PairTable → Option Table → ℕ → Bool
 is_complex t overriding code_point = class_of t overriding code_point == t.complex_property
+
+-- some of these code points are complex
+abbrev pub HasComplexElement : PairTable → Option Table → List ℕ → Type 0
+HasComplexElement t overriding code_points = Contains (classes_by t overriding code_points) t.complex_property
 
 -- a run has all code points up to the first that isn't complex
 abbrev pub run_length : PairTable → Option Table → List ℕ → ℕ
@@ -46,6 +52,9 @@ pub record Unread : Type 0 where
   pub table : PairTable
   pub overriding : Option Table
   pub text : Text
+
+abbrev pub unread_by : PairDataBorrowed → Text → Unread
+unread_by pairs text = record { table = pair_table_of pairs; overriding = override_of pairs; text = text }
 
 -- the boundaries of an unread text but that at its start
 abbrev pub unread_boundaries : Cuts → Unread → List Boundary

@@ -125,7 +125,11 @@ pub fn rule_status(table: &RuleBreakData, class: u8) -> u8
     ensures { result ≡ status_of table.now.rule_status_table class }
 {
     match class.checked_sub(1) {
-        Some(index) => table.rule_status_table().get(index as usize).copied().unwrap_or(0),
+        Some(index) => table
+            .rule_status_table()
+            .get(index as usize)
+            .copied()
+            .unwrap_or(0),
         None => 0,
     }
 }

@@ -1,13 +1,13 @@
 //! Boundaries by a pair table of a text with complex elements, as far as the table finds them: runs of complex elements are
 //! given as texts of their own, to be cut in some other way.
 
-ghost use Rattle.std.specs.Prelude.{◌≡◌};
+ghost use Rattle.std.specs.Prelude.{◌≡◌, []};
 ghost use Rattle.seg_text.specs.Items.{start_of};
-ghost use Rattle.seg_pairs.specs.PairData.{pair_table_of, override_of};
-ghost use Rattle.seg_pairs.specs.Runs.{LeadsTo, GoesOn, is_complex};
+ghost use Rattle.seg_pairs.specs.Runs.{LeadsTo, GoesOn, unread_by};
 
 use crate::elements::{Element, Elements, Items};
 use crate::pair_data::PairDataBorrowed;
+use crate::provider::RuleBreakData;
 use crate::rule_segmenter_v1::place_before;
 use crate::verdicts::{ComplexVerdicts, Outcome, next_break};
 use seg_text::cursor::Cursor;
@@ -54,14 +54,12 @@ pub struct Events<'data, I: Cursor> {
 }
 
 impl<'data, I: Cursor> Model for Events<'data, I> {
-    ghost use Rattle.seg_pairs.specs.Runs.{Unread};
-    ghost use Rattle.seg_pairs.specs.PairData.{pair_table_of, override_of};
-    ghost use Rattle.seg_pairs.specs.Items.{elements_of};
+    ghost use Rattle.seg_pairs.specs.Runs.{Unread, unread_by};
     ghost use Rattle.seg_pairs.specs.Ahead.{IsAhead};
 
     ghost Value = { Unread };
 
-    ghost view = { λ s. record { table = pair_table_of s.pairs; overriding = override_of s.pairs; text = I.text s.here } };
+    ghost view = { λ s. unread_by s.pairs (I.text s.here) };
 
     ghost invariant = { λ s. IsAhead s.pairs (I.text s.here) s.next s.rest.pairs (I.text s.rest.cursor) };
 }
@@ -69,7 +67,7 @@ impl<'data, I: Cursor> Model for Events<'data, I> {
 impl<'data, I: Cursor> Events<'data, I> {
     /// The events of what is left of a text. Takes no memory.
     pub fn new(pairs: PairDataBorrowed<'data>, text: I) -> Self
-        ensures { result ≡ record { table = pair_table_of pairs.entry; overriding = override_of pairs.entry; text = I.text text } }
+        ensures { result ≡ unread_by pairs.entry (I.text text) }
     {
         let mut rest = Items {
             pairs,
@@ -82,6 +80,13 @@ impl<'data, I: Cursor> Events<'data, I> {
             next,
             rest,
         }
+    }
+
+    /// The pair table.
+    pub fn table(&self) -> &'data RuleBreakData
+        ensures { result.now ≡ self.now.table }
+    {
+        self.pairs.table()
     }
 
     /// Where the text that is left begins.

@@ -1,7 +1,7 @@
 -- What the cursor over units owes, over any encoding in them.
 use Rattle.std.proofs.Common.{◌≡◌, ℕ, ◌+◌, ◌-◌, ◌<◌, ◌≤◌, List, [], ◌∷◌, length, take, drop, refl, ap, sym, nat_eq, arith}
 use Rattle.std.proofs.lemmas.List.{length-drop, drop-drop, drop_all}
-use Rattle.seg_text.specs.Items.{Text, start_of, rest_after, slice_of}
+use Rattle.seg_text.specs.Items.{Text, start_of, rest_after, slice_of, text_before}
 use Rattle.seg_text.specs.Lemmas.Encodings.{IsEncoding, coded}
 use Rattle.seg_text.specs.Lemmas.Readers.{place_of-items_by}
 use Rattle.seg_text.proofs.Cursors as over
@@ -44,6 +44,18 @@ module _ {U C : Type 0} {read : List U → ℕ × C} {code : C → ℕ} {charact
       rw (encoding.is 0 (take (to - from) (drop from units)), encoding.is start (drop start units))
       (over_slice.slice-text (coded read code) encoding.stable j k from to start units inside
       (rw (encoding.is start (drop start units)) at begins) (rw (encoding.is start (drop start units)) at ends))
+
+  -- the units before the place of the k-th item, from the cursor on
+  pub up_to-found : (k to start : ℕ) (units : List U) → start ≤ length units
+      → to ≡ start_of (rest_after k (text start (drop start units)))
+      → (to ≤ length units) × (start ≤ length (take to units))
+      × (text start (drop start (take to units)) ≡ text_before k (text start (drop start units)))
+  up_to-found k to start units inside ends =
+      let found = over_slice.up_to-found (coded read code) encoding.stable k to start units inside (rw (encoding.is start (drop start units)) at ends) in (
+        found.within,
+        omega (arith, found.long, found.after),
+        rw (encoding.is start (drop start (take to units)), encoding.is start (drop start units)) found.before,
+      )
 
   pub taken-within : (start : ℕ) (units : List U) (found : ℕ × C) → start < length units
       → found ≡ read (drop start units) → start + found.0 ≤ length units

@@ -13,3 +13,4 @@ pub mod Stretches
 pub mod Restarts
 pub mod Covers
 pub mod Encodings
+pub mod Passing

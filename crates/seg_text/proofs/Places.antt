@@ -1,9 +1,9 @@
--- The places of items that rise, and boundaries that stand at them.
-use Rattle.std.proofs.Common.{◌≡◌, ℕ, zero, suc, ◌<◌, ◌≤◌, List, [], ◌∷◌, ◌++◌, map, drop, refl, ap, sym, arith}
+-- The places of items that rise, and boundaries that stand at them, or later.
+use Rattle.std.proofs.Common.{◌≡◌, ℕ, zero, suc, ◌+◌, ◌<◌, ◌≤◌, List, [], ◌∷◌, ◌++◌, map, drop, refl, ap, sym, arith}
 use Rattle.std.proofs.lemmas.List.{drop-drop, drop-map}
 use Rattle.seg_text.specs.Items.{Item, Text, place_of, rest_after, code_points, IsRising}
 use Rattle.seg_text.specs.declared.boundary.Boundary.{Boundary}
-use Rattle.seg_text.specs.Boundaries.{shift_all, boundary_in}
+use Rattle.seg_text.specs.Boundaries.{shift, shift_all, boundary_in}
 
 pub IsRising-drop : (items : List Item) (end n : ℕ) → IsRising items end → IsRising (drop n items) end
 IsRising-drop items end zero rising = rising
@@ -33,3 +33,21 @@ pub in-append : (text : Text) (some others : List Boundary)
     → map (boundary_in text) (some ++ others) ≡ map (boundary_in text) some ++ map (boundary_in text) others
 in-append text [] others = refl
 in-append text (boundary ∷ some) others = ap (λ (rest : List Boundary). boundary_in text boundary ∷ rest) (in-append text some others)
+
+-- boundaries so much later
+
+pub shifted-none : (boundaries : List Boundary) → shift_all 0 boundaries ≡ boundaries
+shifted-none [] = refl
+shifted-none (boundary ∷ boundaries) =
+    let none : 0 + boundary.offset ≡ boundary.offset = omega arith in
+    rw (none, shifted-none boundaries) refl
+
+pub shifted-twice : (n m : ℕ) (boundaries : List Boundary) → shift_all n (shift_all m boundaries) ≡ shift_all (n + m) boundaries
+shifted-twice n m [] = refl
+shifted-twice n m (boundary ∷ boundaries) =
+    let sum : n + (m + boundary.offset) ≡ (n + m) + boundary.offset = omega arith in
+    rw (sum, shifted-twice n m boundaries) refl
+
+pub shifted-append : (n : ℕ) (some others : List Boundary) → shift_all n (some ++ others) ≡ shift_all n some ++ shift_all n others
+shifted-append n [] others = refl
+shifted-append n (boundary ∷ some) others = ap (λ (rest : List Boundary). shift n boundary ∷ rest) (shifted-append n some others)

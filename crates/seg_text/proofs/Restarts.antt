@@ -7,19 +7,8 @@ use Rattle.std.proofs.lemmas.Option.{slice_get-map, same_Some, none-some}
 use Rattle.seg_text.specs.declared.boundary.Boundary.{Boundary}
 use Rattle.seg_text.specs.Boundaries.{start, shift, shift_all, HasRestart}
 use Rattle.seg_text.specs.Stretches.{Stretch, later_boundaries, list_boundaries, HasProgress, HasEndAlone}
+use Rattle.seg_text.proofs.Places.{shifted-none, shifted-twice}
 use Rattle.seg_text.proofs.Stretches.{later-nil, later-next}
-
-shifted-none : (boundaries : List Boundary) → shift_all 0 boundaries ≡ boundaries
-shifted-none [] = refl
-shifted-none (boundary ∷ boundaries) =
-    let none : 0 + boundary.offset ≡ boundary.offset = omega arith in
-    rw (none, shifted-none boundaries) refl
-
-pub shifted-twice : (n m : ℕ) (boundaries : List Boundary) → shift_all n (shift_all m boundaries) ≡ shift_all (n + m) boundaries
-shifted-twice n m [] = refl
-shifted-twice n m (boundary ∷ boundaries) =
-    let sum : n + (m + boundary.offset) ≡ (n + m) + boundary.offset = omega arith in
-    rw (sum, shifted-twice n m boundaries) refl
 
 -- what was shifted
 unshifted : (n : ℕ) (found : Option Boundary) (boundary : Boundary) → option_map (shift n) found ≡ Some boundary

@@ -1,7 +1,7 @@
--- The items of a slice, over any reader that stops where an item ends.
+-- The items of a slice, and of the units before a place, over any reader that stops where an item ends.
 use Rattle.std.proofs.Common.{◌≡◌, ℕ, zero, suc, ◌+◌, ◌-◌, ◌<◌, ◌≤◌, List, [], ◌∷◌, length, take, drop, refl, ap, sym, ◌∙◌, arith}
-use Rattle.std.proofs.lemmas.List.{length-take, length-drop, drop-drop, drop-take}
-use Rattle.seg_text.specs.Items.{Text, slice_of, place_of, items_by, shifted_back, Reader}
+use Rattle.std.proofs.lemmas.List.{length-take, length-take-le, length-drop, drop-drop, drop-take}
+use Rattle.seg_text.specs.Items.{Item, Text, slice_of, text_before, text_by, start_of, rest_after, place_of, items_by, shifted_back, Reader}
 use Rattle.seg_text.specs.Lemmas.Readers.{IsReader, IsStable, items_by-nil, items_by-cons, place_of-items_by}
 use Rattle.seg_text.proofs.Cursors.{items_by-from, seek-within, seek-left, seek-end}
 
@@ -98,3 +98,35 @@ slice-text read stable j k from to start text inside begins ends =
     let long : 0 + length (take (to - from) (drop from text)) ≡ to - from =
     omega (arith, length-take (to - from) (drop from text), length-drop from text) in
     rw (found.1, long, ← begins, ← ends) refl
+
+-- the units before the place of the k-th item: their places stay, so nothing is taken off them
+
+shifted-none : (items : List Item) → shifted_back 0 items ≡ items
+shifted-none [] = refl
+shifted-none ((place, code_point) ∷ items) =
+    let same : place - 0 ≡ place = omega arith in
+    rw (same, shifted-none items) refl
+
+-- from the cursor on, where the text is `text` and `start` the place of the cursor
+pub record IsUpTo {U : Type 0} (read : Reader U) (k to start : ℕ) (text : List U) : Type 0 where
+  pub after : start ≤ to
+  pub within : to ≤ length text
+  pub long : length (take to text) ≡ to
+  pub units : drop start (take to text) ≡ take (to - start) (drop start text)
+  pub before : text_by read start (drop start (take to text)) ≡ text_before k (text_by read start (drop start text))
+
+pub up_to-found : {U : Type 0} (read : Reader U) → IsStable read → (k to start : ℕ) (text : List U) → start ≤ length text
+    → to ≡ start_of (rest_after k (text_by read start (drop start text))) → IsUpTo read k to start text
+up_to-found read stable k to start text inside ends =
+    let after : start ≤ to = rw ends (place-after read stable.reader k start (drop start text)) in
+    let within : to ≤ length text = seek-within read stable.reader k to start text inside ends in
+    let long : length (take to text) ≡ to = length-take-le to text within in
+    let parts : start + (to - start) ≡ to = omega (arith, after) in
+    let units : drop start (take to text) ≡ take (to - start) (drop start text) =
+    ap (λ n. drop start (take n text)) (sym parts) ∙ drop-take start (to - start) text in
+    let none : start - 0 ≡ start = omega arith in
+    let found = slice-items read stable k 0 start (to - start) (drop start text) (omega arith) (parts ∙ ends) in
+    let items : items_by read start (drop start (take to text)) ≡ take k (items_by read start (drop start text)) =
+    rw units (rw (none, shifted-none (take k (items_by read start (drop start text)))) at found) in
+    let end : start + length (drop start (take to text)) ≡ to = omega (arith, length-drop start (take to text), long, after) in
+    record { after = after; within = within; long = long; units = units; before = rw (items, end, ← ends) refl }

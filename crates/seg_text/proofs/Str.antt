@@ -2,7 +2,7 @@
 use Rattle.std.proofs.Common.{◌≡◌, ℕ, zero, suc, ◌+◌, ◌-◌, ◌/◌, ◌%◌, ◌<◌, ◌≤◌, ◌⊎◌, inl, inr, true, List, [], ◌∷◌, ◌++◌, length, get_or, take, drop, length-append, length-drop, refl, ap, sym, ◌∙◌, arith}
 use Rattle.std.proofs.lemmas.Bool.{cases_lt, and_parts}
 use Rattle.std.proofs.lemmas.List.{take_at, drop_at, drop_all, drop-drop}
-use Rattle.std.proofs.lemmas.Str.{IsCharBoundary-from_drop, length-encode, len_utf8_bounds, chars-encodes, cons_from_encodes}
+use Rattle.std.proofs.lemmas.Str.{IsUtf8-take, IsCharBoundary-from_drop, length-encode, len_utf8_bounds, chars-encodes, cons_from_encodes}
 use Rattle.std.specs.Prelude.{slice_index_or}
 use Rattle.std.specs.Char.{IsScalar, encode_utf8}
 use Rattle.std.specs.Str.{IsUtf8, IsCharBoundary, all_scalars, chars, encode_utf8_all}
@@ -12,7 +12,9 @@ use Rattle.seg_text.specs.Items.{IsTiling, place_of, items_by, code_points, Read
 use Rattle.seg_text.specs.Lemmas.Readers.{items_by-nil, items_by-cons, place_of-items_by}
 use Rattle.seg_text.specs.Lemmas.Rising.{read_utf8-reader}
 use Rattle.seg_text.specs.Utf8.{rows, trail, IsWellFormed, ReadsWellFormed, scalar_of, read_utf8, utf8_items, Range}
+use Rattle.seg_text.specs.Lemmas.Utf8Stable.{read_utf8-stable}
 use Rattle.seg_text.proofs.Cursors.{seek-within, taken-within}
+use Rattle.seg_text.proofs.Slice.{up_to-found}
 use Rattle.seg_text.proofs.Utf8.{read_utf8-of}
 use Rattle.seg_text.proofs.Utf8Reads.{ascii-at}
 
@@ -217,6 +219,21 @@ pub seek-boundary : (k place start : ℕ) (text : List ℕ) → start ≤ length
 seek-boundary k place start text inside is here =
     IsCharBoundary-from_drop text place (seek-within read_utf8 read_utf8-reader k place start text inside here)
     (seek-utf8 k place start text inside is here)
+
+-- the units before the place of an item, from the cursor on
+pub up_to-utf8 : (k to start : ℕ) (text : List ℕ) → start ≤ length text → IsUtf8 (drop start text)
+    → to ≡ place_of (drop k (items_by read_utf8 start (drop start text))) (start + length (drop start text))
+    → (start ≤ length (take to text)) × IsUtf8 (drop start (take to text))
+up_to-utf8 k to start text inside is here =
+    let found = up_to-found read_utf8 read_utf8-stable k to start text inside here in
+    let parts : start + (to - start) ≡ to = omega (arith, found.after) in
+    let rest : IsUtf8 (drop (to - start) (drop start text)) =
+    rw (drop-drop (to - start) start text, parts) (seek-utf8 k to start text inside is here) in (
+      omega (arith, found.long, found.after),
+      rw found.units
+          (IsUtf8-take (drop start text) (to - start) is
+          (IsCharBoundary-from_drop (drop start text) (to - start) (omega (arith, length-drop start text, found.within)) rest)),
+    )
 
 -- ---- what the code reads
 

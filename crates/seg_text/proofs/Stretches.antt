@@ -3,8 +3,8 @@ use Rattle.std.proofs.Common.{◌≡◌, ℕ, zero, suc, ◌<◌, ◌≤◌, Lis
 use Rattle.std.proofs.lemmas.List.{length-drop, length-map, drop-map}
 use Rattle.seg_text.specs.Items.{Item, Text, rest_after, code_points}
 use Rattle.seg_text.specs.declared.boundary.Boundary.{Boundary}
-use Rattle.seg_text.specs.Boundaries.{shift_all, boundary_in, boundaries_in}
-use Rattle.seg_text.specs.Stretches.{Stretch, AreLaterBoundaries, later_boundaries_within, later_boundaries, HasProgress}
+use Rattle.seg_text.specs.Boundaries.{start, shift_all, boundary_in, boundaries_in, HasEqualOrdinals}
+use Rattle.seg_text.specs.Stretches.{Stretch, AreLaterBoundaries, later_boundaries_within, later_boundaries, HasOneAnswer, HasProgress}
 use Rattle.seg_text.proofs.Places.{in-append, in-shift, code_points-drop}
 
 fewer : {X : Type 0} (n most : ℕ) (x : X) (xs : List X) → 0 < n → length (x ∷ xs) ≤ suc most → length (drop n (x ∷ xs)) ≤ most
@@ -59,6 +59,16 @@ module _ {X : Type 0} (first : List X → Stretch) (going : HasProgress first) w
 
   pub later-are : (xs : List X) → (stretches : List Stretch) × AreLaterBoundaries first xs stretches (later_boundaries first xs)
   later-are xs = later-are-within (length xs) xs (omega arith)
+
+  pub one-answer : HasOneAnswer first
+  one-answer = record {
+    exists = λ xs. let are = later-are xs in (are.0, (_, refl, are.1));
+    only = λ xs found are. are.1.1 ∙ ap (λ (later : List Boundary). start ∷ later) (later-only xs are.0 are.1.0 are.1.2);
+  }
+
+-- boundaries are found in the code points alone
+pub equal-ordinals : (find : List ℕ → List Boundary) → HasEqualOrdinals find
+equal-ordinals find one other same = (find (code_points one.items), refl, ap (λ cps. map (boundary_in other) (find cps)) (sym same))
 
 pub text-later-nil : (first : List ℕ → Stretch) (end : ℕ) → boundaries_in (later_boundaries first) (record { items = []; end = end }) ≡ []
 text-later-nil first end = rw (later-nil first) refl

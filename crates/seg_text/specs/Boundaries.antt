@@ -39,12 +39,23 @@ abbrev pub IsCover : ℕ → ℕ → List Boundary → Type 0
 IsCover from end [] = ⊥
 IsCover from end (boundary ∷ boundaries) = (boundary.offset ≡ from) × RisesTo from boundaries end
 
+-- texts with equal code points, in whatever encodings, have the same boundaries, counted in code points
+abbrev pub HasEqualOrdinals : (List ℕ → List Boundary) → Type 0
+HasEqualOrdinals find =
+    (one other : Text) → code_points one.items ≡ code_points other.items
+    → (counted : List Boundary) × (boundaries_in find one ≡ map (boundary_in one) counted)
+    × (boundaries_in find other ≡ map (boundary_in other) counted)
+
 -- a list may be cut anew from any of its boundaries: after each come those of the rest, taken alone and shifted, all but
 -- its first, which is at 0
-abbrev pub HasRestart : {X : Type 0} → (List X → List Boundary) → Type 0
-HasRestart {X} find =
-    (xs : List X) (k : ℕ) (boundary : Boundary) → slice_get (find xs) k ≡ Some boundary
+abbrev pub RestartsIn : {X : Type 0} → (List X → List Boundary) → List X → Type 0
+RestartsIn find xs =
+    (k : ℕ) (boundary : Boundary) → slice_get (find xs) k ≡ Some boundary
     → drop (suc k) (find xs) ≡ shift_all boundary.offset (drop 1 (find (drop boundary.offset xs)))
+
+-- so may any list
+abbrev pub HasRestart : {X : Type 0} → (List X → List Boundary) → Type 0
+HasRestart {X} find = (xs : List X) → RestartsIn find xs
 
 -- what an engine has still to give, and the status of the boundary that it gave last: 0 at first and after the end
 pub record Remainder : Type 0 where

@@ -2,7 +2,7 @@
 use Rattle.std.specs.Prelude.{◌≡◌, ℕ, zero, suc, ◌<◌, ◌≤◌, ◌⊎◌, Bool, if◌then◌else◌, List, [], ◌∷◌, ◌++◌, length, drop}
 use Rattle.seg_text.specs.Items.{Text}
 use Rattle.seg_text.specs.declared.boundary.Boundary.{Boundary}
-use Rattle.seg_text.specs.Boundaries.{Remainder, boundary, start, shift_all, boundaries_in}
+use Rattle.seg_text.specs.Boundaries.{Remainder, RisesTo, boundary, start, shift_all, boundaries_in}
 
 -- how many elements a stretch has, and the boundaries in it, counted from its first element
 pub record Stretch : Type 0 where
@@ -35,6 +35,17 @@ later_boundaries first xs = later_boundaries_within first (length xs) xs
 abbrev pub list_boundaries : {X : Type 0} → (List X → Stretch) → List X → List Boundary
 list_boundaries first xs = start ∷ later_boundaries first xs
 
+-- the same as a relation: a boundary at the start, and then those of stretches that are each the first of what is left
+abbrev pub AreBoundaries : {X : Type 0} → (List X → Stretch) → List X → List Boundary → Type 0
+AreBoundaries first xs found =
+    (stretches : List Stretch) × ((later : List Boundary) × (found ≡ start ∷ later)
+    × AreLaterBoundaries first xs stretches later)
+
+-- each list has such boundaries, and no others
+pub record HasOneAnswer {X : Type 0} (first : List X → Stretch) : Type 0 where
+  pub exists : (xs : List X) → AreBoundaries first xs (list_boundaries first xs)
+  pub only : (xs : List X) (found : List Boundary) → AreBoundaries first xs found → found ≡ list_boundaries first xs
+
 -- what an engine over a text has still to give: all boundaries of it, or where it has started those of its stretches
 abbrev pub remainder : Bool → (List ℕ → Stretch) → Text → ℕ → Remainder
 remainder started first text status = record {
@@ -52,9 +63,9 @@ HasEndAlone stretch =
     (stretch.boundaries ≡ [])
     ⊎ ((status : ℕ) × (stretch.boundaries ≡ boundary stretch.extent status ∷ []))
 
--- of so many elements a stretch has some, and all of them only where it has a boundary, which is at its end
+-- of so many elements a stretch has some. Its boundaries rise strictly in it, and to its end where it has them all
 pub record IsWithin (count : ℕ) (stretch : Stretch) : Type 0 where
   pub some : 0 < stretch.extent
   pub within : stretch.extent ≤ count
-  pub ends : HasEndAlone stretch
-  pub last : stretch.boundaries ≡ [] → stretch.extent < count
+  pub rises : (end : ℕ) × (end ≤ stretch.extent) × RisesTo 0 stretch.boundaries end
+  pub last : stretch.extent ≡ count → RisesTo 0 stretch.boundaries stretch.extent

@@ -1,9 +1,10 @@
 //! Laws of the boundaries of grapheme clusters.
 
 ghost use Rattle.std.specs.Prelude.{◌≡◌};
-ghost use Rattle.seg_text.specs.Boundaries.{HasRestart};
+ghost use Rattle.seg_text.specs.Boundaries.{HasEqualOrdinals, HasRestart};
+ghost use Rattle.seg_text.specs.Stretches.{HasOneAnswer};
 ghost use Rattle.seg_text.specs.Utf8.{utf8};
-ghost use Rattle.seg_engine.specs.Rules.{HasEqualOrdinals, HasOneAnswer, boundaries_by, boundaries_of};
+ghost use Rattle.seg_engine.specs.Rules.{boundaries_by, boundaries_of, first_stretch};
 ghost use Rattle.seg_clusters.specs.Clusters.{cluster_rules, clusters_left};
 
 use crate::grapheme::{GraphemeClusterBreakIterator, GraphemeClusterSegmenterBorrowed};
@@ -14,7 +15,7 @@ use seg_text::scaffold::{PotentiallyIllFormedUtf8, Utf8};
 /// other one comes from the first stretch of what is left. Such a stretch is the machine's pick, or what the verdict of the
 /// table takes.
 pub fn boundaries_are_one(segmenter: GraphemeClusterSegmenterBorrowed<'_>)
-    ensures { HasOneAnswer (cluster_rules segmenter.entry) }
+    ensures { HasOneAnswer (first_stretch (cluster_rules segmenter.entry)) }
 {
     laws::boundaries_are_one(segmenter.engine);
 }
@@ -22,7 +23,7 @@ pub fn boundaries_are_one(segmenter: GraphemeClusterSegmenterBorrowed<'_>)
 /// Law: two texts with equal code points, in whatever encodings, have the same boundaries, counted in code points, with
 /// the same statuses: one function of the rules and of the decoded list, which names no place, length or encoding.
 pub fn equal_code_points(segmenter: GraphemeClusterSegmenterBorrowed<'_>)
-    ensures { HasEqualOrdinals (cluster_rules segmenter.entry) }
+    ensures { HasEqualOrdinals (boundaries_by (cluster_rules segmenter.entry)) }
 {
     laws::equal_code_points(segmenter.engine);
 }

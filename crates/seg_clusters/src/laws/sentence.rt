@@ -1,7 +1,8 @@
 //! Laws of the boundaries of sentences.
 
-ghost use Rattle.seg_text.specs.Boundaries.{HasRestart};
-ghost use Rattle.seg_engine.specs.Rules.{HasEqualOrdinals, HasOneAnswer, boundaries_by};
+ghost use Rattle.seg_text.specs.Boundaries.{HasEqualOrdinals, HasRestart};
+ghost use Rattle.seg_text.specs.Stretches.{HasOneAnswer};
+ghost use Rattle.seg_engine.specs.Rules.{boundaries_by, first_stretch};
 ghost use Rattle.seg_clusters.specs.Sentences.{sentence_rules};
 
 use crate::sentence::SentenceSegmenterBorrowed;
@@ -11,7 +12,7 @@ use seg_engine::laws;
 /// other one comes from the first stretch of what is left. Such a stretch is the machine's pick, or what the verdict of the
 /// table takes.
 pub fn boundaries_are_one(segmenter: SentenceSegmenterBorrowed<'_>)
-    ensures { HasOneAnswer (sentence_rules segmenter.entry) }
+    ensures { HasOneAnswer (first_stretch (sentence_rules segmenter.entry)) }
 {
     laws::boundaries_are_one(segmenter.engine);
 }
@@ -19,7 +20,7 @@ pub fn boundaries_are_one(segmenter: SentenceSegmenterBorrowed<'_>)
 /// Law: two texts with equal code points, in whatever encodings, have the same boundaries, counted in code points, with
 /// the same statuses: one function of the rules and of the decoded list, which names no place, length or encoding.
 pub fn equal_code_points(segmenter: SentenceSegmenterBorrowed<'_>)
-    ensures { HasEqualOrdinals (sentence_rules segmenter.entry) }
+    ensures { HasEqualOrdinals (boundaries_by (sentence_rules segmenter.entry)) }
 {
     laws::equal_code_points(segmenter.engine);
 }

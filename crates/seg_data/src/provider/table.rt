@@ -9,7 +9,7 @@ mod runs;
 
 use crate::provider::DataError;
 use pages::Pages;
-use runs::run_from;
+pub use runs::value_by_halving;
 use std::fmt::{self, Debug, Formatter};
 use std::marker::Model;
 
@@ -79,7 +79,7 @@ impl ClassTable {
     fn search(&self, code_point: u32) -> u8
         ensures { result ≡ value_of self.now code_point }
     {
-        run_from(self.ranges.as_slice(), self.default, code_point).0
+        value_by_halving(self.ranges.as_slice(), self.default, code_point)
     }
 
     /// The ranges, each (first, last, value) with both ends in it, from the lowest code points on.

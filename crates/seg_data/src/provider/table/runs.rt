@@ -1,8 +1,17 @@
 //! Runs of code points that have the same value.
-ghost use Rattle.std.specs.Prelude.{◌≤◌};
+ghost use Rattle.std.specs.Prelude.{◌≡◌, ◌≤◌};
 ghost use Rattle.seg_data.specs.Faults.{HasRangeFault, IsFaultless};
 ghost use Rattle.seg_data.specs.Pages.{IsFirstReaching, IsRun};
-ghost use Rattle.seg_data.specs.Table.{table};
+ghost use Rattle.seg_data.specs.Table.{table, value_of};
+
+/// The value of the range that holds a code point, or else the default, by halving ranges that are in order, each (first,
+/// last, value) with both ends in it. Any number is looked up, also one that is no code point. Takes no memory.
+pub fn value_by_halving(ranges: &[(u32, u32, u8)], default: u8, code_point: u32) -> u8
+    requires { IsFaultless (HasRangeFault ranges.now) }
+    ensures { result ≡ value_of (table ranges.now default) code_point }
+{
+    run_from(ranges, default, code_point).0
+}
 
 /// The value of a code point, and a code point from there on up to which all have that value.
 pub(super) fn run_from(ranges: &[(u32, u32, u8)], default: u8, code_point: u32) -> (u8, u32)

@@ -1,0 +1,68 @@
+//! The scripts of code points, by ranges in the order of code points.
+
+use seg_data::provider::ComplexScript;
+
+const THAI: u8 = ComplexScript::Thai as u8;
+
+const LAO: u8 = ComplexScript::Lao as u8;
+
+const MYANMAR: u8 = ComplexScript::Myanmar as u8;
+
+const KHMER: u8 = ComplexScript::Khmer as u8;
+
+const CHINESE_OR_JAPANESE: u8 = ComplexScript::ChineseOrJapanese as u8;
+
+/// Each range is (first, last, number of its script), with both ends in it.
+pub(super) const RANGES: [(u32, u32, u8); 51] = [
+    (0x0E01, 0x0E3A, THAI),
+    (0x0E40, 0x0E4E, THAI),
+    (0x0E81, 0x0E81, LAO),
+    (0x0E82, 0x0E82, LAO),
+    (0x0E84, 0x0E84, LAO),
+    (0x0E86, 0x0E8A, LAO),
+    (0x0E8C, 0x0EA2, LAO),
+    (0x0EA5, 0x0EA5, LAO),
+    (0x0EA7, 0x0EBD, LAO),
+    (0x0EC0, 0x0EC4, LAO),
+    (0x0EC6, 0x0EC6, LAO),
+    (0x0EC8, 0x0ECE, LAO),
+    (0x0EDC, 0x0EDF, LAO),
+    (0x1000, 0x103F, MYANMAR),
+    (0x1050, 0x108F, MYANMAR),
+    (0x109A, 0x109F, MYANMAR),
+    (0x1780, 0x17D3, KHMER),
+    (0x17D7, 0x17D7, KHMER),
+    (0x17DC, 0x17DC, KHMER),
+    (0x17DD, 0x17DD, KHMER),
+    (0x2E80, 0x2E99, CHINESE_OR_JAPANESE),
+    (0x2E9B, 0x2EF3, CHINESE_OR_JAPANESE),
+    (0x2F00, 0x2FD5, CHINESE_OR_JAPANESE),
+    (0x3005, 0x3005, CHINESE_OR_JAPANESE),
+    (0x3007, 0x3007, CHINESE_OR_JAPANESE),
+    (0x3021, 0x3029, CHINESE_OR_JAPANESE),
+    (0x3038, 0x303B, CHINESE_OR_JAPANESE),
+    (0x3041, 0x3096, CHINESE_OR_JAPANESE),
+    (0x309D, 0x309F, CHINESE_OR_JAPANESE),
+    (0x3400, 0x4DBF, CHINESE_OR_JAPANESE),
+    (0x4E00, 0x9FFF, CHINESE_OR_JAPANESE),
+    (0xA9E0, 0xA9EF, MYANMAR),
+    (0xA9FA, 0xA9FE, MYANMAR),
+    (0xAA60, 0xAA7F, MYANMAR),
+    (0xF900, 0xFA6D, CHINESE_OR_JAPANESE),
+    (0xFA70, 0xFAD9, CHINESE_OR_JAPANESE),
+    (0x16FE2, 0x16FE2, CHINESE_OR_JAPANESE),
+    (0x16FE3, 0x16FE3, CHINESE_OR_JAPANESE),
+    (0x16FF0, 0x16FF6, CHINESE_OR_JAPANESE),
+    (0x1B001, 0x1B11F, CHINESE_OR_JAPANESE),
+    (0x1B132, 0x1B132, CHINESE_OR_JAPANESE),
+    (0x1B150, 0x1B152, CHINESE_OR_JAPANESE),
+    (0x1F200, 0x1F200, CHINESE_OR_JAPANESE),
+    (0x20000, 0x2A6DF, CHINESE_OR_JAPANESE),
+    (0x2A700, 0x2B81D, CHINESE_OR_JAPANESE),
+    (0x2B820, 0x2CEAD, CHINESE_OR_JAPANESE),
+    (0x2CEB0, 0x2EBE0, CHINESE_OR_JAPANESE),
+    (0x2EBF0, 0x2EE5D, CHINESE_OR_JAPANESE),
+    (0x2F800, 0x2FA1D, CHINESE_OR_JAPANESE),
+    (0x30000, 0x3134A, CHINESE_OR_JAPANESE),
+    (0x31350, 0x33479, CHINESE_OR_JAPANESE),
+];

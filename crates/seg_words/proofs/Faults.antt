@@ -1,0 +1,146 @@
+-- Which faults the data of words can have, and the lowest of several.
+use Rattle.std.proofs.Common.{◌≡◌, ◌<◌, Option, None, ◌⊎◌, inl, inr, refl, ap, subst, arith}
+use Rattle.seg_data.specs.declared.provider.DataError.{DataError}
+use Rattle.seg_data.specs.declared.provider.DataError.TheVariants.{RangeOrder, RangePast10FFFF, TableSize, ClassOutOfRange, StateOutOfRange, StartRowKeeps, ComplexItems, ComplexBelow0100, StateCount, TransitionSize, TransitionOutOfRange, SymbolOutOfRange, TooManyLookaheads, LookaheadOutOfRange, EndCycle, Stalls, MissingTailoring}
+use Rattle.seg_data.specs.Faults.{number_of, IsFaultless, IsLowestFault}
+use Rattle.seg_data.specs.Table.{Table}
+use Rattle.seg_machine.specs.Machine.{Machine}
+use Rattle.seg_machine.specs.MachineFaults.{HasComplexBelow0100}
+use Rattle.seg_pairs.specs.PairTable.{PairTable}
+use Rattle.seg_pairs.specs.PairFaults.{HasPairDataFault, HasComplexClassBelow0100}
+use Rattle.seg_words.specs.Faults.{HasOwnFault, HasWordTableFault, HasWordMachineFault}
+
+own-cases : (t : PairTable) (o : Option Table) (fault : DataError) → HasOwnFault t o fault
+    → ((fault ≡ ClassOutOfRange) × HasPairDataFault t o ClassOutOfRange)
+    ⊎ (((fault ≡ StartRowKeeps) × HasPairDataFault t o StartRowKeeps) ⊎ ((fault ≡ ComplexBelow0100) × HasComplexClassBelow0100 t o))
+own-cases t o RangeOrder has = absurd has
+own-cases t o RangePast10FFFF has = absurd has
+own-cases t o TableSize has = absurd has
+own-cases t o ClassOutOfRange has = inl (refl, has)
+own-cases t o StateOutOfRange has = absurd has
+own-cases t o StartRowKeeps has = inr (inl (refl, has))
+own-cases t o ComplexItems has = absurd has
+own-cases t o ComplexBelow0100 has = inr (inr (refl, has))
+own-cases t o StateCount has = absurd has
+own-cases t o TransitionSize has = absurd has
+own-cases t o TransitionOutOfRange has = absurd has
+own-cases t o SymbolOutOfRange has = absurd has
+own-cases t o TooManyLookaheads has = absurd has
+own-cases t o LookaheadOutOfRange has = absurd has
+own-cases t o EndCycle has = absurd has
+own-cases t o Stalls has = absurd has
+own-cases t o MissingTailoring has = absurd has
+
+-- clusters have no override, and so no class past the others
+cluster-cases : (t : PairTable) (fault : DataError) → HasPairDataFault t None fault → (fault ≡ StartRowKeeps) ⊎ (fault ≡ ComplexItems)
+cluster-cases t RangeOrder has = absurd has
+cluster-cases t RangePast10FFFF has = absurd has
+cluster-cases t TableSize has = absurd has
+cluster-cases t ClassOutOfRange has = absurd has.1
+cluster-cases t StateOutOfRange has = absurd has
+cluster-cases t StartRowKeeps has = inl refl
+cluster-cases t ComplexItems has = inr refl
+cluster-cases t ComplexBelow0100 has = absurd has
+cluster-cases t StateCount has = absurd has
+cluster-cases t TransitionSize has = absurd has
+cluster-cases t TransitionOutOfRange has = absurd has
+cluster-cases t SymbolOutOfRange has = absurd has
+cluster-cases t TooManyLookaheads has = absurd has
+cluster-cases t LookaheadOutOfRange has = absurd has
+cluster-cases t EndCycle has = absurd has
+cluster-cases t Stalls has = absurd has
+cluster-cases t MissingTailoring has = absurd has
+
+cluster-number : (t : PairTable) (fault : DataError) → HasPairDataFault t None fault → (6 < number_of fault) × (number_of fault < 9)
+cluster-number t fault has =
+    elim (cluster-cases t fault has) [ inl is ↦ rw is (omega arith, omega arith) | inr is ↦ rw is (omega arith, omega arith) ]
+
+module _ (t : PairTable) (o : Option Table) (clusters : PairTable) where
+  pub class-lowest : HasPairDataFault t o ClassOutOfRange → IsLowestFault (HasWordTableFault t o clusters) ClassOutOfRange
+  class-lowest class = record {
+    is_there = inl class;
+    lowest = λ lower less has. elim has [
+      | inl own ↦ elim (own-cases t o lower own) [
+        | inl (is, has) ↦ omega (arith, less, ap number_of is)
+        | inr other ↦ elim other [ inl (is, has) ↦ omega (arith, less, ap number_of is) | inr (is, has) ↦ omega (arith, less, ap number_of is) ]
+      ]
+      | inr other ↦ omega (arith, less, (cluster-number clusters lower other).0)
+    ];
+  }
+
+  pub start-lowest : (HasPairDataFault t o ClassOutOfRange → ⊥) → HasPairDataFault t o StartRowKeeps → IsLowestFault (HasWordTableFault t o clusters) StartRowKeeps
+  start-lowest class start = record {
+    is_there = inl start;
+    lowest = λ lower less has. elim has [
+      | inl own ↦ elim (own-cases t o lower own) [
+        | inl (is, has) ↦ class has
+        | inr other ↦ elim other [ inl (is, has) ↦ omega (arith, less, ap number_of is) | inr (is, has) ↦ omega (arith, less, ap number_of is) ]
+      ]
+      | inr other ↦ omega (arith, less, (cluster-number clusters lower other).0)
+    ];
+  }
+
+  module _ (class : HasPairDataFault t o ClassOutOfRange → ⊥) (start : HasPairDataFault t o StartRowKeeps → ⊥) where
+    pub clusters-lowest : (fault : DataError) → IsLowestFault (HasPairDataFault clusters None) fault → IsLowestFault (HasWordTableFault t o clusters) fault
+    clusters-lowest fault found = record {
+      is_there = inr found.is_there;
+      lowest = λ lower less has. elim has [
+        | inl own ↦ elim (own-cases t o lower own) [
+          | inl (is, has) ↦ class has
+          | inr other ↦ elim other [
+            | inl (is, has) ↦ start has
+            | inr (is, has) ↦ omega (arith, less, ap number_of is, (cluster-number clusters fault found.is_there).1)
+          ]
+        ]
+        | inr other ↦ found.lowest lower less other
+      ];
+    }
+
+    pub complex-lowest : IsFaultless (HasPairDataFault clusters None) → HasComplexClassBelow0100 t o → IsLowestFault (HasWordTableFault t o clusters) ComplexBelow0100
+    complex-lowest none complex = record {
+      is_there = inl complex;
+      lowest = λ lower less has. elim has [
+        | inl own ↦ elim (own-cases t o lower own) [
+          | inl (is, has) ↦ class has
+          | inr other ↦ elim other [ inl (is, has) ↦ start has | inr (is, has) ↦ omega (arith, less, ap number_of is) ]
+        ]
+        | inr other ↦ none lower other
+      ];
+    }
+
+    pub table-faultless : IsFaultless (HasPairDataFault clusters None) → (HasComplexClassBelow0100 t o → ⊥) → IsFaultless (HasWordTableFault t o clusters)
+    table-faultless none complex fault (inr other) = none fault other
+    table-faultless none complex fault (inl own) =
+        elim (own-cases t o fault own) [
+          | inl (is, has) ↦ class has
+          | inr other ↦ elim other [ inl (is, has) ↦ start has | inr (is, has) ↦ complex has ]
+        ]
+
+pub machine-clusters-lowest : (m : Machine) (clusters : PairTable) (fault : DataError) → IsLowestFault (HasPairDataFault clusters None) fault → IsLowestFault (HasWordMachineFault m clusters) fault
+machine-clusters-lowest m clusters fault found = record {
+  is_there = inr found.is_there;
+  lowest = λ lower less has. elim has [
+    | inl (is, has) ↦ omega (arith, less, ap number_of is, (cluster-number clusters fault found.is_there).1)
+    | inr other ↦ found.lowest lower less other
+  ];
+}
+
+pub machine-lowest : (m : Machine) (clusters : PairTable) → IsFaultless (HasPairDataFault clusters None) → HasComplexBelow0100 m → IsLowestFault (HasWordMachineFault m clusters) ComplexBelow0100
+machine-lowest m clusters none complex = record {
+  is_there = inl (refl, complex);
+  lowest = λ lower less has. elim has [ inl (is, has) ↦ omega (arith, less, ap number_of is) | inr other ↦ none lower other ];
+}
+
+pub machine-faultless : (m : Machine) (clusters : PairTable) → IsFaultless (HasPairDataFault clusters None) → (HasComplexBelow0100 m → ⊥) → IsFaultless (HasWordMachineFault m clusters)
+machine-faultless m clusters none complex fault (inl (is, has)) = complex has
+machine-faultless m clusters none complex fault (inr other) = none fault other
+
+-- what was looked for in a table and an override that are these
+
+pub start-moved : (t u : PairTable) (o other : Option Table) → u ≡ t → other ≡ o → (HasPairDataFault u other StartRowKeeps → ⊥) → HasPairDataFault t o StartRowKeeps → ⊥
+start-moved t u o other same equal =
+    λ none. subst (λ o. HasPairDataFault t o StartRowKeeps → ⊥) equal (subst (λ t. HasPairDataFault t other StartRowKeeps → ⊥) same none)
+
+pub complex-moved : (t u : PairTable) (o other : Option Table) → u ≡ t → other ≡ o → HasComplexClassBelow0100 u other → HasComplexClassBelow0100 t o
+complex-moved t u o other same equal =
+    λ complex. subst (λ o. HasComplexClassBelow0100 t o) equal (subst (λ t. HasComplexClassBelow0100 t other) same complex)

@@ -1,0 +1,83 @@
+-- What is left of a text by a pair table whose runs are cut after each of their pieces.
+use Rattle.std.proofs.Common.{◌≡◌, ◌≢◌, ℕ, ◌<◌, true, List, [], ◌∷◌, ◌++◌, length, map, refl, sym, ap, ◌∙◌, subst, arith}
+use Rattle.std.specs.Prelude.{Option, Some, None}
+use Rattle.std.proofs.lemmas.List.{length-map}
+use Rattle.seg_text.specs.declared.boundary.Boundary.{Boundary}
+use Rattle.seg_text.specs.Items.{Item, Text, start_of, code_points, IsRising}
+use Rattle.seg_text.specs.Boundaries.{Remainder, GivesNext, IsCover, boundary, boundaries_in, offsets, offsets_left}
+use Rattle.seg_text.specs.Cuts.{Cuts, AreCutsOf, with_status, cut_places}
+use Rattle.seg_text.specs.Stretches.{later_boundaries, list_boundaries}
+use Rattle.seg_text.proofs.Covers.{covers}
+use Rattle.seg_text.proofs.Stretches.{text-later-nil}
+use Rattle.seg_data.specs.Table.{Table}
+use Rattle.seg_pairs.specs.declared.runs.Event.TheVariants.{Break, Run}
+use Rattle.seg_pairs.specs.PairTable.{PairTable}
+use Rattle.seg_pairs.specs.Breaks.{status_of}
+use Rattle.seg_pairs.specs.Runs.{Unread, LeadsTo, GoesOn, complex_stretch, run_status, unread_boundaries}
+use Rattle.seg_pairs.proofs.ComplexStretches.{complex-within}
+use Rattle.seg_complex.specs.Runs.{at_end, run_cuts}
+use Rattle.seg_complex.proofs.Cutting.{at_end-covers, runs-covered, ends-inside, cuts-nil}
+
+abbrev ends : Cuts
+ends = run_cuts at_end
+
+classic-cover : (t : PairTable) (overriding : Option Table) (text : Text) → IsRising text.items text.end
+    → IsCover (start_of text) text.end (boundaries_in (list_boundaries (complex_stretch ends t overriding)) text)
+classic-cover t overriding text rising =
+    covers (complex_stretch ends t overriding) (complex-within ends (runs-covered at_end at_end-covers) t overriding) text rising
+
+pub new-cover : (t : PairTable) (overriding : Option Table) (text : Text) (unread : Unread) → unread ≡ record { table = t; overriding = overriding; text = text }
+    → IsRising text.items text.end
+    → IsCover (start_of text) text.end (boundaries_in (list_boundaries (complex_stretch ends unread.table unread.overriding)) unread.text)
+new-cover t overriding text unread is rising =
+    subst (λ (u : Unread). IsCover (start_of text) text.end (boundaries_in (list_boundaries (complex_stretch ends u.table u.overriding)) u.text)) (sym is) (classic-cover t overriding text rising)
+
+-- a run in which nothing is left has no cuts
+pub no-cuts : (run : Text) (end : ℕ) → run ≡ record { items = []; end = end } → cut_places ends run ≡ []
+no-cuts run end is = ap (cut_places ends) is ∙ cuts-nil at_end end
+
+-- nothing is left of a text
+pub nothing-unread : (cuts : Cuts) (unread : Unread) → unread.text.items ≡ [] → unread_boundaries cuts unread ≡ []
+nothing-unread cuts unread none =
+    ap (λ (items : List Item). boundaries_in (later_boundaries (complex_stretch cuts unread.table unread.overriding)) (record { items = items; end = unread.text.end })) none
+    ∙ text-later-nil (complex_stretch cuts unread.table unread.overriding) unread.text.end
+
+-- no cut is left of a run
+pub left-of : (status : ℕ) (run : List ℕ) (unread left : List Boundary) → run ≡ [] → with_status status run ++ unread ≡ left → unread ≡ left
+left-of status run unread left none is = ap (λ (run : List ℕ). with_status status run ++ unread) (sym none) ∙ is
+
+-- the next cut of a run
+pub left-cut : (status place : ℕ) (before after : List ℕ) (unread left : List Boundary) → before ≡ place ∷ after → with_status status before ++ unread ≡ left
+    → left ≡ boundary place status ∷ (with_status status after ++ unread)
+left-cut status place before after unread left next is = sym is ∙ ap (λ (run : List ℕ). with_status status run ++ unread) next
+
+-- a run came next, with its cuts
+pub left-run : {I : Type 0} (text : I → Text) (before after : Unread) (run : I) (cuts : List ℕ) (left : List Boundary) → LeadsTo text before (Run run) after → GoesOn before after
+    → cuts ≡ cut_places ends (text run) → unread_boundaries ends before ≡ left
+    → with_status (run_status after.table) cuts ++ unread_boundaries ends after ≡ left
+left-run text before after run cuts left leads goes is same =
+    ap (λ (t : PairTable). with_status (run_status t) cuts ++ unread_boundaries ends after) goes.table
+    ∙ ap (λ (cuts : List ℕ). with_status (run_status before.table) cuts ++ unread_boundaries ends after) is
+    ∙ sym (leads ends inside) ∙ same
+  where
+    inside : AreCutsOf (length (text run).items) (ends (code_points (text run).items))
+    inside = rw (length-map (text run).items (λ (item : Item). item.1)) at (ends-inside (code_points (text run).items))
+
+-- and it took something
+pub run-fewer : {I : Type 0} (text : I → Text) (before after : Unread) (run : I) → LeadsTo text before (Run run) after → GoesOn before after
+    → length after.text.items < length before.text.items
+run-fewer text before after run leads goes = goes.fewer (λ none. some (sym (leads one (omega arith, tt)) ∙ nothing-unread one before none))
+  where
+    one : Cuts
+    one code_points = 0 ∷ []
+
+    some : with_status (run_status before.table) (cut_places one (text run)) ++ unread_boundaries one after ≢ []
+    some is = cc
+
+-- nothing is left, before and after the end was read
+pub at-end : (status : ℕ) (run later : List ℕ) (before after : Unread) (left : List Boundary) → run ≡ [] → later ≡ [] → before.text.items ≡ [] → after ≡ before
+    → with_status status run ++ unread_boundaries ends before ≡ left → (left ≡ []) × (with_status (run_status after.table) later ++ unread_boundaries ends after ≡ [])
+at-end status run later before after left none empty nothing same is = (
+  sym is ∙ ap (λ (run : List ℕ). with_status status run ++ unread_boundaries ends before) none ∙ nothing-unread ends before nothing,
+  ap (λ (run : List ℕ). with_status (run_status after.table) run ++ unread_boundaries ends after) empty ∙ nothing-unread ends after (ap (λ (u : Unread). u.text.items) same ∙ nothing),
+)

@@ -1,0 +1,15 @@
+use Rattle.std.proofs.Common.{◌≡◌, ◌++◌, true, length}
+use Rattle.seg_text.specs.Cuts.{with_status}
+use Rattle.seg_pairs.specs.Runs.{run_status, unread_boundaries}
+use Rattle.seg_complex.specs.Runs.{at_end, run_cuts}
+use Rattle.seg_words.proofs.classic.ClassicBoundariesIterator.next.Given as goal
+
+abbrev pub invariant-loop-place : goal.invariant-loop-place
+invariant-loop-place g l =
+    let s = l.self-inside in record {
+      started : s.started ≡ true;
+      left : with_status (run_status s.events.table) s.run ++ unread_boundaries (run_cuts at_end) s.events ≡ l.fn.self.left;
+    }
+
+abbrev pub decreases-loop-place : goal.decreases-loop-place
+decreases-loop-place g l = length l.self-inside.events.text.items

@@ -1,0 +1,85 @@
+//! The boundaries of words by either engine.
+
+ghost use Rattle.std.specs.Prelude.{◌≡◌, ⊤};
+ghost use Rattle.std.specs.Iterator.{YieldsFirst, MakesProgress, item_count};
+ghost use Rattle.seg_text.specs.Items.{start_of};
+ghost use Rattle.seg_text.specs.Boundaries.{GivesNext, IsCover, offsets_left};
+ghost use Rattle.seg_engine.specs.Engine.{rules_of};
+ghost use Rattle.seg_words.specs.Rules.{word_boundaries_of};
+
+use crate::classic::ClassicBoundaries;
+use seg_engine::engine::Engine;
+use seg_machine::rule_segmenter_v2::RuleBreakIterator;
+use seg_text::cursor::Cursor;
+use std::marker::Model;
+
+/// The boundaries of words in a text, as places.
+#[derive(Debug, Drop)]
+pub(crate) struct Boundaries<'data, I: Cursor> {
+    by: BoundariesBy<'data, I>,
+}
+
+/// Which engine gives them.
+#[derive(Debug, Drop)]
+enum BoundariesBy<'data, I: Cursor> {
+    /// That of a pair table.
+    Classic(ClassicBoundaries<'data, I>),
+    /// That of a state machine.
+    Neo(RuleBreakIterator<'data, I>),
+}
+
+impl<'data, I: Cursor> Model for Boundaries<'data, I> {
+    ghost use Rattle.seg_text.specs.Boundaries.{Remainder};
+    ghost use Rattle.seg_words.specs.Remainders.{remainder_by};
+
+    ghost Value = { Remainder };
+
+    ghost view = { λ s. remainder_by s.by };
+}
+
+impl<'data, I: Cursor> Boundaries<'data, I> {
+    /// The boundaries of what is left of a text. Takes no memory.
+    pub(crate) fn new(engine: Engine<'data>, text: I) -> Self
+        ensures boundaries { result.left ≡ word_boundaries_of (rules_of engine.entry) (I.text text) }
+        ensures cover { IsCover (start_of (I.text text)) (I.text text).end result.left }
+        ensures status { result.status ≡ 0 }
+    {
+        match engine {
+            Engine::Classic(pairs) => Boundaries {
+                by: BoundariesBy::Classic(ClassicBoundaries::new(pairs, text)),
+            },
+            Engine::Neo(machine) => Boundaries {
+                by: BoundariesBy::Neo(RuleBreakIterator::new(machine, text)),
+            },
+        }
+    }
+
+    /// The status of the boundary that was given last: 0 for the first, before it and after the end.
+    pub(crate) fn status(&self) -> u8
+        ensures { result ≡ self.now.status }
+    {
+        match &self.by {
+            BoundariesBy::Classic(engine) => engine.status(),
+            BoundariesBy::Neo(engine) => engine.status(),
+        }
+    }
+}
+
+impl<'data, I: Cursor> Iterator for Boundaries<'data, I> {
+    type Item = usize;
+
+    ghost next_gives = { YieldsFirst offsets_left };
+
+    ghost remaining = { item_count offsets_left };
+
+    #[inline(always)]
+    fn next(&mut self) -> Option<usize>
+        ensures steps { YieldsFirst offsets_left self.old result self.new × GivesNext self.old result self.new }
+        ensures goes { MakesProgress (λ _. ⊤) (item_count offsets_left) self.old result self.new }
+    {
+        match &mut self.by {
+            BoundariesBy::Classic(engine) => engine.next(),
+            BoundariesBy::Neo(engine) => engine.next(),
+        }
+    }
+}

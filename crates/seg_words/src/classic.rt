@@ -1,0 +1,99 @@
+//! The boundaries of words by a pair table: those that the table finds, and the cuts of runs of complex elements.
+
+ghost use Rattle.std.specs.Prelude.{◌≡◌, ⊤};
+ghost use Rattle.std.specs.Iterator.{YieldsFirst, MakesProgress, item_count};
+ghost use Rattle.seg_text.specs.Items.{start_of};
+ghost use Rattle.seg_text.specs.Boundaries.{GivesNext, IsCover, offsets_left};
+ghost use Rattle.seg_pairs.specs.PairData.{pair_table_of, override_of};
+ghost use Rattle.seg_engine.specs.Rules.Rules.{ByTable};
+ghost use Rattle.seg_words.specs.Rules.{word_boundaries_of};
+
+use seg_complex::runs::RunCuts;
+use seg_pairs::pair_data::PairDataBorrowed;
+use seg_pairs::rule_segmenter_v1::rule_status;
+use seg_pairs::runs::{Event, Events};
+use seg_text::cursor::Cursor;
+use std::marker::Model;
+
+/// The boundaries of words in a text, as places.
+#[derive(Debug, Drop)]
+pub(crate) struct ClassicBoundaries<'data, I: Cursor> {
+    // What the table hasn't read yet.
+    events: Events<'data, I>,
+    // What is left of the run that came last.
+    run: RunCuts<I>,
+    started: bool,
+    // The class of the boundary that was given last.
+    class: u8,
+}
+
+impl<'data, I: Cursor> Model for ClassicBoundaries<'data, I> {
+    ghost use Rattle.std.specs.Prelude.{◌≡◌, false, []};
+    ghost use Rattle.seg_text.specs.Boundaries.{Remainder};
+    ghost use Rattle.seg_words.specs.Classic.{classic_remainder};
+
+    ghost Value = { Remainder };
+
+    ghost view = { λ s. classic_remainder s.started s.class s.run s.events };
+
+    ghost invariant = { λ s. s.started ≡ false → (s.class ≡ 0) × (s.run ≡ []) };
+}
+
+impl<'data, I: Cursor> ClassicBoundaries<'data, I> {
+    /// The boundaries of what is left of a text. Takes no memory.
+    pub(crate) fn new(pairs: PairDataBorrowed<'data>, text: I) -> Self
+        ensures boundaries { result.left ≡ word_boundaries_of (ByTable (pair_table_of pairs.entry) (override_of pairs.entry)) (I.text text) }
+        ensures cover { IsCover (start_of (I.text text)) (I.text text).end result.left }
+        ensures status { result.status ≡ 0 }
+    {
+        let events = Events::new(pairs, text);
+        ClassicBoundaries {
+            run: RunCuts::new(events.nothing()),
+            events,
+            started: false,
+            class: 0,
+        }
+    }
+
+    /// The rule status of the boundary that was given last: 0 for the first, before it and after the end.
+    pub(crate) fn status(&self) -> u8
+        ensures { result ≡ self.now.status }
+    {
+        rule_status(self.events.table(), self.class)
+    }
+}
+
+impl<'data, I: Cursor> Iterator for ClassicBoundaries<'data, I> {
+    type Item = usize;
+
+    ghost next_gives = { YieldsFirst offsets_left };
+
+    ghost remaining = { item_count offsets_left };
+
+    fn next(&mut self) -> Option<usize>
+        ensures steps { YieldsFirst offsets_left self.old result self.new × GivesNext self.old result self.new }
+        ensures goes { MakesProgress (λ _. ⊤) (item_count offsets_left) self.old result self.new }
+    {
+        if !self.started {
+            self.started = true;
+            return Some(self.events.place());
+        }
+        loop {
+            if let Some(place) = self.run.next() {
+                self.class = self.events.table().complex_property();
+                return Some(place);
+            }
+            match self.events.next_event() {
+                Event::End => {
+                    self.class = 0;
+                    return None;
+                }
+                Event::Break(place, class) => {
+                    self.class = class;
+                    return Some(place);
+                }
+                Event::Run(run) => self.run = RunCuts::new(run),
+            }
+        }
+    }
+}

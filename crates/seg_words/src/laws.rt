@@ -1,0 +1,37 @@
+//! Laws of the boundaries of words. The type of what ends at a boundary is that of its status, so what is said of statuses is
+//! said of types.
+
+ghost use Rattle.std.specs.Prelude.{ℕ, List};
+ghost use Rattle.seg_text.specs.Boundaries.{HasEqualOrdinals, RestartsIn};
+ghost use Rattle.seg_text.specs.Stretches.{HasOneAnswer};
+ghost use Rattle.seg_words.specs.Rules.{HasNoComplex, first_word_stretch, word_boundaries_by};
+ghost use Rattle.seg_words.specs.Words.{word_rules};
+
+use crate::word::WordSegmenterBorrowed;
+
+/// Law: a list of code points has exactly one list of boundaries, in code points: the first is at its start, and the
+/// others come from the first stretch of what is left, again and again. Such a stretch is the machine's pick, what the verdict
+/// of the table takes, or a run of complex code points.
+pub fn boundaries_are_one(segmenter: WordSegmenterBorrowed<'_>)
+    ensures { HasOneAnswer (first_word_stretch (word_rules segmenter.entry)) }
+{
+    let _ = segmenter;
+}
+
+/// Law: two texts with equal code points, in whatever encodings, have the same boundaries, counted in code points, with
+/// the same statuses: one function of the rules and of the decoded list, which names no place, length or encoding.
+pub fn equal_code_points(segmenter: WordSegmenterBorrowed<'_>)
+    ensures { HasEqualOrdinals (word_boundaries_by (word_rules segmenter.entry)) }
+{
+    let _ = segmenter;
+}
+
+/// Law: a text without complex code points may be segmented anew from any of its boundaries: the boundaries after one of
+/// them are those of the rest taken alone, shifted, with the same statuses. By a machine, which knows of no complex ones, so
+/// may every text.
+pub fn restart(segmenter: WordSegmenterBorrowed<'_>)
+    ensures { (code_points : List ℕ) → HasNoComplex (word_rules segmenter.entry) code_points
+        → RestartsIn (word_boundaries_by (word_rules segmenter.entry)) code_points }
+{
+    let _ = segmenter;
+}

@@ -1,0 +1,359 @@
+//! Words: the places between which a text's words stand, and which of what stands between two is a word (UAX #29).
+
+ghost use Rattle.std.specs.Prelude.{◌≡◌, length, None, IfOk, IfErr};
+ghost use Rattle.std.specs.Iterator.{YieldsFirst, item_count};
+ghost use Rattle.seg_text.specs.Items.{start_of};
+ghost use Rattle.seg_text.specs.Latin1.{latin1};
+ghost use Rattle.seg_text.specs.Utf8.{utf8};
+ghost use Rattle.seg_text.specs.Utf16.{utf16};
+ghost use Rattle.seg_text.specs.Boundaries.{IsCover};
+ghost use Rattle.seg_data.specs.Faults.{IsFaultless, IsLowestFault};
+ghost use Rattle.seg_pairs.specs.Overriding.{table_in};
+ghost use Rattle.seg_engine.specs.Engine.{rules_of};
+ghost use Rattle.seg_engine.specs.Rules.Rules.{ByTable, ByMachine};
+ghost use Rattle.seg_words.specs.Rules.{type_of, word_boundaries_of};
+ghost use Rattle.seg_words.specs.declared.word.WordType.TheVariants.{None as NoWord};
+
+use crate::boundaries::Boundaries;
+use crate::data::{check_machine, word_pairs};
+use seg_data::provider::{DataError, LanguageIdentifier};
+use seg_engine::engine::{Engine, OwnedEngine};
+use seg_machine::provider::SegmenterStateMachine;
+use seg_machine::tailored_machine::{TailoredMachine, TailoredMachineBorrowed};
+use seg_pairs::pair_data::{PairData, PairDataBorrowed};
+use seg_pairs::provider::{RuleBreakData, RuleBreakDataOverride};
+use seg_text::cursor::Cursor;
+use seg_text::indices::{Latin1Indices, StrCharIndices, Utf8CharIndices, Utf16Indices};
+use seg_text::scaffold::{Latin1, PotentiallyIllFormedUtf8, RuleBreakType, Utf8, Utf16};
+use std::fmt::Debug;
+use std::marker::PhantomData;
+
+/// The options of words that no language changes: none today.
+#[derive(Clone, Copy, Debug, Default, PartialEq, Eq)]
+pub struct WordBreakInvariantOptions {}
+
+/// The options of words.
+#[derive(Clone, Copy, Debug, Default, PartialEq, Eq)]
+pub struct WordBreakOptions<'a> {
+    /// The language of the text. What a language changes is handed in with the data, so that
+    /// this isn't looked at.
+    pub content_locale: Option<&'a LanguageIdentifier>,
+    /// The options that no language changes.
+    pub invariant_options: WordBreakInvariantOptions,
+}
+
+/// What ends at a boundary.
+#[derive(Clone, Copy, Debug, PartialEq, Eq)]
+pub enum WordType {
+    /// No word: spaces, punctuation and the like.
+    None = 0,
+    /// A number.
+    Number = 1,
+    /// A word of letters, or of characters that stand for words.
+    Letter = 2,
+}
+
+impl WordType {
+    ghost use Rattle.std.specs.Prelude.{◌≢◌, ◌↔◌, IsTrue};
+
+    /// Whether it is a word: a number or one of letters.
+    pub fn is_word_like(self) -> bool
+        ensures { IsTrue result ↔ (self ≢ NoWord) }
+    {
+        match self {
+            WordType::None => false,
+            WordType::Number | WordType::Letter => true,
+        }
+    }
+}
+
+/// The type of what ends at a boundary with this status: `None` of 0, `Number` of 1 and `Letter` of any other.
+fn type_of(status: u8) -> WordType
+    ensures { result ≡ type_of status }
+{
+    match status {
+        0 => WordType::None,
+        1 => WordType::Number,
+        _ => WordType::Letter,
+    }
+}
+
+/// The boundaries of words in a text, as places: bytes in str, UTF-8 and Latin-1,
+/// 16-bit units in UTF-16.
+///
+/// First 0, then each place where a word, or what stands between words, ends; the last is the text's length. After None
+/// it is None for ever.
+#[derive_where(Debug; Y::IterAttr: Debug)]
+pub struct WordBreakIterator<'data, 's, Y: RuleBreakType<'s>> {
+    boundaries: Boundaries<'data, Y::IterAttr>,
+    text: PhantomData<&'s ()>,
+}
+
+impl<'data, 's, Y: RuleBreakType<'s>> Drop for WordBreakIterator<'data, 's, Y> {
+    fn drop(self) {
+        let WordBreakIterator {
+            boundaries: _,
+            text: _,
+        } = self;
+    }
+}
+
+impl<'data, 's, Y: RuleBreakType<'s>> WordBreakIterator<'data, 's, Y> {
+    ghost use Rattle.std.specs.Prelude.{◌≢◌, ◌↔◌, IsTrue};
+    ghost use Rattle.seg_words.specs.Words.{with_types, word_type, words_left, typed_places};
+
+    /// The type of what ends at the boundary that was given last: that of its status. `None` before the first `next`, at
+    /// the text's start and after the end.
+    pub fn word_type(&self) -> WordType
+        ensures { result ≡ word_type self.now }
+    {
+        type_of(self.boundaries.status())
+    }
+
+    /// Whether a word ends at the boundary that was given last: its type isn't `None`.
+    pub fn is_word_like(&self) -> bool
+        ensures { IsTrue result ↔ (word_type self.now ≢ NoWord) }
+    {
+        self.word_type().is_word_like()
+    }
+
+    /// The boundaries that are left, each with the type of what ends there.
+    pub fn iter_with_word_type(self) -> WordBreakIteratorWithWordType<'data, 's, Y>
+        ensures { typed_places result ≡ with_types (words_left self.entry) }
+    {
+        WordBreakIteratorWithWordType { words: self }
+    }
+}
+
+impl<'data, 's, Y: RuleBreakType<'s>> Iterator for WordBreakIterator<'data, 's, Y> {
+    ghost use Rattle.std.specs.Prelude.{⊤};
+    ghost use Rattle.std.specs.Iterator.{MakesProgress};
+    ghost use Rattle.seg_text.specs.Boundaries.{GivesNext};
+    ghost use Rattle.seg_words.specs.Words.{word_places};
+
+    type Item = usize;
+
+    ghost next_gives = { YieldsFirst word_places };
+
+    ghost remaining = { item_count word_places };
+
+    #[inline(always)]
+    fn next(&mut self) -> Option<usize>
+        ensures steps { YieldsFirst word_places self.old result self.new × GivesNext self.old.boundaries result self.new.boundaries }
+        ensures goes { MakesProgress (λ _. ⊤) (item_count word_places) self.old result self.new }
+    {
+        self.boundaries.next()
+    }
+}
+
+/// The boundaries of words in a text, each as its place and the type of what ends there.
+#[derive_where(Debug; Y::IterAttr: Debug)]
+pub struct WordBreakIteratorWithWordType<'data, 's, Y: RuleBreakType<'s>> {
+    words: WordBreakIterator<'data, 's, Y>,
+}
+
+impl<'data, 's, Y: RuleBreakType<'s>> Drop for WordBreakIteratorWithWordType<'data, 's, Y> {
+    fn drop(self) {
+        let WordBreakIteratorWithWordType { words: _ } = self;
+    }
+}
+
+impl<'data, 's, Y: RuleBreakType<'s>> Iterator for WordBreakIteratorWithWordType<'data, 's, Y> {
+    ghost use Rattle.seg_words.specs.Words.{typed_places};
+
+    type Item = (usize, WordType);
+
+    ghost next_gives = { YieldsFirst typed_places };
+
+    ghost remaining = { item_count typed_places };
+
+    #[inline(always)]
+    fn next(&mut self) -> Option<(usize, WordType)> {
+        match self.words.next() {
+            Some(place) => Some((place, self.words.word_type())),
+            None => None,
+        }
+    }
+}
+
+/// Finds words with data of its own.
+#[derive(Debug, Drop)]
+pub struct WordSegmenter {
+    engine: OwnedEngine,
+}
+
+impl WordSegmenter {
+    ghost use Rattle.seg_words.specs.Words.{word_rules, owned_word_rules};
+    ghost use Rattle.seg_words.specs.Faults.{HasWordTableFault, HasWordMachineFault};
+
+    /// A segmenter by a pair table and its override, if there is one; a run of complex characters (those of the class
+    /// `complex_property`) is cut after each of its pieces of one script. The pair table of clusters is for words of
+    /// dictionaries, which aren't here yet, and is only checked. Of several faults that with the lowest number:
+    /// `ClassOutOfRange` where the override names a class that the table lacks, `StartRowKeeps` where no boundary stands
+    /// between the start of the text and some class of code points, in words or in clusters, `ComplexItems` where some
+    /// code points are complex in clusters, `ComplexBelow0100` where one below U+0100 is in words. The options change
+    /// nothing. Takes no memory.
+    pub fn try_new_for_non_complex_scripts(
+        table: RuleBreakData,
+        overriding: Option<RuleBreakDataOverride>,
+        clusters: RuleBreakData,
+        options: WordBreakOptions<'_>,
+    ) -> Result<Self, DataError>
+        ensures accepted { IfOk result (λ segmenter. (owned_word_rules segmenter ≡ ByTable table overriding)
+            × IsFaultless (HasWordTableFault table overriding clusters)) }
+        ensures refused { IfErr result (IsLowestFault (HasWordTableFault table overriding clusters)) }
+    {
+        let _ = options;
+        let _pairs = word_pairs(&table, overriding.as_ref(), &clusters)?;
+        Ok(WordSegmenter {
+            engine: OwnedEngine::Classic(PairData::try_new(table, overriding)?),
+        })
+    }
+
+    /// A segmenter by a state machine. The pair table of clusters is for words of dictionaries, which aren't here yet, and
+    /// is only checked. Of several faults that with the lowest number: `StartRowKeeps` where no boundary stands
+    /// between the start of the text and some class of code points in clusters, `ComplexItems` where some code points are
+    /// complex in clusters, `ComplexBelow0100` where one below U+0100 has a script by the machine. The options change
+    /// nothing. Takes no memory.
+    pub fn try_new_neo_for_non_complex_scripts(
+        machine: SegmenterStateMachine,
+        clusters: RuleBreakData,
+        options: WordBreakOptions<'_>,
+    ) -> Result<Self, DataError>
+        ensures accepted { IfOk result (λ segmenter. (owned_word_rules segmenter ≡ ByMachine machine)
+            × IsFaultless (HasWordMachineFault machine clusters)) }
+        ensures refused { IfErr result (IsLowestFault (HasWordMachineFault machine clusters)) }
+    {
+        let _ = options;
+        check_machine(&machine, &clusters)?;
+        Ok(WordSegmenter {
+            engine: OwnedEngine::Neo(TailoredMachine::without_tailoring(machine)),
+        })
+    }
+
+    /// The same segmenter over lent data, which segments texts.
+    pub fn as_borrowed(&self) -> WordSegmenterBorrowed<'_>
+        ensures { word_rules result ≡ owned_word_rules self.now }
+    {
+        WordSegmenterBorrowed {
+            engine: self.engine.as_borrowed(),
+        }
+    }
+}
+
+/// Finds words with data that are lent to it.
+///
+/// With the sample data (`bench::words`), where letters and digits are words:
+///
+/// ```text
+/// segmenter.segment_str("one 42.")                  0 3 4 6 7      in bytes
+///     their types, by `word_type`                   None, Letter, None, Number, None
+/// segmenter.segment_str("")                         0
+/// ```
+#[derive(Clone, Copy, Debug)]
+pub struct WordSegmenterBorrowed<'data> {
+    pub(crate) engine: Engine<'data>,
+}
+
+impl<'data> WordSegmenterBorrowed<'data> {
+    ghost use Rattle.seg_words.specs.Words.{word_rules, words_left, word_type};
+    ghost use Rattle.seg_words.specs.Faults.{HasWordTableFault, HasWordMachineFault};
+
+    /// A segmenter by a pair table and its override, if there is one; a run of complex characters (those of the class
+    /// `complex_property`) is cut after each of its pieces of one script. The pair table of clusters is for words of
+    /// dictionaries, which aren't here yet, and is only checked. Of several faults that with the lowest number:
+    /// `ClassOutOfRange` where the override names a class that the table lacks, `StartRowKeeps` where no boundary stands
+    /// between the start of the text and some class of code points, in words or in clusters, `ComplexItems` where some
+    /// code points are complex in clusters, `ComplexBelow0100` where one below U+0100 is in words. Takes no memory.
+    pub fn new_for_non_complex_scripts(
+        table: &'data RuleBreakData,
+        overriding: Option<&'data RuleBreakDataOverride>,
+        clusters: &'data RuleBreakData,
+        options: WordBreakInvariantOptions,
+    ) -> Result<Self, DataError>
+        ensures accepted { IfOk result (λ segmenter. (word_rules segmenter ≡ ByTable table.now (table_in overriding.entry))
+            × IsFaultless (HasWordTableFault table.now (table_in overriding.entry) clusters.now)) }
+        ensures refused { IfErr result (IsLowestFault (HasWordTableFault table.now (table_in overriding.entry) clusters.now)) }
+    {
+        let _ = options;
+        Ok(WordSegmenterBorrowed {
+            engine: Engine::Classic(word_pairs(table, overriding, clusters)?),
+        })
+    }
+
+    /// A segmenter by a state machine. The pair table of clusters is for words of dictionaries, which aren't here yet, and
+    /// is only checked. Of several faults that with the lowest number: `StartRowKeeps` where no boundary stands
+    /// between the start of the text and some class of code points in clusters, `ComplexItems` where some code points are
+    /// complex in clusters, `ComplexBelow0100` where one below U+0100 has a script by the machine. Takes no memory.
+    pub fn new_neo_for_non_complex_scripts(
+        machine: &'data SegmenterStateMachine,
+        clusters: &'data RuleBreakData,
+        options: WordBreakInvariantOptions,
+    ) -> Result<Self, DataError>
+        ensures accepted { IfOk result (λ segmenter. (word_rules segmenter ≡ ByMachine machine.now)
+            × IsFaultless (HasWordMachineFault machine.now clusters.now)) }
+        ensures refused { IfErr result (IsLowestFault (HasWordMachineFault machine.now clusters.now)) }
+    {
+        let _ = options;
+        check_machine(machine, clusters)?;
+        Ok(WordSegmenterBorrowed {
+            engine: Engine::Neo(TailoredMachineBorrowed::without_tailoring(machine)),
+        })
+    }
+
+    /// The boundaries of the words of a `str`, in bytes: those of its bytes as UTF-8, each with its type. Takes no memory.
+    pub fn segment_str<'s>(self, input: &'s str) -> WordBreakIterator<'data, 's, Utf8>
+        ensures boundaries { words_left result ≡ word_boundaries_of (word_rules self.entry) (utf8 input.now) }
+        ensures cover { IsCover 0 (length input.now) (words_left result) }
+        ensures kind { word_type result ≡ NoWord }
+    {
+        segment(self.engine, StrCharIndices::new(input))
+    }
+
+    /// The boundaries of the words of possibly ill-formed UTF-8, in bytes. Each longest beginning of a
+    /// well-formed sequence that isn't one counts as U+FFFD (Unicode Table 3-7). Takes no memory.
+    pub fn segment_utf8<'s>(
+        self,
+        input: &'s [u8],
+    ) -> WordBreakIterator<'data, 's, PotentiallyIllFormedUtf8>
+        ensures boundaries { words_left result ≡ word_boundaries_of (word_rules self.entry) (utf8 input.now) }
+        ensures cover { IsCover 0 (length input.now) (words_left result) }
+        ensures kind { word_type result ≡ NoWord }
+    {
+        segment(self.engine, Utf8CharIndices::new(input))
+    }
+
+    /// The boundaries of the words of Latin-1, in bytes. Takes no memory.
+    pub fn segment_latin1<'s>(self, input: &'s [u8]) -> WordBreakIterator<'data, 's, Latin1>
+        ensures boundaries { words_left result ≡ word_boundaries_of (word_rules self.entry) (latin1 input.now) }
+        ensures cover { IsCover 0 (length input.now) (words_left result) }
+        ensures kind { word_type result ≡ NoWord }
+    {
+        segment(self.engine, Latin1Indices::new(input))
+    }
+
+    /// The boundaries of the words of possibly ill-formed UTF-16, in 16-bit units. A surrogate that stands alone
+    /// counts as itself. Takes no memory.
+    pub fn segment_utf16<'s>(self, input: &'s [u16]) -> WordBreakIterator<'data, 's, Utf16>
+        ensures boundaries { words_left result ≡ word_boundaries_of (word_rules self.entry) (utf16 input.now) }
+        ensures cover { IsCover 0 (length input.now) (words_left result) }
+        ensures kind { word_type result ≡ NoWord }
+    {
+        segment(self.engine, Utf16Indices::new(input))
+    }
+}
+
+/// The words of what is left of a text.
+fn segment<'data, 's, Y: RuleBreakType<'s>>(
+    engine: Engine<'data>,
+    text: Y::IterAttr,
+) -> WordBreakIterator<'data, 's, Y>
+    ensures boundaries { result.boundaries.left ≡ word_boundaries_of (rules_of engine.entry) (Y.IterAttr.text text) }
+    ensures cover { IsCover (start_of (Y.IterAttr.text text)) (Y.IterAttr.text text).end result.boundaries.left }
+    ensures status { result.boundaries.status ≡ 0 }
+{
+    WordBreakIterator {
+        boundaries: Boundaries::new(engine, text),
+        text: PhantomData,
+    }
+}
