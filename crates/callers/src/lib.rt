@@ -7,3 +7,4 @@ pub mod lines;
 pub mod sentences;
 #[cfg(test)]
 mod tests;
+pub mod words;

@@ -3,13 +3,18 @@ use crate::clusters::cluster_places;
 use crate::data::{runs_by_machine, runs_by_table};
 use crate::lines::{breakall_segmenter, mandatory_breaks};
 use crate::sentences::sentence_boundary_count;
-use bench::clusters::cluster_machine;
+use crate::words::word_ends;
+use bench::clusters::{cluster_machine, cluster_table};
 use bench::lines::{breakall, line_machine};
 use bench::sentences::sentence_machine;
-use icu_segmenter::options::{LineBreakOptions, SentenceBreakInvariantOptions};
+use bench::words::word_machine;
+use icu_segmenter::options::{
+    LineBreakOptions, SentenceBreakInvariantOptions, WordBreakInvariantOptions,
+};
 use icu_segmenter::provider::LineTailoringsBorrowed;
 use icu_segmenter::{
     GraphemeClusterSegmenterBorrowed, LineSegmenterBorrowed, SentenceSegmenterBorrowed,
+    WordSegmenterBorrowed,
 };
 use std::test::Fail;
 
@@ -82,5 +87,18 @@ fn finds_runs(rt: HostRuntime) -> Result<(), Fail> {
         let places = cluster_places(alloc, segmenter, "two  words")?;
         assert_eq!(rt; places.as_slice(), [0, 3, 5, 10].as_slice());
     }
+    Ok(())
+}
+
+#[test]
+fn finds_words(rt: HostRuntime) -> Result<(), Fail> {
+    let alloc = rt.alloc();
+    let machine = word_machine(alloc)?;
+    let clusters = cluster_table(alloc)?;
+    let options = WordBreakInvariantOptions::default();
+    let words = WordSegmenterBorrowed::new_neo_for_non_complex_scripts(&machine, &clusters, options)?;
+    let places: Vec<usize> = words.segment_str("one 42.").collect(alloc)?;
+    assert_eq!(rt; places.as_slice(), [0, 3, 4, 6, 7].as_slice());
+    assert_eq!(rt; word_ends(alloc, words, "one 42.")?.as_slice(), [3, 6].as_slice());
     Ok(())
 }

@@ -29,3 +29,11 @@ pub use Rattle.seg_lines.specs.Options
 pub use Rattle.seg_lines.specs.Tailorings
 pub use Rattle.seg_lines.specs.LineTailorings
 pub use Rattle.seg_lines.specs.Lines
+pub use Rattle.seg_text.specs.Cuts
+pub use Rattle.seg_pairs.specs.Runs
+pub use Rattle.seg_complex.specs.Scripts
+pub use Rattle.seg_complex.specs.Pieces
+pub use Rattle.seg_complex.specs.RunCuts
+pub use Rattle.seg_words.specs.WordRules
+pub use Rattle.seg_words.specs.WordFaults
+pub use Rattle.seg_words.specs.Words

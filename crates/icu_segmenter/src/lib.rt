@@ -9,6 +9,7 @@ pub use seg_clusters::grapheme::{GraphemeClusterSegmenter, GraphemeClusterSegmen
 pub use seg_clusters::sentence::{SentenceSegmenter, SentenceSegmenterBorrowed};
 pub use seg_lines::line::{LineSegmenter, LineSegmenterBorrowed};
 pub use seg_text::{indices, scaffold};
+pub use seg_words::word::{WordSegmenter, WordSegmenterBorrowed};
 
 /// The data of segmenters, each checked once, where it is made: tables of classes, state machines and pair tables
 /// with what replaces parts of them, and what is wrong where they are refused.
@@ -26,11 +27,13 @@ pub mod iterators {
     pub use seg_clusters::grapheme::GraphemeClusterBreakIterator;
     pub use seg_clusters::sentence::SentenceBreakIterator;
     pub use seg_lines::line::LineBreakIterator;
+    pub use seg_words::word::{WordBreakIterator, WordBreakIteratorWithWordType};
 }
 
-/// The options of segmenters, and the language of a text, which is one of them.
+/// The options of segmenters, the language of a text, which is one of them, and the types of words.
 pub mod options {
     pub use seg_clusters::sentence::{SentenceBreakInvariantOptions, SentenceBreakOptions};
     pub use seg_data::provider::LanguageIdentifier;
     pub use seg_lines::line::{LineBreakOptions, LineBreakStrictness, LineBreakWordOption};
+    pub use seg_words::word::{WordBreakInvariantOptions, WordBreakOptions, WordType};
 }

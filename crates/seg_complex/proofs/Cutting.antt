@@ -12,7 +12,7 @@ use Rattle.seg_text.proofs.Stretches.{text-later-next, text-later-nil}
 use Rattle.seg_data.specs.declared.provider.ComplexScript.{ComplexScript}
 use Rattle.seg_complex.specs.Scripts.{script_of, has_script}
 use Rattle.seg_complex.specs.Pieces.{GivesPiece, piece_length, piece_script}
-use Rattle.seg_complex.specs.Runs.{PieceCuts, CoverPieces, CoverRuns, at_end, piece_stretch, run_cuts}
+use Rattle.seg_complex.specs.RunCuts.{PieceCuts, CoverPieces, CoverRuns, at_end, piece_stretch, run_cuts}
 use Rattle.seg_complex.proofs.Pieces.{piece-some}
 
 progress : (cuts : PieceCuts) → HasProgress (piece_stretch cuts)

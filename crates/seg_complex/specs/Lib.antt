@@ -1,3 +1,3 @@
 pub mod Scripts
 pub mod Pieces
-pub mod Runs
+pub mod RunCuts

@@ -4,7 +4,7 @@ ghost use Rattle.std.specs.Prelude.{◌≡◌, ℕ, List, length};
 ghost use Rattle.seg_text.specs.Boundaries.{RisesTo};
 ghost use Rattle.seg_text.specs.Cuts.{with_status};
 ghost use Rattle.seg_complex.specs.Pieces.{ArePieces, pieces};
-ghost use Rattle.seg_complex.specs.Runs.{PieceCuts, CoverPieces, CoverRuns, at_end, run_cuts};
+ghost use Rattle.seg_complex.specs.RunCuts.{PieceCuts, CoverPieces, CoverRuns, at_end, run_cuts};
 
 /// Law: a list of code points has exactly one list of pieces: joined they are the list, none is empty, each has code points
 /// of one script, and neighbours have different ones.

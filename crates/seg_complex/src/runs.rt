@@ -3,7 +3,7 @@
 ghost use Rattle.std.specs.Prelude.{◌≡◌};
 ghost use Rattle.std.specs.Iterator.{YieldsFirst, item_count};
 ghost use Rattle.seg_text.specs.Cuts.{cut_places};
-ghost use Rattle.seg_complex.specs.Runs.{at_end, run_cuts};
+ghost use Rattle.seg_complex.specs.RunCuts.{at_end, run_cuts};
 
 use crate::script_iter::ScriptIterator;
 use seg_text::cursor::Cursor;
@@ -18,7 +18,7 @@ pub struct RunCuts<I: Cursor> {
 impl<I: Cursor> Model for RunCuts<I> {
     ghost use Rattle.std.specs.Prelude.{ℕ, List};
     ghost use Rattle.seg_text.specs.Cuts.{cut_places};
-    ghost use Rattle.seg_complex.specs.Runs.{at_end, run_cuts};
+    ghost use Rattle.seg_complex.specs.RunCuts.{at_end, run_cuts};
 
     ghost Value = { List ℕ };
 

@@ -17,8 +17,8 @@ use Rattle.seg_pairs.proofs.ComplexStretches.{complex-going, none-after, without
 use Rattle.seg_pairs.proofs.Engine.{table-going, table-alone}
 use Rattle.seg_engine.specs.Rules.{Rules}
 use Rattle.seg_engine.specs.Rules.Rules.{ByTable, ByMachine}
-use Rattle.seg_complex.specs.Runs.{at_end, run_cuts}
-use Rattle.seg_words.specs.Rules.{HasNoComplex, first_word_stretch, word_boundaries_by}
+use Rattle.seg_complex.specs.RunCuts.{at_end, run_cuts}
+use Rattle.seg_words.specs.WordRules.{HasNoComplex, first_word_stretch, word_boundaries_by}
 
 going : (rules : Rules) → HasProgress (first_word_stretch rules)
 going (ByTable t overriding) = complex-going t overriding (run_cuts at_end)

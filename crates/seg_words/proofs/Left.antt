@@ -15,7 +15,7 @@ use Rattle.seg_pairs.specs.PairTable.{PairTable}
 use Rattle.seg_pairs.specs.Breaks.{status_of}
 use Rattle.seg_pairs.specs.Runs.{Unread, LeadsTo, GoesOn, complex_stretch, run_status, unread_boundaries}
 use Rattle.seg_pairs.proofs.ComplexStretches.{complex-within}
-use Rattle.seg_complex.specs.Runs.{at_end, run_cuts}
+use Rattle.seg_complex.specs.RunCuts.{at_end, run_cuts}
 use Rattle.seg_complex.proofs.Cutting.{at_end-covers, runs-covered, ends-inside, cuts-nil}
 
 abbrev ends : Cuts

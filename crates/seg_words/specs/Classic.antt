@@ -5,7 +5,7 @@ use Rattle.seg_text.specs.Stretches.{list_boundaries}
 use Rattle.seg_text.specs.Cuts.{with_status}
 use Rattle.seg_pairs.specs.Breaks.{status_of}
 use Rattle.seg_pairs.specs.Runs.{Unread, complex_stretch, run_status, unread_boundaries}
-use Rattle.seg_complex.specs.Runs.{at_end, run_cuts}
+use Rattle.seg_complex.specs.RunCuts.{at_end, run_cuts}
 
 -- all boundaries of the text, or where it has started the cuts that are left of a run, and then the boundaries of what isn't
 -- read; and the status of the class of the boundary that was given last

@@ -1,5 +1,5 @@
-pub mod Rules
-pub mod Faults
+pub mod WordRules
+pub mod WordFaults
 pub mod Classic
 pub mod Remainders
 pub mod Words

@@ -9,7 +9,7 @@ use Rattle.seg_words.specs.declared.word.WordSegmenter.{WordSegmenter}
 use Rattle.seg_words.specs.declared.word.WordSegmenterBorrowed.{WordSegmenterBorrowed}
 use Rattle.seg_words.specs.declared.word.WordBreakIterator.{WordBreakIterator}
 use Rattle.seg_words.specs.declared.word.WordBreakIteratorWithWordType.{WordBreakIteratorWithWordType}
-use Rattle.seg_words.specs.Rules.{type_of}
+use Rattle.seg_words.specs.WordRules.{type_of}
 
 -- what a segmenter finds boundaries by
 abbrev pub word_rules : WordSegmenterBorrowed → Rules

@@ -5,7 +5,7 @@ ghost use Rattle.std.specs.Iterator.{YieldsFirst, MakesProgress, item_count};
 ghost use Rattle.seg_text.specs.Items.{start_of};
 ghost use Rattle.seg_text.specs.Boundaries.{GivesNext, IsCover, offsets_left};
 ghost use Rattle.seg_engine.specs.Engine.{rules_of};
-ghost use Rattle.seg_words.specs.Rules.{word_boundaries_of};
+ghost use Rattle.seg_words.specs.WordRules.{word_boundaries_of};
 
 use crate::classic::ClassicBoundaries;
 use seg_engine::engine::Engine;

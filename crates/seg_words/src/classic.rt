@@ -6,7 +6,7 @@ ghost use Rattle.seg_text.specs.Items.{start_of};
 ghost use Rattle.seg_text.specs.Boundaries.{GivesNext, IsCover, offsets_left};
 ghost use Rattle.seg_pairs.specs.PairData.{pair_table_of, override_of};
 ghost use Rattle.seg_engine.specs.Rules.Rules.{ByTable};
-ghost use Rattle.seg_words.specs.Rules.{word_boundaries_of};
+ghost use Rattle.seg_words.specs.WordRules.{word_boundaries_of};
 
 use seg_complex::runs::RunCuts;
 use seg_pairs::pair_data::PairDataBorrowed;

@@ -5,7 +5,7 @@ ghost use Rattle.seg_data.specs.Faults.{IsFaultless, IsLowestFault};
 ghost use Rattle.seg_pairs.specs.Overriding.{table_in};
 ghost use Rattle.seg_pairs.specs.PairData.{pair_table_of, override_of};
 ghost use Rattle.seg_pairs.specs.PairFaults.{HasPairDataFault};
-ghost use Rattle.seg_words.specs.Faults.{HasWordTableFault, HasWordMachineFault};
+ghost use Rattle.seg_words.specs.WordFaults.{HasWordTableFault, HasWordMachineFault};
 
 use seg_data::provider::DataError;
 use seg_machine::provider::SegmenterStateMachine;

@@ -4,7 +4,7 @@
 ghost use Rattle.std.specs.Prelude.{ℕ, List};
 ghost use Rattle.seg_text.specs.Boundaries.{HasEqualOrdinals, RestartsIn};
 ghost use Rattle.seg_text.specs.Stretches.{HasOneAnswer};
-ghost use Rattle.seg_words.specs.Rules.{HasNoComplex, first_word_stretch, word_boundaries_by};
+ghost use Rattle.seg_words.specs.WordRules.{HasNoComplex, first_word_stretch, word_boundaries_by};
 ghost use Rattle.seg_words.specs.Words.{word_rules};
 
 use crate::word::WordSegmenterBorrowed;

@@ -11,7 +11,7 @@ ghost use Rattle.seg_data.specs.Faults.{IsFaultless, IsLowestFault};
 ghost use Rattle.seg_pairs.specs.Overriding.{table_in};
 ghost use Rattle.seg_engine.specs.Engine.{rules_of};
 ghost use Rattle.seg_engine.specs.Rules.Rules.{ByTable, ByMachine};
-ghost use Rattle.seg_words.specs.Rules.{type_of, word_boundaries_of};
+ghost use Rattle.seg_words.specs.WordRules.{is_word_like, type_of, word_boundaries_of};
 ghost use Rattle.seg_words.specs.declared.word.WordType.TheVariants.{None as NoWord};
 
 use crate::boundaries::Boundaries;
@@ -54,11 +54,9 @@ pub enum WordType {
 }
 
 impl WordType {
-    ghost use Rattle.std.specs.Prelude.{◌≢◌, ◌↔◌, IsTrue};
-
     /// Whether it is a word: a number or one of letters.
     pub fn is_word_like(self) -> bool
-        ensures { IsTrue result ↔ (self ≢ NoWord) }
+        ensures { result ≡ is_word_like self }
     {
         match self {
             WordType::None => false,
@@ -99,7 +97,6 @@ impl<'data, 's, Y: RuleBreakType<'s>> Drop for WordBreakIterator<'data, 's, Y> {
 }
 
 impl<'data, 's, Y: RuleBreakType<'s>> WordBreakIterator<'data, 's, Y> {
-    ghost use Rattle.std.specs.Prelude.{◌≢◌, ◌↔◌, IsTrue};
     ghost use Rattle.seg_words.specs.Words.{with_types, word_type, words_left, typed_places};
 
     /// The type of what ends at the boundary that was given last: that of its status. `None` before the first `next`, at
@@ -112,7 +109,7 @@ impl<'data, 's, Y: RuleBreakType<'s>> WordBreakIterator<'data, 's, Y> {
 
     /// Whether a word ends at the boundary that was given last: its type isn't `None`.
     pub fn is_word_like(&self) -> bool
-        ensures { IsTrue result ↔ (word_type self.now ≢ NoWord) }
+        ensures { result ≡ is_word_like (word_type self.now) }
     {
         self.word_type().is_word_like()
     }
@@ -184,7 +181,7 @@ pub struct WordSegmenter {
 
 impl WordSegmenter {
     ghost use Rattle.seg_words.specs.Words.{word_rules, owned_word_rules};
-    ghost use Rattle.seg_words.specs.Faults.{HasWordTableFault, HasWordMachineFault};
+    ghost use Rattle.seg_words.specs.WordFaults.{HasWordTableFault, HasWordMachineFault};
 
     /// A segmenter by a pair table and its override, if there is one; a run of complex characters (those of the class
     /// `complex_property`) is cut after each of its pieces of one script. The pair table of clusters is for words of
@@ -257,7 +254,7 @@ pub struct WordSegmenterBorrowed<'data> {
 
 impl<'data> WordSegmenterBorrowed<'data> {
     ghost use Rattle.seg_words.specs.Words.{word_rules, words_left, word_type};
-    ghost use Rattle.seg_words.specs.Faults.{HasWordTableFault, HasWordMachineFault};
+    ghost use Rattle.seg_words.specs.WordFaults.{HasWordTableFault, HasWordMachineFault};
 
     /// A segmenter by a pair table and its override, if there is one; a run of complex characters (those of the class
     /// `complex_property`) is cut after each of its pieces of one script. The pair table of clusters is for words of

@@ -1,12 +1,13 @@
 use Rattle.std.proofs.lemmas.Bool.{iff_false}
+use Rattle.std.proofs.lemmas.Result.{err_from_is_err_and}
 use Rattle.seg_words.proofs.Faults.{clusters-lowest, complex-lowest, complex-moved, start-moved}
 use Rattle.seg_words.proofs.data.word_pairs.Goals as goal
 
 pub returns-in_err-check_clusters-clause-refused : goal.returns-in_err-check_clusters-clause-refused
 returns-in_err-check_clusters-clause-refused c =
     let same = c.in_ok-pairs.ensures.accepted in
-    rw c.from_residual-in_err-check_clusters.ensures
-    (clusters-lowest _ _ _ same.2 (start-moved _ _ _ _ same.0 same.1 (iff_false c.keeps_start.ensures c.if-keeps_start.false)) _ c.in_err-check_clusters.ensures.refused)
+    let fault = err_from_is_err_and c.from_residual-in_err-check_clusters.result c.from_residual-in_err-check_clusters.ensures.1 in
+    rw (fault.1, fault.2) (clusters-lowest _ _ _ same.2 (start-moved _ _ _ _ same.0 same.1 (iff_false c.keeps_start.ensures c.if-keeps_start.false)) _ c.in_err-check_clusters.ensures.refused)
 
 pub returns-then-has_complex_below_0100-clause-refused : goal.returns-then-has_complex_below_0100-clause-refused
 returns-then-has_complex_below_0100-clause-refused c =

@@ -1,5 +1,5 @@
 use Rattle.seg_text.proofs.Stretches.{equal-ordinals}
-use Rattle.seg_words.specs.Rules.{word_boundaries_by}
+use Rattle.seg_words.specs.WordRules.{word_boundaries_by}
 use Rattle.seg_words.specs.Words.{word_rules}
 use Rattle.seg_words.proofs.laws.equal_code_points.Goals as goal
 

@@ -1,5 +1,5 @@
 use Rattle.seg_text.proofs.Cursors.{fewer-left}
-use Rattle.seg_complex.specs.Runs.{at_end}
+use Rattle.seg_complex.specs.RunCuts.{at_end}
 use Rattle.seg_complex.proofs.Cutting.{end-next, end-none}
 use Rattle.seg_complex.proofs.runs.RunCutsIterator.next.Goals as goal
 

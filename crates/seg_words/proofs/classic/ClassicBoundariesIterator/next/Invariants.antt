@@ -1,7 +1,7 @@
 use Rattle.std.proofs.Common.{◌≡◌, ◌++◌, true, length}
 use Rattle.seg_text.specs.Cuts.{with_status}
 use Rattle.seg_pairs.specs.Runs.{run_status, unread_boundaries}
-use Rattle.seg_complex.specs.Runs.{at_end, run_cuts}
+use Rattle.seg_complex.specs.RunCuts.{at_end, run_cuts}
 use Rattle.seg_words.proofs.classic.ClassicBoundariesIterator.next.Given as goal
 
 abbrev pub invariant-loop-place : goal.invariant-loop-place

@@ -1,5 +1,5 @@
 -- The boundaries of words, by a pair table or by a state machine, and their types.
-use Rattle.std.specs.Prelude.{ℕ, zero, suc, List}
+use Rattle.std.specs.Prelude.{ℕ, zero, suc, Bool, true, false, List}
 use Rattle.seg_text.specs.declared.boundary.Boundary.{Boundary}
 use Rattle.seg_text.specs.Items.{Text}
 use Rattle.seg_text.specs.Boundaries.{boundaries_in}
@@ -8,7 +8,7 @@ use Rattle.seg_machine.specs.Segments.{machine_stretch}
 use Rattle.seg_pairs.specs.Runs.{HasComplexElement, complex_stretch}
 use Rattle.seg_engine.specs.Rules.{Rules}
 use Rattle.seg_engine.specs.Rules.Rules.{ByTable, ByMachine}
-use Rattle.seg_complex.specs.Runs.{at_end, run_cuts}
+use Rattle.seg_complex.specs.RunCuts.{at_end, run_cuts}
 use Rattle.seg_words.specs.declared.word.WordType.{WordType}
 use Rattle.seg_words.specs.declared.word.WordType.TheVariants.{None as NoWord, Number, Letter}
 
@@ -36,3 +36,13 @@ abbrev pub type_of : ℕ → WordType
 type_of zero = NoWord
 type_of (suc zero) = Number
 type_of (suc (suc status)) = Letter
+
+-- is it a word
+abbrev pub is_word_like : WordType → Bool
+is_word_like NoWord = false
+is_word_like Number = true
+is_word_like Letter = true
+
+-- does a word end at the boundary
+abbrev pub ends_word : Boundary → Bool
+ends_word boundary = is_word_like (type_of boundary.status)
