@@ -38,7 +38,9 @@ fn changed_words(
     keeps: Option<usize>,
 ) -> Result<RuleBreakData, Fail> {
     let mut entries = Vec::from_slice(alloc, bench.break_state_table())?;
-    if let Some(place) = keeps && place < entries.len() {
+    if let Some(place) = keeps
+        && place < entries.len()
+    {
         entries[place] = BreakState::Keep;
     }
     Ok(RuleBreakData::try_from_parts(
@@ -178,11 +180,11 @@ fn table_refusals(
         overriding.as_ref(),
         &clusters,
         options,
-    )
-    .err();
+    ).err();
     let options = WordBreakOptions::default();
-    let owned =
-        WordSegmenter::try_new_for_non_complex_scripts(table, overriding, clusters, options).err();
+    let owned = WordSegmenter::try_new_for_non_complex_scripts(
+        table, overriding, clusters, options,
+    ).err();
     Ok((lent, owned))
 }
 
@@ -197,7 +199,11 @@ fn tables_are_refused_by_the_lowest_fault(rt: HostRuntime) -> Result<(), Fail> {
             below: number & 16 != 0,
         };
         let want = faults.lowest();
-        assert_eq!(rt; table_refusals(rt.alloc(), faults)?, (want, want), "{faults:?}");
+        assert_eq!(rt;
+            table_refusals(rt.alloc(), faults)?,
+            (want, want),
+            "{faults:?}"
+        );
     }
     Ok(())
 }
@@ -218,11 +224,13 @@ fn machine_refusals(
     let machine = machine_with(alloc, faults)?;
     let clusters = clusters_with(alloc, faults)?;
     let options = WordBreakInvariantOptions::default();
-    let lent =
-        WordSegmenterBorrowed::new_neo_for_non_complex_scripts(&machine, &clusters, options).err();
+    let lent = WordSegmenterBorrowed::new_neo_for_non_complex_scripts(
+        &machine, &clusters, options,
+    ).err();
     let options = WordBreakOptions::default();
-    let owned =
-        WordSegmenter::try_new_neo_for_non_complex_scripts(machine, clusters, options).err();
+    let owned = WordSegmenter::try_new_neo_for_non_complex_scripts(
+        machine, clusters, options,
+    ).err();
     Ok((lent, owned))
 }
 
@@ -237,7 +245,11 @@ fn machines_are_refused_by_the_lowest_fault(rt: HostRuntime) -> Result<(), Fail>
             below: number & 4 != 0,
         };
         let want = faults.lowest();
-        assert_eq!(rt; machine_refusals(rt.alloc(), faults)?, (want, want), "{faults:?}");
+        assert_eq!(rt;
+            machine_refusals(rt.alloc(), faults)?,
+            (want, want),
+            "{faults:?}"
+        );
     }
     Ok(())
 }

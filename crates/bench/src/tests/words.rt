@@ -66,10 +66,12 @@ fn words_agree(alloc: Global, text: &str, words: &Words) -> Result<bool, AllocEr
     let in_units = types_of(alloc, words.utf16.as_slice())?;
     let in_bytes = types_of(alloc, words.latin1.as_slice())?;
     let is_narrow = text.chars().all(|c| (c as u32) < 0x100);
-    Ok(agrees(alloc, text, &places)?
-        && in_utf8.as_slice() == types.as_slice()
-        && in_units.as_slice() == types.as_slice()
-        && (!is_narrow || in_bytes.as_slice() == types.as_slice()))
+    Ok(
+        agrees(alloc, text, &places)?
+            && in_utf8.as_slice() == types.as_slice()
+            && in_units.as_slice() == types.as_slice()
+            && (!is_narrow || in_bytes.as_slice() == types.as_slice()),
+    )
 }
 
 /// Asserts that a text's words are these in `str`, and at equal ordinals and of equal types in the other encodings.
