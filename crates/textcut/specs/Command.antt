@@ -4,7 +4,6 @@ use Rattle.std.specs.Borrow.{Bor}
 use Rattle.icu_segmenter.specs.Utf8.{utf8}
 use Rattle.icu_segmenter.specs.Boundaries.{offsets}
 use Rattle.icu_segmenter.specs.Items.{Text}
-use Rattle.icu_segmenter.specs.declared.boundary.Boundary.{Boundary}
 use Rattle.icu_segmenter.specs.Rules.{boundaries_of}
 use Rattle.icu_segmenter.specs.WordRules.{word_boundaries_of}
 use Rattle.icu_segmenter.specs.Rules.Rules.{ByTable, ByMachine}
@@ -34,16 +33,16 @@ words_of LineNeo = codes "line" ∷ codes "neo" ∷ []
 abbrev pub IsNoCommand : List (List ℕ) → Type 0
 IsNoCommand words = (command : Command) → words ≢ words_of command
 
--- the boundaries that a command finds in a text; by default options the machine of lines isn't tailored
-abbrev pub found_by : Command → Text → List Boundary
-found_by GraphemeClassic text = boundaries_of (ByTable cluster_table None) text
-found_by GraphemeNeo text = boundaries_of (ByMachine cluster_machine) text
-found_by SentenceClassic text = boundaries_of (ByTable sentence_table None) text
-found_by SentenceNeo text = boundaries_of (ByMachine sentence_machine) text
-found_by WordClassic text = word_boundaries_of (ByTable word_table None) text
-found_by WordNeo text = word_boundaries_of (ByMachine word_machine) text
-found_by LineNeo text = boundaries_of (ByMachine line_machine) text
+-- the places of the boundaries that a command finds in a text; by default options the machine of lines isn't tailored
+abbrev pub places_in : Command → Text → List ℕ
+places_in GraphemeClassic text = offsets (boundaries_of (ByTable cluster_table None) text)
+places_in GraphemeNeo text = offsets (boundaries_of (ByMachine cluster_machine) text)
+places_in SentenceClassic text = offsets (boundaries_of (ByTable sentence_table None) text)
+places_in SentenceNeo text = offsets (boundaries_of (ByMachine sentence_machine) text)
+places_in WordClassic text = offsets (word_boundaries_of (ByTable word_table None) text)
+places_in WordNeo text = offsets (word_boundaries_of (ByMachine word_machine) text)
+places_in LineNeo text = offsets (boundaries_of (ByMachine line_machine) text)
 
--- the places of boundaries that a command prints of a text
+-- .. and in the text of some bytes
 abbrev pub places_of : Command → List ℕ → List ℕ
-places_of command bytes = offsets (found_by command (utf8 bytes))
+places_of command bytes = places_in command (utf8 bytes)

@@ -194,9 +194,9 @@ fn print_words_by_table<O: Write>(alloc: Global, text: &[u8], out: &mut O) -> Re
     let table = word_table(alloc)?;
     let clusters = cluster_table(alloc)?;
     let options = WordBreakInvariantOptions::default();
-    let Ok(segmenter) =
-        WordSegmenterBorrowed::new_for_non_complex_scripts(&table, None, &clusters, options)
-    else {
+    let Ok(segmenter) = WordSegmenterBorrowed::new_for_non_complex_scripts(
+        &table, None, &clusters, options,
+    ) else {
         unreachable!()
     };
     print_words(segmenter, text, out)
@@ -211,9 +211,9 @@ fn print_words_by_machine<O: Write>(alloc: Global, text: &[u8], out: &mut O) -> 
     let machine = word_machine(alloc)?;
     let clusters = cluster_table(alloc)?;
     let options = WordBreakInvariantOptions::default();
-    let Ok(segmenter) =
-        WordSegmenterBorrowed::new_neo_for_non_complex_scripts(&machine, &clusters, options)
-    else {
+    let Ok(segmenter) = WordSegmenterBorrowed::new_neo_for_non_complex_scripts(
+        &machine, &clusters, options,
+    ) else {
         unreachable!()
     };
     print_words(segmenter, text, out)
