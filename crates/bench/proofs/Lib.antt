@@ -1,3 +1,4 @@
 pub mod Faultless
 pub mod Scripts
 pub mod PairFaults
+pub mod WordFaults

@@ -4,6 +4,7 @@ ghost use Rattle.std.specs.Prelude.{◌≡◌, None, IfOk};
 ghost use Rattle.bench.specs.PairTables.{cluster_table, sentence_table, word_table};
 ghost use Rattle.icu_segmenter.specs.Faults.{IsFaultless};
 ghost use Rattle.icu_segmenter.specs.PairFaults.{HasPairDataFault};
+ghost use Rattle.icu_segmenter.specs.WordFaults.{HasWordTableFault};
 
 use icu_segmenter::provider::{BreakState, ClassTable, RuleBreakData};
 use std::alloc::{AllocError, Global};
@@ -126,7 +127,8 @@ const WORD_STATUSES: [u8; 3] = [2, 1, 2];
 /// of them, 2 or 1. A complex character has status 2, and any other stands by itself.
 /// The only error is want of memory.
 pub fn word_table(alloc: Global) -> Result<RuleBreakData, AllocError>
-    ensures { IfOk result (λ table. table ≡ word_table) }
+    ensures value { IfOk result (λ table. table ≡ word_table) }
+    ensures sound { IfOk result (λ table. IsFaultless (HasWordTableFault table None cluster_table)) }
 {
     let Ok(classes) = ClassTable::try_from_ranges(Vec::from_slice(alloc, &WORD_CLASSES)?, 0) else {
         unreachable!()

@@ -5,3 +5,5 @@ mod machines;
 mod pairs;
 mod sentences;
 mod texts;
+mod word_tables;
+mod words;

@@ -1,7 +1,10 @@
 //! The bench machine of words.
 
 ghost use Rattle.std.specs.Prelude.{◌≡◌, IfOk};
+ghost use Rattle.bench.specs.PairTables.{cluster_table};
 ghost use Rattle.bench.specs.Words.{word_machine};
+ghost use Rattle.icu_segmenter.specs.Faults.{IsFaultless};
+ghost use Rattle.icu_segmenter.specs.WordFaults.{HasWordMachineFault};
 
 use crate::machines::{Entry, machine_of};
 use icu_segmenter::provider::{Acceptance, ComplexScript, SegmenterStateMachine, State, Symbol};
@@ -53,7 +56,8 @@ const TRANSITIONS: [State; 25] = [
 /// with status 0.
 /// The only error is want of memory.
 pub fn word_machine(alloc: Global) -> Result<SegmenterStateMachine, AllocError>
-    ensures { IfOk result (λ machine. machine ≡ word_machine) }
+    ensures value { IfOk result (λ machine. machine ≡ word_machine) }
+    ensures sound { IfOk result (λ machine. IsFaultless (HasWordMachineFault machine cluster_table)) }
 {
     machine_of(alloc, &SYMBOLS, OTHER, &STATES, &TRANSITIONS, &MAP)
 }

@@ -3,14 +3,17 @@ use Rattle.std.specs.Prelude.{◌≢◌, ℕ, None, List, [], ◌∷◌, map, co
 use Rattle.std.specs.Borrow.{Bor}
 use Rattle.icu_segmenter.specs.Utf8.{utf8}
 use Rattle.icu_segmenter.specs.Boundaries.{offsets}
-use Rattle.icu_segmenter.specs.Rules.{Rules, boundaries_of}
+use Rattle.icu_segmenter.specs.Items.{Text}
+use Rattle.icu_segmenter.specs.Rules.{boundaries_of}
+use Rattle.icu_segmenter.specs.WordRules.{word_boundaries_of}
 use Rattle.icu_segmenter.specs.Rules.Rules.{ByTable, ByMachine}
 use Rattle.bench.specs.Clusters.{cluster_machine}
 use Rattle.bench.specs.Sentences.{sentence_machine}
+use Rattle.bench.specs.Words.{word_machine}
 use Rattle.bench.specs.Lines.{line_machine}
-use Rattle.bench.specs.PairTables.{cluster_table, sentence_table}
+use Rattle.bench.specs.PairTables.{cluster_table, sentence_table, word_table}
 use Rattle.textcut.specs.declared.command.Command.{Command}
-use Rattle.textcut.specs.declared.command.Command.TheVariants.{GraphemeClassic, GraphemeNeo, SentenceClassic, SentenceNeo, LineNeo}
+use Rattle.textcut.specs.declared.command.Command.TheVariants.{GraphemeClassic, GraphemeNeo, SentenceClassic, SentenceNeo, WordClassic, WordNeo, LineNeo}
 
 -- the texts that references point to
 abbrev pub texts : List (Bor (List ℕ)) → List (List ℕ)
@@ -22,20 +25,24 @@ words_of GraphemeClassic = codes "grapheme" ∷ codes "classic" ∷ []
 words_of GraphemeNeo = codes "grapheme" ∷ codes "neo" ∷ []
 words_of SentenceClassic = codes "sentence" ∷ codes "classic" ∷ []
 words_of SentenceNeo = codes "sentence" ∷ codes "neo" ∷ []
+words_of WordClassic = codes "word" ∷ codes "classic" ∷ []
+words_of WordNeo = codes "word" ∷ codes "neo" ∷ []
 words_of LineNeo = codes "line" ∷ codes "neo" ∷ []
 
 -- words that no command has
 abbrev pub IsNoCommand : List (List ℕ) → Type 0
 IsNoCommand words = (command : Command) → words ≢ words_of command
 
--- what a command finds boundaries by; by default options the machine of lines isn't tailored
-abbrev pub rules_of : Command → Rules
-rules_of GraphemeClassic = ByTable cluster_table None
-rules_of GraphemeNeo = ByMachine cluster_machine
-rules_of SentenceClassic = ByTable sentence_table None
-rules_of SentenceNeo = ByMachine sentence_machine
-rules_of LineNeo = ByMachine line_machine
+-- the places of the boundaries that a command finds in a text; by default options the machine of lines isn't tailored
+abbrev pub places_in : Command → Text → List ℕ
+places_in GraphemeClassic text = offsets (boundaries_of (ByTable cluster_table None) text)
+places_in GraphemeNeo text = offsets (boundaries_of (ByMachine cluster_machine) text)
+places_in SentenceClassic text = offsets (boundaries_of (ByTable sentence_table None) text)
+places_in SentenceNeo text = offsets (boundaries_of (ByMachine sentence_machine) text)
+places_in WordClassic text = offsets (word_boundaries_of (ByTable word_table None) text)
+places_in WordNeo text = offsets (word_boundaries_of (ByMachine word_machine) text)
+places_in LineNeo text = offsets (boundaries_of (ByMachine line_machine) text)
 
--- the places of boundaries that a command prints of a text
+-- .. and in the text of some bytes
 abbrev pub places_of : Command → List ℕ → List ℕ
-places_of command bytes = offsets (boundaries_of (rules_of command) (utf8 bytes))
+places_of command bytes = places_in command (utf8 bytes)

@@ -14,6 +14,10 @@ pub enum Command {
     SentenceClassic,
     /// The sentences, by the machine that is built in.
     SentenceNeo,
+    /// The words, by the pair table that is built in.
+    WordClassic,
+    /// The words, by the machine that is built in.
+    WordNeo,
     /// Where lines may be broken, by the machine that is built in, with the default options.
     LineNeo,
 }
@@ -29,6 +33,8 @@ pub fn command_of(words: &[&str]) -> Option<Command>
         ["grapheme", "neo"] => Some(Command::GraphemeNeo),
         ["sentence", "classic"] => Some(Command::SentenceClassic),
         ["sentence", "neo"] => Some(Command::SentenceNeo),
+        ["word", "classic"] => Some(Command::WordClassic),
+        ["word", "neo"] => Some(Command::WordNeo),
         ["line", "neo"] => Some(Command::LineNeo),
         _ => None,
     }

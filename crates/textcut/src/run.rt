@@ -7,6 +7,8 @@ ghost use Rattle.icu_segmenter.specs.Boundaries.{offsets};
 ghost use Rattle.icu_segmenter.specs.Rules.{boundaries_of};
 ghost use Rattle.icu_segmenter.specs.Clusters.{cluster_rules};
 ghost use Rattle.icu_segmenter.specs.Sentences.{sentence_rules};
+ghost use Rattle.icu_segmenter.specs.Words.{word_rules};
+ghost use Rattle.icu_segmenter.specs.WordRules.{word_boundaries_of};
 ghost use Rattle.textcut.specs.Command.{texts, words_of, IsNoCommand, places_of};
 ghost use Rattle.textcut.specs.Failure.{status_of, message_of, AppendsBeginning};
 ghost use Rattle.textcut.specs.Lines.{lines_of};
@@ -18,10 +20,16 @@ use crate::failure::Failure;
 use crate::lines::print_lines;
 use bench::clusters::cluster_machine;
 use bench::lines::{line_machine, line_tailorings};
-use bench::pair_tables::{cluster_table, sentence_table};
+use bench::pair_tables::{cluster_table, sentence_table, word_table};
 use bench::sentences::sentence_machine;
-use icu_segmenter::options::{LineBreakOptions, SentenceBreakInvariantOptions};
-use icu_segmenter::{GraphemeClusterSegmenterBorrowed, LineSegmenter, SentenceSegmenterBorrowed};
+use bench::words::word_machine;
+use icu_segmenter::options::{
+    LineBreakOptions, SentenceBreakInvariantOptions, WordBreakInvariantOptions,
+};
+use icu_segmenter::{
+    GraphemeClusterSegmenterBorrowed, LineSegmenter, SentenceSegmenterBorrowed,
+    WordSegmenterBorrowed,
+};
 use std::alloc::Global;
 use std::io::{ErrorKind, Read, Write};
 
@@ -105,6 +113,8 @@ fn print_boundaries<O: Write>(
         Command::GraphemeNeo => print_clusters_by_machine(alloc, text, out),
         Command::SentenceClassic => print_sentences_by_table(alloc, text, out),
         Command::SentenceNeo => print_sentences_by_machine(alloc, text, out),
+        Command::WordClassic => print_words_by_table(alloc, text, out),
+        Command::WordNeo => print_words_by_machine(alloc, text, out),
         Command::LineNeo => print_line_breaks(alloc, text, out),
     }
 }
@@ -175,6 +185,40 @@ fn print_sentences_by_machine<O: Write>(
     print_sentences(segmenter, text, out)
 }
 
+fn print_words_by_table<O: Write>(alloc: Global, text: &[u8], out: &mut O) -> Result<(), Failure>
+    ensures printed { OnOk result
+        (Appends (O.contents out.old) (O.contents out.new) (lines_of (places_of Command.WordClassic text.now))) }
+    ensures unwritten { IsErrOf result Failure.NoMemory → out.new ≡ out.old }
+    ensures cause { result ≢ Err Failure.Usage × result ≢ Err Failure.ReadFailed }
+{
+    let table = word_table(alloc)?;
+    let clusters = cluster_table(alloc)?;
+    let options = WordBreakInvariantOptions::default();
+    let Ok(segmenter) = WordSegmenterBorrowed::new_for_non_complex_scripts(
+        &table, None, &clusters, options,
+    ) else {
+        unreachable!()
+    };
+    print_words(segmenter, text, out)
+}
+
+fn print_words_by_machine<O: Write>(alloc: Global, text: &[u8], out: &mut O) -> Result<(), Failure>
+    ensures printed { OnOk result
+        (Appends (O.contents out.old) (O.contents out.new) (lines_of (places_of Command.WordNeo text.now))) }
+    ensures unwritten { IsErrOf result Failure.NoMemory → out.new ≡ out.old }
+    ensures cause { result ≢ Err Failure.Usage × result ≢ Err Failure.ReadFailed }
+{
+    let machine = word_machine(alloc)?;
+    let clusters = cluster_table(alloc)?;
+    let options = WordBreakInvariantOptions::default();
+    let Ok(segmenter) = WordSegmenterBorrowed::new_neo_for_non_complex_scripts(
+        &machine, &clusters, options,
+    ) else {
+        unreachable!()
+    };
+    print_words(segmenter, text, out)
+}
+
 fn print_clusters<O: Write>(
     clusters: GraphemeClusterSegmenterBorrowed<'_>,
     text: &[u8],
@@ -197,6 +241,18 @@ fn print_sentences<O: Write>(
     ensures cause { IfErr result (λ failure. failure ≡ Failure.WriteFailed) }
 {
     print_numbers(sentences.segment_utf8(text), out)
+}
+
+fn print_words<O: Write>(
+    words: WordSegmenterBorrowed<'_>,
+    text: &[u8],
+    out: &mut O,
+) -> Result<(), Failure>
+    ensures printed { OnOk result (Appends (O.contents out.old) (O.contents out.new)
+        (lines_of (offsets (word_boundaries_of (word_rules words.entry) (utf8 text.now))))) }
+    ensures cause { IfErr result (λ failure. failure ≡ Failure.WriteFailed) }
+{
+    print_numbers(words.segment_utf8(text), out)
 }
 
 fn print_line_breaks<O: Write>(alloc: Global, text: &[u8], out: &mut O) -> Result<(), Failure>

@@ -1,16 +1,21 @@
 // Laws are calls, which return.
 use crate::clusters::cluster_machine;
 use crate::lines::line_machine;
-use crate::pair_tables::cluster_table;
+use crate::pair_tables::{cluster_table, word_table};
 use crate::sentences::sentence_machine;
-use icu_segmenter::options::{LineBreakOptions, SentenceBreakInvariantOptions};
+use crate::words::word_machine;
+use icu_segmenter::options::{
+    LineBreakOptions, SentenceBreakInvariantOptions, WordBreakInvariantOptions,
+};
 use icu_segmenter::provider::LineTailorings;
 use icu_segmenter::{
     GraphemeClusterSegmenterBorrowed, LineSegmenterBorrowed, SentenceSegmenterBorrowed,
+    WordSegmenterBorrowed,
 };
 use seg_clusters::laws::{grapheme, sentence};
 use seg_lines::laws as line;
 use seg_pairs::laws::{no_run_without_complex, small_tables_find};
+use seg_words::laws as word;
 use std::test::Fail;
 
 #[test]
@@ -53,6 +58,22 @@ fn laws_of_lines(rt: HostRuntime) -> Result<(), Fail> {
     line::boundaries_are_one(segmenter);
     line::equal_code_points(segmenter);
     line::restart(segmenter);
+    Ok(())
+}
+
+#[test]
+fn laws_of_words(rt: HostRuntime) -> Result<(), Fail> {
+    let (table, machine) = (word_table(rt.alloc())?, word_machine(rt.alloc())?);
+    let clusters = cluster_table(rt.alloc())?;
+    let options = WordBreakInvariantOptions::default();
+    for segmenter in [
+        WordSegmenterBorrowed::new_for_non_complex_scripts(&table, None, &clusters, options)?,
+        WordSegmenterBorrowed::new_neo_for_non_complex_scripts(&machine, &clusters, options)?,
+    ] {
+        word::boundaries_are_one(segmenter);
+        word::equal_code_points(segmenter);
+        word::restart(segmenter);
+    }
     Ok(())
 }
 

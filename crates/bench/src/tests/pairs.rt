@@ -280,7 +280,7 @@ fn owned_segmenters_of_sentences(rt: HostRuntime) -> Result<(), Fail> {
     Ok(())
 }
 
-fn override_of(alloc: Global, class: u8) -> Result<RuleBreakDataOverride, Fail> {
+pub(super) fn override_of(alloc: Global, class: u8) -> Result<RuleBreakDataOverride, Fail> {
     let ranges = Vec::from_slice(alloc, &[(0x3B, 0x3B, class)])?;
     let classes = ClassTable::try_from_ranges(ranges, 0)?;
     Ok(RuleBreakDataOverride::try_from_parts(classes)?)
@@ -384,7 +384,7 @@ fn refuses_tables(rt: HostRuntime) -> Result<(), Fail> {
 
 /// The bench table of clusters over its marks alone, where between the text's start and a mark may be no
 /// boundary, and with this class of complex items.
-fn changed_table(
+pub(super) fn changed_table(
     alloc: Global,
     bench: &RuleBreakData,
     keeps: bool,

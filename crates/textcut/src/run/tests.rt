@@ -43,6 +43,9 @@ fn prints_classic_boundaries(rt: HostRuntime) {
         ("grapheme", "a\u{301}\r\n", "0\n3\n5\n"),
         ("sentence", "", "0\n"),
         ("sentence", "a. b", "0\n3\n4\n"),
+        ("word", "", "0\n"),
+        ("word", "one 42.", "0\n3\n4\n6\n7\n"),
+        ("word", "กခ", "0\n3\n6\n"),
     ] {
         let ran = run_on(rt.alloc(), &[kind, "classic"], &mut text.as_bytes());
         assert!(rt; ran.is(0, lines, ""), "{kind} {text:?}");
@@ -54,6 +57,7 @@ fn prints_the_boundaries_of_each_kind(rt: HostRuntime) {
     for (kind, lines) in [
         ("grapheme", "0\n1\n2\n3\n4\n5\n6\n7\n8\n9\n"),
         ("sentence", "0\n4\n6\n9\n"),
+        ("word", "0\n2\n3\n4\n5\n6\n7\n8\n9\n"),
         ("line", "0\n4\n6\n8\n9\n"),
     ] {
         let ran = run_on(rt.alloc(), &[kind, "neo"], &mut b"ab. c\nd e".as_slice());
