@@ -3,7 +3,6 @@ use Rattle.std.proofs.Common.{◌≡◌, ℕ, suc, List, ◌∷◌, drop, sym, a
 use Rattle.std.specs.Prelude.{Option, slice_get}
 use Rattle.seg_text.specs.declared.boundary.Boundary.{Boundary}
 use Rattle.seg_text.specs.Boundaries.{RestartsIn, start, shift_all}
-use Rattle.seg_text.specs.Cuts.{Cuts}
 use Rattle.seg_text.specs.Stretches.{HasOneAnswer, HasProgress, list_boundaries}
 use Rattle.seg_text.proofs.Restarts.{restarts}
 use Rattle.seg_text.proofs.Stretches.{one-answer}
@@ -12,7 +11,7 @@ use Rattle.seg_machine.specs.Segments.{machine_stretch}
 use Rattle.seg_machine.proofs.Segmentations.{machine-going, machine-alone}
 use Rattle.seg_pairs.specs.PairTable.{PairTable}
 use Rattle.seg_pairs.specs.Breaks.{table_stretch}
-use Rattle.seg_pairs.specs.Runs.{HasComplexElement, complex_stretch}
+use Rattle.seg_pairs.specs.Runs.{HasComplexElement}
 use Rattle.seg_pairs.proofs.ComplexStretches.{complex-going, none-after, without-complex}
 use Rattle.seg_pairs.proofs.Engine.{table-going, table-alone}
 use Rattle.seg_engine.specs.Rules.{Rules}

@@ -1,18 +1,17 @@
 -- What is left of a text by a pair table whose runs are cut after each of their pieces.
-use Rattle.std.proofs.Common.{◌≡◌, ◌≢◌, ℕ, ◌<◌, true, List, [], ◌∷◌, ◌++◌, length, map, refl, sym, ap, ◌∙◌, subst, arith}
-use Rattle.std.specs.Prelude.{Option, Some, None}
+use Rattle.std.proofs.Common.{◌≡◌, ◌≢◌, ℕ, ◌<◌, List, [], ◌∷◌, ◌++◌, length, sym, ap, ◌∙◌, subst, arith}
+use Rattle.std.specs.Prelude.{Option}
 use Rattle.std.proofs.lemmas.List.{length-map}
 use Rattle.seg_text.specs.declared.boundary.Boundary.{Boundary}
 use Rattle.seg_text.specs.Items.{Item, Text, start_of, code_points, IsRising}
-use Rattle.seg_text.specs.Boundaries.{Remainder, GivesNext, IsCover, boundary, boundaries_in, offsets, offsets_left}
+use Rattle.seg_text.specs.Boundaries.{IsCover, boundary, boundaries_in}
 use Rattle.seg_text.specs.Cuts.{Cuts, AreCutsOf, with_status, cut_places}
 use Rattle.seg_text.specs.Stretches.{later_boundaries, list_boundaries}
 use Rattle.seg_text.proofs.Covers.{covers}
 use Rattle.seg_text.proofs.Stretches.{text-later-nil}
 use Rattle.seg_data.specs.Table.{Table}
-use Rattle.seg_pairs.specs.declared.runs.Event.TheVariants.{Break, Run}
+use Rattle.seg_pairs.specs.declared.runs.Event.TheVariants.{Run}
 use Rattle.seg_pairs.specs.PairTable.{PairTable}
-use Rattle.seg_pairs.specs.Breaks.{status_of}
 use Rattle.seg_pairs.specs.Runs.{Unread, LeadsTo, GoesOn, complex_stretch, run_status, unread_boundaries}
 use Rattle.seg_pairs.proofs.ComplexStretches.{complex-within}
 use Rattle.seg_complex.specs.RunCuts.{at_end, run_cuts}

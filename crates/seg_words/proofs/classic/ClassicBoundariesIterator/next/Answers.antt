@@ -1,4 +1,4 @@
-use Rattle.std.proofs.Common.{◌∙◌, ap, sym, refl}
+use Rattle.std.proofs.Common.{ap, refl}
 use Rattle.seg_text.specs.Boundaries.{offsets}
 use Rattle.seg_words.proofs.Left.{at-end, left-of, left-run, run-fewer}
 use Rattle.seg_words.proofs.classic.ClassicBoundariesIterator.next.Goals as goal
