@@ -5,11 +5,13 @@ use Rattle.ucd_breaks.specs.GraphemeClusterBreak.{grapheme_cluster_break, graphe
 use Rattle.ucd_breaks.specs.declared.GraphemeClusterBreak.TheVariants as cluster
 use Rattle.ucd_breaks.specs.SentenceBreak.{sentence_break, sentence_break_number}
 use Rattle.ucd_breaks.specs.declared.SentenceBreak.TheVariants as sentence
+use Rattle.ucd_breaks.specs.WordBreak.{word_break, word_break_number}
+use Rattle.ucd_breaks.specs.declared.WordBreak.TheVariants as word
 use Rattle.ucd_breaks.specs.LineBreak.{line_break, line_break_number}
 use Rattle.ucd_breaks.specs.declared.LineBreak.TheVariants as line
 use Rattle.icu_segmenter.specs.Table.{Table, value_of}
 use Rattle.speed.specs.declared.engine.Engine.{Engine}
-use Rattle.speed.specs.declared.engine.Engine.TheVariants.{GraphemeClassic, GraphemeNeo, SentenceClassic, SentenceNeo, LineNeo}
+use Rattle.speed.specs.declared.engine.Engine.TheVariants.{GraphemeClassic, GraphemeNeo, SentenceClassic, SentenceNeo, WordClassic, WordNeo, LineNeo}
 
 -- the class that is listed with a value's number, or else the default
 abbrev pub class_in : List (ℕ × ℕ) → ℕ → ℕ → ℕ
@@ -22,6 +24,8 @@ value_number GraphemeClassic c = grapheme_cluster_break_number (grapheme_cluster
 value_number GraphemeNeo c = grapheme_cluster_break_number (grapheme_cluster_break c)
 value_number SentenceClassic c = sentence_break_number (sentence_break c)
 value_number SentenceNeo c = sentence_break_number (sentence_break c)
+value_number WordClassic c = word_break_number (word_break c)
+value_number WordNeo c = word_break_number (word_break c)
 value_number LineNeo c = line_break_number (line_break c)
 
 -- the class of what is not listed
@@ -30,6 +34,8 @@ default_class GraphemeClassic = 0
 default_class GraphemeNeo = 1
 default_class SentenceClassic = 0
 default_class SentenceNeo = 1
+default_class WordClassic = 0
+default_class WordNeo = 1
 default_class LineNeo = 1
 
 -- the classes of the engine's small data that come closest to values of the property
@@ -50,6 +56,14 @@ listed_classes SentenceNeo =
     (sentence_break_number sentence.STerm, 2) ∷ (sentence_break_number sentence.ATerm, 2)
     ∷ (sentence_break_number sentence.Sp, 3) ∷ (sentence_break_number sentence.Cr, 4)
     ∷ (sentence_break_number sentence.Lf, 4) ∷ (sentence_break_number sentence.Sep, 4) ∷ []
+listed_classes WordClassic =
+    (word_break_number word.ALetter, 1) ∷ (word_break_number word.HebrewLetter, 1)
+    ∷ (word_break_number word.Katakana, 1) ∷ (word_break_number word.ExtendNumLet, 1)
+    ∷ (word_break_number word.Numeric, 2) ∷ []
+listed_classes WordNeo =
+    (word_break_number word.ALetter, 2) ∷ (word_break_number word.HebrewLetter, 2)
+    ∷ (word_break_number word.Katakana, 2) ∷ (word_break_number word.ExtendNumLet, 2)
+    ∷ (word_break_number word.Numeric, 3) ∷ []
 listed_classes LineNeo =
     (line_break_number line.Space, 2) ∷ (line_break_number line.MandatoryBreak, 3)
     ∷ (line_break_number line.CarriageReturn, 3) ∷ (line_break_number line.LineFeed, 3)

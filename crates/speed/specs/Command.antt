@@ -2,7 +2,7 @@
 use Rattle.std.specs.Prelude.{◌≡◌, ℕ, ◌-◌, ◌<◌, List, length, take, codes, All}
 use Rattle.std.specs.Borrow.{Bor}
 use Rattle.speed.specs.declared.engine.Engine.{Engine}
-use Rattle.speed.specs.declared.engine.Engine.TheVariants.{GraphemeClassic, GraphemeNeo, SentenceClassic, SentenceNeo, LineNeo}
+use Rattle.speed.specs.declared.engine.Engine.TheVariants.{GraphemeClassic, GraphemeNeo, SentenceClassic, SentenceNeo, WordClassic, WordNeo, LineNeo}
 
 -- the word of an engine
 abbrev pub word_of : Engine → List ℕ
@@ -10,6 +10,8 @@ word_of GraphemeClassic = codes "grapheme-classic"
 word_of GraphemeNeo = codes "grapheme-neo"
 word_of SentenceClassic = codes "sentence-classic"
 word_of SentenceNeo = codes "sentence-neo"
+word_of WordClassic = codes "word-classic"
+word_of WordNeo = codes "word-neo"
 word_of LineNeo = codes "line-neo"
 
 -- some engine has the word

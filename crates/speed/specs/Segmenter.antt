@@ -1,23 +1,27 @@
--- What each segmenter finds boundaries by.
+-- The boundaries that each segmenter gives.
 use Rattle.std.specs.Prelude.{ℕ, Option, Some, None, List}
 use Rattle.icu_segmenter.specs.Clusters.{owned_cluster_rules}
 use Rattle.icu_segmenter.specs.Lines.{owned_line_rules}
 use Rattle.icu_segmenter.specs.Machine.{Machine, machine}
 use Rattle.icu_segmenter.specs.PairTable.{PairTable, pair_table}
 use Rattle.icu_segmenter.specs.Boundaries.{offsets}
+use Rattle.icu_segmenter.specs.Items.{Text}
 use Rattle.icu_segmenter.specs.Rules.{Rules, boundaries_of}
 use Rattle.icu_segmenter.specs.Rules.Rules.{ByTable, ByMachine}
 use Rattle.icu_segmenter.specs.Sentences.{owned_sentence_rules}
 use Rattle.icu_segmenter.specs.Table.{Table}
 use Rattle.icu_segmenter.specs.Utf8.{utf8}
+use Rattle.icu_segmenter.specs.WordRules.{word_boundaries_of}
+use Rattle.icu_segmenter.specs.Words.{owned_word_rules}
 use Rattle.bench.specs.Clusters.{cluster_machine}
 use Rattle.bench.specs.Lines.{line_machine}
-use Rattle.bench.specs.PairTables.{cluster_table, sentence_table}
+use Rattle.bench.specs.PairTables.{cluster_table, sentence_table, word_table}
 use Rattle.bench.specs.Sentences.{sentence_machine}
+use Rattle.bench.specs.Words.{word_machine}
 use Rattle.speed.specs.declared.engine.Engine.{Engine}
-use Rattle.speed.specs.declared.engine.Engine.TheVariants.{GraphemeClassic, GraphemeNeo, SentenceClassic, SentenceNeo, LineNeo}
+use Rattle.speed.specs.declared.engine.Engine.TheVariants.{GraphemeClassic, GraphemeNeo, SentenceClassic, SentenceNeo, WordClassic, WordNeo, LineNeo}
 use Rattle.speed.specs.declared.segmenter.Segmenter.{Segmenter}
-use Rattle.speed.specs.declared.segmenter.Segmenter.TheVariants.{Clusters, Sentences, Lines}
+use Rattle.speed.specs.declared.segmenter.Segmenter.TheVariants.{Clusters, Sentences, Words, Lines}
 use Rattle.speed.specs.declared.tally.Tally.{Tally}
 use Rattle.speed.specs.Tally.{tally_of}
 
@@ -33,20 +37,30 @@ machine_with m None = m
 machine_with m (Some symbols) =
     machine symbols m.states m.transitions m.num_lookaheads m.pseudo_symbol_shift m.pseudo_symbol_map
 
--- the small data of an engine, with this class table in place of theirs if there is one
-abbrev pub rules_with : Engine → Option Table → Rules
-rules_with GraphemeClassic classes = ByTable (table_with cluster_table classes) None
-rules_with GraphemeNeo classes = ByMachine (machine_with cluster_machine classes)
-rules_with SentenceClassic classes = ByTable (table_with sentence_table classes) None
-rules_with SentenceNeo classes = ByMachine (machine_with sentence_machine classes)
-rules_with LineNeo classes = ByMachine (machine_with line_machine classes)
+-- the places of a text's boundaries by these rules, of clusters, sentences or lines, and of words
+abbrev pub places_by : Rules → Text → List ℕ
+places_by rules text = offsets (boundaries_of rules text)
 
--- what a segmenter finds boundaries by
-abbrev pub rules_of : Segmenter → Rules
-rules_of (Clusters clusters) = owned_cluster_rules clusters
-rules_of (Sentences sentences) = owned_sentence_rules sentences
-rules_of (Lines lines) = owned_line_rules lines
+abbrev pub word_places_by : Rules → Text → List ℕ
+word_places_by rules text = offsets (word_boundaries_of rules text)
 
--- its boundaries of a text in UTF-8, counted and added up
-abbrev pub tally_by : Rules → List ℕ → Tally
-tally_by rules text = tally_of (offsets (boundaries_of rules (utf8 text)))
+-- the places of boundaries by an engine's small data, with this class table in place of theirs if there is one
+abbrev pub segmentation_with : Engine → Option Table → Text → List ℕ
+segmentation_with GraphemeClassic classes = places_by (ByTable (table_with cluster_table classes) None)
+segmentation_with GraphemeNeo classes = places_by (ByMachine (machine_with cluster_machine classes))
+segmentation_with SentenceClassic classes = places_by (ByTable (table_with sentence_table classes) None)
+segmentation_with SentenceNeo classes = places_by (ByMachine (machine_with sentence_machine classes))
+segmentation_with WordClassic classes = word_places_by (ByTable (table_with word_table classes) None)
+segmentation_with WordNeo classes = word_places_by (ByMachine (machine_with word_machine classes))
+segmentation_with LineNeo classes = places_by (ByMachine (machine_with line_machine classes))
+
+-- the places of boundaries by a segmenter
+abbrev pub segmentation_of : Segmenter → Text → List ℕ
+segmentation_of (Clusters clusters) = places_by (owned_cluster_rules clusters)
+segmentation_of (Sentences sentences) = places_by (owned_sentence_rules sentences)
+segmentation_of (Words words) = word_places_by (owned_word_rules words)
+segmentation_of (Lines lines) = places_by (owned_line_rules lines)
+
+-- the boundaries of a text in UTF-8, counted and added up
+abbrev pub tally_by : (Text → List ℕ) → List ℕ → Tally
+tally_by segmentation text = tally_of (segmentation (utf8 text))

@@ -1,24 +1,25 @@
 //! The data of each engine, small and real.
 ghost use Rattle.std.specs.Prelude.{◌≡◌, None, IfOk};
 ghost use Rattle.icu_segmenter.specs.Rules.Rules.{ByTable, ByMachine};
-ghost use Rattle.speed.specs.Segmenter.{machine_with, rules_of, rules_with, table_with};
+ghost use Rattle.speed.specs.Segmenter.{machine_with, places_by, segmentation_of, segmentation_with, table_with, word_places_by};
 
 use crate::engine::Engine;
 use crate::segmenter::Segmenter;
 use anyhow::Result;
 use bench::clusters::cluster_machine;
 use bench::lines::{line_machine, line_tailorings};
-use bench::pair_tables::{cluster_table, sentence_table};
+use bench::pair_tables::{cluster_table, sentence_table, word_table};
 use bench::sentences::sentence_machine;
-use icu_segmenter::options::{LineBreakOptions, SentenceBreakOptions};
+use bench::words::word_machine;
+use icu_segmenter::options::{LineBreakOptions, SentenceBreakOptions, WordBreakOptions};
 use icu_segmenter::provider::{ClassTable, RuleBreakData, SegmenterStateMachine};
-use icu_segmenter::{GraphemeClusterSegmenter, LineSegmenter, SentenceSegmenter};
+use icu_segmenter::{GraphemeClusterSegmenter, LineSegmenter, SentenceSegmenter, WordSegmenter};
 use std::alloc::Global;
 
 /// The engine with its small data, or with this class table in place of theirs. The errors are want of
 /// memory, and that the table doesn't fit the data.
 pub fn segmenter_of(alloc: Global, engine: Engine, classes: Option<ClassTable>) -> Result<Segmenter>
-    ensures { IfOk result (λ segmenter. rules_of segmenter ≡ rules_with engine classes) }
+    ensures { IfOk result (λ segmenter. segmentation_of segmenter ≡ segmentation_with engine classes) }
 {
     match engine {
         Engine::GraphemeClassic => clusters_by_table(table_with(
@@ -41,6 +42,14 @@ pub fn segmenter_of(alloc: Global, engine: Engine, classes: Option<ClassTable>) 
             sentence_machine(alloc)?,
             classes,
         )?),
+        Engine::WordClassic => {
+            let clusters = cluster_table(alloc)?;
+            words_by_table(table_with(alloc, word_table(alloc)?, classes)?, clusters)
+        }
+        Engine::WordNeo => {
+            let clusters = cluster_table(alloc)?;
+            words_by_machine(machine_with(alloc, word_machine(alloc)?, classes)?, clusters)
+        }
         Engine::LineNeo => lines_by_machine(
             alloc,
             machine_with(alloc, line_machine(alloc)?, classes)?,
@@ -93,33 +102,49 @@ fn machine_with(
 }
 
 fn clusters_by_table(table: RuleBreakData) -> Result<Segmenter>
-    ensures { IfOk result (λ segmenter. rules_of segmenter ≡ ByTable table None) }
+    ensures { IfOk result (λ segmenter. segmentation_of segmenter ≡ places_by (ByTable table None)) }
 {
     Ok(Segmenter::Clusters(GraphemeClusterSegmenter::try_new(table)?))
 }
 
 fn clusters_by_machine(machine: SegmenterStateMachine) -> Result<Segmenter>
-    ensures { IfOk result (λ segmenter. rules_of segmenter ≡ ByMachine machine) }
+    ensures { IfOk result (λ segmenter. segmentation_of segmenter ≡ places_by (ByMachine machine)) }
 {
     Ok(Segmenter::Clusters(GraphemeClusterSegmenter::try_new_neo(machine)?))
 }
 
 fn sentences_by_table(table: RuleBreakData) -> Result<Segmenter>
-    ensures { IfOk result (λ segmenter. rules_of segmenter ≡ ByTable table None) }
+    ensures { IfOk result (λ segmenter. segmentation_of segmenter ≡ places_by (ByTable table None)) }
 {
     let options = SentenceBreakOptions::default();
     Ok(Segmenter::Sentences(SentenceSegmenter::try_new(table, None, options)?))
 }
 
 fn sentences_by_machine(machine: SegmenterStateMachine) -> Result<Segmenter>
-    ensures { IfOk result (λ segmenter. rules_of segmenter ≡ ByMachine machine) }
+    ensures { IfOk result (λ segmenter. segmentation_of segmenter ≡ places_by (ByMachine machine)) }
 {
     let options = SentenceBreakOptions::default();
     Ok(Segmenter::Sentences(SentenceSegmenter::try_new_neo(machine, None, options)?))
 }
 
+fn words_by_table(table: RuleBreakData, clusters: RuleBreakData) -> Result<Segmenter>
+    ensures { IfOk result (λ segmenter. segmentation_of segmenter ≡ word_places_by (ByTable table None)) }
+{
+    let options = WordBreakOptions::default();
+    let segmenter = WordSegmenter::try_new_for_non_complex_scripts(table, None, clusters, options)?;
+    Ok(Segmenter::Words(segmenter))
+}
+
+fn words_by_machine(machine: SegmenterStateMachine, clusters: RuleBreakData) -> Result<Segmenter>
+    ensures { IfOk result (λ segmenter. segmentation_of segmenter ≡ word_places_by (ByMachine machine)) }
+{
+    let options = WordBreakOptions::default();
+    let segmenter = WordSegmenter::try_new_neo_for_non_complex_scripts(machine, clusters, options)?;
+    Ok(Segmenter::Words(segmenter))
+}
+
 fn lines_by_machine(alloc: Global, machine: SegmenterStateMachine) -> Result<Segmenter>
-    ensures { IfOk result (λ segmenter. rules_of segmenter ≡ ByMachine machine) }
+    ensures { IfOk result (λ segmenter. segmentation_of segmenter ≡ places_by (ByMachine machine)) }
 {
     let segmenter = LineSegmenter::try_new_neo_for_non_complex_scripts(
         machine,

@@ -14,16 +14,22 @@ pub enum Engine {
     SentenceClassic,
     /// The sentences, by a machine.
     SentenceNeo,
+    /// The words, by a pair table.
+    WordClassic,
+    /// The words, by a machine.
+    WordNeo,
     /// The lines, by a machine.
     LineNeo,
 }
 
 /// All engines, in the order in which they are measured.
-pub const ENGINES: [Engine; 5] = [
+pub const ENGINES: [Engine; 7] = [
     Engine::GraphemeClassic,
     Engine::GraphemeNeo,
     Engine::SentenceClassic,
     Engine::SentenceNeo,
+    Engine::WordClassic,
+    Engine::WordNeo,
     Engine::LineNeo,
 ];
 
@@ -46,6 +52,8 @@ impl Engine {
             Engine::GraphemeNeo => "grapheme-neo",
             Engine::SentenceClassic => "sentence-classic",
             Engine::SentenceNeo => "sentence-neo",
+            Engine::WordClassic => "word-classic",
+            Engine::WordNeo => "word-neo",
             Engine::LineNeo => "line-neo",
         }
     }
@@ -70,6 +78,8 @@ pub fn engine_of(word: &str) -> Option<Engine>
         "grapheme-neo" => Some(Engine::GraphemeNeo),
         "sentence-classic" => Some(Engine::SentenceClassic),
         "sentence-neo" => Some(Engine::SentenceNeo),
+        "word-classic" => Some(Engine::WordClassic),
+        "word-neo" => Some(Engine::WordNeo),
         "line-neo" => Some(Engine::LineNeo),
         _ => None,
     }

@@ -3,13 +3,14 @@ ghost use Rattle.std.specs.Prelude.{◌≡◌, ℕ, ◌≤◌, IfOk};
 ghost use Rattle.ucd_table.specs.Steps.{IsPartition, IsRunsOf, run_value};
 ghost use Rattle.ucd_breaks.specs.GraphemeClusterBreak.{grapheme_cluster_break, grapheme_cluster_break_number};
 ghost use Rattle.ucd_breaks.specs.SentenceBreak.{sentence_break, sentence_break_number};
+ghost use Rattle.ucd_breaks.specs.WordBreak.{word_break, word_break_number};
 ghost use Rattle.ucd_breaks.specs.LineBreak.{line_break, line_break_number};
 ghost use Rattle.icu_segmenter.specs.Table.{table, value_of};
 ghost use Rattle.speed.specs.Classes.{class_in, default_class, listed_classes, value_number};
 
 use crate::engine::Engine;
 use std::alloc::{AllocError, Global};
-use ucd_breaks::{GraphemeClusterBreak, LineBreak, SentenceBreak};
+use ucd_breaks::{GraphemeClusterBreak, LineBreak, SentenceBreak, WordBreak};
 
 /// A property of Unicode, and the class that each of its values has in a table.
 #[derive(Drop)]
@@ -60,6 +61,23 @@ const SENTENCE_SYMBOLS: [(u32, u8); 6] = [
     (SentenceBreak::Sep as u32, 4),
 ];
 
+/// Letters, what binds them and numbers, and digits.
+const WORDS: [(u32, u8); 5] = [
+    (WordBreak::ALetter as u32, 1),
+    (WordBreak::HebrewLetter as u32, 1),
+    (WordBreak::Katakana as u32, 1),
+    (WordBreak::ExtendNumLet as u32, 1),
+    (WordBreak::Numeric as u32, 2),
+];
+
+const WORD_SYMBOLS: [(u32, u8); 5] = [
+    (WordBreak::ALetter as u32, 2),
+    (WordBreak::HebrewLetter as u32, 2),
+    (WordBreak::Katakana as u32, 2),
+    (WordBreak::ExtendNumLet as u32, 2),
+    (WordBreak::Numeric as u32, 3),
+];
+
 /// Spaces, mandatory breaks, ideographs and what breaks as they do; of the pseudo symbols that of Thai, for all complex scripts, and that of letters.
 const LINE_SYMBOLS: [(u32, u8); 12] = [
     (LineBreak::Space as u32, 2),
@@ -87,6 +105,8 @@ pub fn classes_of(engine: Engine) -> Classes
         Engine::GraphemeNeo => clusters(1, &CLUSTER_SYMBOLS),
         Engine::SentenceClassic => sentences(0, &SENTENCES),
         Engine::SentenceNeo => sentences(1, &SENTENCE_SYMBOLS),
+        Engine::WordClassic => words(0, &WORDS),
+        Engine::WordNeo => words(1, &WORD_SYMBOLS),
         Engine::LineNeo => lines(1, &LINE_SYMBOLS),
     }
 }
@@ -114,6 +134,20 @@ fn sentences(default: u8, listed: &'static [(u32, u8)]) -> Classes
     Classes {
         runs: SentenceBreak::runs(),
         plain: SentenceBreak::Other as u32,
+        default,
+        listed,
+    }
+}
+
+fn words(default: u8, listed: &'static [(u32, u8)]) -> Classes
+    requires { class_in listed.now default 17 ≡ default }
+    ensures property { IsRunsOf result.runs.now (λ c. word_break_number (word_break c)) }
+    ensures default { result.default ≡ default }
+    ensures listed { result.listed.now ≡ listed.now }
+{
+    Classes {
+        runs: WordBreak::runs(),
+        plain: WordBreak::Other as u32,
         default,
         listed,
     }

@@ -48,11 +48,11 @@ pub struct Trial {
 
 impl Trial {
     ghost use Rattle.std.specs.Prelude.{Some};
-    ghost use Rattle.speed.specs.Segmenter.{rules_of, rules_with, tally_by};
+    ghost use Rattle.speed.specs.Segmenter.{segmentation_of, segmentation_with, tally_by};
 
     /// The engine with its small data. The only error is want of memory.
     pub fn small(alloc: Global, engine: Engine) -> Result<Trial>
-        ensures rules { IfOk result (λ trial. rules_of trial.segmenter ≡ rules_with engine None) }
+        ensures segmentation { IfOk result (λ trial. segmentation_of trial.segmenter ≡ segmentation_with engine None) }
         ensures names { IfOk result (λ trial. (trial.engine ≡ engine) × (trial.source ≡ Data.Small)) }
     {
         Ok(Trial {
@@ -67,8 +67,8 @@ impl Trial {
 
     /// The engine with its real data. The errors are want of memory, and a clock that can't be read.
     pub fn real<C: Clock>(clock: &C, alloc: Global, engine: Engine) -> Result<Trial>
-        ensures rules { IfOk result (λ trial. (table : Table) × IsRealTable engine table
-            × (rules_of trial.segmenter ≡ rules_with engine (Some table))) }
+        ensures segmentation { IfOk result (λ trial. (table : Table) × IsRealTable engine table
+            × (segmentation_of trial.segmenter ≡ segmentation_with engine (Some table))) }
         ensures names { IfOk result (λ trial. (trial.engine ≡ engine) × (trial.source ≡ Data.Real)) }
     {
         let (table, making) = real_table(clock, alloc, engine)?;
@@ -84,7 +84,7 @@ impl Trial {
 
     /// Goes over the text once. The only error is a clock that can't be read.
     pub fn pass<C: Clock>(&mut self, clock: &C, text: &[u8]) -> io::Result<()>
-        ensures tally { OnOk result (self.new.tally ≡ tally_by (rules_of self.old.segmenter) text.now) }
+        ensures tally { OnOk result (self.new.tally ≡ tally_by (segmentation_of self.old.segmenter) text.now) }
         ensures same { self.new.segmenter ≡ self.old.segmenter }
         ensures names { (self.new.engine ≡ self.old.engine) × (self.new.source ≡ self.old.source) }
         ensures making { self.new.making ≡ self.old.making }
