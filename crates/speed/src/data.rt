@@ -48,7 +48,10 @@ pub fn segmenter_of(alloc: Global, engine: Engine, classes: Option<ClassTable>) 
         }
         Engine::WordNeo => {
             let clusters = cluster_table(alloc)?;
-            words_by_machine(machine_with(alloc, word_machine(alloc)?, classes)?, clusters)
+            words_by_machine(
+                machine_with(alloc, word_machine(alloc)?, classes)?,
+                clusters,
+            )
         }
         Engine::LineNeo => lines_by_machine(
             alloc,

@@ -94,3 +94,23 @@ fn counts_the_boundaries_of_clusters(rt: HostRuntime) {
         assert!(rt; tally == Tally { count, sum });
     }
 }
+
+// The Thai is one word of the small data only, the Russian one of the real data only.
+#[test]
+fn counts_the_boundaries_of_words(rt: HostRuntime) {
+    let text = "a1 กข жд".as_bytes();
+    for engine in [Engine::WordClassic, Engine::WordNeo] {
+        let trials = [
+            Trial::small(rt.alloc(), engine),
+            Trial::real(&rt, rt.alloc(), engine),
+        ];
+        let tallies = [(7, 50), (7, 44)];
+        for (trial, (count, sum)) in trials.into_iter().zip(tallies) {
+            let Ok(mut trial) = trial else {
+                panic!(rt; "no memory")
+            };
+            assert!(rt; trial.pass(&rt, text).is_ok());
+            assert!(rt; trial.tally == Tally { count, sum });
+        }
+    }
+}
