@@ -96,9 +96,14 @@ fn finds_words(rt: HostRuntime) -> Result<(), Fail> {
     let machine = word_machine(alloc)?;
     let clusters = cluster_table(alloc)?;
     let options = WordBreakInvariantOptions::default();
-    let words = WordSegmenterBorrowed::new_neo_for_non_complex_scripts(&machine, &clusters, options)?;
+    let words = WordSegmenterBorrowed::new_neo_for_non_complex_scripts(
+        &machine, &clusters, options,
+    )?;
     let places: Vec<usize> = words.segment_str("one 42.").collect(alloc)?;
     assert_eq!(rt; places.as_slice(), [0, 3, 4, 6, 7].as_slice());
-    assert_eq!(rt; word_ends(alloc, words, "one 42.")?.as_slice(), [3, 6].as_slice());
+    assert_eq!(rt;
+        word_ends(alloc, words, "one 42.")?.as_slice(),
+        [3, 6].as_slice()
+    );
     Ok(())
 }
