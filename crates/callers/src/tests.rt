@@ -4,8 +4,9 @@ use crate::data::{runs_by_machine, runs_by_table};
 use crate::lines::{breakall_segmenter, mandatory_breaks};
 use crate::sentences::sentence_boundary_count;
 use crate::words::word_ends;
-use bench::clusters::{cluster_machine, cluster_table};
+use bench::clusters::cluster_machine;
 use bench::lines::{breakall, line_machine};
+use bench::pair_tables::cluster_table;
 use bench::sentences::sentence_machine;
 use bench::words::word_machine;
 use icu_segmenter::options::{
