@@ -1,4 +1,5 @@
 mod clusters;
+mod dictionaries;
 mod laws;
 mod lines;
 mod machines;

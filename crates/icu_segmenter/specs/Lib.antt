@@ -34,6 +34,13 @@ pub use Rattle.seg_pairs.specs.Runs
 pub use Rattle.seg_complex.specs.Scripts
 pub use Rattle.seg_complex.specs.Pieces
 pub use Rattle.seg_complex.specs.RunCuts
+pub use Rattle.seg_dictionary.specs.WordSets
+pub use Rattle.seg_dictionary.specs.Texts
+pub use Rattle.seg_dictionary.specs.Dictionary
+pub use Rattle.seg_dictionary.specs.ScriptWords
+pub use Rattle.seg_complex.specs.DictionaryCuts
+pub use Rattle.seg_complex.specs.LaterPlaces
+pub use Rattle.seg_complex.specs.Payloads
 pub use Rattle.seg_words.specs.WordRules
 pub use Rattle.seg_words.specs.WordFaults
 pub use Rattle.seg_words.specs.Words

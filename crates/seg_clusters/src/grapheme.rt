@@ -139,6 +139,15 @@ impl<'data> GraphemeClusterSegmenterBorrowed<'data> {
         })
     }
 
+    /// The boundaries of the clusters of what is left of a text, as places in its units. Takes no memory.
+    pub fn boundaries<I: Cursor>(self, text: I) -> Boundaries<'data, I>
+        ensures boundaries { result.left ≡ boundaries_of (cluster_rules self.entry) (I.text text) }
+        ensures cover { IsCover (start_of (I.text text)) (I.text text).end result.left }
+        ensures status { result.status ≡ 0 }
+    {
+        self.engine.boundaries(text)
+    }
+
     /// The boundaries of the clusters of a `str`, in bytes: those of its bytes as UTF-8. Takes no memory.
     pub fn segment_str<'s>(self, input: &'s str) -> GraphemeClusterBreakIterator<'data, 's, Utf8>
         ensures boundaries { clusters_left result ≡ boundaries_of (cluster_rules self.entry) (utf8 input.now) }

@@ -1,13 +1,15 @@
 -- The cuts of runs: they cover the run where those of each piece cover the piece.
-use Rattle.std.proofs.Common.{◌≡◌, ℕ, zero, suc, ◌<◌, ◌≤◌, List, [], ◌∷◌, ◌++◌, length, map, take, refl, sym, ap, ◌∙◌, arith}
+use Rattle.std.proofs.Common.{◌≡◌, ℕ, zero, suc, ◌<◌, ◌≤◌, List, [], ◌∷◌, ◌++◌, length, map, take, drop, refl, sym, ap, ◌∙◌, arith}
 use Rattle.std.specs.Prelude.{None, Some}
+use Rattle.std.proofs.lemmas.List.{length-drop, length-map, take-map}
 use Rattle.std.proofs.lemmas.List.Sums.{prefix_len-le-length}
 use Rattle.seg_text.specs.declared.boundary.Boundary.{Boundary}
-use Rattle.seg_text.specs.Items.{Item, Text, start_of, rest_after, code_points}
+use Rattle.seg_text.specs.Items.{Item, Text, place_of, start_of, rest_after, text_before, code_points}
 use Rattle.seg_text.specs.Boundaries.{boundary_in, boundaries_in, offsets, RisesTo}
 use Rattle.seg_text.specs.Cuts.{AreCutsOf, cut_places, with_status}
 use Rattle.seg_text.specs.Stretches.{later_boundaries, HasProgress, IsWithin}
 use Rattle.seg_text.proofs.Covers.{covers-list}
+use Rattle.seg_text.proofs.Places.{place-before}
 use Rattle.seg_text.proofs.Stretches.{text-later-next, text-later-nil}
 use Rattle.seg_data.specs.declared.provider.ComplexScript.{ComplexScript}
 use Rattle.seg_complex.specs.Scripts.{script_of, has_script}
@@ -47,7 +49,7 @@ stretch-within cuts cover first rest =
     }
 
 -- only offsets rise
-offsets-rise : (boundaries : List Boundary) (from end : ℕ) → RisesTo from boundaries end → RisesTo from (with_status 0 (offsets boundaries)) end
+pub offsets-rise : (boundaries : List Boundary) (from end : ℕ) → RisesTo from boundaries end → RisesTo from (with_status 0 (offsets boundaries)) end
 offsets-rise [] from end rises = rises
 offsets-rise (boundary ∷ boundaries) from end rises = (rises.0, offsets-rise boundaries boundary.offset end rises.1)
 
@@ -69,15 +71,12 @@ rises-inside (cut ∷ cuts) from end rises =
 pub run-cuts-inside : (cuts : PieceCuts) → CoverPieces cuts → (run : List ℕ) → AreCutsOf (length run) (run_cuts cuts run)
 run-cuts-inside cuts cover run = (rises-inside (run_cuts cuts run) 0 (length run) (runs-covered cuts cover run)).1
 
-pub ends-inside : (run : List ℕ) → AreCutsOf (length run) (run_cuts at_end run)
-ends-inside run = run-cuts-inside at_end at_end-covers run
-
 -- their places, piece by piece
 
 abbrev pub place_after : Text → ℕ → ℕ
 place_after text cut = start_of (rest_after cut text)
 
-places-offsets : (text : Text) (boundaries : List Boundary) → map (place_after text) (offsets boundaries) ≡ offsets (map (boundary_in text) boundaries)
+pub places-offsets : (text : Text) (boundaries : List Boundary) → map (place_after text) (offsets boundaries) ≡ offsets (map (boundary_in text) boundaries)
 places-offsets text [] = refl
 places-offsets text (boundary ∷ boundaries) = ap (λ (rest : List ℕ). place_after text boundary.offset ∷ rest) (places-offsets text boundaries)
 
@@ -110,24 +109,51 @@ cuts-next cuts item items end =
     ∙ ap (λ (others : List ℕ). map (place_after text) (cuts (piece_script run) (take (piece_length run) run)) ++ others)
     (sym (places-offsets rest (later_boundaries first (code_points rest.items))))
 
-end-at : (items : List Item) (end : ℕ) (after : Text) (place : ℕ) → 0 < piece_length (code_points items)
-    → after ≡ rest_after (piece_length (code_points items)) (record { items = items; end = end }) → place ≡ start_of after
-    → cut_places (run_cuts at_end) (record { items = items; end = end }) ≡ place ∷ cut_places (run_cuts at_end) after
-end-at [] end after place some left is = absurd (omega (arith, some))
-end-at (item ∷ items) end after place some left is =
-    let before : Text = record { items = item ∷ items; end = end } in
-    let run = code_points (item ∷ items) in
-    let count : length (take (piece_length run) run) ≡ piece_length run = length-taken (piece_length run) run (piece-within run) in
-    cuts-next at_end item items end
-    ∙ ap (λ n. place_after before n ∷ cut_places (run_cuts at_end) (rest_after (piece_length run) before)) count
-    ∙ ap (λ (after : Text). start_of after ∷ cut_places (run_cuts at_end) after) (sym left)
-    ∙ ap (λ place. place ∷ cut_places (run_cuts at_end) after) (sym is)
+-- a piece's cuts stay in it
+piece-inside : (cuts : PieceCuts) (script : ComplexScript) → CoverPieces cuts → (n first : ℕ) (rest : List ℕ) → 0 < n → n ≤ length (first ∷ rest)
+    → AreCutsOf n (cuts script (take n (first ∷ rest)))
+piece-inside cuts script cover n first rest some inside =
+    (rises-inside (cuts script (take n (first ∷ rest))) 0 n (taken-rises cuts script cover n first rest some inside)).1
 
--- a piece was given, which is cut at its end alone
-pub end-next : {I : Type 0} (text : I → Text) (before after : Text) (piece : I × ComplexScript) (place : ℕ)
-    → GivesPiece text before (Some piece) after → place ≡ start_of after
-    → cut_places (run_cuts at_end) before ≡ place ∷ cut_places (run_cuts at_end) after
-end-next text before after piece place gives is = end-at before.items before.end after place gives.0 gives.3 is
+-- so they stand at the same places in what was before the piece
+before-places : (text : Text) (n count : ℕ) (cuts : List ℕ) → count ≤ n → AreCutsOf count cuts
+    → map (place_after text) cuts ≡ map (place_after (text_before n text)) cuts
+before-places text n count [] below are = refl
+before-places text n count (cut ∷ cuts) below are =
+    rw (place-before text.items text.end n cut (omega (arith, below, are.0)), before-places text n count cuts below are.1) refl
+
+piece-at : (cuts : PieceCuts) → CoverPieces cuts → (items : List Item) (end : ℕ) → 0 < piece_length (code_points items)
+    → let text : Text = record { items = items; end = end } in let n = piece_length (code_points items) in
+    cut_places (run_cuts cuts) text ≡ cut_places (cuts (piece_script (code_points items))) (text_before n text) ++ cut_places (run_cuts cuts) (rest_after n text)
+piece-at cuts cover [] end some = absurd (omega (arith, some))
+piece-at cuts cover (item ∷ items) end some =
+    let text : Text = record { items = item ∷ items; end = end } in
+    let run = code_points (item ∷ items) in
+    let n = piece_length run in
+    let script = piece_script run in
+    let inside = piece-inside cuts script cover n item.1 (code_points items) some (piece-within run) in
+    cuts-next cuts item items end
+    ∙ ap (λ (found : List ℕ). found ++ cut_places (run_cuts cuts) (rest_after n text)) (before-places text n n (cuts script (take n run)) (omega arith) inside)
+    ∙ ap (λ (first : List ℕ). map (place_after (text_before n text)) (cuts script first) ++ cut_places (run_cuts cuts) (rest_after n text)) (take-map (λ (item : Item). item.1) n (item ∷ items))
+
+-- a piece was given
+pub piece-next : {I : Type 0} (text : I → Text) (cuts : PieceCuts) → CoverPieces cuts → (before after : Text) (piece : I × ComplexScript)
+    → GivesPiece text before (Some piece) after
+    → cut_places (run_cuts cuts) before ≡ cut_places (cuts piece.1) (text piece.0) ++ cut_places (run_cuts cuts) after
+piece-next text cuts cover before after piece gives =
+    piece-at cuts cover before.items before.end gives.0
+    ∙ ap (λ (script : ComplexScript). cut_places (cuts script) (text_before (piece_length (code_points before.items)) before) ++ cut_places (run_cuts cuts) (rest_after (piece_length (code_points before.items)) before)) (sym gives.2)
+    ∙ ap (λ (first : Text). cut_places (cuts piece.1) first ++ cut_places (run_cuts cuts) (rest_after (piece_length (code_points before.items)) before)) (sym gives.1)
+    ∙ ap (λ (rest : Text). cut_places (cuts piece.1) (text piece.0) ++ cut_places (run_cuts cuts) rest) (sym gives.3)
+
+-- less is left then
+pub piece-fewer : {I : Type 0} (text : I → Text) (before after : Text) (piece : I × ComplexScript) → GivesPiece text before (Some piece) after
+    → length after.items < length before.items
+piece-fewer text before after piece gives =
+    rw (gives.3) (drop-fewer (piece_length (code_points before.items)) before.items gives.0 (rw (length-map before.items (λ (item : Item). item.1)) at (piece-within (code_points before.items))))
+  where
+    drop-fewer : (n : ℕ) (items : List Item) → 0 < n → n ≤ length items → length (drop n items) < length items
+    drop-fewer n items some inside = rw (length-drop n items) (omega (arith, some, inside))
 
 -- none was left
 pub end-none : {I : Type 0} (text : I → Text) (cuts : PieceCuts) (before after : Text) → GivesPiece text before None after
@@ -135,3 +161,21 @@ pub end-none : {I : Type 0} (text : I → Text) (cuts : PieceCuts) (before after
 end-none text cuts before after gives =
     let none : cut_places (run_cuts cuts) before ≡ [] = ap (λ (items : List Item). cut_places (run_cuts cuts) (record { items = items; end = before.end })) gives.0 ∙ cuts-nil cuts before.end in
     (none, ap (cut_places (run_cuts cuts)) gives.1 ∙ none)
+
+-- nothing was left of a piece and of the pieces after it
+pub nothing-left : (piece later before after left : List ℕ) → piece ≡ [] → later ≡ [] → before ≡ [] → after ≡ [] → piece ++ before ≡ left
+    → (left ≡ []) × (later ++ after ≡ [])
+nothing-left piece later before after left none empty nothing still is = (
+  sym is ∙ ap (λ (some : List ℕ). some ++ before) none ∙ nothing,
+  ap (λ (some : List ℕ). some ++ after) empty ∙ still,
+)
+
+-- nothing was left of a piece, and the next one was given, with its cuts
+pub left-next : {I : Type 0} (text : I → Text) (cuts : PieceCuts) → CoverPieces cuts → (before after : Text) (piece : I × ComplexScript) (none found left : List ℕ)
+    → GivesPiece text before (Some piece) after → none ≡ [] → found ≡ cut_places (cuts piece.1) (text piece.0)
+    → none ++ cut_places (run_cuts cuts) before ≡ left → found ++ cut_places (run_cuts cuts) after ≡ left
+left-next text cuts cover before after piece none found left gives nothing are is =
+    ap (λ (some : List ℕ). some ++ cut_places (run_cuts cuts) after) are
+    ∙ sym (piece-next text cuts cover before after piece gives)
+    ∙ ap (λ (some : List ℕ). some ++ cut_places (run_cuts cuts) before) (sym nothing)
+    ∙ is

@@ -1,10 +1,19 @@
-//! Laws of pieces, and of the cuts of runs.
+//! Laws of pieces, and of the cuts of pieces and runs.
 
-ghost use Rattle.std.specs.Prelude.{◌≡◌, ℕ, List, length};
+ghost use Rattle.std.specs.Prelude.{◌≡◌, ℕ, Option, List, [], ◌∷◌, length};
 ghost use Rattle.seg_text.specs.Boundaries.{RisesTo};
 ghost use Rattle.seg_text.specs.Cuts.{with_status};
+ghost use Rattle.seg_data.specs.declared.provider.ComplexScript.{ComplexScript};
+ghost use Rattle.seg_dictionary.specs.WordSets.{Words};
+ghost use Rattle.seg_engine.specs.Rules.{boundaries_by};
+ghost use Rattle.seg_clusters.specs.Clusters.{cluster_rules};
+ghost use Rattle.seg_complex.specs.DictionaryCuts.{AreDictionaryCuts, dictionary_cuts, by_dictionaries};
 ghost use Rattle.seg_complex.specs.Pieces.{ArePieces, pieces};
 ghost use Rattle.seg_complex.specs.RunCuts.{PieceCuts, CoverPieces, CoverRuns, at_end, run_cuts};
+ghost use Rattle.seg_complex.specs.SmallDictionaries.{small_clusters, thai_word, thai_words, edition_words, replacement_word};
+
+use seg_clusters::grapheme::GraphemeClusterSegmenterBorrowed;
+use seg_clusters::laws::grapheme;
 
 /// Law: a list of code points has exactly one list of pieces: joined they are the list, none is empty, each has code points
 /// of one script, and neighbours have different ones.
@@ -18,4 +27,44 @@ pub fn pieces_are_one()
 pub fn cuts_cover_runs()
     ensures at_end { (run : List ℕ) → RisesTo 0 (with_status 0 (run_cuts at_end run)) (length run) }
     ensures any { (cuts : PieceCuts) → CoverPieces cuts → CoverRuns cuts }
+{}
+
+/// Law: a piece has exactly one list of cuts by a set of words, in code points. From the piece's start and from each cut but
+/// the last, the next one is the end of the longest word there that ends with a cluster; if there is none, the first end of
+/// a cluster that isn't before the first dead end, where code points are read that no longer word begins with; and if there
+/// is no dead end, the piece's end. The clusters are those of the piece alone.
+pub fn dictionary_cuts_are_one(clusters: GraphemeClusterSegmenterBorrowed<'_>)
+    ensures are { (words : Words) (piece : List ℕ)
+        → AreDictionaryCuts words (boundaries_by (cluster_rules clusters.entry)) piece (dictionary_cuts words (boundaries_by (cluster_rules clusters.entry)) piece) }
+    ensures only { (words : Words) (piece found : List ℕ) → AreDictionaryCuts words (boundaries_by (cluster_rules clusters.entry)) piece found
+        → found ≡ dictionary_cuts words (boundaries_by (cluster_rules clusters.entry)) piece }
+{
+    grapheme::cover(clusters);
+    grapheme::restart(clusters);
+}
+
+/// Law: where each piece is cut by the words of its script, or at its end alone where the script has none, the cuts rise
+/// strictly from the piece's start, where there is none, and the last is at its end; and so they do in each run.
+pub fn dictionary_cuts_cover(clusters: GraphemeClusterSegmenterBorrowed<'_>)
+    ensures pieces { (dictionaries : ComplexScript → Option Words)
+        → CoverPieces (by_dictionaries dictionaries (boundaries_by (cluster_rules clusters.entry))) }
+    ensures runs { (dictionaries : ComplexScript → Option Words)
+        → CoverRuns (by_dictionaries dictionaries (boundaries_by (cluster_rules clusters.entry))) }
+{
+    grapheme::cover(clusters);
+}
+
+/// Law: where small sets of words cut, where U+0301 and U+0E34 belong to the cluster before them and each other code point
+/// begins one.
+pub fn small_dictionaries_cut()
+    ensures inside_cluster { dictionary_cuts (thai_word ∷ []) small_clusters (0x0E01 ∷ 0x0E01 ∷ 0x0E34 ∷ []) ≡ 3 ∷ [] }
+    ensures longer_word { dictionary_cuts thai_words small_clusters (0x0E01 ∷ 0x0E02 ∷ []) ≡ 2 ∷ [] }
+    ensures no_words { dictionary_cuts [] small_clusters (0x0E01 ∷ 0x0E02 ∷ []) ≡ 1 ∷ 2 ∷ [] }
+    ensures empty_word { dictionary_cuts ([] ∷ []) small_clusters (0x0E01 ∷ 0x0E02 ∷ []) ≡ 1 ∷ 2 ∷ [] }
+    ensures one_cluster { dictionary_cuts [] small_clusters (0x0E01 ∷ 0x0E34 ∷ []) ≡ 2 ∷ [] }
+    ensures word_twice { dictionary_cuts ((0x0E01 ∷ []) ∷ (0x0E01 ∷ []) ∷ []) small_clusters (0x0E01 ∷ 0x0E01 ∷ []) ≡ 1 ∷ 2 ∷ [] }
+    ensures twice { dictionary_cuts edition_words small_clusters (0x30A8 ∷ 0x30C7 ∷ 0x30A3 ∷ 0x30BF ∷ 0x30FC ∷ 0x30A8 ∷ 0x30C7 ∷ 0x30A3 ∷ 0x30BF ∷ 0x30FC ∷ []) ≡ 5 ∷ 10 ∷ [] }
+    ensures shorter { dictionary_cuts edition_words small_clusters (0x30A8 ∷ 0x30C7 ∷ 0x30A3 ∷ 0x30BF ∷ 0x30FC ∷ 0x30A8 ∷ 0x30C7 ∷ 0x30A3 ∷ []) ≡ 5 ∷ 8 ∷ [] }
+    ensures back { dictionary_cuts edition_words small_clusters (0x30A8 ∷ 0x30C7 ∷ 0x30A3 ∷ 0x30BF ∷ 0x30FC ∷ 0x30A8 ∷ 0x30C7 ∷ 0x30A3 ∷ 0x30B7 ∷ 0x30BD ∷ []) ≡ 5 ∷ 8 ∷ 9 ∷ 10 ∷ [] }
+    ensures replacement { dictionary_cuts (replacement_word ∷ []) small_clusters (0xFFFD ∷ 0x0301 ∷ []) ≡ 2 ∷ [] }
 {}

@@ -1,6 +1,7 @@
 //! Laws of the boundaries of texts, whatever rules they are found by.
 
-ghost use Rattle.seg_text.specs.Boundaries.{HasEqualOrdinals, HasRestart};
+ghost use Rattle.std.specs.Prelude.{ℕ, List, length};
+ghost use Rattle.seg_text.specs.Boundaries.{HasEqualOrdinals, HasRestart, IsCover};
 ghost use Rattle.seg_text.specs.Stretches.{HasOneAnswer};
 ghost use Rattle.seg_engine.specs.Engine.{rules_of};
 ghost use Rattle.seg_engine.specs.Rules.{boundaries_by, first_stretch};
@@ -30,4 +31,13 @@ pub fn restart(engine: Engine<'_>)
     ensures { HasRestart (boundaries_by (rules_of engine.entry)) }
 {
     let _ = engine;
+}
+
+/// Law: the boundaries of a list of code points rise strictly from 0, where the first is, to its length, where the last is.
+pub fn cover(engine: Engine<'_>)
+    ensures { (code_points : List ℕ) → IsCover 0 (length code_points) (boundaries_by (rules_of engine.entry) code_points) }
+{
+    if let Engine::Neo(machine) = engine {
+        machine.facts();
+    }
 }

@@ -8,7 +8,7 @@ use Rattle.seg_text.specs.Items.{Item, Text, place_of, start_of, rest_after, tex
 use Rattle.seg_text.specs.Boundaries.{boundary, boundary_in, shift_all}
 use Rattle.seg_text.specs.Cuts.{Cuts, AreCutsOf, with_status, cut_places}
 use Rattle.seg_text.specs.Stretches.{Stretch, later_boundaries}
-use Rattle.seg_text.proofs.Places.{in-shift, code_points-drop}
+use Rattle.seg_text.proofs.Places.{in-shift, code_points-drop, place-before}
 use Rattle.seg_text.proofs.Stretches.{text-later-next}
 use Rattle.seg_data.specs.Table.{Table}
 use Rattle.seg_pairs.specs.declared.pair_data.PairDataBorrowed.{PairDataBorrowed}
@@ -51,14 +51,6 @@ elements-place pairs [] end = refl
 elements-place pairs (item ∷ items) end = refl
 
 -- cuts of a beginning of a text stand at the same places in the text
-
-place-before : (items : List Item) (end n cut : ℕ) → cut ≤ n → place_of (drop cut (take n items)) (place_of (drop n items) end) ≡ place_of (drop cut items) end
-place-before items end zero zero below = refl
-place-before items end zero (suc cut) below = absurd (omega arith)
-place-before [] end (suc n) zero below = refl
-place-before (item ∷ items) end (suc n) zero below = refl
-place-before [] end (suc n) (suc cut) below = refl
-place-before (item ∷ items) end (suc n) (suc cut) below = place-before items end n cut (omega (arith, below))
 
 cuts-placed : (text : Text) (n status count : ℕ) (cuts : List ℕ) → count ≤ n → AreCutsOf count cuts
     → map (boundary_in text) (with_status status cuts) ≡ with_status status (map (λ (cut : ℕ). start_of (rest_after cut (text_before n text))) cuts)

@@ -1,5 +1,5 @@
 -- The places of items that rise, and boundaries that stand at them, or later.
-use Rattle.std.proofs.Common.{◌≡◌, ℕ, zero, suc, ◌+◌, ◌<◌, ◌≤◌, List, [], ◌∷◌, ◌++◌, map, drop, refl, ap, sym, arith}
+use Rattle.std.proofs.Common.{◌≡◌, ℕ, zero, suc, ◌+◌, ◌<◌, ◌≤◌, List, [], ◌∷◌, ◌++◌, map, take, drop, refl, ap, sym, arith}
 use Rattle.std.proofs.lemmas.List.{drop-drop, drop-map}
 use Rattle.seg_text.specs.Items.{Item, Text, place_of, rest_after, code_points, IsRising}
 use Rattle.seg_text.specs.declared.boundary.Boundary.{Boundary}
@@ -51,3 +51,12 @@ shifted-twice n m (boundary ∷ boundaries) =
 pub shifted-append : (n : ℕ) (some others : List Boundary) → shift_all n (some ++ others) ≡ shift_all n some ++ shift_all n others
 shifted-append n [] others = refl
 shifted-append n (boundary ∷ some) others = ap (λ (rest : List Boundary). shift n boundary ∷ rest) (shifted-append n some others)
+
+-- places in a beginning of a text stand at the same places in the text
+pub place-before : (items : List Item) (end n cut : ℕ) → cut ≤ n → place_of (drop cut (take n items)) (place_of (drop n items) end) ≡ place_of (drop cut items) end
+place-before items end zero zero below = refl
+place-before items end zero (suc cut) below = absurd (omega arith)
+place-before [] end (suc n) zero below = refl
+place-before (item ∷ items) end (suc n) zero below = refl
+place-before [] end (suc n) (suc cut) below = refl
+place-before (item ∷ items) end (suc n) (suc cut) below = place-before items end n cut (omega (arith, below))

@@ -16,26 +16,30 @@ use Rattle.seg_pairs.proofs.ComplexStretches.{complex-going, none-after, without
 use Rattle.seg_pairs.proofs.Engine.{table-going, table-alone}
 use Rattle.seg_engine.specs.Rules.{Rules}
 use Rattle.seg_engine.specs.Rules.Rules.{ByTable, ByMachine}
-use Rattle.seg_complex.specs.RunCuts.{at_end, run_cuts}
-use Rattle.seg_words.specs.WordRules.{HasNoComplex, first_word_stretch, word_boundaries_by}
+use Rattle.seg_text.specs.Cuts.{Cuts}
+use Rattle.seg_complex.specs.Payloads.{run_cuts_by}
+use Rattle.seg_words.specs.WordRules.{HasNoComplex, WordRules, first_word_stretch, stretch_by, word_boundaries_by}
 
-going : (rules : Rules) → HasProgress (first_word_stretch rules)
-going (ByTable t overriding) = complex-going t overriding (run_cuts at_end)
-going (ByMachine m) = machine-going m
+going : (rules : Rules) (cuts : Cuts) → HasProgress (stretch_by rules cuts)
+going (ByTable t overriding) cuts = complex-going t overriding cuts
+going (ByMachine m) cuts = machine-going m
 
-pub one-by : (rules : Rules) → HasOneAnswer (first_word_stretch rules)
-one-by rules = one-answer (first_word_stretch rules) (going rules)
+pub one-by : (words : WordRules) → HasOneAnswer (first_word_stretch words)
+one-by words = one-answer (first_word_stretch words) (going words.rules (run_cuts_by words.payloads))
 
 -- without complex code points a table's boundaries of words are those of the table alone
-same-without : (t : PairTable) (overriding : Option Table) (xs : List ℕ) → (HasComplexElement t overriding xs → ⊥)
-    → word_boundaries_by (ByTable t overriding) xs ≡ list_boundaries (table_stretch t overriding) xs
-same-without t overriding xs none = ap (λ (later : List Boundary). start ∷ later) (without-complex (run_cuts at_end) t overriding xs none)
+same-without : (t : PairTable) (overriding : Option Table) (cuts : Cuts) (xs : List ℕ) → (HasComplexElement t overriding xs → ⊥)
+    → list_boundaries (stretch_by (ByTable t overriding) cuts) xs ≡ list_boundaries (table_stretch t overriding) xs
+same-without t overriding cuts xs none = ap (λ (later : List Boundary). start ∷ later) (without-complex cuts t overriding xs none)
 
-pub restarts-by : (rules : Rules) (xs : List ℕ) → HasNoComplex rules xs → RestartsIn (word_boundaries_by rules) xs
-restarts-by (ByMachine m) xs none k boundary is = restarts (machine_stretch m) (machine-going m) (machine-alone m) xs k boundary is
-restarts-by (ByTable t overriding) xs none k boundary is =
-    let whole = same-without t overriding xs none in
-    let rest = same-without t overriding (drop boundary.offset xs) (none-after t overriding boundary.offset xs none) in
+restarts-with : (rules : Rules) (cuts : Cuts) (xs : List ℕ) → HasNoComplex rules xs → RestartsIn (list_boundaries (stretch_by rules cuts)) xs
+restarts-with (ByMachine m) cuts xs none k boundary is = restarts (machine_stretch m) (machine-going m) (machine-alone m) xs k boundary is
+restarts-with (ByTable t overriding) cuts xs none k boundary is =
+    let whole = same-without t overriding cuts xs none in
+    let rest = same-without t overriding cuts (drop boundary.offset xs) (none-after t overriding boundary.offset xs none) in
     ap (drop (suc k)) whole
     ∙ restarts (table_stretch t overriding) (table-going t overriding) (table-alone t overriding) xs k boundary (sym (ap (λ (found : List Boundary). slice_get found k) whole) ∙ is)
     ∙ sym (ap (λ (found : List Boundary). shift_all boundary.offset (drop 1 found)) rest)
+
+pub restarts-by : (words : WordRules) (xs : List ℕ) → HasNoComplex words.rules xs → RestartsIn (word_boundaries_by words) xs
+restarts-by words = restarts-with words.rules (run_cuts_by words.payloads)

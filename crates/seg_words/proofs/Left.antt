@@ -1,10 +1,10 @@
--- What is left of a text by a pair table whose runs are cut after each of their pieces.
+-- What is left of a text by a pair table whose runs are cut in some way.
 use Rattle.std.proofs.Common.{◌≡◌, ◌≢◌, ℕ, ◌<◌, List, [], ◌∷◌, ◌++◌, length, sym, ap, ◌∙◌, subst, arith}
 use Rattle.std.specs.Prelude.{Option}
 use Rattle.std.proofs.lemmas.List.{length-map}
 use Rattle.seg_text.specs.declared.boundary.Boundary.{Boundary}
 use Rattle.seg_text.specs.Items.{Item, Text, start_of, code_points, IsRising}
-use Rattle.seg_text.specs.Boundaries.{IsCover, boundary, boundaries_in}
+use Rattle.seg_text.specs.Boundaries.{IsCover, RisesTo, boundary, boundaries_in}
 use Rattle.seg_text.specs.Cuts.{Cuts, AreCutsOf, with_status, cut_places}
 use Rattle.seg_text.specs.Stretches.{later_boundaries, list_boundaries}
 use Rattle.seg_text.proofs.Covers.{covers}
@@ -14,26 +14,23 @@ use Rattle.seg_pairs.specs.declared.runs.Event.TheVariants.{Run}
 use Rattle.seg_pairs.specs.PairTable.{PairTable}
 use Rattle.seg_pairs.specs.Runs.{Unread, LeadsTo, GoesOn, complex_stretch, run_status, unread_boundaries}
 use Rattle.seg_pairs.proofs.ComplexStretches.{complex-within}
-use Rattle.seg_complex.specs.RunCuts.{at_end, run_cuts}
-use Rattle.seg_complex.proofs.Cutting.{at_end-covers, runs-covered, ends-inside, cuts-nil}
+use Rattle.seg_complex.specs.RunCuts.{PieceCuts, CoverPieces, run_cuts}
+use Rattle.seg_complex.proofs.Cutting.{run-cuts-inside, cuts-nil}
 
-abbrev ends : Cuts
-ends = run_cuts at_end
+classic-cover : (cuts : Cuts) → ((run : List ℕ) → RisesTo 0 (with_status 0 (cuts run)) (length run)) → (t : PairTable) (overriding : Option Table) (text : Text)
+    → IsRising text.items text.end → IsCover (start_of text) text.end (boundaries_in (list_boundaries (complex_stretch cuts t overriding)) text)
+classic-cover cuts covered t overriding text rising = covers (complex_stretch cuts t overriding) (complex-within cuts covered t overriding) text rising
 
-classic-cover : (t : PairTable) (overriding : Option Table) (text : Text) → IsRising text.items text.end
-    → IsCover (start_of text) text.end (boundaries_in (list_boundaries (complex_stretch ends t overriding)) text)
-classic-cover t overriding text rising =
-    covers (complex_stretch ends t overriding) (complex-within ends (runs-covered at_end at_end-covers) t overriding) text rising
-
-pub new-cover : (t : PairTable) (overriding : Option Table) (text : Text) (unread : Unread) → unread ≡ record { table = t; overriding = overriding; text = text }
-    → IsRising text.items text.end
-    → IsCover (start_of text) text.end (boundaries_in (list_boundaries (complex_stretch ends unread.table unread.overriding)) unread.text)
-new-cover t overriding text unread is rising =
-    subst (λ (u : Unread). IsCover (start_of text) text.end (boundaries_in (list_boundaries (complex_stretch ends u.table u.overriding)) u.text)) (sym is) (classic-cover t overriding text rising)
+pub new-cover : (cuts : Cuts) → ((run : List ℕ) → RisesTo 0 (with_status 0 (cuts run)) (length run)) → (t : PairTable) (overriding : Option Table) (text : Text) (unread : Unread)
+    → unread ≡ record { table = t; overriding = overriding; text = text } → IsRising text.items text.end
+    → IsCover (start_of text) text.end (boundaries_in (list_boundaries (complex_stretch cuts unread.table unread.overriding)) unread.text)
+new-cover cuts covered t overriding text unread is rising =
+    subst (λ (u : Unread). IsCover (start_of text) text.end (boundaries_in (list_boundaries (complex_stretch cuts u.table u.overriding)) u.text)) (sym is)
+    (classic-cover cuts covered t overriding text rising)
 
 -- a run in which nothing is left has no cuts
-pub no-cuts : (run : Text) (end : ℕ) → run ≡ record { items = []; end = end } → cut_places ends run ≡ []
-no-cuts run end is = ap (cut_places ends) is ∙ cuts-nil at_end end
+pub no-cuts : (cuts : PieceCuts) (run : Text) (end : ℕ) → run ≡ record { items = []; end = end } → cut_places (run_cuts cuts) run ≡ []
+no-cuts cuts run end is = ap (cut_places (run_cuts cuts)) is ∙ cuts-nil cuts end
 
 -- nothing is left of a text
 pub nothing-unread : (cuts : Cuts) (unread : Unread) → unread.text.items ≡ [] → unread_boundaries cuts unread ≡ []
@@ -51,16 +48,17 @@ pub left-cut : (status place : ℕ) (before after : List ℕ) (unread left : Lis
 left-cut status place before after unread left next is = sym is ∙ ap (λ (run : List ℕ). with_status status run ++ unread) next
 
 -- a run came next, with its cuts
-pub left-run : {I : Type 0} (text : I → Text) (before after : Unread) (run : I) (cuts : List ℕ) (left : List Boundary) → LeadsTo text before (Run run) after → GoesOn before after
-    → cuts ≡ cut_places ends (text run) → unread_boundaries ends before ≡ left
-    → with_status (run_status after.table) cuts ++ unread_boundaries ends after ≡ left
-left-run text before after run cuts left leads goes is same =
-    ap (λ (t : PairTable). with_status (run_status t) cuts ++ unread_boundaries ends after) goes.table
-    ∙ ap (λ (cuts : List ℕ). with_status (run_status before.table) cuts ++ unread_boundaries ends after) is
-    ∙ sym (leads ends inside) ∙ same
+pub left-run : {I : Type 0} (text : I → Text) (cuts : PieceCuts) → CoverPieces cuts → (before after : Unread) (run : I) (found : List ℕ) (left : List Boundary)
+    → LeadsTo text before (Run run) after → GoesOn before after
+    → found ≡ cut_places (run_cuts cuts) (text run) → unread_boundaries (run_cuts cuts) before ≡ left
+    → with_status (run_status after.table) found ++ unread_boundaries (run_cuts cuts) after ≡ left
+left-run text cuts cover before after run found left leads goes is same =
+    ap (λ (t : PairTable). with_status (run_status t) found ++ unread_boundaries (run_cuts cuts) after) goes.table
+    ∙ ap (λ (found : List ℕ). with_status (run_status before.table) found ++ unread_boundaries (run_cuts cuts) after) is
+    ∙ sym (leads (run_cuts cuts) inside) ∙ same
   where
-    inside : AreCutsOf (length (text run).items) (ends (code_points (text run).items))
-    inside = rw (length-map (text run).items (λ (item : Item). item.1)) at (ends-inside (code_points (text run).items))
+    inside : AreCutsOf (length (text run).items) (run_cuts cuts (code_points (text run).items))
+    inside = rw (length-map (text run).items (λ (item : Item). item.1)) at (run-cuts-inside cuts cover (code_points (text run).items))
 
 -- and it took something
 pub run-fewer : {I : Type 0} (text : I → Text) (before after : Unread) (run : I) → LeadsTo text before (Run run) after → GoesOn before after
@@ -74,9 +72,9 @@ run-fewer text before after run leads goes = goes.fewer (λ none. some (sym (lea
     some is = cc
 
 -- nothing is left, before and after the end was read
-pub at-end : (status : ℕ) (run later : List ℕ) (before after : Unread) (left : List Boundary) → run ≡ [] → later ≡ [] → before.text.items ≡ [] → after ≡ before
-    → with_status status run ++ unread_boundaries ends before ≡ left → (left ≡ []) × (with_status (run_status after.table) later ++ unread_boundaries ends after ≡ [])
-at-end status run later before after left none empty nothing same is = (
-  sym is ∙ ap (λ (run : List ℕ). with_status status run ++ unread_boundaries ends before) none ∙ nothing-unread ends before nothing,
-  ap (λ (run : List ℕ). with_status (run_status after.table) run ++ unread_boundaries ends after) empty ∙ nothing-unread ends after (ap (λ (u : Unread). u.text.items) same ∙ nothing),
+pub at-end : (cuts : Cuts) (status : ℕ) (run later : List ℕ) (before after : Unread) (left : List Boundary) → run ≡ [] → later ≡ [] → before.text.items ≡ [] → after ≡ before
+    → with_status status run ++ unread_boundaries cuts before ≡ left → (left ≡ []) × (with_status (run_status after.table) later ++ unread_boundaries cuts after ≡ [])
+at-end cuts status run later before after left none empty nothing same is = (
+  sym is ∙ ap (λ (run : List ℕ). with_status status run ++ unread_boundaries cuts before) none ∙ nothing-unread cuts before nothing,
+  ap (λ (run : List ℕ). with_status (run_status after.table) run ++ unread_boundaries cuts after) empty ∙ nothing-unread cuts after (ap (λ (u : Unread). u.text.items) same ∙ nothing),
 )

@@ -3,20 +3,25 @@ use Rattle.std.specs.Prelude.{ℕ, List, map}
 use Rattle.seg_text.specs.declared.boundary.Boundary.{Boundary}
 use Rattle.seg_text.specs.Boundaries.{offsets}
 use Rattle.seg_engine.specs.Engine.{rules_of, owned_rules}
-use Rattle.seg_engine.specs.Rules.{Rules}
+use Rattle.seg_dictionary.specs.ScriptWords.{script_words}
+use Rattle.seg_clusters.specs.Clusters.{owned_cluster_rules}
+use Rattle.seg_complex.specs.Payloads.{payloads_of}
 use Rattle.seg_words.specs.declared.word.WordType.{WordType}
 use Rattle.seg_words.specs.declared.word.WordSegmenter.{WordSegmenter}
 use Rattle.seg_words.specs.declared.word.WordSegmenterBorrowed.{WordSegmenterBorrowed}
 use Rattle.seg_words.specs.declared.word.WordBreakIterator.{WordBreakIterator}
 use Rattle.seg_words.specs.declared.word.WordBreakIteratorWithWordType.{WordBreakIteratorWithWordType}
-use Rattle.seg_words.specs.WordRules.{type_of}
+use Rattle.seg_words.specs.WordRules.{WordRules, type_of}
 
 -- what a segmenter finds boundaries by
-abbrev pub word_rules : WordSegmenterBorrowed → Rules
-word_rules segmenter = rules_of segmenter.engine
+abbrev pub word_rules : WordSegmenterBorrowed → WordRules
+word_rules segmenter = record { rules = rules_of segmenter.engine; payloads = payloads_of segmenter.payloads }
 
-abbrev pub owned_word_rules : WordSegmenter → Rules
-owned_word_rules segmenter = owned_rules segmenter.engine
+abbrev pub owned_word_rules : WordSegmenter → WordRules
+owned_word_rules segmenter = record {
+  rules = owned_rules segmenter.engine;
+  payloads = record { words = script_words segmenter.dictionaries; clusters = owned_cluster_rules segmenter.clusters };
+}
 
 -- the boundaries that an iterator has still to give, and their places
 abbrev pub words_left : {Y C I : Type 0} → WordBreakIterator Y C I → List Boundary

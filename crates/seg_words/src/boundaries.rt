@@ -5,9 +5,11 @@ ghost use Rattle.std.specs.Iterator.{YieldsFirst, MakesProgress, item_count};
 ghost use Rattle.seg_text.specs.Items.{start_of};
 ghost use Rattle.seg_text.specs.Boundaries.{GivesNext, IsCover, offsets_left};
 ghost use Rattle.seg_engine.specs.Engine.{rules_of};
+ghost use Rattle.seg_complex.specs.Payloads.{payloads_of};
 ghost use Rattle.seg_words.specs.WordRules.{word_boundaries_of};
 
 use crate::classic::ClassicBoundaries;
+use seg_complex::complex::ComplexPayloadsBorrowed;
 use seg_engine::engine::Engine;
 use seg_machine::rule_segmenter_v2::RuleBreakIterator;
 use seg_text::cursor::Cursor;
@@ -39,14 +41,18 @@ impl<'data, I: Cursor> Model for Boundaries<'data, I> {
 
 impl<'data, I: Cursor> Boundaries<'data, I> {
     /// The boundaries of what is left of a text. Takes no memory.
-    pub(crate) fn new(engine: Engine<'data>, text: I) -> Self
-        ensures boundaries { result.left ≡ word_boundaries_of (rules_of engine.entry) (I.text text) }
+    pub(crate) fn new(
+        engine: Engine<'data>,
+        payloads: ComplexPayloadsBorrowed<'data>,
+        text: I,
+    ) -> Self
+        ensures boundaries { result.left ≡ word_boundaries_of (record { rules = rules_of engine.entry; payloads = payloads_of payloads.entry }) (I.text text) }
         ensures cover { IsCover (start_of (I.text text)) (I.text text).end result.left }
         ensures status { result.status ≡ 0 }
     {
         match engine {
             Engine::Classic(pairs) => Boundaries {
-                by: BoundariesBy::Classic(ClassicBoundaries::new(pairs, text)),
+                by: BoundariesBy::Classic(ClassicBoundaries::new(pairs, payloads, text)),
             },
             Engine::Neo(machine) => Boundaries {
                 by: BoundariesBy::Neo(RuleBreakIterator::new(machine, text)),

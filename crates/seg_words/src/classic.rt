@@ -6,8 +6,10 @@ ghost use Rattle.seg_text.specs.Items.{start_of};
 ghost use Rattle.seg_text.specs.Boundaries.{GivesNext, IsCover, offsets_left};
 ghost use Rattle.seg_pairs.specs.PairData.{pair_table_of, override_of};
 ghost use Rattle.seg_engine.specs.Rules.Rules.{ByTable};
+ghost use Rattle.seg_complex.specs.Payloads.{payloads_of};
 ghost use Rattle.seg_words.specs.WordRules.{word_boundaries_of};
 
+use seg_complex::complex::ComplexPayloadsBorrowed;
 use seg_complex::runs::RunCuts;
 use seg_pairs::pair_data::PairDataBorrowed;
 use seg_pairs::rule_segmenter_v1::rule_status;
@@ -21,7 +23,8 @@ pub(crate) struct ClassicBoundaries<'data, I: Cursor> {
     // What the table hasn't read yet.
     events: Events<'data, I>,
     // What is left of the run that came last.
-    run: RunCuts<I>,
+    run: RunCuts<'data, I>,
+    payloads: ComplexPayloadsBorrowed<'data>,
     started: bool,
     // The class of the boundary that was given last.
     class: u8,
@@ -30,25 +33,32 @@ pub(crate) struct ClassicBoundaries<'data, I: Cursor> {
 impl<'data, I: Cursor> Model for ClassicBoundaries<'data, I> {
     ghost use Rattle.std.specs.Prelude.{◌≡◌, false, []};
     ghost use Rattle.seg_text.specs.Boundaries.{Remainder};
+    ghost use Rattle.seg_complex.specs.Payloads.{payloads_of, run_cuts_by};
     ghost use Rattle.seg_words.specs.Classic.{classic_remainder};
 
     ghost Value = { Remainder };
 
-    ghost view = { λ s. classic_remainder s.started s.class s.run s.events };
+    ghost view = { λ s. classic_remainder (run_cuts_by (payloads_of s.payloads)) s.started s.class s.run s.events };
 
     ghost invariant = { λ s. s.started ≡ false → (s.class ≡ 0) × (s.run ≡ []) };
 }
 
 impl<'data, I: Cursor> ClassicBoundaries<'data, I> {
     /// The boundaries of what is left of a text. Takes no memory.
-    pub(crate) fn new(pairs: PairDataBorrowed<'data>, text: I) -> Self
-        ensures boundaries { result.left ≡ word_boundaries_of (ByTable (pair_table_of pairs.entry) (override_of pairs.entry)) (I.text text) }
+    pub(crate) fn new(
+        pairs: PairDataBorrowed<'data>,
+        payloads: ComplexPayloadsBorrowed<'data>,
+        text: I,
+    ) -> Self
+        ensures boundaries { result.left ≡ word_boundaries_of (record { rules = ByTable (pair_table_of pairs.entry) (override_of pairs.entry); payloads = payloads_of payloads.entry }) (I.text text) }
         ensures cover { IsCover (start_of (I.text text)) (I.text text).end result.left }
         ensures status { result.status ≡ 0 }
     {
+        payloads.facts();
         let events = Events::new(pairs, text);
         ClassicBoundaries {
-            run: RunCuts::new(events.nothing()),
+            run: RunCuts::new(payloads, events.nothing()),
+            payloads,
             events,
             started: false,
             class: 0,
@@ -78,6 +88,7 @@ impl<'data, I: Cursor> Iterator for ClassicBoundaries<'data, I> {
             self.started = true;
             return Some(self.events.place());
         }
+        self.payloads.facts();
         loop {
             if let Some(place) = self.run.next() {
                 self.class = self.events.table().complex_property();
@@ -92,7 +103,7 @@ impl<'data, I: Cursor> Iterator for ClassicBoundaries<'data, I> {
                     self.class = class;
                     return Some(place);
                 }
-                Event::Run(run) => self.run = RunCuts::new(run),
+                Event::Run(run) => self.run = RunCuts::new(self.payloads, run),
             }
         }
     }

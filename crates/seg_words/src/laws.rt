@@ -30,7 +30,7 @@ pub fn equal_code_points(segmenter: WordSegmenterBorrowed<'_>)
 /// them are those of the rest taken alone, shifted, with the same statuses. By a machine, which knows of no complex ones, so
 /// may every text.
 pub fn restart(segmenter: WordSegmenterBorrowed<'_>)
-    ensures { (code_points : List ℕ) → HasNoComplex (word_rules segmenter.entry) code_points
+    ensures { (code_points : List ℕ) → HasNoComplex (word_rules segmenter.entry).rules code_points
         → RestartsIn (word_boundaries_by (word_rules segmenter.entry)) code_points }
 {
     let _ = segmenter;

@@ -9,14 +9,17 @@ ghost use Rattle.seg_text.specs.Utf16.{utf16};
 ghost use Rattle.seg_text.specs.Boundaries.{IsCover};
 ghost use Rattle.seg_data.specs.Faults.{IsFaultless, IsLowestFault};
 ghost use Rattle.seg_pairs.specs.Overriding.{table_in};
-ghost use Rattle.seg_engine.specs.Engine.{rules_of};
-ghost use Rattle.seg_engine.specs.Rules.Rules.{ByTable, ByMachine};
-ghost use Rattle.seg_words.specs.WordRules.{is_word_like, type_of, word_boundaries_of};
+ghost use Rattle.seg_dictionary.specs.ScriptWords.{filled, lent_words, no_words, script_words};
+ghost use Rattle.seg_words.specs.WordRules.{is_word_like, machine_words, table_words, type_of, with_words, word_boundaries_of};
+ghost use Rattle.seg_words.specs.Words.{word_rules};
 ghost use Rattle.seg_words.specs.declared.word.WordType.TheVariants.{None as NoWord};
 
 use crate::boundaries::Boundaries;
 use crate::data::{check_machine, word_pairs};
+use seg_clusters::grapheme::{GraphemeClusterSegmenter, GraphemeClusterSegmenterBorrowed};
+use seg_complex::complex::ComplexPayloadsBorrowed;
 use seg_data::provider::{DataError, LanguageIdentifier};
+use seg_dictionary::dictionaries::{Dictionaries, DictionariesBorrowed};
 use seg_engine::engine::{Engine, OwnedEngine};
 use seg_machine::provider::SegmenterStateMachine;
 use seg_machine::tailored_machine::{TailoredMachine, TailoredMachineBorrowed};
@@ -177,15 +180,17 @@ impl<'data, 's, Y: RuleBreakType<'s>> Iterator for WordBreakIteratorWithWordType
 #[derive(Debug, Drop)]
 pub struct WordSegmenter {
     engine: OwnedEngine,
+    clusters: GraphemeClusterSegmenter,
+    dictionaries: Dictionaries,
 }
 
 impl WordSegmenter {
-    ghost use Rattle.seg_words.specs.Words.{word_rules, owned_word_rules};
+    ghost use Rattle.seg_words.specs.Words.{owned_word_rules};
     ghost use Rattle.seg_words.specs.WordFaults.{HasWordTableFault, HasWordMachineFault};
 
     /// A segmenter by a pair table and its override, if there is one; a run of complex characters (those of the class
-    /// `complex_property`) is cut after each of its pieces of one script. The pair table of clusters is for words of
-    /// dictionaries, which aren't here yet, and is only checked. Of several faults that with the lowest number:
+    /// `complex_property`) is cut after each of its pieces of one script, until dictionaries are loaded. The pair table of
+    /// clusters says where the words of these may end. Of several faults that with the lowest number:
     /// `ClassOutOfRange` where the override names a class that the table lacks, `StartRowKeeps` where no boundary stands
     /// between the start of the text and some class of code points, in words or in clusters, `ComplexItems` where some
     /// code points are complex in clusters, `ComplexBelow0100` where one below U+0100 is in words. The options change
@@ -196,7 +201,7 @@ impl WordSegmenter {
         clusters: RuleBreakData,
         options: WordBreakOptions<'_>,
     ) -> Result<Self, DataError>
-        ensures accepted { IfOk result (λ segmenter. (owned_word_rules segmenter ≡ ByTable table overriding)
+        ensures accepted { IfOk result (λ segmenter. (owned_word_rules segmenter ≡ table_words table overriding clusters no_words)
             × IsFaultless (HasWordTableFault table overriding clusters)) }
         ensures refused { IfErr result (IsLowestFault (HasWordTableFault table overriding clusters)) }
     {
@@ -204,11 +209,39 @@ impl WordSegmenter {
         let _pairs = word_pairs(&table, overriding.as_ref(), &clusters)?;
         Ok(WordSegmenter {
             engine: OwnedEngine::Classic(PairData::try_new(table, overriding)?),
+            clusters: GraphemeClusterSegmenter::try_new(clusters)?,
+            dictionaries: Dictionaries::none(),
         })
     }
 
-    /// A segmenter by a state machine. The pair table of clusters is for words of dictionaries, which aren't here yet, and
-    /// is only checked. Of several faults that with the lowest number: `StartRowKeeps` where no boundary stands
+    /// The same with dictionaries: each piece of a script that has one is cut by its words. The faults are the same.
+    pub fn try_new_dictionary(
+        table: RuleBreakData,
+        overriding: Option<RuleBreakDataOverride>,
+        clusters: RuleBreakData,
+        dictionaries: Dictionaries,
+        options: WordBreakOptions<'_>,
+    ) -> Result<Self, DataError>
+        ensures accepted { IfOk result (λ segmenter. (owned_word_rules segmenter ≡ table_words table overriding clusters (script_words dictionaries))
+            × IsFaultless (HasWordTableFault table overriding clusters)) }
+        ensures refused { IfErr result (IsLowestFault (HasWordTableFault table overriding clusters)) }
+    {
+        let mut segmenter =
+            Self::try_new_for_non_complex_scripts(table, overriding, clusters, options)?;
+        segmenter.load_dictionary(dictionaries);
+        Ok(segmenter)
+    }
+
+    /// Takes the dictionaries of scripts that have none yet. Those that are there stay. Words by a machine don't look at
+    /// them yet. Takes no memory.
+    pub fn load_dictionary(&mut self, dictionaries: Dictionaries)
+        ensures { owned_word_rules self.new ≡ with_words (owned_word_rules self.old) (filled (owned_word_rules self.old).payloads.words (script_words dictionaries)) }
+    {
+        self.dictionaries.fill(dictionaries);
+    }
+
+    /// A segmenter by a state machine. The pair table of clusters is for words of dictionaries, which machines don't look at
+    /// yet. Of several faults that with the lowest number: `StartRowKeeps` where no boundary stands
     /// between the start of the text and some class of code points in clusters, `ComplexItems` where some code points are
     /// complex in clusters, `ComplexBelow0100` where one below U+0100 has a script by the machine. The options change
     /// nothing. Takes no memory.
@@ -217,7 +250,7 @@ impl WordSegmenter {
         clusters: RuleBreakData,
         options: WordBreakOptions<'_>,
     ) -> Result<Self, DataError>
-        ensures accepted { IfOk result (λ segmenter. (owned_word_rules segmenter ≡ ByMachine machine)
+        ensures accepted { IfOk result (λ segmenter. (owned_word_rules segmenter ≡ machine_words machine clusters)
             × IsFaultless (HasWordMachineFault machine clusters)) }
         ensures refused { IfErr result (IsLowestFault (HasWordMachineFault machine clusters)) }
     {
@@ -225,6 +258,8 @@ impl WordSegmenter {
         check_machine(&machine, &clusters)?;
         Ok(WordSegmenter {
             engine: OwnedEngine::Neo(TailoredMachine::without_tailoring(machine)),
+            clusters: GraphemeClusterSegmenter::try_new(clusters)?,
+            dictionaries: Dictionaries::none(),
         })
     }
 
@@ -234,6 +269,10 @@ impl WordSegmenter {
     {
         WordSegmenterBorrowed {
             engine: self.engine.as_borrowed(),
+            payloads: ComplexPayloadsBorrowed::new(
+                self.dictionaries.as_borrowed(),
+                self.clusters.as_borrowed(),
+            ),
         }
     }
 }
@@ -250,15 +289,16 @@ impl WordSegmenter {
 #[derive(Clone, Copy, Debug)]
 pub struct WordSegmenterBorrowed<'data> {
     pub(crate) engine: Engine<'data>,
+    pub(crate) payloads: ComplexPayloadsBorrowed<'data>,
 }
 
 impl<'data> WordSegmenterBorrowed<'data> {
-    ghost use Rattle.seg_words.specs.Words.{word_rules, words_left, word_type};
+    ghost use Rattle.seg_words.specs.Words.{words_left, word_type};
     ghost use Rattle.seg_words.specs.WordFaults.{HasWordTableFault, HasWordMachineFault};
 
     /// A segmenter by a pair table and its override, if there is one; a run of complex characters (those of the class
-    /// `complex_property`) is cut after each of its pieces of one script. The pair table of clusters is for words of
-    /// dictionaries, which aren't here yet, and is only checked. Of several faults that with the lowest number:
+    /// `complex_property`) is cut after each of its pieces of one script, until dictionaries are loaded. The pair table of
+    /// clusters says where the words of these may end. Of several faults that with the lowest number:
     /// `ClassOutOfRange` where the override names a class that the table lacks, `StartRowKeeps` where no boundary stands
     /// between the start of the text and some class of code points, in words or in clusters, `ComplexItems` where some
     /// code points are complex in clusters, `ComplexBelow0100` where one below U+0100 is in words. Takes no memory.
@@ -268,18 +308,45 @@ impl<'data> WordSegmenterBorrowed<'data> {
         clusters: &'data RuleBreakData,
         options: WordBreakInvariantOptions,
     ) -> Result<Self, DataError>
-        ensures accepted { IfOk result (λ segmenter. (word_rules segmenter ≡ ByTable table.now (table_in overriding.entry))
+        ensures accepted { IfOk result (λ segmenter. (word_rules segmenter ≡ table_words table.now (table_in overriding.entry) clusters.now no_words)
+            × IsFaultless (HasWordTableFault table.now (table_in overriding.entry) clusters.now)) }
+        ensures refused { IfErr result (IsLowestFault (HasWordTableFault table.now (table_in overriding.entry) clusters.now)) }
+    {
+        let none = DictionariesBorrowed::none();
+        Self::new_dictionary(table, overriding, clusters, none, options)
+    }
+
+    /// The same with dictionaries: each piece of a script that has one is cut by its words. The faults are the same.
+    pub fn new_dictionary(
+        table: &'data RuleBreakData,
+        overriding: Option<&'data RuleBreakDataOverride>,
+        clusters: &'data RuleBreakData,
+        dictionaries: DictionariesBorrowed<'data>,
+        options: WordBreakInvariantOptions,
+    ) -> Result<Self, DataError>
+        ensures accepted { IfOk result (λ segmenter. (word_rules segmenter ≡ table_words table.now (table_in overriding.entry) clusters.now (lent_words dictionaries.entry))
             × IsFaultless (HasWordTableFault table.now (table_in overriding.entry) clusters.now)) }
         ensures refused { IfErr result (IsLowestFault (HasWordTableFault table.now (table_in overriding.entry) clusters.now)) }
     {
         let _ = options;
+        let pairs = word_pairs(table, overriding, clusters)?;
+        let clusters = GraphemeClusterSegmenterBorrowed::new(clusters)?;
         Ok(WordSegmenterBorrowed {
-            engine: Engine::Classic(word_pairs(table, overriding, clusters)?),
+            engine: Engine::Classic(pairs),
+            payloads: ComplexPayloadsBorrowed::new(dictionaries, clusters),
         })
     }
 
-    /// A segmenter by a state machine. The pair table of clusters is for words of dictionaries, which aren't here yet, and
-    /// is only checked. Of several faults that with the lowest number: `StartRowKeeps` where no boundary stands
+    /// Takes the dictionaries of scripts that have none yet. Those that are there stay. Words by a machine don't look at
+    /// them yet. Takes no memory.
+    pub fn load_dictionary(&mut self, dictionaries: DictionariesBorrowed<'data>)
+        ensures { word_rules self.new ≡ with_words (word_rules self.old) (filled (word_rules self.old).payloads.words (lent_words dictionaries.entry)) }
+    {
+        self.payloads.load(dictionaries);
+    }
+
+    /// A segmenter by a state machine. The pair table of clusters is for words of dictionaries, which machines don't look at
+    /// yet. Of several faults that with the lowest number: `StartRowKeeps` where no boundary stands
     /// between the start of the text and some class of code points in clusters, `ComplexItems` where some code points are
     /// complex in clusters, `ComplexBelow0100` where one below U+0100 has a script by the machine. Takes no memory.
     pub fn new_neo_for_non_complex_scripts(
@@ -287,7 +354,7 @@ impl<'data> WordSegmenterBorrowed<'data> {
         clusters: &'data RuleBreakData,
         options: WordBreakInvariantOptions,
     ) -> Result<Self, DataError>
-        ensures accepted { IfOk result (λ segmenter. (word_rules segmenter ≡ ByMachine machine.now)
+        ensures accepted { IfOk result (λ segmenter. (word_rules segmenter ≡ machine_words machine.now clusters.now)
             × IsFaultless (HasWordMachineFault machine.now clusters.now)) }
         ensures refused { IfErr result (IsLowestFault (HasWordMachineFault machine.now clusters.now)) }
     {
@@ -295,6 +362,10 @@ impl<'data> WordSegmenterBorrowed<'data> {
         check_machine(machine, clusters)?;
         Ok(WordSegmenterBorrowed {
             engine: Engine::Neo(TailoredMachineBorrowed::without_tailoring(machine)),
+            payloads: ComplexPayloadsBorrowed::new(
+                DictionariesBorrowed::none(),
+                GraphemeClusterSegmenterBorrowed::new(clusters)?,
+            ),
         })
     }
 
@@ -304,7 +375,7 @@ impl<'data> WordSegmenterBorrowed<'data> {
         ensures cover { IsCover 0 (length input.now) (words_left result) }
         ensures kind { word_type result ≡ NoWord }
     {
-        segment(self.engine, StrCharIndices::new(input))
+        segment(self, StrCharIndices::new(input))
     }
 
     /// The boundaries of the words of possibly ill-formed UTF-8, in bytes. Each longest beginning of a
@@ -317,7 +388,7 @@ impl<'data> WordSegmenterBorrowed<'data> {
         ensures cover { IsCover 0 (length input.now) (words_left result) }
         ensures kind { word_type result ≡ NoWord }
     {
-        segment(self.engine, Utf8CharIndices::new(input))
+        segment(self, Utf8CharIndices::new(input))
     }
 
     /// The boundaries of the words of Latin-1, in bytes. Takes no memory.
@@ -326,7 +397,7 @@ impl<'data> WordSegmenterBorrowed<'data> {
         ensures cover { IsCover 0 (length input.now) (words_left result) }
         ensures kind { word_type result ≡ NoWord }
     {
-        segment(self.engine, Latin1Indices::new(input))
+        segment(self, Latin1Indices::new(input))
     }
 
     /// The boundaries of the words of possibly ill-formed UTF-16, in 16-bit units. A surrogate that stands alone
@@ -336,21 +407,21 @@ impl<'data> WordSegmenterBorrowed<'data> {
         ensures cover { IsCover 0 (length input.now) (words_left result) }
         ensures kind { word_type result ≡ NoWord }
     {
-        segment(self.engine, Utf16Indices::new(input))
+        segment(self, Utf16Indices::new(input))
     }
 }
 
 /// The words of what is left of a text.
 fn segment<'data, 's, Y: RuleBreakType<'s>>(
-    engine: Engine<'data>,
+    segmenter: WordSegmenterBorrowed<'data>,
     text: Y::IterAttr,
 ) -> WordBreakIterator<'data, 's, Y>
-    ensures boundaries { result.boundaries.left ≡ word_boundaries_of (rules_of engine.entry) (Y.IterAttr.text text) }
+    ensures boundaries { result.boundaries.left ≡ word_boundaries_of (word_rules segmenter.entry) (Y.IterAttr.text text) }
     ensures cover { IsCover (start_of (Y.IterAttr.text text)) (Y.IterAttr.text text).end result.boundaries.left }
     ensures status { result.boundaries.status ≡ 0 }
 {
     WordBreakIterator {
-        boundaries: Boundaries::new(engine, text),
+        boundaries: Boundaries::new(segmenter.engine, segmenter.payloads, text),
         text: PhantomData,
     }
 }

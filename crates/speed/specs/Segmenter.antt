@@ -11,7 +11,8 @@ use Rattle.icu_segmenter.specs.Rules.Rules.{ByTable, ByMachine}
 use Rattle.icu_segmenter.specs.Sentences.{owned_sentence_rules}
 use Rattle.icu_segmenter.specs.Table.{Table}
 use Rattle.icu_segmenter.specs.Utf8.{utf8}
-use Rattle.icu_segmenter.specs.WordRules.{word_boundaries_of}
+use Rattle.icu_segmenter.specs.ScriptWords.{no_words}
+use Rattle.icu_segmenter.specs.WordRules.{WordRules, machine_words, table_words, word_boundaries_of}
 use Rattle.icu_segmenter.specs.Words.{owned_word_rules}
 use Rattle.bench.specs.Clusters.{cluster_machine}
 use Rattle.bench.specs.Lines.{line_machine}
@@ -41,8 +42,8 @@ machine_with m (Some symbols) =
 abbrev pub places_by : Rules → Text → List ℕ
 places_by rules text = offsets (boundaries_of rules text)
 
-abbrev pub word_places_by : Rules → Text → List ℕ
-word_places_by rules text = offsets (word_boundaries_of rules text)
+abbrev pub word_places_by : WordRules → Text → List ℕ
+word_places_by words text = offsets (word_boundaries_of words text)
 
 -- the places of boundaries by an engine's small data, with this class table in place of theirs if there is one
 abbrev pub segmentation_with : Engine → Option Table → Text → List ℕ
@@ -50,8 +51,8 @@ segmentation_with GraphemeClassic classes = places_by (ByTable (table_with clust
 segmentation_with GraphemeNeo classes = places_by (ByMachine (machine_with cluster_machine classes))
 segmentation_with SentenceClassic classes = places_by (ByTable (table_with sentence_table classes) None)
 segmentation_with SentenceNeo classes = places_by (ByMachine (machine_with sentence_machine classes))
-segmentation_with WordClassic classes = word_places_by (ByTable (table_with word_table classes) None)
-segmentation_with WordNeo classes = word_places_by (ByMachine (machine_with word_machine classes))
+segmentation_with WordClassic classes = word_places_by (table_words (table_with word_table classes) None cluster_table no_words)
+segmentation_with WordNeo classes = word_places_by (machine_words (machine_with word_machine classes) cluster_table)
 segmentation_with LineNeo classes = places_by (ByMachine (machine_with line_machine classes))
 
 -- the places of boundaries by a segmenter

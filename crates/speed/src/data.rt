@@ -1,6 +1,8 @@
 //! The data of each engine, small and real.
 ghost use Rattle.std.specs.Prelude.{◌≡◌, None, IfOk};
 ghost use Rattle.icu_segmenter.specs.Rules.Rules.{ByTable, ByMachine};
+ghost use Rattle.icu_segmenter.specs.ScriptWords.{no_words};
+ghost use Rattle.icu_segmenter.specs.WordRules.{machine_words, table_words};
 ghost use Rattle.speed.specs.Segmenter.{machine_with, places_by, segmentation_of, segmentation_with, table_with, word_places_by};
 
 use crate::engine::Engine;
@@ -131,7 +133,7 @@ fn sentences_by_machine(machine: SegmenterStateMachine) -> Result<Segmenter>
 }
 
 fn words_by_table(table: RuleBreakData, clusters: RuleBreakData) -> Result<Segmenter>
-    ensures { IfOk result (λ segmenter. segmentation_of segmenter ≡ word_places_by (ByTable table None)) }
+    ensures { IfOk result (λ segmenter. segmentation_of segmenter ≡ word_places_by (table_words table None clusters no_words)) }
 {
     let options = WordBreakOptions::default();
     let segmenter = WordSegmenter::try_new_for_non_complex_scripts(table, None, clusters, options)?;
@@ -139,7 +141,7 @@ fn words_by_table(table: RuleBreakData, clusters: RuleBreakData) -> Result<Segme
 }
 
 fn words_by_machine(machine: SegmenterStateMachine, clusters: RuleBreakData) -> Result<Segmenter>
-    ensures { IfOk result (λ segmenter. segmentation_of segmenter ≡ word_places_by (ByMachine machine)) }
+    ensures { IfOk result (λ segmenter. segmentation_of segmenter ≡ word_places_by (machine_words machine clusters)) }
 {
     let options = WordBreakOptions::default();
     let segmenter = WordSegmenter::try_new_neo_for_non_complex_scripts(machine, clusters, options)?;

@@ -5,7 +5,8 @@ use Rattle.icu_segmenter.specs.Utf8.{utf8}
 use Rattle.icu_segmenter.specs.Boundaries.{offsets}
 use Rattle.icu_segmenter.specs.Items.{Text}
 use Rattle.icu_segmenter.specs.Rules.{boundaries_of}
-use Rattle.icu_segmenter.specs.WordRules.{word_boundaries_of}
+use Rattle.icu_segmenter.specs.ScriptWords.{no_words}
+use Rattle.icu_segmenter.specs.WordRules.{machine_words, table_words, word_boundaries_of}
 use Rattle.icu_segmenter.specs.Rules.Rules.{ByTable, ByMachine}
 use Rattle.bench.specs.Clusters.{cluster_machine}
 use Rattle.bench.specs.Sentences.{sentence_machine}
@@ -39,8 +40,8 @@ places_in GraphemeClassic text = offsets (boundaries_of (ByTable cluster_table N
 places_in GraphemeNeo text = offsets (boundaries_of (ByMachine cluster_machine) text)
 places_in SentenceClassic text = offsets (boundaries_of (ByTable sentence_table None) text)
 places_in SentenceNeo text = offsets (boundaries_of (ByMachine sentence_machine) text)
-places_in WordClassic text = offsets (word_boundaries_of (ByTable word_table None) text)
-places_in WordNeo text = offsets (word_boundaries_of (ByMachine word_machine) text)
+places_in WordClassic text = offsets (word_boundaries_of (table_words word_table None cluster_table no_words) text)
+places_in WordNeo text = offsets (word_boundaries_of (machine_words word_machine cluster_table) text)
 places_in LineNeo text = offsets (boundaries_of (ByMachine line_machine) text)
 
 -- .. and in the text of some bytes

@@ -92,7 +92,7 @@ const WALK_OF_THREE: [u8; 49] = [
     255, 255, 255, 255, 255, 255, 255,
 ];
 
-fn entries_of(alloc: Global, bytes: &[u8]) -> Result<Vec<BreakState>, AllocError> {
+pub(super) fn entries_of(alloc: Global, bytes: &[u8]) -> Result<Vec<BreakState>, AllocError> {
     bytes
         .iter()
         .map(|byte| BreakState::from_unaligned(*byte))

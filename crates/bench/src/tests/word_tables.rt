@@ -1,6 +1,6 @@
 // Pair tables and machines of words that only tests run, and those that are refused.
 use super::machines::with_symbols;
-use super::pairs::{changed_table as changed_clusters, override_of};
+use super::pairs::{changed_table as changed_clusters, entries_of, override_of};
 use super::words::{LETTER, NONE, NUMBER, expect_words};
 use crate::pair_tables::{cluster_table, word_table};
 use crate::words::word_machine;
@@ -107,6 +107,125 @@ fn code_points_of_no_script_are_pieces(rt: HostRuntime) -> Result<(), Fail> {
     let classes = ClassTable::try_from_ranges(Vec::from_slice(alloc, &lao)?, 0)?;
     let overriding = RuleBreakDataOverride::try_from_parts(classes)?;
     expect_lent(&rt, alloc, &bench, Some(&overriding), text, &want)
+}
+
+/// `x`, `y` and complex characters of several scripts and of none; class 4 is a composite, 5 that of the text's start and 6
+/// that of its end.
+const LETTERS_AND_COMPLEX: [(u32, u32, u8); 9] = [
+    (0x78, 0x78, 1),
+    (0x79, 0x79, 2),
+    (0xE01, 0xE02, 3),
+    (0xE34, 0xE34, 3),
+    (0xE3F, 0xE3F, 3),
+    (0xE81, 0xE81, 3),
+    (0xEA3, 0xEA3, 3),
+    (0x1000, 0x1000, 3),
+    (0x4E00, 0x4E00, 3),
+];
+
+// The entries of tables by row, as bytes.
+const WALKS_FROM_LETTERS_AND_COMPLEX: [u8; 49] = [
+    122, 122, 255, 255, 253, 253, 255, //
+    254, 2, 2, 255, 4, 253, 254, //
+    3, 255, 253, 122, 253, 255, 253, //
+    122, 2, 4, 253, 255, 121, 253, //
+    255, 253, 255, 2, 3, 254, 254, //
+    254, 254, 254, 253, 123, 124, 255, //
+    253, 2, 253, 254, 254, 3, 253,
+];
+
+const WALKS_TO_COMPLEX: [u8; 49] = [
+    123, 253, 254, 1, 2, 253, 253, //
+    255, 4, 124, 254, 253, 255, 255, //
+    255, 3, 255, 2, 1, 123, 254, //
+    1, 122, 122, 255, 255, 254, 4, //
+    121, 254, 121, 3, 122, 254, 123, //
+    253, 254, 253, 254, 254, 255, 1, //
+    253, 253, 254, 4, 255, 254, 2,
+];
+
+/// A table of 7 classes over letters and complex characters, of which 3 is the last class of code points.
+fn complex_table(alloc: Global, bytes: &[u8], statuses: &[u8]) -> Result<RuleBreakData, Fail> {
+    let ranges = Vec::from_slice(alloc, &LETTERS_AND_COMPLEX)?;
+    let classes = ClassTable::try_from_ranges(ranges, 0)?;
+    let entries = entries_of(alloc, bytes)?;
+    let statuses = Vec::from_slice(alloc, statuses)?;
+    Ok(RuleBreakData::try_from_parts(classes, entries, statuses, 7, 3, 5, 6, 3)?)
+}
+
+#[test]
+fn walks_pass_complex_elements(rt: HostRuntime) -> Result<(), Fail> {
+    let alloc = rt.alloc();
+    let table = complex_table(alloc, &WALKS_FROM_LETTERS_AND_COMPLEX, &[1, 0, 1, 0])?;
+    let rows: [(&str, &[(usize, WordType)]); 3] = [
+        (
+            "\u{E3F}x\u{4E00}\u{4E00}\u{E34}yxy\u{E81}",
+            &[(0, NONE), (13, NONE), (19, NONE)],
+        ),
+        (
+            "\u{E01}yyx\u{E01}\u{E34}y\u{EA3}\u{1000}",
+            &[
+                (0, NONE),
+                (6, NUMBER),
+                (12, NUMBER),
+                (13, NONE),
+                (16, NUMBER),
+                (19, NUMBER),
+            ],
+        ),
+        ("\u{E3F}y\u{E81}\u{E81}\u{4E00}", &[(0, NONE), (13, NONE)]),
+    ];
+    for (text, want) in rows {
+        expect_lent(&rt, alloc, &table, None, text, want)?;
+    }
+    Ok(())
+}
+
+#[test]
+fn runs_follow_walks_that_pass_complex_elements(rt: HostRuntime) -> Result<(), Fail> {
+    let alloc = rt.alloc();
+    let table = complex_table(alloc, &WALKS_TO_COMPLEX, &[0, 1, 2])?;
+    let rows: [(&str, &[(usize, WordType)]); 3] = [
+        (
+            "xx\u{E01}yy\u{4E00}\u{E02}-\u{E02}",
+            &[
+                (0, NONE),
+                (7, NUMBER),
+                (10, LETTER),
+                (13, LETTER),
+                (14, NONE),
+                (17, LETTER),
+            ],
+        ),
+        (
+            "\u{E81}\u{4E00}\u{E3F}x-\u{E34}y\u{1000}\u{4E00}",
+            &[
+                (0, NONE),
+                (3, LETTER),
+                (6, LETTER),
+                (9, LETTER),
+                (11, NONE),
+                (18, NUMBER),
+                (21, LETTER),
+            ],
+        ),
+        (
+            "\u{E3F}\u{E02}x\u{E01}\u{E81}x",
+            &[
+                (0, NONE),
+                (3, LETTER),
+                (6, LETTER),
+                (7, NONE),
+                (10, LETTER),
+                (13, LETTER),
+                (14, NONE),
+            ],
+        ),
+    ];
+    for (text, want) in rows {
+        expect_lent(&rt, alloc, &table, None, text, want)?;
+    }
+    Ok(())
 }
 
 /// Which faults the data of a segmenter of words have.

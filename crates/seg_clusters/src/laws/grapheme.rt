@@ -1,7 +1,7 @@
 //! Laws of the boundaries of grapheme clusters.
 
-ghost use Rattle.std.specs.Prelude.{◌≡◌};
-ghost use Rattle.seg_text.specs.Boundaries.{HasEqualOrdinals, HasRestart};
+ghost use Rattle.std.specs.Prelude.{◌≡◌, ℕ, List, length};
+ghost use Rattle.seg_text.specs.Boundaries.{HasEqualOrdinals, HasRestart, IsCover};
 ghost use Rattle.seg_text.specs.Stretches.{HasOneAnswer};
 ghost use Rattle.seg_text.specs.Utf8.{utf8};
 ghost use Rattle.seg_engine.specs.Rules.{boundaries_by, boundaries_of, first_stretch};
@@ -34,6 +34,13 @@ pub fn restart(segmenter: GraphemeClusterSegmenterBorrowed<'_>)
     ensures { HasRestart (boundaries_by (cluster_rules segmenter.entry)) }
 {
     laws::restart(segmenter.engine);
+}
+
+/// Law: the boundaries of a list of code points rise strictly from 0, where the first is, to its length, where the last is.
+pub fn cover(segmenter: GraphemeClusterSegmenterBorrowed<'_>)
+    ensures { (code_points : List ℕ) → IsCover 0 (length code_points) (boundaries_by (cluster_rules segmenter.entry) code_points) }
+{
+    laws::cover(segmenter.engine);
 }
 
 /// Law: the clusters of a `str` are those of its bytes as UTF-8, since a `str` is the special case of UTF-8 in which no

@@ -1,14 +1,16 @@
 use Rattle.std.proofs.Common.{◌≡◌, ◌++◌, true, length}
 use Rattle.seg_text.specs.Cuts.{with_status}
 use Rattle.seg_pairs.specs.Runs.{run_status, unread_boundaries}
-use Rattle.seg_complex.specs.RunCuts.{at_end, run_cuts}
+use Rattle.seg_complex.specs.Payloads.{payloads_of, piece_cuts_by, run_cuts_by}
+use Rattle.seg_complex.specs.RunCuts.{CoverPieces}
 use Rattle.seg_words.proofs.classic.ClassicBoundariesIterator.next.Given as goal
 
 abbrev pub invariant-loop-place : goal.invariant-loop-place
 invariant-loop-place g l =
     let s = l.self-inside in record {
       started : s.started ≡ true;
-      left : with_status (run_status s.events.table) s.run ++ unread_boundaries (run_cuts at_end) s.events ≡ l.fn.self.left;
+      cover : CoverPieces (piece_cuts_by (payloads_of s.payloads));
+      left : with_status (run_status s.events.table) s.run ++ unread_boundaries (run_cuts_by (payloads_of s.payloads)) s.events ≡ l.fn.self.left;
     }
 
 abbrev pub decreases-loop-place : goal.decreases-loop-place

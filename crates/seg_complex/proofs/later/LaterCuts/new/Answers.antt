@@ -1,0 +1,11 @@
+use Rattle.seg_dictionary.specs.Dictionary.{words_after}
+use Rattle.seg_engine.specs.Rules.{boundaries_by}
+use Rattle.seg_clusters.specs.Clusters.{cluster_rules}
+use Rattle.seg_complex.specs.DictionaryCuts.{dictionary_cuts}
+use Rattle.seg_complex.proofs.Fitting.{places-fit}
+use Rattle.seg_complex.proofs.later.LaterCuts.new.Goals as goal
+
+pub invariant_of-result : goal.invariant_of-result
+invariant_of-result g c =
+    let cuts = dictionary_cuts (words_after c.cursor.result) (boundaries_by (cluster_rules c.args.clusters)) in
+    places-fit c.args.offset cuts (g.I.Cursor.text c.args.piece) c.new.result (g.met.I.Cursor.rises c.args.piece) c.requires c.new.ensures

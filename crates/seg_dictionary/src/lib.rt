@@ -1,0 +1,8 @@
+//! Sets of words, and what can follow in them.
+#![tactic(auto)]
+
+pub mod dictionaries;
+pub mod provider;
+#[cfg(test)]
+mod tests;
+pub mod words;
