@@ -4,10 +4,12 @@ ghost use Rattle.std.specs.Prelude.{◌≡◌, ℕ, Option, List, [], ◌∷◌,
 ghost use Rattle.seg_text.specs.Boundaries.{RisesTo};
 ghost use Rattle.seg_text.specs.Cuts.{with_status};
 ghost use Rattle.seg_data.specs.declared.provider.ComplexScript.{ComplexScript};
-ghost use Rattle.seg_dictionary.specs.WordSets.{Words};
+ghost use Rattle.seg_dictionary.specs.ScriptWords.{ScriptWords, AreSameWords};
+ghost use Rattle.seg_dictionary.specs.WordSets.{IsSameSet, Words};
 ghost use Rattle.seg_engine.specs.Rules.{boundaries_by};
 ghost use Rattle.seg_clusters.specs.Clusters.{cluster_rules};
-ghost use Rattle.seg_complex.specs.DictionaryCuts.{AreDictionaryCuts, dictionary_cuts, by_dictionaries};
+ghost use Rattle.seg_complex.specs.DictionaryCuts.{AreDictionaryCuts, Clusters, dictionary_cuts, by_dictionaries};
+ghost use Rattle.seg_complex.specs.Payloads.{Payloads, run_cuts_by};
 ghost use Rattle.seg_complex.specs.Pieces.{ArePieces, pieces};
 ghost use Rattle.seg_complex.specs.RunCuts.{PieceCuts, CoverPieces, CoverRuns, at_end, run_cuts};
 ghost use Rattle.seg_complex.specs.SmallDictionaries.{small_clusters, thai_word, thai_words, edition_words, replacement_word};
@@ -53,6 +55,14 @@ pub fn dictionary_cuts_cover(clusters: GraphemeClusterSegmenterBorrowed<'_>)
 {
     grapheme::cover(clusters);
 }
+
+/// Law: what a piece is cut by is a set of words: in what order they come, and how often, says nothing; nor does it for runs,
+/// which are cut by the words of each script.
+pub fn equal_words()
+    ensures pieces { (words others : Words) → IsSameSet words others → (clusters : Clusters) → dictionary_cuts words clusters ≡ dictionary_cuts others clusters }
+    ensures runs { (payloads : Payloads) (others : ScriptWords) → AreSameWords payloads.words others
+        → run_cuts_by (record { words = others; clusters = payloads.clusters }) ≡ run_cuts_by payloads }
+{}
 
 /// Law: where small sets of words cut, where U+0301 and U+0E34 belong to the cluster before them and each other code point
 /// begins one.

@@ -1,11 +1,11 @@
 -- The words of the scripts that are written without spaces between words.
-use Rattle.std.specs.Prelude.{Option, None as Nothing}
+use Rattle.std.specs.Prelude.{Option, None as Nothing, Some}
 use Rattle.std.specs.Option.{option_or, option_map}
 use Rattle.seg_data.specs.declared.provider.ComplexScript.{ComplexScript}
 use Rattle.seg_data.specs.declared.provider.ComplexScript.TheVariants.{None, Myanmar, ChineseOrJapanese, Khmer, Lao, Thai}
 use Rattle.seg_dictionary.specs.declared.dictionaries.Dictionaries.{Dictionaries}
 use Rattle.seg_dictionary.specs.declared.dictionaries.DictionariesBorrowed.{DictionariesBorrowed}
-use Rattle.seg_dictionary.specs.WordSets.{Words}
+use Rattle.seg_dictionary.specs.WordSets.{Words, IsSameSet}
 use Rattle.seg_dictionary.specs.Dictionary.{words_of}
 
 -- the words of each script that has a dictionary
@@ -58,3 +58,14 @@ lent_words dictionaries = record {
   th = option_map (λ lent. words_of lent.now) dictionaries.th;
   ja = option_map (λ lent. words_of lent.now) dictionaries.ja;
 }
+
+-- the same set of words, or none in both
+abbrev pub IsSameChoice : Option Words → Option Words → Type 0
+IsSameChoice Nothing Nothing = Unit {0}
+IsSameChoice (Some words) (Some others) = IsSameSet words others
+IsSameChoice Nothing (Some others) = ⊥
+IsSameChoice (Some words) Nothing = ⊥
+
+-- each script has the same set of words in both, or none in both
+abbrev pub AreSameWords : ScriptWords → ScriptWords → Type 0
+AreSameWords words others = (script : ComplexScript) → IsSameChoice (words_in words script) (words_in others script)

@@ -1,10 +1,11 @@
 //! Laws of the boundaries of words. The type of what ends at a boundary is that of its status, so what is said of statuses is
 //! said of types.
 
-ghost use Rattle.std.specs.Prelude.{ℕ, List};
+ghost use Rattle.std.specs.Prelude.{◌≡◌, ℕ, List};
 ghost use Rattle.seg_text.specs.Boundaries.{HasEqualOrdinals, RestartsIn};
 ghost use Rattle.seg_text.specs.Stretches.{HasOneAnswer};
-ghost use Rattle.seg_words.specs.WordRules.{HasNoComplex, first_word_stretch, word_boundaries_by};
+ghost use Rattle.seg_dictionary.specs.ScriptWords.{ScriptWords, AreSameWords};
+ghost use Rattle.seg_words.specs.WordRules.{HasNoComplex, WordRules, first_word_stretch, with_words, word_boundaries_by};
 ghost use Rattle.seg_words.specs.Words.{word_rules};
 
 use crate::word::WordSegmenterBorrowed;
@@ -24,6 +25,14 @@ pub fn equal_code_points(segmenter: WordSegmenterBorrowed<'_>)
     ensures { HasEqualOrdinals (word_boundaries_by (word_rules segmenter.entry)) }
 {
     let _ = segmenter;
+}
+
+/// Law: the words of each script are a set: in what order they come, and how often, changes no boundary.
+pub fn equal_words()
+    ensures { (words : WordRules) (others : ScriptWords) → AreSameWords words.payloads.words others
+        → word_boundaries_by (with_words words others) ≡ word_boundaries_by words }
+{
+    seg_complex::laws::equal_words();
 }
 
 /// Law: a text without complex code points may be segmented anew from any of its boundaries: the boundaries after one of
