@@ -7,7 +7,7 @@ use Rattle.std.proofs.lemmas.Bool.{cases_eq}
 use Rattle.std.proofs.lemmas.Bool.Decides.{nat_tests}
 use Rattle.std.proofs.lemmas.Option.{none-some, same_Some}
 use Rattle.seg_data.specs.declared.provider.DataError.{DataError}
-use Rattle.seg_data.specs.declared.provider.DataError.TheVariants.{RangeOrder, RangePast10FFFF, TableSize, ClassOutOfRange, StateOutOfRange, StartRowKeeps, ComplexItems, ComplexBelow0100, StateCount, TransitionSize, TransitionOutOfRange, SymbolOutOfRange, TooManyLookaheads, LookaheadOutOfRange, EndCycle, Stalls, MissingTailoring}
+use Rattle.seg_data.specs.declared.provider.DataError.TheVariants.{Memory, RangeOrder, RangePast10FFFF, TableSize, ClassOutOfRange, StateOutOfRange, StartRowKeeps, ComplexItems, ComplexBelow0100, StateCount, TransitionSize, TransitionOutOfRange, SymbolOutOfRange, TooManyLookaheads, LookaheadOutOfRange, EndCycle, Stalls, MissingTailoring}
 use Rattle.seg_data.specs.Table.{named_values}
 use Rattle.seg_data.specs.Faults.{IsFaultless}
 use Rattle.seg_machine.specs.declared.provider.Acceptance.{Acceptance}
@@ -196,6 +196,7 @@ pub simple-faultless : (m : Machine) → is_simple m ≡ true → IsFaultless (H
 simple-faultless m passed fault has = none fault (parts m passed) has
   where
     none : (fault : DataError) → IsSimple m → HasMachineFault m fault → ⊥
+    none Memory simple has = has
     none RangeOrder simple has = has
     none RangePast10FFFF simple has = has
     none TableSize simple has = has

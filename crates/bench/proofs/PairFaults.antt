@@ -4,7 +4,7 @@ use Rattle.std.specs.List.{list_all}
 use Rattle.std.proofs.lemmas.Bool.{false≢true}
 use Rattle.std.proofs.lemmas.Bool.Decides.{nat_tests}
 use Rattle.seg_data.specs.declared.provider.DataError.{DataError}
-use Rattle.seg_data.specs.declared.provider.DataError.TheVariants.{RangeOrder, RangePast10FFFF, TableSize, ClassOutOfRange, StateOutOfRange, StartRowKeeps, ComplexItems, ComplexBelow0100, StateCount, TransitionSize, TransitionOutOfRange, SymbolOutOfRange, TooManyLookaheads, LookaheadOutOfRange, EndCycle, Stalls, MissingTailoring}
+use Rattle.seg_data.specs.declared.provider.DataError.TheVariants.{Memory, RangeOrder, RangePast10FFFF, TableSize, ClassOutOfRange, StateOutOfRange, StartRowKeeps, ComplexItems, ComplexBelow0100, StateCount, TransitionSize, TransitionOutOfRange, SymbolOutOfRange, TooManyLookaheads, LookaheadOutOfRange, EndCycle, Stalls, MissingTailoring}
 use Rattle.seg_data.specs.Faults.{IsFaultless, IsLowestFault}
 use Rattle.seg_data.specs.Table.{named_values}
 use Rattle.seg_data.proofs.Anywhere.{any-contained}
@@ -64,6 +64,7 @@ faultless t passes StateOutOfRange (inl (inl past)) = let below = passes.sot in 
 faultless t passes StateOutOfRange (inl (inr past)) = let below = passes.eot in grind (arith, nat_tests)
 faultless t passes StateOutOfRange (inr any) =
     any-refuted (NamesStatePast t.property_count) (names_below t.property_count) t.break_state_table passes.states (names_no_past t.property_count) any
+faultless t passes Memory has = has
 faultless t passes RangeOrder has = has
 faultless t passes RangePast10FFFF has = has
 faultless t passes StartRowKeeps has = has
@@ -97,6 +98,7 @@ plain-faultless t passes plain ComplexItems (inl named) =
     (λ class is passed. absurd (false≢true (ap not (sym (eq-eqb class t.complex_property is)) ∙ passed)))
     (any-contained (λ class. class ≡ t.complex_property) (named_values t.property_table) t.complex_property named refl)
 plain-faultless t passes plain ComplexItems (inr named) = named
+plain-faultless t passes plain Memory has = has
 plain-faultless t passes plain RangeOrder has = has
 plain-faultless t passes plain RangePast10FFFF has = has
 plain-faultless t passes plain TableSize has = has

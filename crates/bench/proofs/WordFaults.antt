@@ -1,6 +1,6 @@
 -- The bench data of words have no fault.
 use Rattle.std.proofs.Common.{◌≡◌, inl, inr, None, Result, Ok, Err, IfOk}
-use Rattle.seg_data.specs.declared.provider.DataError.TheVariants.{RangeOrder, RangePast10FFFF, TableSize, ClassOutOfRange, StateOutOfRange, StartRowKeeps, ComplexItems, ComplexBelow0100, StateCount, TransitionSize, TransitionOutOfRange, SymbolOutOfRange, TooManyLookaheads, LookaheadOutOfRange, EndCycle, Stalls, MissingTailoring}
+use Rattle.seg_data.specs.declared.provider.DataError.TheVariants.{Memory, RangeOrder, RangePast10FFFF, TableSize, ClassOutOfRange, StateOutOfRange, StartRowKeeps, ComplexItems, ComplexBelow0100, StateCount, TransitionSize, TransitionOutOfRange, SymbolOutOfRange, TooManyLookaheads, LookaheadOutOfRange, EndCycle, Stalls, MissingTailoring}
 use Rattle.seg_data.specs.Faults.{IsFaultless}
 use Rattle.seg_machine.specs.Machine.{Machine}
 use Rattle.seg_words.specs.WordFaults.{HasWordTableFault, HasWordMachineFault}
@@ -14,6 +14,7 @@ words-sound fault (inr has) = clusters-sound fault has
 words-sound ClassOutOfRange (inl has) = words-no_class_past has
 words-sound StartRowKeeps (inl has) = words-no_keep has
 words-sound ComplexBelow0100 (inl has) = word_table-not_complex has
+words-sound Memory (inl has) = has
 words-sound RangeOrder (inl has) = has
 words-sound RangePast10FFFF (inl has) = has
 words-sound TableSize (inl has) = has

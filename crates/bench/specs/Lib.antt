@@ -3,3 +3,4 @@ pub mod Sentences
 pub mod Words
 pub mod Lines
 pub mod PairTables
+pub mod Dictionaries

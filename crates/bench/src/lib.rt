@@ -5,6 +5,7 @@
 #![tactic(auto)]
 
 pub mod clusters;
+pub mod dictionaries;
 pub mod lines;
 mod machines;
 pub mod pair_tables;

@@ -3,12 +3,12 @@ use crate::clusters::cluster_places;
 use crate::data::{runs_by_machine, runs_by_table};
 use crate::lines::{breakall_segmenter, mandatory_breaks};
 use crate::sentences::sentence_boundary_count;
-use crate::words::word_ends;
+use crate::words::tokens;
 use bench::clusters::cluster_machine;
+use bench::dictionaries::dictionaries;
 use bench::lines::{breakall, line_machine};
-use bench::pair_tables::cluster_table;
+use bench::pair_tables::{cluster_table, word_table};
 use bench::sentences::sentence_machine;
-use bench::words::word_machine;
 use icu_segmenter::options::{
     LineBreakOptions, SentenceBreakInvariantOptions, WordBreakInvariantOptions,
 };
@@ -94,17 +94,15 @@ fn finds_runs(rt: HostRuntime) -> Result<(), Fail> {
 #[test]
 fn finds_words(rt: HostRuntime) -> Result<(), Fail> {
     let alloc = rt.alloc();
-    let machine = word_machine(alloc)?;
+    let table = word_table(alloc)?;
     let clusters = cluster_table(alloc)?;
+    let dictionaries = dictionaries(alloc)?;
+    let lent = dictionaries.as_borrowed();
     let options = WordBreakInvariantOptions::default();
-    let words = WordSegmenterBorrowed::new_neo_for_non_complex_scripts(
-        &machine, &clusters, options,
-    )?;
-    let places: Vec<usize> = words.segment_str("one 42.").collect(alloc)?;
-    assert_eq!(rt; places.as_slice(), [0, 3, 4, 6, 7].as_slice());
+    let words = WordSegmenterBorrowed::new_dictionary(&table, None, &clusters, lent, options)?;
     assert_eq!(rt;
-        word_ends(alloc, words, "one 42.")?.as_slice(),
-        [3, 6].as_slice()
+        tokens(alloc, words, "ภาษาไทย 42.")?.as_slice(),
+        [(0, 12), (12, 21), (22, 24)].as_slice()
     );
     Ok(())
 }

@@ -1,27 +1,30 @@
 //! Words.
-ghost use Rattle.std.specs.Prelude.{◌≡◌, IfOk, filter};
-ghost use Rattle.icu_segmenter.specs.Boundaries.{offsets};
+ghost use Rattle.std.specs.Prelude.{◌≡◌, IfOk};
+ghost use Rattle.callers.specs.Tokens.{tokens as tokens_in};
 ghost use Rattle.icu_segmenter.specs.Utf8.{utf8};
-ghost use Rattle.icu_segmenter.specs.WordRules.{ends_word, word_boundaries_of};
+ghost use Rattle.icu_segmenter.specs.WordRules.{word_boundaries_of};
 ghost use Rattle.icu_segmenter.specs.Words.{word_rules};
 
 use icu_segmenter::WordSegmenterBorrowed;
 use std::alloc::{AllocError, Global};
 
-/// The places where a word of the text ends, in bytes: of letters, or a number. The only error is want of memory.
-pub fn word_ends(
+/// The tokens of a text for a search: its words, of letters or numbers, each as where it begins and ends, in bytes.
+/// The only error is want of memory.
+pub fn tokens(
     alloc: Global,
     segmenter: WordSegmenterBorrowed<'_>,
     text: &str,
-) -> Result<Vec<usize>, AllocError>
-    ensures { IfOk result (λ places. places.items ≡ offsets (filter ends_word (word_boundaries_of (word_rules segmenter.entry) (utf8 text.now)))) }
+) -> Result<Vec<(usize, usize)>, AllocError>
+    ensures { IfOk result (λ tokens. tokens.items ≡ tokens_in (word_boundaries_of (word_rules segmenter.entry) (utf8 text.now))) }
 {
     let mut words = segmenter.segment_str(text);
-    let mut places = Vec::new(alloc);
-    while let Some(place) = words.next() {
+    let mut tokens = Vec::new(alloc);
+    let mut begin = 0;
+    while let Some(end) = words.next() {
         if words.is_word_like() {
-            places.push(place)?;
+            tokens.push((begin, end))?;
         }
+        begin = end;
     }
-    Ok(places)
+    Ok(tokens)
 }

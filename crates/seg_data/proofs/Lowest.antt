@@ -2,10 +2,12 @@
 use Rattle.std.proofs.Common.{◌≡◌, ℕ, suc, ◌<◌, refl, subst, inl, inr, arith}
 use Rattle.std.proofs.lemmas.Bool.{cases_lt}
 use Rattle.seg_data.specs.declared.provider.DataError.{DataError}
-use Rattle.seg_data.specs.declared.provider.DataError.TheVariants.{RangeOrder, RangePast10FFFF, TableSize, ClassOutOfRange, StateOutOfRange, StartRowKeeps, ComplexItems, ComplexBelow0100, StateCount, TransitionSize, TransitionOutOfRange, SymbolOutOfRange, TooManyLookaheads, LookaheadOutOfRange, EndCycle, Stalls, MissingTailoring}
+use Rattle.seg_data.specs.declared.provider.DataError.TheVariants.{Memory, RangeOrder, RangePast10FFFF, TableSize, ClassOutOfRange, StateOutOfRange, StartRowKeeps, ComplexItems, ComplexBelow0100, StateCount, TransitionSize, TransitionOutOfRange, SymbolOutOfRange, TooManyLookaheads, LookaheadOutOfRange, EndCycle, Stalls, MissingTailoring}
 use Rattle.seg_data.specs.Faults.{number_of, IsFaultless, IsLowestFault}
 
 pub same_number : (a b : DataError) → number_of a ≡ number_of b → a ≡ b
+same_number Memory Memory same = refl
+same_number Memory b same = absurd (omega arith)
 same_number RangeOrder RangeOrder same = refl
 same_number RangeOrder b same = absurd (omega arith)
 same_number RangePast10FFFF RangePast10FFFF same = refl
@@ -42,6 +44,7 @@ same_number MissingTailoring MissingTailoring same = refl
 same_number MissingTailoring b same = absurd (omega arith)
 
 number-below : (fault : DataError) → number_of fault < 20
+number-below Memory = omega arith
 number-below RangeOrder = omega arith
 number-below RangePast10FFFF = omega arith
 number-below TableSize = omega arith

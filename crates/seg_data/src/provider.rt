@@ -1,6 +1,7 @@
 //! Tables of classes, languages, and what may be wrong with data.
 ghost use Rattle.std.specs.Prelude.{◌≡◌};
 ghost use Rattle.seg_data.specs.Faults.{number_of};
+ghost use Rattle.seg_data.specs.declared.provider.DataError.TheVariants.{Memory};
 
 mod language;
 mod table;
@@ -8,6 +9,7 @@ mod table;
 mod tests;
 
 pub use language::LanguageIdentifier;
+use std::alloc::AllocError;
 pub use table::{ClassTable, value_by_halving};
 use thiserror::Error;
 
@@ -28,9 +30,12 @@ pub enum ComplexScript {
     Thai = 5,
 }
 
-/// What is wrong with data. Each fault has a number, and of several the lowest is answered.
+/// What is wrong with data, or that memory is missing for them. Each has a number, and of several the lowest is answered.
 #[derive(Clone, Copy, Debug, PartialEq, Eq, Error)]
 pub enum DataError {
+    /// 1: memory is missing. No data have this fault, so only what takes memory answers it.
+    #[error("1 Memory: memory is missing")]
+    Memory,
     /// 2: a range's first code point is above its last, or isn't above the last of the range
     /// before it.
     #[error("2 RangeOrder: a range's first code point is above its last, or not above the last of the range before it")]
@@ -88,12 +93,21 @@ pub enum DataError {
     MissingTailoring,
 }
 
+impl From<AllocError> for DataError {
+    ghost from_gives = { λ _ fault. fault ≡ Memory };
+
+    fn from(_error: AllocError) -> DataError {
+        DataError::Memory
+    }
+}
+
 impl DataError {
     /// The fault's number, by which its text begins.
     pub fn number(self) -> u8
         ensures { result ≡ number_of self }
     {
         match self {
+            DataError::Memory => 1,
             DataError::RangeOrder => 2,
             DataError::RangePast10FFFF => 3,
             DataError::TableSize => 4,

@@ -1,5 +1,5 @@
 //! Dictionaries: sets of words that are kept as packed tries.
-ghost use Rattle.std.specs.Prelude.{IfOk};
+ghost use Rattle.std.specs.Prelude.{◌≡◌, IfOk, IfErr};
 ghost use Rattle.seg_dictionary.specs.Trie.{IsTrie, trie};
 
 mod building;
@@ -9,8 +9,9 @@ mod sorting;
 
 use building::Draft;
 pub use cursor::DictionaryCursor;
+use seg_data::provider::DataError;
 use sorting::sorted;
-use std::alloc::{AllocError, Global};
+use std::alloc::Global;
 
 /// A set of words, kept as a packed trie: a node for each beginning of a word.
 #[derive(Debug, Drop)]
@@ -36,9 +37,10 @@ impl DictionaryBreakData {
     /// Takes 25 bytes at most for each code point of a word, a node of 9 and an edge of 16, which
     /// words that begin alike share, and 17 bytes more. While it is built it takes some four times as
     /// much. Beyond sorting the words, its time grows as their code points do.
-    /// `AllocError` where memory is missing, and for nothing else: the words are only read.
-    pub fn try_from_words(alloc: Global, words: &[&str]) -> Result<Self, AllocError>
-        ensures { IfOk result (λ dictionary. IsSameSet (words_of dictionary) (code_points words.now)) }
+    /// `Memory` where memory is missing, and for nothing else: the words are only read.
+    pub fn try_from_words(alloc: Global, words: &[&str]) -> Result<Self, DataError>
+        ensures words { IfOk result (λ dictionary. IsSameSet (words_of dictionary) (code_points words.now)) }
+        ensures refused { IfErr result (λ fault. fault ≡ DataError.Memory) }
     {
         let sorted = sorted(alloc, words)?;
         let draft = Draft::whole(alloc, sorted.as_slice())?;

@@ -5,7 +5,7 @@ use Rattle.std.proofs.lemmas.Bool.{cases_lt, cases_eq, cond-true, cond-false, ne
 use Rattle.std.proofs.lemmas.Nat.{mul-le}
 use Rattle.std.proofs.lemmas.List.{get_or_past, get_or_read}
 use Rattle.seg_data.specs.declared.provider.DataError.{DataError}
-use Rattle.seg_data.specs.declared.provider.DataError.TheVariants.{RangeOrder, RangePast10FFFF, TableSize, ClassOutOfRange, StateOutOfRange, StartRowKeeps, ComplexItems, ComplexBelow0100, StateCount, TransitionSize, TransitionOutOfRange, SymbolOutOfRange, TooManyLookaheads, LookaheadOutOfRange, EndCycle, Stalls, MissingTailoring}
+use Rattle.seg_data.specs.declared.provider.DataError.TheVariants.{Memory, RangeOrder, RangePast10FFFF, TableSize, ClassOutOfRange, StateOutOfRange, StartRowKeeps, ComplexItems, ComplexBelow0100, StateCount, TransitionSize, TransitionOutOfRange, SymbolOutOfRange, TooManyLookaheads, LookaheadOutOfRange, EndCycle, Stalls, MissingTailoring}
 use Rattle.seg_data.specs.Faults.{number_of, IsFaultless, IsLowestFault}
 use Rattle.seg_data.specs.Table.{Table, named_values, value_of}
 use Rattle.seg_data.proofs.Anywhere.{any-at, any-contained, contained-same}
@@ -107,6 +107,7 @@ pub complex-lowest : (t : PairTable) (overriding : Option Table) → (HasPairDat
 complex-lowest t overriding class start complex = record { is_there = complex; lowest = lowest }
   where
     lowest : (lower : DataError) → number_of lower < 8 → HasPairDataFault t overriding lower → ⊥
+    lowest Memory less has = has
     lowest RangeOrder less has = has
     lowest RangePast10FFFF less has = has
     lowest TableSize less has = has

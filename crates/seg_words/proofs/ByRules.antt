@@ -17,8 +17,10 @@ use Rattle.seg_pairs.proofs.Engine.{table-going, table-alone}
 use Rattle.seg_engine.specs.Rules.{Rules}
 use Rattle.seg_engine.specs.Rules.Rules.{ByTable, ByMachine}
 use Rattle.seg_text.specs.Cuts.{Cuts}
+use Rattle.seg_dictionary.specs.ScriptWords.{ScriptWords, AreSameWords}
 use Rattle.seg_complex.specs.Payloads.{run_cuts_by}
-use Rattle.seg_words.specs.WordRules.{HasNoComplex, WordRules, first_word_stretch, stretch_by, word_boundaries_by}
+use Rattle.seg_complex.proofs.EqualWords.{same-run-cuts}
+use Rattle.seg_words.specs.WordRules.{HasNoComplex, WordRules, first_word_stretch, stretch_by, with_words, word_boundaries_by}
 
 going : (rules : Rules) (cuts : Cuts) → HasProgress (stretch_by rules cuts)
 going (ByTable t overriding) cuts = complex-going t overriding cuts
@@ -43,3 +45,9 @@ restarts-with (ByTable t overriding) cuts xs none k boundary is =
 
 pub restarts-by : (words : WordRules) (xs : List ℕ) → HasNoComplex words.rules xs → RestartsIn (word_boundaries_by words) xs
 restarts-by words = restarts-with words.rules (run_cuts_by words.payloads)
+
+-- the words of each script are a set
+pub equal-words : (words : WordRules) (others : ScriptWords) → AreSameWords words.payloads.words others
+    → word_boundaries_by (with_words words others) ≡ word_boundaries_by words
+equal-words words others same =
+    ap (λ (cuts : Cuts). list_boundaries (stretch_by words.rules cuts)) (same-run-cuts words.payloads others same)

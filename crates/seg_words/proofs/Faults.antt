@@ -1,7 +1,7 @@
 -- Which faults the data of words can have, and the lowest of several.
 use Rattle.std.proofs.Common.{◌≡◌, ◌<◌, Option, None, ◌⊎◌, inl, inr, refl, ap, subst, arith}
 use Rattle.seg_data.specs.declared.provider.DataError.{DataError}
-use Rattle.seg_data.specs.declared.provider.DataError.TheVariants.{RangeOrder, RangePast10FFFF, TableSize, ClassOutOfRange, StateOutOfRange, StartRowKeeps, ComplexItems, ComplexBelow0100, StateCount, TransitionSize, TransitionOutOfRange, SymbolOutOfRange, TooManyLookaheads, LookaheadOutOfRange, EndCycle, Stalls, MissingTailoring}
+use Rattle.seg_data.specs.declared.provider.DataError.TheVariants.{Memory, RangeOrder, RangePast10FFFF, TableSize, ClassOutOfRange, StateOutOfRange, StartRowKeeps, ComplexItems, ComplexBelow0100, StateCount, TransitionSize, TransitionOutOfRange, SymbolOutOfRange, TooManyLookaheads, LookaheadOutOfRange, EndCycle, Stalls, MissingTailoring}
 use Rattle.seg_data.specs.Faults.{number_of, IsFaultless, IsLowestFault}
 use Rattle.seg_data.specs.Table.{Table}
 use Rattle.seg_machine.specs.Machine.{Machine}
@@ -13,6 +13,7 @@ use Rattle.seg_words.specs.WordFaults.{HasOwnFault, HasWordTableFault, HasWordMa
 own-cases : (t : PairTable) (o : Option Table) (fault : DataError) → HasOwnFault t o fault
     → ((fault ≡ ClassOutOfRange) × HasPairDataFault t o ClassOutOfRange)
     ⊎ (((fault ≡ StartRowKeeps) × HasPairDataFault t o StartRowKeeps) ⊎ ((fault ≡ ComplexBelow0100) × HasComplexClassBelow0100 t o))
+own-cases t o Memory has = absurd has
 own-cases t o RangeOrder has = absurd has
 own-cases t o RangePast10FFFF has = absurd has
 own-cases t o TableSize has = absurd has
@@ -33,6 +34,7 @@ own-cases t o MissingTailoring has = absurd has
 
 -- clusters have no override, and so no class past the others
 cluster-cases : (t : PairTable) (fault : DataError) → HasPairDataFault t None fault → (fault ≡ StartRowKeeps) ⊎ (fault ≡ ComplexItems)
+cluster-cases t Memory has = absurd has
 cluster-cases t RangeOrder has = absurd has
 cluster-cases t RangePast10FFFF has = absurd has
 cluster-cases t TableSize has = absurd has

@@ -31,9 +31,7 @@ pub fn equal_code_points(segmenter: WordSegmenterBorrowed<'_>)
 pub fn equal_words()
     ensures { (words : WordRules) (others : ScriptWords) → AreSameWords words.payloads.words others
         → word_boundaries_by (with_words words others) ≡ word_boundaries_by words }
-{
-    seg_complex::laws::equal_words();
-}
+{}
 
 /// Law: a text without complex code points may be segmented anew from any of its boundaries: the boundaries after one of
 /// them are those of the rest taken alone, shifted, with the same statuses. By a machine, which knows of no complex ones, so

@@ -226,8 +226,9 @@ impl WordSegmenter {
             × IsFaultless (HasWordTableFault table overriding clusters)) }
         ensures refused { IfErr result (IsLowestFault (HasWordTableFault table overriding clusters)) }
     {
-        let mut segmenter =
-            Self::try_new_for_non_complex_scripts(table, overriding, clusters, options)?;
+        let mut segmenter = Self::try_new_for_non_complex_scripts(
+            table, overriding, clusters, options,
+        )?;
         segmenter.load_dictionary(dictionaries);
         Ok(segmenter)
     }

@@ -5,10 +5,10 @@ use Rattle.icu_segmenter.specs.Utf8.{utf8}
 use Rattle.icu_segmenter.specs.Boundaries.{offsets}
 use Rattle.icu_segmenter.specs.Items.{Text}
 use Rattle.icu_segmenter.specs.Rules.{boundaries_of}
-use Rattle.icu_segmenter.specs.ScriptWords.{no_words}
 use Rattle.icu_segmenter.specs.WordRules.{machine_words, table_words, word_boundaries_of}
 use Rattle.icu_segmenter.specs.Rules.Rules.{ByTable, ByMachine}
 use Rattle.bench.specs.Clusters.{cluster_machine}
+use Rattle.bench.specs.Dictionaries.{dictionary_words}
 use Rattle.bench.specs.Sentences.{sentence_machine}
 use Rattle.bench.specs.Words.{word_machine}
 use Rattle.bench.specs.Lines.{line_machine}
@@ -40,7 +40,7 @@ places_in GraphemeClassic text = offsets (boundaries_of (ByTable cluster_table N
 places_in GraphemeNeo text = offsets (boundaries_of (ByMachine cluster_machine) text)
 places_in SentenceClassic text = offsets (boundaries_of (ByTable sentence_table None) text)
 places_in SentenceNeo text = offsets (boundaries_of (ByMachine sentence_machine) text)
-places_in WordClassic text = offsets (word_boundaries_of (table_words word_table None cluster_table no_words) text)
+places_in WordClassic text = offsets (word_boundaries_of (table_words word_table None cluster_table dictionary_words) text)
 places_in WordNeo text = offsets (word_boundaries_of (machine_words word_machine cluster_table) text)
 places_in LineNeo text = offsets (boundaries_of (ByMachine line_machine) text)
 

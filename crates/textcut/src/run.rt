@@ -19,6 +19,7 @@ use crate::command::{Command, command_of};
 use crate::failure::Failure;
 use crate::lines::print_lines;
 use bench::clusters::cluster_machine;
+use bench::dictionaries::dictionaries;
 use bench::lines::{line_machine, line_tailorings};
 use bench::pair_tables::{cluster_table, sentence_table, word_table};
 use bench::sentences::sentence_machine;
@@ -193,9 +194,11 @@ fn print_words_by_table<O: Write>(alloc: Global, text: &[u8], out: &mut O) -> Re
 {
     let table = word_table(alloc)?;
     let clusters = cluster_table(alloc)?;
+    let dictionaries = dictionaries(alloc)?;
+    let lent = dictionaries.as_borrowed();
     let options = WordBreakInvariantOptions::default();
-    let Ok(segmenter) = WordSegmenterBorrowed::new_for_non_complex_scripts(
-        &table, None, &clusters, options,
+    let Ok(segmenter) = WordSegmenterBorrowed::new_dictionary(
+        &table, None, &clusters, lent, options,
     ) else {
         unreachable!()
     };

@@ -19,6 +19,7 @@ fn table(
 #[test]
 fn tells_faults(rt: HostRuntime) -> Result<(), Fail> {
     for (fault, number, text) in [
+        (DataError::Memory, 1, "1 Memory: "),
         (DataError::RangeOrder, 2, "2 RangeOrder: "),
         (DataError::RangePast10FFFF, 3, "3 RangePast10FFFF: "),
         (DataError::TableSize, 4, "4 TableSize: "),

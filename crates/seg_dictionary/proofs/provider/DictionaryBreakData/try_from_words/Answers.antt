@@ -3,6 +3,6 @@ use Rattle.seg_dictionary.specs.WordSets.{IsSameSet}
 use Rattle.seg_dictionary.specs.Texts.{code_points, held}
 use Rattle.seg_dictionary.proofs.provider.DictionaryBreakData.try_from_words.Goals as goal
 
-pub returns : goal.returns
-returns c =
+pub returns-clause-words : goal.returns-clause-words
+returns-clause-words c =
     subst (λ words. IsSameSet words (code_points c.args.words.now)) (sym (c.in_ok-draft.ensures.words ∙ ap held c.as_slice.ensures.value)) c.in_ok-sorted.ensures.same
