@@ -32,5 +32,8 @@ pub fn dictionaries(alloc: Global) -> Result<Dictionaries, AllocError>
 fn dictionary_of(alloc: Global, words: &[&str]) -> Result<DictionaryBreakData, AllocError>
     ensures { IfOk result (λ dictionary. IsSameSet (words_of dictionary) (code_points words.now)) }
 {
-    DictionaryBreakData::try_from_words(alloc, words).or(Err(AllocError))
+    match DictionaryBreakData::try_from_words(alloc, words) {
+        Ok(dictionary) => Ok(dictionary),
+        Err(_) => Err(AllocError),
+    }
 }

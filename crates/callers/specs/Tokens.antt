@@ -1,6 +1,6 @@
 -- The words of a text, as a search takes them.
 use Rattle.std.specs.Prelude.{ℕ, if◌then◌else◌, List, [], ◌∷◌}
-use Rattle.icu_segmenter.specs.declared.boundary.Boundary.{Boundary}
+use Rattle.icu_segmenter.specs.Boundary.{Boundary}
 use Rattle.icu_segmenter.specs.WordRules.{ends_word}
 
 -- where each word begins and ends: what ends at a boundary begins at the boundary before it

@@ -1,8 +1,11 @@
 -- What a caller's proof needs of the iterators.
-use Rattle.std.proofs.Common.{◌≡◌, List, [], ◌∷◌, sym, ◌∙◌, ap}
+use Rattle.std.proofs.Common.{◌≡◌, ℕ, List, [], ◌∷◌, sym, ◌∙◌, ap}
 use Rattle.std.specs.Iterator.{YieldsFirst, Drains}
+use Rattle.seg_text.specs.declared.boundary.Boundary.{Boundary}
+use Rattle.seg_text.specs.Boundaries.{boundaries_in}
+use Rattle.seg_text.specs.Items.{Text}
 use Rattle.seg_dictionary.specs.ScriptWords.{ScriptWords, AreSameWords}
-use Rattle.seg_words.specs.WordRules.{WordRules, with_words, word_boundaries_by}
+use Rattle.seg_words.specs.WordRules.{WordRules, with_words, word_boundaries_of}
 use Rattle.seg_words.proofs.ByRules.{equal-words}
 
 -- what an iterator gives up to its end is the list that it had left
@@ -13,5 +16,6 @@ given-is_left left s (x ∷ xs) (end, (last, (next, gives, more), stops)) =
 
 -- the words of each script are a set, in which their order and repetitions change no boundary
 pub words-are-sets : (words : WordRules) (others : ScriptWords) → AreSameWords words.payloads.words others
-    → word_boundaries_by (with_words words others) ≡ word_boundaries_by words
-words-are-sets = equal-words
+    → (text : Text) → word_boundaries_of (with_words words others) text ≡ word_boundaries_of words text
+words-are-sets words others same text =
+    ap (λ (boundaries : List ℕ → List Boundary). boundaries_in boundaries text) (equal-words words others same)

@@ -1,4 +1,5 @@
 -- The definitions that the public contracts cite, passed up from the crates that need them first.
+pub use Rattle.seg_text.specs.declared.boundary.Boundary
 pub use Rattle.seg_text.specs.Items
 pub use Rattle.seg_text.specs.Latin1
 pub use Rattle.seg_text.specs.Utf8

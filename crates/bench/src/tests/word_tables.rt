@@ -31,7 +31,7 @@ fn walks(alloc: Global) -> Result<RuleBreakData, Fail> {
 }
 
 /// The bench table of words over these classes, and with `Keep` at this place of the entries, if at any.
-fn changed_words(
+pub(super) fn changed_words(
     alloc: Global,
     bench: &RuleBreakData,
     ranges: &[(u32, u32, u8)],

@@ -1,7 +1,7 @@
 -- At the end nothing is left, so the tokens so far are all.
 use Rattle.std.proofs.Common.{◌≡◌, ℕ, List, [], ◌++◌, sym, ap, ◌∙◌}
 use Rattle.std.proofs.lemmas.List.{append-nil}
-use Rattle.icu_segmenter.specs.declared.boundary.Boundary.{Boundary}
+use Rattle.icu_segmenter.specs.Boundary.{Boundary}
 use Rattle.callers.specs.Tokens.{tokens, tokens_after}
 use Rattle.callers.proofs.words.tokens.Goals as goal
 
