@@ -3,14 +3,38 @@ use super::word_tables::changed_words;
 use super::words::{LETTER, NONE, expect_words};
 use crate::dictionaries::dictionaries;
 use crate::pair_tables::{cluster_table, word_table};
-use icu_segmenter::options::{WordBreakInvariantOptions, WordBreakOptions};
-use icu_segmenter::provider::{
-    DataError, Dictionaries, DictionariesBorrowed, DictionaryBreakData, RuleBreakData,
-};
+use icu_segmenter::options::WordBreakOptions;
+use icu_segmenter::provider::{DataError, Dictionaries, DictionaryBreakData, RuleBreakData};
 use icu_segmenter::{WordSegmenter, WordSegmenterBorrowed};
 use std::alloc::{AllocError, Global};
 use std::process::Abort;
 use std::test::Fail;
+
+/// A segmenter of words with dictionaries, where others are loaded after it is made.
+fn segmenter_of(
+    alloc: Global,
+    table: RuleBreakData,
+    dictionaries: Dictionaries,
+    later: Dictionaries,
+) -> Result<WordSegmenter, Fail> {
+    let clusters = cluster_table(alloc)?;
+    let options = WordBreakOptions::default();
+    let mut words = WordSegmenter::try_new_dictionary(
+        table,
+        None,
+        clusters,
+        dictionaries,
+        options,
+    )?;
+    words.load_dictionary(later);
+    Ok(words)
+}
+
+/// The bench segmenter of words with the bench dictionaries.
+fn bench_segmenter(alloc: Global) -> Result<WordSegmenter, Fail> {
+    let table = word_table(alloc)?;
+    segmenter_of(alloc, table, dictionaries(alloc)?, Dictionaries::none())
+}
 
 /// Asserts that a text's words are of letters and end at these places.
 fn expect_letters(
@@ -28,33 +52,10 @@ fn expect_letters(
     expect_words(rt, alloc, words, text, want.as_slice())
 }
 
-/// The same by the bench table, with dictionaries and others that are loaded after them.
-fn expect_by(
-    rt: &impl Abort,
-    alloc: Global,
-    dictionaries: DictionariesBorrowed<'_>,
-    later: DictionariesBorrowed<'_>,
-    text: &str,
-    places: &[usize],
-) -> Result<(), Fail> {
-    let table = word_table(alloc)?;
-    let clusters = cluster_table(alloc)?;
-    let options = WordBreakInvariantOptions::default();
-    let mut words = WordSegmenterBorrowed::new_dictionary(
-        &table,
-        None,
-        &clusters,
-        dictionaries,
-        options,
-    )?;
-    words.load_dictionary(later);
-    Ok(expect_letters(rt, alloc, words, text, places)?)
-}
-
 #[test]
 fn words_of_dictionaries(rt: HostRuntime) -> Result<(), Fail> {
     let alloc = rt.alloc();
-    let dictionaries = dictionaries(alloc)?;
+    let segmenter = bench_segmenter(alloc)?;
     let rows: [(&str, &[usize]); 6] = [
         ("ภาษาไทย", &[12, 21]),
         ("ภาษาไทยa", &[12, 21, 22]),
@@ -64,8 +65,7 @@ fn words_of_dictionaries(rt: HostRuntime) -> Result<(), Fail> {
         ("\u{20000}\u{20001}\u{20000}\u{20001}", &[8, 16]),
     ];
     for (text, places) in rows {
-        let none = DictionariesBorrowed::none();
-        expect_by(&rt, alloc, dictionaries.as_borrowed(), none, text, places)?;
+        expect_letters(&rt, alloc, segmenter.as_borrowed(), text, places)?;
     }
     Ok(())
 }
@@ -90,7 +90,7 @@ fn ideographs(alloc: Global, words: &[&str]) -> Result<Dictionaries, DataError> 
     })
 }
 
-/// Asserts the words of Thai where some words are loaded after others.
+/// Asserts the words of ภาษาไทย where some words are loaded after others.
 fn expect_thai(
     rt: &impl Abort,
     alloc: Global,
@@ -99,8 +99,8 @@ fn expect_thai(
     places: &[usize],
 ) -> Result<(), Fail> {
     let (words, later) = (thai(alloc, words)?, thai(alloc, later)?);
-    let (words, later) = (words.as_borrowed(), later.as_borrowed());
-    expect_by(rt, alloc, words, later, "ภาษาไทย", places)
+    let segmenter = segmenter_of(alloc, word_table(alloc)?, words, later)?;
+    Ok(expect_letters(rt, alloc, segmenter.as_borrowed(), "ภาษาไทย", places)?)
 }
 
 #[test]
@@ -115,24 +115,27 @@ fn ideographs_that_are_there_stay(rt: HostRuntime) -> Result<(), Fail> {
     let alloc = rt.alloc();
     let words = ideographs(alloc, &["龟"])?;
     let later = ideographs(alloc, &["龟山", "岛"])?;
-    let (words, later) = (words.as_borrowed(), later.as_borrowed());
-    expect_by(&rt, alloc, words, later, "龟山岛", &[3, 6, 9])
-}
-
-/// The bench segmenter of words, where the bench dictionaries are loaded after it is made.
-fn loaded_segmenter(alloc: Global) -> Result<WordSegmenter, Fail> {
-    let (table, clusters) = (word_table(alloc)?, cluster_table(alloc)?);
-    let (none, options) = (Dictionaries::none(), WordBreakOptions::default());
-    let mut words = WordSegmenter::try_new_dictionary(table, None, clusters, none, options)?;
-    words.load_dictionary(dictionaries(alloc)?);
-    Ok(words)
+    let segmenter = segmenter_of(alloc, word_table(alloc)?, words, later)?;
+    Ok(expect_letters(&rt, alloc, segmenter.as_borrowed(), "龟山岛", &[3, 6, 9])?)
 }
 
 #[test]
 fn dictionaries_fill_empty_places(rt: HostRuntime) -> Result<(), Fail> {
     let alloc = rt.alloc();
-    let words = loaded_segmenter(alloc)?;
-    Ok(expect_letters(&rt, alloc, words.as_borrowed(), "ภาษาไทย", &[12, 21])?)
+    let (none, later) = (Dictionaries::none(), dictionaries(alloc)?);
+    let segmenter = segmenter_of(alloc, word_table(alloc)?, none, later)?;
+    Ok(expect_letters(&rt, alloc, segmenter.as_borrowed(), "ภาษาไทย", &[12, 21])?)
+}
+
+#[test]
+fn lent_dictionaries_fill_empty_places(rt: HostRuntime) -> Result<(), Fail> {
+    let alloc = rt.alloc();
+    let (none, later) = (Dictionaries::none(), Dictionaries::none());
+    let segmenter = segmenter_of(alloc, word_table(alloc)?, none, later)?;
+    let dictionaries = dictionaries(alloc)?;
+    let mut words = segmenter.as_borrowed();
+    words.load_dictionary(dictionaries.as_borrowed());
+    Ok(expect_letters(&rt, alloc, words, "ภาษาไทย", &[12, 21])?)
 }
 
 fn expect_in_bytes(
@@ -159,9 +162,14 @@ fn expect_in_units(
     Ok(())
 }
 
-const THAI_AND_ILL_FORMED: [u16; 8] = [
+// ภาษา, a lone surrogate and ไทย.
+const THAI_UNITS: [u16; 8] = [
     0x0E20, 0x0E32, 0x0E29, 0x0E32, 0xD800, 0x0E44, 0x0E17, 0x0E22,
 ];
+
+// ภาษา, an ill-formed byte and ไทย.
+const THAI_BYTES: [u8; 22] =
+    *b"\xE0\xB8\xA0\xE0\xB8\xB2\xE0\xB8\xA9\xE0\xB8\xB2\xFF\xE0\xB9\x84\xE0\xB8\x97\xE0\xB8\xA2";
 
 // U+20000, U+20001 and U+20000.
 const THREE_PAIRS: [u16; 6] = [0xD840, 0xDC00, 0xD840, 0xDC01, 0xD840, 0xDC00];
@@ -169,31 +177,11 @@ const THREE_PAIRS: [u16; 6] = [0xD840, 0xDC00, 0xD840, 0xDC01, 0xD840, 0xDC00];
 #[test]
 fn dictionaries_of_ill_formed_texts(rt: HostRuntime) -> Result<(), Fail> {
     let alloc = rt.alloc();
-    let segmenter = loaded_segmenter(alloc)?;
+    let segmenter = bench_segmenter(alloc)?;
     let words = segmenter.as_borrowed();
-    let bytes =
-        b"\xE0\xB8\xA0\xE0\xB8\xB2\xE0\xB8\xA9\xE0\xB8\xB2\xFF\xE0\xB9\x84\xE0\xB8\x97\xE0\xB8\xA2";
-    expect_in_bytes(&rt, alloc, words, bytes, &[0, 12, 13, 22])?;
-    expect_in_units(&rt, alloc, words, &THAI_AND_ILL_FORMED, &[0, 4, 5, 8])?;
+    expect_in_bytes(&rt, alloc, words, &THAI_BYTES, &[0, 12, 13, 22])?;
+    expect_in_units(&rt, alloc, words, &THAI_UNITS, &[0, 4, 5, 8])?;
     Ok(expect_in_units(&rt, alloc, words, &THREE_PAIRS, &[0, 4, 6])?)
-}
-
-/// Asserts the words of bytes by a table with the bench dictionaries.
-fn expect_by_table(
-    rt: &impl Abort,
-    alloc: Global,
-    table: &RuleBreakData,
-    text: &[u8],
-    want: &[usize],
-) -> Result<(), Fail> {
-    let clusters = cluster_table(alloc)?;
-    let dictionaries = dictionaries(alloc)?;
-    let (lent, options) = (
-        dictionaries.as_borrowed(),
-        WordBreakInvariantOptions::default(),
-    );
-    let words = WordSegmenterBorrowed::new_dictionary(table, None, &clusters, lent, options)?;
-    Ok(expect_in_bytes(rt, alloc, words, text, want)?)
 }
 
 #[test]
@@ -202,5 +190,7 @@ fn ill_formed_bytes_that_are_complex(rt: HostRuntime) -> Result<(), Fail> {
     let bench = word_table(alloc)?;
     let ranges = [(0xE01, 0xE3A, 3), (0xFFFD, 0xFFFD, 3)];
     let table = changed_words(alloc, &bench, &ranges, None)?;
-    expect_by_table(&rt, alloc, &table, b"\xFF\xE0\xB8\x81", &[0, 1, 4])
+    let segmenter = segmenter_of(alloc, table, dictionaries(alloc)?, Dictionaries::none())?;
+    let words = segmenter.as_borrowed();
+    Ok(expect_in_bytes(&rt, alloc, words, b"\xFF\xE0\xB8\x81", &[0, 1, 4])?)
 }
