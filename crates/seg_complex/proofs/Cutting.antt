@@ -4,7 +4,7 @@ use Rattle.std.specs.Prelude.{None, Some}
 use Rattle.std.proofs.lemmas.List.{length-drop, length-map, take-map}
 use Rattle.std.proofs.lemmas.List.Sums.{prefix_len-le-length}
 use Rattle.seg_text.specs.declared.boundary.Boundary.{Boundary}
-use Rattle.seg_text.specs.Items.{Item, Text, place_of, start_of, rest_after, text_before, code_points}
+use Rattle.seg_text.specs.Items.{Item, Text, start_of, rest_after, text_before, code_points}
 use Rattle.seg_text.specs.Boundaries.{boundary_in, boundaries_in, offsets, RisesTo}
 use Rattle.seg_text.specs.Cuts.{AreCutsOf, cut_places, with_status}
 use Rattle.seg_text.specs.Stretches.{later_boundaries, HasProgress, IsWithin}

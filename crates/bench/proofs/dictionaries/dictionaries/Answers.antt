@@ -1,6 +1,6 @@
 use Rattle.seg_data.specs.declared.provider.ComplexScript.TheVariants.{None, Myanmar, ChineseOrJapanese, Khmer, Lao, Thai}
 use Rattle.bench.specs.Dictionaries.{dictionary_words, ideograph_words, thai_words}
-use Rattle.icu_segmenter.specs.ScriptWords.{AreSameWords, ScriptWords}
+use Rattle.icu_segmenter.specs.ScriptWords.{AreSameWords}
 use Rattle.icu_segmenter.specs.WordSets.{IsSameSet, Words}
 use Rattle.std.specs.Prelude.{Some, None as Nothing}
 use Rattle.std.specs.Str.{chars}
