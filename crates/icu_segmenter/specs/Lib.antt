@@ -35,6 +35,7 @@ pub use Rattle.seg_pairs.specs.Runs
 pub use Rattle.seg_complex.specs.Scripts
 pub use Rattle.seg_complex.specs.Pieces
 pub use Rattle.seg_complex.specs.RunCuts
+pub use Rattle.seg_complex.specs.Spans
 pub use Rattle.seg_dictionary.specs.WordSets
 pub use Rattle.seg_dictionary.specs.Texts
 pub use Rattle.seg_dictionary.specs.Dictionary

@@ -5,3 +5,4 @@ pub mod DictionaryCuts
 pub mod SmallDictionaries
 pub mod Payloads
 pub mod LaterPlaces
+pub mod Spans

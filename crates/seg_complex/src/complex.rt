@@ -26,8 +26,10 @@ use std::marker::PhantomData;
 /// The dictionaries of scripts, each if there is one, and the clusters that no cut of theirs divides.
 #[derive(Clone, Copy, Debug)]
 pub struct ComplexPayloadsBorrowed<'data> {
-    pub(crate) dictionaries: DictionariesBorrowed<'data>,
-    pub(crate) clusters: GraphemeClusterSegmenterBorrowed<'data>,
+    /// The dictionaries.
+    pub dictionaries: DictionariesBorrowed<'data>,
+    /// The clusters.
+    pub clusters: GraphemeClusterSegmenterBorrowed<'data>,
 }
 
 impl<'data> ComplexPayloadsBorrowed<'data> {

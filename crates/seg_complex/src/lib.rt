@@ -7,5 +7,6 @@ mod later;
 pub mod laws;
 pub mod runs;
 pub mod script_iter;
+pub mod spans;
 #[cfg(test)]
 mod tests;

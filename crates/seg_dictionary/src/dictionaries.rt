@@ -1,6 +1,6 @@
 //! Dictionaries of the scripts that are written without spaces between words.
 
-ghost use Rattle.std.specs.Prelude.{◌≡◌};
+ghost use Rattle.std.specs.Prelude.{◌≡◌, ◌↔◌, IsTrue};
 ghost use Rattle.std.specs.Option.{option_or, option_map};
 ghost use Rattle.seg_dictionary.specs.Dictionary.{words_of, words_after};
 ghost use Rattle.seg_dictionary.specs.ScriptWords.{filled, lent_words, no_words, script_words, words_in};
@@ -110,6 +110,17 @@ impl<'data> DictionariesBorrowed<'data> {
         self.lo = self.lo.or(others.lo);
         self.th = self.th.or(others.th);
         self.ja = self.ja.or(others.ja);
+    }
+
+    /// Whether no script has a dictionary.
+    pub fn is_empty(&self) -> bool
+        ensures { IsTrue result ↔ lent_words self.now ≡ no_words }
+    {
+        self.my.is_none()
+            && self.km.is_none()
+            && self.lo.is_none()
+            && self.th.is_none()
+            && self.ja.is_none()
     }
 
     /// A cursor at the beginning of the words of a script, if it has a dictionary. Takes no memory.

@@ -121,6 +121,13 @@ impl<'data> TailoredMachineBorrowed<'data> {
         }
     }
 
+    /// The script of a code point.
+    pub fn script(&self, code_point: u32) -> ComplexScript
+        ensures { result ≡ (symbol_and_script (machine_of self.now) code_point).1 }
+    {
+        script_of(self.machine, self.pseudo_symbol_map, code_point)
+    }
+
     /// The state that a symbol leads to from a state, or `None` where it leads to none.
     pub fn next_state(&self, state: State, symbol: Symbol) -> Option<State>
         requires state { state < length (machine_of self.now).states }

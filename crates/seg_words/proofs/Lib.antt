@@ -1,3 +1,5 @@
 pub mod Faults
 pub mod Left
+pub mod Spans
+pub mod EqualSpans
 pub mod ByRules

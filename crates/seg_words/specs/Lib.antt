@@ -3,3 +3,4 @@ pub mod WordFaults
 pub mod Classic
 pub mod Remainders
 pub mod Words
+pub mod SpansLeft

@@ -1,19 +1,22 @@
 -- The boundaries of words, by a pair table or by a state machine, and their types.
-use Rattle.std.specs.Prelude.{ℕ, zero, suc, Bool, true, false, Option, None, List}
+use Rattle.std.specs.Prelude.{◌≡◌, ℕ, zero, suc, Bool, true, false, Option, None, Some, List, take}
 use Rattle.seg_text.specs.declared.boundary.Boundary.{Boundary}
 use Rattle.seg_text.specs.Items.{Text}
 use Rattle.seg_text.specs.Boundaries.{boundaries_in}
-use Rattle.seg_text.specs.Stretches.{Stretch, list_boundaries}
+use Rattle.seg_text.specs.Cuts.{with_status}
+use Rattle.seg_text.specs.Stretches.{Stretch, later_boundaries, list_boundaries}
 use Rattle.seg_data.specs.Table.{Table}
 use Rattle.seg_machine.specs.Machine.{Machine}
 use Rattle.seg_machine.specs.Segments.{machine_stretch}
 use Rattle.seg_pairs.specs.PairTable.{PairTable}
 use Rattle.seg_pairs.specs.Runs.{HasComplexElement, complex_stretch}
-use Rattle.seg_engine.specs.Rules.{Rules}
+use Rattle.seg_engine.specs.Rules.{Rules, boundaries_by}
 use Rattle.seg_engine.specs.Rules.Rules.{ByTable, ByMachine}
-use Rattle.seg_text.specs.Cuts.{Cuts}
 use Rattle.seg_dictionary.specs.ScriptWords.{ScriptWords, no_words}
+use Rattle.seg_dictionary.specs.WordSets.{Words}
+use Rattle.seg_complex.specs.DictionaryCuts.{Clusters, dictionary_cuts}
 use Rattle.seg_complex.specs.Payloads.{Payloads, run_cuts_by}
+use Rattle.seg_complex.specs.Spans.{span_length, span_words}
 use Rattle.seg_words.specs.declared.word.WordType.{WordType}
 use Rattle.seg_words.specs.declared.word.WordType.TheVariants.{None as NoWord, Number, Letter}
 
@@ -27,23 +30,41 @@ abbrev pub table_words : PairTable → Option Table → PairTable → ScriptWord
 table_words t overriding clusters words =
     record { rules = ByTable t overriding; payloads = record { words = words; clusters = ByTable clusters None } }
 
--- by a machine, with a pair table of clusters
-abbrev pub machine_words : Machine → PairTable → WordRules
-machine_words m clusters = record { rules = ByMachine m; payloads = record { words = no_words; clusters = ByTable clusters None } }
+-- by a machine, with a pair table of clusters and the words of scripts
+abbrev pub machine_words : Machine → PairTable → ScriptWords → WordRules
+machine_words m clusters words = record { rules = ByMachine m; payloads = record { words = words; clusters = ByTable clusters None } }
 
 -- the same with other words of scripts
 abbrev pub with_words : WordRules → ScriptWords → WordRules
 with_words found words = record { rules = found.rules; payloads = record { words = words; clusters = found.payloads.clusters } }
 
--- the first stretch of some code points, where runs are cut in some way: by what the table says of the first, or up to the
--- machine's pick
-abbrev pub stretch_by : Rules → Cuts → List ℕ → Stretch
-stretch_by (ByTable t overriding) cuts = complex_stretch cuts t overriding
-stretch_by (ByMachine m) cuts = machine_stretch m
+-- the status of what ends with letters
+abbrev pub letters : ℕ
+letters = 2
 
--- .. where each piece of a run is cut by the words of its script, or at its end alone
+-- the boundaries of a span taken alone, but that at its start: where a run is cut by its words letters end, and a piece
+-- between runs has those of the machine
+abbrev pub span_boundaries : Machine → Clusters → Option Words → List ℕ → List Boundary
+span_boundaries m clusters (Some words) span = with_status letters (dictionary_cuts words clusters span)
+span_boundaries m clusters None span = later_boundaries (machine_stretch m) span
+
+-- the first stretch of some code points by a machine: their first span
+abbrev pub span_stretch : Machine → Payloads → List ℕ → Stretch
+span_stretch m payloads code_points =
+    let extent = span_length m payloads.words code_points in
+    record {
+      extent = extent;
+      boundaries = span_boundaries m (boundaries_by payloads.clusters) (span_words m payloads.words code_points) (take extent code_points);
+    }
+
+-- the first stretch of some code points: by what the table says of the first, where each piece of a run is cut by the words of
+-- its script, or at its end alone; or by the machine
+abbrev pub stretch_by : Rules → Payloads → List ℕ → Stretch
+stretch_by (ByTable t overriding) payloads = complex_stretch (run_cuts_by payloads) t overriding
+stretch_by (ByMachine m) payloads = span_stretch m payloads
+
 abbrev pub first_word_stretch : WordRules → List ℕ → Stretch
-first_word_stretch words = stretch_by words.rules (run_cuts_by words.payloads)
+first_word_stretch words = stretch_by words.rules words.payloads
 
 -- the boundaries of words in a list of code points
 abbrev pub word_boundaries_by : WordRules → List ℕ → List Boundary
@@ -53,10 +74,10 @@ word_boundaries_by words code_points = list_boundaries (first_word_stretch words
 abbrev pub word_boundaries_of : WordRules → Text → List Boundary
 word_boundaries_of words text = boundaries_in (word_boundaries_by words) text
 
--- no code point is complex; machines know of no complex ones
-abbrev pub HasNoComplex : Rules → List ℕ → Type 0
-HasNoComplex (ByTable t overriding) code_points = HasComplexElement t overriding code_points → ⊥
-HasNoComplex (ByMachine m) code_points = Unit {0}
+-- no code point is complex, or no script has words that a machine's spans are cut by
+abbrev pub HasNoRun : Rules → ScriptWords → List ℕ → Type 0
+HasNoRun (ByTable t overriding) words code_points = HasComplexElement t overriding code_points → ⊥
+HasNoRun (ByMachine m) words code_points = words ≡ no_words
 
 -- the type of what ends at a boundary with a status
 abbrev pub type_of : ℕ → WordType

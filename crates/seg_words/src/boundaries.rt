@@ -5,13 +5,18 @@ ghost use Rattle.std.specs.Iterator.{YieldsFirst, MakesProgress, item_count};
 ghost use Rattle.seg_text.specs.Items.{start_of};
 ghost use Rattle.seg_text.specs.Boundaries.{GivesNext, IsCover, offsets_left};
 ghost use Rattle.seg_engine.specs.Engine.{rules_of};
+ghost use Rattle.seg_engine.specs.Rules.Rules.{ByMachine};
+ghost use Rattle.seg_machine.specs.Tailored.{machine_of};
+ghost use Rattle.seg_words.specs.Remainders.{remainder_by};
 ghost use Rattle.seg_complex.specs.Payloads.{payloads_of};
 ghost use Rattle.seg_words.specs.WordRules.{word_boundaries_of};
 
 use crate::classic::ClassicBoundaries;
+use crate::neo::NeoBoundaries;
 use seg_complex::complex::ComplexPayloadsBorrowed;
 use seg_engine::engine::Engine;
 use seg_machine::rule_segmenter_v2::RuleBreakIterator;
+use seg_machine::tailored_machine::TailoredMachineBorrowed;
 use seg_text::cursor::Cursor;
 use std::marker::Model;
 
@@ -28,6 +33,26 @@ enum BoundariesBy<'data, I: Cursor> {
     Classic(ClassicBoundaries<'data, I>),
     /// That of a state machine.
     Neo(RuleBreakIterator<'data, I>),
+    /// That of a state machine, and dictionaries.
+    NeoWithWords(NeoBoundaries<'data, I>),
+}
+
+impl<'data, I: Cursor> BoundariesBy<'data, I> {
+    /// By a machine: without a dictionary of any script the whole text is one piece.
+    fn by_machine(
+        machine: TailoredMachineBorrowed<'data>,
+        payloads: ComplexPayloadsBorrowed<'data>,
+        text: I,
+    ) -> Self
+        ensures boundaries { (remainder_by result).left ≡ word_boundaries_of (record { rules = ByMachine (machine_of machine.entry); payloads = payloads_of payloads.entry }) (I.text text) }
+        ensures cover { IsCover (start_of (I.text text)) (I.text text).end (remainder_by result).left }
+        ensures status { (remainder_by result).status ≡ 0 }
+    {
+        if payloads.dictionaries.is_empty() {
+            return BoundariesBy::Neo(RuleBreakIterator::new(machine, text));
+        }
+        BoundariesBy::NeoWithWords(NeoBoundaries::new(machine, payloads, text))
+    }
 }
 
 impl<'data, I: Cursor> Model for Boundaries<'data, I> {
@@ -55,7 +80,7 @@ impl<'data, I: Cursor> Boundaries<'data, I> {
                 by: BoundariesBy::Classic(ClassicBoundaries::new(pairs, payloads, text)),
             },
             Engine::Neo(machine) => Boundaries {
-                by: BoundariesBy::Neo(RuleBreakIterator::new(machine, text)),
+                by: BoundariesBy::by_machine(machine, payloads, text),
             },
         }
     }
@@ -67,6 +92,7 @@ impl<'data, I: Cursor> Boundaries<'data, I> {
         match &self.by {
             BoundariesBy::Classic(engine) => engine.status(),
             BoundariesBy::Neo(engine) => engine.status(),
+            BoundariesBy::NeoWithWords(engine) => engine.status(),
         }
     }
 }
@@ -86,6 +112,7 @@ impl<'data, I: Cursor> Iterator for Boundaries<'data, I> {
         match &mut self.by {
             BoundariesBy::Classic(engine) => engine.next(),
             BoundariesBy::Neo(engine) => engine.next(),
+            BoundariesBy::NeoWithWords(engine) => engine.next(),
         }
     }
 }

@@ -5,7 +5,7 @@ ghost use Rattle.std.specs.Prelude.{◌≡◌, ℕ, List};
 ghost use Rattle.seg_text.specs.Boundaries.{HasEqualOrdinals, RestartsIn};
 ghost use Rattle.seg_text.specs.Stretches.{HasOneAnswer};
 ghost use Rattle.seg_dictionary.specs.ScriptWords.{ScriptWords, AreSameWords};
-ghost use Rattle.seg_words.specs.WordRules.{HasNoComplex, WordRules, first_word_stretch, with_words, word_boundaries_by};
+ghost use Rattle.seg_words.specs.WordRules.{HasNoRun, WordRules, first_word_stretch, with_words, word_boundaries_by};
 ghost use Rattle.seg_words.specs.Words.{word_rules};
 
 use crate::word::WordSegmenterBorrowed;
@@ -34,10 +34,10 @@ pub fn equal_words()
 {}
 
 /// Law: a text without complex code points may be segmented anew from any of its boundaries: the boundaries after one of
-/// them are those of the rest taken alone, shifted, with the same statuses. By a machine, which knows of no complex ones, so
-/// may every text.
+/// them are those of the rest taken alone, shifted, with the same statuses. By a machine so may every text, with no dictionary
+/// in any place.
 pub fn restart(segmenter: WordSegmenterBorrowed<'_>)
-    ensures { (code_points : List ℕ) → HasNoComplex (word_rules segmenter.entry).rules code_points
+    ensures { (code_points : List ℕ) → HasNoRun (word_rules segmenter.entry).rules (word_rules segmenter.entry).payloads.words code_points
         → RestartsIn (word_boundaries_by (word_rules segmenter.entry)) code_points }
 {
     let _ = segmenter;

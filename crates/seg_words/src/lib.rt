@@ -5,4 +5,6 @@ mod boundaries;
 mod classic;
 mod data;
 pub mod laws;
+mod neo;
+mod span;
 pub mod word;

@@ -233,16 +233,16 @@ impl WordSegmenter {
         Ok(segmenter)
     }
 
-    /// Takes the dictionaries of scripts that have none yet. Those that are there stay. Words by a machine don't look at
-    /// them yet. Takes no memory.
+    /// Takes the dictionaries of scripts that have none yet. Those that are there stay. Takes no memory.
     pub fn load_dictionary(&mut self, dictionaries: Dictionaries)
         ensures { owned_word_rules self.new ≡ with_words (owned_word_rules self.old) (filled (owned_word_rules self.old).payloads.words (script_words dictionaries)) }
     {
         self.dictionaries.fill(dictionaries);
     }
 
-    /// A segmenter by a state machine. The pair table of clusters is for words of dictionaries, which machines don't look at
-    /// yet. Of several faults that with the lowest number: `StartRowKeeps` where no boundary stands
+    /// A segmenter by a state machine. Once dictionaries are loaded, a run of a script that has one (by the machine's map) is cut
+    /// by its words, which end with the clusters of the pair table, and each piece between runs is segmented by the machine as a
+    /// text of its own. Of several faults that with the lowest number: `StartRowKeeps` where no boundary stands
     /// between the start of the text and some class of code points in clusters, `ComplexItems` where some code points are
     /// complex in clusters, `ComplexBelow0100` where one below U+0100 has a script by the machine. The options change
     /// nothing. Takes no memory.
@@ -251,7 +251,7 @@ impl WordSegmenter {
         clusters: RuleBreakData,
         options: WordBreakOptions<'_>,
     ) -> Result<Self, DataError>
-        ensures accepted { IfOk result (λ segmenter. (owned_word_rules segmenter ≡ machine_words machine clusters)
+        ensures accepted { IfOk result (λ segmenter. (owned_word_rules segmenter ≡ machine_words machine clusters no_words)
             × IsFaultless (HasWordMachineFault machine clusters)) }
         ensures refused { IfErr result (IsLowestFault (HasWordMachineFault machine clusters)) }
     {
@@ -338,16 +338,16 @@ impl<'data> WordSegmenterBorrowed<'data> {
         })
     }
 
-    /// Takes the dictionaries of scripts that have none yet. Those that are there stay. Words by a machine don't look at
-    /// them yet. Takes no memory.
+    /// Takes the dictionaries of scripts that have none yet. Those that are there stay. Takes no memory.
     pub fn load_dictionary(&mut self, dictionaries: DictionariesBorrowed<'data>)
         ensures { word_rules self.new ≡ with_words (word_rules self.old) (filled (word_rules self.old).payloads.words (lent_words dictionaries.entry)) }
     {
         self.payloads.load(dictionaries);
     }
 
-    /// A segmenter by a state machine. The pair table of clusters is for words of dictionaries, which machines don't look at
-    /// yet. Of several faults that with the lowest number: `StartRowKeeps` where no boundary stands
+    /// A segmenter by a state machine. Once dictionaries are loaded, a run of a script that has one (by the machine's map) is cut
+    /// by its words, which end with the clusters of the pair table, and each piece between runs is segmented by the machine as a
+    /// text of its own. Of several faults that with the lowest number: `StartRowKeeps` where no boundary stands
     /// between the start of the text and some class of code points in clusters, `ComplexItems` where some code points are
     /// complex in clusters, `ComplexBelow0100` where one below U+0100 has a script by the machine. Takes no memory.
     pub fn new_neo_for_non_complex_scripts(
@@ -355,7 +355,7 @@ impl<'data> WordSegmenterBorrowed<'data> {
         clusters: &'data RuleBreakData,
         options: WordBreakInvariantOptions,
     ) -> Result<Self, DataError>
-        ensures accepted { IfOk result (λ segmenter. (word_rules segmenter ≡ machine_words machine.now clusters.now)
+        ensures accepted { IfOk result (λ segmenter. (word_rules segmenter ≡ machine_words machine.now clusters.now no_words)
             × IsFaultless (HasWordMachineFault machine.now clusters.now)) }
         ensures refused { IfErr result (IsLowestFault (HasWordMachineFault machine.now clusters.now)) }
     {

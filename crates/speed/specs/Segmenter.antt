@@ -52,7 +52,7 @@ segmentation_with GraphemeNeo classes = places_by (ByMachine (machine_with clust
 segmentation_with SentenceClassic classes = places_by (ByTable (table_with sentence_table classes) None)
 segmentation_with SentenceNeo classes = places_by (ByMachine (machine_with sentence_machine classes))
 segmentation_with WordClassic classes = word_places_by (table_words (table_with word_table classes) None cluster_table no_words)
-segmentation_with WordNeo classes = word_places_by (machine_words (machine_with word_machine classes) cluster_table)
+segmentation_with WordNeo classes = word_places_by (machine_words (machine_with word_machine classes) cluster_table no_words)
 segmentation_with LineNeo classes = places_by (ByMachine (machine_with line_machine classes))
 
 -- the places of boundaries by a segmenter

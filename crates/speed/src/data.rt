@@ -141,7 +141,7 @@ fn words_by_table(table: RuleBreakData, clusters: RuleBreakData) -> Result<Segme
 }
 
 fn words_by_machine(machine: SegmenterStateMachine, clusters: RuleBreakData) -> Result<Segmenter>
-    ensures { IfOk result (λ segmenter. segmentation_of segmenter ≡ word_places_by (machine_words machine clusters)) }
+    ensures { IfOk result (λ segmenter. segmentation_of segmenter ≡ word_places_by (machine_words machine clusters no_words)) }
 {
     let options = WordBreakOptions::default();
     let segmenter = WordSegmenter::try_new_neo_for_non_complex_scripts(machine, clusters, options)?;

@@ -41,7 +41,7 @@ places_in GraphemeNeo text = offsets (boundaries_of (ByMachine cluster_machine) 
 places_in SentenceClassic text = offsets (boundaries_of (ByTable sentence_table None) text)
 places_in SentenceNeo text = offsets (boundaries_of (ByMachine sentence_machine) text)
 places_in WordClassic text = offsets (word_boundaries_of (table_words word_table None cluster_table dictionary_words) text)
-places_in WordNeo text = offsets (word_boundaries_of (machine_words word_machine cluster_table) text)
+places_in WordNeo text = offsets (word_boundaries_of (machine_words word_machine cluster_table dictionary_words) text)
 places_in LineNeo text = offsets (boundaries_of (ByMachine line_machine) text)
 
 -- .. and in the text of some bytes

@@ -213,12 +213,14 @@ fn print_words_by_machine<O: Write>(alloc: Global, text: &[u8], out: &mut O) -> 
 {
     let machine = word_machine(alloc)?;
     let clusters = cluster_table(alloc)?;
+    let dictionaries = dictionaries(alloc)?;
     let options = WordBreakInvariantOptions::default();
-    let Ok(segmenter) = WordSegmenterBorrowed::new_neo_for_non_complex_scripts(
+    let Ok(mut segmenter) = WordSegmenterBorrowed::new_neo_for_non_complex_scripts(
         &machine, &clusters, options,
     ) else {
         unreachable!()
     };
+    segmenter.load_dictionary(dictionaries.as_borrowed());
     print_words(segmenter, text, out)
 }
 

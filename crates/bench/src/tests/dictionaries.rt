@@ -1,9 +1,10 @@
 // Words of complex scripts, by dictionaries.
 use super::word_tables::changed_words;
-use super::words::{LETTER, NONE, expect_words};
+use super::words::{LETTER, NONE, NUMBER, expect_words};
 use crate::dictionaries::dictionaries;
 use crate::pair_tables::{cluster_table, word_table};
-use icu_segmenter::options::WordBreakOptions;
+use crate::words::word_machine;
+use icu_segmenter::options::{WordBreakOptions, WordType};
 use icu_segmenter::provider::{DataError, Dictionaries, DictionaryBreakData, RuleBreakData};
 use icu_segmenter::{WordSegmenter, WordSegmenterBorrowed};
 use std::alloc::{AllocError, Global};
@@ -193,4 +194,58 @@ fn ill_formed_bytes_that_are_complex(rt: HostRuntime) -> Result<(), Fail> {
     let segmenter = segmenter_of(alloc, table, dictionaries(alloc)?, Dictionaries::none())?;
     let words = segmenter.as_borrowed();
     Ok(expect_in_bytes(&rt, alloc, words, b"\xFF\xE0\xB8\x81", &[0, 1, 4])?)
+}
+
+/// The bench segmenter of words by a machine, where dictionaries are loaded after it is made.
+fn neo_segmenter(alloc: Global, dictionaries: Dictionaries) -> Result<WordSegmenter, Fail> {
+    let (machine, clusters) = (word_machine(alloc)?, cluster_table(alloc)?);
+    let options = WordBreakOptions::default();
+    let mut words = WordSegmenter::try_new_neo_for_non_complex_scripts(machine, clusters, options)?;
+    words.load_dictionary(dictionaries);
+    Ok(words)
+}
+
+#[test]
+fn words_by_machines_and_dictionaries(rt: HostRuntime) -> Result<(), Fail> {
+    let alloc = rt.alloc();
+    let segmenter = neo_segmenter(alloc, dictionaries(alloc)?)?;
+    let rows: [(&str, &[(usize, WordType)]); 6] = [
+        (
+            "12ไทยab",
+            &[(0, NONE), (2, NUMBER), (11, LETTER), (13, LETTER)],
+        ),
+        (
+            "ภาษาไทยဗမာ",
+            &[(0, NONE), (12, LETTER), (21, LETTER), (30, LETTER)],
+        ),
+        ("a.ไทย", &[(0, NONE), (1, LETTER), (2, NONE), (11, LETTER)]),
+        (".ก", &[(0, NONE), (1, NONE), (4, LETTER)]),
+        (
+            "ภาษาไทยภาษาไทย",
+            &[
+                (0, NONE),
+                (12, LETTER),
+                (21, LETTER),
+                (33, LETTER),
+                (42, LETTER),
+            ],
+        ),
+        (
+            "\u{20000}\u{20001}\u{20000}\u{20001}",
+            &[(0, NONE), (8, LETTER), (16, LETTER)],
+        ),
+    ];
+    for (text, want) in rows {
+        expect_words(&rt, alloc, segmenter.as_borrowed(), text, want)?;
+    }
+    Ok(())
+}
+
+#[test]
+fn ill_formed_texts_by_machines(rt: HostRuntime) -> Result<(), Fail> {
+    let alloc = rt.alloc();
+    let segmenter = neo_segmenter(alloc, dictionaries(alloc)?)?;
+    let words = segmenter.as_borrowed();
+    expect_in_bytes(&rt, alloc, words, &THAI_BYTES, &[0, 12, 13, 22])?;
+    Ok(expect_in_units(&rt, alloc, words, &THAI_UNITS, &[0, 4, 5, 8])?)
 }
