@@ -1,6 +1,6 @@
 // Words of complex scripts, by dictionaries.
 use super::word_tables::changed_words;
-use super::words::{LETTER, NONE, NUMBER, expect_words};
+use super::words::{LETTER, NONE, NUMBER, expect_agreement, expect_words};
 use crate::dictionaries::dictionaries;
 use crate::pair_tables::{cluster_table, word_table};
 use crate::words::word_machine;
@@ -69,6 +69,12 @@ fn words_of_dictionaries(rt: HostRuntime) -> Result<(), Fail> {
         expect_letters(&rt, alloc, segmenter.as_borrowed(), text, places)?;
     }
     Ok(())
+}
+
+#[test]
+fn words_of_dictionaries_have_equal_ordinals(rt: HostRuntime) -> Result<(), Fail> {
+    let alloc = rt.alloc();
+    Ok(expect_agreement(&rt, alloc, bench_segmenter(alloc)?.as_borrowed())?)
 }
 
 fn thai(alloc: Global, words: &[&str]) -> Result<Dictionaries, DataError> {

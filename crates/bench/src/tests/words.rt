@@ -277,7 +277,7 @@ fn words_end_for_ever(rt: HostRuntime) -> Result<(), Fail> {
 }
 
 /// Asserts that the words of all short texts are at equal ordinals and of equal types in all encodings.
-fn expect_agreement(
+pub(super) fn expect_agreement(
     rt: &impl Abort,
     alloc: Global,
     segmenter: WordSegmenterBorrowed<'_>,
