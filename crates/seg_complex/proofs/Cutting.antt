@@ -24,7 +24,7 @@ piece-within : (code_points : List ℕ) → piece_length code_points ≤ length 
 piece-within [] = omega arith
 piece-within (first ∷ rest) = prefix_len-le-length (has_script (script_of first)) (first ∷ rest)
 
-length-taken : (n : ℕ) (xs : List ℕ) → n ≤ length xs → length (take n xs) ≡ n
+pub length-taken : (n : ℕ) (xs : List ℕ) → n ≤ length xs → length (take n xs) ≡ n
 length-taken zero xs inside = refl
 length-taken (suc n) [] inside = absurd (omega arith)
 length-taken (suc n) (x ∷ xs) inside = ap suc (length-taken n xs (omega (arith, inside)))
@@ -62,7 +62,7 @@ at_end-covers script first rest = (omega arith, refl)
 
 -- so they stay in it
 
-rises-inside : (cuts : List ℕ) (from end : ℕ) → RisesTo from (with_status 0 cuts) end → (from ≤ end) × AreCutsOf end cuts
+pub rises-inside : (cuts : List ℕ) (from end : ℕ) → RisesTo from (with_status 0 cuts) end → (from ≤ end) × AreCutsOf end cuts
 rises-inside [] from end rises = (omega (arith, rises), tt)
 rises-inside (cut ∷ cuts) from end rises =
     let later = rises-inside cuts cut end rises.1 in
@@ -80,11 +80,11 @@ pub places-offsets : (text : Text) (boundaries : List Boundary) → map (place_a
 places-offsets text [] = refl
 places-offsets text (boundary ∷ boundaries) = ap (λ (rest : List ℕ). place_after text boundary.offset ∷ rest) (places-offsets text boundaries)
 
-offsets-append : (some others : List Boundary) → offsets (some ++ others) ≡ offsets some ++ offsets others
+pub offsets-append : (some others : List Boundary) → offsets (some ++ others) ≡ offsets some ++ offsets others
 offsets-append [] others = refl
 offsets-append (boundary ∷ some) others = ap (λ (rest : List ℕ). boundary.offset ∷ rest) (offsets-append some others)
 
-places-with : (text : Text) (cuts : List ℕ) → offsets (map (boundary_in text) (with_status 0 cuts)) ≡ map (place_after text) cuts
+pub places-with : (text : Text) (cuts : List ℕ) → offsets (map (boundary_in text) (with_status 0 cuts)) ≡ map (place_after text) cuts
 places-with text [] = refl
 places-with text (cut ∷ cuts) = ap (λ (rest : List ℕ). place_after text cut ∷ rest) (places-with text cuts)
 

@@ -6,3 +6,4 @@ pub mod SmallDictionaries
 pub mod Payloads
 pub mod LaterPlaces
 pub mod Spans
+pub mod InnerCuts

@@ -3,6 +3,7 @@
 
 pub mod complex;
 pub mod dictionaries;
+pub mod inner;
 mod later;
 pub mod laws;
 pub mod runs;

@@ -15,7 +15,7 @@ use std::marker::Model;
 
 /// The cuts of a piece, as places in units.
 #[derive(Debug, Drop)]
-enum PieceIterator<'data, I: Cursor> {
+pub(crate) enum PieceIterator<'data, I: Cursor> {
     /// Its end alone, until it is given.
     End(Option<usize>),
     /// Those by the words of its script.

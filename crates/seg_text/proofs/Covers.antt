@@ -84,7 +84,7 @@ module _ {X : Type 0} (first : List X → Stretch) (within : (x : X) (xs : List 
 place-at-end : (items : List Item) (end : ℕ) → place_of (drop (length items) items) end ≡ end
 place-at-end items end = rw (drop_all (length items) items (omega arith)) refl
 
-place-between : (items : List Item) (end from to : ℕ) → IsRising items end → from < to → to ≤ length items
+pub place-between : (items : List Item) (end from to : ℕ) → IsRising items end → from < to → to ≤ length items
     → place_of (drop from items) end < place_of (drop to items) end
 place-between items end from to rising before inside = on (drop from items) refl
   where
