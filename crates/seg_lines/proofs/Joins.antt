@@ -23,20 +23,24 @@ not-less a b above = false_from_ne_true (nat_lt a b) (λ is. absurd (omega (arit
 not-equal : (a b : ℕ) → b < a → (a == b) ≡ false
 not-equal a b above = ne_eqb a b (λ is. absurd (omega (arith, is, above)))
 
+-- one before the first boundary
+pub cut-ahead : (cut : ℕ) (found : Boundary) (boundaries : List Boundary) → cut < found.offset → with_cut cut (found ∷ boundaries) ≡ boundary cut 0 ∷ found ∷ boundaries
+cut-ahead cut found boundaries before = rw (less cut found.offset before) refl
+
 -- a cut before all boundaries
 cut-before : (cut : ℕ) (boundaries : List Boundary) → AreAbove cut (offsets boundaries) → with_cut cut boundaries ≡ boundary cut 0 ∷ boundaries
 cut-before cut [] above = refl
-cut-before cut (found ∷ boundaries) above = rw (less cut found.offset above.0) refl
+cut-before cut (found ∷ boundaries) above = cut-ahead cut found boundaries above.0
 
 -- one after the first boundary
-cut-after : (cut : ℕ) (found : Boundary) (boundaries : List Boundary) → found.offset < cut → with_cut cut (found ∷ boundaries) ≡ found ∷ with_cut cut boundaries
+pub cut-after : (cut : ℕ) (found : Boundary) (boundaries : List Boundary) → found.offset < cut → with_cut cut (found ∷ boundaries) ≡ found ∷ with_cut cut boundaries
 cut-after cut found boundaries above = rw (not-less cut found.offset (omega (arith, above)), not-equal cut found.offset above) refl
 
 -- one at the first boundary
-cut-at : (cut : ℕ) (found : Boundary) (boundaries : List Boundary) → cut ≡ found.offset → with_cut cut (found ∷ boundaries) ≡ found ∷ boundaries
+pub cut-at : (cut : ℕ) (found : Boundary) (boundaries : List Boundary) → cut ≡ found.offset → with_cut cut (found ∷ boundaries) ≡ found ∷ boundaries
 cut-at cut found boundaries at = rw (not-less cut found.offset (omega (arith, at)), eq-eqb cut found.offset at) refl
 
-with-above : (low cut : ℕ) (boundaries : List Boundary) → low < cut → AreAbove low (offsets boundaries) → AreAbove low (offsets (with_cut cut boundaries))
+pub with-above : (low cut : ℕ) (boundaries : List Boundary) → low < cut → AreAbove low (offsets boundaries) → AreAbove low (offsets (with_cut cut boundaries))
 with-above low cut [] below above = (below, tt)
 with-above low cut (found ∷ boundaries) below above = on (nat_lt cut found.offset) (cut == found.offset) (with-above low cut boundaries below above.1)
   where
@@ -126,7 +130,7 @@ first-taken : {S A : Type 0} (left : S → List A) (old new : S) (given : Option
 first-taken left old new None (none, still) = still ∙ sym none
 first-taken left old new (Some first) is = sym is
 
-above-more : (low high : ℕ) (numbers : List ℕ) → low < high → AreAbove high numbers → AreAbove low numbers
+pub above-more : (low high : ℕ) (numbers : List ℕ) → low < high → AreAbove high numbers → AreAbove low numbers
 above-more low high [] below above = tt
 above-more low high (n ∷ numbers) below above = (omega (arith, below, above.0), above-more low high numbers below above.1)
 

@@ -1,3 +1,5 @@
 pub mod Faults
 pub mod Tailorings
 pub mod Joins
+pub mod JoinCover
+pub mod JoinMembers

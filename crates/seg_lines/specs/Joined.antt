@@ -1,7 +1,8 @@
 -- Boundaries joined with cuts, as a set of places: a boundary keeps its status, and a cut where none stands has status 0.
-use Rattle.std.specs.Prelude.{ℕ, ◌<◌, ◌==◌, nat_lt, if◌then◌else◌, List, [], ◌∷◌}
+use Rattle.std.specs.Prelude.{◌≡◌, ◌⊎◌, ◌↔◌, ℕ, ◌<◌, ◌==◌, nat_lt, if◌then◌else◌, List, [], ◌∷◌}
+use Rattle.std.specs.List.{Contains}
 use Rattle.seg_text.specs.declared.boundary.Boundary.{Boundary}
-use Rattle.seg_text.specs.Boundaries.{boundary}
+use Rattle.seg_text.specs.Boundaries.{boundary, offsets}
 
 -- boundaries that rise, and one cut
 abbrev pub with_cut : ℕ → List Boundary → List Boundary
@@ -24,3 +25,12 @@ AreAbove low (n ∷ numbers) = (low < n) × AreAbove low numbers
 abbrev pub AreRising : List ℕ → Type 0
 AreRising [] = Unit {0}
 AreRising (n ∷ numbers) = AreAbove n numbers × AreRising numbers
+
+-- a boundary where a cut stands and none of the others, with status 0
+abbrev pub IsCutAlone : List Boundary → List ℕ → Boundary → Type 0
+IsCutAlone boundaries cuts found = (found.status ≡ 0) × Contains cuts found.offset × (Contains (offsets boundaries) found.offset → ⊥)
+
+-- the same as a relation: the list rises, and holds all boundaries, the cuts that stand alone, and nothing else
+pub record IsJoin (boundaries : List Boundary) (cuts : List ℕ) (found : List Boundary) : Type 0 where
+  pub rises : AreRising (offsets found)
+  pub holds : (one : Boundary) → Contains found one ↔ (Contains boundaries one ⊎ IsCutAlone boundaries cuts one)

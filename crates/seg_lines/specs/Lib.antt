@@ -5,3 +5,4 @@ pub mod LineTailorings
 pub mod Joined
 pub mod First
 pub mod JoinedLeft
+pub mod LineRules

@@ -1,5 +1,5 @@
 -- What is left of a span, and of a text by a machine whose spans are cut.
-use Rattle.std.specs.Prelude.{ℕ, Option, None, Some, List, [], ◌∷◌, ◌++◌}
+use Rattle.std.specs.Prelude.{None, Some, List, [], ◌∷◌, ◌++◌}
 use Rattle.seg_text.specs.declared.boundary.Boundary.{Boundary}
 use Rattle.seg_text.specs.Items.{Text}
 use Rattle.seg_text.specs.Boundaries.{boundary, boundaries_in}

@@ -1,4 +1,4 @@
-use Rattle.std.proofs.Common.{◌≡◌, Option, map, sym, ap, ◌∙◌}
+use Rattle.std.proofs.Common.{Option, map, sym, ap, ◌∙◌}
 use Rattle.seg_text.specs.Items.{code_points}
 use Rattle.seg_text.specs.Boundaries.{boundary_in}
 use Rattle.seg_text.specs.Cuts.{with_status}
