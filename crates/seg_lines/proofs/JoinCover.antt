@@ -1,12 +1,12 @@
 -- Boundaries that are joined with cuts between them cover what they covered, in a list and in a text.
-use Rattle.std.proofs.Common.{◌≡◌, ℕ, ◌<◌, ◌≤◌, inl, inr, List, [], ◌∷◌, length, map, refl, sym, ap, ◌∙◌, subst, arith}
+use Rattle.std.proofs.Common.{◌≡◌, ℕ, ◌<◌, ◌≤◌, inl, inr, List, [], ◌∷◌, length, map, refl, sym, subst, arith}
 use Rattle.std.proofs.lemmas.Bool.{cases_lt}
 use Rattle.std.proofs.lemmas.List.{length-map}
 use Rattle.seg_text.specs.declared.boundary.Boundary.{Boundary}
 use Rattle.seg_text.specs.Items.{Item, Text, IsRising, start_of, rest_after, code_points}
-use Rattle.seg_text.specs.Boundaries.{IsCover, RisesTo, boundary, boundary_in, boundaries_in, offsets, start}
+use Rattle.seg_text.specs.Boundaries.{IsCover, RisesTo, boundaries_in, offsets, start}
 use Rattle.seg_text.specs.Cuts.{cut_places}
-use Rattle.seg_text.specs.Stretches.{later_boundaries, list_boundaries}
+use Rattle.seg_text.specs.Stretches.{later_boundaries}
 use Rattle.seg_text.proofs.Covers.{covers-in, covers-list, place-between}
 use Rattle.seg_machine.specs.Checked.{IsChecked}
 use Rattle.seg_machine.specs.Machine.{Machine}

@@ -1,9 +1,9 @@
 -- What comes first of boundaries that are joined with cuts, and where both stand in a text.
-use Rattle.std.proofs.Common.{◌≡◌, ℕ, suc, ◌<◌, ◌≤◌, ◌⊎◌, inl, inr, ◌==◌, nat_lt, Bool, true, false, List, [], ◌∷◌, ◌++◌, length, map, refl, sym, ap, ◌∙◌, subst, arith, eq-eqb}
+use Rattle.std.proofs.Common.{◌≡◌, ℕ, suc, ◌<◌, ◌≤◌, inl, inr, ◌==◌, nat_lt, Bool, true, false, List, [], ◌∷◌, ◌++◌, length, map, refl, sym, ap, ◌∙◌, subst, arith, eq-eqb}
 use Rattle.std.specs.Prelude.{if◌then◌else◌, IfSome, Option, None, Some, ⊤}
 use Rattle.std.specs.Iterator.{MakesProgress, YieldsFirst, item_count}
 use Rattle.std.specs.Option.{option_to_list}
-use Rattle.std.proofs.lemmas.Bool.{cases_lt, eqb-true, false_from_ne_true, lt-ltb, ltb-true, ne_eqb}
+use Rattle.std.proofs.lemmas.Bool.{cases_lt, false_from_ne_true, lt-ltb, ltb-true, ne_eqb}
 use Rattle.seg_text.specs.declared.boundary.Boundary.{Boundary}
 use Rattle.seg_text.specs.Items.{Text, IsRising, start_of, rest_after}
 use Rattle.seg_text.specs.Boundaries.{Remainder, boundary, boundary_in, offsets, offsets_left}
@@ -126,9 +126,13 @@ module _ (text : Text) (rising : IsRising text.items text.end) where
 
 -- the next of what is joined
 
-first-taken : {S A : Type 0} (left : S → List A) (old new : S) (given : Option A) → YieldsFirst left old given new → option_to_list given ++ left new ≡ left old
+pub first-taken : {S A : Type 0} (left : S → List A) (old new : S) (given : Option A) → YieldsFirst left old given new → option_to_list given ++ left new ≡ left old
 first-taken left old new None (none, still) = still ∙ sym none
 first-taken left old new (Some first) is = sym is
+
+pub no-more : {S A : Type 0} (left : S → List A) (old new : S) (given : Option A) → YieldsFirst left old given new → given ≡ None → left new ≡ []
+no-more left old new None (none, still) is = still
+no-more left old new (Some first) gives is = absurd cc
 
 pub above-more : (low high : ℕ) (numbers : List ℕ) → low < high → AreAbove high numbers → AreAbove low numbers
 above-more low high [] below above = tt

@@ -3,3 +3,4 @@ pub mod Tailorings
 pub mod Joins
 pub mod JoinCover
 pub mod JoinMembers
+pub mod LineLaws

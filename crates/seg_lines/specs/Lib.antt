@@ -6,3 +6,4 @@ pub mod Joined
 pub mod First
 pub mod JoinedLeft
 pub mod LineRules
+pub mod LineRemainders

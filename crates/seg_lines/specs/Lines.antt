@@ -1,4 +1,4 @@
--- Lines: the machine that finds their breaks, the faults of its data, and what is seen of segmenters and iterators.
+-- Lines: what finds their breaks, the faults of its data, and what is seen of segmenters and iterators.
 use Rattle.std.specs.Prelude.{◌≡◌, ◌⊎◌, ℕ, ◌==◌, Bool, Option, Some, None, List}
 use Rattle.seg_data.specs.declared.provider.ComplexScript.{ComplexScript}
 use Rattle.seg_data.specs.declared.provider.DataError.{DataError}
@@ -7,8 +7,17 @@ use Rattle.seg_machine.specs.Machine.{Machine, with_tailoring}
 use Rattle.seg_machine.specs.MachineFaults.{HasComplexBelow0100, HasTailoringFault}
 use Rattle.seg_text.specs.declared.boundary.Boundary.{Boundary}
 use Rattle.seg_text.specs.Boundaries.{offsets}
-use Rattle.seg_engine.specs.Engine.{rules_of, owned_rules}
-use Rattle.seg_engine.specs.Rules.{Rules}
+use Rattle.seg_engine.specs.Rules.Rules.{ByMachine as ByClusterMachine}
+use Rattle.seg_dictionary.specs.ScriptWords.{ScriptWords, no_words, script_words}
+use Rattle.seg_clusters.specs.Clusters.{owned_cluster_rules}
+use Rattle.seg_machine.specs.Tailored.{machine_of, owned_machine}
+use Rattle.seg_complex.specs.Payloads.{payloads_of}
+use Rattle.seg_lines.specs.declared.finder.Finder.{Finder}
+use Rattle.seg_lines.specs.declared.finder.Finder.TheVariants.{Clusters as LentClusters, Machine as LentMachine}
+use Rattle.seg_lines.specs.declared.finder.OwnedFinder.{OwnedFinder}
+use Rattle.seg_lines.specs.declared.finder.OwnedFinder.TheVariants.{Clusters as OwnedClusters, Machine as OwnedMachine}
+use Rattle.seg_lines.specs.LineRules.{LineFinder, LineRules}
+use Rattle.seg_lines.specs.LineRules.LineFinder.{ByClusters, ByMachine}
 use Rattle.seg_lines.specs.declared.line.options.MachineChoice.{MachineChoice}
 use Rattle.seg_lines.specs.declared.line.options.MachineChoice.TheVariants.{Clusters, Lines}
 use Rattle.seg_lines.specs.LineTailorings.{TailoringMaps}
@@ -28,22 +37,44 @@ HasFaultWith lines None fault = fault ≡ MissingTailoring
 HasFaultWith lines (Some tailoring) fault =
     HasTailoringFault lines tailoring fault ⊎ ((fault ≡ ComplexBelow0100) × HasComplexBelow0100 (with_tailoring lines tailoring))
 
--- the machine that finds the breaks: that of clusters, or that of lines with its tailoring
-abbrev pub chosen_machine : Machine → TailoringMaps → Machine → MachineChoice → Machine
-chosen_machine lines tailorings clusters Clusters = clusters
-chosen_machine lines tailorings clusters (Lines name) = line_machine_for lines (tailoring_for tailorings name)
+-- what finds the breaks: clusters, or the line machine with its tailoring
+abbrev pub chosen_finder : Machine → TailoringMaps → MachineChoice → LineFinder
+chosen_finder lines tailorings Clusters = ByClusters
+chosen_finder lines tailorings (Lines name) = ByMachine (line_machine_for lines (tailoring_for tailorings name))
 
--- the faults of a line segmenter's data: none where the machine of clusters finds the breaks
+-- the rules of lines by machines, as yet without words of any script
+abbrev pub chosen_rules : Machine → TailoringMaps → Machine → MachineChoice → LineRules
+chosen_rules lines tailorings clusters choice = record {
+  finder = chosen_finder lines tailorings choice;
+  payloads = record { words = no_words; clusters = ByClusterMachine clusters };
+}
+
+-- the words of all scripts but Chinese and Japanese, between whose words no line is broken for them
+abbrev pub without_ja : ScriptWords → ScriptWords
+without_ja words = record { my = words.my; km = words.km; lo = words.lo; th = words.th; ja = None }
+
+-- the faults of a line segmenter's data: none where clusters find the breaks
 abbrev pub HasLineFault : Machine → TailoringMaps → MachineChoice → DataError → Type 0
 HasLineFault lines tailorings Clusters fault = ⊥
 HasLineFault lines tailorings (Lines name) fault = HasFaultWith lines (tailoring_for tailorings name) fault
 
--- what a segmenter finds line breaks by
-abbrev pub line_rules : LineSegmenterBorrowed → Rules
-line_rules segmenter = rules_of segmenter.engine
+abbrev pub finder_of : Finder → LineFinder
+finder_of LentClusters = ByClusters
+finder_of (LentMachine machine) = ByMachine (machine_of machine)
 
-abbrev pub owned_line_rules : LineSegmenter → Rules
-owned_line_rules segmenter = owned_rules segmenter.engine
+abbrev pub owned_finder : OwnedFinder → LineFinder
+owned_finder OwnedClusters = ByClusters
+owned_finder (OwnedMachine machine) = ByMachine (owned_machine machine)
+
+-- what a segmenter finds line breaks by
+abbrev pub line_rules : LineSegmenterBorrowed → LineRules
+line_rules segmenter = record { finder = finder_of segmenter.finder; payloads = payloads_of segmenter.payloads }
+
+abbrev pub owned_line_rules : LineSegmenter → LineRules
+owned_line_rules segmenter = record {
+  finder = owned_finder segmenter.finder;
+  payloads = record { words = script_words segmenter.dictionaries; clusters = owned_cluster_rules segmenter.clusters };
+}
 
 -- the boundaries that an iterator has still to give, and their places
 abbrev pub lines_left : {Y C I : Type 0} → LineBreakIterator Y C I → List Boundary

@@ -1,34 +1,47 @@
 //! Laws of the boundaries of lines. A break is mandatory where its status is 1, so what is said of statuses is said of marks.
 
-ghost use Rattle.seg_text.specs.Boundaries.{HasEqualOrdinals, HasRestart};
-ghost use Rattle.seg_text.specs.Stretches.{HasOneAnswer};
-ghost use Rattle.seg_engine.specs.Rules.{boundaries_by, first_stretch};
+ghost use Rattle.std.specs.Prelude.{◌≡◌, ℕ, List};
+ghost use Rattle.seg_text.specs.Boundaries.{HasEqualOrdinals, RestartsIn};
+ghost use Rattle.seg_dictionary.specs.ScriptWords.{ScriptWords, AreSameWords};
+ghost use Rattle.seg_lines.specs.LineRules.{HasNoCuts, HasOneList, LineRules, line_boundaries_by, with_words};
 ghost use Rattle.seg_lines.specs.Lines.{line_rules};
 
+use crate::finder::Finder;
 use crate::line::LineSegmenterBorrowed;
-use seg_engine::laws;
 
-/// Law: a list of code points has exactly one list of boundaries, in code points: the first is at its start, and each
-/// other one comes from the first stretch of what is left. Such a stretch is the machine's pick, or what the verdict of the
-/// table takes.
+/// Law: a list of code points has exactly one list of boundaries, in code points. Where clusters are found, the first is at
+/// its start, and each other one comes from the first stretch of what is left. By a machine of lines it is the list that rises
+/// strictly and holds the machine's boundaries, the cuts strictly inside runs where the machine has none, with status 0, and
+/// nothing else.
 pub fn boundaries_are_one(segmenter: LineSegmenterBorrowed<'_>)
-    ensures { HasOneAnswer (first_stretch (line_rules segmenter.entry)) }
+    ensures { HasOneList (line_rules segmenter.entry) }
 {
-    laws::boundaries_are_one(segmenter.engine);
+    segmenter.payloads.facts();
+    if let Finder::Machine(machine) = segmenter.finder {
+        machine.facts();
+    }
 }
 
 /// Law: two texts with equal code points, in whatever encodings, have the same boundaries, counted in code points, with
 /// the same statuses: one function of the rules and of the decoded list, which names no place, length or encoding.
 pub fn equal_code_points(segmenter: LineSegmenterBorrowed<'_>)
-    ensures { HasEqualOrdinals (boundaries_by (line_rules segmenter.entry)) }
+    ensures { HasEqualOrdinals (line_boundaries_by (line_rules segmenter.entry)) }
 {
-    laws::equal_code_points(segmenter.engine);
+    let _ = segmenter;
 }
 
-/// Law: a text may be segmented anew from any of its boundaries: for every list of code points, the boundaries after one of
-/// them are those of the rest taken alone, shifted, with the same statuses.
+/// Law: the words of each script are a set: in what order they come, and how often, changes no boundary.
+pub fn equal_words()
+    ensures { (rules : LineRules) (others : ScriptWords) → AreSameWords rules.payloads.words others
+        → line_boundaries_by (with_words rules others) ≡ line_boundaries_by rules }
+{}
+
+/// Law: with no dictionary in any place, or where clusters are found, a text may be segmented anew from any of its
+/// boundaries: for every list of code points, the boundaries after one of them are those of the rest taken alone, shifted,
+/// with the same statuses.
 pub fn restart(segmenter: LineSegmenterBorrowed<'_>)
-    ensures { HasRestart (boundaries_by (line_rules segmenter.entry)) }
+    ensures { (code_points : List ℕ) → HasNoCuts (line_rules segmenter.entry).finder (line_rules segmenter.entry).payloads.words
+        → RestartsIn (line_boundaries_by (line_rules segmenter.entry)) code_points }
 {
-    laws::restart(segmenter.engine);
+    let _ = segmenter;
 }

@@ -1,6 +1,8 @@
 //! Lines of texts: where they may be broken, and where they must be.
 #![tactic(auto)]
 
+mod boundaries;
+mod finder;
 mod joined;
 pub mod laws;
 pub mod line;

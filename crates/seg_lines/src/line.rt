@@ -7,9 +7,9 @@ ghost use Rattle.seg_text.specs.Latin1.{latin1};
 ghost use Rattle.seg_text.specs.Utf8.{utf8};
 ghost use Rattle.seg_text.specs.Utf16.{utf16};
 ghost use Rattle.seg_data.specs.Faults.{IsFaultless, IsLowestFault};
-ghost use Rattle.seg_engine.specs.Engine.{rules_of};
-ghost use Rattle.seg_engine.specs.Rules.{boundaries_of};
-ghost use Rattle.seg_engine.specs.Rules.Rules.{ByMachine};
+ghost use Rattle.seg_dictionary.specs.ScriptWords.{filled, lent_words, script_words};
+ghost use Rattle.seg_lines.specs.LineRules.{line_boundaries_of, with_words};
+ghost use Rattle.seg_lines.specs.Lines.{line_rules};
 ghost use Rattle.seg_lines.specs.Options.{machine_choice};
 
 mod neo;
@@ -18,14 +18,17 @@ mod tailorings;
 #[cfg(test)]
 mod tests;
 
+use crate::boundaries::Boundaries;
+use crate::finder::{Finder, OwnedFinder};
 use crate::provider::{LineTailorings, LineTailoringsBorrowed};
 use neo::{lent_line_machine, owned_line_machine};
 pub use options::{LineBreakOptions, LineBreakStrictness, LineBreakWordOption};
 use options::{MachineChoice, choice_of};
+use seg_clusters::grapheme::{GraphemeClusterSegmenter, GraphemeClusterSegmenterBorrowed};
+use seg_complex::complex::ComplexPayloadsBorrowed;
 use seg_data::provider::DataError;
-use seg_engine::engine::{Boundaries, Engine, OwnedEngine};
+use seg_dictionary::dictionaries::{Dictionaries, DictionariesBorrowed};
 use seg_machine::provider::SegmenterStateMachine;
-use seg_machine::tailored_machine::{TailoredMachine, TailoredMachineBorrowed};
 use seg_text::cursor::Cursor;
 use seg_text::indices::{Latin1Indices, StrCharIndices, Utf8CharIndices, Utf16Indices};
 use seg_text::scaffold::{Latin1, PotentiallyIllFormedUtf8, RuleBreakType, Utf8, Utf16};
@@ -87,35 +90,50 @@ impl<'data, 's, Y: RuleBreakType<'s>> Iterator for LineBreakIterator<'data, 's, 
 /// Finds line breaks with data of its own.
 #[derive(Debug, Drop)]
 pub struct LineSegmenter {
-    engine: OwnedEngine,
+    finder: OwnedFinder,
+    clusters: GraphemeClusterSegmenter,
+    dictionaries: Dictionaries,
 }
 
 impl LineSegmenter {
-    ghost use Rattle.seg_lines.specs.Lines.{line_rules, owned_line_rules, chosen_machine, HasLineFault};
+    ghost use Rattle.seg_lines.specs.Lines.{owned_line_rules, chosen_rules, without_ja, HasLineFault};
 
     /// A segmenter by the state machine of lines, or by that of clusters where the strictness is
     /// `Anywhere` and the word option `Normal`, which refuses nothing. Otherwise
     /// `ComplexBelow0100` where a code point below U+0100 has a script, with the tailoring that the
     /// options choose, `SymbolOutOfRange` where that tailoring doesn't fit the machine, and
-    /// `MissingTailoring` where it isn't there. Takes no memory. Runs of scripts that need a
-    /// dictionary are segmented by the machine alone.
+    /// `MissingTailoring` where it isn't there. Takes no memory. Once dictionaries are loaded, a line may also be
+    /// broken inside a run of a script that has one, between its words, which end with the clusters of their machine.
     pub fn try_new_neo_for_non_complex_scripts(
         machine: SegmenterStateMachine,
         tailorings: LineTailorings,
         clusters: SegmenterStateMachine,
         options: LineBreakOptions<'_>,
     ) -> Result<Self, DataError>
-        ensures accepted { IfOk result (λ segmenter. (owned_line_rules segmenter ≡ ByMachine (chosen_machine machine tailorings clusters (machine_choice options.entry)))
+        ensures accepted { IfOk result (λ segmenter. (owned_line_rules segmenter ≡ chosen_rules machine tailorings clusters (machine_choice options.entry))
             × IsFaultless (HasLineFault machine tailorings (machine_choice options.entry))) }
         ensures refused { IfErr result (IsLowestFault (HasLineFault machine tailorings (machine_choice options.entry))) }
     {
-        let machine = match choice_of(options) {
-            MachineChoice::Clusters => TailoredMachine::without_tailoring(clusters),
-            MachineChoice::Lines(name) => owned_line_machine(machine, tailorings, name)?,
+        let finder = match choice_of(options) {
+            MachineChoice::Clusters => OwnedFinder::Clusters,
+            MachineChoice::Lines(name) => {
+                OwnedFinder::Machine(owned_line_machine(machine, tailorings, name)?)
+            }
         };
         Ok(LineSegmenter {
-            engine: OwnedEngine::Neo(machine),
+            finder,
+            clusters: GraphemeClusterSegmenter::try_new_neo(clusters)?,
+            dictionaries: Dictionaries::none(),
         })
+    }
+
+    /// Takes the dictionaries of Myanmar, Khmer, Lao and Thai where there is none yet. Those that are there stay, and that of
+    /// Chinese and Japanese isn't taken. By `Anywhere` they change nothing. Takes no memory.
+    pub fn load_dictionary(&mut self, dictionaries: Dictionaries)
+        ensures { owned_line_rules self.new ≡ with_words (owned_line_rules self.old) (filled (owned_line_rules self.old).payloads.words (without_ja (script_words dictionaries))) }
+    {
+        let Dictionaries { my, km, lo, th, ja: _ } = dictionaries;
+        self.dictionaries.fill(Dictionaries { my, km, lo, th, ja: None });
     }
 
     /// The same segmenter over lent data, which segments texts.
@@ -123,7 +141,11 @@ impl LineSegmenter {
         ensures { line_rules result ≡ owned_line_rules self.now }
     {
         LineSegmenterBorrowed {
-            engine: self.engine.as_borrowed(),
+            finder: self.finder.as_borrowed(),
+            payloads: ComplexPayloadsBorrowed::new(
+                self.dictionaries.as_borrowed(),
+                self.clusters.as_borrowed(),
+            ),
         }
     }
 }
@@ -139,45 +161,61 @@ impl LineSegmenter {
 /// ```
 #[derive(Clone, Copy, Debug)]
 pub struct LineSegmenterBorrowed<'data> {
-    pub(crate) engine: Engine<'data>,
+    pub(crate) finder: Finder<'data>,
+    pub(crate) payloads: ComplexPayloadsBorrowed<'data>,
 }
 
 impl<'data> LineSegmenterBorrowed<'data> {
-    ghost use Rattle.seg_lines.specs.Lines.{line_rules, lines_left, is_mandatory, chosen_machine, HasLineFault};
+    ghost use Rattle.seg_lines.specs.Lines.{lines_left, is_mandatory, chosen_rules, without_ja, HasLineFault};
     ghost use Rattle.seg_lines.specs.LineTailorings.{lent_tailorings};
 
     /// A segmenter by the state machine of lines, or by that of clusters where the strictness is
     /// `Anywhere` and the word option `Normal`, which refuses nothing. Otherwise
     /// `ComplexBelow0100` where a code point below U+0100 has a script, with the tailoring that the
     /// options choose, `SymbolOutOfRange` where that tailoring doesn't fit the machine, and
-    /// `MissingTailoring` where it isn't there. Takes no memory. Runs of scripts that need a
-    /// dictionary are segmented by the machine alone.
+    /// `MissingTailoring` where it isn't there. Takes no memory. Once dictionaries are loaded, a line may also be
+    /// broken inside a run of a script that has one, between its words, which end with the clusters of their machine.
     pub fn new_neo_for_non_complex_scripts(
         machine: &'data SegmenterStateMachine,
         tailorings: LineTailoringsBorrowed<'data>,
         clusters: &'data SegmenterStateMachine,
         options: LineBreakOptions<'_>,
     ) -> Result<Self, DataError>
-        ensures accepted { IfOk result (λ segmenter. (line_rules segmenter ≡ ByMachine (chosen_machine machine.now (lent_tailorings tailorings.entry) clusters.now (machine_choice options.entry)))
+        ensures accepted { IfOk result (λ segmenter. (line_rules segmenter ≡ chosen_rules machine.now (lent_tailorings tailorings.entry) clusters.now (machine_choice options.entry))
             × IsFaultless (HasLineFault machine.now (lent_tailorings tailorings.entry) (machine_choice options.entry))) }
         ensures refused { IfErr result (IsLowestFault (HasLineFault machine.now (lent_tailorings tailorings.entry) (machine_choice options.entry))) }
     {
-        let machine = match choice_of(options) {
-            MachineChoice::Clusters => TailoredMachineBorrowed::without_tailoring(clusters),
-            MachineChoice::Lines(name) => lent_line_machine(machine, tailorings, name)?,
+        let finder = match choice_of(options) {
+            MachineChoice::Clusters => Finder::Clusters,
+            MachineChoice::Lines(name) => {
+                Finder::Machine(lent_line_machine(machine, tailorings, name)?)
+            }
         };
         Ok(LineSegmenterBorrowed {
-            engine: Engine::Neo(machine),
+            finder,
+            payloads: ComplexPayloadsBorrowed::new(
+                DictionariesBorrowed::none(),
+                GraphemeClusterSegmenterBorrowed::new_neo(clusters)?,
+            ),
         })
+    }
+
+    /// Takes the dictionaries of Myanmar, Khmer, Lao and Thai where there is none yet. Those that are there stay, and that of
+    /// Chinese and Japanese isn't taken. By `Anywhere` they change nothing. Takes no memory.
+    pub fn load_dictionary(&mut self, dictionaries: DictionariesBorrowed<'data>)
+        ensures { line_rules self.new ≡ with_words (line_rules self.old) (filled (line_rules self.old).payloads.words (without_ja (lent_words dictionaries.entry))) }
+    {
+        let DictionariesBorrowed { my, km, lo, th, ja: _ } = dictionaries;
+        self.payloads.load(DictionariesBorrowed { my, km, lo, th, ja: None });
     }
 
     /// The boundaries of the lines of a `str`, in bytes: those of its bytes as UTF-8, each with whether it is mandatory. Takes no memory.
     pub fn segment_str<'s>(self, input: &'s str) -> LineBreakIterator<'data, 's, Utf8>
-        ensures boundaries { lines_left result ≡ boundaries_of (line_rules self.entry) (utf8 input.now) }
+        ensures boundaries { lines_left result ≡ line_boundaries_of (line_rules self.entry) (utf8 input.now) }
         ensures cover { IsCover 0 (length input.now) (lines_left result) }
         ensures mark { is_mandatory result ≡ false }
     {
-        segment(self.engine, StrCharIndices::new(input))
+        segment(self, StrCharIndices::new(input))
     }
 
     /// The boundaries of the lines of possibly ill-formed UTF-8, in bytes. Each longest beginning of a
@@ -186,44 +224,44 @@ impl<'data> LineSegmenterBorrowed<'data> {
         self,
         input: &'s [u8],
     ) -> LineBreakIterator<'data, 's, PotentiallyIllFormedUtf8>
-        ensures boundaries { lines_left result ≡ boundaries_of (line_rules self.entry) (utf8 input.now) }
+        ensures boundaries { lines_left result ≡ line_boundaries_of (line_rules self.entry) (utf8 input.now) }
         ensures cover { IsCover 0 (length input.now) (lines_left result) }
         ensures mark { is_mandatory result ≡ false }
     {
-        segment(self.engine, Utf8CharIndices::new(input))
+        segment(self, Utf8CharIndices::new(input))
     }
 
     /// The boundaries of the lines of Latin-1, in bytes. Takes no memory.
     pub fn segment_latin1<'s>(self, input: &'s [u8]) -> LineBreakIterator<'data, 's, Latin1>
-        ensures boundaries { lines_left result ≡ boundaries_of (line_rules self.entry) (latin1 input.now) }
+        ensures boundaries { lines_left result ≡ line_boundaries_of (line_rules self.entry) (latin1 input.now) }
         ensures cover { IsCover 0 (length input.now) (lines_left result) }
         ensures mark { is_mandatory result ≡ false }
     {
-        segment(self.engine, Latin1Indices::new(input))
+        segment(self, Latin1Indices::new(input))
     }
 
     /// The boundaries of the lines of possibly ill-formed UTF-16, in 16-bit units. A surrogate that stands alone
     /// counts as itself. Takes no memory.
     pub fn segment_utf16<'s>(self, input: &'s [u16]) -> LineBreakIterator<'data, 's, Utf16>
-        ensures boundaries { lines_left result ≡ boundaries_of (line_rules self.entry) (utf16 input.now) }
+        ensures boundaries { lines_left result ≡ line_boundaries_of (line_rules self.entry) (utf16 input.now) }
         ensures cover { IsCover 0 (length input.now) (lines_left result) }
         ensures mark { is_mandatory result ≡ false }
     {
-        segment(self.engine, Utf16Indices::new(input))
+        segment(self, Utf16Indices::new(input))
     }
 }
 
 /// The lines of what is left of a text.
 fn segment<'data, 's, Y: RuleBreakType<'s>>(
-    engine: Engine<'data>,
+    segmenter: LineSegmenterBorrowed<'data>,
     text: Y::IterAttr,
 ) -> LineBreakIterator<'data, 's, Y>
-    ensures boundaries { result.boundaries.left ≡ boundaries_of (rules_of engine.entry) (Y.IterAttr.text text) }
+    ensures boundaries { result.boundaries.left ≡ line_boundaries_of (line_rules segmenter.entry) (Y.IterAttr.text text) }
     ensures cover { IsCover (start_of (Y.IterAttr.text text)) (Y.IterAttr.text text).end result.boundaries.left }
     ensures status { result.boundaries.status ≡ 0 }
 {
     LineBreakIterator {
-        boundaries: engine.boundaries(text),
+        boundaries: Boundaries::new(segmenter.finder, segmenter.payloads, text),
         text: PhantomData,
     }
 }

@@ -2,12 +2,19 @@
 
 ghost use Rattle.std.specs.Prelude.{◌≡◌, ⊤};
 ghost use Rattle.std.specs.Iterator.{YieldsFirst, MakesProgress, item_count};
-ghost use Rattle.seg_text.specs.Boundaries.{GivesNext, offsets_left};
+ghost use Rattle.seg_text.specs.Items.{start_of};
+ghost use Rattle.seg_text.specs.Boundaries.{GivesNext, IsCover, boundaries_in, offsets_left};
+ghost use Rattle.seg_machine.specs.Tailored.{machine_of};
+ghost use Rattle.seg_complex.specs.Payloads.{payloads_of};
 ghost use Rattle.seg_lines.specs.JoinedLeft.{all_left};
+ghost use Rattle.seg_lines.specs.LineRules.{boundaries_with};
+ghost use Rattle.seg_lines.specs.LineRules.LineFinder.{ByMachine};
 
 use crate::joined::{First, first_of};
+use seg_complex::complex::ComplexPayloadsBorrowed;
 use seg_complex::inner::InnerCuts;
 use seg_machine::rule_segmenter_v2::RuleBreakIterator;
+use seg_machine::tailored_machine::TailoredMachineBorrowed;
 use seg_text::boundary::Boundary;
 use seg_text::cursor::Cursor;
 use std::marker::Model;
@@ -39,6 +46,40 @@ impl<'data, I: Cursor> Model for JoinedBoundaries<'data, I> {
         × AreRising (option_to_list s.cut ++ s.cuts)
         × (s.boundary ≡ None → s.machine.left ≡ [])
         × (s.cut ≡ None → s.cuts ≡ []) };
+}
+
+impl<'data, I: Cursor> JoinedBoundaries<'data, I> {
+    /// The boundaries of what is left of a text. Takes no memory.
+    pub(crate) fn new(
+        machine: TailoredMachineBorrowed<'data>,
+        payloads: ComplexPayloadsBorrowed<'data>,
+        text: I,
+    ) -> Self
+        ensures boundaries { result.left ≡ boundaries_in (boundaries_with (ByMachine (machine_of machine.entry)) (payloads_of payloads.entry)) (I.text text) }
+        ensures cover { IsCover (start_of (I.text text)) (I.text text).end result.left }
+        ensures status { result.status ≡ 0 }
+    {
+        machine.facts();
+        payloads.facts();
+        let mut boundaries = RuleBreakIterator::new(machine, text.fork());
+        let boundary = next_boundary(&mut boundaries);
+        let mut cuts = InnerCuts::new(machine, payloads, text);
+        let cut = cuts.next();
+        JoinedBoundaries {
+            machine: boundaries,
+            boundary,
+            cuts,
+            cut,
+            status: 0,
+        }
+    }
+
+    /// The status of the boundary that was given last: 0 for the first, before it, at a cut alone, and after the end.
+    pub(crate) fn status(&self) -> u8
+        ensures { result ≡ self.now.status }
+    {
+        self.status
+    }
 }
 
 /// The next boundary of a machine.

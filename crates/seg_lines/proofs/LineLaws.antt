@@ -1,0 +1,103 @@
+-- Laws of the boundaries of lines.
+use Rattle.std.proofs.Common.{◌≡◌, ℕ, suc, List, drop, refl, sym, ap, ◌∙◌}
+use Rattle.std.specs.Prelude.{slice_get}
+use Rattle.seg_text.specs.declared.boundary.Boundary.{Boundary}
+use Rattle.seg_text.specs.Boundaries.{RestartsIn, shift_all}
+use Rattle.seg_text.specs.Stretches.{HasOneAnswer, later_boundaries}
+use Rattle.seg_text.proofs.Restarts.{restarts}
+use Rattle.seg_text.proofs.Stretches.{later-are, later-only, one-answer}
+use Rattle.seg_machine.specs.Checked.{IsChecked}
+use Rattle.seg_machine.specs.Machine.{Machine as AnyMachine}
+use Rattle.seg_machine.specs.Segments.{machine_boundaries, machine_stretch}
+use Rattle.seg_machine.proofs.Segmentations.{machine-alone, machine-going}
+use Rattle.seg_engine.specs.Rules.{first_stretch}
+use Rattle.seg_engine.proofs.ByRules.{going, restarts-by}
+use Rattle.seg_dictionary.specs.ScriptWords.{ScriptWords, AreSameWords}
+use Rattle.seg_complex.specs.InnerCuts.{inner_cuts, inner_stretch}
+use Rattle.seg_complex.specs.Payloads.{Payloads, piece_cuts_by}
+use Rattle.seg_complex.specs.RunCuts.{CoverPieces}
+use Rattle.seg_complex.proofs.EqualSpans.{same-inner-cuts}
+use Rattle.seg_complex.proofs.SpanStretches.{span-some}
+use Rattle.seg_complex.proofs.UnwordedSpans.{inner-none}
+use Rattle.seg_lines.specs.Joined.{joined}
+use Rattle.seg_lines.specs.LineRules.{AreBoundariesWith, HasNoCuts, HasOneList, LineFinder, LineRules, boundaries_with, line_boundaries_by, with_words}
+use Rattle.seg_lines.specs.LineRules.LineFinder.{ByClusters, ByMachine}
+use Rattle.seg_lines.specs.Lines.{finder_of}
+use Rattle.seg_lines.specs.declared.finder.Finder.{Finder}
+use Rattle.seg_lines.specs.declared.finder.Finder.TheVariants.{Clusters, Machine}
+use Rattle.seg_machine.specs.declared.tailored_machine.TailoredMachineBorrowed.{TailoredMachineBorrowed}
+use Rattle.seg_lines.proofs.JoinCover.{cuts-rising, plain-rising}
+use Rattle.seg_lines.proofs.JoinMembers.{is-join, one-join}
+
+-- by clusters
+
+clusters-one : (payloads : Payloads) → HasOneAnswer (first_stretch payloads.clusters)
+clusters-one payloads = one-answer (first_stretch payloads.clusters) (going payloads.clusters)
+
+one-by-clusters : (payloads : Payloads) → HasOneList (record { finder = ByClusters; payloads = payloads })
+one-by-clusters payloads = record { exists = (clusters-one payloads).exists; only = (clusters-one payloads).only }
+
+-- by a machine of lines
+
+module _ (m : AnyMachine) (payloads : Payloads) (checked : IsChecked m) (cover : CoverPieces (piece_cuts_by payloads)) where
+  machine-one : HasOneAnswer (machine_stretch m)
+  machine-one = one-answer (machine_stretch m) (machine-going m)
+
+  exists-by-machine : (code_points : List ℕ) → AreBoundariesWith (ByMachine m) payloads code_points (boundaries_with (ByMachine m) payloads code_points)
+  exists-by-machine code_points =
+      let spans = later-are (inner_stretch m payloads) (λ first rest. span-some m payloads.words first rest) code_points in
+      let join = is-join (machine_boundaries m code_points) (plain-rising m payloads checked cover code_points) (inner_cuts m payloads code_points) (cuts-rising m payloads checked cover code_points) in
+      (machine_boundaries m code_points, (machine-one.exists code_points, (later_boundaries (inner_stretch m payloads) code_points, (spans.0, (spans.1, join)))))
+
+  only-by-machine : (code_points : List ℕ) (found : List Boundary) → AreBoundariesWith (ByMachine m) payloads code_points found
+      → found ≡ boundaries_with (ByMachine m) payloads code_points
+  only-by-machine code_points found (boundaries, (are, (inner, (spans, (cuts, join))))) =
+      let plain : boundaries ≡ machine_boundaries m code_points = machine-one.only code_points boundaries are in
+      let cut : inner ≡ later_boundaries (inner_stretch m payloads) code_points = later-only (inner_stretch m payloads) (λ first rest. span-some m payloads.words first rest) code_points spans inner cuts in
+      one-join (machine_boundaries m code_points) (inner_cuts m payloads code_points) found (boundaries_with (ByMachine m) payloads code_points) (rw (plain, cut) at join)
+      (is-join (machine_boundaries m code_points) (plain-rising m payloads checked cover code_points) (inner_cuts m payloads code_points) (cuts-rising m payloads checked cover code_points))
+
+  pub one-by-machine : HasOneList (record { finder = ByMachine m; payloads = payloads })
+  one-by-machine = record { exists = exists-by-machine; only = only-by-machine }
+
+-- by what isn't a machine
+pub one-by : (finder : Finder) (payloads : Payloads) → ((machine : TailoredMachineBorrowed) → finder ≡ Machine machine → ⊥)
+    → HasOneList (record { finder = finder_of finder; payloads = payloads })
+one-by Clusters payloads none = one-by-clusters payloads
+one-by (Machine machine) payloads none = absurd (none machine refl)
+
+-- without words of any script nothing is joined
+
+pub without-cuts : (m : AnyMachine) (payloads : Payloads) (code_points : List ℕ) → HasNoCuts (ByMachine m) payloads.words
+    → boundaries_with (ByMachine m) payloads code_points ≡ machine_boundaries m code_points
+without-cuts m payloads code_points none = ap (joined (machine_boundaries m code_points)) (inner-none m payloads none code_points)
+
+-- what finds the same in a list and in what is left of it may be begun anew where the other may
+restarts-as : (find other : List ℕ → List Boundary) (xs : List ℕ) → ((n : ℕ) → find (drop n xs) ≡ other (drop n xs)) → RestartsIn other xs → RestartsIn find xs
+restarts-as find other xs same restart k boundary is =
+    ap (drop (suc k)) (same 0)
+    ∙ restart k boundary (sym (ap (λ (found : List Boundary). slice_get found k) (same 0)) ∙ is)
+    ∙ sym (ap (λ (found : List Boundary). shift_all boundary.offset (drop 1 found)) (same boundary.offset))
+
+restarts-with : (finder : LineFinder) (payloads : Payloads) (code_points : List ℕ) → HasNoCuts finder payloads.words
+    → RestartsIn (boundaries_with finder payloads) code_points
+restarts-with ByClusters payloads code_points none = restarts-by payloads.clusters code_points
+restarts-with (ByMachine m) payloads code_points none =
+    restarts-as (boundaries_with (ByMachine m) payloads) (machine_boundaries m) code_points
+    (λ n. without-cuts m payloads (drop n code_points) none) (restarts (machine_stretch m) (machine-going m) (machine-alone m) code_points)
+
+pub restarts-without : (rules : LineRules) (code_points : List ℕ) → HasNoCuts rules.finder rules.payloads.words
+    → RestartsIn (line_boundaries_by rules) code_points
+restarts-without rules = restarts-with rules.finder rules.payloads
+
+-- the words of each script are a set
+
+same-with : (finder : LineFinder) (payloads : Payloads) (others : ScriptWords) → AreSameWords payloads.words others
+    → boundaries_with finder (record { words = others; clusters = payloads.clusters }) ≡ boundaries_with finder payloads
+same-with ByClusters payloads others same = refl
+same-with (ByMachine m) payloads others same =
+    ap (λ (cuts : List ℕ → List ℕ). (λ code_points. joined (machine_boundaries m code_points) (cuts code_points))) (same-inner-cuts m payloads others same)
+
+pub equal-words : (rules : LineRules) (others : ScriptWords) → AreSameWords rules.payloads.words others
+    → line_boundaries_by (with_words rules others) ≡ line_boundaries_by rules
+equal-words rules others same = same-with rules.finder rules.payloads others same

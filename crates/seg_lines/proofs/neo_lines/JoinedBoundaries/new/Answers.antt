@@ -1,0 +1,50 @@
+use Rattle.std.proofs.Common.{◌≡◌, ℕ, List, ◌++◌, sym, ap, ◌∙◌, subst}
+use Rattle.std.specs.Option.{option_to_list}
+use Rattle.seg_text.specs.declared.boundary.Boundary.{Boundary}
+use Rattle.seg_text.specs.Items.{start_of}
+use Rattle.seg_text.specs.Boundaries.{IsCover, boundaries_in, offsets}
+use Rattle.seg_text.specs.Cuts.{cut_places}
+use Rattle.seg_machine.specs.Segments.{machine_boundaries}
+use Rattle.seg_machine.specs.Tailored.{machine_of}
+use Rattle.seg_complex.specs.InnerCuts.{inner_cuts}
+use Rattle.seg_complex.specs.Payloads.{payloads_of}
+use Rattle.seg_lines.specs.Joined.{AreRising, joined}
+use Rattle.seg_lines.specs.JoinedLeft.{all_left}
+use Rattle.seg_lines.proofs.JoinCover.{cover-rising, cut-places-rising, text-cover, text-joined}
+use Rattle.seg_lines.proofs.Joins.{first-taken, no-more}
+use Rattle.seg_lines.proofs.neo_lines.JoinedBoundaries.new.Goals as goal
+
+pub invariant_of-result : goal.invariant_of-result
+invariant_of-result g c =
+    let m = machine_of c.args.machine in
+    let payloads = payloads_of c.args.payloads in
+    let text = g.I.Cursor.text c.args.text in
+    let boundaries : option_to_list c.next_boundary-boundary.result ++ c.next_boundary-boundary.new.machine.left ≡ c.new-boundaries.result.left =
+    first-taken all_left c.new-boundaries.result c.next_boundary-boundary.new.machine c.next_boundary-boundary.result c.next_boundary-boundary.ensures in
+    let cuts : option_to_list c.next-cut.result ++ c.next-cut.new.self ≡ cut_places (inner_cuts m payloads) text =
+    first-taken (λ (left : List ℕ). left) c.new-cuts.result c.next-cut.new.self c.next-cut.result c.next-cut.ensures.steps ∙ c.new-cuts.ensures in (
+      subst (λ (found : List Boundary). AreRising (offsets found)) (sym boundaries) (cover-rising c.new-boundaries.result.left _ _ c.new-boundaries.ensures.cover),
+      subst AreRising (sym cuts) (cut-places-rising m payloads c.facts.ensures c.facts-2.ensures.pieces text (g.met.I.Cursor.rises c.args.text)),
+      no-more all_left c.new-boundaries.result c.next_boundary-boundary.new.machine c.next_boundary-boundary.result c.next_boundary-boundary.ensures,
+      no-more (λ (left : List ℕ). left) c.new-cuts.result c.next-cut.new.self c.next-cut.result c.next-cut.ensures.steps,
+    )
+
+pub returns-clause-boundaries : goal.returns-clause-boundaries
+returns-clause-boundaries g c =
+    let m = machine_of c.args.machine in
+    let payloads = payloads_of c.args.payloads in
+    let text = g.I.Cursor.text c.args.text in
+    let boundaries : option_to_list c.next_boundary-boundary.result ++ c.next_boundary-boundary.new.machine.left ≡ c.new-boundaries.result.left =
+    first-taken all_left c.new-boundaries.result c.next_boundary-boundary.new.machine c.next_boundary-boundary.result c.next_boundary-boundary.ensures in
+    let all = boundaries ∙ c.new-boundaries.ensures.left ∙ ap (λ fork. boundaries_in (machine_boundaries m) (g.I.Cursor.text fork)) c.fork.ensures in
+    let cuts : option_to_list c.next-cut.result ++ c.next-cut.new.self ≡ cut_places (inner_cuts m payloads) text =
+    first-taken (λ (left : List ℕ). left) c.new-cuts.result c.next-cut.new.self c.next-cut.result c.next-cut.ensures.steps ∙ c.new-cuts.ensures in
+    ap (λ (found : List Boundary). joined found (option_to_list c.next-cut.result ++ c.next-cut.new.self)) all
+    ∙ ap (joined (boundaries_in (machine_boundaries m) text)) cuts
+    ∙ sym (text-joined m payloads c.facts.ensures c.facts-2.ensures.pieces text (g.met.I.Cursor.rises c.args.text))
+
+pub returns-clause-cover : goal.returns-clause-cover
+returns-clause-cover g c =
+    let text = g.I.Cursor.text c.args.text in
+    subst (IsCover (start_of text) text.end) (sym (returns-clause-boundaries g c))
+    (text-cover (machine_of c.args.machine) (payloads_of c.args.payloads) c.facts.ensures c.facts-2.ensures.pieces text (g.met.I.Cursor.rises c.args.text))

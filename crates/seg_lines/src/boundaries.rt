@@ -1,0 +1,113 @@
+//! The boundaries of lines: those of clusters or of a machine as they are, or those of a machine joined with cuts.
+
+ghost use Rattle.std.specs.Prelude.{◌≡◌, ⊤};
+ghost use Rattle.std.specs.Iterator.{YieldsFirst, MakesProgress, item_count};
+ghost use Rattle.seg_text.specs.Items.{start_of};
+ghost use Rattle.seg_text.specs.Boundaries.{GivesNext, IsCover, boundaries_in, offsets_left};
+ghost use Rattle.seg_machine.specs.Tailored.{machine_of};
+ghost use Rattle.seg_complex.specs.Payloads.{payloads_of};
+ghost use Rattle.seg_lines.specs.LineRemainders.{remainder_by};
+ghost use Rattle.seg_lines.specs.LineRules.{boundaries_with};
+ghost use Rattle.seg_lines.specs.LineRules.LineFinder.{ByMachine};
+ghost use Rattle.seg_lines.specs.Lines.{finder_of};
+
+use crate::finder::Finder;
+use crate::neo_lines::JoinedBoundaries;
+use seg_complex::complex::ComplexPayloadsBorrowed;
+use seg_engine::engine::{self, Engine};
+use seg_machine::tailored_machine::TailoredMachineBorrowed;
+use seg_text::cursor::Cursor;
+use std::marker::Model;
+
+/// The boundaries of lines in a text, as places.
+#[derive(Debug, Drop)]
+pub(crate) struct Boundaries<'data, I: Cursor> {
+    by: BoundariesBy<'data, I>,
+}
+
+/// Which engine gives them.
+#[derive(Debug, Drop)]
+enum BoundariesBy<'data, I: Cursor> {
+    /// That of clusters, or of a machine where no script has words.
+    Plain(engine::Boundaries<'data, I>),
+    /// That of a machine, joined with the cuts inside runs.
+    Joined(JoinedBoundaries<'data, I>),
+}
+
+impl<'data, I: Cursor> BoundariesBy<'data, I> {
+    /// By a machine: without a dictionary of any script nothing is cut.
+    fn by_machine(
+        machine: TailoredMachineBorrowed<'data>,
+        payloads: ComplexPayloadsBorrowed<'data>,
+        text: I,
+    ) -> Self
+        ensures boundaries { (remainder_by result).left ≡ boundaries_in (boundaries_with (ByMachine (machine_of machine.entry)) (payloads_of payloads.entry)) (I.text text) }
+        ensures cover { IsCover (start_of (I.text text)) (I.text text).end (remainder_by result).left }
+        ensures status { (remainder_by result).status ≡ 0 }
+    {
+        if payloads.dictionaries.is_empty() {
+            return BoundariesBy::Plain(Engine::Neo(machine).boundaries(text));
+        }
+        BoundariesBy::Joined(JoinedBoundaries::new(machine, payloads, text))
+    }
+}
+
+impl<'data, I: Cursor> Model for Boundaries<'data, I> {
+    ghost use Rattle.seg_text.specs.Boundaries.{Remainder};
+    ghost use Rattle.seg_lines.specs.LineRemainders.{remainder_by};
+
+    ghost Value = { Remainder };
+
+    ghost view = { λ s. remainder_by s.by };
+}
+
+impl<'data, I: Cursor> Boundaries<'data, I> {
+    /// The boundaries of what is left of a text. Takes no memory.
+    pub(crate) fn new(
+        finder: Finder<'data>,
+        payloads: ComplexPayloadsBorrowed<'data>,
+        text: I,
+    ) -> Self
+        ensures boundaries { result.left ≡ boundaries_in (boundaries_with (finder_of finder.entry) (payloads_of payloads.entry)) (I.text text) }
+        ensures cover { IsCover (start_of (I.text text)) (I.text text).end result.left }
+        ensures status { result.status ≡ 0 }
+    {
+        match finder {
+            Finder::Clusters => Boundaries {
+                by: BoundariesBy::Plain(payloads.clusters.boundaries(text)),
+            },
+            Finder::Machine(machine) => Boundaries {
+                by: BoundariesBy::by_machine(machine, payloads, text),
+            },
+        }
+    }
+
+    /// The status of the boundary that was given last: 0 for the first, before it and after the end.
+    pub(crate) fn status(&self) -> u8
+        ensures { result ≡ self.now.status }
+    {
+        match &self.by {
+            BoundariesBy::Plain(engine) => engine.status(),
+            BoundariesBy::Joined(engine) => engine.status(),
+        }
+    }
+}
+
+impl<'data, I: Cursor> Iterator for Boundaries<'data, I> {
+    type Item = usize;
+
+    ghost next_gives = { YieldsFirst offsets_left };
+
+    ghost remaining = { item_count offsets_left };
+
+    #[inline(always)]
+    fn next(&mut self) -> Option<usize>
+        ensures steps { YieldsFirst offsets_left self.old result self.new × GivesNext self.old result self.new }
+        ensures goes { MakesProgress (λ _. ⊤) (item_count offsets_left) self.old result self.new }
+    {
+        match &mut self.by {
+            BoundariesBy::Plain(engine) => engine.next(),
+            BoundariesBy::Joined(engine) => engine.next(),
+        }
+    }
+}
