@@ -2,10 +2,10 @@
 ghost use Rattle.std.specs.Prelude.{◌≡◌, ◌==◌, Some, IfOk, IfErr, filter};
 ghost use Rattle.icu_segmenter.specs.Boundaries.{offsets};
 ghost use Rattle.icu_segmenter.specs.Faults.{IsLowestFault};
+ghost use Rattle.icu_segmenter.specs.LineRules.{line_boundaries_of, machine_lines};
 ghost use Rattle.icu_segmenter.specs.Lines.{HasFaultWith, line_rules, owned_line_rules};
 ghost use Rattle.icu_segmenter.specs.Machine.{with_tailoring};
-ghost use Rattle.icu_segmenter.specs.Rules.{boundaries_of};
-ghost use Rattle.icu_segmenter.specs.Rules.Rules.{ByMachine};
+ghost use Rattle.icu_segmenter.specs.ScriptWords.{no_words};
 ghost use Rattle.icu_segmenter.specs.Utf8.{utf8};
 
 use icu_segmenter::options::{LineBreakOptions, LineBreakWordOption};
@@ -21,7 +21,7 @@ pub fn mandatory_breaks(
     segmenter: LineSegmenterBorrowed<'_>,
     text: &str,
 ) -> Result<Vec<usize>, AllocError>
-    ensures { IfOk result (λ places. places.items ≡ offsets (filter (λ boundary. boundary.status == 1) (boundaries_of (line_rules segmenter.entry) (utf8 text.now)))) }
+    ensures { IfOk result (λ places. places.items ≡ offsets (filter (λ boundary. boundary.status == 1) (line_boundaries_of (line_rules segmenter.entry) (utf8 text.now)))) }
 {
     let mut lines = segmenter.segment_str(text);
     let mut places = Vec::new(alloc);
@@ -42,7 +42,7 @@ pub fn breakall_segmenter(
     breakall: SegmenterStateMachineOverride,
     clusters: SegmenterStateMachine,
 ) -> Result<LineSegmenter, DataError>
-    ensures accepted { IfOk result (λ segmenter. owned_line_rules segmenter ≡ ByMachine (with_tailoring machine (Some breakall))) }
+    ensures accepted { IfOk result (λ segmenter. owned_line_rules segmenter ≡ machine_lines (with_tailoring machine (Some breakall)) clusters no_words) }
     ensures refused { IfErr result (IsLowestFault (HasFaultWith machine (Some (Some breakall)))) }
 {
     let tailorings = LineTailorings {

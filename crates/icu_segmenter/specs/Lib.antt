@@ -30,6 +30,8 @@ pub use Rattle.seg_lines.specs.Options
 pub use Rattle.seg_lines.specs.Tailorings
 pub use Rattle.seg_lines.specs.LineTailorings
 pub use Rattle.seg_lines.specs.Lines
+pub use Rattle.seg_lines.specs.Joined
+pub use Rattle.seg_lines.specs.LineRules
 pub use Rattle.seg_text.specs.Cuts
 pub use Rattle.seg_pairs.specs.Runs
 pub use Rattle.seg_complex.specs.Scripts
@@ -43,6 +45,7 @@ pub use Rattle.seg_dictionary.specs.ScriptWords
 pub use Rattle.seg_complex.specs.DictionaryCuts
 pub use Rattle.seg_complex.specs.LaterPlaces
 pub use Rattle.seg_complex.specs.Payloads
+pub use Rattle.seg_complex.specs.InnerCuts
 pub use Rattle.seg_words.specs.WordRules
 pub use Rattle.seg_words.specs.WordFaults
 pub use Rattle.seg_words.specs.Words

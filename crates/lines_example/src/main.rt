@@ -2,9 +2,11 @@
 #![tactic(auto)]
 
 ghost use Rattle.std.specs.Prelude.{◌≡◌, Some, IfOk};
+ghost use Rattle.icu_segmenter.specs.LineRules.{machine_lines};
 ghost use Rattle.icu_segmenter.specs.Lines.{owned_line_rules};
 ghost use Rattle.icu_segmenter.specs.Machine.{with_tailoring};
-ghost use Rattle.icu_segmenter.specs.Rules.Rules.{ByMachine};
+ghost use Rattle.icu_segmenter.specs.ScriptWords.{no_words};
+ghost use Rattle.bench.specs.Clusters.{cluster_machine};
 ghost use Rattle.bench.specs.Lines.{line_machine, breakall};
 
 use bench::clusters::cluster_machine;
@@ -29,7 +31,7 @@ fn main(rt: HostRuntime) -> anyhow::Result<()> {
 
 /// A segmenter of lines that may be broken beside each letter.
 fn segmenter_of(alloc: Global) -> anyhow::Result<LineSegmenter>
-    ensures { IfOk result (λ segmenter. owned_line_rules segmenter ≡ ByMachine (with_tailoring line_machine (Some breakall))) }
+    ensures { IfOk result (λ segmenter. owned_line_rules segmenter ≡ machine_lines (with_tailoring line_machine (Some breakall)) cluster_machine no_words) }
 {
     let options = LineBreakOptions {
         word_option: Some(LineBreakWordOption::BreakAll),

@@ -7,6 +7,7 @@ use Rattle.seg_text.specs.Stretches.{AreBoundaries, AreLaterBoundaries, Stretch,
 use Rattle.seg_machine.specs.Machine.{Machine}
 use Rattle.seg_machine.specs.Segments.{machine_stretch}
 use Rattle.seg_engine.specs.Rules.{boundaries_by, first_stretch}
+use Rattle.seg_engine.specs.Rules.Rules.{ByMachine as ByClusterMachine}
 use Rattle.seg_dictionary.specs.ScriptWords.{ScriptWords, no_words}
 use Rattle.seg_complex.specs.InnerCuts.{inner_cuts, inner_stretch}
 use Rattle.seg_complex.specs.Payloads.{Payloads}
@@ -23,6 +24,10 @@ pub data LineFinder : Type 0 where
 pub record LineRules : Type 0 where
   pub finder : LineFinder
   pub payloads : Payloads
+
+-- by a machine of lines, with a machine of clusters and the words of scripts
+abbrev pub machine_lines : Machine → Machine → ScriptWords → LineRules
+machine_lines m clusters words = record { finder = ByMachine m; payloads = record { words = words; clusters = ByClusterMachine clusters } }
 
 -- the same with other words of scripts
 abbrev pub with_words : LineRules → ScriptWords → LineRules

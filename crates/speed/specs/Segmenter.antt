@@ -1,6 +1,7 @@
 -- The boundaries that each segmenter gives.
 use Rattle.std.specs.Prelude.{ℕ, Option, Some, None, List}
 use Rattle.icu_segmenter.specs.Clusters.{owned_cluster_rules}
+use Rattle.icu_segmenter.specs.LineRules.{LineRules, line_boundaries_of, machine_lines}
 use Rattle.icu_segmenter.specs.Lines.{owned_line_rules}
 use Rattle.icu_segmenter.specs.Machine.{Machine, machine}
 use Rattle.icu_segmenter.specs.PairTable.{PairTable, pair_table}
@@ -38,12 +39,15 @@ machine_with m None = m
 machine_with m (Some symbols) =
     machine symbols m.states m.transitions m.num_lookaheads m.pseudo_symbol_shift m.pseudo_symbol_map
 
--- the places of a text's boundaries by these rules, of clusters, sentences or lines, and of words
+-- the places of a text's boundaries by these rules, of clusters or sentences, of words and of lines
 abbrev pub places_by : Rules → Text → List ℕ
 places_by rules text = offsets (boundaries_of rules text)
 
 abbrev pub word_places_by : WordRules → Text → List ℕ
 word_places_by words text = offsets (word_boundaries_of words text)
+
+abbrev pub line_places_by : LineRules → Text → List ℕ
+line_places_by rules text = offsets (line_boundaries_of rules text)
 
 -- the places of boundaries by an engine's small data, with this class table in place of theirs if there is one
 abbrev pub segmentation_with : Engine → Option Table → Text → List ℕ
@@ -53,14 +57,14 @@ segmentation_with SentenceClassic classes = places_by (ByTable (table_with sente
 segmentation_with SentenceNeo classes = places_by (ByMachine (machine_with sentence_machine classes))
 segmentation_with WordClassic classes = word_places_by (table_words (table_with word_table classes) None cluster_table no_words)
 segmentation_with WordNeo classes = word_places_by (machine_words (machine_with word_machine classes) cluster_table no_words)
-segmentation_with LineNeo classes = places_by (ByMachine (machine_with line_machine classes))
+segmentation_with LineNeo classes = line_places_by (machine_lines (machine_with line_machine classes) cluster_machine no_words)
 
 -- the places of boundaries by a segmenter
 abbrev pub segmentation_of : Segmenter → Text → List ℕ
 segmentation_of (Clusters clusters) = places_by (owned_cluster_rules clusters)
 segmentation_of (Sentences sentences) = places_by (owned_sentence_rules sentences)
 segmentation_of (Words words) = word_places_by (owned_word_rules words)
-segmentation_of (Lines lines) = places_by (owned_line_rules lines)
+segmentation_of (Lines lines) = line_places_by (owned_line_rules lines)
 
 -- the boundaries of a text in UTF-8, counted and added up
 abbrev pub tally_by : (Text → List ℕ) → List ℕ → Tally

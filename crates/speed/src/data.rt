@@ -1,9 +1,11 @@
 //! The data of each engine, small and real.
 ghost use Rattle.std.specs.Prelude.{◌≡◌, None, IfOk};
+ghost use Rattle.bench.specs.Clusters.{cluster_machine};
+ghost use Rattle.icu_segmenter.specs.LineRules.{machine_lines};
 ghost use Rattle.icu_segmenter.specs.Rules.Rules.{ByTable, ByMachine};
 ghost use Rattle.icu_segmenter.specs.ScriptWords.{no_words};
 ghost use Rattle.icu_segmenter.specs.WordRules.{machine_words, table_words};
-ghost use Rattle.speed.specs.Segmenter.{machine_with, places_by, segmentation_of, segmentation_with, table_with, word_places_by};
+ghost use Rattle.speed.specs.Segmenter.{line_places_by, machine_with, places_by, segmentation_of, segmentation_with, table_with, word_places_by};
 
 use crate::engine::Engine;
 use crate::segmenter::Segmenter;
@@ -149,7 +151,7 @@ fn words_by_machine(machine: SegmenterStateMachine, clusters: RuleBreakData) -> 
 }
 
 fn lines_by_machine(alloc: Global, machine: SegmenterStateMachine) -> Result<Segmenter>
-    ensures { IfOk result (λ segmenter. segmentation_of segmenter ≡ places_by (ByMachine machine)) }
+    ensures { IfOk result (λ segmenter. segmentation_of segmenter ≡ line_places_by (machine_lines machine cluster_machine no_words)) }
 {
     let segmenter = LineSegmenter::try_new_neo_for_non_complex_scripts(
         machine,

@@ -5,7 +5,10 @@ use Rattle.icu_segmenter.specs.LineTailorings.{TailoringMaps}
 use Rattle.icu_segmenter.specs.declared.options.LineBreakOptions.{LineBreakOptions}
 use Rattle.icu_segmenter.specs.Machine.{Machine}
 use Rattle.icu_segmenter.specs.Options.{machine_choice}
-use Rattle.icu_segmenter.specs.Lines.{HasFaultWith, HasLineFault, chosen_machine}
+use Rattle.icu_segmenter.specs.Lines.{HasFaultWith, HasLineFault, chosen_rules, without_ja}
+use Rattle.icu_segmenter.specs.LineRules.{machine_lines}
+use Rattle.icu_segmenter.specs.ScriptWords.{ScriptWords, AreSameWords, no_words}
+use Rattle.icu_segmenter.specs.declared.provider.ComplexScript.TheVariants.{None as NoScript, Myanmar, ChineseOrJapanese, Khmer, Lao, Thai}
 use Rattle.bench.specs.Lines.{line_machine}
 use Rattle.bench.proofs.Scripts.{lines-not_complex}
 
@@ -22,5 +25,14 @@ module _ (machine : Machine) (tailorings : TailoringMaps) (options : LineBreakOp
   no-fault fault is has = none fault (rw (default.0, default.1.0, default.1.1, is) at has)
 
   -- the machine of lines finds the breaks as it is
-  pub chosen-plain : (clusters : Machine) → chosen_machine machine tailorings clusters (machine_choice options) ≡ machine
+  pub chosen-plain : (clusters : Machine) → chosen_rules machine tailorings clusters (machine_choice options) ≡ machine_lines machine clusters no_words
   chosen-plain clusters = rw (default.0, default.1.0, default.1.1) refl
+
+-- the same words of all scripts, and so of all but Chinese and Japanese
+pub same-without_ja : (words others : ScriptWords) → AreSameWords words others → AreSameWords (without_ja words) (without_ja others)
+same-without_ja words others same NoScript = tt
+same-without_ja words others same Myanmar = same Myanmar
+same-without_ja words others same ChineseOrJapanese = tt
+same-without_ja words others same Khmer = same Khmer
+same-without_ja words others same Lao = same Lao
+same-without_ja words others same Thai = same Thai

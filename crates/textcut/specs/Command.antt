@@ -5,6 +5,8 @@ use Rattle.icu_segmenter.specs.Utf8.{utf8}
 use Rattle.icu_segmenter.specs.Boundaries.{offsets}
 use Rattle.icu_segmenter.specs.Items.{Text}
 use Rattle.icu_segmenter.specs.Rules.{boundaries_of}
+use Rattle.icu_segmenter.specs.LineRules.{line_boundaries_of, machine_lines}
+use Rattle.icu_segmenter.specs.Lines.{without_ja}
 use Rattle.icu_segmenter.specs.WordRules.{machine_words, table_words, word_boundaries_of}
 use Rattle.icu_segmenter.specs.Rules.Rules.{ByTable, ByMachine}
 use Rattle.bench.specs.Clusters.{cluster_machine}
@@ -42,7 +44,7 @@ places_in SentenceClassic text = offsets (boundaries_of (ByTable sentence_table 
 places_in SentenceNeo text = offsets (boundaries_of (ByMachine sentence_machine) text)
 places_in WordClassic text = offsets (word_boundaries_of (table_words word_table None cluster_table dictionary_words) text)
 places_in WordNeo text = offsets (word_boundaries_of (machine_words word_machine cluster_table dictionary_words) text)
-places_in LineNeo text = offsets (boundaries_of (ByMachine line_machine) text)
+places_in LineNeo text = offsets (line_boundaries_of (machine_lines line_machine cluster_machine (without_ja dictionary_words)) text)
 
 -- .. and in the text of some bytes
 abbrev pub places_of : Command → List ℕ → List ℕ

@@ -269,12 +269,14 @@ fn print_line_breaks<O: Write>(alloc: Global, text: &[u8], out: &mut O) -> Resul
     let machine = line_machine(alloc)?;
     let clusters = cluster_machine(alloc)?;
     let tailorings = line_tailorings(alloc)?;
+    let dictionaries = dictionaries(alloc)?;
     let options = LineBreakOptions::default();
-    let Ok(lines) = LineSegmenter::try_new_neo_for_non_complex_scripts(
+    let Ok(mut lines) = LineSegmenter::try_new_neo_for_non_complex_scripts(
         machine, tailorings, clusters, options,
     ) else {
         unreachable!()
     };
+    lines.load_dictionary(dictionaries);
     print_numbers(lines.as_borrowed().segment_utf8(text), out)
 }
 

@@ -2,6 +2,7 @@
 use Rattle.std.proofs.Common.{◌∙◌, ap}
 use Rattle.icu_segmenter.specs.Clusters.{clusters_places}
 use Rattle.icu_segmenter.specs.Sentences.{sentences_places}
+use Rattle.icu_segmenter.specs.LineRules.{line_boundaries_of}
 use Rattle.icu_segmenter.specs.Lines.{line_places}
 use Rattle.icu_segmenter.specs.WordRules.{word_boundaries_of}
 use Rattle.icu_segmenter.specs.Words.{word_places}
@@ -29,4 +30,4 @@ returns-in-Words c =
 pub returns-in-Lines : goal.returns-in-Lines
 returns-in-Lines c =
     rw (c.in-Lines.is) (tally-is_left line_places _ _ _ c.tally_of-in-Lines.ensures
-    (ap offsets (c.segment_utf8-in-Lines.ensures.boundaries ∙ ap (λ rules. boundaries_of rules (utf8 c.args.text.now)) c.as_borrowed-in-Lines.ensures)))
+    (ap offsets (c.segment_utf8-in-Lines.ensures.boundaries ∙ ap (λ rules. line_boundaries_of rules (utf8 c.args.text.now)) c.as_borrowed-in-Lines.ensures)))
