@@ -52,8 +52,11 @@ none-within m clusters zero (first ∷ rest) bound = absurd (omega arith)
 none-within m clusters (suc most) (first ∷ rest) bound =
     let n = span_length m no_words (first ∷ rest) in
     let fewer : length (drop n (first ∷ rest)) ≤ most = omega (arith, length-drop n (first ∷ rest), span-some m no_words first rest, bound) in
-    rw (later-next (inner_stretch m (record { words = no_words; clusters = clusters })) (λ first rest. span-some m no_words first rest) first rest,
-      whole-words m first rest, none-within m clusters most (drop n (first ∷ rest)) fewer) refl
+    rw (
+      later-next (inner_stretch m (record { words = no_words; clusters = clusters })) (λ first rest. span-some m no_words first rest) first rest,
+      whole-words m first rest,
+      none-within m clusters most (drop n (first ∷ rest)) fewer,
+    ) refl
 
 pub inner-none : (m : Machine) (payloads : Payloads) → payloads.words ≡ no_words → (code_points : List ℕ) → inner_cuts m payloads code_points ≡ []
 inner-none m payloads none code_points =

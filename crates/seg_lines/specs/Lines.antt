@@ -49,7 +49,7 @@ chosen_rules lines tailorings clusters choice = record {
   payloads = record { words = no_words; clusters = ByClusterMachine clusters };
 }
 
--- the words of all scripts but Chinese and Japanese, between whose words no line is broken for them
+-- the words of all scripts but Chinese and Japanese
 abbrev pub without_ja : ScriptWords → ScriptWords
 without_ja words = record { my = words.my; km = words.km; lo = words.lo; th = words.th; ja = None }
 

@@ -12,6 +12,7 @@ ghost use Rattle.seg_lines.specs.LineRules.{line_boundaries_of, with_words};
 ghost use Rattle.seg_lines.specs.Lines.{line_rules};
 ghost use Rattle.seg_lines.specs.Options.{machine_choice};
 
+mod dictionaries;
 mod neo;
 mod options;
 mod tailorings;
@@ -21,6 +22,7 @@ mod tests;
 use crate::boundaries::Boundaries;
 use crate::finder::{Finder, OwnedFinder};
 use crate::provider::{LineTailorings, LineTailoringsBorrowed};
+use dictionaries::{lent_without_ja, without_ja};
 use neo::{lent_line_machine, owned_line_machine};
 pub use options::{LineBreakOptions, LineBreakStrictness, LineBreakWordOption};
 use options::{MachineChoice, choice_of};
@@ -132,8 +134,7 @@ impl LineSegmenter {
     pub fn load_dictionary(&mut self, dictionaries: Dictionaries)
         ensures { owned_line_rules self.new ≡ with_words (owned_line_rules self.old) (filled (owned_line_rules self.old).payloads.words (without_ja (script_words dictionaries))) }
     {
-        let Dictionaries { my, km, lo, th, ja: _ } = dictionaries;
-        self.dictionaries.fill(Dictionaries { my, km, lo, th, ja: None });
+        self.dictionaries.fill(without_ja(dictionaries));
     }
 
     /// The same segmenter over lent data, which segments texts.
@@ -205,8 +206,7 @@ impl<'data> LineSegmenterBorrowed<'data> {
     pub fn load_dictionary(&mut self, dictionaries: DictionariesBorrowed<'data>)
         ensures { line_rules self.new ≡ with_words (line_rules self.old) (filled (line_rules self.old).payloads.words (without_ja (lent_words dictionaries.entry))) }
     {
-        let DictionariesBorrowed { my, km, lo, th, ja: _ } = dictionaries;
-        self.payloads.load(DictionariesBorrowed { my, km, lo, th, ja: None });
+        self.payloads.load(lent_without_ja(dictionaries));
     }
 
     /// The boundaries of the lines of a `str`, in bytes: those of its bytes as UTF-8, each with whether it is mandatory. Takes no memory.

@@ -1,0 +1,26 @@
+//! The dictionaries that lines take.
+ghost use Rattle.std.specs.Prelude.{◌≡◌};
+ghost use Rattle.seg_dictionary.specs.ScriptWords.{lent_words, script_words};
+ghost use Rattle.seg_lines.specs.Lines.{without_ja};
+
+use seg_dictionary::dictionaries::{Dictionaries, DictionariesBorrowed};
+
+// All but that of Chinese and Japanese, between any two of whose characters a line may be broken.
+pub(super) fn without_ja(dictionaries: Dictionaries) -> Dictionaries
+    ensures { script_words result ≡ without_ja (script_words dictionaries) }
+{
+    Dictionaries {
+        ja: None,
+        ..dictionaries
+    }
+}
+
+// The same, lent.
+pub(super) fn lent_without_ja(dictionaries: DictionariesBorrowed<'_>) -> DictionariesBorrowed<'_>
+    ensures { lent_words result ≡ without_ja (lent_words dictionaries.entry) }
+{
+    DictionariesBorrowed {
+        ja: None,
+        ..dictionaries
+    }
+}
