@@ -1,6 +1,7 @@
 mod clusters;
 mod dictionaries;
 mod laws;
+mod line_dictionaries;
 mod lines;
 mod machines;
 mod pairs;

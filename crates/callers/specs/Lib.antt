@@ -1,2 +1,4 @@
 pub mod Spaces
 pub mod Tokens
+pub mod Counts
+pub mod LineEnds

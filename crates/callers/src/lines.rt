@@ -1,5 +1,6 @@
 //! Lines.
 ghost use Rattle.std.specs.Prelude.{◌≡◌, ◌==◌, Some, IfOk, IfErr, filter};
+ghost use Rattle.callers.specs.LineEnds.{ends_there, line_ends};
 ghost use Rattle.icu_segmenter.specs.Boundaries.{offsets};
 ghost use Rattle.icu_segmenter.specs.Faults.{IsLowestFault};
 ghost use Rattle.icu_segmenter.specs.LineRules.{line_boundaries_of, machine_lines};
@@ -31,6 +32,40 @@ pub fn mandatory_breaks(
         }
     }
     Ok(places)
+}
+
+/// Where the lines of a text end, in bytes, if each takes what fits in a width of so many bytes, and ends where it must. What no
+/// break divides stays whole, even if it is wider. The only error is want of memory.
+pub fn filled_lines(
+    alloc: Global,
+    segmenter: LineSegmenterBorrowed<'_>,
+    text: &str,
+    width: usize,
+) -> Result<Vec<usize>, AllocError>
+    ensures { IfOk result (λ ends. ends.items ≡ line_ends width (line_boundaries_of (line_rules segmenter.entry) (utf8 text.now))) }
+{
+    let mut breaks = segmenter.segment_str(text);
+    let mut ends = Vec::new(alloc);
+    let (mut begin, mut reached, mut must) = (0, 0, false);
+    while let Some(place) = breaks.next() {
+        if ends_there(width, begin, reached, must, place) {
+            ends.push(reached)?;
+            begin = reached;
+        }
+        reached = place;
+        must = breaks.is_mandatory();
+    }
+    if begin < reached {
+        ends.push(reached)?;
+    }
+    Ok(ends)
+}
+
+// Whether a line ends at the last boundary that it has reached.
+fn ends_there(width: usize, begin: usize, reached: usize, must: bool, next: usize) -> bool
+    ensures { result ≡ ends_there width begin reached must next }
+{
+    begin < reached && (must || next.saturating_sub(begin) > width)
 }
 
 /// A segmenter by the line machine with its tailoring for the word option `BreakAll`.

@@ -1,9 +1,9 @@
 // Each caller once, and the rows that the segmenters' pages show.
 use crate::clusters::cluster_places;
 use crate::data::{runs_by_machine, runs_by_table};
-use crate::lines::{breakall_segmenter, mandatory_breaks};
+use crate::lines::{breakall_segmenter, filled_lines, mandatory_breaks};
 use crate::sentences::sentence_boundary_count;
-use crate::words::tokens;
+use crate::words::{tokens, word_count};
 use bench::clusters::cluster_machine;
 use bench::dictionaries::dictionaries;
 use bench::lines::{breakall, line_machine};
@@ -63,6 +63,8 @@ fn finds_lines(rt: HostRuntime) -> Result<(), Fail> {
         mandatory_breaks(alloc, lines, "a b\nc")?.as_slice(),
         [4, 5].as_slice()
     );
+    let ends = filled_lines(alloc, lines, "one two three\nfour abcdefgh", 8)?;
+    assert_eq!(rt; ends.as_slice(), [8, 14, 19, 27].as_slice());
     Ok(())
 }
 
@@ -104,5 +106,6 @@ fn finds_words(rt: HostRuntime) -> Result<(), Fail> {
         tokens(alloc, words, "ภาษาไทย 42.")?.as_slice(),
         [(0, 12), (12, 21), (22, 24)].as_slice()
     );
+    assert_eq!(rt; word_count(words, "ภาษาไทย 42."), 3);
     Ok(())
 }

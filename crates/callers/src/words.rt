@@ -1,8 +1,8 @@
 //! Words.
-ghost use Rattle.std.specs.Prelude.{◌≡◌, IfOk};
+ghost use Rattle.std.specs.Prelude.{◌≡◌, IfOk, filter, length};
 ghost use Rattle.callers.specs.Tokens.{tokens as tokens_in};
 ghost use Rattle.icu_segmenter.specs.Utf8.{utf8};
-ghost use Rattle.icu_segmenter.specs.WordRules.{word_boundaries_of};
+ghost use Rattle.icu_segmenter.specs.WordRules.{ends_word, word_boundaries_of};
 ghost use Rattle.icu_segmenter.specs.Words.{word_rules};
 
 use icu_segmenter::WordSegmenterBorrowed;
@@ -27,4 +27,18 @@ pub fn tokens(
         begin = end;
     }
     Ok(tokens)
+}
+
+/// How many words a text has, of letters or numbers.
+pub fn word_count(segmenter: WordSegmenterBorrowed<'_>, text: &str) -> usize
+    ensures { result ≡ length (filter ends_word (word_boundaries_of (word_rules segmenter.entry) (utf8 text.now))) }
+{
+    let mut boundaries = segmenter.segment_str(text);
+    let mut count = 0;
+    while let Some(_end) = boundaries.next() {
+        if boundaries.is_word_like() {
+            count += 1;
+        }
+    }
+    count
 }

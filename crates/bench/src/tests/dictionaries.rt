@@ -1,11 +1,14 @@
 // Words of complex scripts, by dictionaries.
+use super::machines::waits_after_b;
 use super::word_tables::changed_words;
 use super::words::{LETTER, NONE, NUMBER, expect_agreement, expect_words};
 use crate::dictionaries::dictionaries;
 use crate::pair_tables::{cluster_table, word_table};
 use crate::words::word_machine;
 use icu_segmenter::options::{WordBreakOptions, WordType};
-use icu_segmenter::provider::{DataError, Dictionaries, DictionaryBreakData, RuleBreakData};
+use icu_segmenter::provider::{
+    DataError, Dictionaries, DictionaryBreakData, RuleBreakData, SegmenterStateMachine,
+};
 use icu_segmenter::{WordSegmenter, WordSegmenterBorrowed};
 use std::alloc::{AllocError, Global};
 use std::process::Abort;
@@ -170,12 +173,12 @@ fn expect_in_units(
 }
 
 // ภาษา, a lone surrogate and ไทย.
-const THAI_UNITS: [u16; 8] = [
+pub(super) const THAI_UNITS: [u16; 8] = [
     0x0E20, 0x0E32, 0x0E29, 0x0E32, 0xD800, 0x0E44, 0x0E17, 0x0E22,
 ];
 
 // ภาษา, an ill-formed byte and ไทย.
-const THAI_BYTES: [u8; 22] =
+pub(super) const THAI_BYTES: [u8; 22] =
     *b"\xE0\xB8\xA0\xE0\xB8\xB2\xE0\xB8\xA9\xE0\xB8\xB2\xFF\xE0\xB9\x84\xE0\xB8\x97\xE0\xB8\xA2";
 
 // U+20000, U+20001 and U+20000.
@@ -202,19 +205,19 @@ fn ill_formed_bytes_that_are_complex(rt: HostRuntime) -> Result<(), Fail> {
     Ok(expect_in_bytes(&rt, alloc, words, b"\xFF\xE0\xB8\x81", &[0, 1, 4])?)
 }
 
-/// The bench segmenter of words by a machine, where dictionaries are loaded after it is made.
-fn neo_segmenter(alloc: Global, dictionaries: Dictionaries) -> Result<WordSegmenter, Fail> {
-    let (machine, clusters) = (word_machine(alloc)?, cluster_table(alloc)?);
+/// A segmenter of words by a machine, where the bench dictionaries are loaded after it is made.
+fn neo_segmenter(alloc: Global, machine: SegmenterStateMachine) -> Result<WordSegmenter, Fail> {
+    let clusters = cluster_table(alloc)?;
     let options = WordBreakOptions::default();
     let mut words = WordSegmenter::try_new_neo_for_non_complex_scripts(machine, clusters, options)?;
-    words.load_dictionary(dictionaries);
+    words.load_dictionary(dictionaries(alloc)?);
     Ok(words)
 }
 
 #[test]
 fn words_by_machines_and_dictionaries(rt: HostRuntime) -> Result<(), Fail> {
     let alloc = rt.alloc();
-    let segmenter = neo_segmenter(alloc, dictionaries(alloc)?)?;
+    let segmenter = neo_segmenter(alloc, word_machine(alloc)?)?;
     let rows: [(&str, &[(usize, WordType)]); 6] = [
         (
             "12ไทยab",
@@ -248,9 +251,24 @@ fn words_by_machines_and_dictionaries(rt: HostRuntime) -> Result<(), Fail> {
 }
 
 #[test]
+fn boundary_before_a_run_is_the_pieces_last(rt: HostRuntime) -> Result<(), Fail> {
+    let alloc = rt.alloc();
+    let segmenter = neo_segmenter(alloc, waits_after_b(alloc)?)?;
+    let want = [(0, NONE), (1, NUMBER), (2, NONE), (5, LETTER)];
+    Ok(expect_words(&rt, alloc, segmenter.as_borrowed(), "abก", &want)?)
+}
+
+#[test]
+fn words_by_machines_and_dictionaries_have_equal_ordinals(rt: HostRuntime) -> Result<(), Fail> {
+    let alloc = rt.alloc();
+    let segmenter = neo_segmenter(alloc, word_machine(alloc)?)?;
+    Ok(expect_agreement(&rt, alloc, segmenter.as_borrowed())?)
+}
+
+#[test]
 fn ill_formed_texts_by_machines(rt: HostRuntime) -> Result<(), Fail> {
     let alloc = rt.alloc();
-    let segmenter = neo_segmenter(alloc, dictionaries(alloc)?)?;
+    let segmenter = neo_segmenter(alloc, word_machine(alloc)?)?;
     let words = segmenter.as_borrowed();
     expect_in_bytes(&rt, alloc, words, &THAI_BYTES, &[0, 12, 13, 22])?;
     Ok(expect_in_units(&rt, alloc, words, &THAI_UNITS, &[0, 4, 5, 8])?)

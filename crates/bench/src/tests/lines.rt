@@ -18,9 +18,9 @@ use std::alloc::{AllocError, Global};
 use std::process::Abort;
 use std::test::Fail;
 
-const BREAK_ALL: Option<LineBreakWordOption> = Some(LineBreakWordOption::BreakAll);
+pub(super) const BREAK_ALL: Option<LineBreakWordOption> = Some(LineBreakWordOption::BreakAll);
 
-const ANYWHERE: Option<LineBreakStrictness> = Some(LineBreakStrictness::Anywhere);
+pub(super) const ANYWHERE: Option<LineBreakStrictness> = Some(LineBreakStrictness::Anywhere);
 
 /// Where a text may be broken, and where it must be.
 #[derive(Drop)]
@@ -87,7 +87,7 @@ fn segmenter_of(
 }
 
 /// A segmenter by the bench data.
-fn bench_segmenter(
+pub(super) fn bench_segmenter(
     alloc: Global,
     options: LineBreakOptions<'_>,
 ) -> Result<Result<LineSegmenter, DataError>, AllocError> {
@@ -98,7 +98,7 @@ fn bench_segmenter(
 }
 
 /// Asserts where a text may be broken and where it must be, in `str`, and at equal ordinals in the other encodings.
-fn expect_lines(
+pub(super) fn expect_lines(
     rt: &impl Abort,
     alloc: Global,
     segmenter: LineSegmenterBorrowed<'_>,
@@ -285,16 +285,25 @@ fn lines_of_machines(rt: HostRuntime) -> Result<(), Fail> {
     expect_machine_lines(&rt, alloc, ends_before_b(alloc)?, strict, "abc", want)
 }
 
+/// Asserts that the breaks of all short texts, and those that are mandatory, are at equal ordinals in all encodings.
+pub(super) fn expect_agreement(
+    rt: &impl Abort,
+    alloc: Global,
+    segmenter: LineSegmenterBorrowed<'_>,
+) -> Result<(), AllocError> {
+    for number in 0..TEXTS {
+        let text = text_of(alloc, number)?;
+        let agree = lines_agree(alloc, segmenter, text.as_str())?;
+        assert!(rt; agree, "{text:?}");
+    }
+    Ok(())
+}
+
 #[test]
 fn lines_have_equal_ordinals(rt: HostRuntime) -> Result<(), Fail> {
     let alloc = rt.alloc();
     let segmenter = bench_segmenter(alloc, LineBreakOptions::default())??;
-    for number in 0..TEXTS {
-        let text = text_of(alloc, number)?;
-        let agree = lines_agree(alloc, segmenter.as_borrowed(), text.as_str())?;
-        assert!(rt; agree, "{text:?}");
-    }
-    Ok(())
+    Ok(expect_agreement(&rt, alloc, segmenter.as_borrowed())?)
 }
 
 /// Asserts what an iterator of lines gives, call by call, and whether the break is then a mandatory one.

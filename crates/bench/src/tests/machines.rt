@@ -21,6 +21,18 @@ fn machine_of(
     moves: &[Move],
     num_lookaheads: usize,
 ) -> Result<SegmenterStateMachine, Fail> {
+    machine_with_map(alloc, symbols, states, moves, num_lookaheads, &[])
+}
+
+/// The same with this map of pseudo symbols from 5 on.
+fn machine_with_map(
+    alloc: Global,
+    symbols: (&[(u32, u32, Symbol)], Symbol),
+    states: &[Entry],
+    moves: &[Move],
+    num_lookaheads: usize,
+    map: &[(Symbol, ComplexScript)],
+) -> Result<SegmenterStateMachine, Fail> {
     let table = ClassTable::try_from_ranges(Vec::from_slice(alloc, symbols.0)?, symbols.1)?;
     let count = states.len();
     let mut transitions = vec![in alloc; 255; 60]?;
@@ -32,7 +44,7 @@ fn machine_of(
         }
     }
     let states = Vec::from_slice(alloc, states)?;
-    let map = Vec::new(alloc);
+    let map = Vec::from_slice(alloc, map)?;
     let machine = SegmenterStateMachine::try_from_parts(
         table,
         states,
@@ -152,4 +164,40 @@ pub(super) fn tailoring_of(
 ) -> Result<SegmenterStateMachineOverride, Fail> {
     let map = Vec::from_slice(alloc, map)?;
     Ok(SegmenterStateMachineOverride::try_from_parts(map)?)
+}
+
+/// After `a` alone a number ends, and after `aba` and after Thai letters do; where `b` ends a text, the boundary after `a`
+/// before it is still to come.
+pub(super) fn waits_after_b(alloc: Global) -> Result<SegmenterStateMachine, Fail> {
+    let symbols: [(u32, u32, Symbol); 3] = [(0x61, 0x61, 2), (0x62, 0x62, 3), (0xE01, 0xE3A, 5)];
+    let (number, letters) = ((Acceptance::Accept(1), None), (Acceptance::Accept(2), None));
+    let states = [GOES_ON, ENDS, number, GOES_ON, letters];
+    let moves = [
+        (0, 1, 1),
+        (0, 2, 2),
+        (0, 3, 1),
+        (0, 4, 4),
+        (2, 3, 3),
+        (3, 2, 4),
+        (4, 4, 4),
+    ];
+    let map = [(4, ComplexScript::Thai)];
+    machine_with_map(alloc, (&symbols, 1), &states, &moves, 0, &map)
+}
+
+/// A segment is one character; U+0E01 is Thai.
+pub(super) fn single_characters(alloc: Global) -> Result<SegmenterStateMachine, Fail> {
+    let symbols: [(u32, u32, Symbol); 1] = [(0xE01, 0xE01, 5)];
+    let states = [GOES_ON, ENDS];
+    let map = [(1, ComplexScript::Thai)];
+    machine_with_map(alloc, (&symbols, 1), &states, &[(0, 1, 1)], 0, &map)
+}
+
+/// A segment is two characters, with status 1, or one at the end; U+0E01 is Thai.
+pub(super) fn pairs_of_characters(alloc: Global) -> Result<SegmenterStateMachine, Fail> {
+    let symbols: [(u32, u32, Symbol); 1] = [(0xE01, 0xE01, 5)];
+    let states = [GOES_ON, ENDS, (Acceptance::Accept(1), None)];
+    let map = [(1, ComplexScript::Thai)];
+    let moves = [(0, 1, 1), (1, 1, 2)];
+    machine_with_map(alloc, (&symbols, 1), &states, &moves, 0, &map)
 }

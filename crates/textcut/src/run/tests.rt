@@ -54,6 +54,17 @@ fn prints_classic_boundaries(rt: HostRuntime) {
 }
 
 #[test]
+fn prints_boundaries_by_machines_and_dictionaries(rt: HostRuntime) {
+    for (kind, text, lines) in [
+        ("word", "12ไทยab", "0\n2\n11\n13\n"),
+        ("line", "ภาษาไทยaภาษาไทย", "0\n12\n34\n43\n"),
+    ] {
+        let ran = run_on(rt.alloc(), &[kind, "neo"], &mut text.as_bytes());
+        assert!(rt; ran.is(0, lines, ""), "{kind} {text:?}");
+    }
+}
+
+#[test]
 fn prints_the_boundaries_of_each_kind(rt: HostRuntime) {
     for (kind, lines) in [
         ("grapheme", "0\n1\n2\n3\n4\n5\n6\n7\n8\n9\n"),
