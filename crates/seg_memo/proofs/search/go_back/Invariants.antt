@@ -1,0 +1,7 @@
+use Rattle.seg_memo.proofs.search.go_back.Given as goal
+
+abbrev pub ghost-cell : goal.ghost-cell
+ghost-cell g a = g.scan.subject
+
+abbrev pub ghost-write : goal.ghost-write
+ghost-write g a = g.scan.subject

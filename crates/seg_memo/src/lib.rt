@@ -1,0 +1,7 @@
+//! The memoised engine: the boundaries of a text by a checked machine, where no configuration is looked up twice.
+#![tactic(auto)]
+
+pub mod configuration;
+pub mod reader;
+mod search;
+mod table;
