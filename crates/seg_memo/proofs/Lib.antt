@@ -5,3 +5,5 @@ pub mod Counts
 pub mod Scanning
 pub mod Ways
 pub mod Turns
+pub mod Picking
+pub mod Segments

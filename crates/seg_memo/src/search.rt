@@ -2,6 +2,7 @@
 
 ghost use Rattle.std.specs.Prelude.{◌≡◌, ◌≢◌, ℕ, [], Some, suc, ◌+◌, ◌<◌, ◌≤◌, ◌^◌, length, drop, min, slice_index_or};
 ghost use Rattle.seg_text.specs.declared.boundary.Boundary.{Boundary as AnyBoundary};
+ghost use Rattle.seg_text.specs.Boundaries.{shift};
 ghost use Rattle.seg_text.specs.Items.{rest_after};
 ghost use Rattle.seg_machine.specs.Pick.{pick};
 ghost use Rattle.seg_machine.specs.Tailored.{machine_of};
@@ -159,4 +160,46 @@ fn outcome_from<I: Cursor, R: ReadTransitions>(
     let mut iter = rest.fork();
     let (last, outcome) = go_forward(machine, reader, table, &mut iter, first);
     go_back(machine, table, last, outcome)
+}
+
+/// Goes on by an item.
+pub(crate) fn skip<I: Cursor>(rest: &mut I)
+    ensures { I.text rest.new ≡ rest_after 1 (I.text rest.old) }
+{
+    match rest.next_item() {
+        Some(_) => {}
+        None => {}
+    }
+}
+
+/// Goes on to the end of the next segment: where it is in the whole text, counted in items, and its status.
+#[inline(never)]
+pub(crate) fn next_segment<I: Cursor, R: ReadTransitions>(
+    machine: &TailoredMachineBorrowed<'_>,
+    reader: &mut R,
+    table: &mut Table,
+    text: &I,
+    rest: &mut I,
+    start: usize,
+) -> Boundary
+    ghost subject: { Subject }
+    requires read { IsReadBy subject (machine_of machine.now) (R.states reader.old) (R.transitions reader.old) }
+    requires memo { IsMemo subject (grid table.old) start }
+    requires count { R.counted reader.old ≡ filled table.old.cells.items }
+    requires rest { IsAt subject (machine_of machine.now) start (I.text rest.old).items }
+    requires some { (I.text rest.old).items ≢ [] }
+    ensures read { IsReadBy subject (machine_of machine.now) (R.states reader.new) (R.transitions reader.new) }
+    ensures memo { IsMemo subject (grid table.new) result.offset }
+    ensures count { R.counted reader.new ≡ filled table.new.cells.items }
+    ensures segment { (p : AnyBoundary) × (pick subject.machine (drop start subject.symbols) ≡ Some p) × (result ≡ shift start p)
+        × (I.text rest.new ≡ rest_after p.offset (I.text rest.old)) }
+{
+    let outcome = outcome_from(machine, reader, table, rest, start);
+    let Some(found) = picked(outcome) else {
+        unreachable!()
+    };
+    for item in start..found.offset {
+        skip(rest);
+    }
+    found
 }
