@@ -7,3 +7,5 @@ pub mod Ways
 pub mod Turns
 pub mod Picking
 pub mod Segments
+pub mod Different
+pub mod Memoised
