@@ -9,3 +9,4 @@ pub mod Picking
 pub mod Segments
 pub mod Different
 pub mod Memoised
+pub mod Fresh

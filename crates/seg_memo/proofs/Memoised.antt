@@ -1,6 +1,7 @@
 -- The iterator, of what its code has in hand.
-use Rattle.std.proofs.Common.{◌≡◌, ◌≢◌, ℕ, ◌+◌, ◌<◌, ◌≤◌, ◌==◌, Bool, true, false, Some, List, [], ◌∷◌, length, drop, map, refl, sym, ap, ◌∙◌, subst, arith}
+use Rattle.std.proofs.Common.{◌≡◌, ◌≢◌, ℕ, ◌+◌, ◌^◌, ◌<◌, ◌≤◌, ◌==◌, Bool, true, false, Some, List, [], ◌∷◌, length, drop, map, refl, sym, ap, ◌∙◌, subst, arith}
 use Rattle.std.proofs.lemmas.List.{drop-map, length-map}
+use Rattle.std.proofs.lemmas.Bool.Decides.{nat_tests}
 use Rattle.std.specs.Prelude.{⊤}
 use Rattle.std.specs.Iterator.{MakesProgress, item_count}
 use Rattle.seg_text.specs.Items.{Item, Text, code_points, rest_after, start_of}
@@ -67,3 +68,6 @@ memo-next m after_reading text left rest given lookups lookups_after place start
     rw same
     (gives-memo m text rest given lookups lookups_after place started status b on (subst (λ (x : Text). x.items ≢ []) is some)
     (found.0, found.1, found.2, found.3 ∙ ap (rest_after found.0.offset) is) begins)
+
+pub counted-all : (items left all : ℕ) → items + left ≡ all → (left == 0) ≡ true → items < 2 ^ 64 → (all < 2 ^ 64) × (items ≡ all)
+counted-all items left all is none fits = let zero : left ≡ 0 = grind (arith, nat_tests) in (omega (arith, is, zero, fits), omega (arith, is, zero))

@@ -71,7 +71,7 @@ scan-part s c d sound within on =
 pub start-within : (s : Subject) (start : ℕ) → IsSound s → start ≤ length s.symbols → IsWithin s (start_at start)
 start-within s start sound within = record { state = sound.checked.some_state; place = within; kept = pow_pos s.machine.num_lookaheads }
 
-all-nil : (s : Subject) → all_look_ups s [] ≡ []
+pub all-nil : (s : Subject) → all_look_ups s [] ≡ []
 unfolding all_look_ups
 all-nil s = refl
 
@@ -82,20 +82,20 @@ all-cons s start starts = refl
 pub all-within : (s : Subject) (starts : List ℕ) (place : ℕ) → IsSound s → AreStarts s starts place → place ≤ length s.symbols → AreWithin s (all_look_ups s starts)
 all-within s [] place sound are within d on = absurd (subst (IsOn d) (all-nil s) on)
 all-within s (start ∷ starts) place sound are within d on =
-    let less : start ≤ length s.symbols = omega (arith, within, are.0.2) in
+    let less : start ≤ length s.symbols = omega (arith, within, are.1) in
     elim (on-append d (look_ups s (start_at start)) (all_look_ups s starts) (subst (IsOn d) (all-cons s start starts) on)) [
       | inl first ↦ scan-within s (start_at start) sound (start-within s start sound less) d first
-      | inr rest ↦ all-within s starts start sound are.1 less d rest
+      | inr rest ↦ all-within s starts start sound are.2 less d rest
     ]
 
 pub all-part : (s : Subject) (starts : List ℕ) (place : ℕ) (d : Configuration) → IsSound s → AreStarts s starts place → place ≤ length s.symbols → IsOn d (all_look_ups s starts)
     → AreOf s (look_ups s d) (all_look_ups s starts)
 all-part s [] place d sound are within on = absurd (subst (IsOn d) (all-nil s) on)
 all-part s (start ∷ starts) place d sound are within on =
-    let less : start ≤ length s.symbols = omega (arith, within, are.0.2) in
+    let less : start ≤ length s.symbols = omega (arith, within, are.1) in
     λ i has.
     ap (has_number s i) (all-cons s start starts) ∙ has-append s i (look_ups s (start_at start)) (all_look_ups s starts)
     ∙ elim (on-append d (look_ups s (start_at start)) (all_look_ups s starts) (subst (IsOn d) (all-cons s start starts) on)) [
       | inl first ↦ or-left (has_number s i (look_ups s (start_at start))) (has_number s i (all_look_ups s starts)) (scan-part s (start_at start) d sound (start-within s start sound less) first i has)
-      | inr rest ↦ or-right (has_number s i (look_ups s (start_at start))) (has_number s i (all_look_ups s starts)) (all-part s starts start d sound are.1 less rest i has)
+      | inr rest ↦ or-right (has_number s i (look_ups s (start_at start))) (has_number s i (all_look_ups s starts)) (all-part s starts start d sound are.2 less rest i has)
     ]

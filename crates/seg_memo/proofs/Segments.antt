@@ -65,28 +65,30 @@ nonempty m [] some = absurd (some refl)
 nonempty m (item ∷ items) some = λ e. cc
 
 -- a segment ends in the text
-pub segment-within : (s : Subject) (m : Machine) (states : ℕ) (transitions : List ℕ) (place : ℕ) (items : List Item) (b : Boundary) → IsReadBy s m states transitions → IsAt s m place items
-    → items ≢ [] → place ≤ length s.symbols → Segment s place b → b.offset ≤ length s.symbols
+segment-within : (s : Subject) (m : Machine) (states : ℕ) (transitions : List ℕ) (place : ℕ) (items : List Item) (b : Boundary) → IsReadBy s m states transitions → IsAt s m place items
+    → items ≢ [] → place ≤ length s.symbols → Segment s place b → (place < b.offset) × (b.offset ≤ length s.symbols)
 segment-within s m states transitions place items b read here some within segment =
     let left : drop place s.symbols ≢ [] = subst (λ (xs : List ℕ). xs ≢ []) (own-symbols s m states transitions place items read here) (nonempty s.machine items some) in
     let bounds = pick-bounds s.machine (drop place s.symbols) segment.p segment.picks left in
     let offset : b.offset ≡ place + segment.p.offset = ap (λ (x : Boundary). x.offset) segment.is in
-    omega (arith, bounds.1, offset, length-drop place s.symbols, within)
+    (omega (arith, bounds.0, offset), omega (arith, bounds.1, offset, length-drop place s.symbols, within))
 
 -- the scans with this one more
 pub segment-memo : (s : Subject) (m : Machine) (states : ℕ) (transitions : List ℕ) (g : Grid) (place : ℕ) (o : Outcome) (items : List Item) (b : Boundary)
     → IsScanned s g place o → IsReadBy s m states transitions → IsAt s m place items → items ≢ [] → Segment s place b → IsMemo s g b.offset
-segment-memo s m states transitions g place o items b scanned read here some segment = record {
-  starts = place ∷ scanned.starts;
-  are = ((segment.p, segment.picks, ap (λ (x : Boundary). x.offset) segment.is), scanned.are);
-  within = segment-within s m states transitions place items b read here some scanned.within segment;
-  table = scanned.table;
-  filling = λ i.
-      scanned.filling i
-      ∙ sym (ap (λ (c : Bool). c || has_number s i (all_look_ups s (place ∷ scanned.starts))) (has-nil s i)
-      ∙ ap (has_number s i) (all-cons s place scanned.starts)
-      ∙ has-append s i (look_ups s (start_at place)) (all_look_ups s scanned.starts));
-}
+segment-memo s m states transitions g place o items b scanned read here some segment =
+    let bounds = segment-within s m states transitions place items b read here some scanned.within segment in
+    record {
+      starts = place ∷ scanned.starts;
+      are = ((segment.p, segment.picks, ap (λ (x : Boundary). x.offset) segment.is), bounds.0, scanned.are);
+      within = bounds.1;
+      table = scanned.table;
+      filling = λ i.
+          scanned.filling i
+          ∙ sym (ap (λ (c : Bool). c || has_number s i (all_look_ups s (place ∷ scanned.starts))) (has-nil s i)
+          ∙ ap (has_number s i) (all-cons s place scanned.starts)
+          ∙ has-append s i (look_ups s (start_at place)) (all_look_ups s scanned.starts));
+    }
 
 -- going on item by item
 pub skip-start : (text : Text) (place : ℕ) → text ≡ rest_after (place - place) text

@@ -1,5 +1,5 @@
 -- Configurations of scans, those that a scan looks up, and how many different ones there are.
-use Rattle.std.specs.Prelude.{◌≡◌, ℕ, suc, ◌+◌, ◌*◌, ◌^◌, ◌==◌, ◌&&◌, ◌||◌, Bool, false, if◌then◌else◌, Option, Some, None, List, [], ◌∷◌, ◌++◌, drop, min, length, replicate}
+use Rattle.std.specs.Prelude.{◌≡◌, ℕ, suc, ◌+◌, ◌*◌, ◌^◌, ◌<◌, ◌==◌, ◌&&◌, ◌||◌, Bool, false, if◌then◌else◌, Option, Some, None, List, [], ◌∷◌, ◌++◌, drop, min, length, replicate}
 use Rattle.std.specs.Option.{option_map_or}
 use Rattle.seg_text.specs.declared.boundary.Boundary.{Boundary}
 use Rattle.seg_machine.specs.Machine.{Machine, run, state_at}
@@ -67,12 +67,14 @@ unfoldable pub all_look_ups : Subject → List ℕ → List Configuration
 all_look_ups s [] = []
 all_look_ups s (start ∷ starts) = look_ups s (start_at start) ++ all_look_ups s starts
 
--- the segments up to a place begin at these places, the last of them first: each ends with the pick of what was left of
--- the text where it begins
+-- the segments up to a place begin at these places, the last of them first: each has some symbols, and ends with the pick
+-- of what is left of the text where it begins
 abbrev pub AreStarts : Subject → List ℕ → ℕ → Type 0
 AreStarts s [] place = place ≡ 0
 AreStarts s (start ∷ starts) place =
-    ((p : Boundary) × (pick s.machine (drop start s.symbols) ≡ Some p) × (place ≡ start + p.offset)) × AreStarts s starts start
+    ((p : Boundary) × (pick s.machine (drop start s.symbols) ≡ Some p) × (place ≡ start + p.offset))
+    × (start < place)
+    × AreStarts s starts start
 
 abbrev pub is_same : Configuration → Configuration → Bool
 is_same c d = c.state == d.state && (c.place == d.place && c.kept == d.kept)

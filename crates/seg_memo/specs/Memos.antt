@@ -7,11 +7,12 @@ use Rattle.seg_machine.specs.Machine.{Machine, symbols_of}
 use Rattle.seg_machine.specs.Segments.{machine_stretch}
 use Rattle.seg_memo.specs.Configurations.{Subject, subject}
 
--- the machine, the whole text, how many of its items the segments given so far have, what is still to come, and how many
--- transitions were looked up
+-- the machine, the whole text, whether its first boundary was given, how many of its items the segments given so far
+-- have, what is still to come, and how many transitions were looked up
 pub record Memo : Type 0 where
   pub machine : Machine
   pub text : Text
+  pub started : Bool
   pub given : ℕ
   pub coming : Remainder
   pub lookups : ℕ
@@ -20,6 +21,7 @@ abbrev pub memo : Machine → Text → ℕ → Bool → ℕ → ℕ → Memo
 memo m text given started status lookups = record {
   machine = m;
   text = text;
+  started = started;
   given = given;
   coming = remainder started (machine_stretch m) (rest_after given text) status;
   lookups = lookups;

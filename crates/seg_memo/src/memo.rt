@@ -1,6 +1,6 @@
 //! The boundaries of a text by a state machine, where no configuration is looked up twice.
 
-ghost use Rattle.std.specs.Prelude.{◌≡◌, ◌<◌, ◌≤◌, ◌+◌, ◌*◌, ◌^◌, ⊤, ℕ, IfOk, IfErr, SomeIff, length};
+ghost use Rattle.std.specs.Prelude.{◌≡◌, ◌<◌, ◌≤◌, ◌+◌, ◌*◌, ◌^◌, ◌⊎◌, ⊤, ℕ, false, IfOk, IfErr, SomeIff, length};
 ghost use Rattle.std.specs.Iterator.{YieldsFirst, MakesProgress, item_count};
 ghost use Rattle.seg_text.specs.Boundaries.{GivesNext, boundaries_in};
 ghost use Rattle.seg_text.specs.Items.{code_points, rest_after};
@@ -85,6 +85,70 @@ impl<'data, I: Cursor, R: ReadTransitions> MemoBreakIterator<'data, I, R> {
         ensures bound { result ≤ configurations self.now.machine (length self.now.text.items) }
     {
         self.reader.count()
+    }
+}
+
+/// How many items are left of a text, unless there are more than the greatest `usize`.
+fn count_items<I: Cursor>(text: &I) -> Option<usize>
+    ensures { SomeIff result (length (I.text text.now).items < 2 ^ 64) (length (I.text text.now).items) }
+{
+    let mut rest = text.fork();
+    let mut items = 0usize;
+    'items: while !rest.is_at_end() {
+        items = items.checked_add(1)?;
+        skip(&mut rest);
+    }
+    Some(items)
+}
+
+/// How many configurations there are, unless there are more than the greatest `usize`.
+fn count_configurations(states: usize, sets: usize, items: usize) -> Option<usize>
+    requires { (0 < states) × (0 < sets) }
+    ensures { SomeIff result (states * sets * (items + 1) < 2 ^ 64) (states * sets * (items + 1)) }
+{
+    states.checked_mul(sets)?.checked_mul(items.checked_add(1)?)
+}
+
+impl<'data, I: Cursor> MemoBreakIterator<'data, I, CountedTransitions<'data>> {
+    /// The boundaries of what is left of `text`. One growth makes the room for all configurations; nothing takes memory
+    /// after that. `TooLarge` where there are more of them than the greatest `usize`: no memory is asked for then.
+    pub fn try_new(
+        alloc: Global,
+        machine: TailoredMachineBorrowed<'data>,
+        text: I,
+    ) -> Result<Self, MemoError>
+        ensures made { IfOk result (λ s. (s.machine ≡ machine_of machine.entry) × (s.text ≡ I.text text) × (s.started ≡ false) × (s.given ≡ 0) × (s.lookups ≡ 0)
+            × (s.coming.left ≡ boundaries_in (machine_boundaries (machine_of machine.entry)) (I.text text)) × (s.coming.status ≡ 0)) }
+        ensures fits { IfOk result (λ s. configurations s.machine (length s.text.items) ≤ usize.MAX) }
+        ensures refused { IfErr result (λ e. ((e ≡ TooLarge) × (usize.MAX < configurations (machine_of machine.entry) (length (I.text text).items)))
+            ⊎ ((e ≡ Memory) × (configurations (machine_of machine.entry) (length (I.text text).items) ≤ usize.MAX))) }
+    {
+        machine.facts();
+        let states = machine.machine().states().len();
+        let sets = 1 << machine.num_lookaheads();
+        let Some(items) = count_items(&text) else {
+            return Err(MemoError::TooLarge);
+        };
+        let Some(count) = count_configurations(states, sets, items) else {
+            return Err(MemoError::TooLarge);
+        };
+        let Ok(cells) = vec![in alloc; Cell::Unknown; count] else {
+            return Err(MemoError::Memory);
+        };
+        Ok(MemoBreakIterator {
+            machine,
+            reader: CountedTransitions::new(machine.machine()),
+            table: Table {
+                states,
+                sets,
+                cells,
+            },
+            rest: text.fork(),
+            text,
+            place: 0,
+            started: false,
+            status: 0,
+        })
     }
 }
 
