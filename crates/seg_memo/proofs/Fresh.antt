@@ -10,7 +10,7 @@ use Rattle.seg_machine.specs.Machine.{Machine, symbol_and_script, symbol_count, 
 use Rattle.seg_memo.specs.declared.configuration.Configuration.{Configuration}
 use Rattle.seg_memo.specs.declared.configuration.Cell.{Cell}
 use Rattle.seg_memo.specs.declared.configuration.Cell.TheVariants.{Unknown, First, Way, KnownNothing, KnownPicked, KnownKept}
-use Rattle.seg_memo.specs.Configurations.{Subject, all_look_ups, configurations, reading, subject}
+use Rattle.seg_memo.specs.Configurations.{AreStarts, Subject, all_look_ups, configurations, reading, subject}
 use Rattle.seg_memo.specs.Grids.{AreFilled, Grid, IsFit, IsMemo, IsRight, IsSound, IsTable, cell, filled, has_number, is_filled, is_filled_at, number}
 use Rattle.seg_memo.proofs.Counts.{count-none, has-nil}
 use Rattle.seg_memo.proofs.Scanning.{all-nil}
@@ -95,3 +95,33 @@ first-memo m transitions text states sets items count cells checked t states_are
       size = ap length made ∙ length-replicate count Unknown ∙ fits.1 ∙ all ∙ ap (configurations m) (sym (symbols-length m text));
     })
     (none-filled cells count made))
+
+-- another reader, before the first scan
+
+first-unfilled : (s : Subject) (g : Grid) → IsMemo s g 0 → (i : ℕ) → is_filled_at g.cells i ≡ false
+first-unfilled s g memo i = on memo.starts memo.are (memo.filling i)
+  where
+    on : (starts : List ℕ) → AreStarts s starts 0 → is_filled_at g.cells i ≡ (has_number s i [] || has_number s i (all_look_ups s starts)) → is_filled_at g.cells i ≡ false
+    on [] are is =
+        is ∙ ap (λ (b : Bool). b || has_number s i (all_look_ups s [])) (has-nil s i) ∙ ap (has_number s i) (all-nil s) ∙ has-nil s i
+    on (start ∷ starts) are is = absurd (omega (arith, are.1))
+
+pub other-memo : (m : Machine) (before after : List ℕ) (place : ℕ) (text : List Item) (g : Grid)
+    → IsMemo (subject (reading m before) (symbols_of (reading m before) (code_points text))) g place → place ≡ 0 → IsChecked (reading m after)
+    → IsMemo (subject (reading m after) (symbols_of (reading m after) (code_points text))) g 0
+other-memo m before after place text g memo is checked =
+    let old = subject (reading m before) (symbols_of (reading m before) (code_points text)) in
+    let new = subject (reading m after) (symbols_of (reading m after) (code_points text)) in
+    let first : IsMemo old g 0 = subst (IsMemo old g) is memo in
+    let room : configurations m (length text) < 2 ^ 64 = subst (λ (n : ℕ). configurations m n < 2 ^ 64) (symbols-length (reading m before) text) first.table.fit.sound.room in
+    fresh-memo new g
+    (record {
+      sound = fresh-sound (reading m after) text checked room;
+      states = first.table.fit.states;
+      sets = first.table.fit.sets;
+      size = first.table.fit.size ∙ ap (configurations m) (symbols-length (reading m before) text ∙ sym (symbols-length (reading m after) text));
+    })
+    (first-unfilled old g first)
+
+pub other-count : (s : Subject) (g : Grid) (place counted : ℕ) → IsMemo s g place → place ≡ 0 → counted ≡ 0 → counted ≡ filled g.cells
+other-count s g place counted memo is none = fresh-count g.cells counted (first-unfilled s g (subst (IsMemo s g) is memo)) none

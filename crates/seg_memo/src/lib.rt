@@ -6,3 +6,5 @@ pub mod memo;
 pub mod reader;
 mod search;
 mod table;
+#[cfg(test)]
+mod tests;

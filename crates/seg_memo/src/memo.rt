@@ -4,10 +4,10 @@ ghost use Rattle.std.specs.Prelude.{◌≡◌, ◌<◌, ◌≤◌, ◌+◌, ◌*
 ghost use Rattle.std.specs.Iterator.{YieldsFirst, MakesProgress, item_count};
 ghost use Rattle.seg_text.specs.Boundaries.{GivesNext, boundaries_in};
 ghost use Rattle.seg_text.specs.Items.{code_points, rest_after};
-ghost use Rattle.seg_machine.specs.Machine.{symbols_of};
+ghost use Rattle.seg_machine.specs.Checked.{IsChecked};
 ghost use Rattle.seg_machine.specs.Segments.{machine_boundaries};
 ghost use Rattle.seg_machine.specs.Tailored.{machine_of};
-ghost use Rattle.seg_memo.specs.Configurations.{AreLookedUp, configurations};
+ghost use Rattle.seg_memo.specs.Configurations.{AreLookedUp, configurations, reading};
 ghost use Rattle.seg_memo.specs.Memos.{memo_places, subject_of};
 ghost use Rattle.seg_memo.specs.declared.memo.MemoError.TheVariants.{Memory, TooLarge};
 
@@ -85,6 +85,42 @@ impl<'data, I: Cursor, R: ReadTransitions> MemoBreakIterator<'data, I, R> {
         ensures bound { result ≤ configurations self.now.machine (length self.now.text.items) }
     {
         self.reader.count()
+    }
+}
+
+impl<'data, I: Cursor, R: ReadTransitions> MemoBreakIterator<'data, I, R> {
+    /// The same, all but the transitions, which are the reader's: no boundary was given yet, the reader counts from 0 and has as
+    /// many states as the machine, and the machine with its transitions has no fault.
+    pub fn with_reader<R2: ReadTransitions>(self, reader: R2) -> MemoBreakIterator<'data, I, R2>
+        requires started { self.started ≡ false }
+        requires count { R2.counted reader ≡ 0 }
+        requires states { R2.states reader ≡ length self.machine.states }
+        requires checked { IsChecked (reading self.machine (R2.transitions reader)) }
+        ensures machine { result.machine ≡ reading self.entry.machine (R2.transitions reader) }
+        ensures text { result.text ≡ self.entry.text }
+        ensures started { (result.started ≡ false) × (result.given ≡ 0) × (result.lookups ≡ 0) × (result.coming.status ≡ 0) }
+        ensures boundaries { result.coming.left ≡ boundaries_in (machine_boundaries (reading self.entry.machine (R2.transitions reader))) self.entry.text }
+    {
+        let MemoBreakIterator {
+            machine,
+            reader: _,
+            table,
+            text,
+            rest,
+            place: _,
+            started: _,
+            status: _,
+        } = self;
+        MemoBreakIterator {
+            machine,
+            reader,
+            table,
+            text,
+            rest,
+            place: 0,
+            started: false,
+            status: 0,
+        }
     }
 }
 
