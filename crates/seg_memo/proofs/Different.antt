@@ -1,9 +1,9 @@
 -- How many different configurations a list has, and how many cells are filled.
-use Rattle.std.proofs.Common.{◌≡◌, ◌≢◌, ℕ, zero, suc, ◌+◌, ◌*◌, ◌^◌, ◌<◌, ◌≤◌, ◌⊎◌, ◌==◌, ◌||◌, ◌&&◌, Bool, true, false, cond, List, [], ◌∷◌, length, get_or, refl, sym, ap, ◌∙◌, subst, arith, inl, inr, eq-eqb}
+use Rattle.std.proofs.Common.{◌≡◌, ◌≢◌, ℕ, suc, ◌≤◌, ◌⊎◌, ◌==◌, ◌||◌, ◌&&◌, Bool, true, false, List, [], ◌∷◌, length, refl, sym, ap, ◌∙◌, subst, arith, inl, inr, eq-eqb}
 use Rattle.std.proofs.lemmas.Bool.{cases_eq, cases_Bool, ne_eqb, false≢true}
 use Rattle.seg_memo.specs.declared.configuration.Configuration.{Configuration}
-use Rattle.seg_memo.specs.Configurations.{AreLookedUp, AreStarts, Subject, all_look_ups, configuration, configurations, different, is_in, is_same}
-use Rattle.seg_memo.specs.Grids.{AreFilled, Grid, IsMemo, IsOn, IsSound, IsWithin, count_below, filled, has_number, is_filled_at, number}
+use Rattle.seg_memo.specs.Configurations.{AreLookedUp, Subject, all_look_ups, configuration, configurations, different, is_in, is_same}
+use Rattle.seg_memo.specs.Grids.{Grid, IsMemo, IsWithin, count_below, filled, has_number, is_filled_at, number}
 use Rattle.seg_memo.proofs.Numbers.{number-below, number-same}
 use Rattle.seg_memo.proofs.Counts.{AreWithin, count-bound, count-more, count-none, count-same, eqb-true, has-cons, has-nil}
 use Rattle.seg_memo.proofs.Scanning.{all-within}
@@ -91,13 +91,15 @@ different-count s (c ∷ cs) within =
 
 -- the filled cells are those of the different look-ups
 pub looked-up : (s : Subject) (g : Grid) (place counted : ℕ) → IsMemo s g place → counted ≡ filled g.cells → AreLookedUp s place counted
-looked-up s g place counted memo count =
-    (memo.starts, memo.are,
-    count
-    ∙ ap (count_below (is_filled_at g.cells)) memo.table.fit.size
-    ∙ count-same (is_filled_at g.cells) (λ i. has_number s i (all_look_ups s memo.starts)) (configurations s.machine (length s.symbols))
-    (λ i less. memo.filling i ∙ ap (λ (b : Bool). b || has_number s i (all_look_ups s memo.starts)) (has-nil s i))
-    ∙ sym (different-count s (all_look_ups s memo.starts) (all-within s memo.starts place memo.table.fit.sound memo.are memo.within)))
+looked-up s g place counted memo count = (
+  memo.starts,
+  memo.are,
+  count
+      ∙ ap (count_below (is_filled_at g.cells)) memo.table.fit.size
+      ∙ count-same (is_filled_at g.cells) (λ i. has_number s i (all_look_ups s memo.starts)) (configurations s.machine (length s.symbols))
+      (λ i less. memo.filling i ∙ ap (λ (b : Bool). b || has_number s i (all_look_ups s memo.starts)) (has-nil s i))
+      ∙ sym (different-count s (all_look_ups s memo.starts) (all-within s memo.starts place memo.table.fit.sound memo.are memo.within)),
+)
 
 pub memo-bound : (s : Subject) (g : Grid) (place counted items : ℕ) → IsMemo s g place → counted ≡ filled g.cells → length s.symbols ≡ items → counted ≤ configurations s.machine items
 memo-bound s g place counted items memo count long =

@@ -1,15 +1,14 @@
 -- What follows a configuration, its outcome, and what a scan looks up from it on.
-use Rattle.std.proofs.Common.{◌≡◌, ◌≢◌, ℕ, zero, suc, ◌+◌, ◌-◌, ◌*◌, ◌/◌, ◌^◌, ◌<◌, ◌≤◌, ◌⊎◌, Option, Some, None, List, [], ◌∷◌, ◌++◌, length, drop, get_or, map, replicate, min, refl, sym, ap, ◌∙◌, subst, arith, drop-cons, inl, inr, length-append}
+use Rattle.std.proofs.Common.{◌≡◌, ℕ, suc, ◌+◌, ◌-◌, ◌^◌, ◌<◌, ◌≤◌, Option, Some, None, List, [], ◌∷◌, ◌++◌, length, drop, get_or, map, replicate, min, refl, sym, ap, ◌∙◌, subst, arith, drop-cons, inl, inr, length-append}
 use Rattle.std.specs.Prelude.{IfSome}
 use Rattle.std.specs.Option.{option_map_or}
-use Rattle.std.proofs.lemmas.Bool.{cases_lt, cases_eq, cond-true, cond-false, ne_eqb, eq-eqb}
+use Rattle.std.proofs.lemmas.Bool.{cases_lt, cases_eq, ne_eqb, eq-eqb}
 use Rattle.std.proofs.lemmas.List.{get_or_past, drop_all, length-drop, length-replicate}
 use Rattle.std.proofs.lemmas.Nat.{or_lt, pow_below}
-use Rattle.seg_text.specs.declared.boundary.Boundary.{Boundary}
 use Rattle.seg_text.specs.Boundaries.{boundary}
 use Rattle.seg_machine.specs.declared.provider.Acceptance.{Acceptance}
 use Rattle.seg_machine.specs.declared.provider.Acceptance.TheVariants.{Continue, Accept, Conditional}
-use Rattle.seg_machine.specs.Machine.{Machine, step, run, state_at, symbol_count}
+use Rattle.seg_machine.specs.Machine.{Machine, step, run, state_at}
 use Rattle.seg_machine.specs.MachineFaults.{NamesPast}
 use Rattle.seg_machine.specs.Search.{keep}
 use Rattle.seg_machine.specs.Checked.{IsChecked}
@@ -17,10 +16,9 @@ use Rattle.seg_machine.proofs.Scanned.{run-more}
 use Rattle.seg_memo.specs.declared.configuration.Configuration.{Configuration}
 use Rattle.seg_memo.specs.declared.configuration.Outcome.{Outcome}
 use Rattle.seg_memo.specs.declared.configuration.Outcome.TheVariants.{Nothing, Picked, Kept}
-use Rattle.seg_memo.specs.declared.configuration.LookUp.{LookUp}
 use Rattle.seg_memo.specs.declared.configuration.LookUp.TheVariants.{Ends, Leads}
 use Rattle.seg_memo.specs.Configurations.{Subject, configuration, following, condition_held, entering, look_ups_on, look_ups}
-use Rattle.seg_memo.specs.Outcomes.{entered, at, outcome, outcome_at, arrival, look_up, IfLeads}
+use Rattle.seg_memo.specs.Outcomes.{entered, at, outcome, outcome_at, arrival, look_up}
 use Rattle.seg_memo.specs.Grids.{IsSound, IsWithin}
 
 -- a configuration comes after another
@@ -206,6 +204,7 @@ leads-within s c d sound within is = on (step s.machine c.state (get_or s.symbol
           place = omega arith;
           kept = keep-below s.machine c.kept next sound.checked within.kept;
         })
+
     on : (found : Option ℕ) → step s.machine c.state (get_or s.symbols c.place 0) ≡ found → IsWithin s d
     on None none = let never : Ends Nothing ≡ Leads d = sym (look-up-none s c none) ∙ is in cc
     on (Some next) some = over next some (condition_held c.kept (state_at s.machine next)) refl
@@ -219,6 +218,7 @@ leads s c d sound within is = on (step s.machine c.state (get_or s.symbols c.pla
         let same : Leads (entering s c next) ≡ Leads d = sym (look-up-leads s c next some free) ∙ is in
         let one : entering s c next ≡ d = cc in
         subst (Follows s c) one (record { states = follows-some s c (entering s c next) sound.checked within some refl; free = free; kept = refl; place = refl })
+
     on : (found : Option ℕ) → step s.machine c.state (get_or s.symbols c.place 0) ≡ found → Follows s c d
     on None none = let never : Ends Nothing ≡ Leads d = sym (look-up-none s c none) ∙ is in cc
     on (Some next) some = over next some (condition_held c.kept (state_at s.machine next)) refl
@@ -238,6 +238,7 @@ ends s c o sound within is = on (step s.machine c.state (get_or s.symbols c.plac
         let one : Kept f.0 f.1 ≡ o = cc in
         let comes = follows-some s c (entering s c next) sound.checked within some refl in
         record { outcome_is = outcome-held s c next _ f comes holds ∙ one; alone = look-ups-held s c next _ f comes holds }
+
     on : (found : Option ℕ) → step s.machine c.state (get_or s.symbols c.place 0) ≡ found → IsLast s c o
     on None none =
         let same : Ends Nothing ≡ Ends o = sym (look-up-none s c none) ∙ is in

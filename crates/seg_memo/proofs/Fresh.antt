@@ -1,17 +1,16 @@
 -- A table of which no cell is filled.
-use Rattle.std.proofs.Common.{◌≡◌, ◌≢◌, ℕ, zero, suc, ◌+◌, ◌*◌, ◌/◌, ◌%◌, ◌^◌, ◌<◌, ◌≤◌, ◌||◌, Bool, true, false, Option, List, [], ◌∷◌, length, get_or, replicate, refl, sym, ap, ◌∙◌, subst, arith, inl, inr}
+use Rattle.std.proofs.Common.{◌≡◌, ℕ, zero, suc, ◌+◌, ◌*◌, ◌%◌, ◌^◌, ◌<◌, ◌≤◌, ◌||◌, Bool, false, Option, List, [], ◌∷◌, length, get_or, replicate, refl, sym, ap, ◌∙◌, subst, arith, inl, inr}
 use Rattle.std.proofs.lemmas.Bool.{cases_lt, false≢true}
 use Rattle.std.proofs.lemmas.List.{get_or_past, get_or-map, length-map, length-replicate}
 use Rattle.std.proofs.lemmas.Nat.{pow_below}
-use Rattle.seg_text.specs.Items.{Item, Text, code_points}
+use Rattle.seg_text.specs.Items.{Item, code_points}
 use Rattle.seg_machine.specs.declared.provider.Acceptance.{Acceptance}
 use Rattle.seg_machine.specs.Checked.{IsChecked}
 use Rattle.seg_machine.specs.Machine.{Machine, symbol_and_script, symbol_count, symbols_of}
-use Rattle.seg_memo.specs.declared.configuration.Configuration.{Configuration}
 use Rattle.seg_memo.specs.declared.configuration.Cell.{Cell}
 use Rattle.seg_memo.specs.declared.configuration.Cell.TheVariants.{Unknown, First, Way, KnownNothing, KnownPicked, KnownKept}
 use Rattle.seg_memo.specs.Configurations.{AreStarts, Subject, all_look_ups, configurations, reading, subject}
-use Rattle.seg_memo.specs.Grids.{AreFilled, Grid, IsFit, IsMemo, IsRight, IsSound, IsTable, cell, filled, has_number, is_filled, is_filled_at, number}
+use Rattle.seg_memo.specs.Grids.{Grid, IsFit, IsMemo, IsRight, IsSound, cell, filled, has_number, is_filled, is_filled_at, number}
 use Rattle.seg_memo.proofs.Counts.{count-none, has-nil}
 use Rattle.seg_memo.proofs.Scanning.{all-nil}
 use Rattle.seg_memo.proofs.Memoised.{symbols-length}

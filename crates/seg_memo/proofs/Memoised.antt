@@ -1,12 +1,12 @@
 -- The iterator, of what its code has in hand.
-use Rattle.std.proofs.Common.{◌≡◌, ◌≢◌, ℕ, ◌+◌, ◌^◌, ◌<◌, ◌≤◌, ◌==◌, Bool, true, false, Some, List, [], ◌∷◌, length, drop, map, refl, sym, ap, ◌∙◌, subst, arith}
+use Rattle.std.proofs.Common.{◌≡◌, ◌≢◌, ℕ, ◌+◌, ◌^◌, ◌<◌, ◌==◌, Bool, true, Some, List, [], ◌∷◌, length, drop, sym, ap, ◌∙◌, subst, arith}
 use Rattle.std.proofs.lemmas.List.{drop-map, length-map}
 use Rattle.std.proofs.lemmas.Bool.Decides.{nat_tests}
 use Rattle.std.specs.Prelude.{⊤}
 use Rattle.std.specs.Iterator.{MakesProgress, item_count}
 use Rattle.seg_text.specs.Items.{Item, Text, code_points, rest_after, start_of}
 use Rattle.seg_text.specs.declared.boundary.Boundary.{Boundary}
-use Rattle.seg_text.specs.Boundaries.{boundary, offsets_left, shift}
+use Rattle.seg_text.specs.Boundaries.{boundary, shift}
 use Rattle.seg_text.specs.Stretches.{remainder}
 use Rattle.seg_text.proofs.Cursors.{fewer-left}
 use Rattle.seg_machine.specs.Machine.{Machine, symbol_and_script, symbols_of}
@@ -14,7 +14,7 @@ use Rattle.seg_machine.specs.Pick.{pick}
 use Rattle.seg_machine.specs.Segments.{machine_stretch}
 use Rattle.seg_machine.proofs.Engine.{end-left, gives-next}
 use Rattle.seg_machine.proofs.Scanned.{after-after}
-use Rattle.seg_memo.specs.Configurations.{Subject, reading, subject}
+use Rattle.seg_memo.specs.Configurations.{reading, subject}
 use Rattle.seg_memo.specs.Grids.{IsAt, IsReadBy}
 use Rattle.seg_memo.specs.Memos.{Memo, memo, memo_places}
 use Rattle.seg_memo.proofs.Segments.{symbols-read}
@@ -56,7 +56,7 @@ gives-memo m text rest given lookups lookups_after place started status b on som
     let offset : b.offset ≡ given + p.offset = ap (λ (x : Boundary). x.offset) is in
     let ends : rest_after b.offset text ≡ rest_after p.offset (rest_after given text) = ap (λ (n : ℕ). rest_after n text) offset ∙ sym (after-after p.offset given text) in
     let gives = gives-next m (rest_after given text) (rest_after b.offset text) started status b.status place on some
-        (p, ap (pick m) (symbols-drop m given text.items) ∙ picks, ap (λ (x : Boundary). x.status) is, ends) (begins ∙ ap start_of (after ∙ sym ends)) in
+    (p, ap (pick m) (symbols-drop m given text.items) ∙ picks, ap (λ (x : Boundary). x.status) is, ends) (begins ∙ ap start_of (after ∙ sym ends)) in
     record { steps = gives.steps; goes = fewer-left memo_places _ _ place gives.steps.0 }
 
 pub memo-next : (m after_reading : Machine) (text left rest : Text) (given lookups lookups_after place : ℕ) (started : Bool) (status : ℕ) (b : Boundary)

@@ -1,5 +1,5 @@
 -- What a scan looks up: all of it is of the text, and of each look-up what comes after it.
-use Rattle.std.proofs.Common.{◌≡◌, ℕ, zero, suc, ◌+◌, ◌^◌, ◌<◌, ◌≤◌, ◌==◌, ◌||◌, ◌⊎◌, Bool, true, false, Some, List, [], ◌∷◌, ◌++◌, length, drop, refl, sym, ap, ◌∙◌, subst, arith, inl, inr}
+use Rattle.std.proofs.Common.{◌≡◌, ℕ, ◌≤◌, ◌==◌, true, List, [], ◌∷◌, ◌++◌, length, refl, sym, ap, ◌∙◌, subst, arith, inl, inr}
 use Rattle.std.proofs.lemmas.Nat.{pow_pos}
 use Rattle.seg_memo.specs.declared.configuration.Configuration.{Configuration}
 use Rattle.seg_memo.specs.declared.configuration.Outcome.{Outcome}
@@ -8,7 +8,7 @@ use Rattle.seg_memo.specs.declared.configuration.LookUp.TheVariants.{Ends, Leads
 use Rattle.seg_memo.specs.Configurations.{Subject, start_at, following, look_ups, all_look_ups, AreStarts}
 use Rattle.seg_memo.specs.Outcomes.{look_up}
 use Rattle.seg_memo.specs.Grids.{IsSound, IsWithin, IsOn, has_number, number}
-use Rattle.seg_memo.proofs.Following.{IsLast, ends, look-ups-leads, states-lead, leads-within}
+use Rattle.seg_memo.proofs.Following.{ends, look-ups-leads, states-lead, leads-within}
 use Rattle.seg_memo.proofs.Counts.{AreWithin, has-cons, has-append, or-left, or-right, on-append}
 
 -- induction over a scan
@@ -39,6 +39,7 @@ scan-within s c sound within =
   where
     alone : (c : Configuration) → IsWithin s c → (d : Configuration) → IsOn d (c ∷ []) → IsWithin s d
     alone c inside d on = elim on [ inl is ↦ subst (IsWithin s) (sym is) inside | inr none ↦ absurd none ]
+
     further : (c : Configuration) → IsWithin s c → (cs : List Configuration) → AreWithin s cs → (e : Configuration) → IsOn e (c ∷ cs) → IsWithin s e
     further c inside cs rest e on = elim on [ inl is ↦ subst (IsWithin s) (sym is) inside | inr more ↦ rest e more ]
 
@@ -58,6 +59,7 @@ scan-part s c d sound within on =
   where
     alone : (c d : Configuration) → IsOn d (c ∷ []) → AreOf s (look_ups s d) (look_ups s c)
     alone c d on = elim on [ inl is ↦ subst (λ (x : Configuration). AreOf s (look_ups s x) (look_ups s c)) (sym is) (λ i has. has) | inr none ↦ absurd none ]
+
     further : (c e d : Configuration) → look_ups s c ≡ c ∷ look_ups s e → (IsOn d (look_ups s e) → AreOf s (look_ups s d) (look_ups s e)) → IsOn d (c ∷ look_ups s e)
         → AreOf s (look_ups s d) (look_ups s c)
     further c e d all rest on =

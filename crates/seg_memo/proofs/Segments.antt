@@ -1,19 +1,17 @@
 -- A segment, of what the code has in hand.
-use Rattle.std.proofs.Common.{◌≡◌, ◌≢◌, ℕ, ◌+◌, ◌-◌, ◌<◌, ◌≤◌, ◌||◌, Bool, true, false, Option, Some, None, List, [], ◌∷◌, ◌++◌, length, drop, map, IsSome, refl, sym, ap, ◌∙◌, subst, arith}
+use Rattle.std.proofs.Common.{◌≡◌, ◌≢◌, ℕ, ◌+◌, ◌-◌, ◌<◌, ◌≤◌, ◌||◌, Bool, Option, Some, None, List, [], ◌∷◌, length, drop, IsSome, refl, sym, ap, ◌∙◌, subst, arith}
 use Rattle.std.specs.Option.{option_map}
 use Rattle.std.proofs.lemmas.List.{length-drop}
 use Rattle.seg_text.specs.Items.{Item, Text, code_points, rest_after}
 use Rattle.seg_text.specs.declared.boundary.Boundary.{Boundary}
-use Rattle.seg_text.specs.Boundaries.{boundary, shift}
-use Rattle.seg_machine.specs.Checked.{IsChecked}
+use Rattle.seg_text.specs.Boundaries.{shift}
 use Rattle.seg_machine.specs.Machine.{Machine, symbol_and_script, symbols_of}
 use Rattle.seg_machine.specs.Pick.{pick}
 use Rattle.seg_machine.proofs.Picks.{pick-bounds}
 use Rattle.seg_machine.proofs.Scanned.{pick-some, after-after}
-use Rattle.seg_memo.specs.declared.configuration.Configuration.{Configuration}
 use Rattle.seg_memo.specs.declared.configuration.Outcome.{Outcome}
 use Rattle.seg_memo.specs.Configurations.{Subject, reading, start_at, look_ups, all_look_ups}
-use Rattle.seg_memo.specs.Outcomes.{outcome_at, picked}
+use Rattle.seg_memo.specs.Outcomes.{picked}
 use Rattle.seg_memo.specs.Grids.{Grid, IsAt, IsMemo, IsReadBy, IsScanned, has_number}
 use Rattle.seg_memo.proofs.Counts.{has-append, has-nil}
 use Rattle.seg_memo.proofs.Scanning.{all-cons}

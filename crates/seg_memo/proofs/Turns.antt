@@ -1,5 +1,5 @@
 -- The turns of a scan, of what the code has in hand.
-use Rattle.std.proofs.Common.{◌≡◌, ℕ, ◌+◌, ◌-◌, ◌<◌, ◌≤◌, Option, Some, None, List, length, set, refl, sym, ap, ◌∙◌, subst, arith}
+use Rattle.std.proofs.Common.{◌≡◌, ℕ, ◌+◌, ◌-◌, ◌<◌, Option, Some, None, List, length, refl, sym, ap, ◌∙◌, subst}
 use Rattle.seg_text.specs.Items.{Item}
 use Rattle.seg_machine.specs.declared.provider.Acceptance.{Acceptance}
 use Rattle.seg_machine.specs.Machine.{Machine, state_at}
@@ -11,7 +11,7 @@ use Rattle.seg_memo.specs.declared.configuration.Cell.{Cell}
 use Rattle.seg_memo.specs.declared.configuration.Cell.TheVariants.{Unknown, First, Way}
 use Rattle.seg_memo.specs.Configurations.{Subject, configuration, following, start_at}
 use Rattle.seg_memo.specs.Outcomes.{entered, look_up}
-use Rattle.seg_memo.specs.Grids.{Grid, IsAt, IsFit, IsMemo, IsReadBy, IsScanned, IsSound, IsWithin, Walking, Went, cell, with_cell, filled, holding, known, way_to}
+use Rattle.seg_memo.specs.Grids.{Grid, IsAt, IsMemo, IsReadBy, IsScanned, IsWithin, Walking, Went, cell, with_cell, filled, holding, known, way_to}
 use Rattle.seg_memo.proofs.Following.{fewer}
 use Rattle.seg_memo.proofs.Reading.{state-read}
 use Rattle.seg_memo.proofs.Ways.{way-inside, walk-start, count-start, walk-next, count-next, walk-ends, walk-known, back-inside, back-filled, back-next, back-first, back-fewer, scan-known}

@@ -1,5 +1,5 @@
 -- The way of a scan, forward over the cells and back.
-use Rattle.std.proofs.Common.{◌≡◌, ◌≢◌, ℕ, zero, suc, ◌+◌, ◌-◌, ◌^◌, ◌<◌, ◌≤◌, ◌==◌, ◌||◌, ◌⊎◌, Bool, true, false, Option, Some, None, List, [], ◌∷◌, ◌++◌, length, set, refl, sym, ap, ◌∙◌, subst, arith, inl, inr, eq-eqb}
+use Rattle.std.proofs.Common.{◌≡◌, ℕ, ◌+◌, ◌-◌, ◌<◌, ◌==◌, ◌||◌, Bool, true, false, Some, None, List, [], ◌∷◌, length, set, refl, sym, ap, ◌∙◌, subst, arith, inl, inr, eq-eqb}
 use Rattle.std.proofs.lemmas.Bool.{cases_eq, ne_eqb, false≢true}
 use Rattle.std.proofs.lemmas.List.{length-set, get_or-set_same, get_or-set_other}
 use Rattle.seg_text.specs.Boundaries.{boundary}
@@ -14,7 +14,7 @@ use Rattle.seg_memo.specs.Configurations.{Subject, configuration, start_at, foll
 use Rattle.seg_memo.specs.Outcomes.{entered, outcome_at, look_up}
 use Rattle.seg_memo.specs.Grids.{Grid, AreFilled, IsFit, IsMemo, IsOn, IsRight, IsScanned, IsSound, IsTable, IsWay, IsWithin, Walking, Went, cell, with_cell, has_number, holding, is_filled, is_filled_at, filled, known, number, way_to}
 use Rattle.seg_memo.proofs.Numbers.{number-in, number-same}
-use Rattle.seg_memo.proofs.Following.{ends, few, fewer, look-ups-leads, outcome-leads, states-lead}
+use Rattle.seg_memo.proofs.Following.{ends, few, fewer, look-ups-leads, outcome-leads}
 use Rattle.seg_memo.proofs.Counts.{AreWithin, count-bound, fills-other, fills-same, filled-mark, filled-stays, has-cons, has-nil, on-has, or-cases, stays-filled}
 use Rattle.seg_memo.proofs.Scanning.{all-part, all-within, start-within}
 
@@ -307,8 +307,8 @@ pub scan-known : (s : Subject) (g : Grid) (place : ℕ) (o : Outcome) → IsMemo
 scan-known s g place o memo is =
     let inside = start-within s place memo.table.fit.sound memo.within in
     let has : has_number s (number s (start_at place)) (all_look_ups s memo.starts) ≡ true =
-        sym (ap (λ (b : Bool). b || has_number s (number s (start_at place)) (all_look_ups s memo.starts)) (has-nil s (number s (start_at place))))
-        ∙ sym (memo.filling (number s (start_at place))) ∙ known-filled (cell s g (start_at place)) o is in
+    sym (ap (λ (b : Bool). b || has_number s (number s (start_at place)) (all_look_ups s memo.starts)) (has-nil s (number s (start_at place))))
+    ∙ sym (memo.filling (number s (start_at place))) ∙ known-filled (cell s g (start_at place)) o is in
     let on = on-has s (start_at place) (all_look_ups s memo.starts) inside (all-within s memo.starts place memo.table.fit.sound memo.are memo.within) has in
     record {
       starts = memo.starts;

@@ -11,7 +11,7 @@ use Rattle.seg_memo.specs.declared.configuration.LookUp.TheVariants.{Leads}
 use Rattle.seg_memo.specs.declared.configuration.Cell.{Cell}
 use Rattle.seg_memo.specs.declared.configuration.Cell.TheVariants.{Unknown, First, Way, KnownNothing, KnownPicked, KnownKept}
 use Rattle.seg_memo.specs.declared.table.Table.{Table}
-use Rattle.seg_memo.specs.Configurations.{Subject, configuration, configurations, reading, look_ups, all_look_ups, start_at, AreStarts}
+use Rattle.seg_memo.specs.Configurations.{Subject, configurations, reading, look_ups, all_look_ups, start_at, AreStarts}
 use Rattle.seg_memo.specs.Outcomes.{outcome_at, look_up}
 
 -- so many states, so many sets of lookaheads, and a cell for each of them at each place

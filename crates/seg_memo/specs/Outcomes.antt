@@ -1,6 +1,6 @@
 -- What a scan comes to from a configuration on: a function of the set of lookaheads that were named before it, and of
 -- the states that come after it. It knows nothing of where the scan began.
-use Rattle.std.specs.Prelude.{◌≡◌, ℕ, suc, ◌+◌, ◌==◌, if◌then◌else◌, Option, Some, None, List, [], ◌∷◌, length, map, min, slice_index_or}
+use Rattle.std.specs.Prelude.{ℕ, suc, ◌+◌, ◌==◌, if◌then◌else◌, Option, Some, None, List, [], ◌∷◌, length, map, min, slice_index_or}
 use Rattle.std.specs.Option.{option_map_or}
 use Rattle.seg_text.specs.declared.boundary.Boundary.{Boundary}
 use Rattle.seg_text.specs.Boundaries.{boundary}

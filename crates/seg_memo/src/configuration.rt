@@ -60,10 +60,7 @@ pub(crate) enum Cell {
 }
 
 /// The lookahead and the status of a state's condition, where it holds: the lookahead is in the set.
-fn condition_held(
-    entry: (Acceptance, Option<Lookahead>),
-    kept: u8,
-) -> Option<(Lookahead, u8)>
+fn condition_held(entry: (Acceptance, Option<Lookahead>), kept: u8) -> Option<(Lookahead, u8)>
     requires { NamesPast 4 entry → ⊥ }
     ensures { result ≡ condition_held kept entry }
 {

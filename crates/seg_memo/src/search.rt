@@ -12,7 +12,7 @@ ghost use Rattle.seg_memo.specs.declared.configuration.Cell.TheVariants.{Unknown
 ghost use Rattle.seg_memo.specs.Grids.{cell, filled, grid, IsAt, IsMemo, IsReadBy, IsScanned, IsSound, IsWithin, Went};
 
 use crate::configuration::{
-    arrive, entered, holding, known, picked, Cell, Configuration, LookUp, Outcome,
+    Cell, Configuration, LookUp, Outcome, arrive, entered, holding, known, picked,
 };
 use crate::reader::ReadTransitions;
 use crate::table::Table;

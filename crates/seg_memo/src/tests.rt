@@ -186,7 +186,7 @@ fn looks_up_past_the_end(rt: HostRuntime) -> Result<(), Fail> {
     expect_memo(&rt, alloc, takes_all, b"xxx", &[(0, 0, 0), (3, 1, 5)])?;
     let condition = small(alloc, &[GOES_ON, NAMES, ASKS], &at_end, 1)?;
     expect_memo(&rt, alloc, condition, b"aaa", &[(0, 0, 0), (3, 1, 4)])?;
-    let own = [(0, 0, 0), (1, 1, 3), (2, 1, 5), (3, 0, 7)];
+    let own = [(0, 0, 0), (1, 1, 2), (2, 1, 4), (3, 0, 7)];
     expect_memo(
         &rt,
         alloc,

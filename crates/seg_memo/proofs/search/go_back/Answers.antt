@@ -1,4 +1,4 @@
-use Rattle.std.proofs.Common.{◌∙◌, sym}
+use Rattle.std.proofs.Common.{◌∙◌}
 use Rattle.seg_memo.proofs.Ways.{back-inside}
 use Rattle.seg_memo.proofs.Turns.{back-count, back-ends, back-less, back-turn, state-below}
 use Rattle.seg_memo.proofs.search.go_back.Goals as goal
@@ -22,6 +22,7 @@ pub back-smaller : goal.back-smaller
 back-smaller g c = back-less _ _ _ _ _ _ _ _ _ c.back.invariant.0 c.cell-cell.ensures c.in-Way.is
 
 pub back-preserved : goal.back-preserved
-back-preserved g c =
-    (back-turn _ _ _ _ _ _ _ _ _ _ _ _ _ _ c.back.invariant.0 c.cell-cell.ensures c.in-Way.is c.holding.ensures c.write.ensures c.requires.0 c.entry.ensures c.entered-outcome.ensures,
-    back-count _ _ _ _ _ _ _ c.back.invariant.0 c.holding.ensures c.write.ensures ∙ c.back.invariant.1)
+back-preserved g c = (
+  back-turn _ _ _ _ _ _ _ _ _ _ _ _ _ _ c.back.invariant.0 c.cell-cell.ensures c.in-Way.is c.holding.ensures c.write.ensures c.requires.0 c.entry.ensures c.entered-outcome.ensures,
+  back-count _ _ _ _ _ _ _ c.back.invariant.0 c.holding.ensures c.write.ensures ∙ c.back.invariant.1,
+)

@@ -1,4 +1,3 @@
-use Rattle.std.proofs.Common.{◌∙◌, sym, rules}
 use Rattle.seg_memo.proofs.Ways.{count-room}
 use Rattle.seg_memo.proofs.Turns.{start-count, start-rest, start-walk, turn-count, turn-ends, turn-fewer, turn-known, turn-next, walk-inside}
 use Rattle.seg_memo.proofs.search.go_forward.Goals as goal
@@ -12,9 +11,22 @@ scan-init g c = record {
 }
 
 pub look_up-requires : goal.look_up-requires
-look_up-requires g c = λ κs lives.
-    (lives.0, (lives.1, (c.scan.invariant.walking.table.fit.sound, (c.scan.invariant.read, (count-room _ _ _ c.scan.invariant.walking.table.fit c.scan.invariant.count,
-    (walk-inside _ _ _ _ c.scan.invariant.walking, c.scan.invariant.rest))))))
+look_up-requires g c = λ κs lives. (
+  lives.0,
+  (
+    lives.1,
+    (
+      c.scan.invariant.walking.table.fit.sound,
+      (
+        c.scan.invariant.read,
+        (
+          count-room _ _ _ c.scan.invariant.walking.table.fit c.scan.invariant.count,
+          (walk-inside _ _ _ _ c.scan.invariant.walking, c.scan.invariant.rest),
+        ),
+      ),
+    ),
+  ),
+)
 
 pub returns-in-Ends-clause-went : goal.returns-in-Ends-clause-went
 returns-in-Ends-clause-went g c = turn-ends _ _ _ _ _ _ c.scan.invariant.walking c.look_up.ensures.value c.in-Ends.is

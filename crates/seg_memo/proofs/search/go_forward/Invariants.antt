@@ -18,7 +18,7 @@ invariant-scan g l = record {
   read : IsReadBy g.scan.subject (machine_of l.machine) (g.R.ReadTransitions.states l.reader) (g.R.ReadTransitions.transitions l.reader);
   walking : Walking g.scan.subject (grid l.table) g.scan.start l.here;
   count : g.R.ReadTransitions.counted l.reader + 1 ≡ filled l.table.cells.items;
-  rest : IsAt g.scan.subject (machine_of l.machine) l.here.place (g.I.Cursor.text l.rest).items
+  rest : IsAt g.scan.subject (machine_of l.machine) l.here.place (g.I.Cursor.text l.rest).items;
 }
 
 abbrev pub decreases-scan : goal.decreases-scan

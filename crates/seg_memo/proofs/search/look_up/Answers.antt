@@ -1,4 +1,3 @@
-use Rattle.std.proofs.Common.{refl}
 use Rattle.seg_memo.proofs.Reading.{symbol-fits, value-none, next-within, entry-few, value-some, result-within}
 use Rattle.seg_memo.proofs.search.look_up.Goals as goal
 

@@ -1,4 +1,4 @@
-use Rattle.std.proofs.Common.{sym, ap}
+use Rattle.std.proofs.Common.{ap}
 use Rattle.seg_memo.specs.Configurations.{start_at}
 use Rattle.seg_memo.proofs.Turns.{known-before}
 use Rattle.seg_memo.proofs.search.outcome_from.Goals as goal

@@ -1,4 +1,4 @@
-use Rattle.std.proofs.Common.{◌∙◌, refl}
+use Rattle.std.proofs.Common.{◌∙◌}
 use Rattle.seg_memo.proofs.Different.{looked-up, memo-bound}
 use Rattle.seg_memo.proofs.Memoised.{symbols-length}
 use Rattle.seg_memo.proofs.memo.MemoBreakIterator.lookups.Goals as goal

@@ -12,10 +12,25 @@ returns-then-is_at_end-clause-steps g c =
     rw (← c.self.view_is) ((ap offsets none, ap offsets none), (none, none, refl))
 
 pub next_segment-found-requires : goal.next_segment-found-requires
-next_segment-found-requires g c = λ κs lives.
-    (lives.0, (lives.1, (c.self.invariant.1, (c.self.invariant.3, (c.self.invariant.4,
-    (rest-at (machine_of c.self.inside.machine) _ (g.R.ReadTransitions.transitions c.self.inside.reader) (g.I.Cursor.text c.self.inside.text) _ _ c.self.invariant.1 c.self.invariant.2,
-    not_at_end _ (sym c.is_at_end.ensures ∙ c.if-is_at_end.false)))))))
+next_segment-found-requires g c = λ κs lives. (
+  lives.0,
+  (
+    lives.1,
+    (
+      c.self.invariant.1,
+      (
+        c.self.invariant.3,
+        (
+          c.self.invariant.4,
+          (
+            rest-at (machine_of c.self.inside.machine) _ (g.R.ReadTransitions.transitions c.self.inside.reader) (g.I.Cursor.text c.self.inside.text) _ _ c.self.invariant.1 c.self.invariant.2,
+            not_at_end _ (sym c.is_at_end.ensures ∙ c.if-is_at_end.false),
+          ),
+        ),
+      ),
+    ),
+  ),
+)
 
 pub returns-clause-steps : goal.returns-clause-steps
 returns-clause-steps g c =

@@ -1,5 +1,5 @@
 use Rattle.std.proofs.Common.{arith}
-use Rattle.seg_memo.proofs.Numbers.{number-is, number-fits, sets-fit}
+use Rattle.seg_memo.proofs.Numbers.{number-is, number-fits}
 use Rattle.seg_memo.proofs.table.Table.number.Goals as goal
 
 pub overflow_mul-result-2 : goal.overflow_mul-result-2
