@@ -111,6 +111,7 @@ impl<'data, I: Cursor, R: ReadTransitions> MemoBreakIterator<'data, I, R> {
             started: _,
             status: _,
         } = self;
+        let started = false;
         MemoBreakIterator {
             machine,
             reader,
@@ -118,7 +119,7 @@ impl<'data, I: Cursor, R: ReadTransitions> MemoBreakIterator<'data, I, R> {
             text,
             rest,
             place: 0,
-            started: false,
+            started,
             status: 0,
         }
     }
