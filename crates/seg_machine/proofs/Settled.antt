@@ -90,7 +90,7 @@ last-cons value state states =
     ∙ ap (λ (b : Bool). b || is_some one) (some-map _ (last_step value states))
     ∙ ap (λ (b : Bool). is_some (last_step value states) || b) (some-map _ (value state))
 
-last-none : (value : Acceptance × Option ℕ → Option ℕ) → is_some (last_step value []) ≡ false
+pub last-none : (value : Acceptance × Option ℕ → Option ℕ) → is_some (last_step value []) ≡ false
 unfolding last_step
 last-none value = refl
 
@@ -109,14 +109,14 @@ unfolding first_condition
 first-cons earlier state states = some-either (condition earlier state) (first_condition (earlier ++ state ∷ []) states)
 
 -- the set has the lookaheads that these states name
-abbrev Agrees : ℕ → List (Acceptance × Option ℕ) → Type 0
+abbrev pub Agrees : ℕ → List (Acceptance × Option ℕ) → Type 0
 Agrees kept earlier = (lookahead : ℕ) → has kept lookahead ≡ is_some (last_step (naming lookahead) earlier)
 
 some-if : (b : Bool) (x : ℕ) → is_some (cond b (Some x) None) ≡ b
 some-if true x = refl
 some-if false x = refl
 
-agrees-more : (kept : ℕ) (earlier : List (Acceptance × Option ℕ)) (state : Acceptance × Option ℕ) → Agrees kept earlier → Agrees (keep kept state.1) (earlier ++ state ∷ [])
+pub agrees-more : (kept : ℕ) (earlier : List (Acceptance × Option ℕ)) (state : Acceptance × Option ℕ) → Agrees kept earlier → Agrees (keep kept state.1) (earlier ++ state ∷ [])
 agrees-more kept earlier (acceptance, Some name) agrees lookahead =
     has-keep kept name lookahead
     ∙ ap (λ (b : Bool). b || name == lookahead) (agrees lookahead)

@@ -100,6 +100,14 @@ impl<'data> TailoredMachineBorrowed<'data> {
         })
     }
 
+    /// The machine, whose map the tailoring's takes the place of.
+    pub fn machine(&self) -> &'data SegmenterStateMachine
+        ensures states { result.now.states ≡ (machine_of self.now).states }
+        ensures transitions { result.now.transitions ≡ (machine_of self.now).transitions }
+    {
+        self.machine
+    }
+
     /// How many lookaheads there are.
     pub fn num_lookaheads(&self) -> usize
         ensures { result ≡ (machine_of self.now).num_lookaheads }

@@ -1,0 +1,12 @@
+pub mod Numbers
+pub mod Following
+pub mod Reading
+pub mod Counts
+pub mod Scanning
+pub mod Ways
+pub mod Turns
+pub mod Picking
+pub mod Segments
+pub mod Different
+pub mod Memoised
+pub mod Fresh

@@ -1,0 +1,105 @@
+-- A segment, of what the code has in hand.
+use Rattle.std.proofs.Common.{◌≡◌, ◌≢◌, ℕ, ◌+◌, ◌-◌, ◌<◌, ◌≤◌, ◌||◌, Bool, Option, Some, None, List, [], ◌∷◌, length, drop, IsSome, refl, sym, ap, ◌∙◌, subst, arith}
+use Rattle.std.specs.Option.{option_map}
+use Rattle.std.proofs.lemmas.List.{length-drop}
+use Rattle.seg_text.specs.Items.{Item, Text, code_points, rest_after}
+use Rattle.seg_text.specs.declared.boundary.Boundary.{Boundary}
+use Rattle.seg_text.specs.Boundaries.{shift}
+use Rattle.seg_machine.specs.Machine.{Machine, symbol_and_script, symbols_of}
+use Rattle.seg_machine.specs.Pick.{pick}
+use Rattle.seg_machine.proofs.Picks.{pick-bounds}
+use Rattle.seg_machine.proofs.Scanned.{pick-some, after-after}
+use Rattle.seg_memo.specs.declared.configuration.Outcome.{Outcome}
+use Rattle.seg_memo.specs.Configurations.{Subject, reading, start_at, look_ups, all_look_ups}
+use Rattle.seg_memo.specs.Outcomes.{picked}
+use Rattle.seg_memo.specs.Grids.{Grid, IsAt, IsMemo, IsReadBy, IsScanned, has_number}
+use Rattle.seg_memo.proofs.Counts.{has-append, has-nil}
+use Rattle.seg_memo.proofs.Scanning.{all-cons}
+use Rattle.seg_memo.proofs.Picking.{picked-start}
+
+-- a reader's transitions change no symbol
+same-symbols : (m : Machine) (transitions : List ℕ) (code_points : List ℕ) → symbols_of (reading m transitions) code_points ≡ symbols_of m code_points
+unfolding symbol_and_script
+same-symbols m transitions code_points = refl
+
+pub symbols-read : (s : Subject) (m : Machine) (states : ℕ) (transitions : List ℕ) (code_points : List ℕ) → IsReadBy s m states transitions
+    → symbols_of s.machine code_points ≡ symbols_of m code_points
+symbols-read s m states transitions code_points read = ap (λ (x : Machine). symbols_of x code_points) read.machine ∙ same-symbols m transitions code_points
+
+-- what is left, by the machine that is read
+own-symbols : (s : Subject) (m : Machine) (states : ℕ) (transitions : List ℕ) (place : ℕ) (items : List Item) → IsReadBy s m states transitions → IsAt s m place items
+    → symbols_of s.machine (code_points items) ≡ drop place s.symbols
+own-symbols s m states transitions place items read here = symbols-read s m states transitions (code_points items) read ∙ here
+
+pub record Segment (s : Subject) (place : ℕ) (found : Boundary) : Type 0 where
+  pub p : Boundary
+  pub picks : pick s.machine (drop place s.symbols) ≡ Some p
+  pub is : found ≡ shift place p
+
+picked-is : (s : Subject) (g : Grid) (place : ℕ) (o : Outcome) → IsScanned s g place o → picked o ≡ option_map (shift place) (pick s.machine (drop place s.symbols))
+picked-is s g place o scanned = ap picked scanned.is ∙ picked-start s place scanned.within
+
+-- there is a pick
+pub segment-some : (s : Subject) (m : Machine) (states : ℕ) (transitions : List ℕ) (g : Grid) (place : ℕ) (o : Outcome) (items : List Item) (found : Option Boundary)
+    → IsScanned s g place o → IsReadBy s m states transitions → IsAt s m place items → items ≢ [] → found ≡ picked o → found ≡ None → ⊥
+segment-some s m states transitions g place o items found scanned read here some is none =
+    on (pick s.machine (drop place s.symbols))
+    (subst (λ (xs : List ℕ). IsSome (pick s.machine xs)) (own-symbols s m states transitions place items read here) (pick-some s.machine scanned.table.fit.sound.checked items some))
+    (sym none ∙ is ∙ picked-is s g place o scanned)
+  where
+    on : (f : Option Boundary) → IsSome f → None ≡ option_map (shift place) f → ⊥
+    on None there e = cc
+    on (Some p) there e = cc
+
+pub segment-found : (s : Subject) (g : Grid) (place : ℕ) (o : Outcome) (found : Option Boundary) (b : Boundary) → IsScanned s g place o → found ≡ picked o → found ≡ Some b → Segment s place b
+segment-found s g place o found b scanned is some = on (pick s.machine (drop place s.symbols)) refl (sym some ∙ is ∙ picked-is s g place o scanned)
+  where
+    on : (f : Option Boundary) → pick s.machine (drop place s.symbols) ≡ f → Some b ≡ option_map (shift place) f → Segment s place b
+    on None picks e = cc
+    on (Some p) picks e = let same : b ≡ shift place p = cc in record { p = p; picks = picks; is = same }
+
+nonempty : (m : Machine) (items : List Item) → items ≢ [] → symbols_of m (code_points items) ≢ []
+nonempty m [] some = absurd (some refl)
+nonempty m (item ∷ items) some = λ e. cc
+
+-- a segment ends in the text
+segment-within : (s : Subject) (m : Machine) (states : ℕ) (transitions : List ℕ) (place : ℕ) (items : List Item) (b : Boundary) → IsReadBy s m states transitions → IsAt s m place items
+    → items ≢ [] → place ≤ length s.symbols → Segment s place b → (place < b.offset) × (b.offset ≤ length s.symbols)
+segment-within s m states transitions place items b read here some within segment =
+    let left : drop place s.symbols ≢ [] = subst (λ (xs : List ℕ). xs ≢ []) (own-symbols s m states transitions place items read here) (nonempty s.machine items some) in
+    let bounds = pick-bounds s.machine (drop place s.symbols) segment.p segment.picks left in
+    let offset : b.offset ≡ place + segment.p.offset = ap (λ (x : Boundary). x.offset) segment.is in
+    (omega (arith, bounds.0, offset), omega (arith, bounds.1, offset, length-drop place s.symbols, within))
+
+-- the scans with this one more
+pub segment-memo : (s : Subject) (m : Machine) (states : ℕ) (transitions : List ℕ) (g : Grid) (place : ℕ) (o : Outcome) (items : List Item) (b : Boundary)
+    → IsScanned s g place o → IsReadBy s m states transitions → IsAt s m place items → items ≢ [] → Segment s place b → IsMemo s g b.offset
+segment-memo s m states transitions g place o items b scanned read here some segment =
+    let bounds = segment-within s m states transitions place items b read here some scanned.within segment in
+    record {
+      starts = place ∷ scanned.starts;
+      are = ((segment.p, segment.picks, ap (λ (x : Boundary). x.offset) segment.is), bounds.0, scanned.are);
+      within = bounds.1;
+      table = scanned.table;
+      filling = λ i.
+          scanned.filling i
+          ∙ sym (ap (λ (c : Bool). c || has_number s i (all_look_ups s (place ∷ scanned.starts))) (has-nil s i)
+          ∙ ap (has_number s i) (all-cons s place scanned.starts)
+          ∙ has-append s i (look_ups s (start_at place)) (all_look_ups s scanned.starts));
+    }
+
+-- going on item by item
+pub skip-start : (text : Text) (place : ℕ) → text ≡ rest_after (place - place) text
+skip-start text place = let none : place - place ≡ 0 = omega arith in rw none refl
+
+pub skip-next : (text left after : Text) (start i : ℕ) → start ≤ i → left ≡ rest_after (i - start) text → after ≡ rest_after 1 left → after ≡ rest_after (i + 1 - start) text
+skip-next text left after start i past l a =
+    a ∙ ap (rest_after 1) l ∙ after-after 1 (i - start) text ∙ ap (λ (n : ℕ). rest_after n text) (omega (arith, past))
+
+pub segment-rest : (s : Subject) (text left : Text) (place i : ℕ) (b : Boundary) → Segment s place b → b.offset ≤ i → (place ≤ b.offset → i ≤ b.offset)
+    → left ≡ rest_after (i - place) text
+    → (p : Boundary) × (pick s.machine (drop place s.symbols) ≡ Some p) × (b ≡ shift place p) × (left ≡ rest_after p.offset text)
+segment-rest s text left place i b segment past most l =
+    let offset : b.offset ≡ place + segment.p.offset = ap (λ (x : Boundary). x.offset) segment.is in
+    let end : i ≤ b.offset = most (omega (arith, offset)) in
+    (segment.p, segment.picks, segment.is, l ∙ ap (λ (n : ℕ). rest_after n text) (omega (arith, offset, end, past)))

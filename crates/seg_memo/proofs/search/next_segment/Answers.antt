@@ -1,0 +1,19 @@
+use Rattle.seg_memo.proofs.Segments.{segment-found, segment-memo, segment-some, segment-rest, skip-next}
+use Rattle.seg_memo.proofs.search.next_segment.Goals as goal
+
+pub unreachable-requires : goal.unreachable-requires
+unreachable-requires g c =
+    segment-some _ _ _ _ _ _ _ _ _ c.outcome_from-outcome.ensures.scanned c.outcome_from-outcome.ensures.read c.requires.1.1.1.1.1.0 c.requires.1.1.1.1.1.1 c.picked.ensures c.in_default.is
+
+pub loop-item-preserved : goal.loop-item-preserved
+loop-item-preserved g c = skip-next _ _ _ c.args.start c.loop-item.item c.loop-item.auto.item c.loop-item.invariant c.skip.ensures
+
+pub returns-clause-memo : goal.returns-clause-memo
+returns-clause-memo g c =
+    segment-memo _ _ _ _ _ _ _ _ _ c.outcome_from-outcome.ensures.scanned c.outcome_from-outcome.ensures.read c.requires.1.1.1.1.1.0 c.requires.1.1.1.1.1.1
+    (segment-found _ _ _ _ _ _ c.outcome_from-outcome.ensures.scanned c.picked.ensures c.in-Some.is)
+
+pub returns-clause-segment : goal.returns-clause-segment
+returns-clause-segment g c =
+    segment-rest g.subject _ _ c.args.start c.loop-item.item c.in-Some.found
+    (segment-found _ _ _ _ _ _ c.outcome_from-outcome.ensures.scanned c.picked.ensures c.in-Some.is) c.loop-item-test.false c.loop-item.auto.item-end c.loop-item.invariant

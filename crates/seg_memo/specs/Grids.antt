@@ -1,0 +1,167 @@
+-- The table of configurations.
+use Rattle.std.specs.Prelude.{◌≡◌, ℕ, zero, suc, ◌+◌, ◌*◌, ◌^◌, ◌<◌, ◌≤◌, ◌⊎◌, ◌==◌, ◌||◌, Bool, true, false, if◌then◌else◌, Option, Some, None, List, [], ◌∷◌, drop, length, slice_index_or, slice_set}
+use Rattle.seg_text.specs.Boundaries.{boundary}
+use Rattle.seg_text.specs.Items.{Item, code_points}
+use Rattle.seg_machine.specs.Machine.{Machine, symbol_count, symbols_of}
+use Rattle.seg_machine.specs.Checked.{IsChecked}
+use Rattle.seg_memo.specs.declared.configuration.Configuration.{Configuration}
+use Rattle.seg_memo.specs.declared.configuration.Outcome.{Outcome}
+use Rattle.seg_memo.specs.declared.configuration.Outcome.TheVariants.{Nothing, Picked, Kept}
+use Rattle.seg_memo.specs.declared.configuration.LookUp.TheVariants.{Leads}
+use Rattle.seg_memo.specs.declared.configuration.Cell.{Cell}
+use Rattle.seg_memo.specs.declared.configuration.Cell.TheVariants.{Unknown, First, Way, KnownNothing, KnownPicked, KnownKept}
+use Rattle.seg_memo.specs.declared.table.Table.{Table}
+use Rattle.seg_memo.specs.Configurations.{Subject, configurations, reading, look_ups, all_look_ups, start_at, AreStarts}
+use Rattle.seg_memo.specs.Outcomes.{outcome_at, look_up}
+
+-- so many states, so many sets of lookaheads, and a cell for each of them at each place
+pub record Grid : Type 0 where
+  pub states : ℕ
+  pub sets : ℕ
+  pub cells : List Cell
+
+abbrev pub grid : Table → Grid
+grid t = record { states = t.states; sets = t.sets; cells = t.cells.items }
+
+-- the number of a configuration, which is that of its cell
+unfoldable pub number : Subject → Configuration → ℕ
+number s c = (c.place * 2 ^ s.machine.num_lookaheads + c.kept) * length s.machine.states + c.state
+
+abbrev pub cell : Subject → Grid → Configuration → Cell
+cell s g c = slice_index_or g.cells (number s c) Unknown
+
+abbrev pub with_cell : Subject → Grid → Configuration → Cell → Grid
+with_cell s g c x = record g { cells = slice_set g.cells (number s c) x }
+
+-- the outcome that a cell holds
+abbrev pub known : Cell → Option Outcome
+known KnownNothing = Some Nothing
+known (KnownPicked status place) = Some (Picked (boundary place status))
+known (KnownKept lookahead status) = Some (Kept lookahead status)
+known _ = None
+
+-- the cell that holds an outcome
+abbrev pub holding : Outcome → Cell
+holding Nothing = KnownNothing
+holding (Picked found) = KnownPicked found.status found.offset
+holding (Kept lookahead status) = KnownKept lookahead status
+
+-- the cell that leads back to a configuration
+abbrev pub way_to : Configuration → Cell
+way_to c = Way c.state c.kept c.place
+
+abbrev pub is_filled : Cell → Bool
+is_filled Unknown = false
+is_filled _ = true
+
+-- how many of the first so many numbers pass a test
+unfoldable pub count_below : (ℕ → Bool) → ℕ → ℕ
+count_below test zero = 0
+count_below test (suc n) = (if test n then 1 else 0) + count_below test n
+
+abbrev pub is_filled_at : List Cell → ℕ → Bool
+is_filled_at cells i = is_filled (slice_index_or cells i Unknown)
+
+-- how many cells are filled
+abbrev pub filled : List Cell → ℕ
+filled cells = count_below (is_filled_at cells) (length cells)
+
+-- a configuration of a text
+pub record IsWithin (s : Subject) (c : Configuration) : Type 0 where
+  pub state : c.state < length s.machine.states
+  pub place : c.place ≤ length s.symbols
+  pub kept : c.kept < 2 ^ s.machine.num_lookaheads
+
+-- the machine is checked, the symbols are some of its own, and a word can count the configurations
+pub record IsSound (s : Subject) : Type 0 where
+  pub checked : IsChecked s.machine
+  pub own : (place : ℕ) → slice_index_or s.symbols place 0 < symbol_count s.machine
+  pub room : configurations s.machine (length s.symbols) < 2 ^ 64
+
+-- the table has a cell for each configuration
+pub record IsFit (s : Subject) (g : Grid) : Type 0 where
+  pub sound : IsSound s
+  pub states : g.states ≡ length s.machine.states
+  pub sets : g.sets ≡ 2 ^ s.machine.num_lookaheads
+  pub size : length g.cells ≡ configurations s.machine (length s.symbols)
+
+-- a reader has so many states and these transitions: the machine is read by it
+pub record IsReadBy (s : Subject) (m : Machine) (states : ℕ) (transitions : List ℕ) : Type 0 where
+  pub machine : s.machine ≡ reading m transitions
+  pub states_are : states ≡ length m.states
+
+-- what is left of the text begins at this place
+abbrev pub IsAt : Subject → Machine → ℕ → List Item → Type 0
+IsAt s m place items = symbols_of m (code_points items) ≡ drop place s.symbols
+
+-- the cell of a configuration that no scan is at: it holds its outcome, or nothing
+abbrev pub IsRight : Subject → Configuration → Cell → Type 0
+IsRight s c Unknown = Unit {0}
+IsRight s c First = ⊥
+IsRight s c (Way state kept place) = ⊥
+IsRight s c KnownNothing = Nothing ≡ outcome_at s c
+IsRight s c (KnownPicked status place) = Picked (boundary place status) ≡ outcome_at s c
+IsRight s c (KnownKept lookahead status) = Kept lookahead status ≡ outcome_at s c
+
+abbrev pub IsOn : Configuration → List Configuration → Type 0
+IsOn c [] = ⊥
+IsOn c (d ∷ path) = (c ≡ d) ⊎ IsOn c path
+
+-- each cell is right, but for those on a path
+pub record IsTable (s : Subject) (g : Grid) (path : List Configuration) : Type 0 where
+  pub fit : IsFit s g
+  pub right : (c : Configuration) → IsWithin s c → (IsOn c path → ⊥) → IsRight s c (cell s g c)
+
+-- does a configuration of a list have this number
+unfoldable pub has_number : Subject → ℕ → List Configuration → Bool
+has_number s i [] = false
+has_number s i (c ∷ cs) = number s c == i || has_number s i cs
+
+-- the cells hold the way back from a configuration to the first of its scan
+abbrev pub IsWay : Subject → Grid → Configuration → Configuration → List Configuration → Type 0
+IsWay s g first here [] = (here ≡ first) × IsWithin s here × (cell s g here ≡ First)
+IsWay s g first here (before ∷ path) =
+    (look_up s before ≡ Leads here) × IsWithin s here × (cell s g here ≡ way_to before) × IsWay s g first before path
+
+-- the cells of just these look-ups are filled, beside those of the scans before
+abbrev pub AreFilled : Subject → Grid → List ℕ → List Configuration → Type 0
+AreFilled s g starts found =
+    (i : ℕ) → is_filled_at g.cells i ≡ (has_number s i found || has_number s i (all_look_ups s starts))
+
+-- the scans of the segments up to a place were made
+pub record IsMemo (s : Subject) (g : Grid) (place : ℕ) : Type 0 where
+  pub starts : List ℕ
+  pub are : AreStarts s starts place
+  pub within : place ≤ length s.symbols
+  pub table : IsTable s g []
+  pub filling : AreFilled s g starts []
+
+-- a scan is under way: it looked up the configurations of a path, and is to look up this one, whose cell is marked already
+pub record Walking (s : Subject) (g : Grid) (place : ℕ) (here : Configuration) : Type 0 where
+  pub starts : List ℕ
+  pub are : AreStarts s starts place
+  pub within : place ≤ length s.symbols
+  pub path : List Configuration
+  pub way : IsWay s g (start_at place) here path
+  pub table : IsTable s g (here ∷ path)
+  pub filling : AreFilled s g starts (here ∷ path)
+
+-- a scan went on to its last look-up, or goes back from there: the cells hold the way back, and this one's outcome is known
+pub record Went (s : Subject) (g : Grid) (place : ℕ) (here : Configuration) (o : Outcome) : Type 0 where
+  pub starts : List ℕ
+  pub are : AreStarts s starts place
+  pub within : place ≤ length s.symbols
+  pub path : List Configuration
+  pub way : IsWay s g (start_at place) here path
+  pub table : IsTable s g (here ∷ path)
+  pub filling : AreFilled s g starts (look_ups s (start_at place))
+  pub is : o ≡ outcome_at s here
+
+-- the scan from a place was made: this is its outcome
+pub record IsScanned (s : Subject) (g : Grid) (place : ℕ) (o : Outcome) : Type 0 where
+  pub starts : List ℕ
+  pub are : AreStarts s starts place
+  pub within : place ≤ length s.symbols
+  pub table : IsTable s g []
+  pub filling : AreFilled s g starts (look_ups s (start_at place))
+  pub is : o ≡ outcome_at s (start_at place)

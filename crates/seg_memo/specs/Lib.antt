@@ -1,0 +1,4 @@
+pub mod Configurations
+pub mod Outcomes
+pub mod Grids
+pub mod Memos

@@ -1,0 +1,166 @@
+//! Configurations of a scan, what scans come to from them, and the cells that keep that.
+
+ghost use Rattle.std.specs.Prelude.{◌≡◌, ℕ, ◌<◌, IfSome};
+ghost use Rattle.seg_machine.specs.MachineFaults.{NamesPast};
+ghost use Rattle.seg_machine.specs.Search.{keep};
+ghost use Rattle.seg_memo.specs.Configurations.{condition_held};
+ghost use Rattle.seg_memo.specs.Outcomes.{arrival, entered, picked};
+ghost use Rattle.seg_memo.specs.Grids.{known, holding};
+
+use seg_machine::provider::{Acceptance, Lookahead, State};
+use seg_text::boundary::Boundary;
+
+/// Where a scan is.
+#[derive(Clone, Copy, Debug)]
+pub struct Configuration {
+    /// The state that it is in.
+    pub state: State,
+    /// Its place in the whole text: so many items.
+    pub place: usize,
+    /// The lookaheads that the states entered so far name: bit k is lookahead k.
+    pub kept: u8,
+}
+
+/// What a scan comes to from a configuration on.
+#[derive(Clone, Copy, Debug)]
+pub enum Outcome {
+    /// No state accepts, and no condition holds.
+    Nothing,
+    /// The segment ends here, counted in items: a state accepts there last, or its place was kept for the condition that
+    /// holds.
+    Picked(Boundary),
+    /// The first condition that holds is on this lookahead, named before the configuration alone, with this status.
+    Kept(Lookahead, u8),
+}
+
+/// What one look-up comes to.
+#[derive(Clone, Copy, Debug)]
+pub enum LookUp {
+    /// The scan's end, with the outcome of the configuration.
+    Ends(Outcome),
+    /// The next configuration.
+    Leads(Configuration),
+}
+
+/// What is known of a configuration.
+#[derive(Clone, Copy, Debug)]
+pub(crate) enum Cell {
+    /// It was not looked up.
+    Unknown,
+    /// The scan that is under way began in it.
+    First,
+    /// The scan that is under way came to it from the configuration of this state, set of lookaheads and place.
+    Way(State, u8, usize),
+    /// Its outcome is nothing.
+    KnownNothing,
+    /// Its outcome is a segment's end: the status, and the place.
+    KnownPicked(u8, usize),
+    /// Its outcome is a condition that holds on a lookahead named before, with a status.
+    KnownKept(Lookahead, u8),
+}
+
+/// The lookahead and the status of a state's condition, where it holds: the lookahead is in the set.
+fn condition_held(entry: (Acceptance, Option<Lookahead>), kept: u8) -> Option<(Lookahead, u8)>
+    requires { NamesPast 4 entry → ⊥ }
+    ensures { result ≡ condition_held kept entry }
+{
+    match entry.0 {
+        Acceptance::Conditional(lookahead, status) => {
+            if (kept >> lookahead) & 1 == 1 {
+                return Some((lookahead, status));
+            }
+            None
+        }
+        _ => None,
+    }
+}
+
+/// The set with the lookahead that a state names.
+fn keep(name: Option<Lookahead>, kept: u8) -> u8
+    requires { IfSome name (λ lookahead. lookahead < 4) }
+    ensures { result ≡ keep kept name }
+{
+    match name {
+        Some(lookahead) => kept | (1 << lookahead),
+        None => kept,
+    }
+}
+
+/// What comes of it that a scan enters a state at a place, where the lookaheads of a set were named before.
+pub(crate) fn arrive(
+    entry: (Acceptance, Option<Lookahead>),
+    state: State,
+    place: usize,
+    kept: u8,
+) -> LookUp
+    requires { NamesPast 4 entry → ⊥ }
+    ensures { result ≡ arrival entry state place kept }
+{
+    if let Some((lookahead, status)) = condition_held(entry, kept) {
+        return LookUp::Ends(Outcome::Kept(lookahead, status));
+    }
+    let kept = keep(entry.1, kept);
+    LookUp::Leads(Configuration { state, place, kept })
+}
+
+/// The outcome before a state that is entered at a place, from that after it.
+pub(crate) fn entered(
+    place: usize,
+    entry: (Acceptance, Option<Lookahead>),
+    outcome: Outcome,
+) -> Outcome
+    ensures { result ≡ entered place entry outcome }
+{
+    match outcome {
+        Outcome::Nothing => match entry.0 {
+            Acceptance::Accept(status) => Outcome::Picked(Boundary {
+                offset: place,
+                status,
+            }),
+            _ => Outcome::Nothing,
+        },
+        Outcome::Kept(lookahead, status) => {
+            if entry.1 == Some(lookahead) {
+                return Outcome::Picked(Boundary {
+                    offset: place,
+                    status,
+                });
+            }
+            Outcome::Kept(lookahead, status)
+        }
+        Outcome::Picked(_) => outcome,
+    }
+}
+
+/// The pick that an outcome stands for, where no lookahead was named before.
+pub(crate) fn picked(outcome: Outcome) -> Option<Boundary>
+    ensures { result ≡ picked outcome }
+{
+    match outcome {
+        Outcome::Picked(found) => Some(found),
+        _ => None,
+    }
+}
+
+/// The outcome that a cell holds.
+pub(crate) fn known(cell: Cell) -> Option<Outcome>
+    ensures { result ≡ known cell }
+{
+    match cell {
+        Cell::KnownNothing => Some(Outcome::Nothing),
+        Cell::KnownPicked(status, offset) => Some(Outcome::Picked(Boundary { offset, status })),
+        Cell::KnownKept(lookahead, status) => Some(Outcome::Kept(lookahead, status)),
+        _ => None,
+    }
+}
+
+/// The cell that holds an outcome.
+pub(crate) fn holding(outcome: Outcome) -> Cell
+    ensures { result ≡ holding outcome }
+{
+    match outcome {
+        Outcome::Nothing => Cell::KnownNothing,
+        Outcome::Picked(found) => Cell::KnownPicked(found.status, found.offset),
+        Outcome::Kept(lookahead, status) => Cell::KnownKept(lookahead, status),
+    }
+}

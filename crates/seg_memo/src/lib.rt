@@ -1,0 +1,10 @@
+//! The memoised engine: the boundaries of a text by a checked machine, where no configuration is looked up twice.
+#![tactic(auto)]
+
+pub mod configuration;
+pub mod memo;
+pub mod reader;
+mod search;
+mod table;
+#[cfg(test)]
+mod tests;

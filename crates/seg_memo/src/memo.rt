@@ -1,0 +1,224 @@
+//! The boundaries of a text by a state machine, where no configuration is looked up twice.
+
+ghost use Rattle.std.specs.Prelude.{◌≡◌, ◌<◌, ◌≤◌, ◌+◌, ◌*◌, ◌^◌, ◌⊎◌, ⊤, ℕ, false, IfOk, IfErr, SomeIff, length};
+ghost use Rattle.std.specs.Iterator.{YieldsFirst, MakesProgress, item_count};
+ghost use Rattle.seg_text.specs.Boundaries.{GivesNext, boundaries_in};
+ghost use Rattle.seg_text.specs.Items.{code_points, rest_after};
+ghost use Rattle.seg_machine.specs.Checked.{IsChecked};
+ghost use Rattle.seg_machine.specs.Segments.{machine_boundaries};
+ghost use Rattle.seg_machine.specs.Tailored.{machine_of};
+ghost use Rattle.seg_memo.specs.Configurations.{AreLookedUp, configurations, reading};
+ghost use Rattle.seg_memo.specs.Memos.{memo_places, subject_of};
+ghost use Rattle.seg_memo.specs.declared.memo.MemoError.TheVariants.{Memory, TooLarge};
+
+use crate::configuration::Cell;
+use crate::reader::{CountedTransitions, ReadTransitions};
+use crate::search::{next_segment, skip};
+use crate::table::Table;
+use seg_machine::tailored_machine::TailoredMachineBorrowed;
+use seg_text::cursor::Cursor;
+use std::alloc::Global;
+use std::marker::Model;
+use thiserror::Error;
+
+/// Why there is no memo. Each has a number, and of several the lowest is answered.
+#[derive(Clone, Copy, Debug, PartialEq, Eq, Error)]
+pub enum MemoError {
+    /// 1: the table's growth was refused.
+    #[error("1 Memory: memory is missing")]
+    Memory,
+    /// 4: the text has more configurations than the greatest `usize`.
+    #[error("4 TooLarge: the text has more configurations than can be counted")]
+    TooLarge,
+}
+
+/// The boundaries of a text by a state machine: its start, and then the end of each segment. Each configuration of its scans
+/// is looked up once.
+#[derive(Drop)]
+pub struct MemoBreakIterator<'data, I: Cursor, R: ReadTransitions> {
+    machine: TailoredMachineBorrowed<'data>,
+    reader: R,
+    table: Table,
+    text: I,
+    rest: I,
+    place: usize,
+    started: bool,
+    status: u8,
+}
+
+impl<'data, I: Cursor, R: ReadTransitions> Model for MemoBreakIterator<'data, I, R> {
+    ghost use Rattle.std.specs.Prelude.{◌≡◌, false};
+    ghost use Rattle.seg_text.specs.Items.{code_points, rest_after};
+    ghost use Rattle.seg_machine.specs.Machine.{symbols_of};
+    ghost use Rattle.seg_machine.specs.Tailored.{machine_of};
+    ghost use Rattle.seg_memo.specs.Configurations.{reading, subject};
+    ghost use Rattle.seg_memo.specs.Grids.{filled, grid, IsMemo, IsReadBy};
+    ghost use Rattle.seg_memo.specs.Memos.{Memo, memo};
+
+    ghost Value = { Memo };
+
+    ghost view = { λ s. memo (reading (machine_of s.machine) (R.transitions s.reader)) (I.text s.text) s.place s.started s.status (R.counted s.reader) };
+
+    ghost invariant = { λ s.
+        let m = reading (machine_of s.machine) (R.transitions s.reader) in
+        let scanned = subject m (symbols_of m (code_points (I.text s.text).items)) in
+        (s.started ≡ false → (s.status ≡ 0) × (s.place ≡ 0))
+        × IsReadBy scanned (machine_of s.machine) (R.states s.reader) (R.transitions s.reader)
+        × (I.text s.rest ≡ rest_after s.place (I.text s.text))
+        × IsMemo scanned (grid s.table) s.place
+        × (R.counted s.reader ≡ filled s.table.cells.items) };
+}
+
+impl<'data, I: Cursor, R: ReadTransitions> MemoBreakIterator<'data, I, R> {
+    /// The status of the boundary that was given last: 0 for the first, before it and after the end.
+    pub fn status(&self) -> u8
+        ensures { result ≡ self.now.coming.status }
+    {
+        self.status
+    }
+
+    /// How many transitions were looked up: as many as there are different configurations that the scans of the segments
+    /// given so far look up.
+    pub fn lookups(&self) -> usize
+        ensures count { result ≡ self.now.lookups }
+        ensures different { AreLookedUp (subject_of self.now) self.now.given result }
+        ensures bound { result ≤ configurations self.now.machine (length self.now.text.items) }
+    {
+        self.reader.count()
+    }
+}
+
+impl<'data, I: Cursor, R: ReadTransitions> MemoBreakIterator<'data, I, R> {
+    /// The same, all but the transitions, which are the reader's: no boundary was given yet, the reader counts from 0 and has as
+    /// many states as the machine, and the machine with its transitions has no fault.
+    pub fn with_reader<R2: ReadTransitions>(self, reader: R2) -> MemoBreakIterator<'data, I, R2>
+        requires started { self.started ≡ false }
+        requires count { R2.counted reader ≡ 0 }
+        requires states { R2.states reader ≡ length self.machine.states }
+        requires checked { IsChecked (reading self.machine (R2.transitions reader)) }
+        ensures machine { result.machine ≡ reading self.entry.machine (R2.transitions reader) }
+        ensures text { result.text ≡ self.entry.text }
+        ensures started { (result.started ≡ false) × (result.given ≡ 0) × (result.lookups ≡ 0) × (result.coming.status ≡ 0) }
+        ensures boundaries { result.coming.left ≡ boundaries_in (machine_boundaries (reading self.entry.machine (R2.transitions reader))) self.entry.text }
+    {
+        let MemoBreakIterator {
+            machine,
+            reader: _,
+            table,
+            text,
+            rest,
+            place: _,
+            started: _,
+            status: _,
+        } = self;
+        let started = false;
+        MemoBreakIterator {
+            machine,
+            reader,
+            table,
+            text,
+            rest,
+            place: 0,
+            started,
+            status: 0,
+        }
+    }
+}
+
+/// How many items are left of a text, unless there are more than the greatest `usize`.
+fn count_items<I: Cursor>(text: &I) -> Option<usize>
+    ensures { SomeIff result (length (I.text text.now).items < 2 ^ 64) (length (I.text text.now).items) }
+{
+    let mut rest = text.fork();
+    let mut items = 0usize;
+    'items: while !rest.is_at_end() {
+        items = items.checked_add(1)?;
+        skip(&mut rest);
+    }
+    Some(items)
+}
+
+/// How many configurations there are, unless there are more than the greatest `usize`.
+fn count_configurations(states: usize, sets: usize, items: usize) -> Option<usize>
+    requires { (0 < states) × (0 < sets) }
+    ensures { SomeIff result (states * sets * (items + 1) < 2 ^ 64) (states * sets * (items + 1)) }
+{
+    states.checked_mul(sets)?.checked_mul(items.checked_add(1)?)
+}
+
+impl<'data, I: Cursor> MemoBreakIterator<'data, I, CountedTransitions<'data>> {
+    /// The boundaries of what is left of `text`. One growth makes the room for all configurations; nothing takes memory
+    /// after that. `TooLarge` where there are more of them than the greatest `usize`: no memory is asked for then.
+    pub fn try_new(
+        alloc: Global,
+        machine: TailoredMachineBorrowed<'data>,
+        text: I,
+    ) -> Result<Self, MemoError>
+        ensures made { IfOk result (λ s. (s.machine ≡ machine_of machine.entry) × (s.text ≡ I.text text) × (s.started ≡ false) × (s.given ≡ 0) × (s.lookups ≡ 0)
+            × (s.coming.left ≡ boundaries_in (machine_boundaries (machine_of machine.entry)) (I.text text)) × (s.coming.status ≡ 0)) }
+        ensures fits { IfOk result (λ s. configurations s.machine (length s.text.items) ≤ usize.MAX) }
+        ensures refused { IfErr result (λ e. ((e ≡ TooLarge) × (usize.MAX < configurations (machine_of machine.entry) (length (I.text text).items)))
+            ⊎ ((e ≡ Memory) × (configurations (machine_of machine.entry) (length (I.text text).items) ≤ usize.MAX))) }
+    {
+        machine.facts();
+        let states = machine.machine().states().len();
+        let sets = 1 << machine.num_lookaheads();
+        let Some(items) = count_items(&text) else {
+            return Err(MemoError::TooLarge);
+        };
+        let Some(count) = count_configurations(states, sets, items) else {
+            return Err(MemoError::TooLarge);
+        };
+        let Ok(cells) = vec![in alloc; Cell::Unknown; count] else {
+            return Err(MemoError::Memory);
+        };
+        Ok(MemoBreakIterator {
+            machine,
+            reader: CountedTransitions::new(machine.machine()),
+            table: Table {
+                states,
+                sets,
+                cells,
+            },
+            rest: text.fork(),
+            text,
+            place: 0,
+            started: false,
+            status: 0,
+        })
+    }
+}
+
+impl<'data, I: Cursor, R: ReadTransitions> Iterator for MemoBreakIterator<'data, I, R> {
+    type Item = usize;
+
+    ghost next_gives = { YieldsFirst memo_places };
+
+    ghost remaining = { item_count memo_places };
+
+    fn next(&mut self) -> Option<usize>
+        ensures steps { YieldsFirst memo_places self.old result self.new × GivesNext self.old.coming result self.new.coming }
+        ensures goes { MakesProgress (λ _. ⊤) (item_count memo_places) self.old result self.new }
+        ensures same { (self.new.machine ≡ self.old.machine) × (self.new.text ≡ self.old.text) }
+    {
+        if !self.started {
+            self.started = true;
+            return Some(self.rest.place());
+        }
+        if self.rest.is_at_end() {
+            self.status = 0;
+            return None;
+        }
+        let found = next_segment(
+            &self.machine,
+            &mut self.reader,
+            &mut self.table,
+            &self.text,
+            &mut self.rest,
+            self.place,
+        );
+        self.place = found.offset;
+        self.status = found.status;
+        Some(self.rest.place())
+    }
+}

@@ -1,0 +1,205 @@
+//! A scan that looks up no configuration that was looked up before.
+
+ghost use Rattle.std.specs.Prelude.{◌≡◌, ◌≢◌, ℕ, [], Some, suc, ◌+◌, ◌<◌, ◌≤◌, ◌^◌, length, drop, min, slice_index_or};
+ghost use Rattle.seg_text.specs.declared.boundary.Boundary.{Boundary as AnyBoundary};
+ghost use Rattle.seg_text.specs.Boundaries.{shift};
+ghost use Rattle.seg_text.specs.Items.{rest_after};
+ghost use Rattle.seg_machine.specs.Pick.{pick};
+ghost use Rattle.seg_machine.specs.Tailored.{machine_of};
+ghost use Rattle.seg_memo.specs.Configurations.{Scan, Subject, start_at};
+ghost use Rattle.seg_memo.specs.Outcomes.{look_up, IfLeads};
+ghost use Rattle.seg_memo.specs.declared.configuration.Cell.TheVariants.{Unknown};
+ghost use Rattle.seg_memo.specs.Grids.{cell, filled, grid, IsAt, IsMemo, IsReadBy, IsScanned, IsSound, IsWithin, Went};
+
+use crate::configuration::{
+    Cell, Configuration, LookUp, Outcome, arrive, entered, holding, known, picked,
+};
+use crate::reader::ReadTransitions;
+use crate::table::Table;
+use seg_machine::provider::{SegmenterStateMachine, Symbol};
+use seg_machine::tailored_machine::TailoredMachineBorrowed;
+use seg_text::boundary::Boundary;
+use seg_text::cursor::Cursor;
+
+/// The symbol of the item at a place, and the place after it; at the end of the text the symbol of the end, and the place
+/// stays.
+fn next_symbol<I: Cursor>(
+    machine: &TailoredMachineBorrowed<'_>,
+    rest: &mut I,
+    place: usize,
+) -> (Symbol, usize)
+    ghost subject: { Subject }
+    requires rest { IsAt subject (machine_of machine.now) place (I.text rest.old).items }
+    requires place { place ≤ length subject.symbols }
+    requires room { suc (length subject.symbols) < 2 ^ 64 }
+    ensures symbol { result.0 ≡ slice_index_or subject.symbols place 0 }
+    ensures place { result.1 ≡ min (suc place) (length subject.symbols) }
+    ensures rest { IsAt subject (machine_of machine.now) result.1 (I.text rest.new).items }
+{
+    match rest.next_item() {
+        Some((_, code_point)) => (machine.symbol(code_point), place + 1),
+        None => (SegmenterStateMachine::EOT_SYMBOL, place),
+    }
+}
+
+/// One look-up: what it comes to in a configuration that the text's next item reads the transition.
+fn look_up<I: Cursor, R: ReadTransitions>(
+    machine: &TailoredMachineBorrowed<'_>,
+    reader: &mut R,
+    rest: &mut I,
+    here: Configuration,
+) -> LookUp
+    ghost subject: { Subject }
+    requires sound { IsSound subject }
+    requires read { IsReadBy subject (machine_of machine.now) (R.states reader.old) (R.transitions reader.old) }
+    requires count { R.counted reader.old < usize.MAX }
+    requires here { IsWithin subject here }
+    requires rest { IsAt subject (machine_of machine.now) here.place (I.text rest.old).items }
+    ensures value { result ≡ look_up subject here }
+    ensures within { IfLeads result (IsWithin subject) }
+    ensures rest { IfLeads result (λ next. IsAt subject (machine_of machine.now) next.place (I.text rest.new).items) }
+    ensures read { IsReadBy subject (machine_of machine.now) (R.states reader.new) (R.transitions reader.new) }
+    ensures count { R.counted reader.new ≡ R.counted reader.old + 1 }
+{
+    let (symbol, place) = next_symbol(machine, rest, here.place);
+    let state = reader.read(here.state, symbol);
+    if state == SegmenterStateMachine::TRASH_STATE {
+        return LookUp::Ends(Outcome::Nothing);
+    }
+    arrive(machine.entry(state), state, place, here.kept)
+}
+
+/// Goes on from the beginning of a scan to a configuration that is known or to the scan's end. Each cell on the way leads
+/// back to the one before. Gives the configuration of the last look-up, and its outcome.
+fn go_forward<I: Cursor, R: ReadTransitions>(
+    machine: &TailoredMachineBorrowed<'_>,
+    reader: &mut R,
+    table: &mut Table,
+    rest: &mut I,
+    first: Configuration,
+) -> (Configuration, Outcome)
+    ghost scan: { Scan }
+    requires read { IsReadBy scan.subject (machine_of machine.now) (R.states reader.old) (R.transitions reader.old) }
+    requires memo { IsMemo scan.subject (grid table.old) scan.start }
+    requires count { R.counted reader.old ≡ filled table.old.cells.items }
+    requires first { first ≡ start_at scan.start }
+    requires unknown { cell scan.subject (grid table.old) first ≡ Unknown }
+    requires rest { IsAt scan.subject (machine_of machine.now) scan.start (I.text rest.old).items }
+    ensures read { IsReadBy scan.subject (machine_of machine.now) (R.states reader.new) (R.transitions reader.new) }
+    ensures went { Went scan.subject (grid table.new) scan.start result.0 result.1 }
+    ensures count { R.counted reader.new ≡ filled table.new.cells.items }
+{
+    let mut here = first;
+    table.write(here, Cell::First);
+    'scan: loop {
+        let next = match look_up(machine, reader, rest, here) {
+            LookUp::Ends(outcome) => return (here, outcome),
+            LookUp::Leads(next) => next,
+        };
+        if let Some(outcome) = known(table.cell(next)) {
+            let entry = machine.entry(next.state);
+            return (here, entered(next.place, entry, outcome));
+        }
+        table.write(next, Cell::Way(here.state, here.kept, here.place));
+        here = next;
+    }
+}
+
+/// Goes back over the cells of a scan, and fills each with its outcome. Gives the outcome of the first.
+fn go_back(
+    machine: &TailoredMachineBorrowed<'_>,
+    table: &mut Table,
+    last: Configuration,
+    outcome: Outcome,
+) -> Outcome
+    ghost scan: { Scan }
+    requires states { scan.subject.machine.states ≡ (machine_of machine.now).states }
+    requires went { Went scan.subject (grid table.old) scan.start last outcome }
+    ensures scanned { IsScanned scan.subject (grid table.new) scan.start result }
+    ensures count { filled table.new.cells.items ≡ filled table.old.cells.items }
+{
+    let mut here = last;
+    let mut outcome = outcome;
+    'back: loop {
+        let cell = table.cell(here);
+        table.write(here, holding(outcome));
+        let Cell::Way(state, kept, place) = cell else {
+            return outcome;
+        };
+        outcome = entered(here.place, machine.entry(here.state), outcome);
+        here = Configuration { state, place, kept };
+    }
+}
+
+/// The outcome of the configuration that a scan begins in.
+fn outcome_from<I: Cursor, R: ReadTransitions>(
+    machine: &TailoredMachineBorrowed<'_>,
+    reader: &mut R,
+    table: &mut Table,
+    rest: &I,
+    start: usize,
+) -> Outcome
+    ghost scan: { Scan }
+    requires read { IsReadBy scan.subject (machine_of machine.now) (R.states reader.old) (R.transitions reader.old) }
+    requires memo { IsMemo scan.subject (grid table.old) scan.start }
+    requires count { R.counted reader.old ≡ filled table.old.cells.items }
+    requires start { start ≡ scan.start }
+    requires rest { IsAt scan.subject (machine_of machine.now) scan.start (I.text rest.now).items }
+    ensures read { IsReadBy scan.subject (machine_of machine.now) (R.states reader.new) (R.transitions reader.new) }
+    ensures scanned { IsScanned scan.subject (grid table.new) scan.start result }
+    ensures count { R.counted reader.new ≡ filled table.new.cells.items }
+{
+    let first = Configuration {
+        state: SegmenterStateMachine::START_STATE,
+        place: start,
+        kept: 0,
+    };
+    if let Some(outcome) = known(table.cell(first)) {
+        return outcome;
+    }
+    let mut iter = rest.fork();
+    let (last, outcome) = go_forward(machine, reader, table, &mut iter, first);
+    go_back(machine, table, last, outcome)
+}
+
+/// Goes on by an item.
+pub(crate) fn skip<I: Cursor>(rest: &mut I)
+    ensures { I.text rest.new ≡ rest_after 1 (I.text rest.old) }
+{
+    match rest.next_item() {
+        Some(_) => {}
+        None => {}
+    }
+}
+
+/// Goes on to the end of the next segment: where it is in the whole text, counted in items, and its status.
+#[inline(never)]
+pub(crate) fn next_segment<I: Cursor, R: ReadTransitions>(
+    machine: &TailoredMachineBorrowed<'_>,
+    reader: &mut R,
+    table: &mut Table,
+    text: &I,
+    rest: &mut I,
+    start: usize,
+) -> Boundary
+    ghost subject: { Subject }
+    requires read { IsReadBy subject (machine_of machine.now) (R.states reader.old) (R.transitions reader.old) }
+    requires memo { IsMemo subject (grid table.old) start }
+    requires count { R.counted reader.old ≡ filled table.old.cells.items }
+    requires rest { IsAt subject (machine_of machine.now) start (I.text rest.old).items }
+    requires some { (I.text rest.old).items ≢ [] }
+    ensures read { IsReadBy subject (machine_of machine.now) (R.states reader.new) (R.transitions reader.new) }
+    ensures memo { IsMemo subject (grid table.new) result.offset }
+    ensures count { R.counted reader.new ≡ filled table.new.cells.items }
+    ensures segment { (p : AnyBoundary) × (pick subject.machine (drop start subject.symbols) ≡ Some p) × (result ≡ shift start p)
+        × (I.text rest.new ≡ rest_after p.offset (I.text rest.old)) }
+{
+    let outcome = outcome_from(machine, reader, table, rest, start);
+    let Some(found) = picked(outcome) else {
+        unreachable!()
+    };
+    for item in start..found.offset {
+        skip(rest);
+    }
+    found
+}
