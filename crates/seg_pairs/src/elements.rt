@@ -14,6 +14,12 @@ pub struct Element {
     pub class: u8,
     /// Where it begins: bytes in str, UTF-8 and Latin-1, 16-bit units in UTF-16.
     pub place: usize,
+    /// Its code point, or that of its base.
+    pub code_point: u32,
+    /// Whether it ends with the mark that joins it to what follows it. An item alone never does, but as an element of lines.
+    pub is_joined: bool,
+    /// Whether it is one item.
+    pub is_single: bool,
 }
 
 /// A cursor over the elements of a text, each read once.
@@ -70,7 +76,13 @@ impl<'data, I: Cursor> Elements for Items<'data, I> {
         match self.cursor.next_item() {
             Some((place, code_point)) => {
                 let class = self.pairs.class(code_point);
-                Some(Element { place, class })
+                Some(Element {
+                    class,
+                    place,
+                    code_point,
+                    is_joined: false,
+                    is_single: true,
+                })
             }
             None => None,
         }
