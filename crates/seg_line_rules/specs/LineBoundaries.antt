@@ -3,7 +3,7 @@ use Rattle.std.specs.Prelude.{ℕ, ◌-◌, nat_lt, List, [], ◌∷◌, length,
 use Rattle.std.specs.List.{prefix_len}
 use Rattle.seg_text.specs.declared.boundary.Boundary.{Boundary}
 use Rattle.seg_text.specs.Items.{Text}
-use Rattle.seg_text.specs.Boundaries.{boundary, boundaries_in}
+use Rattle.seg_text.specs.Boundaries.{boundary, boundaries_in, RisesTo}
 use Rattle.seg_text.specs.Cuts.{Cuts, with_status}
 use Rattle.seg_text.specs.Stretches.{Stretch, list_boundaries}
 use Rattle.seg_pairs.specs.Verdict.{Verdict}
@@ -46,6 +46,10 @@ line_boundaries cuts rules code_points = list_boundaries (line_stretch cuts rule
 -- those cuts that stand strictly inside
 abbrev pub inside : Cuts → Cuts
 inside cuts run = filter (λ cut. nat_lt cut (length run)) (cuts run)
+
+-- cuts rise strictly from the start of each run, where there is none, and the last is at its end
+abbrev pub CutsCover : Cuts → Type 0
+CutsCover cuts = (run : List ℕ) → RisesTo 0 (with_status 0 (cuts run)) (length run)
 
 -- the boundaries of a text of lines: those of its code points, at the places of its items
 abbrev pub line_boundaries_of : Cuts → LineRules → Text → List Boundary
