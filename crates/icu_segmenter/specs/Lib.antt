@@ -26,6 +26,7 @@ pub use Rattle.seg_engine.specs.Rules
 pub use Rattle.seg_engine.specs.Engine
 pub use Rattle.seg_clusters.specs.Clusters
 pub use Rattle.seg_clusters.specs.Sentences
+pub use Rattle.seg_line_rules.specs.LineStyles
 pub use Rattle.seg_lines.specs.Options
 pub use Rattle.seg_lines.specs.Tailorings
 pub use Rattle.seg_lines.specs.LineTailorings

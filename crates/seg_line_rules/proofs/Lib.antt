@@ -1,8 +1,10 @@
 pub mod LooseRows
 pub mod Marks
-pub mod Units
+pub mod UnitLists
 pub mod UnitVerdicts
 pub mod LineStretches
 pub mod Inside
 pub mod LineRestarts
 pub mod MarkLaw
+pub mod UnitLandings
+pub mod UnitElements

@@ -14,7 +14,7 @@ use Rattle.seg_line_rules.specs.LineRules.{LineRules, line_class, is_complex, is
 use Rattle.seg_line_rules.specs.LineUnits.{LineUnit, CountedUnit, units_of, extent_of}
 use Rattle.seg_line_rules.specs.LineVerdict.{unit_verdict}
 use Rattle.seg_line_rules.specs.LineBoundaries.{in_code_points, line_verdict, complex_length, line_stretch_of, line_stretch}
-use Rattle.seg_line_rules.proofs.Units.{FirstUnit, first-unit, units, no-units, reach}
+use Rattle.seg_line_rules.proofs.UnitLists.{FirstUnit, first-unit, units, no-units, reach}
 use Rattle.seg_line_rules.proofs.UnitVerdicts.{BeginsRun, unit-forward, unit-run}
 
 -- cuts stand strictly inside

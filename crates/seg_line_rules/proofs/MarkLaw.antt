@@ -20,7 +20,7 @@ use Rattle.seg_line_rules.specs.LineUnits.{CountedUnit, is_mark, units_of, exten
 use Rattle.seg_line_rules.specs.LineVerdict.{unit_verdict}
 use Rattle.seg_line_rules.specs.LineBoundaries.{in_code_points, line_verdict, complex_length, line_stretch_of, line_stretch, line_boundaries}
 use Rattle.seg_line_rules.specs.MarkLaw.{KeepsMarks}
-use Rattle.seg_line_rules.proofs.Units.{PartsAfter, units, first-unit, extent-first, extent-none}
+use Rattle.seg_line_rules.proofs.UnitLists.{PartsAfter, units, first-unit, extent-first, extent-none}
 use Rattle.seg_line_rules.proofs.Inside.{rises-le}
 use Rattle.seg_line_rules.proofs.LineStretches.{StandInside, line-forward, line-going, line-run, run-two}
 

@@ -9,3 +9,4 @@ pub mod MarkLaw
 pub mod LineFaults
 pub mod LinePairs
 pub mod UnitElements
+pub mod LineSteps

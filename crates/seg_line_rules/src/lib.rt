@@ -5,4 +5,5 @@ pub mod laws;
 pub mod line_pairs;
 mod lists;
 pub mod options;
+pub mod units;
 pub mod verdicts;
