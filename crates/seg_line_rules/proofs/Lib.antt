@@ -8,3 +8,6 @@ pub mod LineRestarts
 pub mod MarkLaw
 pub mod UnitLandings
 pub mod UnitElements
+pub mod LineChains
+pub mod LineEvents
+pub mod RunEnds

@@ -10,3 +10,4 @@ pub mod LineFaults
 pub mod LinePairs
 pub mod UnitElements
 pub mod LineSteps
+pub mod LineEvents

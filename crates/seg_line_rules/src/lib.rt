@@ -1,6 +1,7 @@
 //! The boundaries of lines by a pair table: what options say, units of code points with their marks, verdicts on units.
 #![tactic(auto)]
 
+pub mod events;
 pub mod laws;
 pub mod line_pairs;
 mod lists;
