@@ -1,6 +1,6 @@
 -- Chains of verdicts over the elements of a text, over its units, and over its code points.
-use Rattle.std.proofs.Common.{◌≡◌, ℕ, zero, suc, ◌+◌, ◌<◌, ◌≤◌, Bool, true, false, List, [], ◌∷◌, length, map, drop, refl, sym, ap, ◌∙◌, subst, arith}
-use Rattle.std.proofs.lemmas.List.{length-drop, length-map, drop-drop}
+use Rattle.std.proofs.Common.{◌≡◌, ℕ, zero, suc, ◌+◌, ◌<◌, ◌≤◌, Bool, true, false, List, [], ◌∷◌, length, drop, refl, sym, ap, ◌∙◌, subst, arith}
+use Rattle.std.proofs.lemmas.List.{length-map, drop-drop}
 use Rattle.seg_text.specs.Items.{Item, place_of, code_points}
 use Rattle.seg_pairs.specs.declared.elements.Element.{Element}
 use Rattle.seg_pairs.specs.Elements.{place_at}
@@ -15,8 +15,8 @@ use Rattle.seg_line_rules.specs.LineVerdict.{unit_verdict}
 use Rattle.seg_line_rules.specs.LineBoundaries.{in_code_points, line_verdict}
 use Rattle.seg_line_rules.specs.UnitElements.{unit_seen, units_seen, base_of, marked_element, elements_from, line_elements}
 use Rattle.seg_line_rules.proofs.LineStretches.{line-forward}
-use Rattle.seg_line_rules.proofs.UnitElements.{from-place, on-units}
-use Rattle.seg_line_rules.proofs.UnitLists.{first-unit, units, no-units, units-left, reach, extent-sum}
+use Rattle.seg_line_rules.proofs.UnitElements.{from-place}
+use Rattle.seg_line_rules.proofs.UnitLists.{first-unit, units, units-left, extent-sum}
 use Rattle.seg_line_rules.proofs.UnitVerdicts.{unit-forward}
 
 chain-step : {X : Type 0} (v : List X → Verdict) → IsForward v → (x : X) (xs : List X) (w : Verdict) → v (x ∷ xs) ≡ w

@@ -1,5 +1,5 @@
 -- What comes next of a text whose lines are found event by event.
-use Rattle.std.proofs.Common.{◌≡◌, ℕ, zero, suc, ◌+◌, ◌-◌, ◌<◌, ◌≤◌, Option, Some, None, List, [], ◌∷◌, ◌++◌, length, map, take, drop, refl, sym, ap, ◌∙◌, subst, arith}
+use Rattle.std.proofs.Common.{◌≡◌, ℕ, ◌+◌, ◌-◌, ◌<◌, Option, Some, None, List, [], ◌∷◌, ◌++◌, length, map, take, drop, refl, sym, ap, ◌∙◌, subst, arith}
 use Rattle.std.specs.Prelude.{IfSome}
 use Rattle.std.specs.Iterator.{YieldsFirst}
 use Rattle.std.proofs.lemmas.List.{drop-drop, length-drop, length-take, take-map}
@@ -21,7 +21,7 @@ use Rattle.seg_pairs.specs.Steps.{EndsIn}
 use Rattle.seg_pairs.proofs.Chained.{Chained, chained}
 use Rattle.seg_pairs.proofs.Engine.{read-onto, rest-is}
 use Rattle.seg_pairs.proofs.Events.{cuts-placed}
-use Rattle.seg_line_rules.specs.LineBoundaries.{in_code_points, line_verdict, complex_length, line_stretch_of, line_stretch}
+use Rattle.seg_line_rules.specs.LineBoundaries.{line_verdict, complex_length, line_stretch_of, line_stretch}
 use Rattle.seg_line_rules.specs.LineEvents.{UnreadLines, unread_lines, GoesOnLines, AreAhead}
 use Rattle.seg_line_rules.specs.LineRules.{LineRules}
 use Rattle.seg_line_rules.specs.LineUnits.{CountedUnit, extent_of}

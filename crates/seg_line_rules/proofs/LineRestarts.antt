@@ -1,16 +1,16 @@
 -- Texts of lines without complex code points may be begun anew from any boundary.
-use Rattle.std.proofs.Common.{◌≡◌, ℕ, zero, suc, ◌<◌, ◌==◌, Bool, true, false, List, [], ◌∷◌, length, drop, refl, sym, ap, ◌∙◌, subst, inl, inr, arith}
+use Rattle.std.proofs.Common.{◌≡◌, ℕ, zero, suc, List, [], ◌∷◌, drop, refl, sym, ap, ◌∙◌, inl, inr, arith}
 use Rattle.std.specs.Prelude.{slice_get}
 use Rattle.std.proofs.lemmas.Bool.{eqb-true}
 use Rattle.seg_text.specs.declared.boundary.Boundary.{Boundary}
 use Rattle.seg_text.specs.Boundaries.{RestartsIn, start, shift_all}
 use Rattle.seg_text.specs.Cuts.{Cuts}
-use Rattle.seg_text.specs.Stretches.{Stretch, HasEndAlone, later_boundaries, list_boundaries}
+use Rattle.seg_text.specs.Stretches.{HasEndAlone}
 use Rattle.seg_text.proofs.Restarts.{restarts}
 use Rattle.seg_pairs.specs.Verdict.{Verdict}
 use Rattle.seg_pairs.specs.Verdict.Verdict.{BreakAfter, GoAfter, RunBegins}
 use Rattle.seg_pairs.proofs.ComplexStretches.{later-same}
-use Rattle.seg_line_rules.specs.LineRules.{LineRules, line_class}
+use Rattle.seg_line_rules.specs.LineRules.{LineRules}
 use Rattle.seg_line_rules.specs.LineBoundaries.{HasComplexCodePoint, line_verdict, line_stretch_of, line_stretch, line_boundaries}
 use Rattle.seg_line_rules.proofs.LineStretches.{line-going, line-run}
 

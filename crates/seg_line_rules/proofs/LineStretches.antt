@@ -1,21 +1,20 @@
 -- The stretches of lines: what each takes, and where its boundaries stand.
-use Rattle.std.proofs.Common.{◌≡◌, ◌≢◌, ℕ, zero, suc, ◌+◌, ◌-◌, ◌<◌, ◌≤◌, ◌==◌, Bool, true, false, List, [], ◌∷◌, length, take, drop, refl, sym, ap, ◌∙◌, subst, inl, inr, arith}
-use Rattle.std.specs.List.{prefix_len}
+use Rattle.std.proofs.Common.{◌≡◌, ℕ, suc, ◌<◌, true, List, [], ◌∷◌, length, take, drop, refl, sym, ap, ◌∙◌, subst, arith}
 use Rattle.std.proofs.lemmas.List.{length-map}
 use Rattle.std.proofs.lemmas.List.Folds.{length-prefix_len}
 use Rattle.std.proofs.lemmas.List.Sums.{prefix_len-le-length}
-use Rattle.seg_text.specs.Boundaries.{boundary, RisesTo}
+use Rattle.seg_text.specs.Boundaries.{RisesTo}
 use Rattle.seg_text.specs.Cuts.{Cuts, with_status}
-use Rattle.seg_text.specs.Stretches.{Stretch, HasProgress, HasEndAlone, IsWithin}
+use Rattle.seg_text.specs.Stretches.{HasProgress, IsWithin}
 use Rattle.seg_pairs.specs.Verdict.{Verdict}
 use Rattle.seg_pairs.specs.Verdict.Verdict.{BreakAfter, GoAfter, RunBegins}
 use Rattle.seg_pairs.specs.Chains.{TakesOf, IsForward}
 use Rattle.seg_line_rules.specs.LineRules.{LineRules, line_class, is_complex, is_complex_class}
-use Rattle.seg_line_rules.specs.LineUnits.{LineUnit, CountedUnit, units_of, extent_of}
+use Rattle.seg_line_rules.specs.LineUnits.{LineUnit, CountedUnit, units_of}
 use Rattle.seg_line_rules.specs.LineVerdict.{unit_verdict}
 use Rattle.seg_line_rules.specs.LineBoundaries.{in_code_points, line_verdict, complex_length, line_stretch_of, line_stretch}
-use Rattle.seg_line_rules.proofs.UnitLists.{FirstUnit, first-unit, units, no-units, reach}
-use Rattle.seg_line_rules.proofs.UnitVerdicts.{BeginsRun, unit-forward, unit-run}
+use Rattle.seg_line_rules.proofs.UnitLists.{first-unit, units, no-units, reach}
+use Rattle.seg_line_rules.proofs.UnitVerdicts.{unit-forward, unit-run}
 
 -- cuts stand strictly inside
 abbrev pub StandInside : Cuts → Type 0

@@ -1,5 +1,5 @@
 -- The complex items that a text begins with, as far as they are read.
-use Rattle.std.proofs.Common.{Bool, true, false, ◌≡◌, ℕ, suc, ◌+◌, ◌-◌, List, [], ◌∷◌, drop, refl, sym, ap, ◌∙◌, arith}
+use Rattle.std.proofs.Common.{true, false, ◌≡◌, ℕ, suc, ◌+◌, ◌-◌, List, [], ◌∷◌, drop, refl, sym, ap, ◌∙◌, arith}
 use Rattle.std.proofs.lemmas.List.{drop-drop}
 use Rattle.seg_text.specs.Items.{Item, Text, start_of, rest_after, code_points}
 use Rattle.seg_line_rules.specs.LineBoundaries.{complex_length}

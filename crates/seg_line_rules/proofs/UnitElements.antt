@@ -1,15 +1,14 @@
 -- The elements of a text of lines, and its units.
-use Rattle.std.proofs.Common.{◌≡◌, ℕ, zero, suc, ◌+◌, ◌<◌, Bool, true, false, Option, Some, None, List, [], ◌∷◌, length, map, drop, refl, sym, ap, ◌∙◌, subst, arith}
-use Rattle.std.specs.Iterator.{YieldsFirst}
+use Rattle.std.proofs.Common.{◌≡◌, ℕ, suc, Bool, true, false, List, [], ◌∷◌, refl, sym, ap, ◌∙◌, subst}
 use Rattle.std.proofs.lemmas.List.{length-map}
-use Rattle.seg_text.specs.Items.{Item, place_of, code_points}
+use Rattle.seg_text.specs.Items.{Item}
 use Rattle.seg_pairs.specs.declared.elements.Element.{Element}
 use Rattle.seg_pairs.specs.Elements.{place_at}
 use Rattle.seg_pairs.specs.Verdict.{Verdict}
 use Rattle.seg_pairs.specs.Chains.{TakesOf, IsForward}
 use Rattle.seg_line_rules.specs.LineRules.{LineRules, line_class}
 use Rattle.seg_line_rules.specs.LineUnits.{LineUnit, is_glued}
-use Rattle.seg_line_rules.specs.UnitElements.{unit_seen, units_seen, base_element, base_of, marked_element, elements_from, elements_after}
+use Rattle.seg_line_rules.specs.UnitElements.{unit_seen, units_seen, base_element, base_of, marked_element, elements_from}
 
 -- a verdict on units, of elements that are seen as units
 pub on-units : (v : List LineUnit → Verdict) → IsForward v → IsForward (λ (elements : List Element). v (units_seen elements))

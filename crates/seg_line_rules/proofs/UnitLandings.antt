@@ -1,5 +1,5 @@
 -- Where a verdict on units leads a step.
-use Rattle.std.proofs.Common.{◌≡◌, ℕ, zero, suc, ◌<◌, ◌&&◌, ◌||◌, Bool, true, false, Option, Some, None, List, [], ◌∷◌, map, drop, refl, sym, ap, ◌∙◌, subst}
+use Rattle.std.proofs.Common.{◌≡◌, ℕ, suc, ◌<◌, ◌&&◌, ◌||◌, Bool, true, false, Option, Some, None, List, [], ◌∷◌, drop, refl, sym, ap, ◌∙◌, subst}
 use Rattle.std.proofs.lemmas.List.{drop-map}
 use Rattle.seg_pairs.specs.declared.provider.pairs.BreakState.{BreakState}
 use Rattle.seg_pairs.specs.declared.provider.pairs.BreakState.TheVariants.{Break as BreakEntry, Keep, NoMatch, Intermediate, Index}
@@ -7,16 +7,16 @@ use Rattle.seg_pairs.specs.BreakStates.{named_state}
 use Rattle.seg_pairs.specs.PairTable.{PairTable, entry_of}
 use Rattle.seg_pairs.specs.declared.elements.Element.{Element}
 use Rattle.seg_pairs.specs.declared.verdicts.Step.{Step}
-use Rattle.seg_pairs.specs.declared.verdicts.Step.TheVariants.{Break, End, Go, Run as RunStep}
+use Rattle.seg_pairs.specs.declared.verdicts.Step.TheVariants.{End, Go}
 use Rattle.seg_pairs.specs.Elements.{classes_of, onto}
 use Rattle.seg_pairs.specs.Steps.{Lands, IsStepBelow}
 use Rattle.seg_pairs.specs.Stop.{IsStop, class_at, walk_of}
 use Rattle.seg_pairs.specs.Verdict.{Verdict, walk_from}
-use Rattle.seg_pairs.specs.Verdict.Verdict.{BreakAfter, GoAfter, RunBegins}
+use Rattle.seg_pairs.specs.Verdict.Verdict.{BreakAfter, GoAfter}
 use Rattle.seg_pairs.specs.Walk.{Walk, is_class}
 use Rattle.seg_pairs.proofs.Landings.{rest-at, saved-at}
 use Rattle.seg_line_rules.specs.declared.verdicts.Case.{Case}
-use Rattle.seg_line_rules.specs.declared.verdicts.Case.TheVariants.{Run, Together, Apart, Table}
+use Rattle.seg_line_rules.specs.declared.verdicts.Case.TheVariants.{Table}
 use Rattle.seg_line_rules.specs.LineRules.{LineRules}
 use Rattle.seg_line_rules.specs.LineSteps.{step_unless}
 use Rattle.seg_line_rules.specs.LineUnits.{LineUnit}

@@ -75,4 +75,3 @@ ZW = 53
 
 abbrev pub ZWJ : ℕ
 ZWJ = 54
-

@@ -1,5 +1,5 @@
 -- The verdict on the first of some units of lines.
-use Rattle.std.specs.Prelude.{ℕ, zero, suc, ◌==◌, ◌&&◌, ◌||◌, Bool, true, false, if◌then◌else◌, Option, Some, None, List, [], ◌∷◌, drop, map}
+use Rattle.std.specs.Prelude.{ℕ, zero, suc, ◌&&◌, ◌||◌, Bool, true, false, if◌then◌else◌, Option, Some, None, List, [], ◌∷◌, drop, map}
 use Rattle.seg_pairs.specs.declared.provider.pairs.BreakState.{BreakState}
 use Rattle.seg_pairs.specs.declared.provider.pairs.BreakState.TheVariants.{Break, Keep, NoMatch, Intermediate, Index}
 use Rattle.seg_pairs.specs.PairTable.{PairTable, entry_of}

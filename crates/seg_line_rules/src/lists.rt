@@ -45,12 +45,7 @@ pub(crate) fn listed(style: LineStyle, left: Element, right: Element) -> Option<
             }
         }
         LineBreakStrictness::Loose => {
-            match loose(
-                style.is_ja_or_zh,
-                left.class,
-                right.class,
-                right.code_point,
-            ) {
+            match loose(style.is_ja_or_zh, left.class, right.class, right.code_point) {
                 Some(breaks) => Some(breaks && !left.is_joined),
                 None => None,
             }

@@ -1,4 +1,4 @@
-use Rattle.std.proofs.Common.{◌≡◌, ◌∙◌, refl, sym}
+use Rattle.std.proofs.Common.{◌∙◌, refl, sym}
 use Rattle.seg_line_rules.proofs.LooseRows.{loose-when}
 use Rattle.seg_line_rules.proofs.lists.loose.Goals as goal
 

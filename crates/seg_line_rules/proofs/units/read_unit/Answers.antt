@@ -1,4 +1,4 @@
-use Rattle.std.proofs.Common.{◌≡◌, ◌∙◌, ap, sym}
+use Rattle.std.proofs.Common.{◌∙◌, ap, sym}
 use Rattle.seg_pairs.specs.declared.elements.Element.{Element}
 use Rattle.seg_line_rules.specs.LinePairs.{rules_by}
 use Rattle.seg_line_rules.proofs.UnitElements.{unit-ends, unit-stops, unit-goes}

@@ -1,4 +1,4 @@
-use Rattle.std.proofs.Common.{◌≡◌, ◌∙◌, refl, sym}
+use Rattle.std.proofs.Common.{◌∙◌, refl, sym}
 use Rattle.seg_line_rules.proofs.UnitLandings.{first-lands, first-named, first-between}
 use Rattle.seg_line_rules.proofs.verdicts.table_step.Goals as goal
 

@@ -1,4 +1,4 @@
-use Rattle.std.proofs.Common.{◌≡◌, ◌&&◌, ◌||◌, ◌∙◌, ap, refl}
+use Rattle.std.proofs.Common.{◌&&◌, ◌||◌, ◌∙◌, ap}
 use Rattle.seg_line_rules.proofs.UnitLandings.{unit-go, unit-break, unit-back, unit-end-back, unit-end, unless-below}
 use Rattle.seg_line_rules.proofs.verdicts.walk_step.Goals as goal
 

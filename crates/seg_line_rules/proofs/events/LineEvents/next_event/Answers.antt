@@ -1,4 +1,4 @@
-use Rattle.std.proofs.Common.{◌≡◌, ◌∷◌, List, refl, sym, ap, ◌∙◌}
+use Rattle.std.proofs.Common.{◌∷◌, List, refl, sym, ap, ◌∙◌}
 use Rattle.seg_text.specs.Items.{Text}
 use Rattle.seg_pairs.specs.Chains.{chain}
 use Rattle.seg_pairs.specs.declared.elements.Element.{Element}

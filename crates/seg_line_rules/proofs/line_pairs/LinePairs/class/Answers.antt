@@ -1,4 +1,4 @@
-use Rattle.std.proofs.Common.{◌≡◌, refl}
+use Rattle.std.proofs.Common.{refl}
 use Rattle.seg_line_rules.specs.LineRules.{line_class}
 use Rattle.seg_line_rules.proofs.line_pairs.LinePairs.class.Goals as goal
 

@@ -1,4 +1,4 @@
-use Rattle.std.proofs.Common.{◌≡◌, ◌∙◌, refl, sym}
+use Rattle.std.proofs.Common.{◌∙◌, refl, sym}
 use Rattle.seg_line_rules.specs.LinePairs.{rules_by}
 use Rattle.seg_line_rules.proofs.UnitLandings.{unit-last, unit-case, unit-table}
 use Rattle.seg_line_rules.proofs.verdicts.LineVerdictsVerdicts.step.Goals as goal
