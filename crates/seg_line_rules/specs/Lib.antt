@@ -11,3 +11,4 @@ pub mod LinePairs
 pub mod UnitElements
 pub mod LineSteps
 pub mod LineEvents
+pub mod LinesLeft

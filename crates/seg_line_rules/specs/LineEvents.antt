@@ -6,9 +6,9 @@ use Rattle.seg_text.specs.Boundaries.{boundary, boundaries_in}
 use Rattle.seg_text.specs.Cuts.{Cuts, AreCutsOf, with_status, cut_places}
 use Rattle.seg_text.specs.Stretches.{later_boundaries}
 use Rattle.seg_pairs.specs.declared.elements.Element.{Element}
-use Rattle.seg_pairs.specs.declared.runs.Event.{Event}
-use Rattle.seg_pairs.specs.declared.runs.Event.TheVariants.{End, Break, Run}
 use Rattle.seg_pairs.specs.Elements.{onto}
+use Rattle.seg_line_rules.specs.declared.events.LineEvent.{LineEvent}
+use Rattle.seg_line_rules.specs.declared.events.LineEvent.TheVariants.{End, Break, Run}
 use Rattle.seg_line_rules.specs.LineBoundaries.{line_stretch}
 use Rattle.seg_line_rules.specs.LineRules.{LineRules}
 use Rattle.seg_line_rules.specs.UnitElements.{UnitsLeft, line_elements}
@@ -23,13 +23,14 @@ abbrev pub unread_lines : Cuts → UnreadLines → List Boundary
 unread_lines cuts unread = boundaries_in (later_boundaries (line_stretch cuts unread.rules)) unread.text
 
 -- what comes next, however runs are cut: the end, a boundary, or a run with its cuts
-abbrev pub LeadsToLines : {I : Type 0} → (I → Text) → UnreadLines → Event I → UnreadLines → Type 0
+abbrev pub LeadsToLines : {I : Type 0} → (I → Text) → UnreadLines → LineEvent I → UnreadLines → Type 0
 LeadsToLines text before End after = (before.text.items ≡ []) × (after ≡ before)
-LeadsToLines text before (Break place class) after =
+LeadsToLines text before (Break place) after =
     (cuts : Cuts) → unread_lines cuts before ≡ boundary place 0 ∷ unread_lines cuts after
-LeadsToLines text before (Run run) after =
-    (cuts : Cuts) → AreCutsOf (length (text run).items) (cuts (code_points (text run).items))
-    → unread_lines cuts before ≡ with_status 0 (cut_places cuts (text run)) ++ unread_lines cuts after
+LeadsToLines text before (Run run end) after =
+    (end ≡ (text run).end)
+    × ((cuts : Cuts) → AreCutsOf (length (text run).items) (cuts (code_points (text run).items))
+    → unread_lines cuts before ≡ with_status 0 (cut_places cuts (text run)) ++ unread_lines cuts after)
 
 -- the text goes on by the same rules, and less of it is left
 pub record GoesOnLines (before after : UnreadLines) : Type 0 where

@@ -13,10 +13,20 @@ use crate::line_pairs::LinePairs;
 use crate::units::Units;
 use crate::verdicts::LineVerdicts;
 use seg_pairs::elements::{Element, Elements};
-use seg_pairs::runs::Event;
 use seg_pairs::verdicts::{Outcome, next_break};
 use seg_text::cursor::Cursor;
 use std::marker::Model;
+
+/// What comes next of a text.
+#[derive(Debug, Drop)]
+pub enum LineEvent<I: Cursor> {
+    /// Its end.
+    End,
+    /// A boundary at this place.
+    Break(usize),
+    /// A run of complex items, as a text whose places are those of the whole, and the place where it ends.
+    Run(I, usize),
+}
 
 /// A text whose lines are found event by event.
 #[derive(Debug, Drop)]
@@ -69,13 +79,13 @@ impl<'data, I: Cursor> LineEvents<'data, I> {
         self.here.up_to(self.here.place())
     }
 
-    /// What comes next; boundaries have class 0. After the end it is the end for ever.
-    pub fn next_event(&mut self) -> Event<I>
+    /// What comes next. After the end it is the end for ever.
+    pub fn next_event(&mut self) -> LineEvent<I>
         ensures leads { LeadsToLines I.text self.old result self.new }
         ensures goes { GoesOnLines self.old self.new }
     {
         let Some(left) = self.next else {
-            return Event::End;
+            return LineEvent::End;
         };
         let rules = LineVerdicts { pairs: self.pairs };
         match next_break(&rules, left, &mut self.rest) {
@@ -83,14 +93,14 @@ impl<'data, I: Cursor> LineEvents<'data, I> {
                 self.next = next;
                 let place = place_before(next, &self.rest);
                 self.here.seek(place);
-                Event::Break(place, 0)
+                LineEvent::Break(place)
             }
             Outcome::Run(first, _second) => {
                 self.here.seek(first.place);
-                let run = take_run(self.pairs, &mut self.here);
+                let (run, end) = take_run(self.pairs, &mut self.here);
                 self.rest = Units::new(self.pairs, self.here.fork());
                 self.next = self.rest.next_element();
-                Event::Run(run)
+                LineEvent::Run(run, end)
             }
         }
     }
@@ -106,15 +116,17 @@ fn place_before<E: Elements>(next: Option<Element>, rest: &E) -> usize
     }
 }
 
-/// The complex items that a text begins with, as a text that ends there: its places stay. `rest` goes on at the last of them. Takes no memory.
-fn take_run<I: Cursor>(pairs: LinePairs<'_>, rest: &mut I) -> I
-    ensures run { I.text result ≡ text_before (complex_length (rules_by pairs.entry) (code_points (I.text rest.old).items)) (I.text rest.old) }
+/// The complex items that a text begins with, as a text that ends there, and the place of its end: its places stay. `rest` goes on at the
+/// last of them. Takes no memory.
+fn take_run<I: Cursor>(pairs: LinePairs<'_>, rest: &mut I) -> (I, usize)
+    ensures run { I.text result.0 ≡ text_before (complex_length (rules_by pairs.entry) (code_points (I.text rest.old).items)) (I.text rest.old) }
+    ensures end { result.1 ≡ (I.text result.0).end }
     ensures rest { I.text rest.new ≡ rest_after (complex_length (rules_by pairs.entry) (code_points (I.text rest.old).items) - 1) (I.text rest.old) }
 {
     let (last, end) = run_ends(pairs, rest);
     let run = rest.up_to(end);
     rest.seek(last);
-    run
+    (run, end)
 }
 
 /// The place of the last of the complex items that a text begins with, and the place after it.
