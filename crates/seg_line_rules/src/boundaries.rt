@@ -42,11 +42,7 @@ impl<'data, I: Cursor> Model for ClassicLines<'data, I> {
 
 impl<'data, I: Cursor> ClassicLines<'data, I> {
     /// The boundaries of what is left of a text. Takes no memory.
-    pub fn new(
-        pairs: LinePairs<'data>,
-        payloads: ComplexPayloadsBorrowed<'data>,
-        text: I,
-    ) -> Self
+    pub fn new(pairs: LinePairs<'data>, payloads: ComplexPayloadsBorrowed<'data>, text: I) -> Self
         ensures boundaries { result.left ≡ line_boundaries_of (run_cuts_by (payloads_of payloads.entry)) (rules_by pairs.entry) (I.text text) }
         ensures cover { IsCover (start_of (I.text text)) (I.text text).end result.left }
         ensures status { result.status ≡ 0 }

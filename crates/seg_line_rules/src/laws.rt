@@ -1,14 +1,23 @@
 //! Laws of the boundaries of lines by a pair table, in lists of code points: however runs are cut, or where their cuts rise strictly to their ends.
 
-ghost use Rattle.std.specs.Prelude.{ℕ, List, length};
+ghost use Rattle.std.specs.Prelude.{◌≡◌, ℕ, List, length, drop};
 ghost use Rattle.seg_text.specs.Boundaries.{HasEqualOrdinals, IsCover, RestartsIn};
 ghost use Rattle.seg_text.specs.Cuts.{Cuts};
 ghost use Rattle.seg_text.specs.Stretches.{HasOneAnswer};
 ghost use Rattle.seg_line_rules.specs.LineBoundaries.{CutsCover, HasComplexCodePoint, inside, line_boundaries, line_stretch};
 ghost use Rattle.seg_line_rules.specs.LinePairs.{rules_by};
+ghost use Rattle.seg_line_rules.specs.LineUnits.{counted_units, extent_of};
 ghost use Rattle.seg_line_rules.specs.MarkLaw.{KeepsMarks};
 
 use crate::line_pairs::LinePairs;
+
+/// Law: what is left after some units has the other units. So the verdict on the first unit of what is left is one on the units of the whole.
+pub fn units_of_the_rest(pairs: LinePairs<'_>)
+    ensures { (n : ℕ) (code_points : List ℕ) → let units = counted_units (rules_by pairs.entry) code_points in
+        counted_units (rules_by pairs.entry) (drop (extent_of n units) code_points) ≡ drop n units }
+{
+    let _ = pairs;
+}
 
 /// Law: a list of code points has exactly one list of boundaries: the first is at its start, and the others come from the first stretch
 /// of what is left, again and again. Such a stretch is what the verdict on its first unit takes, or a run of complex code points but its last.

@@ -10,16 +10,16 @@ use seg_text::cursor::Cursor;
 /// An element of a text: an item, or a base with the marks after it.
 #[derive(Clone, Copy, Debug)]
 pub struct Element {
-    /// Its class.
+    /// Its class: that of its base.
     pub class: u8,
-    /// Where it begins: bytes in str, UTF-8 and Latin-1, 16-bit units in UTF-16.
-    pub place: usize,
-    /// Its code point, or that of its base.
-    pub code_point: u32,
-    /// Whether it ends with the mark that joins it to what follows it. An item alone never does, but as an element of lines.
+    /// Whether it ends with the mark that joins it to what follows it, as elements of lines may.
     pub is_joined: bool,
     /// Whether it is one item.
     pub is_single: bool,
+    /// Its code point: that of its base.
+    pub code_point: u32,
+    /// Where it begins: bytes in str, UTF-8 and Latin-1, 16-bit units in UTF-16.
+    pub place: usize,
 }
 
 /// A cursor over the elements of a text, each read once.
@@ -78,10 +78,10 @@ impl<'data, I: Cursor> Elements for Items<'data, I> {
                 let class = self.pairs.class(code_point);
                 Some(Element {
                     class,
-                    place,
-                    code_point,
                     is_joined: false,
                     is_single: true,
+                    code_point,
+                    place,
                 })
             }
             None => None,

@@ -70,9 +70,11 @@ returns-in-Run-clause-leads g c =
     let s = c.self.inside in
     let text = g.I.Cursor.text s.here in
     let r = run-of (rules_by s.pairs) text _ _ _ _ _ _ c.in-Some.is c.self.invariant.same c.in-Run.ensures.ends in
-    rw (← c.self.view_is)
-    (c.take_run-run.ensures.end, run-leads (rules_by s.pairs) text (g.I.Cursor.text c.seek-in-Run.new.self) (g.I.Cursor.text c.take_run-run.result.0) (g.I.Cursor.text c.take_run-run.new.rest) _ r
-    (c.seek-in-Run.ensures r.gone r.here) c.take_run-run.ensures.run c.take_run-run.ensures.rest)
+    rw (← c.self.view_is) (
+      c.take_run-run.ensures.end,
+      run-leads (rules_by s.pairs) text (g.I.Cursor.text c.seek-in-Run.new.self) (g.I.Cursor.text c.take_run-run.result.0) (g.I.Cursor.text c.take_run-run.new.rest) _ r
+          (c.seek-in-Run.ensures r.gone r.here) c.take_run-run.ensures.run c.take_run-run.ensures.rest,
+    )
 
 pub returns-in-Run-clause-goes : goal.returns-in-Run-clause-goes
 returns-in-Run-clause-goes g c =
