@@ -7,7 +7,7 @@ use Rattle.std.proofs.lemmas.Bool.{cases_eq}
 use Rattle.std.proofs.lemmas.Bool.Decides.{nat_tests}
 use Rattle.std.proofs.lemmas.Option.{none-some, same_Some}
 use Rattle.seg_data.specs.declared.provider.DataError.{DataError}
-use Rattle.seg_data.specs.declared.provider.DataError.TheVariants.{Memory, RangeOrder, RangePast10FFFF, TableSize, ClassOutOfRange, StateOutOfRange, StartRowKeeps, ComplexItems, ComplexBelow0100, StateCount, TransitionSize, TransitionOutOfRange, SymbolOutOfRange, TooManyLookaheads, LookaheadOutOfRange, EndCycle, Stalls, MissingTailoring}
+use Rattle.seg_data.specs.declared.provider.DataError.TheVariants.{Memory, RangeOrder, RangePast10FFFF, TableSize, ClassOutOfRange, StateOutOfRange, StartRowKeeps, ComplexItems, ComplexBelow0100, ComplexClassNamed, StateCount, TransitionSize, TransitionOutOfRange, SymbolOutOfRange, TooManyLookaheads, LookaheadOutOfRange, EndCycle, Stalls, MissingTailoring}
 use Rattle.seg_data.specs.Table.{named_values}
 use Rattle.seg_data.specs.Faults.{IsFaultless}
 use Rattle.seg_machine.specs.declared.provider.Acceptance.{Acceptance}
@@ -205,6 +205,7 @@ simple-faultless m passed fault has = none fault (parts m passed) has
     none StartRowKeeps simple has = has
     none ComplexItems simple has = has
     none ComplexBelow0100 simple has = has
+    none ComplexClassNamed simple has = has
     none StateCount simple (inl has) = no-count m simple.size has
     none StateCount simple (inr has) = no-more m simple.size has
     none TransitionSize simple has = no-size m simple.size has

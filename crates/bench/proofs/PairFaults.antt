@@ -4,7 +4,7 @@ use Rattle.std.specs.List.{list_all}
 use Rattle.std.proofs.lemmas.Bool.{false≢true}
 use Rattle.std.proofs.lemmas.Bool.Decides.{nat_tests}
 use Rattle.seg_data.specs.declared.provider.DataError.{DataError}
-use Rattle.seg_data.specs.declared.provider.DataError.TheVariants.{Memory, RangeOrder, RangePast10FFFF, TableSize, ClassOutOfRange, StateOutOfRange, StartRowKeeps, ComplexItems, ComplexBelow0100, StateCount, TransitionSize, TransitionOutOfRange, SymbolOutOfRange, TooManyLookaheads, LookaheadOutOfRange, EndCycle, Stalls, MissingTailoring}
+use Rattle.seg_data.specs.declared.provider.DataError.TheVariants.{Memory, RangeOrder, RangePast10FFFF, TableSize, ClassOutOfRange, StateOutOfRange, StartRowKeeps, ComplexItems, ComplexBelow0100, ComplexClassNamed, StateCount, TransitionSize, TransitionOutOfRange, SymbolOutOfRange, TooManyLookaheads, LookaheadOutOfRange, EndCycle, Stalls, MissingTailoring}
 use Rattle.seg_data.specs.Faults.{IsFaultless, IsLowestFault}
 use Rattle.seg_data.specs.Table.{named_values}
 use Rattle.seg_data.proofs.Anywhere.{any-contained}
@@ -70,6 +70,7 @@ faultless t passes RangePast10FFFF has = has
 faultless t passes StartRowKeeps has = has
 faultless t passes ComplexItems has = has
 faultless t passes ComplexBelow0100 has = has
+faultless t passes ComplexClassNamed has = has
 faultless t passes StateCount has = has
 faultless t passes TransitionSize has = has
 faultless t passes TransitionOutOfRange has = has
@@ -104,6 +105,7 @@ plain-faultless t passes plain RangePast10FFFF has = has
 plain-faultless t passes plain TableSize has = has
 plain-faultless t passes plain StateOutOfRange has = has
 plain-faultless t passes plain ComplexBelow0100 has = has
+plain-faultless t passes plain ComplexClassNamed has = has
 plain-faultless t passes plain StateCount has = has
 plain-faultless t passes plain TransitionSize has = has
 plain-faultless t passes plain TransitionOutOfRange has = has

@@ -1,6 +1,6 @@
 -- The bench data of words have no fault.
 use Rattle.std.proofs.Common.{◌≡◌, inl, inr, None, Result, Ok, Err, IfOk}
-use Rattle.seg_data.specs.declared.provider.DataError.TheVariants.{Memory, RangeOrder, RangePast10FFFF, TableSize, ClassOutOfRange, StateOutOfRange, StartRowKeeps, ComplexItems, ComplexBelow0100, StateCount, TransitionSize, TransitionOutOfRange, SymbolOutOfRange, TooManyLookaheads, LookaheadOutOfRange, EndCycle, Stalls, MissingTailoring}
+use Rattle.seg_data.specs.declared.provider.DataError.TheVariants.{Memory, RangeOrder, RangePast10FFFF, TableSize, ClassOutOfRange, StateOutOfRange, StartRowKeeps, ComplexItems, ComplexBelow0100, ComplexClassNamed, StateCount, TransitionSize, TransitionOutOfRange, SymbolOutOfRange, TooManyLookaheads, LookaheadOutOfRange, EndCycle, Stalls, MissingTailoring}
 use Rattle.seg_data.specs.Faults.{IsFaultless}
 use Rattle.seg_machine.specs.Machine.{Machine}
 use Rattle.seg_words.specs.WordFaults.{HasWordTableFault, HasWordMachineFault}
@@ -20,6 +20,7 @@ words-sound RangePast10FFFF (inl has) = has
 words-sound TableSize (inl has) = has
 words-sound StateOutOfRange (inl has) = has
 words-sound ComplexItems (inl has) = has
+words-sound ComplexClassNamed (inl has) = has
 words-sound StateCount (inl has) = has
 words-sound TransitionSize (inl has) = has
 words-sound TransitionOutOfRange (inl has) = has

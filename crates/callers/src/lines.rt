@@ -3,7 +3,7 @@ ghost use Rattle.std.specs.Prelude.{◌≡◌, ◌==◌, Some, IfOk, IfErr, filt
 ghost use Rattle.callers.specs.LineEnds.{ends_there, line_ends};
 ghost use Rattle.icu_segmenter.specs.Boundaries.{offsets};
 ghost use Rattle.icu_segmenter.specs.Faults.{IsLowestFault};
-ghost use Rattle.icu_segmenter.specs.LineRules.{line_boundaries_of, machine_lines};
+ghost use Rattle.icu_segmenter.specs.LineBreaks.{line_boundaries_of, machine_lines};
 ghost use Rattle.icu_segmenter.specs.Lines.{HasFaultWith, line_rules, owned_line_rules};
 ghost use Rattle.icu_segmenter.specs.Machine.{with_tailoring};
 ghost use Rattle.icu_segmenter.specs.ScriptWords.{no_words};

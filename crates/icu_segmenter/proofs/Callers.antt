@@ -7,7 +7,7 @@ use Rattle.seg_text.specs.Items.{Text}
 use Rattle.seg_dictionary.specs.ScriptWords.{ScriptWords, AreSameWords}
 use Rattle.seg_words.specs.WordRules.{WordRules, with_words, word_boundaries_of}
 use Rattle.seg_words.proofs.ByRules.{equal-words}
-use Rattle.seg_lines.specs.LineRules.{LineRules, line_boundaries_of, with_words as lines_with_words}
+use Rattle.seg_lines.specs.LineBreaks.{LineRules, line_boundaries_of, with_words as lines_with_words}
 use Rattle.seg_lines.proofs.LineLaws.{equal-words as equal-line-words}
 
 -- what an iterator gives up to its end is the list that it had left

@@ -26,12 +26,13 @@ pub use Rattle.seg_engine.specs.Rules
 pub use Rattle.seg_engine.specs.Engine
 pub use Rattle.seg_clusters.specs.Clusters
 pub use Rattle.seg_clusters.specs.Sentences
+pub use Rattle.seg_line_rules.specs.LineStyles
 pub use Rattle.seg_lines.specs.Options
 pub use Rattle.seg_lines.specs.Tailorings
 pub use Rattle.seg_lines.specs.LineTailorings
 pub use Rattle.seg_lines.specs.Lines
 pub use Rattle.seg_lines.specs.Joined
-pub use Rattle.seg_lines.specs.LineRules
+pub use Rattle.seg_lines.specs.LineBreaks
 pub use Rattle.seg_text.specs.Cuts
 pub use Rattle.seg_pairs.specs.Runs
 pub use Rattle.seg_complex.specs.Scripts

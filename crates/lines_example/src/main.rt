@@ -2,7 +2,7 @@
 #![tactic(auto)]
 
 ghost use Rattle.std.specs.Prelude.{◌≡◌, Some, IfOk};
-ghost use Rattle.icu_segmenter.specs.LineRules.{machine_lines};
+ghost use Rattle.icu_segmenter.specs.LineBreaks.{machine_lines};
 ghost use Rattle.icu_segmenter.specs.Lines.{owned_line_rules};
 ghost use Rattle.icu_segmenter.specs.Machine.{with_tailoring};
 ghost use Rattle.icu_segmenter.specs.ScriptWords.{no_words};

@@ -2,7 +2,7 @@
 use Rattle.std.proofs.Common.{◌≡◌, ℕ, suc, ◌<◌, refl, subst, inl, inr, arith}
 use Rattle.std.proofs.lemmas.Bool.{cases_lt}
 use Rattle.seg_data.specs.declared.provider.DataError.{DataError}
-use Rattle.seg_data.specs.declared.provider.DataError.TheVariants.{Memory, RangeOrder, RangePast10FFFF, TableSize, ClassOutOfRange, StateOutOfRange, StartRowKeeps, ComplexItems, ComplexBelow0100, StateCount, TransitionSize, TransitionOutOfRange, SymbolOutOfRange, TooManyLookaheads, LookaheadOutOfRange, EndCycle, Stalls, MissingTailoring}
+use Rattle.seg_data.specs.declared.provider.DataError.TheVariants.{Memory, RangeOrder, RangePast10FFFF, TableSize, ClassOutOfRange, StateOutOfRange, StartRowKeeps, ComplexItems, ComplexBelow0100, ComplexClassNamed, StateCount, TransitionSize, TransitionOutOfRange, SymbolOutOfRange, TooManyLookaheads, LookaheadOutOfRange, EndCycle, Stalls, MissingTailoring}
 use Rattle.seg_data.specs.Faults.{number_of, IsFaultless, IsLowestFault}
 
 pub same_number : (a b : DataError) → number_of a ≡ number_of b → a ≡ b
@@ -24,6 +24,8 @@ same_number ComplexItems ComplexItems same = refl
 same_number ComplexItems b same = absurd (omega arith)
 same_number ComplexBelow0100 ComplexBelow0100 same = refl
 same_number ComplexBelow0100 b same = absurd (omega arith)
+same_number ComplexClassNamed ComplexClassNamed same = refl
+same_number ComplexClassNamed b same = absurd (omega arith)
 same_number StateCount StateCount same = refl
 same_number StateCount b same = absurd (omega arith)
 same_number TransitionSize TransitionSize same = refl
@@ -53,6 +55,7 @@ number-below StateOutOfRange = omega arith
 number-below StartRowKeeps = omega arith
 number-below ComplexItems = omega arith
 number-below ComplexBelow0100 = omega arith
+number-below ComplexClassNamed = omega arith
 number-below StateCount = omega arith
 number-below TransitionSize = omega arith
 number-below TransitionOutOfRange = omega arith

@@ -1,7 +1,7 @@
 -- The faults of data that strangers hand in.
 use Rattle.std.specs.Prelude.{◌≡◌, ℕ, ◌+◌, ◌<◌, ◌≤◌, ◌⊎◌, Some, List, slice_get, Any}
 use Rattle.seg_data.specs.declared.provider.DataError.{DataError}
-use Rattle.seg_data.specs.declared.provider.DataError.TheVariants.{Memory, RangeOrder, RangePast10FFFF, TableSize, ClassOutOfRange, StateOutOfRange, StartRowKeeps, ComplexItems, ComplexBelow0100, StateCount, TransitionSize, TransitionOutOfRange, SymbolOutOfRange, TooManyLookaheads, LookaheadOutOfRange, EndCycle, Stalls, MissingTailoring}
+use Rattle.seg_data.specs.declared.provider.DataError.TheVariants.{Memory, RangeOrder, RangePast10FFFF, TableSize, ClassOutOfRange, StateOutOfRange, StartRowKeeps, ComplexItems, ComplexBelow0100, ComplexClassNamed, StateCount, TransitionSize, TransitionOutOfRange, SymbolOutOfRange, TooManyLookaheads, LookaheadOutOfRange, EndCycle, Stalls, MissingTailoring}
 
 -- the number of a fault: of several, the lowest is answered
 abbrev pub number_of : DataError → ℕ
@@ -14,6 +14,7 @@ number_of StateOutOfRange = 6
 number_of StartRowKeeps = 7
 number_of ComplexItems = 8
 number_of ComplexBelow0100 = 9
+number_of ComplexClassNamed = 10
 number_of StateCount = 11
 number_of TransitionSize = 12
 number_of TransitionOutOfRange = 13

@@ -62,6 +62,9 @@ pub enum DataError {
     /// 9: a code point below U+0100, which also Latin-1 has, has a script.
     #[error("9 ComplexBelow0100: a code point below U+0100 has a script")]
     ComplexBelow0100,
+    /// 10: in a pair table of lines the class of complex items is one that has a name.
+    #[error("10 ComplexClassNamed: the class of complex items is one of lines that has a name")]
+    ComplexClassNamed,
     /// 11: there is no state, or there are more than 255.
     #[error("11 StateCount: a machine has 1 to 255 states")]
     StateCount,
@@ -116,6 +119,7 @@ impl DataError {
             DataError::StartRowKeeps => 7,
             DataError::ComplexItems => 8,
             DataError::ComplexBelow0100 => 9,
+            DataError::ComplexClassNamed => 10,
             DataError::StateCount => 11,
             DataError::TransitionSize => 12,
             DataError::TransitionOutOfRange => 13,

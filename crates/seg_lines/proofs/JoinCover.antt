@@ -17,8 +17,8 @@ use Rattle.seg_complex.specs.Payloads.{Payloads, piece_cuts_by}
 use Rattle.seg_complex.specs.RunCuts.{CoverPieces}
 use Rattle.seg_complex.proofs.InnerRange.{AreBetween, between-more, inner-between}
 use Rattle.seg_lines.specs.Joined.{AreAbove, AreRising, joined, with_cut}
-use Rattle.seg_lines.specs.LineRules.{boundaries_with}
-use Rattle.seg_lines.specs.LineRules.LineFinder.{ByMachine}
+use Rattle.seg_lines.specs.LineBreaks.{boundaries_with}
+use Rattle.seg_lines.specs.LineBreaks.LineFinder.{ByMachine}
 use Rattle.seg_lines.proofs.Joins.{AreAtMost, boundary-first, cut-after, cut-ahead, cut-at, joined-places}
 
 -- one cut between two offsets

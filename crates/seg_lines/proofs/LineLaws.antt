@@ -20,8 +20,8 @@ use Rattle.seg_complex.proofs.EqualSpans.{same-inner-cuts}
 use Rattle.seg_complex.proofs.SpanStretches.{span-some}
 use Rattle.seg_complex.proofs.UnwordedSpans.{inner-none}
 use Rattle.seg_lines.specs.Joined.{joined}
-use Rattle.seg_lines.specs.LineRules.{AreBoundariesWith, HasNoCuts, HasOneList, LineFinder, LineRules, boundaries_with, line_boundaries_by, with_words}
-use Rattle.seg_lines.specs.LineRules.LineFinder.{ByClusters, ByMachine}
+use Rattle.seg_lines.specs.LineBreaks.{AreBoundariesWith, HasNoCuts, HasOneList, LineFinder, LineRules, boundaries_with, line_boundaries_by, with_words}
+use Rattle.seg_lines.specs.LineBreaks.LineFinder.{ByClusters, ByMachine}
 use Rattle.seg_lines.specs.Lines.{finder_of}
 use Rattle.seg_lines.specs.declared.finder.Finder.{Finder}
 use Rattle.seg_lines.specs.declared.finder.Finder.TheVariants.{Clusters, Machine}

@@ -5,5 +5,5 @@ pub mod LineTailorings
 pub mod Joined
 pub mod First
 pub mod JoinedLeft
-pub mod LineRules
+pub mod LineBreaks
 pub mod LineRemainders

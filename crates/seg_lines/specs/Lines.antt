@@ -16,8 +16,8 @@ use Rattle.seg_lines.specs.declared.finder.Finder.{Finder}
 use Rattle.seg_lines.specs.declared.finder.Finder.TheVariants.{Clusters as LentClusters, Machine as LentMachine}
 use Rattle.seg_lines.specs.declared.finder.OwnedFinder.{OwnedFinder}
 use Rattle.seg_lines.specs.declared.finder.OwnedFinder.TheVariants.{Clusters as OwnedClusters, Machine as OwnedMachine}
-use Rattle.seg_lines.specs.LineRules.{LineFinder, LineRules}
-use Rattle.seg_lines.specs.LineRules.LineFinder.{ByClusters, ByMachine}
+use Rattle.seg_lines.specs.LineBreaks.{LineFinder, LineRules}
+use Rattle.seg_lines.specs.LineBreaks.LineFinder.{ByClusters, ByMachine}
 use Rattle.seg_lines.specs.declared.line.options.MachineChoice.{MachineChoice}
 use Rattle.seg_lines.specs.declared.line.options.MachineChoice.TheVariants.{Clusters, Lines}
 use Rattle.seg_lines.specs.LineTailorings.{TailoringMaps}

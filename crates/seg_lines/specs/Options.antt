@@ -1,19 +1,14 @@
 -- The machine that the options of lines choose.
-use Rattle.std.specs.Prelude.{ℕ, Bool, true, false, ◌||◌, Some, None, List, codes}
-use Rattle.std.specs.Option.{option_map_or, unwrap_or}
-use Rattle.std.specs.Str.{bytes_eq}
-use Rattle.seg_lines.specs.declared.line.options.LineBreakOptions.{LineBreakOptions}
-use Rattle.seg_lines.specs.declared.line.options.LineBreakStrictness.{LineBreakStrictness}
-use Rattle.seg_lines.specs.declared.line.options.LineBreakStrictness.TheVariants as strictness
-use Rattle.seg_lines.specs.declared.line.options.LineBreakWordOption.{LineBreakWordOption}
-use Rattle.seg_lines.specs.declared.line.options.LineBreakWordOption.TheVariants as word_option
+use Rattle.std.specs.Prelude.{Bool, true, false, Some, None}
+use Rattle.seg_line_rules.specs.declared.options.LineBreakOptions.{LineBreakOptions}
+use Rattle.seg_line_rules.specs.declared.options.LineBreakStrictness.{LineBreakStrictness}
+use Rattle.seg_line_rules.specs.declared.options.LineBreakStrictness.TheVariants as strictness
+use Rattle.seg_line_rules.specs.declared.options.LineBreakWordOption.{LineBreakWordOption}
+use Rattle.seg_line_rules.specs.declared.options.LineBreakWordOption.TheVariants as word_option
+use Rattle.seg_line_rules.specs.LineStyles.{style_of}
 use Rattle.seg_lines.specs.declared.line.options.Tailoring.TheVariants as tailoring
 use Rattle.seg_lines.specs.declared.line.options.MachineChoice.{MachineChoice}
 use Rattle.seg_lines.specs.declared.line.options.MachineChoice.TheVariants.{Clusters, Lines}
-
--- a language is Japanese or Chinese
-abbrev pub is_ja_or_zh : List ℕ → Bool
-is_ja_or_zh language = bytes_eq language (codes "ja") || bytes_eq language (codes "zh")
 
 -- the machine of a word option, a strictness, and of whether the language is Japanese or Chinese: the first row that applies
 abbrev pub machine_for : LineBreakWordOption → LineBreakStrictness → Bool → MachineChoice
@@ -27,10 +22,6 @@ machine_for _ strictness.Normal false = Lines (Some tailoring.Normal)
 machine_for _ strictness.Strict true = Lines (Some tailoring.Ja)
 machine_for _ strictness.Strict false = Lines None
 
--- the machine that options choose: without a word option it is Normal, without a strictness Strict
+-- the machine that options choose
 abbrev pub machine_choice : LineBreakOptions → MachineChoice
-machine_choice options =
-    machine_for
-    (unwrap_or options.word_option word_option.Normal)
-    (unwrap_or options.strictness strictness.Strict)
-    (option_map_or (λ locale. is_ja_or_zh locale.now) options.content_locale false)
+machine_choice options = let style = style_of options in machine_for style.word_option style.strictness style.is_ja_or_zh

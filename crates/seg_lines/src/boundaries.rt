@@ -7,8 +7,8 @@ ghost use Rattle.seg_text.specs.Boundaries.{GivesNext, IsCover, boundaries_in, o
 ghost use Rattle.seg_machine.specs.Tailored.{machine_of};
 ghost use Rattle.seg_complex.specs.Payloads.{payloads_of};
 ghost use Rattle.seg_lines.specs.LineRemainders.{remainder_by};
-ghost use Rattle.seg_lines.specs.LineRules.{boundaries_with};
-ghost use Rattle.seg_lines.specs.LineRules.LineFinder.{ByMachine};
+ghost use Rattle.seg_lines.specs.LineBreaks.{boundaries_with};
+ghost use Rattle.seg_lines.specs.LineBreaks.LineFinder.{ByMachine};
 ghost use Rattle.seg_lines.specs.Lines.{finder_of};
 
 use crate::finder::Finder;

@@ -3,7 +3,7 @@
 ghost use Rattle.std.specs.Prelude.{◌≡◌, ℕ, List};
 ghost use Rattle.seg_text.specs.Boundaries.{HasEqualOrdinals, RestartsIn};
 ghost use Rattle.seg_dictionary.specs.ScriptWords.{ScriptWords, AreSameWords};
-ghost use Rattle.seg_lines.specs.LineRules.{HasNoCuts, HasOneList, LineRules, line_boundaries_by, with_words};
+ghost use Rattle.seg_lines.specs.LineBreaks.{HasNoCuts, HasOneList, LineRules, line_boundaries_by, with_words};
 ghost use Rattle.seg_lines.specs.Lines.{line_rules};
 
 use crate::finder::Finder;

@@ -8,7 +8,7 @@ ghost use Rattle.seg_text.specs.Utf8.{utf8};
 ghost use Rattle.seg_text.specs.Utf16.{utf16};
 ghost use Rattle.seg_data.specs.Faults.{IsFaultless, IsLowestFault};
 ghost use Rattle.seg_dictionary.specs.ScriptWords.{filled, lent_words, script_words};
-ghost use Rattle.seg_lines.specs.LineRules.{line_boundaries_of, with_words};
+ghost use Rattle.seg_lines.specs.LineBreaks.{line_boundaries_of, with_words};
 ghost use Rattle.seg_lines.specs.Lines.{line_rules};
 ghost use Rattle.seg_lines.specs.Options.{machine_choice};
 

@@ -96,7 +96,7 @@ module _ {X : Type 0} (first other : List X → Stretch) (Holds : List X → Typ
       ap (λ (later : List Boundary). (first (x ∷ xs)).boundaries ++ shift_all n later) (later-same-within most (drop n (x ∷ xs)) (after n (x ∷ xs) holds))
       ∙ ap (λ (s : Stretch). s.boundaries ++ shift_all s.extent (later_boundaries_within other most (drop s.extent (x ∷ xs)))) (same x xs holds)
 
-  later-same : (xs : List X) → Holds xs → later_boundaries first xs ≡ later_boundaries other xs
+  pub later-same : (xs : List X) → Holds xs → later_boundaries first xs ≡ later_boundaries other xs
   unfolding later_boundaries
   later-same xs holds = later-same-within (length xs) xs holds
 

@@ -52,7 +52,7 @@ elements-place pairs (item ∷ items) end = refl
 
 -- cuts of a beginning of a text stand at the same places in the text
 
-cuts-placed : (text : Text) (n status count : ℕ) (cuts : List ℕ) → count ≤ n → AreCutsOf count cuts
+pub cuts-placed : (text : Text) (n status count : ℕ) (cuts : List ℕ) → count ≤ n → AreCutsOf count cuts
     → map (boundary_in text) (with_status status cuts) ≡ with_status status (map (λ (cut : ℕ). start_of (rest_after cut (text_before n text))) cuts)
 cuts-placed text n status count [] below are = refl
 cuts-placed text n status count (cut ∷ cuts) below are =

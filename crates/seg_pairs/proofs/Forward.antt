@@ -16,13 +16,13 @@ use Rattle.seg_pairs.specs.declared.elements.Element.{Element}
 use Rattle.seg_pairs.proofs.Walks.{walk-named, walk-stop, walk-end}
 
 -- a walk stops at or after the element before which it is, and was saved before that
-record Within (number count : ℕ) (w : Walk) : Type 0 where
-  from : number ≤ w.stop
-  to : w.stop ≤ number + count
-  some : 0 < w.saved
-  before : w.saved < w.stop
+pub record Within (number count : ℕ) (w : Walk) : Type 0 where
+  pub from : number ≤ w.stop
+  pub to : w.stop ≤ number + count
+  pub some : 0 < w.saved
+  pub before : w.saved < w.stop
 
-walk-within : (t : PairTable) (state number saved class : ℕ) (classes : List ℕ) → 0 < saved → saved < number
+pub walk-within : (t : PairTable) (state number saved class : ℕ) (classes : List ℕ) → 0 < saved → saved < number
     → Within number (length classes) (walk t state number saved class classes)
 walk-within t state number saved class [] some less =
     rw (walk-end t state number saved class) (record { from = omega arith; to = omega arith; some = some; before = less })

@@ -10,8 +10,14 @@ use seg_text::cursor::Cursor;
 /// An element of a text: an item, or a base with the marks after it.
 #[derive(Clone, Copy, Debug)]
 pub struct Element {
-    /// Its class.
+    /// Its class: that of its base.
     pub class: u8,
+    /// Whether it ends with the mark that joins it to what follows it, as elements of lines may.
+    pub is_joined: bool,
+    /// Whether it is one item.
+    pub is_single: bool,
+    /// Its code point: that of its base.
+    pub code_point: u32,
     /// Where it begins: bytes in str, UTF-8 and Latin-1, 16-bit units in UTF-16.
     pub place: usize,
 }
@@ -70,7 +76,13 @@ impl<'data, I: Cursor> Elements for Items<'data, I> {
         match self.cursor.next_item() {
             Some((place, code_point)) => {
                 let class = self.pairs.class(code_point);
-                Some(Element { place, class })
+                Some(Element {
+                    class,
+                    is_joined: false,
+                    is_single: true,
+                    code_point,
+                    place,
+                })
             }
             None => None,
         }

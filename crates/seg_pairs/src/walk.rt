@@ -1,7 +1,8 @@
 //! Walks through the states of a pair table.
 
-ghost use Rattle.std.specs.Prelude.{◌≡◌, ◌<◌, ◌||◌, ◌⊎◌, Some, None, List, ◌∷◌, IfSome, MatchOption, if◌then◌else◌};
+ghost use Rattle.std.specs.Prelude.{◌≡◌, ℕ, ◌<◌, ◌||◌, ◌⊎◌, Some, None, List, ◌∷◌, IfSome, MatchOption, if◌then◌else◌};
 ghost use Rattle.seg_pairs.specs.BreakStates.{is_intermediate, named_state};
+ghost use Rattle.seg_pairs.specs.PairTable.{entry_of};
 ghost use Rattle.seg_pairs.specs.Stop.{IsStop, class_at};
 ghost use Rattle.seg_pairs.specs.Walk.{is_class};
 
@@ -83,6 +84,23 @@ pub fn walk<E: Elements>(
     }
 }
 
+/// The entry of two elements.
+pub fn entry_between(table: &RuleBreakData, left: Element, right: Element) -> BreakState
+    requires left { left.class < table.now.property_count }
+    requires right { right.class < table.now.property_count }
+    ensures value { result ≡ entry_of table.now left.class right.class }
+    ensures state { (state : ℕ) → named_state result ≡ Some state → state < table.now.property_count }
+{
+    table.entry(left.class, right.class)
+}
+
+/// The state that an entry names, if it names one.
+pub fn state_named(entry: BreakState) -> Option<u8>
+    ensures { result ≡ named_state entry }
+{
+    entry.named()
+}
+
 /// The class of the next element, or that of the text's end.
 fn class_before(table: &RuleBreakData, next: Option<Element>) -> u8
     requires { IfSome next (λ next. next.class < table.now.property_count) }
@@ -108,7 +126,7 @@ fn going_on(next: Option<Element>, entry: BreakState) -> Option<(Element, u8)>
 }
 
 /// Whether a state is a class of code points, and no composite.
-fn is_class(table: &RuleBreakData, state: u8) -> bool
+pub fn is_class(table: &RuleBreakData, state: u8) -> bool
     ensures { result ≡ is_class table.now state }
 {
     state <= table.last_codepoint_property()

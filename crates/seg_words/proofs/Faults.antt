@@ -1,7 +1,7 @@
 -- Which faults the data of words can have, and the lowest of several.
 use Rattle.std.proofs.Common.{◌≡◌, ◌<◌, Option, None, ◌⊎◌, inl, inr, refl, ap, subst, arith}
 use Rattle.seg_data.specs.declared.provider.DataError.{DataError}
-use Rattle.seg_data.specs.declared.provider.DataError.TheVariants.{Memory, RangeOrder, RangePast10FFFF, TableSize, ClassOutOfRange, StateOutOfRange, StartRowKeeps, ComplexItems, ComplexBelow0100, StateCount, TransitionSize, TransitionOutOfRange, SymbolOutOfRange, TooManyLookaheads, LookaheadOutOfRange, EndCycle, Stalls, MissingTailoring}
+use Rattle.seg_data.specs.declared.provider.DataError.TheVariants.{Memory, RangeOrder, RangePast10FFFF, TableSize, ClassOutOfRange, StateOutOfRange, StartRowKeeps, ComplexItems, ComplexBelow0100, ComplexClassNamed, StateCount, TransitionSize, TransitionOutOfRange, SymbolOutOfRange, TooManyLookaheads, LookaheadOutOfRange, EndCycle, Stalls, MissingTailoring}
 use Rattle.seg_data.specs.Faults.{number_of, IsFaultless, IsLowestFault}
 use Rattle.seg_data.specs.Table.{Table}
 use Rattle.seg_machine.specs.Machine.{Machine}
@@ -22,6 +22,7 @@ own-cases t o StateOutOfRange has = absurd has
 own-cases t o StartRowKeeps has = inr (inl (refl, has))
 own-cases t o ComplexItems has = absurd has
 own-cases t o ComplexBelow0100 has = inr (inr (refl, has))
+own-cases t o ComplexClassNamed has = absurd has
 own-cases t o StateCount has = absurd has
 own-cases t o TransitionSize has = absurd has
 own-cases t o TransitionOutOfRange has = absurd has
@@ -43,6 +44,7 @@ cluster-cases t StateOutOfRange has = absurd has
 cluster-cases t StartRowKeeps has = inl refl
 cluster-cases t ComplexItems has = inr refl
 cluster-cases t ComplexBelow0100 has = absurd has
+cluster-cases t ComplexClassNamed has = absurd has
 cluster-cases t StateCount has = absurd has
 cluster-cases t TransitionSize has = absurd has
 cluster-cases t TransitionOutOfRange has = absurd has

@@ -1,7 +1,7 @@
 -- The boundaries that each segmenter gives.
 use Rattle.std.specs.Prelude.{ℕ, Option, Some, None, List}
 use Rattle.icu_segmenter.specs.Clusters.{owned_cluster_rules}
-use Rattle.icu_segmenter.specs.LineRules.{LineRules, line_boundaries_of, machine_lines}
+use Rattle.icu_segmenter.specs.LineBreaks.{LineRules, line_boundaries_of, machine_lines}
 use Rattle.icu_segmenter.specs.Lines.{owned_line_rules}
 use Rattle.icu_segmenter.specs.Machine.{Machine, machine}
 use Rattle.icu_segmenter.specs.PairTable.{PairTable, pair_table}

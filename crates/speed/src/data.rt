@@ -1,7 +1,7 @@
 //! The data of each engine, small and real.
 ghost use Rattle.std.specs.Prelude.{◌≡◌, None, IfOk};
 ghost use Rattle.bench.specs.Clusters.{cluster_machine};
-ghost use Rattle.icu_segmenter.specs.LineRules.{machine_lines};
+ghost use Rattle.icu_segmenter.specs.LineBreaks.{machine_lines};
 ghost use Rattle.icu_segmenter.specs.Rules.Rules.{ByTable, ByMachine};
 ghost use Rattle.icu_segmenter.specs.ScriptWords.{no_words};
 ghost use Rattle.icu_segmenter.specs.WordRules.{machine_words, table_words};

@@ -6,7 +6,7 @@ use Rattle.icu_segmenter.specs.declared.options.LineBreakOptions.{LineBreakOptio
 use Rattle.icu_segmenter.specs.Machine.{Machine}
 use Rattle.icu_segmenter.specs.Options.{machine_choice}
 use Rattle.icu_segmenter.specs.Lines.{HasFaultWith, HasLineFault, chosen_rules, without_ja}
-use Rattle.icu_segmenter.specs.LineRules.{machine_lines}
+use Rattle.icu_segmenter.specs.LineBreaks.{machine_lines}
 use Rattle.icu_segmenter.specs.ScriptWords.{ScriptWords, AreSameWords, no_words}
 use Rattle.icu_segmenter.specs.declared.provider.ComplexScript.TheVariants.{None as NoScript, Myanmar, ChineseOrJapanese, Khmer, Lao, Thai}
 use Rattle.bench.specs.Lines.{line_machine}

@@ -5,7 +5,7 @@ use Rattle.icu_segmenter.specs.Utf8.{utf8}
 use Rattle.icu_segmenter.specs.Boundaries.{offsets}
 use Rattle.icu_segmenter.specs.Items.{Text}
 use Rattle.icu_segmenter.specs.Rules.{boundaries_of}
-use Rattle.icu_segmenter.specs.LineRules.{line_boundaries_of, machine_lines}
+use Rattle.icu_segmenter.specs.LineBreaks.{line_boundaries_of, machine_lines}
 use Rattle.icu_segmenter.specs.Lines.{without_ja}
 use Rattle.icu_segmenter.specs.WordRules.{machine_words, table_words, word_boundaries_of}
 use Rattle.icu_segmenter.specs.Rules.Rules.{ByTable, ByMachine}

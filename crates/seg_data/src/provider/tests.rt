@@ -28,6 +28,7 @@ fn tells_faults(rt: HostRuntime) -> Result<(), Fail> {
         (DataError::StartRowKeeps, 7, "7 StartRowKeeps: "),
         (DataError::ComplexItems, 8, "8 ComplexItems: "),
         (DataError::ComplexBelow0100, 9, "9 ComplexBelow0100: "),
+        (DataError::ComplexClassNamed, 10, "10 ComplexClassNamed: "),
         (DataError::StateCount, 11, "11 StateCount: "),
         (DataError::TransitionSize, 12, "12 TransitionSize: "),
         (

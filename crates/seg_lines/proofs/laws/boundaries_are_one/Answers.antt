@@ -2,7 +2,7 @@ use Rattle.std.proofs.Common.{sym, subst}
 use Rattle.seg_complex.specs.Payloads.{payloads_of}
 use Rattle.seg_machine.specs.Tailored.{machine_of}
 use Rattle.seg_lines.specs.declared.finder.Finder.{Finder}
-use Rattle.seg_lines.specs.LineRules.{HasOneList}
+use Rattle.seg_lines.specs.LineBreaks.{HasOneList}
 use Rattle.seg_lines.specs.Lines.{finder_of}
 use Rattle.seg_lines.proofs.LineLaws.{one-by, one-by-machine}
 use Rattle.seg_lines.proofs.laws.boundaries_are_one.Goals as goal

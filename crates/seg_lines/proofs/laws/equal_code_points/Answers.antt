@@ -1,5 +1,5 @@
 use Rattle.seg_text.proofs.Stretches.{equal-ordinals}
-use Rattle.seg_lines.specs.LineRules.{line_boundaries_by}
+use Rattle.seg_lines.specs.LineBreaks.{line_boundaries_by}
 use Rattle.seg_lines.specs.Lines.{line_rules}
 use Rattle.seg_lines.proofs.laws.equal_code_points.Goals as goal
 

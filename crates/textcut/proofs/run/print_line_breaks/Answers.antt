@@ -1,7 +1,7 @@
 -- The dictionaries have the words that the definition names, in whatever order they keep them.
 use Rattle.std.proofs.Common.{◌≡◌, ap, sym, ◌∙◌}
 use Rattle.icu_segmenter.specs.Boundaries.{offsets}
-use Rattle.icu_segmenter.specs.LineRules.{LineRules, line_boundaries_of, machine_lines, with_words}
+use Rattle.icu_segmenter.specs.LineBreaks.{LineRules, line_boundaries_of, machine_lines, with_words}
 use Rattle.icu_segmenter.specs.Lines.{line_places, line_rules, owned_line_rules, without_ja}
 use Rattle.icu_segmenter.specs.Machine.{Machine}
 use Rattle.icu_segmenter.specs.ScriptWords.{filled, no_words, script_words}

@@ -2,7 +2,7 @@
 use Rattle.std.proofs.Common.{◌∙◌, ap}
 use Rattle.icu_segmenter.specs.Clusters.{clusters_places}
 use Rattle.icu_segmenter.specs.Sentences.{sentences_places}
-use Rattle.icu_segmenter.specs.LineRules.{line_boundaries_of}
+use Rattle.icu_segmenter.specs.LineBreaks.{line_boundaries_of}
 use Rattle.icu_segmenter.specs.Lines.{line_places}
 use Rattle.icu_segmenter.specs.WordRules.{word_boundaries_of}
 use Rattle.icu_segmenter.specs.Words.{word_places}

@@ -1,0 +1,14 @@
+pub mod LooseRows
+pub mod Marks
+pub mod UnitLists
+pub mod UnitVerdicts
+pub mod LineStretches
+pub mod Inside
+pub mod LineRestarts
+pub mod MarkLaw
+pub mod UnitLandings
+pub mod UnitElements
+pub mod LineChains
+pub mod LineEvents
+pub mod RunEnds
+pub mod LinesLeft

@@ -1,0 +1,273 @@
+-- What comes next of a text whose lines are found event by event.
+use Rattle.std.proofs.Common.{◌≡◌, ℕ, ◌+◌, ◌-◌, ◌<◌, Option, Some, None, List, [], ◌∷◌, ◌++◌, length, map, take, drop, refl, sym, ap, ◌∙◌, subst, arith}
+use Rattle.std.specs.Prelude.{IfSome}
+use Rattle.std.specs.Iterator.{YieldsFirst}
+use Rattle.std.proofs.lemmas.List.{drop-drop, length-drop, length-take, take-map}
+use Rattle.seg_text.specs.declared.boundary.Boundary.{Boundary}
+use Rattle.seg_text.specs.Items.{Item, Text, place_of, start_of, rest_after, text_before, code_points}
+use Rattle.seg_text.specs.Boundaries.{boundary, boundary_in, shift_all}
+use Rattle.seg_text.specs.Cuts.{Cuts, AreCutsOf, with_status, cut_places}
+use Rattle.seg_text.specs.Stretches.{Stretch, later_boundaries}
+use Rattle.seg_text.proofs.Places.{in-shift, code_points-drop}
+use Rattle.seg_text.proofs.Stretches.{text-later-next}
+use Rattle.seg_pairs.specs.declared.elements.Element.{Element}
+use Rattle.seg_pairs.specs.declared.verdicts.Outcome.TheVariants.{Break as BreakOut, Run as RunOut}
+use Rattle.seg_pairs.specs.Elements.{onto, place_at}
+use Rattle.seg_pairs.specs.PairTable.{PairTable}
+use Rattle.seg_pairs.specs.Verdict.{Verdict}
+use Rattle.seg_pairs.specs.Verdict.Verdict.{BreakAfter, GoAfter, RunBegins}
+use Rattle.seg_pairs.specs.Chains.{chain, TakesOf}
+use Rattle.seg_pairs.specs.Steps.{EndsIn}
+use Rattle.seg_pairs.proofs.Chained.{Chained, chained}
+use Rattle.seg_pairs.proofs.Engine.{read-onto, rest-is}
+use Rattle.seg_pairs.proofs.Events.{cuts-placed}
+use Rattle.seg_line_rules.specs.LineBoundaries.{line_verdict, complex_length, line_stretch_of, line_stretch}
+use Rattle.seg_line_rules.specs.LineEvents.{UnreadLines, unread_lines, GoesOnLines, AreAhead}
+use Rattle.seg_line_rules.specs.LineRules.{LineRules}
+use Rattle.seg_line_rules.specs.LineUnits.{CountedUnit, extent_of}
+use Rattle.seg_line_rules.specs.LineVerdict.{unit_verdict}
+use Rattle.seg_line_rules.specs.UnitElements.{UnitsLeft, units_seen, line_elements}
+use Rattle.seg_line_rules.proofs.LineChains.{elements-chain, elements-left, elements-place, no-elements}
+use Rattle.seg_line_rules.proofs.LineStretches.{line-forward, line-going, line-run, run-two}
+use Rattle.seg_line_rules.proofs.UnitLists.{units, extent-sum}
+
+abbrev unread : LineRules → Text → UnreadLines
+unread rules text = record { rules = rules; text = text }
+
+-- the verdict on the first of some elements
+abbrev pub element_verdict : LineRules → List Element → Verdict
+element_verdict rules elements = unit_verdict rules (units_seen elements)
+
+-- how many items of a text are complex before the first that isn't
+abbrev pub run_extent : LineRules → Text → ℕ
+run_extent rules text = complex_length rules (code_points text.items)
+
+-- a boundary comes next, so many items on
+pub record HasBreak (rules : LineRules) (text : Text) (after : List Element) : Type 0 where
+  pub taken : ℕ
+  pub rest : after ≡ line_elements rules (drop taken text.items)
+  pub fewer : length (drop taken text.items) < length text.items
+  pub leads : (cuts : Cuts) → unread_lines cuts (unread rules text) ≡ boundary (start_of (rest_after taken text)) 0 ∷ unread_lines cuts (unread rules (rest_after taken text))
+
+-- a run comes next, so many items on; what is left begins with its last
+pub record HasRun (rules : LineRules) (text : Text) (place : ℕ) : Type 0 where
+  pub gone : ℕ
+  pub here : place ≡ start_of (rest_after gone text)
+  pub fewer : let left = rest_after gone text in length (drop (run_extent rules left - 1) left.items) < length text.items
+  pub leads : (cuts : Cuts) → let left = rest_after gone text in let run = text_before (run_extent rules left) left in
+      AreCutsOf (length run.items) (cuts (code_points run.items))
+      → unread_lines cuts (unread rules text) ≡ with_status 0 (cut_places cuts run) ++ unread_lines cuts (unread rules (rest_after (run_extent rules left - 1) left))
+
+module _ (rules : LineRules) where
+  -- the first stretch of a text, and what is left after it
+  first-stretch : (cuts : Cuts) (items : List Item) (end first : ℕ) (others : List ℕ) (s : Stretch) → code_points items ≡ first ∷ others
+      → line_stretch cuts rules (code_points items) ≡ s
+      → let text : Text = record { items = items; end = end } in
+      unread_lines cuts (unread rules text) ≡ map (boundary_in text) s.boundaries ++ unread_lines cuts (unread rules (rest_after s.extent text))
+  first-stretch cuts [] end first others s some is = cc
+  first-stretch cuts (item ∷ items) end first others s some is =
+      let text : Text = record { items = item ∷ items; end = end } in
+      text-later-next (line_stretch cuts rules) (line-going rules cuts) item items end
+      ∙ ap (λ (s : Stretch). map (boundary_in text) s.boundaries ++ unread_lines cuts (unread rules (rest_after s.extent text))) is
+
+  -- a run that begins a text, with its cuts
+  run-first : (cuts : Cuts) (items : List Item) (end first : ℕ) (others : List ℕ) → code_points items ≡ first ∷ others
+      → line_verdict rules (first ∷ others) ≡ RunBegins
+      → let text : Text = record { items = items; end = end } in let run = text_before (run_extent rules text) text in
+      AreCutsOf (length run.items) (cuts (code_points run.items))
+      → unread_lines cuts (unread rules text) ≡ with_status 0 (cut_places cuts run) ++ unread_lines cuts (unread rules (rest_after (run_extent rules text - 1) text))
+  run-first cuts items end first others points begins are =
+      let text : Text = record { items = items; end = end } in
+      let n : ℕ = complex_length rules (code_points items) in
+      let s : Stretch = record { extent = n - 1; boundaries = with_status 0 (cuts (take n (code_points items))) } in
+      let stretch : line_stretch cuts rules (code_points items) ≡ s = ap (line_stretch_of cuts rules (code_points items)) (ap (line_verdict rules) points ∙ begins) in
+      let same : map (boundary_in text) s.boundaries ≡ with_status 0 (cut_places cuts (text_before n text)) =
+      ap (λ (run : List ℕ). map (boundary_in text) (with_status 0 (cuts run))) (take-map (λ (item : Item). item.1) n items)
+      ∙ cuts-placed text n 0 (length (take n items)) (cuts (code_points (take n items))) (omega (arith, length-take n items)) are in
+      first-stretch cuts items end first others s points stretch
+      ∙ ap (λ (bs : List Boundary). bs ++ unread_lines cuts (unread rules (rest_after (n - 1) text))) same
+
+  module _ (item : Item) (items : List Item) (end : ℕ) where
+    abbrev all : List Item
+    all = item ∷ items
+
+    abbrev whole : Text
+    whole = record { items = all; end = end }
+
+    abbrev us : List CountedUnit
+    us = units rules (code_points all)
+
+    chained-by : (cuts : Cuts) → Chained (line_stretch cuts rules) (line_verdict rules) (code_points all)
+    chained-by cuts =
+        chained (line_stretch cuts rules) (line-going rules cuts) (line_verdict rules) (line-forward rules)
+        (λ x xs n is. ap (line_stretch_of cuts rules (x ∷ xs)) is) item.1 (code_points items)
+
+    -- the boundaries of the whole are those from the end of the chain on
+    from-chain : (cuts : Cuts) (ch : Chained (line_stretch cuts rules) (line_verdict rules) (code_points all))
+        → unread_lines cuts (unread rules whole) ≡ unread_lines cuts (unread rules (rest_after ch.gone whole))
+    from-chain cuts ch =
+        ap (map (boundary_in whole)) (ch.later_is ∙ ap (λ (cs : List ℕ). shift_all ch.gone (later_boundaries (line_stretch cuts rules) cs)) (sym ch.there ∙ sym (code_points-drop ch.gone all)))
+        ∙ in-shift whole ch.gone (later_boundaries (line_stretch cuts rules) (code_points (drop ch.gone all)))
+
+    -- a chain to its end, whatever the cuts
+    record Ends (gone : ℕ) (last : Verdict) : Type 0 where
+      first : ℕ
+      others : List ℕ
+      points : code_points (drop gone all) ≡ first ∷ others
+      last_is : line_verdict rules (first ∷ others) ≡ last
+      leads : (cuts : Cuts) → unread_lines cuts (unread rules whole) ≡ unread_lines cuts (unread rules (rest_after gone whole))
+
+    chain-ends : (found : ℕ × Verdict) → chain (line_verdict rules) (code_points all) ≡ found → Ends found.0 found.1
+    chain-ends found is =
+        let none : Cuts = λ run. [] in
+        let ch = chained-by none in
+        let at : (cuts : Cuts) → let mine = chained-by cuts in (mine.gone, mine.last) ≡ found = λ cuts. sym (chained-by cuts).chain_is ∙ is in
+        let gone : ch.gone ≡ found.0 = ap (λ (found : ℕ × Verdict). found.0) (at none) in
+        record {
+          first = ch.element;
+          others = ch.others;
+          points = ap (λ (n : ℕ). code_points (drop n all)) (sym gone) ∙ code_points-drop ch.gone all ∙ ch.there;
+          last_is = ch.last_is ∙ ap (λ (found : ℕ × Verdict). found.1) (at none);
+          leads = λ cuts.
+              from-chain cuts (chained-by cuts)
+              ∙ ap (λ (n : ℕ). unread_lines cuts (unread rules (rest_after n whole))) (ap (λ (found : ℕ × Verdict). found.0) (at cuts));
+        }
+
+    break-at : (gone n class taken : ℕ) (after : List Element) → Ends gone (BreakAfter n class) → taken ≡ gone + n → after ≡ line_elements rules (drop taken all)
+        → HasBreak rules whole after
+    break-at gone n class taken after ends sum is =
+        let some : 0 < n = (subst (TakesOf (length (ends.first ∷ ends.others))) ends.last_is (line-forward rules ends.first ends.others)).0 in
+        let s : Stretch = record { extent = n; boundaries = boundary n 0 ∷ [] } in
+        record {
+          taken = taken;
+          rest = is;
+          fewer = omega (arith, sum, some, length-drop taken all);
+          leads = λ cuts.
+              let stretch : line_stretch cuts rules (code_points (drop gone all)) ≡ s =
+              ap (line_stretch cuts rules) ends.points ∙ ap (line_stretch_of cuts rules (ends.first ∷ ends.others)) ends.last_is in
+              ends.leads cuts ∙ first-stretch cuts (drop gone all) end ends.first ends.others s ends.points stretch
+              ∙ rw (drop-drop n gone all, sum) refl;
+        }
+
+    run-at : (gone place : ℕ) → Ends gone RunBegins → place ≡ place_of (drop gone all) end → HasRun rules whole place
+    run-at gone place ends is =
+        let left : Text = rest_after gone whole in
+        let two : 1 < complex_length rules (code_points left.items) =
+        subst (λ (cs : List ℕ). 1 < complex_length rules cs) (sym ends.points) (run-two rules ends.first ends.others (line-run rules ends.first ends.others ends.last_is)) in
+        let some : 0 < length left.items = positive left.items ends.first ends.others ends.points in
+        record {
+          gone = gone;
+          here = is;
+          fewer = omega (arith, two, some, length-drop (run_extent rules left - 1) left.items, length-drop gone all);
+          leads = λ cuts are. ends.leads cuts ∙ run-first cuts (drop gone all) end ends.first ends.others ends.points ends.last_is are;
+        }
+      where
+        positive : (items : List Item) (first : ℕ) (others : List ℕ) → code_points items ≡ first ∷ others → 0 < length items
+        positive [] first others is = cc
+        positive (item ∷ items) first others is = omega arith
+
+    break-in : (class : ℕ) (next : Option Element) (rest : List Element)
+        → EndsIn (chain (element_verdict rules) (line_elements rules all)) (line_elements rules all) (BreakOut class next) rest → HasBreak rules whole (onto next rest)
+    break-in class next rest = on (chain (element_verdict rules) (line_elements rules all)) refl
+      where
+        on : (found : ℕ × Verdict) → chain (element_verdict rules) (line_elements rules all) ≡ found → EndsIn found (line_elements rules all) (BreakOut class next) rest
+            → HasBreak rules whole (onto next rest)
+        on (gone, BreakAfter n with_class) is ends =
+            break-at (extent_of gone us) (extent_of n (drop gone us)) with_class (extent_of (gone + n) us) (onto next rest)
+            (chain-ends (extent_of gone us, BreakAfter (extent_of n (drop gone us)) with_class) (elements-chain rules all (gone, BreakAfter n with_class) (omega arith) is))
+            (extent-sum rules gone n us)
+            (rest-is next rest (drop (gone + n) (line_elements rules all)) ends.1 ∙ elements-left rules (gone + n) all)
+        on (gone, GoAfter n) is ends = absurd ends
+        on (gone, RunBegins) is ends = absurd ends
+
+    run-in : (first second : Element) (rest : List Element)
+        → EndsIn (chain (element_verdict rules) (line_elements rules all)) (line_elements rules all) (RunOut first second) rest → HasRun rules whole first.place
+    run-in first second rest = on (chain (element_verdict rules) (line_elements rules all)) refl
+      where
+        on : (found : ℕ × Verdict) → chain (element_verdict rules) (line_elements rules all) ≡ found → EndsIn found (line_elements rules all) (RunOut first second) rest
+            → HasRun rules whole first.place
+        on (gone, BreakAfter n class) is ends = absurd ends
+        on (gone, GoAfter n) is ends = absurd ends
+        on (gone, RunBegins) is ends =
+            run-at (extent_of gone us) first.place
+            (chain-ends (extent_of gone us, RunBegins) (elements-chain rules all (gone, RunBegins) (omega arith) is))
+            (ap (λ (elements : List Element). place_at elements end) (sym ends ∙ elements-left rules gone all) ∙ elements-place rules (drop (extent_of gone us) all) end)
+
+-- the same of what a call has at hand: the first element, and the elements after it
+
+pub break-of : (rules : LineRules) (text : Text) (next : Option Element) (left : Element) (rest : List Element) (class : ℕ) (after : Option Element) (later : List Element)
+    → next ≡ Some left → onto next rest ≡ line_elements rules text.items
+    → EndsIn (chain (element_verdict rules) (left ∷ rest)) (left ∷ rest) (BreakOut class after) later
+    → HasBreak rules text (onto after later)
+break-of rules text next left rest class after later here is ends =
+    on text.items (ap (λ (n : Option Element). onto n rest) (sym here) ∙ is)
+  where
+    on : (items : List Item) → left ∷ rest ≡ line_elements rules items → HasBreak rules (record { items = items; end = text.end }) (onto after later)
+    on [] is = cc
+    on (item ∷ items) is =
+        break-in rules item items text.end class after later (subst (λ (es : List Element). EndsIn (chain (element_verdict rules) es) es (BreakOut class after) later) is ends)
+
+pub run-of : (rules : LineRules) (text : Text) (next : Option Element) (left : Element) (rest : List Element) (first second : Element) (later : List Element)
+    → next ≡ Some left → onto next rest ≡ line_elements rules text.items
+    → EndsIn (chain (element_verdict rules) (left ∷ rest)) (left ∷ rest) (RunOut first second) later
+    → HasRun rules text first.place
+run-of rules text next left rest first second later here is ends =
+    on text.items (ap (λ (n : Option Element). onto n rest) (sym here) ∙ is)
+  where
+    on : (items : List Item) → left ∷ rest ≡ line_elements rules items → HasRun rules (record { items = items; end = text.end }) first.place
+    on [] is = cc
+    on (item ∷ items) is =
+        run-in rules item items text.end first second later (subst (λ (es : List Element). EndsIn (chain (element_verdict rules) es) es (RunOut first second) later) is ends)
+
+pub place-after : (rules : LineRules) (text : Text) (n place end : ℕ) (after : List Element) → place ≡ place_at after end → after ≡ line_elements rules (drop n text.items)
+    → end ≡ text.end → place ≡ start_of (rest_after n text)
+place-after rules text n place end after is same stays = is ∙ rw (same, stays) (elements-place rules (drop n text.items) text.end)
+
+pub nothing-left : (rules : LineRules) (items : List Item) (next : Option Element) (rest : List Element) → next ≡ None → rest ≡ []
+    → onto next rest ≡ line_elements rules items → items ≡ []
+nothing-left rules items next rest none empty is = no-elements rules items (sym is ∙ ap (λ (n : Option Element). onto n rest) none ∙ empty)
+
+-- the first unit of a text is read
+pub ahead-read : (rules : LineRules) (text : Text) (from : UnitsLeft) (next : Option Element) (rest : UnitsLeft)
+    → from ≡ record { rules = rules; left = line_elements rules text.items; end = text.end }
+    → YieldsFirst (λ (left : UnitsLeft). left.left) from next rest
+    → rest.end ≡ from.end → rest.rules.table ≡ from.rules.table → IfSome next (λ next. next.class < from.rules.table.property_count)
+    → AreAhead rules text next rest
+ahead-read rules text from next rest is gives end table below = record {
+  same = sym (read-onto (λ (left : UnitsLeft). left.left) from next rest gives) ∙ ap (λ (left : UnitsLeft). left.left) is;
+  same_end = end ∙ ap (λ (left : UnitsLeft). left.end) is;
+  same_table = table ∙ ap (λ (left : UnitsLeft). left.rules.table) is;
+  empty = empty next gives;
+  below = subst (λ (from : UnitsLeft). IfSome next (λ next. next.class < from.rules.table.property_count)) is below;
+}
+  where
+    empty : (next : Option Element) → YieldsFirst (λ (left : UnitsLeft). left.left) from next rest → next ≡ None → rest.left ≡ []
+    empty None gives none = gives.1
+    empty (Some next) gives none = cc
+
+-- what is left after an event
+pub goes-on : (rules : LineRules) (text after : Text) (n : ℕ) → after ≡ rest_after n text → length (drop n text.items) < length text.items
+    → GoesOnLines (unread rules text) (unread rules after)
+goes-on rules text after n is fewer = rw is (record { rules = refl; end = refl; fewer = λ some. fewer })
+
+pub break-leads : (rules : LineRules) (text after : Text) (place : ℕ) (elements : List Element) (b : HasBreak rules text elements)
+    → place ≡ start_of (rest_after b.taken text) → after ≡ rest_after b.taken text → (cuts : Cuts)
+    → unread_lines cuts (unread rules text) ≡ boundary place 0 ∷ unread_lines cuts (unread rules after)
+break-leads rules text after place elements b place_is is cuts = rw (place_is, is) (b.leads cuts)
+
+pub run-leads : (rules : LineRules) (text left run after : Text) (place : ℕ) (r : HasRun rules text place) → left ≡ rest_after r.gone text
+    → run ≡ text_before (run_extent rules left) left → after ≡ rest_after (run_extent rules left - 1) left
+    → (cuts : Cuts) → AreCutsOf (length run.items) (cuts (code_points run.items))
+    → unread_lines cuts (unread rules text) ≡ with_status 0 (cut_places cuts run) ++ unread_lines cuts (unread rules after)
+run-leads rules text left run after place r left_is run_is is = rw (is, run_is, left_is) r.leads
+
+pub run-goes : (rules : LineRules) (text left after : Text) (place : ℕ) (r : HasRun rules text place) → left ≡ rest_after r.gone text
+    → after ≡ rest_after (run_extent rules left - 1) left → GoesOnLines (unread rules text) (unread rules after)
+run-goes rules text left after place r left_is is =
+    rw (is, left_is) (record { rules = refl; end = refl; fewer = λ some. r.fewer })
+
+-- the outcome leaves nothing where there is no next unit, and the next one's class is below
+pub below-of : (t u : PairTable) (next : Option Element) → t ≡ u → IfSome next (λ next. next.class < t.property_count) → IfSome next (λ next. next.class < u.property_count)
+below-of t u next same below =
+    let Below : PairTable → Type 0 = λ t. IfSome next (λ next. next.class < t.property_count) in
+    subst Below same below

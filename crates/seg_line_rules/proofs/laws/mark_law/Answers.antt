@@ -1,0 +1,10 @@
+use Rattle.seg_line_rules.specs.LinePairs.{rules_by}
+use Rattle.seg_line_rules.specs.LineBoundaries.{inside}
+use Rattle.seg_line_rules.proofs.Inside.{inside-stand}
+use Rattle.seg_line_rules.proofs.MarkLaw.{line-keeps}
+use Rattle.seg_line_rules.proofs.Marks.{unnamed-apart}
+use Rattle.seg_line_rules.proofs.laws.mark_law.Goals as goal
+
+pub returns : goal.returns
+returns c = λ cuts cover.
+    line-keeps (rules_by c.args.pairs) (inside cuts) (inside-stand cuts cover) (unnamed-apart (rules_by c.args.pairs).table.complex_property c.args.pairs.complex_apart)

@@ -1,0 +1,6 @@
+-- What is seen of the data of lines.
+use Rattle.seg_line_rules.specs.declared.line_pairs.LinePairs.{LinePairs}
+use Rattle.seg_line_rules.specs.LineRules.{LineRules}
+
+abbrev pub rules_by : LinePairs → LineRules
+rules_by pairs = record { table = pairs.table.now; style = pairs.style }

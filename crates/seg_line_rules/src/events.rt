@@ -1,0 +1,158 @@
+//! The boundaries of lines of a text, as far as the table finds them: runs of complex code points are given as texts of their own, to be cut in
+//! some other way.
+
+ghost use Rattle.std.specs.Prelude.{◌≡◌, ◌-◌, []};
+ghost use Rattle.seg_text.specs.Items.{code_points, rest_after, start_of, text_before};
+ghost use Rattle.seg_pairs.specs.Elements.{onto, place_at};
+ghost use Rattle.seg_line_rules.specs.LineBoundaries.{complex_length};
+ghost use Rattle.seg_line_rules.specs.LineEvents.{LeadsToLines, GoesOnLines};
+ghost use Rattle.seg_line_rules.specs.LinePairs.{rules_by};
+ghost use Rattle.seg_line_rules.specs.LineRules.{is_complex};
+
+use crate::line_pairs::LinePairs;
+use crate::units::Units;
+use crate::verdicts::LineVerdicts;
+use seg_pairs::elements::{Element, Elements};
+use seg_pairs::verdicts::{Outcome, next_break};
+use seg_text::cursor::Cursor;
+use std::marker::Model;
+
+/// What comes next of a text.
+#[derive(Debug, Drop)]
+pub enum LineEvent<I: Cursor> {
+    /// Its end.
+    End,
+    /// A boundary at this place.
+    Break(usize),
+    /// A run of complex items, as a text whose places are those of the whole, and the place where it ends.
+    Run(I, usize),
+}
+
+/// A text whose lines are found event by event.
+#[derive(Debug, Drop)]
+pub struct LineEvents<'data, I: Cursor> {
+    pairs: LinePairs<'data>,
+    // What isn't read yet: as items, ..
+    here: I,
+    // .. and as units, the first apart.
+    next: Option<Element>,
+    rest: Units<'data, I>,
+}
+
+impl<'data, I: Cursor> Model for LineEvents<'data, I> {
+    ghost use Rattle.seg_line_rules.specs.LineEvents.{UnreadLines, AreAhead};
+    ghost use Rattle.seg_line_rules.specs.LinePairs.{rules_by};
+
+    ghost Value = { UnreadLines };
+
+    ghost view = { λ s. record { rules = rules_by s.pairs; text = I.text s.here } };
+
+    ghost invariant = { λ s. AreAhead (rules_by s.pairs) (I.text s.here) s.next s.rest };
+}
+
+impl<'data, I: Cursor> LineEvents<'data, I> {
+    /// The events of what is left of a text. Takes no memory.
+    pub fn new(pairs: LinePairs<'data>, text: I) -> Self
+        ensures { result ≡ record { rules = rules_by pairs.entry; text = I.text text } }
+    {
+        let mut rest = Units::new(pairs, text.fork());
+        let next = rest.next_element();
+        LineEvents {
+            pairs,
+            here: text,
+            next,
+            rest,
+        }
+    }
+
+    /// Where the text that is left begins.
+    pub fn place(&self) -> usize
+        ensures { result ≡ start_of self.now.text }
+    {
+        self.here.place()
+    }
+
+    /// A text of its own in which nothing is left, at the place where the text that is left begins.
+    pub fn nothing(&self) -> I
+        ensures { I.text result ≡ record { items = []; end = start_of self.now.text } }
+    {
+        self.here.up_to(self.here.place())
+    }
+
+    /// What comes next. After the end it is the end for ever.
+    pub fn next_event(&mut self) -> LineEvent<I>
+        ensures leads { LeadsToLines I.text self.old result self.new }
+        ensures goes { GoesOnLines self.old self.new }
+    {
+        let Some(left) = self.next else {
+            return LineEvent::End;
+        };
+        let rules = LineVerdicts { pairs: self.pairs };
+        match next_break(&rules, left, &mut self.rest) {
+            Outcome::Break(_class, next) => {
+                self.next = next;
+                let place = place_before(next, &self.rest);
+                self.here.seek(place);
+                LineEvent::Break(place)
+            }
+            Outcome::Run(first, _second) => {
+                self.here.seek(first.place);
+                let (run, end) = take_run(self.pairs, &mut self.here);
+                self.rest = Units::new(self.pairs, self.here.fork());
+                self.next = self.rest.next_element();
+                LineEvent::Run(run, end)
+            }
+        }
+    }
+}
+
+/// The place of this unit, or else of the first of the others, or of the text's end.
+fn place_before<E: Elements>(next: Option<Element>, rest: &E) -> usize
+    ensures { result ≡ place_at (onto next (E.left rest.now)) (E.end rest.now) }
+{
+    match next {
+        Some(element) => element.place,
+        None => rest.place(),
+    }
+}
+
+/// The complex items that a text begins with, as a text that ends there, and the place of its end: its places stay. `rest` goes on at the
+/// last of them. Takes no memory.
+fn take_run<I: Cursor>(pairs: LinePairs<'_>, rest: &mut I) -> (I, usize)
+    ensures run { I.text result.0 ≡ text_before (complex_length (rules_by pairs.entry) (code_points (I.text rest.old).items)) (I.text rest.old) }
+    ensures end { result.1 ≡ (I.text result.0).end }
+    ensures rest { I.text rest.new ≡ rest_after (complex_length (rules_by pairs.entry) (code_points (I.text rest.old).items) - 1) (I.text rest.old) }
+{
+    let (last, end) = run_ends(pairs, rest);
+    let run = rest.up_to(end);
+    rest.seek(last);
+    (run, end)
+}
+
+/// The place of the last of the complex items that a text begins with, and the place after it.
+fn run_ends<I: Cursor>(pairs: LinePairs<'_>, rest: &I) -> (usize, usize)
+    ensures last { result.0 ≡ start_of (rest_after (complex_length (rules_by pairs.entry) (code_points (I.text rest.now).items) - 1) (I.text rest.now)) }
+    ensures end { result.1 ≡ start_of (rest_after (complex_length (rules_by pairs.entry) (code_points (I.text rest.now).items)) (I.text rest.now)) }
+{
+    let mut ahead = rest.fork();
+    let mut last = rest.place();
+    loop {
+        let place = ahead.place();
+        match ahead.next_item() {
+            Some((_, code_point)) => {
+                if !is_complex(pairs, code_point) {
+                    return (last, place);
+                }
+                last = place;
+            }
+            None => return (last, place),
+        }
+    }
+}
+
+/// Whether a code point is complex, as the options read its class.
+fn is_complex(pairs: LinePairs<'_>, code_point: u32) -> bool
+    ensures { result ≡ is_complex (rules_by pairs.entry) code_point }
+{
+    pairs.class(code_point) == pairs.table().complex_property()
+}

@@ -1,0 +1,59 @@
+//! The cuts strictly inside a run of complex code points.
+
+ghost use Rattle.std.specs.Prelude.{◌≡◌};
+ghost use Rattle.std.specs.Iterator.{YieldsFirst, item_count};
+ghost use Rattle.seg_text.specs.Cuts.{cut_places};
+ghost use Rattle.seg_complex.specs.Payloads.{payloads_of, run_cuts_by};
+ghost use Rattle.seg_line_rules.specs.LineBoundaries.{inside};
+
+use seg_complex::complex::ComplexPayloadsBorrowed;
+use seg_complex::runs::RunCuts;
+use seg_text::cursor::Cursor;
+use std::marker::Model;
+
+/// The cuts strictly inside a run, as places in units.
+#[derive(Debug, Drop)]
+pub(crate) struct InsideCuts<'data, I: Cursor> {
+    cuts: RunCuts<'data, I>,
+    // Where the run ends.
+    end: usize,
+}
+
+impl<'data, I: Cursor> Model for InsideCuts<'data, I> {
+    ghost use Rattle.std.specs.Prelude.{ℕ, List};
+    ghost use Rattle.seg_line_rules.specs.LinesLeft.{places_before};
+
+    ghost Value = { List ℕ };
+
+    ghost view = { λ s. places_before s.end s.cuts };
+}
+
+impl<'data, I: Cursor> InsideCuts<'data, I> {
+    /// The cuts of a run, which ends at this place. Takes no memory.
+    pub(crate) fn new(payloads: ComplexPayloadsBorrowed<'data>, run: I, end: usize) -> Self
+        requires { end ≡ (I.text run).end }
+        ensures { result ≡ cut_places (inside (run_cuts_by (payloads_of payloads.entry))) (I.text run) }
+    {
+        InsideCuts {
+            cuts: RunCuts::new(payloads, run),
+            end,
+        }
+    }
+}
+
+impl<'data, I: Cursor> Iterator for InsideCuts<'data, I> {
+    type Item = usize;
+
+    ghost next_gives = { YieldsFirst (λ left. left) };
+
+    ghost remaining = { item_count (λ left. left) };
+
+    fn next(&mut self) -> Option<usize> {
+        loop {
+            let place = self.cuts.next()?;
+            if place < self.end {
+                return Some(place);
+            }
+        }
+    }
+}

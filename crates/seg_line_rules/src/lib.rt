@@ -1,0 +1,14 @@
+//! The boundaries of lines by a pair table: what options say, units of code points with their marks, verdicts on units.
+#![tactic(auto)]
+
+pub mod boundaries;
+pub mod events;
+mod inside_cuts;
+pub mod laws;
+pub mod line_pairs;
+mod lists;
+pub mod options;
+#[cfg(test)]
+mod tests;
+pub mod units;
+pub mod verdicts;

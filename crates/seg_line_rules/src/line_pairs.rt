@@ -1,0 +1,116 @@
+//! Pair tables of lines, with what options say. They aren't part of the library's surface.
+ghost use Rattle.std.specs.Prelude.{◌≡◌, ◌<◌, false, None, IfOk, IfErr};
+ghost use Rattle.seg_data.specs.Faults.{IsFaultless, IsLowestFault};
+ghost use Rattle.seg_pairs.specs.PairFaults.{HasPairDataFault};
+ghost use Rattle.seg_line_rules.specs.LineClasses.{ID};
+ghost use Rattle.seg_line_rules.specs.LineFaults.{is_named_class};
+ghost use Rattle.seg_line_rules.specs.LineRules.{class_read, is_read_as_id};
+
+use crate::options::LineStyle;
+use seg_data::provider::DataError;
+use seg_pairs::pair_data::PairDataBorrowed;
+use seg_pairs::provider::RuleBreakData;
+
+/// A pair table of lines, with what options say.
+#[derive(Clone, Copy, Debug)]
+pub struct LinePairs<'data> {
+    table: &'data RuleBreakData,
+    style: LineStyle,
+    ghost has_id: { ID < table.now.property_count },
+    ghost complex_apart: { is_named_class table.now.complex_property ≡ false },
+}
+
+impl<'data> LinePairs<'data> {
+    ghost use Rattle.seg_line_rules.specs.LineFaults.{HasLineTableFault};
+    ghost use Rattle.seg_line_rules.specs.LinePairs.{rules_by};
+    ghost use Rattle.seg_line_rules.specs.LineRules.{line_class};
+
+    /// A pair table of lines, with what options say, and checked with the pair table of clusters: `ClassOutOfRange` where the
+    /// table has no class ID, and `StartRowKeeps` and `ComplexItems` by the clusters; `ComplexBelow0100` where a code
+    /// point below U+0100 is complex, and `ComplexClassNamed` where the complex class is one that has a name. Of several
+    /// faults it is the lowest.
+    pub fn try_new(
+        table: &'data RuleBreakData,
+        clusters: &RuleBreakData,
+        style: LineStyle,
+    ) -> Result<Self, DataError>
+        ensures accepted { IfOk result (λ pairs. (rules_by pairs ≡ record { table = table.now; style = style })
+            × IsFaultless (HasLineTableFault table.now clusters.now)) }
+        ensures refused { IfErr result (IsLowestFault (HasLineTableFault table.now clusters.now)) }
+    {
+        if table.property_count() <= RuleBreakData::LINE_PROPERTY_ID {
+            return Err(DataError::ClassOutOfRange);
+        }
+        check_clusters(clusters)?;
+        if PairDataBorrowed::new(table).has_complex_below_0100() {
+            return Err(DataError::ComplexBelow0100);
+        }
+        if is_named(table.complex_property()) {
+            return Err(DataError::ComplexClassNamed);
+        }
+        Ok(LinePairs { table, style })
+    }
+
+    /// The pair table.
+    pub fn table(self) -> &'data RuleBreakData
+        ensures { result.now ≡ (rules_by self.entry).table }
+    {
+        self.table
+    }
+
+    /// What the options say.
+    pub fn style(self) -> LineStyle
+        ensures { result ≡ (rules_by self.entry).style }
+    {
+        self.style
+    }
+
+    /// The class of a code point, as the options read it.
+    pub fn class(self, code_point: u32) -> u8
+        ensures value { result ≡ line_class (rules_by self.entry) code_point }
+        ensures below { result < (rules_by self.entry).table.property_count }
+    {
+        let class = PairDataBorrowed::new(self.table).class(code_point);
+        class_read(self.style, self.table.complex_property(), class)
+    }
+}
+
+/// What is wrong with the pair table of clusters, if anything is.
+fn check_clusters(clusters: &RuleBreakData) -> Result<(), DataError>
+    ensures accepted { IfOk result (λ _. IsFaultless (HasPairDataFault clusters.now None)) }
+    ensures refused { IfErr result (IsLowestFault (HasPairDataFault clusters.now None)) }
+{
+    let _pairs = PairDataBorrowed::try_plain(clusters, None)?;
+    Ok(())
+}
+
+/// Whether a class is one that has a name.
+fn is_named(class: u8) -> bool
+    ensures { result ≡ is_named_class class }
+{
+    (1 <= class && class <= 45) || (47 <= class && class <= 54)
+}
+
+/// A class as the options read it.
+fn class_read(style: LineStyle, complex: u8, class: u8) -> u8
+    ensures { result ≡ class_read style complex class }
+{
+    if is_read_as_id(style, complex, class) {
+        RuleBreakData::LINE_PROPERTY_ID
+    } else {
+        class
+    }
+}
+
+/// Whether the options read a class as ID.
+fn is_read_as_id(style: LineStyle, complex: u8, class: u8) -> bool
+    ensures { result ≡ is_read_as_id style complex class }
+{
+    if class == RuleBreakData::LINE_PROPERTY_CJ {
+        return style.word_option.is_break_all() || style.strictness.is_loose_or_normal();
+    }
+    style.word_option.is_break_all()
+        && (class == complex
+            || class == RuleBreakData::LINE_PROPERTY_AL
+            || class == RuleBreakData::LINE_PROPERTY_NU)
+}

@@ -1,0 +1,162 @@
+//! The units of a text of lines, each read once.
+
+ghost use Rattle.std.specs.Prelude.{◌≡◌, ◌<◌, ◌∷◌, [], None, IfSome};
+ghost use Rattle.seg_line_rules.specs.LinePairs.{rules_by};
+ghost use Rattle.seg_line_rules.specs.LineUnits.{bears_none, is_glued, is_mark};
+ghost use Rattle.seg_line_rules.specs.UnitElements.{base_element, base_of, elements_after, elements_from, line_elements, marked_element};
+
+use crate::line_pairs::LinePairs;
+use seg_pairs::elements::{Element, Elements};
+use seg_pairs::provider::RuleBreakData;
+use seg_text::cursor::Cursor;
+use std::marker::Model;
+
+/// The units of a text as elements: a code point that isn't glued, with the marks after it.
+#[derive(Debug, Drop)]
+pub struct Units<'data, I: Cursor> {
+    pairs: LinePairs<'data>,
+    // The first item of the next unit, which is read already.
+    first: Option<Element>,
+    // The items after it.
+    rest: I,
+}
+
+impl<'data, I: Cursor> Model for Units<'data, I> {
+    ghost use Rattle.seg_line_rules.specs.LinePairs.{rules_by};
+    ghost use Rattle.seg_line_rules.specs.UnitElements.{UnitsLeft, IsFirst, elements_after};
+
+    ghost Value = { UnitsLeft };
+
+    ghost view = { λ s. record { rules = rules_by s.pairs; left = elements_after (rules_by s.pairs) s.first (I.text s.rest).items; end = (I.text s.rest).end } };
+
+    ghost invariant = { λ s. IsFirst (rules_by s.pairs) s.first (I.text s.rest).items };
+}
+
+impl<'data, I: Cursor> Units<'data, I> {
+    /// The units of what is left of a text. Takes no memory.
+    pub fn new(pairs: LinePairs<'data>, text: I) -> Self
+        ensures { result ≡ record { rules = rules_by pairs.entry; left = line_elements (rules_by pairs.entry) (I.text text).items; end = (I.text text).end } }
+    {
+        let mut rest = text;
+        let first = match rest.next_item() {
+            Some((place, code_point)) => Some(base(pairs, place, code_point)),
+            None => None,
+        };
+        Units { pairs, first, rest }
+    }
+}
+
+impl<'data, I: Cursor> Elements for Units<'data, I> {
+    ghost left = { λ s. s.left };
+
+    ghost end = { λ s. s.end };
+
+    ghost table = { λ s. s.rules.table };
+
+    fn next_element(&mut self) -> Option<Element> {
+        let base = self.first?;
+        let (unit, first) = read_unit(self.pairs, base, &mut self.rest);
+        self.first = first;
+        Some(unit)
+    }
+
+    fn fork(&self) -> Self {
+        Units {
+            pairs: self.pairs,
+            first: self.first,
+            rest: self.rest.fork(),
+        }
+    }
+
+    fn place(&self) -> usize {
+        match self.first {
+            Some(first) => first.place,
+            None => self.rest.place(),
+        }
+    }
+}
+
+/// The unit that begins with this base, and the base after it. `rest` has the items after the one, and then those after the other.
+fn read_unit<I: Cursor>(
+    pairs: LinePairs<'_>,
+    base: Element,
+    rest: &mut I,
+) -> (Element, Option<Element>)
+    ensures unit { elements_from (rules_by pairs.entry) base (I.text rest.old).items ≡ result.0 ∷ elements_after (rules_by pairs.entry) result.1 (I.text rest.new).items }
+    ensures end { (I.text rest.new).end ≡ (I.text rest.old).end }
+    ensures class { result.0.class ≡ base.class }
+    ensures none { result.1 ≡ None → (I.text rest.new).items ≡ [] }
+    ensures below { IfSome result.1 (λ first. first.class < (rules_by pairs.entry).table.property_count) }
+{
+    let mut unit = base;
+    loop {
+        let Some((place, code_point)) = rest.next_item() else {
+            return (unit, None);
+        };
+        let class = pairs.class(code_point);
+        if !is_glued(unit.class, class) {
+            return (unit, Some(base_element(place, code_point, class)));
+        }
+        unit = marked_element(unit, class);
+    }
+}
+
+/// An item as a unit of its own.
+fn base(pairs: LinePairs<'_>, place: usize, code_point: u32) -> Element
+    ensures element { result ≡ base_of (rules_by pairs.entry) (place, code_point) }
+    ensures below { result.class < (rules_by pairs.entry).table.property_count }
+{
+    base_element(place, code_point, pairs.class(code_point))
+}
+
+/// An item of this class as a unit of its own.
+fn base_element(place: usize, code_point: u32, class: u8) -> Element
+    ensures { result ≡ base_element place code_point class }
+{
+    Element {
+        class,
+        place,
+        code_point,
+        is_joined: class == RuleBreakData::LINE_PROPERTY_ZWJ,
+        is_single: true,
+    }
+}
+
+/// A unit with one mark more, of this class.
+fn marked_element(unit: Element, class: u8) -> Element
+    ensures { result ≡ marked_element unit class }
+{
+    Element {
+        class: unit.class,
+        place: unit.place,
+        code_point: unit.code_point,
+        is_joined: class == RuleBreakData::LINE_PROPERTY_ZWJ,
+        is_single: false,
+    }
+}
+
+/// Whether an item of this class is glued to a unit whose base has that class.
+fn is_glued(base: u8, class: u8) -> bool
+    ensures { result ≡ is_glued base class }
+{
+    is_mark(class) && !bears_none(base)
+}
+
+/// Whether the class is one of marks.
+fn is_mark(class: u8) -> bool
+    ensures { result ≡ is_mark class }
+{
+    class == RuleBreakData::LINE_PROPERTY_CM || class == RuleBreakData::LINE_PROPERTY_ZWJ
+}
+
+/// Whether a mark after a base of this class stands alone.
+fn bears_none(class: u8) -> bool
+    ensures { result ≡ bears_none class }
+{
+    class == RuleBreakData::LINE_PROPERTY_BK
+        || class == RuleBreakData::LINE_PROPERTY_CR
+        || class == RuleBreakData::LINE_PROPERTY_LF
+        || class == RuleBreakData::LINE_PROPERTY_NL
+        || class == RuleBreakData::LINE_PROPERTY_SP
+        || class == RuleBreakData::LINE_PROPERTY_ZW
+}

@@ -1,0 +1,173 @@
+//! What comes after a unit of lines: a boundary, none, or a run of complex code points.
+
+ghost use Rattle.std.specs.Prelude.{◌≡◌, ◌<◌, ◌∷◌};
+ghost use Rattle.seg_pairs.specs.PairTable.{entry_of};
+ghost use Rattle.seg_pairs.specs.Steps.{Lands, IsStepBelow};
+ghost use Rattle.seg_line_rules.specs.LinePairs.{rules_by};
+ghost use Rattle.seg_line_rules.specs.LineSteps.{step_unless};
+ghost use Rattle.seg_line_rules.specs.LineVerdict.{begins_run, case_of, unit_first_verdict, unit_named_verdict, unit_verdict};
+ghost use Rattle.seg_line_rules.specs.UnitElements.{unit_seen, units_seen};
+
+use crate::line_pairs::LinePairs;
+use crate::lists::{keeps, listed};
+use seg_pairs::elements::{Element, Elements};
+use seg_pairs::provider::{BreakState, RuleBreakData};
+use seg_pairs::verdicts::{Step, Verdicts};
+use seg_pairs::walk::{Stop, entry_between, is_class, state_named, walk};
+
+/// What decides between two units.
+#[derive(Clone, Copy, Debug, PartialEq, Eq)]
+pub enum Case {
+    /// A run of complex code points begins with the left one.
+    Run,
+    /// No boundary stands between them, whatever the table says.
+    Together,
+    /// A boundary stands between them, whatever the table says.
+    Apart,
+    /// The table says it.
+    Table,
+}
+
+/// What decides between two units: the first case that applies.
+pub fn case_of(pairs: LinePairs<'_>, left: Element, right: Element) -> Case
+    ensures { result ≡ case_of (rules_by pairs.entry) (unit_seen left) (unit_seen right) }
+{
+    if begins_run(pairs, left, right) {
+        return Case::Run;
+    }
+    if keeps(pairs.style(), left, right) {
+        return Case::Together;
+    }
+    match listed(pairs.style(), left, right) {
+        Some(true) => Case::Apart,
+        Some(false) => Case::Together,
+        None => Case::Table,
+    }
+}
+
+/// Whether a run of complex code points begins with the left unit.
+fn begins_run(pairs: LinePairs<'_>, left: Element, right: Element) -> bool
+    ensures { result ≡ begins_run (rules_by pairs.entry) (unit_seen left) (unit_seen right) }
+{
+    let complex = pairs.table().complex_property();
+    left.class == complex && left.is_single && right.class == complex
+}
+
+/// The rules of lines, over units.
+#[derive(Clone, Copy, Debug)]
+pub struct LineVerdicts<'data> {
+    /// The pair table, and what options say.
+    pub pairs: LinePairs<'data>,
+}
+
+impl<'data> Verdicts for LineVerdicts<'data> {
+    ghost verdict = { λ s elements. unit_verdict (rules_by s.pairs) (units_seen elements) };
+
+    ghost table = { λ s. (rules_by s.pairs).table };
+
+    fn step<E: Elements>(&self, left: Element, rest: &mut E) -> Step {
+        let Some(right) = rest.next_element() else {
+            return Step::End(0);
+        };
+        match case_of(self.pairs, left, right) {
+            Case::Run => Step::Run(right),
+            Case::Together => Step::Go(right),
+            Case::Apart => Step::Break(right, 0),
+            Case::Table => table_step(self.pairs.table(), left, right, rest),
+        }
+    }
+
+    fn facts(&self) {}
+}
+
+/// The step of a pair table from `left`, which `right` follows.
+///
+/// `rest` has the units after `right`, and then those after the one that the step has read.
+#[inline(always)]
+fn table_step<E: Elements>(
+    table: &RuleBreakData,
+    left: Element,
+    right: Element,
+    rest: &mut E,
+) -> Step
+    requires left { left.class < table.now.property_count }
+    requires right { right.class < table.now.property_count }
+    requires table { E.table rest.old ≡ table.now }
+    ensures lands { Lands (unit_first_verdict table.now (unit_seen left) (units_seen (left ∷ right ∷ E.left rest.old)) (entry_of table.now left.class right.class)) (left ∷ right ∷ E.left rest.old) result (E.left rest.new) }
+    ensures class { IsStepBelow table.now.property_count result }
+    ensures end { E.end rest.new ≡ E.end rest.old }
+    ensures table { E.table rest.new ≡ E.table rest.old }
+{
+    let entry = entry_between(table, left, right);
+    if let BreakState::Keep = entry {
+        return Step::Go(right);
+    }
+    match state_named(entry) {
+        Some(state) => walk_step(table, state, left, right, rest),
+        None => unless(left.is_joined, right),
+    }
+}
+
+/// The step where the entry of the two names a state.
+fn walk_step<E: Elements>(
+    table: &RuleBreakData,
+    start: u8,
+    left: Element,
+    right: Element,
+    rest: &mut E,
+) -> Step
+    requires start { start < table.now.property_count }
+    requires right { right.class < table.now.property_count }
+    requires table { E.table rest.old ≡ table.now }
+    ensures lands { Lands (unit_named_verdict table.now start (unit_seen left) (units_seen (left ∷ right ∷ E.left rest.old))) (left ∷ right ∷ E.left rest.old) result (E.left rest.new) }
+    ensures class { IsStepBelow table.now.property_count result }
+    ensures end { E.end rest.new ≡ E.end rest.old }
+    ensures table { E.table rest.new ≡ E.table rest.old }
+{
+    let stop = walk(table, start, left, right, rest);
+    let Stop {
+        state: _,
+        entry,
+        before,
+        next,
+        saved_before,
+        saved,
+        saved_rest,
+        saved_class: _,
+    } = stop;
+    match next {
+        Some(next) => match entry {
+            BreakState::Keep => Step::Go(next),
+            BreakState::Break => unless(before.is_joined, next),
+            _ => {
+                let from_class = is_class(table, start);
+                let taken_away = saved_before.is_joined | (before.is_joined & from_class);
+                go_back(rest, saved_rest, saved, taken_away)
+            }
+        },
+        None => match entry {
+            BreakState::NoMatch => go_back(rest, saved_rest, saved, saved_before.is_joined),
+            _ => Step::End(0),
+        },
+    }
+}
+
+/// A boundary before an element, unless it is taken away.
+fn unless(taken_away: bool, next: Element) -> Step
+    ensures { result ≡ step_unless taken_away next }
+{
+    if taken_away {
+        Step::Go(next)
+    } else {
+        Step::Break(next, 0)
+    }
+}
+
+/// A boundary at the place that was saved, unless it is taken away: the units are read again from there on.
+fn go_back<E: Elements>(rest: &mut E, saved_rest: E, saved: Element, taken_away: bool) -> Step
+    ensures rest { rest.new ≡ saved_rest }
+    ensures step { result ≡ step_unless taken_away saved }
+{
+    *rest = saved_rest;
+    unless(taken_away, saved)
+}
