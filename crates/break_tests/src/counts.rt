@@ -1,0 +1,49 @@
+//! How many samples are passed.
+ghost use Rattle.std.specs.Prelude.{◌↔◌, IfOk, IsTrue};
+ghost use Rattle.break_tests.specs.Segmenter.{IsPassed};
+
+use crate::sample::{Sample, sample_of};
+use crate::segmenter::Segmenter;
+use anyhow::Result;
+use std::alloc::{AllocError, Global};
+
+/// How many samples were passed, and how many were not.
+#[derive(Clone, Copy, Debug, Default, PartialEq, Eq)]
+pub struct Counts {
+    /// How many were passed.
+    pub passed: u32,
+    /// How many were not.
+    pub failed: u32,
+}
+
+/// Counts the samples of a test file. The errors are want of memory, and a line that has neither marks nor code points.
+pub fn counts_of(alloc: Global, segmenter: &Segmenter, text: &str) -> Result<Counts> {
+    let mut counts = Counts::default();
+    for line in text.lines() {
+        if let Some(sample) = sample_of(alloc, line)? {
+            if is_passed(alloc, segmenter, &sample)? {
+                counts.passed = counts.passed.saturating_add(1);
+            } else {
+                counts.failed = counts.failed.saturating_add(1);
+            }
+        }
+    }
+    Ok(counts)
+}
+
+// Whether the text has just the sample's boundaries, in each encoding.
+fn is_passed(alloc: Global, segmenter: &Segmenter, sample: &Sample) -> Result<bool, AllocError>
+    ensures { IfOk result (λ passed. IsTrue passed ↔ IsPassed segmenter.now sample.now) }
+{
+    let text = sample.text.as_str();
+    let in_str = segmenter.places_in_str(alloc, text)?;
+    let in_utf8 = segmenter.places_in_utf8(alloc, text.as_bytes())?;
+    let in_utf16 = segmenter.places_in_utf16(alloc, sample.units.as_slice())?;
+    let mandatory = segmenter.mandatory_places(alloc, text)?;
+    Ok(
+        in_str == sample.places
+            && in_utf8 == sample.places
+            && in_utf16 == sample.unit_places
+            && mandatory == sample.mandatory,
+    )
+}
