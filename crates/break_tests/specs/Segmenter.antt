@@ -1,5 +1,5 @@
 -- The boundaries that each segmenter gives.
-use Rattle.std.specs.Prelude.{◌≡◌, ℕ, ◌==◌, List, [], filter}
+use Rattle.std.specs.Prelude.{◌≡◌, ℕ, ◌==◌, Option, Some, None, IfSome, List, filter}
 use Rattle.icu_segmenter.specs.Boundaries.{offsets}
 use Rattle.icu_segmenter.specs.Clusters.{owned_cluster_rules}
 use Rattle.icu_segmenter.specs.Items.{Text}
@@ -25,14 +25,18 @@ places_by (Lines lines) text = offsets (boundaries_of (owned_line_rules lines) t
 abbrev pub mandatory_by : Rules → Text → List ℕ
 mandatory_by rules text = offsets (filter (λ boundary. boundary.status == 1) (boundaries_of rules text))
 
-abbrev pub mandatory_places_by : Segmenter → Text → List ℕ
-mandatory_places_by (Clusters _) text = []
-mandatory_places_by (Words _) text = []
-mandatory_places_by (Sentences _) text = []
-mandatory_places_by (Lines lines) text = mandatory_by (owned_line_rules lines) text
+-- .. of lines, and none of others
+abbrev pub mandatory_places_by : Segmenter → Text → Option (List ℕ)
+mandatory_places_by (Lines lines) text = Some (mandatory_by (owned_line_rules lines) text)
+mandatory_places_by _ text = None
+
+-- lines have just the sample's mandatory ones
+abbrev pub HasMandatory : Segmenter → Sample → Type 0
+HasMandatory segmenter sample =
+    IfSome (mandatory_places_by segmenter (utf8 sample.text.bytes.items)) (λ places. places ≡ sample.mandatory.items)
 
 -- a segmenter gives just a sample's boundaries, in each encoding
 pub record IsPassed (segmenter : Segmenter) (sample : Sample) : Type 0 where
   pub in_utf8 : places_by segmenter (utf8 sample.text.bytes.items) ≡ sample.places.items
   pub in_utf16 : places_by segmenter (utf16 sample.units.items) ≡ sample.unit_places.items
-  pub mandatory : mandatory_places_by segmenter (utf8 sample.text.bytes.items) ≡ sample.mandatory.items
+  pub mandatory : HasMandatory segmenter sample

@@ -1,6 +1,6 @@
 //! How many samples are passed.
 ghost use Rattle.std.specs.Prelude.{◌↔◌, IfOk, IsTrue};
-ghost use Rattle.break_tests.specs.Segmenter.{IsPassed};
+ghost use Rattle.break_tests.specs.Segmenter.{HasMandatory, IsPassed};
 
 use crate::sample::{Sample, sample_of};
 use crate::segmenter::Segmenter;
@@ -8,7 +8,7 @@ use anyhow::Result;
 use std::alloc::{AllocError, Global};
 
 /// How many samples were passed, and how many were not.
-#[derive(Clone, Copy, Debug, Default, PartialEq, Eq)]
+#[derive(Clone, Copy, Default)]
 pub struct Counts {
     /// How many were passed.
     pub passed: u32,
@@ -31,7 +31,7 @@ pub fn counts_of(alloc: Global, segmenter: &Segmenter, text: &str) -> Result<Cou
     Ok(counts)
 }
 
-// Whether the text has just the sample's boundaries, in each encoding.
+// Whether the text has just the sample's boundaries, in each encoding, and of lines the mandatory ones.
 fn is_passed(alloc: Global, segmenter: &Segmenter, sample: &Sample) -> Result<bool, AllocError>
     ensures { IfOk result (λ passed. IsTrue passed ↔ IsPassed segmenter.now sample.now) }
 {
@@ -39,11 +39,21 @@ fn is_passed(alloc: Global, segmenter: &Segmenter, sample: &Sample) -> Result<bo
     let in_str = segmenter.places_in_str(alloc, text)?;
     let in_utf8 = segmenter.places_in_utf8(alloc, text.as_bytes())?;
     let in_utf16 = segmenter.places_in_utf16(alloc, sample.units.as_slice())?;
-    let mandatory = segmenter.mandatory_places(alloc, text)?;
+    let has_mandatory = has_mandatory(alloc, segmenter, sample)?;
     Ok(
         in_str == sample.places
             && in_utf8 == sample.places
             && in_utf16 == sample.unit_places
-            && mandatory == sample.mandatory,
+            && has_mandatory,
     )
+}
+
+// Whether the lines of the text have just the sample's mandatory boundaries; true of what isn't lines.
+fn has_mandatory(alloc: Global, segmenter: &Segmenter, sample: &Sample) -> Result<bool, AllocError>
+    ensures { IfOk result (λ has. IsTrue has ↔ HasMandatory segmenter.now sample.now) }
+{
+    match segmenter.mandatory_places(alloc, sample.text.as_str())? {
+        Some(places) => Ok(places == sample.mandatory),
+        None => Ok(true),
+    }
 }

@@ -5,12 +5,13 @@ use anyhow::Result;
 use icu_segmenter::options::{LineBreakOptions, SentenceBreakOptions, WordBreakOptions};
 use icu_segmenter::{GraphemeClusterSegmenter, LineSegmenter, SentenceSegmenter, WordSegmenter};
 use icu_segmenter_data::{
-    cluster_machine, cluster_table, line_machine, line_tailorings, sentence_machine, word_machine,
+    cluster_machine, cluster_table, line_machine, line_tailorings, sentence_machine,
+    sentence_table, word_machine, word_table,
 };
 use std::alloc::Global;
 
 /// What is found, and by which engine.
-#[derive(Clone, Copy, Debug, PartialEq, Eq)]
+#[derive(Clone, Copy)]
 pub enum Engine {
     /// Grapheme clusters, by the machine.
     ClusterMachine,
@@ -18,18 +19,24 @@ pub enum Engine {
     ClusterTable,
     /// Words, by the machine.
     WordMachine,
+    /// Words, by the pair table.
+    WordTable,
     /// Sentences, by the machine.
     SentenceMachine,
+    /// Sentences, by the pair table.
+    SentenceTable,
     /// Lines, by the machine.
     LineMachine,
 }
 
 /// All engines, in the order in which they are tested.
-pub const ENGINES: [Engine; 5] = [
+pub const ENGINES: [Engine; 7] = [
     Engine::ClusterMachine,
     Engine::ClusterTable,
     Engine::WordMachine,
+    Engine::WordTable,
     Engine::SentenceMachine,
+    Engine::SentenceTable,
     Engine::LineMachine,
 ];
 
@@ -38,8 +45,8 @@ impl Engine {
     pub fn file(self) -> &'static str {
         match self {
             Engine::ClusterMachine | Engine::ClusterTable => "GraphemeBreakTest.txt",
-            Engine::WordMachine => "WordBreakTest.txt",
-            Engine::SentenceMachine => "SentenceBreakTest.txt",
+            Engine::WordMachine | Engine::WordTable => "WordBreakTest.txt",
+            Engine::SentenceMachine | Engine::SentenceTable => "SentenceBreakTest.txt",
             Engine::LineMachine => "LineBreakTest.txt",
         }
     }
@@ -50,7 +57,9 @@ impl Engine {
             Engine::ClusterMachine => "clusters by machine",
             Engine::ClusterTable => "clusters by pair table",
             Engine::WordMachine => "words by machine",
+            Engine::WordTable => "words by pair table",
             Engine::SentenceMachine => "sentences by machine",
+            Engine::SentenceTable => "sentences by pair table",
             Engine::LineMachine => "lines by machine",
         }
     }
@@ -60,8 +69,10 @@ impl Engine {
         match self {
             Engine::ClusterMachine => cluster_machine_segmenter(alloc),
             Engine::ClusterTable => cluster_table_segmenter(alloc),
-            Engine::WordMachine => word_segmenter(alloc),
-            Engine::SentenceMachine => sentence_segmenter(alloc),
+            Engine::WordMachine => word_machine_segmenter(alloc),
+            Engine::WordTable => word_table_segmenter(alloc),
+            Engine::SentenceMachine => sentence_machine_segmenter(alloc),
+            Engine::SentenceTable => sentence_table_segmenter(alloc),
             Engine::LineMachine => line_segmenter(alloc),
         }
     }
@@ -77,18 +88,32 @@ fn cluster_table_segmenter(alloc: Global) -> Result<Segmenter> {
     Ok(Segmenter::Clusters(segmenter))
 }
 
-fn word_segmenter(alloc: Global) -> Result<Segmenter> {
+fn word_machine_segmenter(alloc: Global) -> Result<Segmenter> {
+    let options = WordBreakOptions::default();
     let segmenter = WordSegmenter::try_new_neo_for_non_complex_scripts(
         word_machine(alloc)?,
         cluster_table(alloc)?,
-        WordBreakOptions::default(),
+        options,
     )?;
     Ok(Segmenter::Words(segmenter))
 }
 
-fn sentence_segmenter(alloc: Global) -> Result<Segmenter> {
+fn word_table_segmenter(alloc: Global) -> Result<Segmenter> {
+    let (table, clusters) = (word_table(alloc)?, cluster_table(alloc)?);
+    let options = WordBreakOptions::default();
+    let segmenter = WordSegmenter::try_new_for_non_complex_scripts(table, None, clusters, options)?;
+    Ok(Segmenter::Words(segmenter))
+}
+
+fn sentence_machine_segmenter(alloc: Global) -> Result<Segmenter> {
     let options = SentenceBreakOptions::default();
     let segmenter = SentenceSegmenter::try_new_neo(sentence_machine(alloc)?, None, options)?;
+    Ok(Segmenter::Sentences(segmenter))
+}
+
+fn sentence_table_segmenter(alloc: Global) -> Result<Segmenter> {
+    let options = SentenceBreakOptions::default();
+    let segmenter = SentenceSegmenter::try_new(sentence_table(alloc)?, None, options)?;
     Ok(Segmenter::Sentences(segmenter))
 }
 

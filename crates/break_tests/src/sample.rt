@@ -4,7 +4,7 @@ use anyhow::{Context, Result};
 use std::alloc::{AllocError, Global};
 
 /// A text, and where its boundaries stand.
-#[derive(Debug, Drop)]
+#[derive(Drop)]
 pub struct Sample {
     /// The text.
     pub text: String,

@@ -24,6 +24,7 @@ pub enum Segmenter {
 }
 
 impl Segmenter {
+    ghost use Rattle.std.specs.Option.{option_map};
     ghost use Rattle.icu_segmenter.specs.Utf8.{utf8};
     ghost use Rattle.icu_segmenter.specs.Utf16.{utf16};
     ghost use Rattle.break_tests.specs.Segmenter.{places_by, mandatory_places_by};
@@ -76,13 +77,20 @@ impl Segmenter {
         }
     }
 
-    /// The boundaries that are mandatory, in bytes: of lines alone. The only error is want of memory.
-    pub fn mandatory_places(&self, alloc: Global, text: &str) -> Result<Vec<usize>, AllocError>
-        ensures { IfOk result (λ found. found.items ≡ mandatory_places_by self.now (utf8 text.now)) }
+    /// The mandatory boundaries of lines, in bytes; of others None. The only error is want of memory.
+    pub fn mandatory_places(
+        &self,
+        alloc: Global,
+        text: &str,
+    ) -> Result<Option<Vec<usize>>, AllocError>
+        ensures { IfOk result (λ found. option_map (λ places. places.items) found ≡ mandatory_places_by self.now (utf8 text.now)) }
     {
         match self {
-            Segmenter::Lines(lines) => mandatory_breaks(alloc, lines.as_borrowed(), text),
-            _ => Ok(Vec::new(alloc)),
+            Segmenter::Lines(lines) => {
+                let places = mandatory_breaks(alloc, lines.as_borrowed(), text)?;
+                Ok(Some(places))
+            }
+            _ => Ok(None),
         }
     }
 }

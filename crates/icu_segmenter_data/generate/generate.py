@@ -72,14 +72,17 @@ def constant(documentation, name, kind, value):
     return [f"/// {documentation}", f"pub(super) const {name}: {kind} = {value};", ""]
 
 
-def entries_array(table, name, row_names):
+def entries_array(table, name_of_class):
+    names = {**name_of_class, 0: "no code point's", table.start_of_text: "the start of the text",
+             table.end_of_text: "the end of the text"}
+
     def written(entry):
         return entry if isinstance(entry, str) else f"{entry[0]}({entry[1]})"
 
     body = []
     for r, row in enumerate(table.entries):
-        body += [f"    // {r} {row_names.get(r, 'a composite')}", *lines_of(map(written, row))]
-    return array("A row for each class and composite, in it what stands between it and each.", name, "BreakState",
+        body += [f"    // {r} {names.get(r, 'a composite')}", *lines_of(map(written, row))]
+    return array("A row for each class and composite, in it what stands between it and each.", "ENTRIES", "BreakState",
                  table.count ** 2, body)
 
 
@@ -132,6 +135,7 @@ def by_table(table, machine, symbol_of, default):
 
 STATE_USES = "use icu_segmenter::provider::{State, Symbol};"
 PLAIN_RANGES = "The code points of each symbol; others have OTHER. The numbers of symbols are those of the rows of TRANSITIONS."
+SHARED = "\nThey are the classes of the pair table too."
 
 
 def numbered(machine, symbol_of, default):
@@ -153,20 +157,30 @@ def entry_uses(machine):
     return f"use crate::parts::{{{', '.join(names + ['Entry'])}}};"
 
 
+def classes(machine):
+    """The symbols as classes, by their numbers."""
+    return {k + 1: symbol for k, symbol in enumerate(machine.symbols)}
+
+
+def table_uses(machine, table):
+    entries = [e if isinstance(e, str) else e[0] for row in table.entries for e in row]
+    names = {"CONTINUE" if status is None else f"ACCEPT_{status}" for status in machine.accepted}
+    names |= {"Entry", "Numbers"} | {e for e in entries if e.isupper()}
+    variants = ", ".join(["self"] + sorted({e for e in entries if not e.isupper()}))
+    return [f"use crate::parts::{{{', '.join(sorted(names))}}};", f"use icu_segmenter::provider::BreakState::{{{variants}}};"]
+
+
 def clusters(database, version):
     machine = machines.Rules(rules.CLUSTERS, rules.CLUSTER_SYMBOLS).machine()
     symbol_of = properties.cluster_symbols(database)
-    table = pair_tables.pair_table(machine, {k + 1: s for k, s in enumerate(machine.symbols)})
+    table = pair_tables.pair_table(machine, classes(machine))
     verify(database.folder, "GraphemeBreakTest.txt", "by machine", by_machine(machine, symbol_of, "XX"))
     verify(database.folder, "GraphemeBreakTest.txt", "by pair table", by_table(table, machine, symbol_of, "XX"))
     ranges, default = numbered(machine, symbol_of, "XX")
-    names = {k + 1: s for k, s in enumerate(machine.symbols)}
-    names |= {0: "no code point's", table.start_of_text: "the start of the text", table.end_of_text: "the end of the text"}
-    write("clusters/data.rt", version, "Grapheme clusters: the parts of the machine and of the pair table, by UAX #29.", [
-        "use crate::parts::{ACCEPT_0, BREAK, CONTINUE, Entry, KEEP, Numbers};",
-        "use icu_segmenter::provider::BreakState::{self, Index};", STATE_USES], [
-        *ranges_array(PLAIN_RANGES + "\nThey are the classes of the pair table too.", "RANGES", "Symbol", ranges), *other(default),
-        *states_array(machine), *transitions_array(machine), *shift(machine), *entries_array(table, "ENTRIES", names),
+    write("clusters/data.rt", version, "Grapheme clusters: the parts of the machine and of the pair table, by UAX #29.",
+          [*table_uses(machine, table), STATE_USES], [
+        *ranges_array(PLAIN_RANGES + SHARED, "RANGES", "Symbol", ranges), *other(default),
+        *states_array(machine), *transitions_array(machine), *shift(machine), *entries_array(table, classes(machine)),
         *numbers_of(table, complex_class=0)])
 
 
@@ -183,23 +197,39 @@ def words(database, version):
     machine = machines.Rules(rules.WORDS, rules.WORD_SYMBOLS, rules.WORD_GROUPS, rules.WORD_STATUS).machine()
     symbol_of = properties.word_symbols(database)
     plain = {c: symbol for c, (symbol, _) in symbol_of.items()}
+    # By pair table what dictionaries cut is one class, but for Katakana, of which the rules say what holds together.
+    complex_class, numbers = len(machine.symbols) + 1, {symbol: k + 1 for k, symbol in enumerate(machine.symbols)}
+    class_of = {c: complex_class if script != "None" and symbol != "Katakana" else numbers[symbol]
+                for c, (symbol, script) in symbol_of.items()}
+    table = pair_tables.pair_table(machine, {**classes(machine), complex_class: "XX_Letter"})
     verify(database.folder, "WordBreakTest.txt", "by machine", by_machine(machine, plain, "XX"))
+    verify(database.folder, "WordBreakTest.txt", "by pair table", by_table(table, machine, plain, "XX"))
     ranges, default, pairs = with_scripts(symbol_of, "XX", machine.symbols)
-    write("words/data.rt", version, "Words: the parts of the machine, by UAX #29.", [
-        entry_uses(machine), "use icu_segmenter::provider::{ComplexScript, State, Symbol};"], [
+    write("words/data.rt", version, "Words: the parts of the machine and of the pair table, by UAX #29.", [
+        *table_uses(machine, table), "use icu_segmenter::provider::{ComplexScript, State, Symbol};"], [
         *ranges_array(PLAIN_RANGES.replace("symbol;", "symbol and pseudo symbol;"), "RANGES", "Symbol", ranges), *other(default),
         *states_array(machine), *transitions_array(machine), *shift(machine),
-        *map_array("The symbol and the script of each pseudo symbol.", "MAP", pairs)])
+        *map_array("The symbol and the script of each pseudo symbol.", "MAP", pairs),
+        *ranges_array("The code points of each class of the pair table; others have OTHER.", "CLASSES", "u8",
+                      properties.ranges(class_of, default)),
+        *entries_array(table, {**classes(machine), complex_class: "what dictionaries cut"}),
+        *array("The status of each class and composite, from 1 on.", "STATUSES", "u8", len(table.statuses),
+               lines_of(map(str, table.statuses))),
+        *numbers_of(table, complex_class)])
 
 
 def sentences(database, version):
     machine = machines.Rules(rules.SENTENCES, rules.SENTENCE_SYMBOLS, rules.SENTENCE_GROUPS).machine()
     symbol_of = properties.sentence_symbols(database)
+    table = pair_tables.pair_table(machine, classes(machine))
     verify(database.folder, "SentenceBreakTest.txt", "by machine", by_machine(machine, symbol_of, "XX"))
+    verify(database.folder, "SentenceBreakTest.txt", "by pair table", by_table(table, machine, symbol_of, "XX"))
     ranges, default = numbered(machine, symbol_of, "XX")
-    write("sentences/data.rt", version, "Sentences: the parts of the machine, by UAX #29.", [entry_uses(machine), STATE_USES], [
-        *ranges_array(PLAIN_RANGES, "RANGES", "Symbol", ranges), *other(default),
-        *states_array(machine), *transitions_array(machine), *shift(machine)])
+    write("sentences/data.rt", version, "Sentences: the parts of the machine and of the pair table, by UAX #29.",
+          [*table_uses(machine, table), STATE_USES], [
+        *ranges_array(PLAIN_RANGES + SHARED, "RANGES", "Symbol", ranges), *other(default),
+        *states_array(machine), *transitions_array(machine), *shift(machine), *entries_array(table, classes(machine)),
+        *numbers_of(table, complex_class=0)])
 
 
 def lines(database, version):

@@ -3,12 +3,22 @@
 A class stands for a symbol of the machine, and its row is the state after that symbol at the start of a text. Each further
 state that is reached is a composite, with a row of its own. The entry of two is Keep where the state after both is that of
 the second one alone, and Break where the segment ends between them; otherwise a walk goes on in the state. In a state that
-accepts nothing a walk may come to nothing: the place before it is saved (Intermediate), and such a row has NoMatch."""
+accepts nothing a walk may come to nothing: the place before it is saved (Intermediate), and such a row has NoMatch. Its
+status is that of the boundary at the place saved: the one of the states that lead to it and accept."""
 from machines import NO_STATE
 
 
 class PairTable:
     """`entries` by rows; `statuses` of the classes and composites from 1 on."""
+
+
+def status_of(machine, state):
+    if machine.accepted[state] is not None:
+        return machine.accepted[state]
+    count = len(machine.accepted)
+    before = {machine.accepted[t % count] for t, target in enumerate(machine.transitions) if target == state} - {None}
+    assert len(before) == 1, before
+    return before.pop()
 
 
 def pair_table(machine, symbol_of_class):
@@ -51,6 +61,6 @@ def pair_table(machine, symbol_of_class):
     table.entries = [[rows.get(r, {}).get(c, "BREAK") for c in range(table.count)] for r in range(table.count)]
     table.statuses = [0] * (table.count - 1)
     for c, state in [*alone.items(), *((named[s], s) for s in states)]:
-        table.statuses[c - 1] = machine.accepted[state] or 0
+        table.statuses[c - 1] = status_of(machine, state)
     assert all(e[1] < (133 if e[0] == "Intermediate" else 120) for r in table.entries for e in r if isinstance(e, tuple))
     return table

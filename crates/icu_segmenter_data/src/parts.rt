@@ -25,6 +25,8 @@ pub(crate) const BREAK: BreakState = BreakState::Break;
 
 pub(crate) const KEEP: BreakState = BreakState::Keep;
 
+pub(crate) const NO_MATCH: BreakState = BreakState::NoMatch;
+
 /// The machine of these parts, without lookaheads. The errors are want of memory, and what is wrong with the parts.
 pub(crate) fn machine_of(
     alloc: Global,

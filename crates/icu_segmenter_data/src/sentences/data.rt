@@ -1,10 +1,12 @@
-//! Sentences: the parts of the machine, by UAX #29.
+//! Sentences: the parts of the machine and of the pair table, by UAX #29.
 // Written by generate/generate.py from the data of Unicode 15.0.0. Do not edit.
 
-use crate::parts::{ACCEPT_0, CONTINUE, Entry};
+use crate::parts::{ACCEPT_0, BREAK, CONTINUE, Entry, KEEP, NO_MATCH, Numbers};
+use icu_segmenter::provider::BreakState::{self, Index, Intermediate};
 use icu_segmenter::provider::{State, Symbol};
 
 /// The code points of each symbol; others have OTHER. The numbers of symbols are those of the rows of TRANSITIONS.
+/// They are the classes of the pair table too.
 #[rattlefmt::skip]
 pub(super) static RANGES: [(u32, u32, Symbol); 2421] = [
     (0x9, 0x9, 7), (0xA, 0xA, 3), (0xB, 0xC, 7), (0xD, 0xD, 2), (0x20, 0x20, 7), (0x21, 0x21, 13), (0x22, 0x22, 14),
@@ -544,3 +546,86 @@ pub(super) static TRANSITIONS: [State; 192] = [
 
 /// The first value of RANGES that is a pseudo symbol: less this, it is a place in the map.
 pub(super) const SHIFT: u8 = 16;
+
+/// A row for each class and composite, in it what stands between it and each.
+#[rattlefmt::skip]
+pub(super) static ENTRIES: [BreakState; 529] = [
+    // 0 no code point's
+    BREAK, BREAK, BREAK, BREAK, BREAK, BREAK, BREAK, BREAK, BREAK, BREAK, BREAK, BREAK, BREAK, BREAK, BREAK, BREAK,
+    BREAK, BREAK, BREAK, BREAK, BREAK, BREAK, BREAK,
+    // 1 XX
+    BREAK, KEEP, KEEP, KEEP, KEEP, KEEP, KEEP, KEEP, KEEP, KEEP, KEEP, KEEP, KEEP, KEEP, KEEP, KEEP, BREAK, BREAK,
+    BREAK, BREAK, BREAK, BREAK, BREAK,
+    // 2 CR
+    BREAK, BREAK, BREAK, KEEP, BREAK, BREAK, BREAK, BREAK, BREAK, BREAK, BREAK, BREAK, BREAK, BREAK, BREAK, BREAK,
+    BREAK, BREAK, BREAK, BREAK, BREAK, BREAK, BREAK,
+    // 3 LF
+    BREAK, BREAK, BREAK, BREAK, BREAK, BREAK, BREAK, BREAK, BREAK, BREAK, BREAK, BREAK, BREAK, BREAK, BREAK, BREAK,
+    BREAK, BREAK, BREAK, BREAK, BREAK, BREAK, BREAK,
+    // 4 Sep
+    BREAK, BREAK, BREAK, BREAK, BREAK, BREAK, BREAK, BREAK, BREAK, BREAK, BREAK, BREAK, BREAK, BREAK, BREAK, BREAK,
+    BREAK, BREAK, BREAK, BREAK, BREAK, BREAK, BREAK,
+    // 5 Extend
+    BREAK, KEEP, KEEP, KEEP, KEEP, KEEP, KEEP, KEEP, KEEP, KEEP, KEEP, KEEP, KEEP, KEEP, KEEP, KEEP, BREAK, BREAK,
+    BREAK, BREAK, BREAK, BREAK, BREAK,
+    // 6 Format
+    BREAK, KEEP, KEEP, KEEP, KEEP, KEEP, KEEP, KEEP, KEEP, KEEP, KEEP, KEEP, KEEP, KEEP, KEEP, KEEP, BREAK, BREAK,
+    BREAK, BREAK, BREAK, BREAK, BREAK,
+    // 7 Sp
+    BREAK, KEEP, KEEP, KEEP, KEEP, KEEP, KEEP, KEEP, KEEP, KEEP, KEEP, KEEP, KEEP, KEEP, KEEP, KEEP, BREAK, BREAK,
+    BREAK, BREAK, BREAK, BREAK, BREAK,
+    // 8 Lower
+    BREAK, KEEP, KEEP, KEEP, KEEP, Index(8), Index(8), KEEP, KEEP, KEEP, KEEP, KEEP, Index(18), KEEP, KEEP, KEEP,
+    BREAK, BREAK, BREAK, BREAK, BREAK, BREAK, BREAK,
+    // 9 Upper
+    BREAK, KEEP, KEEP, KEEP, KEEP, Index(8), Index(8), KEEP, KEEP, KEEP, KEEP, KEEP, Index(18), KEEP, KEEP, KEEP,
+    BREAK, BREAK, BREAK, BREAK, BREAK, BREAK, BREAK,
+    // 10 OLetter
+    BREAK, KEEP, KEEP, KEEP, KEEP, KEEP, KEEP, KEEP, KEEP, KEEP, KEEP, KEEP, KEEP, KEEP, KEEP, KEEP, BREAK, BREAK,
+    BREAK, BREAK, BREAK, BREAK, BREAK,
+    // 11 Numeric
+    BREAK, KEEP, KEEP, KEEP, KEEP, KEEP, KEEP, KEEP, KEEP, KEEP, KEEP, KEEP, KEEP, KEEP, KEEP, KEEP, BREAK, BREAK,
+    BREAK, BREAK, BREAK, BREAK, BREAK,
+    // 12 ATerm
+    BREAK, Intermediate(19), KEEP, KEEP, KEEP, Index(12), Index(12), Index(20), KEEP, BREAK, BREAK, KEEP, KEEP, KEEP,
+    Index(21), KEEP, BREAK, BREAK, BREAK, BREAK, BREAK, BREAK, BREAK,
+    // 13 STerm
+    BREAK, BREAK, KEEP, KEEP, KEEP, Index(13), Index(13), Index(22), BREAK, BREAK, BREAK, BREAK, KEEP, KEEP,
+    Index(13), KEEP, BREAK, BREAK, BREAK, BREAK, BREAK, BREAK, BREAK,
+    // 14 Close
+    BREAK, KEEP, KEEP, KEEP, KEEP, KEEP, KEEP, KEEP, KEEP, KEEP, KEEP, KEEP, KEEP, KEEP, KEEP, KEEP, BREAK, BREAK,
+    BREAK, BREAK, BREAK, BREAK, BREAK,
+    // 15 SContinue
+    BREAK, KEEP, KEEP, KEEP, KEEP, KEEP, KEEP, KEEP, KEEP, KEEP, KEEP, KEEP, KEEP, KEEP, KEEP, KEEP, BREAK, BREAK,
+    BREAK, BREAK, BREAK, BREAK, BREAK,
+    // 16 the start of the text
+    BREAK, BREAK, BREAK, BREAK, BREAK, BREAK, BREAK, BREAK, BREAK, BREAK, BREAK, BREAK, BREAK, BREAK, BREAK, BREAK,
+    BREAK, BREAK, BREAK, BREAK, BREAK, BREAK, BREAK,
+    // 17 the end of the text
+    BREAK, BREAK, BREAK, BREAK, BREAK, BREAK, BREAK, BREAK, BREAK, BREAK, BREAK, BREAK, BREAK, BREAK, BREAK, BREAK,
+    BREAK, BREAK, BREAK, BREAK, BREAK, BREAK, BREAK,
+    // 18 a composite
+    BREAK, Intermediate(19), KEEP, KEEP, KEEP, Index(18), Index(18), Index(20), KEEP, KEEP, BREAK, KEEP, KEEP, KEEP,
+    Index(21), KEEP, BREAK, BREAK, BREAK, BREAK, BREAK, BREAK, BREAK,
+    // 19 a composite
+    BREAK, Index(19), NO_MATCH, NO_MATCH, NO_MATCH, Index(19), Index(19), Index(19), KEEP, NO_MATCH, NO_MATCH,
+    Index(19), NO_MATCH, NO_MATCH, Index(19), Index(19), BREAK, NO_MATCH, BREAK, BREAK, BREAK, BREAK, BREAK,
+    // 20 a composite
+    BREAK, Intermediate(19), KEEP, KEEP, KEEP, Index(20), Index(20), Index(20), KEEP, BREAK, BREAK, Intermediate(19),
+    KEEP, KEEP, Intermediate(19), KEEP, BREAK, BREAK, BREAK, BREAK, BREAK, BREAK, BREAK,
+    // 21 a composite
+    BREAK, Intermediate(19), KEEP, KEEP, KEEP, Index(21), Index(21), Index(20), KEEP, BREAK, BREAK, Intermediate(19),
+    KEEP, KEEP, Index(21), KEEP, BREAK, BREAK, BREAK, BREAK, BREAK, BREAK, BREAK,
+    // 22 a composite
+    BREAK, BREAK, KEEP, KEEP, KEEP, Index(22), Index(22), Index(22), BREAK, BREAK, BREAK, BREAK, KEEP, KEEP, BREAK,
+    KEEP, BREAK, BREAK, BREAK, BREAK, BREAK, BREAK, BREAK,
+];
+
+/// The numbers of classes.
+pub(super) const NUMBERS: Numbers = Numbers {
+    count: 23,
+    last: 15,
+    start_of_text: 16,
+    end_of_text: 17,
+    complex: 0,
+};
