@@ -2,6 +2,7 @@
 ghost use Rattle.std.specs.Prelude.{◌↔◌, IfOk, IsTrue};
 ghost use Rattle.break_tests.specs.Segmenter.{HasMandatory, IsPassed};
 
+use crate::options::segmenter_with;
 use crate::sample::{Sample, sample_of};
 use crate::segmenter::Segmenter;
 use anyhow::Result;
@@ -16,16 +17,39 @@ pub struct Counts {
     pub failed: u32,
 }
 
+impl Counts {
+    /// Counts one more.
+    fn add(&mut self, is_passed: bool) {
+        if is_passed {
+            self.passed = self.passed.saturating_add(1);
+        } else {
+            self.failed = self.failed.saturating_add(1);
+        }
+    }
+}
+
 /// Counts the samples of a test file. The errors are want of memory, and a line that has neither marks nor code points.
 pub fn counts_of(alloc: Global, segmenter: &Segmenter, text: &str) -> Result<Counts> {
     let mut counts = Counts::default();
     for line in text.lines() {
         if let Some(sample) = sample_of(alloc, line)? {
-            if is_passed(alloc, segmenter, &sample)? {
-                counts.passed = counts.passed.saturating_add(1);
-            } else {
-                counts.failed = counts.failed.saturating_add(1);
-            }
+            counts.add(is_passed(alloc, segmenter, &sample)?);
+        }
+    }
+    Ok(counts)
+}
+
+/// Counts the rows of lines with options: each has its options, a semicolon, and a sample. The errors are want of memory, and
+/// a row that can't be read.
+pub fn option_counts_of(alloc: Global, text: &str) -> Result<Counts> {
+    let mut counts = Counts::default();
+    for line in text.lines() {
+        let Some((options, line)) = line.split_once(';') else {
+            continue;
+        };
+        if let Some(sample) = sample_of(alloc, line)? {
+            let segmenter = segmenter_with(alloc, options)?;
+            counts.add(is_passed(alloc, &segmenter, &sample)?);
         }
     }
     Ok(counts)

@@ -73,7 +73,7 @@ impl Engine {
             Engine::WordTable => word_table_segmenter(alloc),
             Engine::SentenceMachine => sentence_machine_segmenter(alloc),
             Engine::SentenceTable => sentence_table_segmenter(alloc),
-            Engine::LineMachine => line_segmenter(alloc),
+            Engine::LineMachine => line_segmenter(alloc, LineBreakOptions::default()),
         }
     }
 }
@@ -117,12 +117,13 @@ fn sentence_table_segmenter(alloc: Global) -> Result<Segmenter> {
     Ok(Segmenter::Sentences(segmenter))
 }
 
-fn line_segmenter(alloc: Global) -> Result<Segmenter> {
+/// The segmenter of lines by the machine, with these options. The errors are want of memory, and data that are refused.
+pub fn line_segmenter(alloc: Global, options: LineBreakOptions<'_>) -> Result<Segmenter> {
     let segmenter = LineSegmenter::try_new_neo_for_non_complex_scripts(
         line_machine(alloc)?,
         line_tailorings(alloc)?,
         cluster_machine(alloc)?,
-        LineBreakOptions::default(),
+        options,
     )?;
     Ok(Segmenter::Lines(segmenter))
 }

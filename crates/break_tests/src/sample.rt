@@ -22,7 +22,7 @@ pub struct Sample {
 const MANDATORY: [&str; 5] = ["[0.3]", "[4.0]", "[5.02]", "[5.03]", "[5.04]"];
 
 /// The sample of a line, which has ÷ and × and between them code points in hexadecimal digits, and in a comment the number
-/// of the rule for each mark. None for a line that is empty or a comment alone.
+/// of the rule for each mark; ! is a mandatory boundary. None for a line that is empty or a comment alone.
 pub fn sample_of(alloc: Global, line: &str) -> Result<Option<Sample>> {
     let (marks, comment) = line.split_once('#').unwrap_or((line, ""));
     let mut rules = comment
@@ -31,10 +31,7 @@ pub fn sample_of(alloc: Global, line: &str) -> Result<Option<Sample>> {
     let mut sample = empty_sample(alloc);
     for word in marks.split_whitespace() {
         match word {
-            "÷" => sample.add_boundary(rules.next())?,
-            // A text has a boundary at its start, though rules of lines say none.
-            "×" if rules.next().is_some() && sample.text.is_empty() => sample.add_boundary(None)?,
-            "×" => {}
+            "÷" | "×" | "!" => sample.add_mark(word, rules.next())?,
             _ => sample.add_character(word)?,
         }
     }
@@ -55,16 +52,17 @@ fn empty_sample(alloc: Global) -> Sample {
 }
 
 impl Sample {
-    // A boundary at the end of what is there, by this rule.
-    fn add_boundary(&mut self, rule: Option<&str>) -> Result<()> {
-        self.places.push(self.text.len()).map_err(AllocError::from)?;
-        self.unit_places
-            .push(self.units.len())
-            .map_err(AllocError::from)?;
-        if !self.text.is_empty() && rule.is_some_and(|rule| MANDATORY.contains(&rule)) {
-            self.mandatory
-                .push(self.text.len())
-                .map_err(AllocError::from)?;
+    // The mark after what is there, by this rule.
+    fn add_mark(&mut self, mark: &str, rule: Option<&str>) -> Result<()> {
+        let (text_len, unit_len) = (self.text.len(), self.units.len());
+        // A text has a boundary at its start, though rules of lines say none.
+        if mark == "×" && text_len > 0 {
+            return Ok(());
+        }
+        self.places.push(text_len).map_err(AllocError::from)?;
+        self.unit_places.push(unit_len).map_err(AllocError::from)?;
+        if text_len > 0 && (mark == "!" || rule.is_some_and(|rule| MANDATORY.contains(&rule))) {
+            self.mandatory.push(text_len).map_err(AllocError::from)?;
         }
         Ok(())
     }
