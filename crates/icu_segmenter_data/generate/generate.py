@@ -1,0 +1,277 @@
+#!/usr/bin/env python3
+"""Writes the generated files of this crate out of the Unicode Character Database.
+
+usage: generate.py [FOLDER]
+
+FOLDER holds the files of one version, as Debian's package unicode-data has them (/usr/share/unicode, which is the default).
+The official tests of the folder are run first, and nothing is written where one fails. The files are
+src/*/data.rt and src/version.rt. What a machine is made of: its table of symbols (properties.py, by the files of the
+folder) and its states (rules.py, by the standard's text, which changes with the version too)."""
+import os
+import sys
+
+sys.dont_write_bytecode = True
+import check_machines
+import machines
+import pair_tables
+import properties
+import rules
+
+SOURCES = os.path.join(os.path.dirname(os.path.abspath(__file__)), "..", "src")
+WIDTH = 118
+
+
+# What is written.
+
+def number(value):
+    return f"0x{value:X}"
+
+
+def lines_of(items):
+    """The items, with commas, on as few lines as there is room for."""
+    line = "   "
+    for item in items:
+        if len(line) + len(item) + 2 > WIDTH:
+            yield line
+            line = "   "
+        line += f" {item},"
+    yield line
+
+
+def array(documentation, name, kind, count, body):
+    body = list(body)
+    return [f"/// {line}" for line in documentation.splitlines()] + [
+        "#[rattlefmt::skip]", f"pub(super) static {name}: [{kind}; {count}] = [", *body, "];", ""]
+
+
+def ranges_array(documentation, name, kind, ranges):
+    items = (f"({number(first)}, {number(last)}, {value})" for first, last, value in ranges)
+    return array(documentation, name, f"(u32, u32, {kind})", len(ranges), lines_of(items))
+
+
+def states_array(machine):
+    items = ["CONTINUE" if status is None else f"ACCEPT_{status}" for status in machine.accepted]
+    return array("What each state accepts; the first is the one that a segment begins in.", "STATES", "Entry", len(items),
+                 lines_of(items))
+
+
+def transitions_array(machine):
+    count, body = len(machine.accepted), []
+    for s, symbol in enumerate(["the end of the text"] + machine.symbols):
+        body += [f"    // {s} {symbol}", *lines_of(str(t) for t in machine.transitions[s * count:(s + 1) * count])]
+    return array("A row for each symbol, in it what each state leads to; 255 is none.", "TRANSITIONS", "State",
+                 len(machine.transitions), body)
+
+
+def map_array(documentation, name, pairs):
+    items = (f"({symbol}, ComplexScript::{script})" for symbol, script in pairs)
+    return array(documentation, name, "(Symbol, ComplexScript)", len(pairs), lines_of(items))
+
+
+def constant(documentation, name, kind, value):
+    return [f"/// {documentation}", f"pub(super) const {name}: {kind} = {value};", ""]
+
+
+def entries_array(table, name_of_class):
+    names = {**name_of_class, 0: "no code point's", table.start_of_text: "the start of the text",
+             table.end_of_text: "the end of the text"}
+
+    def written(entry):
+        return entry if isinstance(entry, str) else f"{entry[0]}({entry[1]})"
+
+    body = []
+    for r, row in enumerate(table.entries):
+        body += [f"    // {r} {names.get(r, 'a composite')}", *lines_of(map(written, row))]
+    return array("A row for each class and composite, in it what stands between it and each.", "ENTRIES", "BreakState",
+                 table.count ** 2, body)
+
+
+def numbers_of(table, complex_class):
+    return ["/// The numbers of classes.", "pub(super) const NUMBERS: Numbers = Numbers {", f"    count: {table.count},",
+            f"    last: {table.last},", f"    start_of_text: {table.start_of_text},", f"    end_of_text: {table.end_of_text},",
+            f"    complex: {complex_class},", "};", ""]
+
+
+def write(name, version, summary, uses, parts):
+    """A generated file."""
+    text = [f"//! {summary}", f"// Written by generate/generate.py from the data of Unicode {version}. Do not edit.", ""]
+    text += uses + [""] if uses else []
+    text += parts
+    while not text[-1]:
+        text.pop()
+    path = os.path.join(SOURCES, *name.split("/"))
+    os.makedirs(os.path.dirname(path), exist_ok=True)
+    with open(path, "w", encoding="utf-8") as file:
+        file.write("\n".join(text) + "\n")
+
+
+# Official tests.
+
+def verify(folder, name, kind, found, with_marks=False):
+    """Runs a test file by a function from code points to [(place, status)]."""
+    passed = failed = 0
+    for text, places, must in check_machines.tests(folder, name):
+        got = found(text)
+        right = [place for place, _ in got] == places
+        if with_marks:
+            right = right and [place for place, status in got if status == 1] == must
+        passed, failed = passed + right, failed + (not right)
+    print(f"{name}, {kind}: {passed} passed, {failed} failed")
+    if failed or not passed:
+        sys.exit(1)
+
+
+def by_machine(machine, symbol_of, default):
+    numbers = {symbol: k + 1 for k, symbol in enumerate(machine.symbols)}
+    return lambda text: check_machines.segments(machine, [numbers[symbol_of.get(c, default)] for c in text])
+
+
+def by_table(table, machine, symbol_of, default):
+    numbers = {symbol: k + 1 for k, symbol in enumerate(machine.symbols)}
+    return lambda text: check_machines.table_segments(table, [numbers[symbol_of.get(c, default)] for c in text])
+
+
+# The kinds of segments.
+
+STATE_USES = "use icu_segmenter::provider::{State, Symbol};"
+PLAIN_RANGES = "The code points of each symbol; others have OTHER. The numbers of symbols are those of the rows of TRANSITIONS."
+SHARED = "\nThey are the classes of the pair table too."
+
+
+def numbered(machine, symbol_of, default):
+    numbers = {symbol: k + 1 for k, symbol in enumerate(machine.symbols)}
+    return properties.ranges({c: numbers[s] for c, s in symbol_of.items()}, numbers[default]), numbers[default]
+
+
+def other(value):
+    return constant("The symbol of the code points that no range holds.", "OTHER", "Symbol", value)
+
+
+def shift(machine):
+    return constant("The first value of RANGES that is a pseudo symbol: less this, it is a place in the map.", "SHIFT", "u8",
+                    len(machine.symbols) + 1)
+
+
+def entry_uses(machine):
+    names = sorted({"CONTINUE" if status is None else f"ACCEPT_{status}" for status in machine.accepted})
+    return f"use crate::parts::{{{', '.join(names + ['Entry'])}}};"
+
+
+def classes(machine):
+    """The symbols as classes, by their numbers."""
+    return {k + 1: symbol for k, symbol in enumerate(machine.symbols)}
+
+
+def table_uses(machine, table):
+    entries = [e if isinstance(e, str) else e[0] for row in table.entries for e in row]
+    names = {"CONTINUE" if status is None else f"ACCEPT_{status}" for status in machine.accepted}
+    names |= {"Entry", "Numbers"} | {e for e in entries if e.isupper()}
+    variants = ", ".join(["self"] + sorted({e for e in entries if not e.isupper()}))
+    return [f"use crate::parts::{{{', '.join(sorted(names))}}};", f"use icu_segmenter::provider::BreakState::{{{variants}}};"]
+
+
+def clusters(database, version):
+    machine = machines.Rules(rules.CLUSTERS, rules.CLUSTER_SYMBOLS).machine()
+    symbol_of = properties.cluster_symbols(database)
+    table = pair_tables.pair_table(machine, classes(machine))
+    verify(database.folder, "GraphemeBreakTest.txt", "by machine", by_machine(machine, symbol_of, "XX"))
+    verify(database.folder, "GraphemeBreakTest.txt", "by pair table", by_table(table, machine, symbol_of, "XX"))
+    ranges, default = numbered(machine, symbol_of, "XX")
+    write("clusters/data.rt", version, "Grapheme clusters: the parts of the machine and of the pair table, by UAX #29.",
+          [*table_uses(machine, table), STATE_USES], [
+        *ranges_array(PLAIN_RANGES + SHARED, "RANGES", "Symbol", ranges), *other(default),
+        *states_array(machine), *transitions_array(machine), *shift(machine), *entries_array(table, classes(machine)),
+        *numbers_of(table, complex_class=0)])
+
+
+def with_scripts(symbol_of, default, symbols):
+    """Symbols and pseudo symbols of code points, what is the default, and the map of the pseudo symbols."""
+    numbers = {symbol: k + 1 for k, symbol in enumerate(symbols)}
+    pairs = sorted({(numbers[s], script) for s, script in symbol_of.values() if script != "None"}, key=lambda p: (p[1], p[0]))
+    places = {pair: len(symbols) + 1 + k for k, pair in enumerate(pairs)}
+    values = {c: places.get((numbers[s], script), numbers[s]) for c, (s, script) in symbol_of.items()}
+    return properties.ranges(values, numbers[default]), numbers[default], pairs
+
+
+def words(database, version):
+    machine = machines.Rules(rules.WORDS, rules.WORD_SYMBOLS, rules.WORD_GROUPS, rules.WORD_STATUS).machine()
+    symbol_of = properties.word_symbols(database)
+    plain = {c: symbol for c, (symbol, _) in symbol_of.items()}
+    # By pair table what dictionaries cut is one class, but for Katakana, of which the rules say what holds together.
+    complex_class, numbers = len(machine.symbols) + 1, {symbol: k + 1 for k, symbol in enumerate(machine.symbols)}
+    class_of = {c: complex_class if script != "None" and symbol != "Katakana" else numbers[symbol]
+                for c, (symbol, script) in symbol_of.items()}
+    table = pair_tables.pair_table(machine, {**classes(machine), complex_class: "XX_Letter"})
+    verify(database.folder, "WordBreakTest.txt", "by machine", by_machine(machine, plain, "XX"))
+    verify(database.folder, "WordBreakTest.txt", "by pair table", by_table(table, machine, plain, "XX"))
+    ranges, default, pairs = with_scripts(symbol_of, "XX", machine.symbols)
+    write("words/data.rt", version, "Words: the parts of the machine and of the pair table, by UAX #29.", [
+        *table_uses(machine, table), "use icu_segmenter::provider::{ComplexScript, State, Symbol};"], [
+        *ranges_array(PLAIN_RANGES.replace("symbol;", "symbol and pseudo symbol;"), "RANGES", "Symbol", ranges), *other(default),
+        *states_array(machine), *transitions_array(machine), *shift(machine),
+        *map_array("The symbol and the script of each pseudo symbol.", "MAP", pairs),
+        *ranges_array("The code points of each class of the pair table; others have OTHER.", "CLASSES", "u8",
+                      properties.ranges(class_of, default)),
+        *entries_array(table, {**classes(machine), complex_class: "what dictionaries cut"}),
+        *array("The status of each class and composite, from 1 on.", "STATUSES", "u8", len(table.statuses),
+               lines_of(map(str, table.statuses))),
+        *numbers_of(table, complex_class)])
+
+
+def sentences(database, version):
+    machine = machines.Rules(rules.SENTENCES, rules.SENTENCE_SYMBOLS, rules.SENTENCE_GROUPS).machine()
+    symbol_of = properties.sentence_symbols(database)
+    table = pair_tables.pair_table(machine, classes(machine))
+    verify(database.folder, "SentenceBreakTest.txt", "by machine", by_machine(machine, symbol_of, "XX"))
+    verify(database.folder, "SentenceBreakTest.txt", "by pair table", by_table(table, machine, symbol_of, "XX"))
+    ranges, default = numbered(machine, symbol_of, "XX")
+    write("sentences/data.rt", version, "Sentences: the parts of the machine and of the pair table, by UAX #29.",
+          [*table_uses(machine, table), STATE_USES], [
+        *ranges_array(PLAIN_RANGES + SHARED, "RANGES", "Symbol", ranges), *other(default),
+        *states_array(machine), *transitions_array(machine), *shift(machine), *entries_array(table, classes(machine)),
+        *numbers_of(table, complex_class=0)])
+
+
+def lines(database, version):
+    machine = machines.Rules(rules.LINES, rules.LINE_SYMBOLS, rules.LINE_GROUPS, rules.LINE_STATUS,
+                             rules.LINE_STATUS_AT_END).machine()
+    numbers = {symbol: k + 1 for k, symbol in enumerate(machine.symbols)}
+    kinds = properties.line_values(database)
+    symbol_of = {c: symbol for code_points, symbol, _, _ in kinds for c in code_points}
+    verify(database.folder, "LineBreakTest.txt", "by machine", by_machine(machine, symbol_of, "AL"), with_marks=True)
+    # A kind that no tailoring changes and that has no script is a symbol, each other one a pseudo symbol of its own.
+    value_of, pseudo = {}, []
+    for code_points, symbol, script, tailored in kinds:
+        value = numbers[symbol]
+        if tailored or script != "None":
+            value = len(machine.symbols) + 1 + len(pseudo)
+            pseudo.append((symbol, script, tailored))
+        value_of.update(dict.fromkeys(code_points, value))
+    default = len(machine.symbols) + 1
+    maps = []
+    for name in properties.TAILORINGS:
+        pairs = [tailored.get(name, (symbol, script)) for symbol, script, tailored in pseudo]
+        maps += map_array(f"The map by the tailoring {name}.", name.upper(), [(numbers[s], script) for s, script in pairs])
+    write("lines/data.rt", version, "Lines: the parts of the machine and its tailorings, by UAX #14 and CSS Text 3.", [
+        entry_uses(machine), "use icu_segmenter::provider::{ComplexScript, State, Symbol};"], [
+        *ranges_array(PLAIN_RANGES.replace("symbol;", "symbol and pseudo symbol;"), "RANGES", "Symbol",
+                      properties.ranges(value_of, default)), *other(default),
+        *states_array(machine), *transitions_array(machine), *shift(machine),
+        *map_array("The symbol and the script of each pseudo symbol.", "MAP",
+                   [(numbers[symbol], script) for symbol, script, _ in pseudo]), *maps])
+
+
+def main():
+    folder = sys.argv[1] if len(sys.argv) > 1 else os.path.join(os.sep, "usr", "share", "unicode")
+    database = properties.Database(folder)
+    version = database.version()
+    dotted = ".".join(map(str, version))
+    for kind in (clusters, words, sentences, lines):
+        kind(database, dotted)
+    write("version.rt", dotted, "The version of the Unicode Standard.", [], [
+        "/// The version of the Unicode Standard whose data these are: major, minor and update.",
+        f"pub const UNICODE_VERSION: (u8, u8, u8) = {version};"])
+
+
+if __name__ == "__main__":
+    main()

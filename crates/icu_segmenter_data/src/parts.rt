@@ -1,0 +1,98 @@
+//! Checked values of parts that stand in the code.
+ghost use Rattle.std.specs.Prelude.{◌≡◌, IfOk};
+ghost use Rattle.icu_segmenter.specs.Machine.{machine};
+ghost use Rattle.icu_segmenter.specs.PairTable.{pair_table};
+ghost use Rattle.icu_segmenter.specs.Table.{table};
+
+use icu_segmenter::provider::{
+    Acceptance, BreakState, ClassTable, ComplexScript, DataError, Lookahead, RuleBreakData,
+    SegmenterStateMachine, SegmenterStateMachineOverride, State, Symbol,
+};
+use std::alloc::Global;
+
+/// What a state accepts, and the lookahead that it names.
+pub(crate) type Entry = (Acceptance, Option<Lookahead>);
+
+pub(crate) const CONTINUE: Entry = (Acceptance::Continue, None);
+
+pub(crate) const ACCEPT_0: Entry = (Acceptance::Accept(0), None);
+
+pub(crate) const ACCEPT_1: Entry = (Acceptance::Accept(1), None);
+
+pub(crate) const ACCEPT_2: Entry = (Acceptance::Accept(2), None);
+
+pub(crate) const BREAK: BreakState = BreakState::Break;
+
+pub(crate) const KEEP: BreakState = BreakState::Keep;
+
+pub(crate) const NO_MATCH: BreakState = BreakState::NoMatch;
+
+/// The machine of these parts, without lookaheads. The errors are want of memory, and what is wrong with the parts.
+pub(crate) fn machine_of(
+    alloc: Global,
+    ranges: &[(u32, u32, Symbol)],
+    other: Symbol,
+    states: &[Entry],
+    transitions: &[State],
+    shift: u8,
+    map: &[(Symbol, ComplexScript)],
+) -> Result<SegmenterStateMachine, DataError>
+    ensures { IfOk result (λ m. m ≡ machine (table ranges.now other) states.now transitions.now 0 shift map.now) }
+{
+    let symbols = ClassTable::try_from_ranges(Vec::from_slice(alloc, ranges)?, other)?;
+    let states = Vec::from_slice(alloc, states)?;
+    let transitions = Vec::from_slice(alloc, transitions)?;
+    let map = Vec::from_slice(alloc, map)?;
+    SegmenterStateMachine::try_from_parts(symbols, states, transitions, 0, shift, map)
+}
+
+/// The tailoring by this map. The errors are want of memory, and that the map names symbol 0.
+pub(crate) fn tailoring_of(
+    alloc: Global,
+    map: &[(Symbol, ComplexScript)],
+) -> Result<SegmenterStateMachineOverride, DataError>
+    ensures { IfOk result (λ tailoring. tailoring ≡ map.now) }
+{
+    SegmenterStateMachineOverride::try_from_parts(Vec::from_slice(alloc, map)?)
+}
+
+/// The numbers of a pair table.
+#[derive(Clone, Copy)]
+pub(crate) struct Numbers {
+    /// How many classes and composites there are.
+    pub count: u8,
+    /// The last class; composites have higher numbers.
+    pub last: u8,
+    /// The row of the start of the text.
+    pub start_of_text: u8,
+    /// The row of the end of the text.
+    pub end_of_text: u8,
+    /// The class of complex characters.
+    pub complex: u8,
+}
+
+/// The pair table of these parts. The errors are want of memory, and what is wrong with the parts.
+pub(crate) fn table_of(
+    alloc: Global,
+    ranges: &[(u32, u32, u8)],
+    other: u8,
+    entries: &[BreakState],
+    statuses: &[u8],
+    numbers: Numbers,
+) -> Result<RuleBreakData, DataError>
+    ensures { IfOk result (λ t. t ≡ pair_table (table ranges.now other) entries.now statuses.now numbers.count numbers.last numbers.start_of_text numbers.end_of_text numbers.complex) }
+{
+    let classes = ClassTable::try_from_ranges(Vec::from_slice(alloc, ranges)?, other)?;
+    let entries = Vec::from_slice(alloc, entries)?;
+    let statuses = Vec::from_slice(alloc, statuses)?;
+    RuleBreakData::try_from_parts(
+        classes,
+        entries,
+        statuses,
+        numbers.count,
+        numbers.last,
+        numbers.start_of_text,
+        numbers.end_of_text,
+        numbers.complex,
+    )
+}

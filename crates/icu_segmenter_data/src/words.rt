@@ -1,0 +1,29 @@
+//! Words.
+ghost use Rattle.std.specs.Prelude.{◌≡◌, IfOk};
+ghost use Rattle.icu_segmenter.specs.Machine.{machine};
+ghost use Rattle.icu_segmenter.specs.PairTable.{pair_table};
+ghost use Rattle.icu_segmenter.specs.Table.{table};
+
+mod data;
+
+use crate::parts::{machine_of, table_of};
+use data::{CLASSES, ENTRIES, MAP, NUMBERS, OTHER, RANGES, SHIFT, STATES, STATUSES, TRANSITIONS};
+use icu_segmenter::provider::{DataError, RuleBreakData, SegmenterStateMachine};
+use std::alloc::Global;
+
+/// The machine of words, by UAX #29. A word has status 1 where its last letter or digit is a digit, 2 where it is a letter, and
+/// 0 where there is none. What has complex context in Thai, Lao, Khmer and Myanmar, Han, Hiragana and Katakana have
+/// their scripts, so that dictionaries can cut them. The only error that is met is want of memory.
+pub fn word_machine(alloc: Global) -> Result<SegmenterStateMachine, DataError>
+    ensures { IfOk result (λ m. m ≡ machine (table RANGES OTHER) STATES TRANSITIONS 0 SHIFT MAP) }
+{
+    machine_of(alloc, &RANGES, OTHER, &STATES, &TRANSITIONS, SHIFT, &MAP)
+}
+
+/// The pair table of the same words, with the same statuses. Its complex characters are what dictionaries cut: all that has a
+/// script in the machine, but Katakana. The only error that is met is want of memory.
+pub fn word_table(alloc: Global) -> Result<RuleBreakData, DataError>
+    ensures { IfOk result (λ t. t ≡ pair_table (table CLASSES OTHER) ENTRIES STATUSES NUMBERS.count NUMBERS.last NUMBERS.start_of_text NUMBERS.end_of_text NUMBERS.complex) }
+{
+    table_of(alloc, &CLASSES, OTHER, &ENTRIES, &STATUSES, NUMBERS)
+}
