@@ -92,17 +92,21 @@ def numbers_of(table, complex_class):
             f"    complex: {complex_class},", "};", ""]
 
 
-def write(name, version, summary, uses, parts):
-    """A generated file."""
+def file(name, version, summary, uses, parts):
+    """A generated file: its name and its text."""
     text = [f"//! {summary}", f"// Written by generate/generate.py from the data of Unicode {version}. Do not edit.", ""]
     text += uses + [""] if uses else []
     text += parts
     while not text[-1]:
         text.pop()
+    return name, "\n".join(text) + "\n"
+
+
+def write(name, text):
     path = os.path.join(SOURCES, *name.split("/"))
     os.makedirs(os.path.dirname(path), exist_ok=True)
-    with open(path, "w", encoding="utf-8") as file:
-        file.write("\n".join(text) + "\n")
+    with open(path, "w", encoding="utf-8") as out:
+        out.write(text)
 
 
 # Official tests.
@@ -177,7 +181,7 @@ def clusters(database, version):
     verify(database.folder, "GraphemeBreakTest.txt", "by machine", by_machine(machine, symbol_of, "XX"))
     verify(database.folder, "GraphemeBreakTest.txt", "by pair table", by_table(table, machine, symbol_of, "XX"))
     ranges, default = numbered(machine, symbol_of, "XX")
-    write("clusters/data.rt", version, "Grapheme clusters: the parts of the machine and of the pair table, by UAX #29.",
+    return file("clusters/data.rt", version, "Grapheme clusters: the parts of the machine and of the pair table, by UAX #29.",
           [*table_uses(machine, table), STATE_USES], [
         *ranges_array(PLAIN_RANGES + SHARED, "RANGES", "Symbol", ranges), *other(default),
         *states_array(machine), *transitions_array(machine), *shift(machine), *entries_array(table, classes(machine)),
@@ -205,7 +209,7 @@ def words(database, version):
     verify(database.folder, "WordBreakTest.txt", "by machine", by_machine(machine, plain, "XX"))
     verify(database.folder, "WordBreakTest.txt", "by pair table", by_table(table, machine, plain, "XX"))
     ranges, default, pairs = with_scripts(symbol_of, "XX", machine.symbols)
-    write("words/data.rt", version, "Words: the parts of the machine and of the pair table, by UAX #29.", [
+    return file("words/data.rt", version, "Words: the parts of the machine and of the pair table, by UAX #29.", [
         *table_uses(machine, table), "use icu_segmenter::provider::{ComplexScript, State, Symbol};"], [
         *ranges_array(PLAIN_RANGES.replace("symbol;", "symbol and pseudo symbol;"), "RANGES", "Symbol", ranges), *other(default),
         *states_array(machine), *transitions_array(machine), *shift(machine),
@@ -225,7 +229,7 @@ def sentences(database, version):
     verify(database.folder, "SentenceBreakTest.txt", "by machine", by_machine(machine, symbol_of, "XX"))
     verify(database.folder, "SentenceBreakTest.txt", "by pair table", by_table(table, machine, symbol_of, "XX"))
     ranges, default = numbered(machine, symbol_of, "XX")
-    write("sentences/data.rt", version, "Sentences: the parts of the machine and of the pair table, by UAX #29.",
+    return file("sentences/data.rt", version, "Sentences: the parts of the machine and of the pair table, by UAX #29.",
           [*table_uses(machine, table), STATE_USES], [
         *ranges_array(PLAIN_RANGES + SHARED, "RANGES", "Symbol", ranges), *other(default),
         *states_array(machine), *transitions_array(machine), *shift(machine), *entries_array(table, classes(machine)),
@@ -252,7 +256,7 @@ def lines(database, version):
     for name in properties.TAILORINGS:
         pairs = [tailored.get(name, (symbol, script)) for symbol, script, tailored in pseudo]
         maps += map_array(f"The map by the tailoring {name}.", name.upper(), [(numbers[s], script) for s, script in pairs])
-    write("lines/data.rt", version, "Lines: the parts of the machine and its tailorings, by UAX #14 and CSS Text 3.", [
+    return file("lines/data.rt", version, "Lines: the parts of the machine and its tailorings, by UAX #14 and CSS Text 3.", [
         entry_uses(machine), "use icu_segmenter::provider::{ComplexScript, State, Symbol};"], [
         *ranges_array(PLAIN_RANGES.replace("symbol;", "symbol and pseudo symbol;"), "RANGES", "Symbol",
                       properties.ranges(value_of, default)), *other(default),
@@ -266,11 +270,12 @@ def main():
     database = properties.Database(folder)
     version = database.version()
     dotted = ".".join(map(str, version))
-    for kind in (clusters, words, sentences, lines):
-        kind(database, dotted)
-    write("version.rt", dotted, "The version of the Unicode Standard.", [], [
+    files = [kind(database, dotted) for kind in (clusters, words, sentences, lines)]
+    files.append(file("version.rt", dotted, "The version of the Unicode Standard.", [], [
         "/// The version of the Unicode Standard whose data these are: major, minor and update.",
-        f"pub const UNICODE_VERSION: (u8, u8, u8) = {version};"])
+        f"pub const UNICODE_VERSION: (u8, u8, u8) = {version};"]))
+    for name, text in files:
+        write(name, text)
 
 
 if __name__ == "__main__":
