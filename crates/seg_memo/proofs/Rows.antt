@@ -1,5 +1,5 @@
 -- How many different configurations small machines look up, by computing them.
-use Rattle.std.proofs.Common.{◌≡◌, [], ◌∷◌, refl, arith}
+use Rattle.std.proofs.Common.{[], ◌∷◌, refl, arith}
 use Rattle.seg_text.specs.Boundaries.{boundary}
 use Rattle.seg_machine.specs.Machine.{step, run, scan, state_at}
 use Rattle.seg_machine.specs.Pick.{last_step, first_condition, pick}
