@@ -10,3 +10,5 @@ pub mod Segments
 pub mod Different
 pub mod Memoised
 pub mod Fresh
+pub mod Starts
+pub mod Rows

@@ -1,5 +1,5 @@
 -- The iterator, of what its code has in hand.
-use Rattle.std.proofs.Common.{◌≡◌, ◌≢◌, ℕ, ◌+◌, ◌^◌, ◌<◌, ◌==◌, Bool, true, Some, List, [], ◌∷◌, length, drop, sym, ap, ◌∙◌, subst, arith}
+use Rattle.std.proofs.Common.{◌≡◌, ◌≢◌, ℕ, ◌+◌, ◌^◌, ◌<◌, ◌==◌, Bool, true, Some, List, [], ◌∷◌, length, drop, refl, sym, ap, ◌∙◌, subst, arith}
 use Rattle.std.proofs.lemmas.List.{drop-map, length-map}
 use Rattle.std.proofs.lemmas.Bool.Decides.{nat_tests}
 use Rattle.std.specs.Prelude.{⊤}
@@ -71,3 +71,7 @@ memo-next m after_reading text left rest given lookups lookups_after place start
 
 pub counted-all : (items left all : ℕ) → items + left ≡ all → (left == 0) ≡ true → items < 2 ^ 64 → (all < 2 ^ 64) × (items ≡ all)
 counted-all items left all is none fits = let zero : left ≡ 0 = grind (arith, nat_tests) in (omega (arith, is, zero, fits), omega (arith, is, zero))
+
+-- a machine is read by a reader of its states and of transitions in the place of its own
+pub read-by : (m : Machine) (transitions symbols : List ℕ) (states : ℕ) → states ≡ length m.states → IsReadBy (subject (reading m transitions) symbols) m states transitions
+read-by m transitions symbols states is = record { machine = refl; states_are = is }

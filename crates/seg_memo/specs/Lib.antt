@@ -2,3 +2,4 @@ pub mod Configurations
 pub mod Outcomes
 pub mod Grids
 pub mod Memos
+pub mod LookUpRows

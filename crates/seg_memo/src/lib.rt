@@ -2,6 +2,7 @@
 #![tactic(auto)]
 
 pub mod configuration;
+pub mod laws;
 pub mod memo;
 pub mod reader;
 mod search;
