@@ -39,11 +39,11 @@ abbrev in-span : Clusters → InSpan
 in-span clusters found span = with_status 0 (inside (span_cuts clusters found span))
 
 -- what was given and what is left are what was there
-first-taken : {S : Type 0} (left : S → List ℕ) (old new : S) (given : Option ℕ) → YieldsFirst left old given new → option_to_list given ++ left new ≡ left old
+pub first-taken : {S A : Type 0} (left : S → List A) (old new : S) (given : Option A) → YieldsFirst left old given new → option_to_list given ++ left new ≡ left old
 first-taken left old new None (none, still) = still ∙ sym none
 first-taken left old new (Some first) is = sym is
 
-pub no-more : {S : Type 0} (left : S → List ℕ) (old new : S) (given : Option ℕ) → YieldsFirst left old given new → given ≡ None → left new ≡ []
+pub no-more : {S A : Type 0} (left : S → List A) (old new : S) (given : Option A) → YieldsFirst left old given new → given ≡ None → left new ≡ []
 no-more left old new None (none, still) is = still
 no-more left old new (Some first) gives is = absurd cc
 

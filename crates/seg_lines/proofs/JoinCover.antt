@@ -7,7 +7,7 @@ use Rattle.seg_text.specs.Items.{Item, Text, IsRising, start_of, rest_after, cod
 use Rattle.seg_text.specs.Boundaries.{IsCover, RisesTo, boundaries_in, offsets, start}
 use Rattle.seg_text.specs.Cuts.{cut_places}
 use Rattle.seg_text.specs.Stretches.{later_boundaries}
-use Rattle.seg_text.proofs.Covers.{covers-in, covers-list, place-between}
+use Rattle.seg_text.proofs.Covers.{covers-in, covers-list, place-between, rises-le}
 use Rattle.seg_machine.specs.Checked.{IsChecked}
 use Rattle.seg_machine.specs.Machine.{Machine}
 use Rattle.seg_machine.specs.Segments.{machine_boundaries, machine_stretch}
@@ -55,10 +55,6 @@ between-rising low high (n ∷ numbers) between = (between-above n high numbers 
 between-at-most : (low high : ℕ) (numbers : List ℕ) → AreBetween low numbers high → AreAtMost high numbers
 between-at-most low high [] between = tt
 between-at-most low high (n ∷ numbers) between = (omega (arith, between.1), between-at-most n high numbers between.2)
-
-rises-le : (boundaries : List Boundary) (from end : ℕ) → RisesTo from boundaries end → from ≤ end
-rises-le [] from end rises = omega (arith, rises)
-rises-le (found ∷ boundaries) from end rises = omega (arith, rises.0, rises-le boundaries found.offset end rises.1)
 
 rises-at-most : (boundaries : List Boundary) (from end : ℕ) → RisesTo from boundaries end → AreAtMost end (offsets boundaries)
 rises-at-most [] from end rises = tt

@@ -8,6 +8,7 @@ use Rattle.seg_text.specs.declared.boundary.Boundary.{Boundary}
 use Rattle.seg_text.specs.Items.{Text, IsRising, start_of, rest_after}
 use Rattle.seg_text.specs.Boundaries.{Remainder, boundary, boundary_in, offsets, offsets_left}
 use Rattle.seg_text.proofs.Covers.{place-between}
+use Rattle.seg_complex.proofs.InnerCuts.{first-taken}
 use Rattle.seg_lines.specs.Joined.{AreAbove, AreRising, joined, with_cut}
 
 abbrev pub AreAtMost : ℕ → List ℕ → Type 0
@@ -125,14 +126,6 @@ module _ (text : Text) (rising : IsRising text.items text.end) where
       ∙ ap (with_cut (place cut)) (joined-places boundaries cuts are inside.1)
 
 -- the next of what is joined
-
-pub first-taken : {S A : Type 0} (left : S → List A) (old new : S) (given : Option A) → YieldsFirst left old given new → option_to_list given ++ left new ≡ left old
-first-taken left old new None (none, still) = still ∙ sym none
-first-taken left old new (Some first) is = sym is
-
-pub no-more : {S A : Type 0} (left : S → List A) (old new : S) (given : Option A) → YieldsFirst left old given new → given ≡ None → left new ≡ []
-no-more left old new None (none, still) is = still
-no-more left old new (Some first) gives is = absurd cc
 
 pub above-more : (low high : ℕ) (numbers : List ℕ) → low < high → AreAbove high numbers → AreAbove low numbers
 above-more low high [] below above = tt

@@ -4,7 +4,7 @@ use Rattle.std.specs.Prelude.{slice_get}
 use Rattle.seg_text.specs.declared.boundary.Boundary.{Boundary}
 use Rattle.seg_text.specs.Boundaries.{RestartsIn, shift_all}
 use Rattle.seg_text.specs.Stretches.{HasOneAnswer, later_boundaries}
-use Rattle.seg_text.proofs.Restarts.{restarts}
+use Rattle.seg_text.proofs.Restarts.{restarts, restarts-as}
 use Rattle.seg_text.proofs.Stretches.{later-are, later-only, one-answer}
 use Rattle.seg_machine.specs.Checked.{IsChecked}
 use Rattle.seg_machine.specs.Machine.{Machine as AnyMachine}
@@ -71,13 +71,6 @@ one-by (Machine machine) payloads none = absurd (none machine refl)
 pub without-cuts : (m : AnyMachine) (payloads : Payloads) (code_points : List ℕ) → HasNoCuts (ByMachine m) payloads.words
     → boundaries_with (ByMachine m) payloads code_points ≡ machine_boundaries m code_points
 without-cuts m payloads code_points none = ap (joined (machine_boundaries m code_points)) (inner-none m payloads none code_points)
-
--- what finds the same in a list and in what is left of it may be begun anew where the other may
-restarts-as : (find other : List ℕ → List Boundary) (xs : List ℕ) → ((n : ℕ) → find (drop n xs) ≡ other (drop n xs)) → RestartsIn other xs → RestartsIn find xs
-restarts-as find other xs same restart k boundary is =
-    ap (drop (suc k)) (same 0)
-    ∙ restart k boundary (sym (ap (λ (found : List Boundary). slice_get found k) (same 0)) ∙ is)
-    ∙ sym (ap (λ (found : List Boundary). shift_all boundary.offset (drop 1 found)) (same boundary.offset))
 
 restarts-with : (finder : LineFinder) (payloads : Payloads) (code_points : List ℕ) → HasNoCuts finder payloads.words
     → RestartsIn (boundaries_with finder payloads) code_points

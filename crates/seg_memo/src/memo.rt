@@ -91,15 +91,15 @@ impl<'data, I: Cursor, R: ReadTransitions> MemoBreakIterator<'data, I, R> {
 impl<'data, I: Cursor, R: ReadTransitions> MemoBreakIterator<'data, I, R> {
     /// The same, all but the transitions, which are the reader's: no boundary was given yet, the reader counts from 0 and has as
     /// many states as the machine, and the machine with its transitions has no fault.
-    pub fn with_reader<R2: ReadTransitions>(self, reader: R2) -> MemoBreakIterator<'data, I, R2>
+    pub fn with_reader<Other: ReadTransitions>(self, reader: Other) -> MemoBreakIterator<'data, I, Other>
         requires started { self.started ≡ false }
-        requires count { R2.counted reader ≡ 0 }
-        requires states { R2.states reader ≡ length self.machine.states }
-        requires checked { IsChecked (reading self.machine (R2.transitions reader)) }
-        ensures machine { result.machine ≡ reading self.entry.machine (R2.transitions reader) }
+        requires count { Other.counted reader ≡ 0 }
+        requires states { Other.states reader ≡ length self.machine.states }
+        requires checked { IsChecked (reading self.machine (Other.transitions reader)) }
+        ensures machine { result.machine ≡ reading self.entry.machine (Other.transitions reader) }
         ensures text { result.text ≡ self.entry.text }
         ensures started { (result.started ≡ false) × (result.given ≡ 0) × (result.lookups ≡ 0) × (result.coming.status ≡ 0) }
-        ensures boundaries { result.coming.left ≡ boundaries_in (machine_boundaries (reading self.entry.machine (R2.transitions reader))) self.entry.text }
+        ensures boundaries { result.coming.left ≡ boundaries_in (machine_boundaries (reading self.entry.machine (Other.transitions reader))) self.entry.text }
     {
         let MemoBreakIterator {
             machine,

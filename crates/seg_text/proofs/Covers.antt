@@ -18,7 +18,7 @@ rises-one : (boundaries : List Boundary) (from end other : ℕ) → RisesTo from
 rises-one [] from end other rises too = sym rises ∙ too
 rises-one (boundary ∷ boundaries) from end other rises too = rises-one boundaries boundary.offset end other rises.1 too.1
 
-rises-le : (boundaries : List Boundary) (from end : ℕ) → RisesTo from boundaries end → from ≤ end
+pub rises-le : (boundaries : List Boundary) (from end : ℕ) → RisesTo from boundaries end → from ≤ end
 rises-le [] from end rises = omega (arith, rises)
 rises-le (boundary ∷ boundaries) from end rises = omega (arith, rises.0, rises-le boundaries boundary.offset end rises.1)
 

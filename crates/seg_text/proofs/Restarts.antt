@@ -1,11 +1,11 @@
 -- Restart: where stretches have one boundary at most, at their end, the boundaries after one of them are those of the rest.
-use Rattle.std.proofs.Common.{◌≡◌, ℕ, zero, suc, ◌+◌, ◌≤◌, List, [], ◌∷◌, length, drop, slice_get, refl, sym, ◌∙◌, inl, inr, arith}
+use Rattle.std.proofs.Common.{◌≡◌, ℕ, zero, suc, ◌+◌, ◌≤◌, List, [], ◌∷◌, length, drop, slice_get, refl, sym, ap, ◌∙◌, inl, inr, arith}
 use Rattle.std.specs.Prelude.{Option, Some, None}
 use Rattle.std.specs.Option.{option_map}
 use Rattle.std.proofs.lemmas.List.{length-drop, drop-drop, drop-map}
 use Rattle.std.proofs.lemmas.Option.{slice_get-map, same_Some, none-some}
 use Rattle.seg_text.specs.declared.boundary.Boundary.{Boundary}
-use Rattle.seg_text.specs.Boundaries.{start, shift, shift_all, HasRestart}
+use Rattle.seg_text.specs.Boundaries.{start, shift, shift_all, HasRestart, RestartsIn}
 use Rattle.seg_text.specs.Stretches.{Stretch, later_boundaries, list_boundaries, HasProgress, HasEndAlone}
 use Rattle.seg_text.proofs.Places.{shifted-none, shifted-twice}
 use Rattle.seg_text.proofs.Stretches.{later-nil, later-next}
@@ -71,3 +71,10 @@ module _ {X : Type 0} (first : List X → Stretch) (going : HasProgress first) (
       let same : start ≡ boundary = same_Some _ _ is in
       rw (← same) (sym (shifted-none (later_boundaries first xs)))
   restarts xs (suc k) boundary is = restarts-within (length xs) xs k boundary (omega arith) is
+
+-- what finds the same in a list and in what is left of it may be begun anew where the other may
+pub restarts-as : (find other : List ℕ → List Boundary) (xs : List ℕ) → ((n : ℕ) → find (drop n xs) ≡ other (drop n xs)) → RestartsIn other xs → RestartsIn find xs
+restarts-as find other xs same restart k boundary is =
+    ap (drop (suc k)) (same 0)
+    ∙ restart k boundary (sym (ap (λ (found : List Boundary). slice_get found k) (same 0)) ∙ is)
+    ∙ sym (ap (λ (found : List Boundary). shift_all boundary.offset (drop 1 found)) (same boundary.offset))

@@ -4,7 +4,7 @@ use Rattle.std.specs.Prelude.{Option, slice_get}
 use Rattle.seg_text.specs.declared.boundary.Boundary.{Boundary}
 use Rattle.seg_text.specs.Boundaries.{RestartsIn, start, shift_all}
 use Rattle.seg_text.specs.Stretches.{Stretch, HasOneAnswer, HasProgress, list_boundaries}
-use Rattle.seg_text.proofs.Restarts.{restarts}
+use Rattle.seg_text.proofs.Restarts.{restarts, restarts-as}
 use Rattle.seg_text.proofs.Stretches.{one-answer}
 use Rattle.seg_data.specs.Table.{Table}
 use Rattle.seg_machine.specs.Segments.{machine_stretch}
@@ -35,13 +35,6 @@ one-by words = one-answer (first_word_stretch words) (going words.rules words.pa
 same-without : (t : PairTable) (overriding : Option Table) (payloads : Payloads) (xs : List ℕ) → (HasComplexElement t overriding xs → ⊥)
     → list_boundaries (stretch_by (ByTable t overriding) payloads) xs ≡ list_boundaries (table_stretch t overriding) xs
 same-without t overriding payloads xs none = ap (λ (later : List Boundary). start ∷ later) (without-complex (run_cuts_by payloads) t overriding xs none)
-
--- what finds the same in a list and in what is left of it may be begun anew where the other may
-restarts-as : (find other : List ℕ → List Boundary) (xs : List ℕ) → ((n : ℕ) → find (drop n xs) ≡ other (drop n xs)) → RestartsIn other xs → RestartsIn find xs
-restarts-as find other xs same restart k boundary is =
-    ap (drop (suc k)) (same 0)
-    ∙ restart k boundary (sym (ap (λ (found : List Boundary). slice_get found k) (same 0)) ∙ is)
-    ∙ sym (ap (λ (found : List Boundary). shift_all boundary.offset (drop 1 found)) (same boundary.offset))
 
 restarts-with : (rules : Rules) (payloads : Payloads) (xs : List ℕ) → HasNoRun rules payloads.words xs → RestartsIn (list_boundaries (stretch_by rules payloads)) xs
 restarts-with (ByMachine m) payloads xs none =

@@ -11,7 +11,7 @@ use Rattle.seg_complex.specs.Payloads.{payloads_of}
 use Rattle.seg_lines.specs.Joined.{AreRising, joined}
 use Rattle.seg_lines.specs.JoinedLeft.{all_left}
 use Rattle.seg_lines.proofs.JoinCover.{cover-rising, cut-places-rising, text-cover, text-joined}
-use Rattle.seg_lines.proofs.Joins.{first-taken, no-more}
+use Rattle.seg_complex.proofs.InnerCuts.{first-taken, no-more}
 use Rattle.seg_lines.proofs.neo_lines.JoinedBoundaries.new.Goals as goal
 
 pub invariant_of-result : goal.invariant_of-result

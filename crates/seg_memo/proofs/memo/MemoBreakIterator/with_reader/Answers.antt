@@ -12,11 +12,11 @@ pub invariant_of-result : goal.invariant_of-result
 invariant_of-result g c =
     let off = ap (λ (v : Memo). v.started) c.self.view_is ∙ c.requires.started in
     let none = (c.self.invariant.0 off).1 in
-    let checked : IsChecked (reading (machine_of c.self.inside.machine) (g.R2.ReadTransitions.transitions c.args.reader)) =
-    subst (λ (v : Memo). IsChecked (reading v.machine (g.R2.ReadTransitions.transitions c.args.reader))) (sym c.self.view_is) c.requires.checked in (
+    let checked : IsChecked (reading (machine_of c.self.inside.machine) (g.Other.ReadTransitions.transitions c.args.reader)) =
+    subst (λ (v : Memo). IsChecked (reading v.machine (g.Other.ReadTransitions.transitions c.args.reader))) (sym c.self.view_is) c.requires.checked in (
       λ off. (refl, refl),
       read-by (machine_of c.self.inside.machine) _ _ _ (c.requires.states ∙ ap (λ (v : Memo). length v.machine.states) (sym c.self.view_is)),
       c.self.invariant.2 ∙ ap (λ (n : ℕ). rest_after n (g.I.Cursor.text c.self.inside.text)) none,
-      other-memo (machine_of c.self.inside.machine) (g.R.ReadTransitions.transitions c.self.inside.reader) (g.R2.ReadTransitions.transitions c.args.reader) _ _ _ c.self.invariant.3 none checked,
+      other-memo (machine_of c.self.inside.machine) (g.R.ReadTransitions.transitions c.self.inside.reader) (g.Other.ReadTransitions.transitions c.args.reader) _ _ _ c.self.invariant.3 none checked,
       other-count _ _ _ _ c.self.invariant.3 none c.requires.count,
     )
