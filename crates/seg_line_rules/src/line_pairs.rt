@@ -11,7 +11,45 @@ use seg_data::provider::DataError;
 use seg_pairs::pair_data::PairDataBorrowed;
 use seg_pairs::provider::RuleBreakData;
 
-/// A pair table of lines, with what options say.
+/// A pair table of lines of its own, with what options say.
+#[derive(Debug, Drop)]
+pub struct OwnedLinePairs {
+    table: RuleBreakData,
+    style: LineStyle,
+    ghost has_id: { ID < table.property_count },
+    ghost complex_apart: { is_named_class table.complex_property ≡ false },
+}
+
+impl OwnedLinePairs {
+    ghost use Rattle.seg_line_rules.specs.LineFaults.{HasLineTableFault};
+    ghost use Rattle.seg_line_rules.specs.LinePairs.{owned_rules_by, rules_by};
+
+    /// A pair table of lines, with what options say, checked as the borrowed form is.
+    pub fn try_new(
+        table: RuleBreakData,
+        clusters: &RuleBreakData,
+        style: LineStyle,
+    ) -> Result<Self, DataError>
+        ensures accepted { IfOk result (λ pairs. (owned_rules_by pairs ≡ record { table = table; style = style })
+            × IsFaultless (HasLineTableFault table clusters.now)) }
+        ensures refused { IfErr result (IsLowestFault (HasLineTableFault table clusters.now)) }
+    {
+        let _pairs = LinePairs::try_new(&table, clusters, style)?;
+        Ok(OwnedLinePairs { table, style })
+    }
+
+    /// The same, lent.
+    pub fn as_borrowed(&self) -> LinePairs<'_>
+        ensures { rules_by result ≡ owned_rules_by self.now }
+    {
+        LinePairs {
+            table: &self.table,
+            style: self.style,
+        }
+    }
+}
+
+/// A pair table of lines that is lent, with what options say.
 #[derive(Clone, Copy, Debug)]
 pub struct LinePairs<'data> {
     table: &'data RuleBreakData,

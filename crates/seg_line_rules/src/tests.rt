@@ -20,18 +20,97 @@ const BREAK: BreakState = BreakState::Break;
 
 const NO_MATCH: BreakState = BreakState::NoMatch;
 
-/// Strict, Normal and Loose, and what stands for the word options.
-const STRICT: LineBreakStrictness = LineBreakStrictness::Strict;
+const STRICT: LineStyle = LineStyle {
+    strictness: LineBreakStrictness::Strict,
+    word_option: LineBreakWordOption::Normal,
+    is_ja_or_zh: false,
+};
 
-const NORMAL: LineBreakStrictness = LineBreakStrictness::Normal;
+const NORMAL: LineStyle = LineStyle {
+    strictness: LineBreakStrictness::Normal,
+    ..STRICT
+};
 
-const LOOSE: LineBreakStrictness = LineBreakStrictness::Loose;
+const JAPANESE: LineStyle = LineStyle {
+    is_ja_or_zh: true,
+    ..NORMAL
+};
 
-const BY_CUSTOM: LineBreakWordOption = LineBreakWordOption::Normal;
+const LOOSE: LineStyle = LineStyle {
+    strictness: LineBreakStrictness::Loose,
+    ..STRICT
+};
 
-const BREAK_ALL: LineBreakWordOption = LineBreakWordOption::BreakAll;
+const BREAK_ALL: LineStyle = LineStyle {
+    word_option: LineBreakWordOption::BreakAll,
+    ..STRICT
+};
 
-const KEEP_ALL: LineBreakWordOption = LineBreakWordOption::KeepAll;
+const KEEP_ALL: LineStyle = LineStyle {
+    word_option: LineBreakWordOption::KeepAll,
+    ..STRICT
+};
+
+const LOOSE_KEEP_ALL: LineStyle = LineStyle {
+    strictness: LineBreakStrictness::Loose,
+    ..KEEP_ALL
+};
+
+/// A text, with options, and the places of its boundaries in bytes.
+type Row = (&'static str, LineStyle, &'static [usize]);
+
+/// By the sample table.
+const ROWS: [Row; 28] = [
+    (
+        "Hello World. Xin chào thế giới!",
+        STRICT,
+        &[0, 6, 13, 17, 23, 29, 36],
+    ),
+    ("", STRICT, &[0]),
+    ("ภาษาไทย", STRICT, &[0, 12, 21]),
+    ("ภาษาไทยaภาษาไทย", STRICT, &[0, 12, 34, 43]),
+    ("ภาษาไทย\u{1017}\u{1019}\u{102C}", STRICT, &[0, 12, 21, 30]),
+    ("ภาษาไทย", BREAK_ALL, &[0, 3, 6, 9, 12, 15, 18, 21]),
+    ("ภาษาไทย", LOOSE_KEEP_ALL, &[0, 12, 21]),
+    ("a\u{301} b", STRICT, &[0, 4, 5]),
+    ("a \u{301}", STRICT, &[0, 2, 4]),
+    ("\u{4E00}\u{200D}\u{4E00}", STRICT, &[0, 9]),
+    ("\u{4E00}\u{4E00}", KEEP_ALL, &[0, 6]),
+    ("\u{4E00}\u{3005}", STRICT, &[0, 6]),
+    ("\u{4E00}\u{3005}", LOOSE, &[0, 3, 6]),
+    ("\u{4E00}\u{3041}", STRICT, &[0, 6]),
+    ("\u{4E00}\u{3041}", NORMAL, &[0, 3, 6]),
+    ("ab", BREAK_ALL, &[0, 1, 2]),
+    ("a -b", STRICT, &[0, 2, 3, 4]),
+    ("ab \u{4E00}\u{3005}c!", STRICT, &[0, 3, 11]),
+    ("1a", BREAK_ALL, &[0, 1, 2]),
+    ("\u{3041}\u{4E00}", BREAK_ALL, &[0, 3, 6]),
+    ("a\u{301C}", JAPANESE, &[0, 1, 4]),
+    ("a\u{200D}\u{301C}", JAPANESE, &[0, 7]),
+    ("a\u{301C}", NORMAL, &[0, 4]),
+    ("\n\u{301}", STRICT, &[0, 1, 3]),
+    ("\r\u{200D}", STRICT, &[0, 1, 4]),
+    ("\u{4E00}\u{200D}\u{301}\u{4E00}", STRICT, &[0, 8, 11]),
+    ("\u{4E00}\u{301}\u{200D}\u{4E00}", STRICT, &[0, 11]),
+    ("\u{E20}\u{301}\u{E32}\u{E29}", STRICT, &[0, 8, 11]),
+];
+
+/// By the table with walks, what a program written from the definitions apart from this repository gives: in each row one clause of
+/// the table's case decides.
+const WALKS: [(&str, &[usize]); 12] = [
+    ("a\u{200D}a", &[0, 5]),
+    ("a1\u{200D}a", &[0, 6]),
+    ("a\u{200D}1\u{4E00}", &[0, 5, 8]),
+    ("\u{4E00}1\u{200D}\u{4E00}", &[0, 10]),
+    ("a1\u{200D}\u{4E00}", &[0, 1, 8]),
+    ("a11", &[0, 1, 2, 3]),
+    ("a1-", &[0, 2, 3]),
+    ("a-\u{2026}", &[0, 5]),
+    ("a1a", &[0, 2, 3]),
+    ("a-", &[0, 1, 2]),
+    ("a\u{200D}-", &[0, 5]),
+    ("\u{4E00}1-", &[0, 4, 5]),
+];
 
 /// Data of lines: a pair table, and what runs are cut by.
 #[derive(Drop)]
@@ -194,38 +273,11 @@ fn expect_lines<I: Cursor>(
     Ok(())
 }
 
-fn style_of(
-    strictness: LineBreakStrictness,
-    word_option: LineBreakWordOption,
-    is_ja_or_zh: bool,
-) -> LineStyle {
-    LineStyle {
-        strictness,
-        word_option,
-        is_ja_or_zh,
-    }
-}
-
 #[test]
 fn finds_lines_by_walks(rt: HostRuntime) -> Result<(), Fail> {
     let data = data_with(rt.alloc(), walk_table(rt.alloc())?)?;
     let style = LineStyle::new(LineBreakOptions::default());
-    // What a program written from the definitions apart from this repository gives; in each one clause of the table's case decides.
-    let rows: [(&str, &[usize]); 12] = [
-        ("a\u{200D}a", &[0, 5]),
-        ("a1\u{200D}a", &[0, 6]),
-        ("a\u{200D}1\u{4E00}", &[0, 5, 8]),
-        ("\u{4E00}1\u{200D}\u{4E00}", &[0, 10]),
-        ("a1\u{200D}\u{4E00}", &[0, 1, 8]),
-        ("a11", &[0, 1, 2, 3]),
-        ("a1-", &[0, 2, 3]),
-        ("a-\u{2026}", &[0, 5]),
-        ("a1a", &[0, 2, 3]),
-        ("a-", &[0, 1, 2]),
-        ("a\u{200D}-", &[0, 5]),
-        ("\u{4E00}1-", &[0, 4, 5]),
-    ];
-    for (text, places) in rows {
+    for (text, places) in WALKS {
         expect_lines(&rt, &data, style, StrCharIndices::new(text), places)?;
     }
     Ok(())
@@ -234,59 +286,14 @@ fn finds_lines_by_walks(rt: HostRuntime) -> Result<(), Fail> {
 #[test]
 fn finds_lines(rt: HostRuntime) -> Result<(), Fail> {
     let data = data_with(rt.alloc(), sample_table(rt.alloc(), 46)?)?;
-    let strict = style_of(STRICT, BY_CUSTOM, false);
-    let loose = style_of(LOOSE, BY_CUSTOM, false);
-    let keep_all = style_of(LOOSE, KEEP_ALL, false);
-    let break_all = style_of(STRICT, BREAK_ALL, false);
-    let normal = style_of(NORMAL, BY_CUSTOM, false);
-    let japanese = style_of(NORMAL, BY_CUSTOM, true);
-    let thai = "ภาษาไทย";
-    let rows: [(&str, LineStyle, &[usize]); 28] = [
-        (
-            "Hello World. Xin chào thế giới!",
-            strict,
-            &[0, 6, 13, 17, 23, 29, 36],
-        ),
-        ("", strict, &[0]),
-        (thai, strict, &[0, 12, 21]),
-        ("ภาษาไทยaภาษาไทย", strict, &[0, 12, 34, 43]),
-        ("ภาษาไทย\u{1017}\u{1019}\u{102C}", strict, &[0, 12, 21, 30]),
-        (thai, break_all, &[0, 3, 6, 9, 12, 15, 18, 21]),
-        (thai, keep_all, &[0, 12, 21]),
-        ("a\u{301} b", strict, &[0, 4, 5]),
-        ("a \u{301}", strict, &[0, 2, 4]),
-        ("\u{4E00}\u{200D}\u{4E00}", strict, &[0, 9]),
-        (
-            "\u{4E00}\u{4E00}",
-            style_of(STRICT, KEEP_ALL, false),
-            &[0, 6],
-        ),
-        ("\u{4E00}\u{3005}", strict, &[0, 6]),
-        ("\u{4E00}\u{3005}", loose, &[0, 3, 6]),
-        ("\u{4E00}\u{3041}", strict, &[0, 6]),
-        ("\u{4E00}\u{3041}", normal, &[0, 3, 6]),
-        ("ab", break_all, &[0, 1, 2]),
-        ("a -b", strict, &[0, 2, 3, 4]),
-        ("ab \u{4E00}\u{3005}c!", strict, &[0, 3, 11]),
-        ("1a", break_all, &[0, 1, 2]),
-        ("\u{3041}\u{4E00}", break_all, &[0, 3, 6]),
-        ("a\u{301C}", japanese, &[0, 1, 4]),
-        ("a\u{200D}\u{301C}", japanese, &[0, 7]),
-        ("a\u{301C}", normal, &[0, 4]),
-        ("\n\u{301}", strict, &[0, 1, 3]),
-        ("\r\u{200D}", strict, &[0, 1, 4]),
-        ("\u{4E00}\u{200D}\u{301}\u{4E00}", strict, &[0, 8, 11]),
-        ("\u{4E00}\u{301}\u{200D}\u{4E00}", strict, &[0, 11]),
-        ("\u{E20}\u{301}\u{E32}\u{E29}", strict, &[0, 8, 11]),
-    ];
-    for (text, style, places) in rows {
+    for (text, style, places) in ROWS {
         expect_lines(&rt, &data, style, StrCharIndices::new(text), places)?;
     }
     let bytes =
         b"\xE0\xB8\xA0\xE0\xB8\xB2\xE0\xB8\xA9\xE0\xB8\xB2\xFF\xE0\xB9\x84\xE0\xB8\x97\xE0\xB8\xA2";
-    expect_lines(&rt, &data, strict, Utf8CharIndices::new(bytes), &[0, 22])?;
+    expect_lines(&rt, &data, STRICT, Utf8CharIndices::new(bytes), &[0, 22])?;
     let units = [0xE20, 0xE32, 0xE29, 0xE32, 0xD800, 0xE44, 0xE17, 0xE22];
-    expect_lines(&rt, &data, strict, Utf16Indices::new(&units), &[0, 8])
+    expect_lines(&rt, &data, STRICT, Utf16Indices::new(&units), &[0, 8])
 }
 
 #[test]
