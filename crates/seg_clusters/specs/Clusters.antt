@@ -21,3 +21,10 @@ clusters_left iterator = iterator.boundaries.left
 
 abbrev pub clusters_places : {Y C I : Type 0} → GraphemeClusterBreakIterator Y C I → List ℕ
 clusters_places iterator = offsets (clusters_left iterator)
+
+-- what an iterator finds boundaries by, and the cursor at the start of its text
+abbrev pub cluster_finder : {Y C I : Type 0} → GraphemeClusterBreakIterator Y C I → Rules
+cluster_finder iterator = rules_of iterator.engine
+
+abbrev pub clusters_source : {Y C I : Type 0} → GraphemeClusterBreakIterator Y C I → I
+clusters_source iterator = iterator.whole

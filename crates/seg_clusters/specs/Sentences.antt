@@ -21,3 +21,10 @@ sentences_left iterator = iterator.boundaries.left
 
 abbrev pub sentences_places : {Y C I : Type 0} → SentenceBreakIterator Y C I → List ℕ
 sentences_places iterator = offsets (sentences_left iterator)
+
+-- what an iterator finds boundaries by, and the cursor at the start of its text
+abbrev pub sentence_finder : {Y C I : Type 0} → SentenceBreakIterator Y C I → Rules
+sentence_finder iterator = rules_of iterator.engine
+
+abbrev pub sentences_source : {Y C I : Type 0} → SentenceBreakIterator Y C I → I
+sentences_source iterator = iterator.whole

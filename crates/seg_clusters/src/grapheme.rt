@@ -10,18 +10,22 @@ ghost use Rattle.seg_text.specs.Boundaries.{IsCover};
 ghost use Rattle.seg_data.specs.Faults.{IsFaultless, IsLowestFault};
 ghost use Rattle.seg_pairs.specs.PairFaults.{HasPairDataFault};
 ghost use Rattle.seg_engine.specs.Engine.{rules_of};
-ghost use Rattle.seg_engine.specs.Rules.{boundaries_of};
+ghost use Rattle.seg_engine.specs.Rules.{boundaries_of, machine_in};
 ghost use Rattle.seg_engine.specs.Rules.Rules.{ByTable, ByMachine};
+ghost use Rattle.seg_memo.specs.Memos.{IsMemoRefusal, IsNewMemo};
 
 use seg_data::provider::DataError;
 use seg_engine::engine::{Boundaries, Engine, OwnedEngine};
 use seg_machine::provider::SegmenterStateMachine;
 use seg_machine::tailored_machine::{TailoredMachine, TailoredMachineBorrowed};
+use seg_memo::memo::{MemoBreakIterator, MemoError};
+use seg_memo::reader::CountedTransitions;
 use seg_pairs::pair_data::{PairData, PairDataBorrowed};
 use seg_pairs::provider::RuleBreakData;
 use seg_text::cursor::Cursor;
 use seg_text::indices::{Latin1Indices, StrCharIndices, Utf8CharIndices, Utf16Indices};
 use seg_text::scaffold::{Latin1, PotentiallyIllFormedUtf8, RuleBreakType, Utf8, Utf16};
+use std::alloc::Global;
 use std::fmt::Debug;
 use std::marker::PhantomData;
 
@@ -32,6 +36,8 @@ use std::marker::PhantomData;
 #[derive_where(Debug; Y::IterAttr: Debug)]
 pub struct GraphemeClusterBreakIterator<'data, 's, Y: RuleBreakType<'s>> {
     boundaries: Boundaries<'data, Y::IterAttr>,
+    engine: Engine<'data>,
+    whole: Y::IterAttr,
     text: PhantomData<&'s ()>,
 }
 
@@ -39,13 +45,35 @@ impl<'data, 's, Y: RuleBreakType<'s>> Drop for GraphemeClusterBreakIterator<'dat
     fn drop(self) {
         let GraphemeClusterBreakIterator {
             boundaries: _,
+            engine: _,
+            whole: _,
             text: _,
         } = self;
     }
 }
 
+impl<'data, 's, Y: RuleBreakType<'s>> GraphemeClusterBreakIterator<'data, 's, Y> {
+    ghost use Rattle.seg_clusters.specs.Clusters.{cluster_finder, clusters_source};
+
+    /// The boundaries of the whole text, whatever was given of them, where no configuration of the machine is looked up
+    /// twice. `NotNeo` by a pair table, and otherwise `TooLarge` where there are more configurations than the greatest
+    /// `usize`: both without asking for memory. `Memory` where the one growth was refused.
+    pub fn with_memo(
+        &self,
+        alloc: Global,
+    ) -> Result<MemoBreakIterator<'data, Y::IterAttr, CountedTransitions<'data>>, MemoError>
+        ensures made { IfOk result (IsNewMemo (machine_in (cluster_finder self.now)) (Y.IterAttr.text (clusters_source self.now))
+            (boundaries_of (cluster_finder self.now) (Y.IterAttr.text (clusters_source self.now)))) }
+        ensures refused { IfErr result (IsMemoRefusal (machine_in (cluster_finder self.now)) ⊥ (Y.IterAttr.text (clusters_source self.now))) }
+    {
+        self.engine.memoised(alloc, Y::fork(&self.whole))
+    }
+}
+
 impl<'data, 's, Y: RuleBreakType<'s>> Iterator for GraphemeClusterBreakIterator<'data, 's, Y> {
-    ghost use Rattle.seg_clusters.specs.Clusters.{clusters_places};
+    ghost use Rattle.std.specs.Prelude.{⊤};
+    ghost use Rattle.std.specs.Iterator.{MakesProgress};
+    ghost use Rattle.seg_clusters.specs.Clusters.{cluster_finder, clusters_places, clusters_source};
 
     type Item = usize;
 
@@ -54,7 +82,11 @@ impl<'data, 's, Y: RuleBreakType<'s>> Iterator for GraphemeClusterBreakIterator<
     ghost remaining = { item_count clusters_places };
 
     #[inline(always)]
-    fn next(&mut self) -> Option<usize> {
+    fn next(&mut self) -> Option<usize>
+        ensures steps { YieldsFirst clusters_places self.old result self.new }
+        ensures goes { MakesProgress (λ _. ⊤) (item_count clusters_places) self.old result self.new }
+        ensures same { (cluster_finder self.new ≡ cluster_finder self.old) × (clusters_source self.new ≡ clusters_source self.old) }
+    {
         self.boundaries.next()
     }
 }
@@ -115,7 +147,7 @@ pub struct GraphemeClusterSegmenterBorrowed<'data> {
 }
 
 impl<'data> GraphemeClusterSegmenterBorrowed<'data> {
-    ghost use Rattle.seg_clusters.specs.Clusters.{cluster_rules, clusters_left};
+    ghost use Rattle.seg_clusters.specs.Clusters.{cluster_rules, cluster_finder, clusters_left, clusters_source};
 
     /// A segmenter by a pair table. `StartRowKeeps` where the table has no boundary between the
     /// start of the text and some class of code points, and otherwise `ComplexItems` where it has
@@ -151,6 +183,7 @@ impl<'data> GraphemeClusterSegmenterBorrowed<'data> {
     /// The boundaries of the clusters of a `str`, in bytes: those of its bytes as UTF-8. Takes no memory.
     pub fn segment_str<'s>(self, input: &'s str) -> GraphemeClusterBreakIterator<'data, 's, Utf8>
         ensures boundaries { clusters_left result ≡ boundaries_of (cluster_rules self.entry) (utf8 input.now) }
+        ensures source { (cluster_finder result ≡ cluster_rules self.entry) × (clusters_source result ≡ record { place = 0; units = input.now }) }
         ensures cover { IsCover 0 (length input.now) (clusters_left result) }
     {
         segment(self.engine, StrCharIndices::new(input))
@@ -163,6 +196,7 @@ impl<'data> GraphemeClusterSegmenterBorrowed<'data> {
         input: &'s [u8],
     ) -> GraphemeClusterBreakIterator<'data, 's, PotentiallyIllFormedUtf8>
         ensures boundaries { clusters_left result ≡ boundaries_of (cluster_rules self.entry) (utf8 input.now) }
+        ensures source { (cluster_finder result ≡ cluster_rules self.entry) × (clusters_source result ≡ record { place = 0; units = input.now }) }
         ensures cover { IsCover 0 (length input.now) (clusters_left result) }
     {
         segment(self.engine, Utf8CharIndices::new(input))
@@ -174,6 +208,7 @@ impl<'data> GraphemeClusterSegmenterBorrowed<'data> {
         input: &'s [u8],
     ) -> GraphemeClusterBreakIterator<'data, 's, Latin1>
         ensures boundaries { clusters_left result ≡ boundaries_of (cluster_rules self.entry) (latin1 input.now) }
+        ensures source { (cluster_finder result ≡ cluster_rules self.entry) × (clusters_source result ≡ record { place = 0; units = input.now }) }
         ensures cover { IsCover 0 (length input.now) (clusters_left result) }
     {
         segment(self.engine, Latin1Indices::new(input))
@@ -186,6 +221,7 @@ impl<'data> GraphemeClusterSegmenterBorrowed<'data> {
         input: &'s [u16],
     ) -> GraphemeClusterBreakIterator<'data, 's, Utf16>
         ensures boundaries { clusters_left result ≡ boundaries_of (cluster_rules self.entry) (utf16 input.now) }
+        ensures source { (cluster_finder result ≡ cluster_rules self.entry) × (clusters_source result ≡ record { place = 0; units = input.now }) }
         ensures cover { IsCover 0 (length input.now) (clusters_left result) }
     {
         segment(self.engine, Utf16Indices::new(input))
@@ -198,10 +234,13 @@ fn segment<'data, 's, Y: RuleBreakType<'s>>(
     text: Y::IterAttr,
 ) -> GraphemeClusterBreakIterator<'data, 's, Y>
     ensures boundaries { result.boundaries.left ≡ boundaries_of (rules_of engine.entry) (Y.IterAttr.text text) }
+    ensures source { (rules_of result.engine ≡ rules_of engine.entry) × (result.whole ≡ text) }
     ensures cover { IsCover (start_of (Y.IterAttr.text text)) (Y.IterAttr.text text).end result.boundaries.left }
 {
     GraphemeClusterBreakIterator {
-        boundaries: engine.boundaries(text),
+        boundaries: engine.boundaries(Y::fork(&text)),
+        engine,
+        whole: text,
         text: PhantomData,
     }
 }

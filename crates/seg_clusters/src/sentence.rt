@@ -14,18 +14,22 @@ ghost use Rattle.seg_machine.specs.Machine.{with_tailoring};
 ghost use Rattle.seg_pairs.specs.Overriding.{table_in};
 ghost use Rattle.seg_pairs.specs.PairFaults.{HasPairDataFault};
 ghost use Rattle.seg_engine.specs.Engine.{rules_of};
-ghost use Rattle.seg_engine.specs.Rules.{boundaries_of};
+ghost use Rattle.seg_engine.specs.Rules.{boundaries_of, machine_in};
 ghost use Rattle.seg_engine.specs.Rules.Rules.{ByTable, ByMachine};
+ghost use Rattle.seg_memo.specs.Memos.{IsMemoRefusal, IsNewMemo};
 
 use seg_data::provider::{DataError, LanguageIdentifier};
 use seg_engine::engine::{Boundaries, Engine, OwnedEngine};
 use seg_machine::provider::{SegmenterStateMachine, SegmenterStateMachineOverride};
 use seg_machine::tailored_machine::{TailoredMachine, TailoredMachineBorrowed};
+use seg_memo::memo::{MemoBreakIterator, MemoError};
+use seg_memo::reader::CountedTransitions;
 use seg_pairs::pair_data::{PairData, PairDataBorrowed};
 use seg_pairs::provider::{RuleBreakData, RuleBreakDataOverride};
 use seg_text::cursor::Cursor;
 use seg_text::indices::{Latin1Indices, StrCharIndices, Utf8CharIndices, Utf16Indices};
 use seg_text::scaffold::{Latin1, PotentiallyIllFormedUtf8, RuleBreakType, Utf8, Utf16};
+use std::alloc::Global;
 use std::fmt::Debug;
 use std::marker::PhantomData;
 
@@ -50,6 +54,8 @@ pub struct SentenceBreakOptions<'a> {
 #[derive_where(Debug; Y::IterAttr: Debug)]
 pub struct SentenceBreakIterator<'data, 's, Y: RuleBreakType<'s>> {
     boundaries: Boundaries<'data, Y::IterAttr>,
+    engine: Engine<'data>,
+    whole: Y::IterAttr,
     text: PhantomData<&'s ()>,
 }
 
@@ -57,13 +63,35 @@ impl<'data, 's, Y: RuleBreakType<'s>> Drop for SentenceBreakIterator<'data, 's, 
     fn drop(self) {
         let SentenceBreakIterator {
             boundaries: _,
+            engine: _,
+            whole: _,
             text: _,
         } = self;
     }
 }
 
+impl<'data, 's, Y: RuleBreakType<'s>> SentenceBreakIterator<'data, 's, Y> {
+    ghost use Rattle.seg_clusters.specs.Sentences.{sentence_finder, sentences_source};
+
+    /// The boundaries of the whole text, whatever was given of them, where no configuration of the machine is looked up
+    /// twice. `NotNeo` by a pair table, and otherwise `TooLarge` where there are more configurations than the greatest
+    /// `usize`: both without asking for memory. `Memory` where the one growth was refused.
+    pub fn with_memo(
+        &self,
+        alloc: Global,
+    ) -> Result<MemoBreakIterator<'data, Y::IterAttr, CountedTransitions<'data>>, MemoError>
+        ensures made { IfOk result (IsNewMemo (machine_in (sentence_finder self.now)) (Y.IterAttr.text (sentences_source self.now))
+            (boundaries_of (sentence_finder self.now) (Y.IterAttr.text (sentences_source self.now)))) }
+        ensures refused { IfErr result (IsMemoRefusal (machine_in (sentence_finder self.now)) ⊥ (Y.IterAttr.text (sentences_source self.now))) }
+    {
+        self.engine.memoised(alloc, Y::fork(&self.whole))
+    }
+}
+
 impl<'data, 's, Y: RuleBreakType<'s>> Iterator for SentenceBreakIterator<'data, 's, Y> {
-    ghost use Rattle.seg_clusters.specs.Sentences.{sentences_places};
+    ghost use Rattle.std.specs.Prelude.{⊤};
+    ghost use Rattle.std.specs.Iterator.{MakesProgress};
+    ghost use Rattle.seg_clusters.specs.Sentences.{sentence_finder, sentences_places, sentences_source};
 
     type Item = usize;
 
@@ -72,7 +100,11 @@ impl<'data, 's, Y: RuleBreakType<'s>> Iterator for SentenceBreakIterator<'data, 
     ghost remaining = { item_count sentences_places };
 
     #[inline(always)]
-    fn next(&mut self) -> Option<usize> {
+    fn next(&mut self) -> Option<usize>
+        ensures steps { YieldsFirst sentences_places self.old result self.new }
+        ensures goes { MakesProgress (λ _. ⊤) (item_count sentences_places) self.old result self.new }
+        ensures same { (sentence_finder self.new ≡ sentence_finder self.old) × (sentences_source self.new ≡ sentences_source self.old) }
+    {
         self.boundaries.next()
     }
 }
@@ -146,7 +178,7 @@ pub struct SentenceSegmenterBorrowed<'data> {
 }
 
 impl<'data> SentenceSegmenterBorrowed<'data> {
-    ghost use Rattle.seg_clusters.specs.Sentences.{sentence_rules, sentences_left};
+    ghost use Rattle.seg_clusters.specs.Sentences.{sentence_rules, sentence_finder, sentences_left, sentences_source};
 
     /// A segmenter by a pair table and its override, if there is one. Of several faults that with
     /// the lowest number: `ClassOutOfRange` where the override names a class that the table lacks,
@@ -187,6 +219,7 @@ impl<'data> SentenceSegmenterBorrowed<'data> {
     /// The boundaries of the sentences of a `str`, in bytes: those of its bytes as UTF-8. Takes no memory.
     pub fn segment_str<'s>(self, input: &'s str) -> SentenceBreakIterator<'data, 's, Utf8>
         ensures boundaries { sentences_left result ≡ boundaries_of (sentence_rules self.entry) (utf8 input.now) }
+        ensures source { (sentence_finder result ≡ sentence_rules self.entry) × (sentences_source result ≡ record { place = 0; units = input.now }) }
         ensures cover { IsCover 0 (length input.now) (sentences_left result) }
     {
         segment(self.engine, StrCharIndices::new(input))
@@ -199,6 +232,7 @@ impl<'data> SentenceSegmenterBorrowed<'data> {
         input: &'s [u8],
     ) -> SentenceBreakIterator<'data, 's, PotentiallyIllFormedUtf8>
         ensures boundaries { sentences_left result ≡ boundaries_of (sentence_rules self.entry) (utf8 input.now) }
+        ensures source { (sentence_finder result ≡ sentence_rules self.entry) × (sentences_source result ≡ record { place = 0; units = input.now }) }
         ensures cover { IsCover 0 (length input.now) (sentences_left result) }
     {
         segment(self.engine, Utf8CharIndices::new(input))
@@ -207,6 +241,7 @@ impl<'data> SentenceSegmenterBorrowed<'data> {
     /// The boundaries of the sentences of Latin-1, in bytes. Takes no memory.
     pub fn segment_latin1<'s>(self, input: &'s [u8]) -> SentenceBreakIterator<'data, 's, Latin1>
         ensures boundaries { sentences_left result ≡ boundaries_of (sentence_rules self.entry) (latin1 input.now) }
+        ensures source { (sentence_finder result ≡ sentence_rules self.entry) × (sentences_source result ≡ record { place = 0; units = input.now }) }
         ensures cover { IsCover 0 (length input.now) (sentences_left result) }
     {
         segment(self.engine, Latin1Indices::new(input))
@@ -216,6 +251,7 @@ impl<'data> SentenceSegmenterBorrowed<'data> {
     /// counts as itself. Takes no memory.
     pub fn segment_utf16<'s>(self, input: &'s [u16]) -> SentenceBreakIterator<'data, 's, Utf16>
         ensures boundaries { sentences_left result ≡ boundaries_of (sentence_rules self.entry) (utf16 input.now) }
+        ensures source { (sentence_finder result ≡ sentence_rules self.entry) × (sentences_source result ≡ record { place = 0; units = input.now }) }
         ensures cover { IsCover 0 (length input.now) (sentences_left result) }
     {
         segment(self.engine, Utf16Indices::new(input))
@@ -228,10 +264,13 @@ fn segment<'data, 's, Y: RuleBreakType<'s>>(
     text: Y::IterAttr,
 ) -> SentenceBreakIterator<'data, 's, Y>
     ensures boundaries { result.boundaries.left ≡ boundaries_of (rules_of engine.entry) (Y.IterAttr.text text) }
+    ensures source { (rules_of result.engine ≡ rules_of engine.entry) × (result.whole ≡ text) }
     ensures cover { IsCover (start_of (Y.IterAttr.text text)) (Y.IterAttr.text text).end result.boundaries.left }
 {
     SentenceBreakIterator {
-        boundaries: engine.boundaries(text),
+        boundaries: engine.boundaries(Y::fork(&text)),
+        engine,
+        whole: text,
         text: PhantomData,
     }
 }

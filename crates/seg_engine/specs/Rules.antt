@@ -1,5 +1,5 @@
 -- What the boundaries of a text are found by.
-use Rattle.std.specs.Prelude.{ℕ, Option, List}
+use Rattle.std.specs.Prelude.{ℕ, Option, Some, None, List}
 use Rattle.seg_text.specs.declared.boundary.Boundary.{Boundary}
 use Rattle.seg_text.specs.Items.{Text}
 use Rattle.seg_text.specs.Boundaries.{boundaries_in}
@@ -15,6 +15,11 @@ pub data Rules : Type 0 where
   ByTable : PairTable → Option Table → Rules
   -- a state machine
   ByMachine : Machine → Rules
+
+-- the machine of rules, if they are one
+abbrev pub machine_in : Rules → Option Machine
+machine_in (ByTable t overriding) = None
+machine_in (ByMachine m) = Some m
 
 -- the first stretch of some code points: by what the table says of the first, or up to the machine's pick
 abbrev pub first_stretch : Rules → List ℕ → Stretch

@@ -1,17 +1,21 @@
 //! The engine of a segmenter: that of a pair table, or that of a state machine.
 
-ghost use Rattle.std.specs.Prelude.{◌≡◌, ⊤};
+ghost use Rattle.std.specs.Prelude.{◌≡◌, ⊤, IfOk, IfErr};
 ghost use Rattle.std.specs.Iterator.{YieldsFirst, MakesProgress, item_count};
 ghost use Rattle.seg_text.specs.Items.{start_of};
 ghost use Rattle.seg_text.specs.Boundaries.{GivesNext, IsCover, offsets_left};
 ghost use Rattle.seg_engine.specs.Engine.{rules_of, owned_rules};
-ghost use Rattle.seg_engine.specs.Rules.{boundaries_of};
+ghost use Rattle.seg_engine.specs.Rules.{boundaries_of, machine_in};
+ghost use Rattle.seg_memo.specs.Memos.{IsMemoRefusal, IsNewMemo};
 
 use seg_machine::rule_segmenter_v2;
 use seg_machine::tailored_machine::{TailoredMachine, TailoredMachineBorrowed};
+use seg_memo::memo::{MemoBreakIterator, MemoError};
+use seg_memo::reader::CountedTransitions;
 use seg_pairs::pair_data::{PairData, PairDataBorrowed};
 use seg_pairs::rule_segmenter_v1;
 use seg_text::cursor::Cursor;
+use std::alloc::Global;
 use std::marker::Model;
 
 /// What the boundaries of a text are found by.
@@ -58,6 +62,23 @@ impl<'data> Engine<'data> {
             Engine::Neo(machine) => Boundaries {
                 by: BoundariesBy::Neo(rule_segmenter_v2::RuleBreakIterator::new(machine, text)),
             },
+        }
+    }
+
+    /// The same boundaries, where no configuration of the machine is looked up twice. `NotNeo` by a pair table, and otherwise
+    /// `TooLarge` where there are more configurations than the greatest `usize`: both without asking for memory. `Memory`
+    /// where the one growth was refused.
+    pub fn memoised<I: Cursor>(
+        self,
+        alloc: Global,
+        text: I,
+    ) -> Result<MemoBreakIterator<'data, I, CountedTransitions<'data>>, MemoError>
+        ensures made { IfOk result (IsNewMemo (machine_in (rules_of self.entry)) (I.text text) (boundaries_of (rules_of self.entry) (I.text text))) }
+        ensures refused { IfErr result (IsMemoRefusal (machine_in (rules_of self.entry)) ⊥ (I.text text)) }
+    {
+        match self {
+            Engine::Classic(_) => Err(MemoError::NotNeo),
+            Engine::Neo(machine) => MemoBreakIterator::try_new(alloc, machine, text),
         }
     }
 }

@@ -1,6 +1,6 @@
 //! The boundaries of a text by a state machine, where no configuration is looked up twice.
 
-ghost use Rattle.std.specs.Prelude.{◌≡◌, ◌<◌, ◌≤◌, ◌+◌, ◌*◌, ◌^◌, ◌⊎◌, ⊤, ℕ, false, IfOk, IfErr, SomeIff, length};
+ghost use Rattle.std.specs.Prelude.{◌≡◌, ◌<◌, ◌≤◌, ◌+◌, ◌*◌, ◌^◌, ⊤, ℕ, false, Some, IfOk, IfErr, SomeIff, length};
 ghost use Rattle.std.specs.Iterator.{YieldsFirst, MakesProgress, item_count};
 ghost use Rattle.seg_text.specs.Boundaries.{GivesNext, boundaries_in};
 ghost use Rattle.seg_text.specs.Items.{code_points, rest_after};
@@ -8,8 +8,7 @@ ghost use Rattle.seg_machine.specs.Checked.{IsChecked};
 ghost use Rattle.seg_machine.specs.Segments.{machine_boundaries};
 ghost use Rattle.seg_machine.specs.Tailored.{machine_of};
 ghost use Rattle.seg_memo.specs.Configurations.{AreLookedUp, configurations, reading};
-ghost use Rattle.seg_memo.specs.Memos.{memo_places, subject_of};
-ghost use Rattle.seg_memo.specs.declared.memo.MemoError.TheVariants.{Memory, TooLarge};
+ghost use Rattle.seg_memo.specs.Memos.{IsMemoRefusal, IsNewMemo, memo_places, subject_of};
 
 use crate::configuration::Cell;
 use crate::reader::{CountedTransitions, ReadTransitions};
@@ -27,6 +26,12 @@ pub enum MemoError {
     /// 1: the table's growth was refused.
     #[error("1 Memory: memory is missing")]
     Memory,
+    /// 2: a pair table finds the boundaries.
+    #[error("2 NotNeo: no machine finds the boundaries")]
+    NotNeo,
+    /// 3: some script has a dictionary.
+    #[error("3 HasDictionary: some script has a dictionary")]
+    HasDictionary,
     /// 4: the text has more configurations than the greatest `usize`.
     #[error("4 TooLarge: the text has more configurations than can be counted")]
     TooLarge,
@@ -154,11 +159,8 @@ impl<'data, I: Cursor> MemoBreakIterator<'data, I, CountedTransitions<'data>> {
         machine: TailoredMachineBorrowed<'data>,
         text: I,
     ) -> Result<Self, MemoError>
-        ensures made { IfOk result (λ s. (s.machine ≡ machine_of machine.entry) × (s.text ≡ I.text text) × (s.started ≡ false) × (s.given ≡ 0) × (s.lookups ≡ 0)
-            × (s.coming.left ≡ boundaries_in (machine_boundaries (machine_of machine.entry)) (I.text text)) × (s.coming.status ≡ 0)) }
-        ensures fits { IfOk result (λ s. configurations s.machine (length s.text.items) ≤ usize.MAX) }
-        ensures refused { IfErr result (λ e. ((e ≡ TooLarge) × (usize.MAX < configurations (machine_of machine.entry) (length (I.text text).items)))
-            ⊎ ((e ≡ Memory) × (configurations (machine_of machine.entry) (length (I.text text).items) ≤ usize.MAX))) }
+        ensures made { IfOk result (IsNewMemo (Some (machine_of machine.entry)) (I.text text) (boundaries_in (machine_boundaries (machine_of machine.entry)) (I.text text))) }
+        ensures refused { IfErr result (IsMemoRefusal (Some (machine_of machine.entry)) ⊥ (I.text text)) }
     {
         machine.facts();
         let states = machine.machine().states().len();
