@@ -1,12 +1,14 @@
 //! What pieces of complex scripts are cut by: dictionaries, and the clusters at whose ends they may cut.
 
-ghost use Rattle.std.specs.Prelude.{◌≡◌, ◌+◌, ◌<◌, ◌^◌, length};
+ghost use Rattle.std.specs.Prelude.{◌≡◌, ◌≢◌, ◌+◌, ◌<◌, ◌^◌, length, IfOk, IfErr};
 ghost use Rattle.std.specs.Iterator.{YieldsFirst, item_count};
 ghost use Rattle.seg_text.specs.Cuts.{cut_places};
 ghost use Rattle.seg_text.specs.Utf8.{utf8};
 ghost use Rattle.seg_text.specs.Utf16.{utf16};
-ghost use Rattle.seg_engine.specs.Rules.{boundaries_by};
-ghost use Rattle.seg_dictionary.specs.ScriptWords.{filled, lent_words};
+ghost use Rattle.seg_memo.specs.Memos.{IsMemoRefusal, IsNewMemo};
+ghost use Rattle.seg_engine.specs.Engine.{rules_of};
+ghost use Rattle.seg_engine.specs.Rules.{boundaries_by, boundaries_of, machine_in};
+ghost use Rattle.seg_dictionary.specs.ScriptWords.{filled, lent_words, no_words};
 ghost use Rattle.seg_clusters.specs.Clusters.{cluster_rules};
 ghost use Rattle.seg_complex.specs.DictionaryCuts.{dictionary_cuts};
 ghost use Rattle.seg_complex.specs.LaterPlaces.{later_places};
@@ -18,8 +20,13 @@ use crate::laws::dictionary_cuts_cover;
 use seg_clusters::grapheme::GraphemeClusterSegmenterBorrowed;
 use seg_dictionary::dictionaries::DictionariesBorrowed;
 use seg_dictionary::provider::DictionaryBreakData;
+use seg_engine::engine::Engine;
+use seg_memo::memo::{MemoBreakIterator, MemoError};
+use seg_memo::reader::CountedTransitions;
+use seg_text::cursor::Cursor;
 use seg_text::indices::{StrCharIndices, Utf8CharIndices, Utf16Indices};
 use seg_text::scaffold::{PotentiallyIllFormedUtf8, RuleBreakType, Utf8, Utf16};
+use std::alloc::Global;
 use std::fmt::Debug;
 use std::marker::PhantomData;
 
@@ -60,6 +67,29 @@ impl<'data> ComplexPayloadsBorrowed<'data> {
         ensures { payloads_of self.new ≡ record { words = filled (payloads_of self.old).words (lent_words others.entry); clusters = (payloads_of self.old).clusters } }
     {
         self.dictionaries.fill(others);
+    }
+
+    /// The boundaries of what is left of a text by an engine, where no configuration of its machine is looked up twice and no
+    /// run is cut. Of several refusals that with the lowest number: `NotNeo` by a pair table, `HasDictionary` where some
+    /// script has one, `TooLarge` where there are more configurations than the greatest `usize`, all without asking for
+    /// memory. `Memory` where there is no other, but the one growth was refused.
+    pub fn memoised<I: Cursor>(
+        self,
+        alloc: Global,
+        engine: Engine<'data>,
+        text: I,
+    ) -> Result<MemoBreakIterator<'data, I, CountedTransitions<'data>>, MemoError>
+        ensures words { IfOk result (λ _. (payloads_of self.entry).words ≡ no_words) }
+        ensures made { IfOk result (IsNewMemo (machine_in (rules_of engine.entry)) (I.text text) (boundaries_of (rules_of engine.entry) (I.text text))) }
+        ensures refused { IfErr result (IsMemoRefusal (machine_in (rules_of engine.entry)) ((payloads_of self.entry).words ≢ no_words) (I.text text)) }
+    {
+        let Engine::Neo(machine) = engine else {
+            return Err(MemoError::NotNeo);
+        };
+        if !self.dictionaries.is_empty() {
+            return Err(MemoError::HasDictionary);
+        }
+        MemoBreakIterator::try_new(alloc, machine, text)
     }
 }
 
