@@ -3,3 +3,4 @@ pub mod Left
 pub mod Spans
 pub mod EqualSpans
 pub mod ByRules
+pub mod Memos

@@ -40,3 +40,10 @@ with_types boundaries = map (λ (boundary : Boundary). (boundary.offset, type_of
 
 abbrev pub typed_places : {Y C I : Type 0} → WordBreakIteratorWithWordType Y C I → List (ℕ × WordType)
 typed_places iterator = with_types (words_left iterator.words)
+
+-- what an iterator finds boundaries by, and the cursor at the start of its text
+abbrev pub word_finder : {Y C I : Type 0} → WordBreakIterator Y C I → WordRules
+word_finder iterator = word_rules iterator.segmenter
+
+abbrev pub words_source : {Y C I : Type 0} → WordBreakIterator Y C I → I
+words_source iterator = iterator.whole

@@ -1,6 +1,6 @@
 //! Words: the places between which a text's words stand, and which of what stands between two is a word (UAX #29).
 
-ghost use Rattle.std.specs.Prelude.{◌≡◌, length, None, IfOk, IfErr};
+ghost use Rattle.std.specs.Prelude.{◌≡◌, ◌≢◌, length, None, IfOk, IfErr};
 ghost use Rattle.std.specs.Iterator.{YieldsFirst, item_count};
 ghost use Rattle.seg_text.specs.Items.{start_of};
 ghost use Rattle.seg_text.specs.Latin1.{latin1};
@@ -9,6 +9,8 @@ ghost use Rattle.seg_text.specs.Utf16.{utf16};
 ghost use Rattle.seg_text.specs.Boundaries.{IsCover};
 ghost use Rattle.seg_data.specs.Faults.{IsFaultless, IsLowestFault};
 ghost use Rattle.seg_pairs.specs.Overriding.{table_in};
+ghost use Rattle.seg_engine.specs.Rules.{machine_in};
+ghost use Rattle.seg_memo.specs.Memos.{IsMemoRefusal, IsNewMemo};
 ghost use Rattle.seg_dictionary.specs.ScriptWords.{filled, lent_words, no_words, script_words};
 ghost use Rattle.seg_words.specs.WordRules.{is_word_like, machine_words, table_words, type_of, with_words, word_boundaries_of};
 ghost use Rattle.seg_words.specs.Words.{word_rules};
@@ -23,11 +25,14 @@ use seg_dictionary::dictionaries::{Dictionaries, DictionariesBorrowed};
 use seg_engine::engine::{Engine, OwnedEngine};
 use seg_machine::provider::SegmenterStateMachine;
 use seg_machine::tailored_machine::{TailoredMachine, TailoredMachineBorrowed};
+use seg_memo::memo::{MemoBreakIterator, MemoError};
+use seg_memo::reader::CountedTransitions;
 use seg_pairs::pair_data::{PairData, PairDataBorrowed};
 use seg_pairs::provider::{RuleBreakData, RuleBreakDataOverride};
 use seg_text::cursor::Cursor;
 use seg_text::indices::{Latin1Indices, StrCharIndices, Utf8CharIndices, Utf16Indices};
 use seg_text::scaffold::{Latin1, PotentiallyIllFormedUtf8, RuleBreakType, Utf8, Utf16};
+use std::alloc::Global;
 use std::fmt::Debug;
 use std::marker::PhantomData;
 
@@ -87,6 +92,8 @@ fn type_of(status: u8) -> WordType
 #[derive_where(Debug; Y::IterAttr: Debug)]
 pub struct WordBreakIterator<'data, 's, Y: RuleBreakType<'s>> {
     boundaries: Boundaries<'data, Y::IterAttr>,
+    segmenter: WordSegmenterBorrowed<'data>,
+    whole: Y::IterAttr,
     text: PhantomData<&'s ()>,
 }
 
@@ -94,13 +101,15 @@ impl<'data, 's, Y: RuleBreakType<'s>> Drop for WordBreakIterator<'data, 's, Y> {
     fn drop(self) {
         let WordBreakIterator {
             boundaries: _,
+            segmenter: _,
+            whole: _,
             text: _,
         } = self;
     }
 }
 
 impl<'data, 's, Y: RuleBreakType<'s>> WordBreakIterator<'data, 's, Y> {
-    ghost use Rattle.seg_words.specs.Words.{with_types, word_type, words_left, typed_places};
+    ghost use Rattle.seg_words.specs.Words.{with_types, word_finder, word_type, words_left, words_source, typed_places};
 
     /// The type of what ends at the boundary that was given last: that of its status. `None` before the first `next`, at
     /// the text's start and after the end.
@@ -123,13 +132,29 @@ impl<'data, 's, Y: RuleBreakType<'s>> WordBreakIterator<'data, 's, Y> {
     {
         WordBreakIteratorWithWordType { words: self }
     }
+
+    /// The boundaries of the whole text, whatever was given of them, where no configuration of the machine is looked up
+    /// twice. Of several refusals that with the lowest number: `NotNeo` by a pair table, `HasDictionary` where some script has
+    /// one, `TooLarge` where there are more configurations than the greatest `usize`, all without asking for memory. `Memory`
+    /// where there is no other, but the one growth was refused.
+    pub fn with_memo(
+        &self,
+        alloc: Global,
+    ) -> Result<MemoBreakIterator<'data, Y::IterAttr, CountedTransitions<'data>>, MemoError>
+        ensures made { IfOk result (IsNewMemo (machine_in (word_finder self.now).rules) (Y.IterAttr.text (words_source self.now))
+            (word_boundaries_of (word_finder self.now) (Y.IterAttr.text (words_source self.now)))) }
+        ensures refused { IfErr result (IsMemoRefusal (machine_in (word_finder self.now).rules) ((word_finder self.now).payloads.words ≢ no_words) (Y.IterAttr.text (words_source self.now))) }
+    {
+        let text = Y::fork(&self.whole);
+        self.segmenter.payloads.memoised(alloc, self.segmenter.engine, text)
+    }
 }
 
 impl<'data, 's, Y: RuleBreakType<'s>> Iterator for WordBreakIterator<'data, 's, Y> {
     ghost use Rattle.std.specs.Prelude.{⊤};
     ghost use Rattle.std.specs.Iterator.{MakesProgress};
     ghost use Rattle.seg_text.specs.Boundaries.{GivesNext};
-    ghost use Rattle.seg_words.specs.Words.{word_places};
+    ghost use Rattle.seg_words.specs.Words.{word_finder, word_places, words_source};
 
     type Item = usize;
 
@@ -141,6 +166,7 @@ impl<'data, 's, Y: RuleBreakType<'s>> Iterator for WordBreakIterator<'data, 's, 
     fn next(&mut self) -> Option<usize>
         ensures steps { YieldsFirst word_places self.old result self.new × GivesNext self.old.boundaries result self.new.boundaries }
         ensures goes { MakesProgress (λ _. ⊤) (item_count word_places) self.old result self.new }
+        ensures same { (word_finder self.new ≡ word_finder self.old) × (words_source self.new ≡ words_source self.old) }
     {
         self.boundaries.next()
     }
@@ -294,7 +320,7 @@ pub struct WordSegmenterBorrowed<'data> {
 }
 
 impl<'data> WordSegmenterBorrowed<'data> {
-    ghost use Rattle.seg_words.specs.Words.{words_left, word_type};
+    ghost use Rattle.seg_words.specs.Words.{word_finder, words_left, words_source, word_type};
     ghost use Rattle.seg_words.specs.WordFaults.{HasWordTableFault, HasWordMachineFault};
 
     /// A segmenter by a pair table and its override, if there is one; a run of complex characters (those of the class
@@ -373,6 +399,7 @@ impl<'data> WordSegmenterBorrowed<'data> {
     /// The boundaries of the words of a `str`, in bytes: those of its bytes as UTF-8, each with its type. Takes no memory.
     pub fn segment_str<'s>(self, input: &'s str) -> WordBreakIterator<'data, 's, Utf8>
         ensures boundaries { words_left result ≡ word_boundaries_of (word_rules self.entry) (utf8 input.now) }
+        ensures source { (word_finder result ≡ word_rules self.entry) × (words_source result ≡ record { place = 0; units = input.now }) }
         ensures cover { IsCover 0 (length input.now) (words_left result) }
         ensures kind { word_type result ≡ NoWord }
     {
@@ -386,6 +413,7 @@ impl<'data> WordSegmenterBorrowed<'data> {
         input: &'s [u8],
     ) -> WordBreakIterator<'data, 's, PotentiallyIllFormedUtf8>
         ensures boundaries { words_left result ≡ word_boundaries_of (word_rules self.entry) (utf8 input.now) }
+        ensures source { (word_finder result ≡ word_rules self.entry) × (words_source result ≡ record { place = 0; units = input.now }) }
         ensures cover { IsCover 0 (length input.now) (words_left result) }
         ensures kind { word_type result ≡ NoWord }
     {
@@ -395,6 +423,7 @@ impl<'data> WordSegmenterBorrowed<'data> {
     /// The boundaries of the words of Latin-1, in bytes. Takes no memory.
     pub fn segment_latin1<'s>(self, input: &'s [u8]) -> WordBreakIterator<'data, 's, Latin1>
         ensures boundaries { words_left result ≡ word_boundaries_of (word_rules self.entry) (latin1 input.now) }
+        ensures source { (word_finder result ≡ word_rules self.entry) × (words_source result ≡ record { place = 0; units = input.now }) }
         ensures cover { IsCover 0 (length input.now) (words_left result) }
         ensures kind { word_type result ≡ NoWord }
     {
@@ -405,6 +434,7 @@ impl<'data> WordSegmenterBorrowed<'data> {
     /// counts as itself. Takes no memory.
     pub fn segment_utf16<'s>(self, input: &'s [u16]) -> WordBreakIterator<'data, 's, Utf16>
         ensures boundaries { words_left result ≡ word_boundaries_of (word_rules self.entry) (utf16 input.now) }
+        ensures source { (word_finder result ≡ word_rules self.entry) × (words_source result ≡ record { place = 0; units = input.now }) }
         ensures cover { IsCover 0 (length input.now) (words_left result) }
         ensures kind { word_type result ≡ NoWord }
     {
@@ -418,11 +448,14 @@ fn segment<'data, 's, Y: RuleBreakType<'s>>(
     text: Y::IterAttr,
 ) -> WordBreakIterator<'data, 's, Y>
     ensures boundaries { result.boundaries.left ≡ word_boundaries_of (word_rules segmenter.entry) (Y.IterAttr.text text) }
+    ensures source { (word_rules result.segmenter ≡ word_rules segmenter.entry) × (result.whole ≡ text) }
     ensures cover { IsCover (start_of (Y.IterAttr.text text)) (Y.IterAttr.text text).end result.boundaries.left }
     ensures status { result.boundaries.status ≡ 0 }
 {
     WordBreakIterator {
-        boundaries: Boundaries::new(segmenter.engine, segmenter.payloads, text),
+        boundaries: Boundaries::new(segmenter.engine, segmenter.payloads, Y::fork(&text)),
+        segmenter,
+        whole: text,
         text: PhantomData,
     }
 }
