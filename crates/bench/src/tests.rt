@@ -4,6 +4,7 @@ mod laws;
 mod line_dictionaries;
 mod lines;
 mod machines;
+mod memos;
 mod pairs;
 mod sentences;
 mod texts;

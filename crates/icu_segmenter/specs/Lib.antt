@@ -15,6 +15,9 @@ pub use Rattle.seg_machine.specs.Machine
 pub use Rattle.seg_machine.specs.MachineFaults
 pub use Rattle.seg_machine.specs.Pick
 pub use Rattle.seg_machine.specs.Segments
+pub use Rattle.seg_machine.specs.Checked
+pub use Rattle.seg_memo.specs.Configurations
+pub use Rattle.seg_memo.specs.Memos
 pub use Rattle.seg_pairs.specs.BreakStates
 pub use Rattle.seg_pairs.specs.PairTable
 pub use Rattle.seg_pairs.specs.PairFaults

@@ -37,6 +37,16 @@ pub mod iterators {
     pub use seg_words::word::{WordBreakIterator, WordBreakIteratorWithWordType};
 }
 
+/// The boundaries of a text by a machine, where no configuration is looked up twice: what `with_memo` of the iterators gives.
+pub mod memo {
+    pub use seg_memo::memo::{MemoBreakIterator, MemoError};
+}
+
+/// Readers of a machine's transitions, which count what they read.
+pub mod rule_segmenter_v2 {
+    pub use seg_memo::reader::{CountedTransitions, ReadTransitions};
+}
+
 /// The options of segmenters, the language of a text, which is one of them, and the types of words.
 pub mod options {
     pub use seg_clusters::sentence::{SentenceBreakInvariantOptions, SentenceBreakOptions};

@@ -171,6 +171,13 @@ impl<'data> GraphemeClusterSegmenterBorrowed<'data> {
         })
     }
 
+    /// What finds them.
+    pub fn engine(self) -> Engine<'data>
+        ensures { rules_of result ≡ cluster_rules self.entry }
+    {
+        self.engine
+    }
+
     /// The boundaries of the clusters of what is left of a text, as places in its units. Takes no memory.
     pub fn boundaries<I: Cursor>(self, text: I) -> Boundaries<'data, I>
         ensures boundaries { result.left ≡ boundaries_of (cluster_rules self.entry) (I.text text) }

@@ -5,3 +5,4 @@ pub mod JoinCover
 pub mod JoinMembers
 pub mod PlainBoundaries
 pub mod LineLaws
+pub mod Memos

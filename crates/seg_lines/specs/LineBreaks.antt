@@ -1,12 +1,12 @@
 -- The boundaries of lines: those of clusters, those of a pair table, or those of a machine joined with the cuts strictly inside runs.
-use Rattle.std.specs.Prelude.{◌≡◌, List, ℕ, None}
+use Rattle.std.specs.Prelude.{◌≡◌, List, ℕ, Option, Some, None}
 use Rattle.seg_text.specs.declared.boundary.Boundary.{Boundary}
 use Rattle.seg_text.specs.Items.{Text}
 use Rattle.seg_text.specs.Boundaries.{boundaries_in, offsets}
 use Rattle.seg_text.specs.Stretches.{AreBoundaries, AreLaterBoundaries, Stretch, list_boundaries}
 use Rattle.seg_machine.specs.Machine.{Machine}
 use Rattle.seg_machine.specs.Segments.{machine_stretch}
-use Rattle.seg_engine.specs.Rules.{boundaries_by, first_stretch}
+use Rattle.seg_engine.specs.Rules.{boundaries_by, first_stretch, machine_in}
 use Rattle.seg_engine.specs.Rules.Rules.{ByMachine as ByClusterMachine, ByTable as ByClusterTable}
 use Rattle.seg_pairs.specs.PairTable.{PairTable}
 use Rattle.seg_text.specs.Cuts.{with_status}
@@ -56,6 +56,16 @@ machine_lines m clusters words = record { finder = ByMachine m; payloads = recor
 -- the same with other words of scripts
 abbrev pub with_words : LineRules → ScriptWords → LineRules
 with_words rules words = record { finder = rules.finder; payloads = record { words = words; clusters = rules.payloads.clusters } }
+
+-- the machine that finds the breaks, if one does: that of clusters, or that of lines
+abbrev pub machine_in_finder : LineFinder → Payloads → Option Machine
+machine_in_finder ByClusters payloads = machine_in payloads.clusters
+machine_in_finder ByPlaces payloads = None
+machine_in_finder (ByTable rules) payloads = None
+machine_in_finder (ByMachine m) payloads = Some m
+
+abbrev pub machine_of_lines : LineRules → Option Machine
+machine_of_lines rules = machine_in_finder rules.finder rules.payloads
 
 abbrev pub boundaries_with : LineFinder → Payloads → List ℕ → List Boundary
 boundaries_with ByClusters payloads code_points = boundaries_by payloads.clusters code_points

@@ -91,3 +91,10 @@ line_places iterator = offsets (lines_left iterator)
 -- is the boundary that was given last mandatory: a break is where its status is 1
 abbrev pub is_mandatory : {Y C I : Type 0} → LineBreakIterator Y C I → Bool
 is_mandatory iterator = iterator.boundaries.status == 1
+
+-- what an iterator finds boundaries by, and the cursor at the start of its text
+abbrev pub line_finder : {Y C I : Type 0} → LineBreakIterator Y C I → LineRules
+line_finder iterator = line_rules iterator.segmenter
+
+abbrev pub lines_source : {Y C I : Type 0} → LineBreakIterator Y C I → I
+lines_source iterator = iterator.whole

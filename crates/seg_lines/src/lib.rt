@@ -6,6 +6,7 @@ mod finder;
 mod joined;
 pub mod laws;
 pub mod line;
+mod memo;
 mod neo_lines;
 pub mod provider;
 mod unmarked;

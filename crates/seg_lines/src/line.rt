@@ -1,5 +1,5 @@
 //! Lines: where a text may be broken into lines, and where it must be.
-ghost use Rattle.std.specs.Prelude.{◌≡◌, false, length, IfOk, IfErr};
+ghost use Rattle.std.specs.Prelude.{◌≡◌, ◌≢◌, false, length, IfOk, IfErr};
 ghost use Rattle.std.specs.Iterator.{YieldsFirst, item_count};
 ghost use Rattle.seg_text.specs.Items.{start_of};
 ghost use Rattle.seg_text.specs.Boundaries.{IsCover};
@@ -7,10 +7,11 @@ ghost use Rattle.seg_text.specs.Latin1.{latin1};
 ghost use Rattle.seg_text.specs.Utf8.{utf8};
 ghost use Rattle.seg_text.specs.Utf16.{utf16};
 ghost use Rattle.seg_data.specs.Faults.{IsFaultless, IsLowestFault};
+ghost use Rattle.seg_memo.specs.Memos.{IsMemoRefusal, IsNewMemo};
 ghost use Rattle.seg_dictionary.specs.ScriptWords.{filled, lent_words, no_words, script_words};
 ghost use Rattle.seg_line_rules.specs.LineFaults.{HasLineTableFault};
 ghost use Rattle.seg_line_rules.specs.LineStyles.{style_of};
-ghost use Rattle.seg_lines.specs.LineBreaks.{line_boundaries_of, table_lines, with_words};
+ghost use Rattle.seg_lines.specs.LineBreaks.{line_boundaries_of, machine_of_lines, table_lines, with_words};
 ghost use Rattle.seg_lines.specs.Lines.{line_rules};
 ghost use Rattle.seg_lines.specs.Options.{machine_choice};
 
@@ -23,6 +24,7 @@ mod tests;
 
 use crate::boundaries::Boundaries;
 use crate::finder::{Finder, OwnedFinder};
+use crate::memo::memoised;
 use crate::provider::{LineTailorings, LineTailoringsBorrowed};
 use dictionaries::{lent_without_ja, without_ja};
 use neo::{lent_line_machine, owned_line_machine};
@@ -35,10 +37,13 @@ use seg_dictionary::dictionaries::{Dictionaries, DictionariesBorrowed};
 use seg_line_rules::line_pairs::{LinePairs, OwnedLinePairs};
 use seg_line_rules::options::LineStyle;
 use seg_machine::provider::SegmenterStateMachine;
+use seg_memo::memo::{MemoBreakIterator, MemoError};
+use seg_memo::reader::CountedTransitions;
 use seg_pairs::provider::RuleBreakData;
 use seg_text::cursor::Cursor;
 use seg_text::indices::{Latin1Indices, StrCharIndices, Utf8CharIndices, Utf16Indices};
 use seg_text::scaffold::{Latin1, PotentiallyIllFormedUtf8, RuleBreakType, Utf8, Utf16};
+use std::alloc::Global;
 use std::fmt::Debug;
 use std::marker::PhantomData;
 
@@ -49,6 +54,8 @@ use std::marker::PhantomData;
 #[derive_where(Debug; Y::IterAttr: Debug)]
 pub struct LineBreakIterator<'data, 's, Y: RuleBreakType<'s>> {
     boundaries: Boundaries<'data, Y::IterAttr>,
+    segmenter: LineSegmenterBorrowed<'data>,
+    whole: Y::IterAttr,
     text: PhantomData<&'s ()>,
 }
 
@@ -56,13 +63,15 @@ impl<'data, 's, Y: RuleBreakType<'s>> Drop for LineBreakIterator<'data, 's, Y> {
     fn drop(self) {
         let LineBreakIterator {
             boundaries: _,
+            segmenter: _,
+            whole: _,
             text: _,
         } = self;
     }
 }
 
 impl<'data, 's, Y: RuleBreakType<'s>> LineBreakIterator<'data, 's, Y> {
-    ghost use Rattle.seg_lines.specs.Lines.{is_mandatory};
+    ghost use Rattle.seg_lines.specs.Lines.{is_mandatory, line_finder, lines_source};
 
     /// Whether the line must be broken at the boundary that was given last: the status of that
     /// boundary is 1. False before the first `next`, at 0 and after None.
@@ -71,13 +80,30 @@ impl<'data, 's, Y: RuleBreakType<'s>> LineBreakIterator<'data, 's, Y> {
     {
         self.boundaries.status() == 1
     }
+
+    /// The boundaries of the whole text, whatever was given of them, where no configuration of the machine is looked up
+    /// twice: that of lines, or, by `Anywhere`, that of clusters. Of several refusals that with the lowest number: `NotNeo` by a
+    /// pair table, `HasDictionary` where some script has one, by `Anywhere` too, `TooLarge` where there are more
+    /// configurations than the greatest `usize`, all without asking for memory. `Memory` where there is no other, but the
+    /// one growth was refused.
+    pub fn with_memo(
+        &self,
+        alloc: Global,
+    ) -> Result<MemoBreakIterator<'data, Y::IterAttr, CountedTransitions<'data>>, MemoError>
+        ensures made { IfOk result (IsNewMemo (machine_of_lines (line_finder self.now)) (Y.IterAttr.text (lines_source self.now))
+            (line_boundaries_of (line_finder self.now) (Y.IterAttr.text (lines_source self.now)))) }
+        ensures refused { IfErr result (IsMemoRefusal (machine_of_lines (line_finder self.now)) ((line_finder self.now).payloads.words ≢ no_words) (Y.IterAttr.text (lines_source self.now))) }
+    {
+        let text = Y::fork(&self.whole);
+        memoised(alloc, self.segmenter.finder, self.segmenter.payloads, text)
+    }
 }
 
 impl<'data, 's, Y: RuleBreakType<'s>> Iterator for LineBreakIterator<'data, 's, Y> {
     ghost use Rattle.std.specs.Prelude.{⊤};
     ghost use Rattle.std.specs.Iterator.{MakesProgress};
     ghost use Rattle.seg_text.specs.Boundaries.{GivesNext};
-    ghost use Rattle.seg_lines.specs.Lines.{line_places};
+    ghost use Rattle.seg_lines.specs.Lines.{line_finder, line_places, lines_source};
 
     type Item = usize;
 
@@ -89,6 +115,7 @@ impl<'data, 's, Y: RuleBreakType<'s>> Iterator for LineBreakIterator<'data, 's, 
     fn next(&mut self) -> Option<usize>
         ensures steps { YieldsFirst line_places self.old result self.new × GivesNext self.old.boundaries result self.new.boundaries }
         ensures goes { MakesProgress (λ _. ⊤) (item_count line_places) self.old result self.new }
+        ensures same { (line_finder self.new ≡ line_finder self.old) × (lines_source self.new ≡ lines_source self.old) }
     {
         self.boundaries.next()
     }
@@ -214,7 +241,7 @@ pub struct LineSegmenterBorrowed<'data> {
 }
 
 impl<'data> LineSegmenterBorrowed<'data> {
-    ghost use Rattle.seg_lines.specs.Lines.{lines_left, is_mandatory, chosen_rules, without_ja, HasLineFault};
+    ghost use Rattle.seg_lines.specs.Lines.{line_finder, lines_left, lines_source, is_mandatory, chosen_rules, without_ja, HasLineFault};
     ghost use Rattle.seg_lines.specs.LineTailorings.{lent_tailorings};
 
     /// A segmenter by a pair table of lines, or, where the strictness is `Anywhere`, by that of clusters alone, and then no
@@ -301,6 +328,7 @@ impl<'data> LineSegmenterBorrowed<'data> {
     /// The boundaries of the lines of a `str`, in bytes: those of its bytes as UTF-8, each with whether it is mandatory. Takes no memory.
     pub fn segment_str<'s>(self, input: &'s str) -> LineBreakIterator<'data, 's, Utf8>
         ensures boundaries { lines_left result ≡ line_boundaries_of (line_rules self.entry) (utf8 input.now) }
+        ensures source { (line_finder result ≡ line_rules self.entry) × (lines_source result ≡ record { place = 0; units = input.now }) }
         ensures cover { IsCover 0 (length input.now) (lines_left result) }
         ensures mark { is_mandatory result ≡ false }
     {
@@ -314,6 +342,7 @@ impl<'data> LineSegmenterBorrowed<'data> {
         input: &'s [u8],
     ) -> LineBreakIterator<'data, 's, PotentiallyIllFormedUtf8>
         ensures boundaries { lines_left result ≡ line_boundaries_of (line_rules self.entry) (utf8 input.now) }
+        ensures source { (line_finder result ≡ line_rules self.entry) × (lines_source result ≡ record { place = 0; units = input.now }) }
         ensures cover { IsCover 0 (length input.now) (lines_left result) }
         ensures mark { is_mandatory result ≡ false }
     {
@@ -323,6 +352,7 @@ impl<'data> LineSegmenterBorrowed<'data> {
     /// The boundaries of the lines of Latin-1, in bytes. Takes no memory.
     pub fn segment_latin1<'s>(self, input: &'s [u8]) -> LineBreakIterator<'data, 's, Latin1>
         ensures boundaries { lines_left result ≡ line_boundaries_of (line_rules self.entry) (latin1 input.now) }
+        ensures source { (line_finder result ≡ line_rules self.entry) × (lines_source result ≡ record { place = 0; units = input.now }) }
         ensures cover { IsCover 0 (length input.now) (lines_left result) }
         ensures mark { is_mandatory result ≡ false }
     {
@@ -333,6 +363,7 @@ impl<'data> LineSegmenterBorrowed<'data> {
     /// counts as itself. Takes no memory.
     pub fn segment_utf16<'s>(self, input: &'s [u16]) -> LineBreakIterator<'data, 's, Utf16>
         ensures boundaries { lines_left result ≡ line_boundaries_of (line_rules self.entry) (utf16 input.now) }
+        ensures source { (line_finder result ≡ line_rules self.entry) × (lines_source result ≡ record { place = 0; units = input.now }) }
         ensures cover { IsCover 0 (length input.now) (lines_left result) }
         ensures mark { is_mandatory result ≡ false }
     {
@@ -346,11 +377,14 @@ fn segment<'data, 's, Y: RuleBreakType<'s>>(
     text: Y::IterAttr,
 ) -> LineBreakIterator<'data, 's, Y>
     ensures boundaries { result.boundaries.left ≡ line_boundaries_of (line_rules segmenter.entry) (Y.IterAttr.text text) }
+    ensures source { (line_rules result.segmenter ≡ line_rules segmenter.entry) × (result.whole ≡ text) }
     ensures cover { IsCover (start_of (Y.IterAttr.text text)) (Y.IterAttr.text text).end result.boundaries.left }
     ensures status { result.boundaries.status ≡ 0 }
 {
     LineBreakIterator {
-        boundaries: Boundaries::new(segmenter.finder, segmenter.payloads, text),
+        boundaries: Boundaries::new(segmenter.finder, segmenter.payloads, Y::fork(&text)),
+        segmenter,
+        whole: text,
         text: PhantomData,
     }
 }

@@ -14,7 +14,7 @@ use std::process::Abort;
 use std::test::Fail;
 
 /// The bench segmenter of lines with these options and the bench dictionaries.
-fn segmenter_of(
+pub(super) fn segmenter_of(
     alloc: Global,
     strictness: Option<LineBreakStrictness>,
     word_option: Option<LineBreakWordOption>,

@@ -97,7 +97,7 @@ fn classic(alloc: Global) -> Result<WordSegmenter, Fail> {
     )?)
 }
 
-fn neo(alloc: Global) -> Result<WordSegmenter, Fail> {
+pub(super) fn neo(alloc: Global) -> Result<WordSegmenter, Fail> {
     Ok(WordSegmenter::try_new_neo_for_non_complex_scripts(
         word_machine(alloc)?,
         cluster_table(alloc)?,
