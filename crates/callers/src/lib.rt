@@ -4,6 +4,7 @@
 pub mod clusters;
 pub mod data;
 pub mod lines;
+pub mod memo;
 pub mod sentences;
 #[cfg(test)]
 mod tests;

@@ -2,6 +2,7 @@
 use crate::clusters::cluster_places;
 use crate::data::{runs_by_machine, runs_by_table};
 use crate::lines::{breakall_segmenter, filled_lines, mandatory_breaks};
+use crate::memo::cluster_look_ups;
 use crate::sentences::sentence_boundary_count;
 use crate::words::{tokens, word_count};
 use bench::clusters::cluster_machine;
@@ -28,6 +29,7 @@ fn finds_clusters(rt: HostRuntime) -> Result<(), Fail> {
         cluster_places(alloc, clusters, "e\u{301}a")?.as_slice(),
         [0, 3, 4].as_slice()
     );
+    assert_eq!(rt; cluster_look_ups(alloc, clusters, "ab")?, 4);
     let units: Vec<usize> = clusters.segment_utf16(&[0x65, 0x301, 0x61]).collect(alloc)?;
     assert_eq!(rt; units.as_slice(), [0, 2, 3].as_slice());
     Ok(())

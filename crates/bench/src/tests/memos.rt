@@ -48,16 +48,28 @@ fn clusters_are_memoised_from_the_start(rt: HostRuntime) -> Result<(), Fail> {
 }
 
 #[test]
-fn other_boundaries_are_memoised(rt: HostRuntime) -> Result<(), Fail> {
+fn sentences_are_memoised(rt: HostRuntime) -> Result<(), Fail> {
     let alloc = rt.alloc();
     let machine = sentence_machine(alloc)?;
     let options = SentenceBreakInvariantOptions::default();
     let sentences = SentenceSegmenterBorrowed::new_neo(&machine, None, options)?;
     let memo = sentences.segment_str("a").with_memo(alloc)?;
     expect_memo(&rt, memo, &[(0, 0, 0), (1, 0, 2)]);
+    Ok(())
+}
+
+#[test]
+fn words_are_memoised(rt: HostRuntime) -> Result<(), Fail> {
+    let alloc = rt.alloc();
     let words = neo(alloc)?;
     let memo = words.as_borrowed().segment_str("a").with_memo(alloc)?;
     expect_memo(&rt, memo, &[(0, 0, 0), (1, 2, 2)]);
+    Ok(())
+}
+
+#[test]
+fn lines_are_memoised(rt: HostRuntime) -> Result<(), Fail> {
+    let alloc = rt.alloc();
     let lines = bench_segmenter(alloc, LineBreakOptions::default())??;
     let memo = lines.as_borrowed().segment_str("a").with_memo(alloc)?;
     expect_memo(&rt, memo, &[(0, 0, 0), (1, 1, 3)]);
