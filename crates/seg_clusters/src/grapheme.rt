@@ -83,9 +83,9 @@ impl<'data, 's, Y: RuleBreakType<'s>> Iterator for GraphemeClusterBreakIterator<
 
     #[inline(always)]
     fn next(&mut self) -> Option<usize>
-        ensures steps { YieldsFirst clusters_places self.old result self.new }
+        ensures steps { YieldsFirst clusters_places self.old result self.new
+            × (cluster_finder self.new ≡ cluster_finder self.old) × (clusters_source self.new ≡ clusters_source self.old) }
         ensures goes { MakesProgress (λ _. ⊤) (item_count clusters_places) self.old result self.new }
-        ensures same { (cluster_finder self.new ≡ cluster_finder self.old) × (clusters_source self.new ≡ clusters_source self.old) }
     {
         self.boundaries.next()
     }

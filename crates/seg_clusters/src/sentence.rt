@@ -101,9 +101,9 @@ impl<'data, 's, Y: RuleBreakType<'s>> Iterator for SentenceBreakIterator<'data, 
 
     #[inline(always)]
     fn next(&mut self) -> Option<usize>
-        ensures steps { YieldsFirst sentences_places self.old result self.new }
+        ensures steps { YieldsFirst sentences_places self.old result self.new
+            × (sentence_finder self.new ≡ sentence_finder self.old) × (sentences_source self.new ≡ sentences_source self.old) }
         ensures goes { MakesProgress (λ _. ⊤) (item_count sentences_places) self.old result self.new }
-        ensures same { (sentence_finder self.new ≡ sentence_finder self.old) × (sentences_source self.new ≡ sentences_source self.old) }
     {
         self.boundaries.next()
     }

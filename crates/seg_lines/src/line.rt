@@ -90,6 +90,7 @@ impl<'data, 's, Y: RuleBreakType<'s>> LineBreakIterator<'data, 's, Y> {
         &self,
         alloc: Global,
     ) -> Result<MemoBreakIterator<'data, Y::IterAttr, CountedTransitions<'data>>, MemoError>
+        ensures words { IfOk result (λ _. (line_finder self.now).payloads.words ≡ no_words) }
         ensures made { IfOk result (IsNewMemo (machine_of_lines (line_finder self.now)) (Y.IterAttr.text (lines_source self.now))
             (line_boundaries_of (line_finder self.now) (Y.IterAttr.text (lines_source self.now)))) }
         ensures refused { IfErr result (IsMemoRefusal (machine_of_lines (line_finder self.now)) ((line_finder self.now).payloads.words ≢ no_words) (Y.IterAttr.text (lines_source self.now))) }
@@ -113,9 +114,9 @@ impl<'data, 's, Y: RuleBreakType<'s>> Iterator for LineBreakIterator<'data, 's, 
 
     #[inline(always)]
     fn next(&mut self) -> Option<usize>
-        ensures steps { YieldsFirst line_places self.old result self.new × GivesNext self.old.boundaries result self.new.boundaries }
+        ensures steps { YieldsFirst line_places self.old result self.new × GivesNext self.old.boundaries result self.new.boundaries
+            × (line_finder self.new ≡ line_finder self.old) × (lines_source self.new ≡ lines_source self.old) }
         ensures goes { MakesProgress (λ _. ⊤) (item_count line_places) self.old result self.new }
-        ensures same { (line_finder self.new ≡ line_finder self.old) × (lines_source self.new ≡ lines_source self.old) }
     {
         self.boundaries.next()
     }

@@ -1,6 +1,6 @@
 //! The boundaries of lines where no configuration of a machine is looked up twice.
 
-ghost use Rattle.std.specs.Prelude.{◌≢◌, IfOk, IfErr};
+ghost use Rattle.std.specs.Prelude.{◌≡◌, ◌≢◌, IfOk, IfErr};
 ghost use Rattle.seg_text.specs.Boundaries.{boundaries_in};
 ghost use Rattle.seg_memo.specs.Memos.{IsMemoRefusal, IsNewMemo};
 ghost use Rattle.seg_dictionary.specs.ScriptWords.{no_words};
@@ -23,6 +23,7 @@ pub(crate) fn memoised<'data, I: Cursor>(
     payloads: ComplexPayloadsBorrowed<'data>,
     text: I,
 ) -> Result<MemoBreakIterator<'data, I, CountedTransitions<'data>>, MemoError>
+    ensures words { IfOk result (λ _. (payloads_of payloads.entry).words ≡ no_words) }
     ensures made { IfOk result (IsNewMemo (machine_in_finder (finder_of finder.entry) (payloads_of payloads.entry)) (I.text text)
         (boundaries_in (boundaries_with (finder_of finder.entry) (payloads_of payloads.entry)) (I.text text))) }
     ensures refused { IfErr result (IsMemoRefusal (machine_in_finder (finder_of finder.entry) (payloads_of payloads.entry)) ((payloads_of payloads.entry).words ≢ no_words) (I.text text)) }

@@ -191,14 +191,9 @@ impl<'data, I: Cursor> MemoBreakIterator<'data, I, CountedTransitions<'data>> {
     }
 }
 
-impl<'data, I: Cursor, R: ReadTransitions> Iterator for MemoBreakIterator<'data, I, R> {
-    type Item = usize;
-
-    ghost next_gives = { YieldsFirst memo_places };
-
-    ghost remaining = { item_count memo_places };
-
-    fn next(&mut self) -> Option<usize>
+impl<'data, I: Cursor, R: ReadTransitions> MemoBreakIterator<'data, I, R> {
+    /// The next boundary: the start of the text, and then the end of the next segment.
+    fn next_boundary(&mut self) -> Option<usize>
         ensures steps { YieldsFirst memo_places self.old result self.new × GivesNext self.old.coming result self.new.coming }
         ensures goes { MakesProgress (λ _. ⊤) (item_count memo_places) self.old result self.new }
         ensures same { (self.new.machine ≡ self.old.machine) × (self.new.text ≡ self.old.text) }
@@ -222,5 +217,21 @@ impl<'data, I: Cursor, R: ReadTransitions> Iterator for MemoBreakIterator<'data,
         self.place = found.offset;
         self.status = found.status;
         Some(self.rest.place())
+    }
+}
+
+impl<'data, I: Cursor, R: ReadTransitions> Iterator for MemoBreakIterator<'data, I, R> {
+    type Item = usize;
+
+    ghost next_gives = { YieldsFirst memo_places };
+
+    ghost remaining = { item_count memo_places };
+
+    fn next(&mut self) -> Option<usize>
+        ensures steps { YieldsFirst memo_places self.old result self.new × GivesNext self.old.coming result self.new.coming
+            × (self.new.machine ≡ self.old.machine) × (self.new.text ≡ self.old.text) }
+        ensures goes { MakesProgress (λ _. ⊤) (item_count memo_places) self.old result self.new }
+    {
+        self.next_boundary()
     }
 }

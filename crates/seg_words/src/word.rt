@@ -141,6 +141,7 @@ impl<'data, 's, Y: RuleBreakType<'s>> WordBreakIterator<'data, 's, Y> {
         &self,
         alloc: Global,
     ) -> Result<MemoBreakIterator<'data, Y::IterAttr, CountedTransitions<'data>>, MemoError>
+        ensures words { IfOk result (λ _. (word_finder self.now).payloads.words ≡ no_words) }
         ensures made { IfOk result (IsNewMemo (machine_in (word_finder self.now).rules) (Y.IterAttr.text (words_source self.now))
             (word_boundaries_of (word_finder self.now) (Y.IterAttr.text (words_source self.now)))) }
         ensures refused { IfErr result (IsMemoRefusal (machine_in (word_finder self.now).rules) ((word_finder self.now).payloads.words ≢ no_words) (Y.IterAttr.text (words_source self.now))) }
@@ -164,9 +165,9 @@ impl<'data, 's, Y: RuleBreakType<'s>> Iterator for WordBreakIterator<'data, 's, 
 
     #[inline(always)]
     fn next(&mut self) -> Option<usize>
-        ensures steps { YieldsFirst word_places self.old result self.new × GivesNext self.old.boundaries result self.new.boundaries }
+        ensures steps { YieldsFirst word_places self.old result self.new × GivesNext self.old.boundaries result self.new.boundaries
+            × (word_finder self.new ≡ word_finder self.old) × (words_source self.new ≡ words_source self.old) }
         ensures goes { MakesProgress (λ _. ⊤) (item_count word_places) self.old result self.new }
-        ensures same { (word_finder self.new ≡ word_finder self.old) × (words_source self.new ≡ words_source self.old) }
     {
         self.boundaries.next()
     }

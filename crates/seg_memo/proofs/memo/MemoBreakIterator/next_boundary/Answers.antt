@@ -4,7 +4,7 @@ use Rattle.seg_machine.specs.Tailored.{machine_of}
 use Rattle.seg_machine.proofs.Engine.{not_at_end}
 use Rattle.seg_memo.specs.Configurations.{reading}
 use Rattle.seg_memo.proofs.Memoised.{end-none, memo-next, rest-at}
-use Rattle.seg_memo.proofs.memo.MemoBreakIteratorIterator.next.Goals as goal
+use Rattle.seg_memo.proofs.memo.MemoBreakIterator.next_boundary.Goals as goal
 
 pub returns-then-is_at_end-clause-steps : goal.returns-then-is_at_end-clause-steps
 returns-then-is_at_end-clause-steps g c =
