@@ -21,6 +21,6 @@ pub fn cluster_look_ups(
         × (count ≤ configurations m (length (utf8 text.now).items))) }
 {
     let mut memo = segmenter.segment_str(text).with_memo(alloc)?;
-    while let Some(_place) = memo.next() {}
+    'clusters: while memo.next().is_some() {}
     Ok(memo.lookups())
 }
