@@ -4,4 +4,5 @@ pub mod Joins
 pub mod JoinCover
 pub mod JoinMembers
 pub mod PlainBoundaries
+pub mod NoMandatoryBreak
 pub mod LineLaws
