@@ -4,5 +4,6 @@ pub mod Joins
 pub mod JoinCover
 pub mod JoinMembers
 pub mod PlainBoundaries
+pub mod NoMandatoryBreak
 pub mod LineLaws
 pub mod Memos

@@ -7,3 +7,4 @@ pub mod First
 pub mod JoinedLeft
 pub mod LineBreaks
 pub mod LineRemainders
+pub mod Unmarked

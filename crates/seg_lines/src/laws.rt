@@ -8,6 +8,7 @@ ghost use Rattle.seg_line_rules.specs.MarkLaw.{KeepsMarks};
 ghost use Rattle.seg_lines.specs.LineBreaks.LineFinder.{ByTable};
 ghost use Rattle.seg_lines.specs.LineBreaks.{HasNoCuts, HasOneList, LineRules, line_boundaries_by, with_words};
 ghost use Rattle.seg_lines.specs.Lines.{line_rules};
+ghost use Rattle.seg_lines.specs.Unmarked.{HasNoMandatoryBreak, IsByPairTable};
 
 use crate::finder::Finder;
 use crate::line::LineSegmenterBorrowed;
@@ -46,6 +47,14 @@ pub fn equal_words()
 pub fn restart(segmenter: LineSegmenterBorrowed<'_>)
     ensures { (code_points : List ℕ) → HasNoCuts (line_rules segmenter.entry).finder (line_rules segmenter.entry).payloads.words code_points
         → RestartsIn (line_boundaries_by (line_rules segmenter.entry)) code_points }
+{
+    let _ = segmenter;
+}
+
+/// Law: by a pair table no break is mandatory: the status of each boundary of every list of code points is 0.
+pub fn no_mandatory_break(segmenter: LineSegmenterBorrowed<'_>)
+    ensures { IsByPairTable (line_rules segmenter.entry).finder → (code_points : List ℕ)
+        → HasNoMandatoryBreak (line_boundaries_by (line_rules segmenter.entry) code_points) }
 {
     let _ = segmenter;
 }

@@ -1,0 +1,75 @@
+-- Lines by a pair table have no mandatory break: each stretch has boundaries of status 0 alone.
+use Rattle.std.proofs.Common.{◌≡◌, ℕ, zero, suc, List, [], ◌∷◌, ◌++◌, drop, length, refl, sym, ap, ◌∙◌}
+use Rattle.std.specs.Prelude.{Option, Some, slice_get}
+use Rattle.std.proofs.lemmas.Option.{none-some, same_Some}
+use Rattle.seg_text.specs.declared.boundary.Boundary.{Boundary}
+use Rattle.seg_text.specs.Boundaries.{shift_all, offsets}
+use Rattle.seg_text.specs.Cuts.{Cuts, with_status}
+use Rattle.seg_text.specs.Stretches.{Stretch, later_boundaries, later_boundaries_within}
+use Rattle.seg_pairs.specs.Verdict.{Verdict}
+use Rattle.seg_pairs.specs.Verdict.Verdict.{BreakAfter, GoAfter, RunBegins}
+use Rattle.seg_engine.specs.Rules.{boundaries_by}
+use Rattle.seg_complex.specs.Payloads.{Payloads, run_cuts_by}
+use Rattle.seg_line_rules.specs.LineBoundaries.{inside, complex_length, line_stretch, line_stretch_of, line_verdict}
+use Rattle.seg_line_rules.specs.LineRules.{LineRules as TableRules}
+use Rattle.seg_lines.specs.LineBreaks.{LineFinder, boundaries_with}
+use Rattle.seg_lines.specs.LineBreaks.LineFinder.{ByClusters, ByPlaces, ByTable, ByMachine}
+use Rattle.seg_lines.specs.Unmarked.{HasNoMandatoryBreak, IsByPairTable}
+
+AreUnmarked : List Boundary → Type 0
+AreUnmarked [] = Unit {0}
+AreUnmarked (one ∷ found) = (one.status ≡ 0) × AreUnmarked found
+
+unmarked-each : (found : List Boundary) → AreUnmarked found → HasNoMandatoryBreak found
+unfolding AreUnmarked
+unmarked-each [] are k one is = absurd (none-some one is)
+unmarked-each (first ∷ found) are zero one is = sym (ap (λ (b : Boundary). b.status) (same_Some _ _ is)) ∙ are.0
+unmarked-each (first ∷ found) are (suc k) one is = unmarked-each found are.1 k one is
+
+unmarked-at : (places : List ℕ) → AreUnmarked (with_status 0 places)
+unfolding AreUnmarked
+unmarked-at [] = tt
+unmarked-at (place ∷ places) = (refl, unmarked-at places)
+
+unmarked-later : (before : ℕ) (found : List Boundary) → AreUnmarked found → AreUnmarked (shift_all before found)
+unfolding AreUnmarked
+unmarked-later before [] are = tt
+unmarked-later before (one ∷ found) are = (are.0, unmarked-later before found are.1)
+
+unmarked-both : (found others : List Boundary) → AreUnmarked found → AreUnmarked others → AreUnmarked (found ++ others)
+unfolding AreUnmarked
+unmarked-both [] others are too = too
+unmarked-both (one ∷ found) others are too = (are.0, unmarked-both found others are.1 too)
+
+module _ (first : List ℕ → Stretch) (unmarked : (code_points : List ℕ) → AreUnmarked (first code_points).boundaries) where
+  within : (most : ℕ) (code_points : List ℕ) → AreUnmarked (later_boundaries_within first most code_points)
+  unfolding later_boundaries_within AreUnmarked
+  within zero code_points = tt
+  within (suc most) [] = tt
+  within (suc most) (c ∷ code_points) =
+      let stretch = first (c ∷ code_points) in
+      let rest = drop stretch.extent (c ∷ code_points) in
+      unmarked-both stretch.boundaries (shift_all stretch.extent (later_boundaries_within first most rest)) (unmarked (c ∷ code_points))
+      (unmarked-later stretch.extent (later_boundaries_within first most rest) (within most rest))
+
+  later : (code_points : List ℕ) → AreUnmarked (later_boundaries first code_points)
+  unfolding later_boundaries
+  later code_points = within (length code_points) code_points
+
+by-verdict : (cuts : Cuts) (rules : TableRules) (code_points : List ℕ) (verdict : Verdict) → AreUnmarked (line_stretch_of cuts rules code_points verdict).boundaries
+unfolding AreUnmarked
+by-verdict cuts rules code_points (BreakAfter taken class) = (refl, tt)
+by-verdict cuts rules code_points (GoAfter taken) = tt
+by-verdict cuts rules code_points RunBegins = unmarked-at _
+
+in-lines : (cuts : Cuts) (rules : TableRules) (code_points : List ℕ) → AreUnmarked (later_boundaries (line_stretch cuts rules) code_points)
+in-lines cuts rules = later (line_stretch cuts rules) (λ code_points. by-verdict cuts rules code_points (line_verdict rules code_points))
+
+pub no-mandatory : (finder : LineFinder) (payloads : Payloads) → IsByPairTable finder → (code_points : List ℕ) → HasNoMandatoryBreak (boundaries_with finder payloads code_points)
+unfolding AreUnmarked
+no-mandatory ByClusters payloads by code_points = absurd by
+no-mandatory (ByMachine m) payloads by code_points = absurd by
+no-mandatory ByPlaces payloads by code_points =
+    unmarked-each (boundaries_with ByPlaces payloads code_points) (unmarked-at (offsets (boundaries_by payloads.clusters code_points)))
+no-mandatory (ByTable rules) payloads by code_points =
+    unmarked-each (boundaries_with (ByTable rules) payloads code_points) (refl, in-lines (inside (run_cuts_by payloads)) rules code_points)
