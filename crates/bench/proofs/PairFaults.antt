@@ -15,7 +15,7 @@ use Rattle.seg_pairs.specs.PairTable.{PairTable, entry_of}
 use Rattle.bench.specs.PairTables.{cluster_table, sentence_table, word_table}
 use Rattle.bench.proofs.Faultless.{any-refuted}
 
-names_below : ℕ → BreakState → Bool
+unfoldable pub names_below : ℕ → BreakState → Bool
 names_below count (Index state) = nat_lt state count
 names_below count (Intermediate state) = nat_lt state count
 names_below count Break = true
@@ -45,17 +45,20 @@ is_no_keep Keep keeps passed = cc
 is_no_keep (Index state) keeps passed = cc
 is_no_keep (Intermediate state) keeps passed = cc
 
--- what the tests of a table's parts, and of its row for the text's start, say
-record Passes (t : PairTable) : Type 0 where
-  some : nat_lt 0 t.property_count ≡ true
-  square : length t.break_state_table ≡ t.property_count * t.property_count
-  classes : list_all (λ class. nat_lt class t.property_count) (named_values t.property_table) ≡ true
-  sot : nat_lt t.sot_property t.property_count ≡ true
-  eot : nat_lt t.eot_property t.property_count ≡ true
-  states : list_all (names_below t.property_count) t.break_state_table ≡ true
-  starts : list_all (λ class. is_apart (entry_of t t.sot_property class)) (named_values t.property_table) ≡ true
+-- what the tests of a table's parts say
+pub record Passes (t : PairTable) : Type 0 where
+  pub some : nat_lt 0 t.property_count ≡ true
+  pub square : length t.break_state_table ≡ t.property_count * t.property_count
+  pub classes : list_all (λ class. nat_lt class t.property_count) (named_values t.property_table) ≡ true
+  pub sot : nat_lt t.sot_property t.property_count ≡ true
+  pub eot : nat_lt t.eot_property t.property_count ≡ true
+  pub states : list_all (names_below t.property_count) t.break_state_table ≡ true
 
-faultless : (t : PairTable) → Passes t → IsFaultless (HasPairFault t)
+-- .. and that of its row for the text's start
+abbrev StartsApart : PairTable → Type 0
+StartsApart t = list_all (λ class. is_apart (entry_of t t.sot_property class)) (named_values t.property_table) ≡ true
+
+pub faultless : (t : PairTable) → Passes t → IsFaultless (HasPairFault t)
 faultless t passes TableSize (inl none) = let some = passes.some in grind (arith, nat_tests)
 faultless t passes TableSize (inr other) = other passes.square
 faultless t passes ClassOutOfRange any =
@@ -81,58 +84,70 @@ faultless t passes EndCycle has = has
 faultless t passes Stalls has = has
 faultless t passes MissingTailoring has = has
 
-starts-no_keep : (t : PairTable) → Passes t → HasPairDataFault t None StartRowKeeps → ⊥
-starts-no_keep t passes (class, inl named, keeps) =
-    any-refuted (KeepsStart t) (λ class. is_apart (entry_of t t.sot_property class)) (named_values t.property_table) passes.starts
+starts-no_keep : (t : PairTable) → StartsApart t → HasPairDataFault t None StartRowKeeps → ⊥
+starts-no_keep t apart (class, inl named, keeps) =
+    any-refuted (KeepsStart t) (λ class. is_apart (entry_of t t.sot_property class)) (named_values t.property_table) apart
     (λ class keeps passed. is_no_keep (entry_of t t.sot_property class) keeps passed) (any-contained (KeepsStart t) (named_values t.property_table) class named keeps)
-starts-no_keep t passes (class, inr named, keeps) = named
+starts-no_keep t apart (class, inr named, keeps) = named
 
 -- no class that the table names is the complex one
 abbrev IsPlain : PairTable → Type 0
 IsPlain t = list_all (λ class. not (class == t.complex_property)) (named_values t.property_table) ≡ true
 
-plain-faultless : (t : PairTable) → Passes t → IsPlain t → IsFaultless (HasPairDataFault t None)
-plain-faultless t passes plain ClassOutOfRange (class, named, past) = named
-plain-faultless t passes plain StartRowKeeps has = starts-no_keep t passes has
-plain-faultless t passes plain ComplexItems (inl named) =
+plain-faultless : (t : PairTable) → StartsApart t → IsPlain t → IsFaultless (HasPairDataFault t None)
+plain-faultless t apart plain ClassOutOfRange (class, named, past) = named
+plain-faultless t apart plain StartRowKeeps has = starts-no_keep t apart has
+plain-faultless t apart plain ComplexItems (inl named) =
     any-refuted (λ class. class ≡ t.complex_property) (λ class. not (class == t.complex_property)) (named_values t.property_table) plain
     (λ class is passed. absurd (false≢true (ap not (sym (eq-eqb class t.complex_property is)) ∙ passed)))
     (any-contained (λ class. class ≡ t.complex_property) (named_values t.property_table) t.complex_property named refl)
-plain-faultless t passes plain ComplexItems (inr named) = named
-plain-faultless t passes plain Memory has = has
-plain-faultless t passes plain RangeOrder has = has
-plain-faultless t passes plain RangePast10FFFF has = has
-plain-faultless t passes plain TableSize has = has
-plain-faultless t passes plain StateOutOfRange has = has
-plain-faultless t passes plain ComplexBelow0100 has = has
-plain-faultless t passes plain ComplexClassNamed has = has
-plain-faultless t passes plain StateCount has = has
-plain-faultless t passes plain TransitionSize has = has
-plain-faultless t passes plain TransitionOutOfRange has = has
-plain-faultless t passes plain SymbolOutOfRange has = has
-plain-faultless t passes plain TooManyLookaheads has = has
-plain-faultless t passes plain LookaheadOutOfRange has = has
-plain-faultless t passes plain EndCycle has = has
-plain-faultless t passes plain Stalls has = has
-plain-faultless t passes plain MissingTailoring has = has
+plain-faultless t apart plain ComplexItems (inr named) = named
+plain-faultless t apart plain Memory has = has
+plain-faultless t apart plain RangeOrder has = has
+plain-faultless t apart plain RangePast10FFFF has = has
+plain-faultless t apart plain TableSize has = has
+plain-faultless t apart plain StateOutOfRange has = has
+plain-faultless t apart plain ComplexBelow0100 has = has
+plain-faultless t apart plain ComplexClassNamed has = has
+plain-faultless t apart plain StateCount has = has
+plain-faultless t apart plain TransitionSize has = has
+plain-faultless t apart plain TransitionOutOfRange has = has
+plain-faultless t apart plain SymbolOutOfRange has = has
+plain-faultless t apart plain TooManyLookaheads has = has
+plain-faultless t apart plain LookaheadOutOfRange has = has
+plain-faultless t apart plain EndCycle has = has
+plain-faultless t apart plain Stalls has = has
+plain-faultless t apart plain MissingTailoring has = has
 
 clusters-pass : Passes cluster_table
-unfolding entry_of names_below is_apart
-clusters-pass = record { some = refl; square = refl; classes = refl; sot = refl; eot = refl; states = refl; starts = refl }
+unfolding names_below
+clusters-pass = record { some = refl; square = refl; classes = refl; sot = refl; eot = refl; states = refl }
+
+clusters-apart : StartsApart cluster_table
+unfolding entry_of is_apart
+clusters-apart = refl
 
 sentences-pass : Passes sentence_table
-unfolding entry_of names_below is_apart
-sentences-pass = record { some = refl; square = refl; classes = refl; sot = refl; eot = refl; states = refl; starts = refl }
+unfolding names_below
+sentences-pass = record { some = refl; square = refl; classes = refl; sot = refl; eot = refl; states = refl }
+
+sentences-apart : StartsApart sentence_table
+unfolding entry_of is_apart
+sentences-apart = refl
 
 words-pass : Passes word_table
-unfolding entry_of names_below is_apart
-words-pass = record { some = refl; square = refl; classes = refl; sot = refl; eot = refl; states = refl; starts = refl }
+unfolding names_below
+words-pass = record { some = refl; square = refl; classes = refl; sot = refl; eot = refl; states = refl }
+
+words-apart : StartsApart word_table
+unfolding entry_of is_apart
+words-apart = refl
 
 pub clusters-sound : IsFaultless (HasPairDataFault cluster_table None)
-clusters-sound = plain-faultless cluster_table clusters-pass refl
+clusters-sound = plain-faultless cluster_table clusters-apart refl
 
 pub sentences-sound : IsFaultless (HasPairDataFault sentence_table None)
-sentences-sound = plain-faultless sentence_table sentences-pass refl
+sentences-sound = plain-faultless sentence_table sentences-apart refl
 
 pub clusters-never-refused : (parts : PairTable) → parts ≡ cluster_table → (fault : DataError) → IsLowestFault (HasPairFault parts) fault → ⊥
 clusters-never-refused parts is fault lowest = faultless cluster_table clusters-pass fault (rw is at lowest.is_there)
@@ -148,4 +163,4 @@ pub words-no_class_past : HasPairDataFault word_table None ClassOutOfRange → �
 words-no_class_past has = has.1
 
 pub words-no_keep : HasPairDataFault word_table None StartRowKeeps → ⊥
-words-no_keep has = starts-no_keep word_table words-pass has
+words-no_keep has = starts-no_keep word_table words-apart has

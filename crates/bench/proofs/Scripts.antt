@@ -1,4 +1,4 @@
--- No code point below U+0100 has a script in the bench machines of lines and of words, or is complex in the pair table of words.
+-- No code point below U+0100 has a script in the bench machines of lines and of words, or is complex in the pair tables of words and of lines.
 use Rattle.std.proofs.Common.{◌≡◌, ℕ, Bool, true, false, not, ◌==◌, None, refl, sym, ap, ◌∙◌, eq-eqb}
 use Rattle.std.proofs.lemmas.Bool.{false≢true}
 use Rattle.seg_data.specs.declared.provider.ComplexScript.{ComplexScript}
@@ -9,6 +9,7 @@ use Rattle.seg_machine.specs.MachineFaults.{HasComplexBelow0100}
 use Rattle.seg_pairs.specs.PairFaults.{HasComplexClassBelow0100}
 use Rattle.seg_pairs.specs.PairTable.{PairTable, class_of}
 use Rattle.bench.specs.Lines.{line_machine}
+use Rattle.bench.specs.LineTables.{line_table}
 use Rattle.bench.specs.PairTables.{word_table}
 use Rattle.bench.specs.Words.{word_machine}
 use Rattle.bench.proofs.Faultless.{all_below, all_below-at}
@@ -46,3 +47,8 @@ pub word_table-not_complex : HasComplexClassBelow0100 word_table None → ⊥
 unfolding all_below is_not_complex class_of value_of
 word_table-not_complex (code_point, below, complex) =
     no-complex word_table code_point (all_below-at (is_not_complex word_table) 0x100 code_point refl below) complex
+
+pub line_table-not_complex : HasComplexClassBelow0100 line_table None → ⊥
+unfolding all_below is_not_complex class_of value_of
+line_table-not_complex (code_point, below, complex) =
+    no-complex line_table code_point (all_below-at (is_not_complex line_table) 0x100 code_point refl below) complex

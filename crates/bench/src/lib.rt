@@ -6,6 +6,7 @@
 
 pub mod clusters;
 pub mod dictionaries;
+pub mod line_tables;
 pub mod lines;
 mod machines;
 pub mod pair_tables;

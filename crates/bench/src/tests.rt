@@ -2,6 +2,7 @@ mod clusters;
 mod dictionaries;
 mod laws;
 mod line_dictionaries;
+mod line_tables;
 mod lines;
 mod machines;
 mod memos;

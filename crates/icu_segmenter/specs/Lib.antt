@@ -29,7 +29,14 @@ pub use Rattle.seg_engine.specs.Rules
 pub use Rattle.seg_engine.specs.Engine
 pub use Rattle.seg_clusters.specs.Clusters
 pub use Rattle.seg_clusters.specs.Sentences
+pub use Rattle.seg_line_rules.specs.LineClasses
 pub use Rattle.seg_line_rules.specs.LineStyles
+pub use Rattle.seg_line_rules.specs.LineRules
+pub use Rattle.seg_line_rules.specs.LineUnits
+pub use Rattle.seg_line_rules.specs.LineLists
+pub use Rattle.seg_line_rules.specs.LineVerdict
+pub use Rattle.seg_line_rules.specs.LineBoundaries
+pub use Rattle.seg_line_rules.specs.LineFaults
 pub use Rattle.seg_lines.specs.Options
 pub use Rattle.seg_lines.specs.Tailorings
 pub use Rattle.seg_lines.specs.LineTailorings

@@ -1,12 +1,16 @@
 -- The words of each command, and what it prints of a text.
-use Rattle.std.specs.Prelude.{◌≢◌, ℕ, None, List, [], ◌∷◌, map, codes}
+use Rattle.std.specs.Prelude.{◌≢◌, ℕ, false, None, List, [], ◌∷◌, map, codes}
 use Rattle.std.specs.Borrow.{Bor}
 use Rattle.icu_segmenter.specs.Utf8.{utf8}
 use Rattle.icu_segmenter.specs.Boundaries.{offsets}
 use Rattle.icu_segmenter.specs.Items.{Text}
 use Rattle.icu_segmenter.specs.Rules.{boundaries_of}
-use Rattle.icu_segmenter.specs.LineBreaks.{line_boundaries_of, machine_lines}
+use Rattle.icu_segmenter.specs.declared.options.LineBreakStrictness.TheVariants as strictness
+use Rattle.icu_segmenter.specs.declared.options.LineBreakWordOption.TheVariants as word_option
+use Rattle.icu_segmenter.specs.LineBreaks.{line_boundaries_of, machine_lines, table_lines}
+use Rattle.icu_segmenter.specs.LineRules.{LineRules}
 use Rattle.icu_segmenter.specs.Lines.{without_ja}
+use Rattle.icu_segmenter.specs.PairTable.{PairTable}
 use Rattle.icu_segmenter.specs.WordRules.{machine_words, table_words, word_boundaries_of}
 use Rattle.icu_segmenter.specs.Rules.Rules.{ByTable, ByMachine}
 use Rattle.bench.specs.Clusters.{cluster_machine}
@@ -14,9 +18,10 @@ use Rattle.bench.specs.Dictionaries.{dictionary_words}
 use Rattle.bench.specs.Sentences.{sentence_machine}
 use Rattle.bench.specs.Words.{word_machine}
 use Rattle.bench.specs.Lines.{line_machine}
+use Rattle.bench.specs.LineTables.{line_table}
 use Rattle.bench.specs.PairTables.{cluster_table, sentence_table, word_table}
 use Rattle.textcut.specs.declared.command.Command.{Command}
-use Rattle.textcut.specs.declared.command.Command.TheVariants.{GraphemeClassic, GraphemeNeo, SentenceClassic, SentenceNeo, WordClassic, WordNeo, LineNeo}
+use Rattle.textcut.specs.declared.command.Command.TheVariants.{GraphemeClassic, GraphemeNeo, SentenceClassic, SentenceNeo, WordClassic, WordNeo, LineClassic, LineNeo}
 
 -- the texts that references point to
 abbrev pub texts : List (Bor (List ℕ)) → List (List ℕ)
@@ -30,11 +35,19 @@ words_of SentenceClassic = codes "sentence" ∷ codes "classic" ∷ []
 words_of SentenceNeo = codes "sentence" ∷ codes "neo" ∷ []
 words_of WordClassic = codes "word" ∷ codes "classic" ∷ []
 words_of WordNeo = codes "word" ∷ codes "neo" ∷ []
+words_of LineClassic = codes "line" ∷ codes "classic" ∷ []
 words_of LineNeo = codes "line" ∷ codes "neo" ∷ []
 
 -- words that no command has
 abbrev pub IsNoCommand : List (List ℕ) → Type 0
 IsNoCommand words = (command : Command) → words ≢ words_of command
+
+-- a pair table of lines, with what the default options say
+abbrev pub default_rules : PairTable → LineRules
+default_rules table = record {
+  table = table;
+  style = record { strictness = strictness.Strict; word_option = word_option.Normal; is_ja_or_zh = false };
+}
 
 -- the places of the boundaries that a command finds in a text; by default options the machine of lines isn't tailored
 abbrev pub places_in : Command → Text → List ℕ
@@ -44,6 +57,7 @@ places_in SentenceClassic text = offsets (boundaries_of (ByTable sentence_table 
 places_in SentenceNeo text = offsets (boundaries_of (ByMachine sentence_machine) text)
 places_in WordClassic text = offsets (word_boundaries_of (table_words word_table None cluster_table dictionary_words) text)
 places_in WordNeo text = offsets (word_boundaries_of (machine_words word_machine cluster_table dictionary_words) text)
+places_in LineClassic text = offsets (line_boundaries_of (table_lines (default_rules line_table) cluster_table (without_ja dictionary_words)) text)
 places_in LineNeo text = offsets (line_boundaries_of (machine_lines line_machine cluster_machine (without_ja dictionary_words)) text)
 
 -- .. and in the text of some bytes

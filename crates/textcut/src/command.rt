@@ -18,6 +18,8 @@ pub enum Command {
     WordClassic,
     /// The words, by the machine that is built in.
     WordNeo,
+    /// Where lines may be broken, by the pair table that is built in, with the default options.
+    LineClassic,
     /// Where lines may be broken, by the machine that is built in, with the default options.
     LineNeo,
 }
@@ -35,6 +37,7 @@ pub fn command_of(words: &[&str]) -> Option<Command>
         ["sentence", "neo"] => Some(Command::SentenceNeo),
         ["word", "classic"] => Some(Command::WordClassic),
         ["word", "neo"] => Some(Command::WordNeo),
+        ["line", "classic"] => Some(Command::LineClassic),
         ["line", "neo"] => Some(Command::LineNeo),
         _ => None,
     }

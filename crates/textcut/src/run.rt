@@ -7,6 +7,8 @@ ghost use Rattle.icu_segmenter.specs.Boundaries.{offsets};
 ghost use Rattle.icu_segmenter.specs.Rules.{boundaries_of};
 ghost use Rattle.icu_segmenter.specs.Clusters.{cluster_rules};
 ghost use Rattle.icu_segmenter.specs.Sentences.{sentence_rules};
+ghost use Rattle.icu_segmenter.specs.LineBreaks.{line_boundaries_of};
+ghost use Rattle.icu_segmenter.specs.Lines.{line_rules};
 ghost use Rattle.icu_segmenter.specs.Words.{word_rules};
 ghost use Rattle.icu_segmenter.specs.WordRules.{word_boundaries_of};
 ghost use Rattle.textcut.specs.Command.{texts, words_of, IsNoCommand, places_of};
@@ -20,6 +22,7 @@ use crate::failure::Failure;
 use crate::lines::print_lines;
 use bench::clusters::cluster_machine;
 use bench::dictionaries::dictionaries;
+use bench::line_tables::line_table;
 use bench::lines::{line_machine, line_tailorings};
 use bench::pair_tables::{cluster_table, sentence_table, word_table};
 use bench::sentences::sentence_machine;
@@ -28,8 +31,8 @@ use icu_segmenter::options::{
     LineBreakOptions, SentenceBreakInvariantOptions, WordBreakInvariantOptions,
 };
 use icu_segmenter::{
-    GraphemeClusterSegmenterBorrowed, LineSegmenter, SentenceSegmenterBorrowed,
-    WordSegmenterBorrowed,
+    GraphemeClusterSegmenterBorrowed, LineSegmenter, LineSegmenterBorrowed,
+    SentenceSegmenterBorrowed, WordSegmenterBorrowed,
 };
 use std::alloc::Global;
 use std::io::{ErrorKind, Read, Write};
@@ -116,7 +119,8 @@ fn print_boundaries<O: Write>(
         Command::SentenceNeo => print_sentences_by_machine(alloc, text, out),
         Command::WordClassic => print_words_by_table(alloc, text, out),
         Command::WordNeo => print_words_by_machine(alloc, text, out),
-        Command::LineNeo => print_line_breaks(alloc, text, out),
+        Command::LineClassic => print_line_breaks_by_table(alloc, text, out),
+        Command::LineNeo => print_line_breaks_by_machine(alloc, text, out),
     }
 }
 
@@ -224,6 +228,51 @@ fn print_words_by_machine<O: Write>(alloc: Global, text: &[u8], out: &mut O) -> 
     print_words(segmenter, text, out)
 }
 
+fn print_line_breaks_by_table<O: Write>(
+    alloc: Global,
+    text: &[u8],
+    out: &mut O,
+) -> Result<(), Failure>
+    ensures printed { OnOk result
+        (Appends (O.contents out.old) (O.contents out.new) (lines_of (places_of Command.LineClassic text.now))) }
+    ensures unwritten { IsErrOf result Failure.NoMemory → out.new ≡ out.old }
+    ensures cause { result ≢ Err Failure.Usage × result ≢ Err Failure.ReadFailed }
+{
+    let table = line_table(alloc)?;
+    let clusters = cluster_table(alloc)?;
+    let dictionaries = dictionaries(alloc)?;
+    let words = dictionaries.as_borrowed();
+    let options = LineBreakOptions::default();
+    let Ok(lines) = LineSegmenterBorrowed::new_dictionary(&table, &clusters, words, options) else {
+        unreachable!()
+    };
+    print_line_breaks(lines, text, out)
+}
+
+fn print_line_breaks_by_machine<O: Write>(
+    alloc: Global,
+    text: &[u8],
+    out: &mut O,
+) -> Result<(), Failure>
+    ensures printed { OnOk result
+        (Appends (O.contents out.old) (O.contents out.new) (lines_of (places_of Command.LineNeo text.now))) }
+    ensures unwritten { IsErrOf result Failure.NoMemory → out.new ≡ out.old }
+    ensures cause { result ≢ Err Failure.Usage × result ≢ Err Failure.ReadFailed }
+{
+    let machine = line_machine(alloc)?;
+    let clusters = cluster_machine(alloc)?;
+    let tailorings = line_tailorings(alloc)?;
+    let dictionaries = dictionaries(alloc)?;
+    let options = LineBreakOptions::default();
+    let Ok(mut lines) = LineSegmenter::try_new_neo_for_non_complex_scripts(
+        machine, tailorings, clusters, options,
+    ) else {
+        unreachable!()
+    };
+    lines.load_dictionary(dictionaries);
+    print_line_breaks(lines.as_borrowed(), text, out)
+}
+
 fn print_clusters<O: Write>(
     clusters: GraphemeClusterSegmenterBorrowed<'_>,
     text: &[u8],
@@ -260,24 +309,16 @@ fn print_words<O: Write>(
     print_numbers(words.segment_utf8(text), out)
 }
 
-fn print_line_breaks<O: Write>(alloc: Global, text: &[u8], out: &mut O) -> Result<(), Failure>
-    ensures printed { OnOk result
-        (Appends (O.contents out.old) (O.contents out.new) (lines_of (places_of Command.LineNeo text.now))) }
-    ensures unwritten { IsErrOf result Failure.NoMemory → out.new ≡ out.old }
-    ensures cause { result ≢ Err Failure.Usage × result ≢ Err Failure.ReadFailed }
+fn print_line_breaks<O: Write>(
+    lines: LineSegmenterBorrowed<'_>,
+    text: &[u8],
+    out: &mut O,
+) -> Result<(), Failure>
+    ensures printed { OnOk result (Appends (O.contents out.old) (O.contents out.new)
+        (lines_of (offsets (line_boundaries_of (line_rules lines.entry) (utf8 text.now))))) }
+    ensures cause { IfErr result (λ failure. failure ≡ Failure.WriteFailed) }
 {
-    let machine = line_machine(alloc)?;
-    let clusters = cluster_machine(alloc)?;
-    let tailorings = line_tailorings(alloc)?;
-    let dictionaries = dictionaries(alloc)?;
-    let options = LineBreakOptions::default();
-    let Ok(mut lines) = LineSegmenter::try_new_neo_for_non_complex_scripts(
-        machine, tailorings, clusters, options,
-    ) else {
-        unreachable!()
-    };
-    lines.load_dictionary(dictionaries);
-    print_numbers(lines.as_borrowed().segment_utf8(text), out)
+    print_numbers(lines.segment_utf8(text), out)
 }
 
 fn print_numbers<N: Iterator<Item = usize> + Drop, O: Write>(

@@ -307,7 +307,7 @@ fn lines_have_equal_ordinals(rt: HostRuntime) -> Result<(), Fail> {
 }
 
 /// Asserts what an iterator of lines gives, call by call, and whether the break is then a mandatory one.
-fn expect_next<'s, Y: RuleBreakType<'s>>(
+pub(super) fn expect_next<'s, Y: RuleBreakType<'s>>(
     rt: &impl Abort,
     mut lines: LineBreakIterator<'_, 's, Y>,
     want: &[(Option<usize>, bool)],

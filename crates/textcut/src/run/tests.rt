@@ -47,6 +47,9 @@ fn prints_classic_boundaries(rt: HostRuntime) {
         ("word", "one 42.", "0\n3\n4\n6\n7\n"),
         ("word", "กခ", "0\n3\n6\n"),
         ("word", "ภาษาไทย", "0\n12\n21\n"),
+        ("line", "", "0\n"),
+        ("line", "a -b", "0\n2\n3\n4\n"),
+        ("line", "ภาษาไทยaภาษาไทย", "0\n12\n34\n43\n"),
     ] {
         let ran = run_on(rt.alloc(), &[kind, "classic"], &mut text.as_bytes());
         assert!(rt; ran.is(0, lines, ""), "{kind} {text:?}");
