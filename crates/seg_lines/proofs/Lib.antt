@@ -3,4 +3,5 @@ pub mod Tailorings
 pub mod Joins
 pub mod JoinCover
 pub mod JoinMembers
+pub mod PlainBoundaries
 pub mod LineLaws

@@ -1,8 +1,7 @@
 -- Laws of the boundaries of lines.
-use Rattle.std.proofs.Common.{◌≡◌, ℕ, suc, List, drop, refl, sym, ap, ◌∙◌}
-use Rattle.std.specs.Prelude.{slice_get}
+use Rattle.std.proofs.Common.{◌≡◌, ℕ, List, drop, refl, ap, ◌∙◌, subst}
 use Rattle.seg_text.specs.declared.boundary.Boundary.{Boundary}
-use Rattle.seg_text.specs.Boundaries.{RestartsIn, shift_all}
+use Rattle.seg_text.specs.Boundaries.{RestartsIn}
 use Rattle.seg_text.specs.Stretches.{HasOneAnswer, later_boundaries}
 use Rattle.seg_text.proofs.Restarts.{restarts, restarts-as}
 use Rattle.seg_text.proofs.Stretches.{later-are, later-only, one-answer}
@@ -19,15 +18,29 @@ use Rattle.seg_complex.specs.RunCuts.{CoverPieces}
 use Rattle.seg_complex.proofs.EqualSpans.{same-inner-cuts}
 use Rattle.seg_complex.proofs.SpanStretches.{span-some}
 use Rattle.seg_complex.proofs.UnwordedSpans.{inner-none}
+use Rattle.seg_complex.specs.Payloads.{run_cuts_by}
+use Rattle.seg_complex.proofs.EqualWords.{same-run-cuts}
+use Rattle.seg_text.specs.Cuts.{Cuts, with_status}
+use Rattle.seg_text.specs.Boundaries.{offsets}
+use Rattle.seg_engine.specs.Rules.{boundaries_by}
+use Rattle.seg_dictionary.specs.ScriptWords.{no_words}
+use Rattle.seg_line_rules.specs.declared.line_pairs.LinePairs.{LinePairs}
+use Rattle.seg_line_rules.specs.LineBoundaries.{inside, line_boundaries, line_stretch}
+use Rattle.seg_line_rules.specs.LinePairs.{rules_by}
+use Rattle.seg_line_rules.specs.LineRules.{LineRules as TableRules}
+use Rattle.seg_line_rules.specs.MarkLaw.{KeepsMarks}
+use Rattle.seg_line_rules.proofs.LineRestarts.{line-restarts}
+use Rattle.seg_line_rules.proofs.LineStretches.{line-going}
 use Rattle.seg_lines.specs.Joined.{joined}
 use Rattle.seg_lines.specs.LineBreaks.{AreBoundariesWith, HasNoCuts, HasOneList, LineFinder, LineRules, boundaries_with, line_boundaries_by, with_words}
-use Rattle.seg_lines.specs.LineBreaks.LineFinder.{ByClusters, ByMachine}
+use Rattle.seg_lines.specs.LineBreaks.LineFinder.{ByClusters, ByPlaces, ByTable, ByMachine}
 use Rattle.seg_lines.specs.Lines.{finder_of}
 use Rattle.seg_lines.specs.declared.finder.Finder.{Finder}
-use Rattle.seg_lines.specs.declared.finder.Finder.TheVariants.{Clusters, Machine}
+use Rattle.seg_lines.specs.declared.finder.Finder.TheVariants.{Clusters, Places, Table, Machine}
 use Rattle.seg_machine.specs.declared.tailored_machine.TailoredMachineBorrowed.{TailoredMachineBorrowed}
 use Rattle.seg_lines.proofs.JoinCover.{cuts-rising, plain-rising}
 use Rattle.seg_lines.proofs.JoinMembers.{is-join, one-join}
+use Rattle.seg_lines.proofs.PlainBoundaries.{restarts-plain}
 
 -- by clusters
 
@@ -36,6 +49,20 @@ clusters-one payloads = one-answer (first_stretch payloads.clusters) (going payl
 
 one-by-clusters : (payloads : Payloads) → HasOneList (record { finder = ByClusters; payloads = payloads })
 one-by-clusters payloads = record { exists = (clusters-one payloads).exists; only = (clusters-one payloads).only }
+
+pub one-by-places : (payloads : Payloads) → HasOneList (record { finder = ByPlaces; payloads = payloads })
+one-by-places payloads =
+    let clusters = clusters-one payloads in
+    record {
+      exists = λ code_points. (boundaries_by payloads.clusters code_points, (clusters.exists code_points, refl));
+      only = λ code_points found are. are.1.1 ∙ ap (λ (found : List Boundary). with_status 0 (offsets found)) (clusters.only code_points are.0 are.1.0);
+    }
+
+pub one-by-table : (rules : TableRules) (payloads : Payloads) → HasOneList (record { finder = ByTable rules; payloads = payloads })
+one-by-table rules payloads =
+    let stretch = line_stretch (inside (run_cuts_by payloads)) rules in
+    let one = one-answer stretch (line-going rules (inside (run_cuts_by payloads))) in
+    record { exists = one.exists; only = one.only }
 
 -- by a machine of lines
 
@@ -64,22 +91,26 @@ module _ (m : AnyMachine) (payloads : Payloads) (checked : IsChecked m) (cover :
 pub one-by : (finder : Finder) (payloads : Payloads) → ((machine : TailoredMachineBorrowed) → finder ≡ Machine machine → ⊥)
     → HasOneList (record { finder = finder_of finder; payloads = payloads })
 one-by Clusters payloads none = one-by-clusters payloads
+one-by Places payloads none = one-by-places payloads
+one-by (Table pairs) payloads none = one-by-table (rules_by pairs) payloads
 one-by (Machine machine) payloads none = absurd (none machine refl)
 
 -- without words of any script nothing is joined
 
-pub without-cuts : (m : AnyMachine) (payloads : Payloads) (code_points : List ℕ) → HasNoCuts (ByMachine m) payloads.words
+pub without-cuts : (m : AnyMachine) (payloads : Payloads) (code_points : List ℕ) → payloads.words ≡ no_words
     → boundaries_with (ByMachine m) payloads code_points ≡ machine_boundaries m code_points
 without-cuts m payloads code_points none = ap (joined (machine_boundaries m code_points)) (inner-none m payloads none code_points)
 
-restarts-with : (finder : LineFinder) (payloads : Payloads) (code_points : List ℕ) → HasNoCuts finder payloads.words
+restarts-with : (finder : LineFinder) (payloads : Payloads) (code_points : List ℕ) → HasNoCuts finder payloads.words code_points
     → RestartsIn (boundaries_with finder payloads) code_points
 restarts-with ByClusters payloads code_points none = restarts-by payloads.clusters code_points
+restarts-with ByPlaces payloads code_points none = restarts-plain (boundaries_by payloads.clusters) code_points (restarts-by payloads.clusters code_points)
+restarts-with (ByTable rules) payloads code_points none = line-restarts rules (inside (run_cuts_by payloads)) code_points none
 restarts-with (ByMachine m) payloads code_points none =
     restarts-as (boundaries_with (ByMachine m) payloads) (machine_boundaries m) code_points
     (λ n. without-cuts m payloads (drop n code_points) none) (restarts (machine_stretch m) (machine-going m) (machine-alone m) code_points)
 
-pub restarts-without : (rules : LineRules) (code_points : List ℕ) → HasNoCuts rules.finder rules.payloads.words
+pub restarts-without : (rules : LineRules) (code_points : List ℕ) → HasNoCuts rules.finder rules.payloads.words code_points
     → RestartsIn (line_boundaries_by rules) code_points
 restarts-without rules = restarts-with rules.finder rules.payloads
 
@@ -88,9 +119,31 @@ restarts-without rules = restarts-with rules.finder rules.payloads
 same-with : (finder : LineFinder) (payloads : Payloads) (others : ScriptWords) → AreSameWords payloads.words others
     → boundaries_with finder (record { words = others; clusters = payloads.clusters }) ≡ boundaries_with finder payloads
 same-with ByClusters payloads others same = refl
+same-with ByPlaces payloads others same = refl
+same-with (ByTable rules) payloads others same = ap (λ (cuts : Cuts). line_boundaries (inside cuts) rules) (same-run-cuts payloads others same)
 same-with (ByMachine m) payloads others same =
     ap (λ (cuts : List ℕ → List ℕ). (λ code_points. joined (machine_boundaries m code_points) (cuts code_points))) (same-inner-cuts m payloads others same)
 
 pub equal-words : (rules : LineRules) (others : ScriptWords) → AreSameWords rules.payloads.words others
     → line_boundaries_by (with_words rules others) ≡ line_boundaries_by rules
 equal-words rules others same = same-with rules.finder rules.payloads others same
+
+-- marks
+
+rules-in : LineFinder → TableRules → TableRules
+rules-in ByClusters other = other
+rules-in ByPlaces other = other
+rules-in (ByTable rules) other = rules
+rules-in (ByMachine m) other = other
+
+pub marks-by-table : (own rules : TableRules) (payloads : Payloads) (code_points : List ℕ) → ByTable own ≡ ByTable rules
+    → KeepsMarks own code_points (boundaries_with (ByTable own) payloads code_points) → KeepsMarks rules code_points (boundaries_with (ByTable own) payloads code_points)
+unfolding rules-in
+marks-by-table own rules payloads code_points is keeps =
+    subst (λ (rules : TableRules). KeepsMarks rules code_points (boundaries_with (ByTable own) payloads code_points)) (ap (λ (finder : LineFinder). rules-in finder own) is) keeps
+
+pub no-table : (finder : Finder) (rules : TableRules) → ((pairs : LinePairs) → finder ≡ Table pairs → ⊥) → finder_of finder ≡ ByTable rules → ⊥
+no-table Clusters rules none is = absurd cc
+no-table Places rules none is = absurd cc
+no-table (Machine machine) rules none is = absurd cc
+no-table (Table pairs) rules none is = none pairs refl

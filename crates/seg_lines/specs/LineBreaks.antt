@@ -1,5 +1,5 @@
--- The boundaries of lines: those of clusters, or those of a machine of lines joined with the cuts strictly inside runs.
-use Rattle.std.specs.Prelude.{◌≡◌, List, ℕ}
+-- The boundaries of lines: those of clusters, those of a pair table, or those of a machine joined with the cuts strictly inside runs.
+use Rattle.std.specs.Prelude.{◌≡◌, List, ℕ, None}
 use Rattle.seg_text.specs.declared.boundary.Boundary.{Boundary}
 use Rattle.seg_text.specs.Items.{Text}
 use Rattle.seg_text.specs.Boundaries.{boundaries_in, offsets}
@@ -7,16 +7,26 @@ use Rattle.seg_text.specs.Stretches.{AreBoundaries, AreLaterBoundaries, Stretch,
 use Rattle.seg_machine.specs.Machine.{Machine}
 use Rattle.seg_machine.specs.Segments.{machine_stretch}
 use Rattle.seg_engine.specs.Rules.{boundaries_by, first_stretch}
-use Rattle.seg_engine.specs.Rules.Rules.{ByMachine as ByClusterMachine}
+use Rattle.seg_engine.specs.Rules.Rules.{ByMachine as ByClusterMachine, ByTable as ByClusterTable}
+use Rattle.seg_pairs.specs.PairTable.{PairTable}
+use Rattle.seg_text.specs.Cuts.{with_status}
+use Rattle.seg_line_rules.specs.declared.options.LineBreakStrictness.{LineBreakStrictness}
+use Rattle.seg_line_rules.specs.declared.options.LineBreakStrictness.TheVariants as strictness
+use Rattle.seg_line_rules.specs.LineBoundaries.{HasComplexCodePoint, inside, line_boundaries, line_stretch}
+use Rattle.seg_line_rules.specs.LineRules.{LineRules as TableRules}
 use Rattle.seg_dictionary.specs.ScriptWords.{ScriptWords, no_words}
 use Rattle.seg_complex.specs.InnerCuts.{inner_cuts, inner_stretch}
-use Rattle.seg_complex.specs.Payloads.{Payloads}
+use Rattle.seg_complex.specs.Payloads.{Payloads, run_cuts_by}
 use Rattle.seg_lines.specs.Joined.{IsJoin, joined}
 
 -- what the breaks of lines are found by
 pub data LineFinder : Type 0 where
   -- the clusters: a line may be broken at each of their boundaries
   ByClusters : LineFinder
+  -- the places of clusters alone, none of them mandatory
+  ByPlaces : LineFinder
+  -- a pair table of lines, with what options say, whose complex class tells the runs
+  ByTable : TableRules → LineFinder
   -- a machine of lines, whose scripts tell the runs
   ByMachine : Machine → LineFinder
 
@@ -24,6 +34,20 @@ pub data LineFinder : Type 0 where
 pub record LineRules : Type 0 where
   pub finder : LineFinder
   pub payloads : Payloads
+
+-- by a pair table of lines, with what options say, a pair table of clusters and the words of scripts: by Anywhere the places of
+-- clusters alone
+abbrev pub table_finder : LineBreakStrictness → TableRules → LineFinder
+table_finder strictness.Anywhere rules = ByPlaces
+table_finder strictness.Loose rules = ByTable rules
+table_finder strictness.Normal rules = ByTable rules
+table_finder strictness.Strict rules = ByTable rules
+
+abbrev pub table_lines : TableRules → PairTable → ScriptWords → LineRules
+table_lines rules clusters words = record {
+  finder = table_finder rules.style.strictness rules;
+  payloads = record { words = words; clusters = ByClusterTable clusters None };
+}
 
 -- by a machine of lines, with a machine of clusters and the words of scripts
 abbrev pub machine_lines : Machine → Machine → ScriptWords → LineRules
@@ -35,6 +59,8 @@ with_words rules words = record { finder = rules.finder; payloads = record { wor
 
 abbrev pub boundaries_with : LineFinder → Payloads → List ℕ → List Boundary
 boundaries_with ByClusters payloads code_points = boundaries_by payloads.clusters code_points
+boundaries_with ByPlaces payloads code_points = with_status 0 (offsets (boundaries_by payloads.clusters code_points))
+boundaries_with (ByTable rules) payloads code_points = line_boundaries (inside (run_cuts_by payloads)) rules code_points
 boundaries_with (ByMachine m) payloads code_points = joined (list_boundaries (machine_stretch m) code_points) (inner_cuts m payloads code_points)
 
 -- the boundaries of lines in a list of code points
@@ -48,6 +74,9 @@ line_boundaries_of rules text = boundaries_in (line_boundaries_by rules) text
 -- the same as a relation: the boundaries of the machine, and the cuts inside runs, span by span, are joined
 abbrev pub AreBoundariesWith : LineFinder → Payloads → List ℕ → List Boundary → Type 0
 AreBoundariesWith ByClusters payloads code_points found = AreBoundaries (first_stretch payloads.clusters) code_points found
+AreBoundariesWith ByPlaces payloads code_points found =
+    (boundaries : List Boundary) × (AreBoundaries (first_stretch payloads.clusters) code_points boundaries × (found ≡ with_status 0 (offsets boundaries)))
+AreBoundariesWith (ByTable rules) payloads code_points found = AreBoundaries (line_stretch (inside (run_cuts_by payloads)) rules) code_points found
 AreBoundariesWith (ByMachine m) payloads code_points found =
     (boundaries : List Boundary) × (AreBoundaries (machine_stretch m) code_points boundaries
     × ((inner : List Boundary) × ((spans : List Stretch) × (AreLaterBoundaries (inner_stretch m payloads) code_points spans inner
@@ -61,7 +90,9 @@ pub record HasOneList (rules : LineRules) : Type 0 where
   pub exists : (code_points : List ℕ) → AreLineBoundaries rules code_points (line_boundaries_by rules code_points)
   pub only : (code_points : List ℕ) (found : List Boundary) → AreLineBoundaries rules code_points found → found ≡ line_boundaries_by rules code_points
 
--- nothing is joined: clusters are found, or no script has words
-abbrev pub HasNoCuts : LineFinder → ScriptWords → Type 0
-HasNoCuts ByClusters words = Unit {0}
-HasNoCuts (ByMachine m) words = words ≡ no_words
+-- no run is cut: clusters are found, no code point is complex, or no script has words
+abbrev pub HasNoCuts : LineFinder → ScriptWords → List ℕ → Type 0
+HasNoCuts ByClusters words code_points = Unit {0}
+HasNoCuts ByPlaces words code_points = Unit {0}
+HasNoCuts (ByTable rules) words code_points = HasComplexCodePoint rules code_points → ⊥
+HasNoCuts (ByMachine m) words code_points = words ≡ no_words

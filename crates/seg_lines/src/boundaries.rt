@@ -1,4 +1,4 @@
-//! The boundaries of lines: those of clusters or of a machine as they are, or those of a machine joined with cuts.
+//! The boundaries of lines: those of clusters or of a machine as they are, those of a pair table, or those of a machine joined with cuts.
 
 ghost use Rattle.std.specs.Prelude.{◌≡◌, ⊤};
 ghost use Rattle.std.specs.Iterator.{YieldsFirst, MakesProgress, item_count};
@@ -13,8 +13,10 @@ ghost use Rattle.seg_lines.specs.Lines.{finder_of};
 
 use crate::finder::Finder;
 use crate::neo_lines::JoinedBoundaries;
+use crate::unmarked::UnmarkedBoundaries;
 use seg_complex::complex::ComplexPayloadsBorrowed;
 use seg_engine::engine::{self, Engine};
+use seg_line_rules::boundaries::ClassicLines;
 use seg_machine::tailored_machine::TailoredMachineBorrowed;
 use seg_text::cursor::Cursor;
 use std::marker::Model;
@@ -30,6 +32,10 @@ pub(crate) struct Boundaries<'data, I: Cursor> {
 enum BoundariesBy<'data, I: Cursor> {
     /// That of clusters, or of a machine where no script has words.
     Plain(engine::Boundaries<'data, I>),
+    /// That of clusters, without their statuses.
+    Unmarked(UnmarkedBoundaries<'data, I>),
+    /// That of a pair table.
+    Classic(ClassicLines<'data, I>),
     /// That of a machine, joined with the cuts inside runs.
     Joined(JoinedBoundaries<'data, I>),
 }
@@ -76,6 +82,14 @@ impl<'data, I: Cursor> Boundaries<'data, I> {
             Finder::Clusters => Boundaries {
                 by: BoundariesBy::Plain(payloads.clusters.boundaries(text)),
             },
+            Finder::Places => Boundaries {
+                by: BoundariesBy::Unmarked(UnmarkedBoundaries::new(
+                    payloads.clusters.boundaries(text),
+                )),
+            },
+            Finder::Table(pairs) => Boundaries {
+                by: BoundariesBy::Classic(ClassicLines::new(pairs, payloads, text)),
+            },
             Finder::Machine(machine) => Boundaries {
                 by: BoundariesBy::by_machine(machine, payloads, text),
             },
@@ -88,6 +102,8 @@ impl<'data, I: Cursor> Boundaries<'data, I> {
     {
         match &self.by {
             BoundariesBy::Plain(engine) => engine.status(),
+            BoundariesBy::Unmarked(places) => places.status(),
+            BoundariesBy::Classic(engine) => engine.status(),
             BoundariesBy::Joined(engine) => engine.status(),
         }
     }
@@ -107,6 +123,8 @@ impl<'data, I: Cursor> Iterator for Boundaries<'data, I> {
     {
         match &mut self.by {
             BoundariesBy::Plain(engine) => engine.next(),
+            BoundariesBy::Unmarked(places) => places.next(),
+            BoundariesBy::Classic(engine) => engine.next(),
             BoundariesBy::Joined(engine) => engine.next(),
         }
     }

@@ -1,8 +1,12 @@
 //! What the breaks of lines are found by.
 
 ghost use Rattle.std.specs.Prelude.{◌≡◌};
+ghost use Rattle.seg_line_rules.specs.LinePairs.{owned_rules_by, rules_by};
+ghost use Rattle.seg_lines.specs.LineBreaks.{table_finder};
 ghost use Rattle.seg_lines.specs.Lines.{finder_of, owned_finder};
 
+use seg_line_rules::line_pairs::{LinePairs, OwnedLinePairs};
+use seg_line_rules::options::LineBreakStrictness;
 use seg_machine::tailored_machine::{TailoredMachine, TailoredMachineBorrowed};
 
 /// What the breaks of lines are found by.
@@ -10,17 +14,33 @@ use seg_machine::tailored_machine::{TailoredMachine, TailoredMachineBorrowed};
 pub(crate) enum OwnedFinder {
     /// The clusters: a line may be broken at each of their boundaries.
     Clusters,
+    /// The places of clusters alone, none of them mandatory.
+    Places,
+    /// A pair table of lines, with what options say.
+    Table(OwnedLinePairs),
     /// A machine of lines, with its tailoring.
     Machine(TailoredMachine),
 }
 
 impl OwnedFinder {
+    /// That of a pair table under this strictness.
+    pub(crate) fn of_table(strictness: LineBreakStrictness, pairs: OwnedLinePairs) -> Self
+        ensures { owned_finder result ≡ table_finder strictness (owned_rules_by pairs) }
+    {
+        match strictness {
+            LineBreakStrictness::Anywhere => OwnedFinder::Places,
+            _ => OwnedFinder::Table(pairs),
+        }
+    }
+
     /// The same, lent.
     pub(crate) fn as_borrowed(&self) -> Finder<'_>
         ensures { finder_of result ≡ owned_finder self.now }
     {
         match self {
             OwnedFinder::Clusters => Finder::Clusters,
+            OwnedFinder::Places => Finder::Places,
+            OwnedFinder::Table(pairs) => Finder::Table(pairs.as_borrowed()),
             OwnedFinder::Machine(machine) => Finder::Machine(machine.as_borrowed()),
         }
     }
@@ -31,6 +51,22 @@ impl OwnedFinder {
 pub(crate) enum Finder<'data> {
     /// The clusters: a line may be broken at each of their boundaries.
     Clusters,
+    /// The places of clusters alone, none of them mandatory.
+    Places,
+    /// A pair table of lines, with what options say.
+    Table(LinePairs<'data>),
     /// A machine of lines, with its tailoring.
     Machine(TailoredMachineBorrowed<'data>),
+}
+
+impl<'data> Finder<'data> {
+    /// That of a pair table under this strictness.
+    pub(crate) fn of_table(strictness: LineBreakStrictness, pairs: LinePairs<'data>) -> Self
+        ensures { finder_of result ≡ table_finder strictness (rules_by pairs.entry) }
+    {
+        match strictness {
+            LineBreakStrictness::Anywhere => Finder::Places,
+            _ => Finder::Table(pairs),
+        }
+    }
 }

@@ -3,14 +3,18 @@
 ghost use Rattle.std.specs.Prelude.{◌≡◌, ℕ, List};
 ghost use Rattle.seg_text.specs.Boundaries.{HasEqualOrdinals, RestartsIn};
 ghost use Rattle.seg_dictionary.specs.ScriptWords.{ScriptWords, AreSameWords};
+ghost use Rattle.seg_line_rules.specs.LineRules.{LineRules as TableRules};
+ghost use Rattle.seg_line_rules.specs.MarkLaw.{KeepsMarks};
+ghost use Rattle.seg_lines.specs.LineBreaks.LineFinder.{ByTable};
 ghost use Rattle.seg_lines.specs.LineBreaks.{HasNoCuts, HasOneList, LineRules, line_boundaries_by, with_words};
 ghost use Rattle.seg_lines.specs.Lines.{line_rules};
 
 use crate::finder::Finder;
 use crate::line::LineSegmenterBorrowed;
+use seg_line_rules::laws;
 
 /// Law: a list of code points has exactly one list of boundaries, in code points. Where clusters are found, the first is at
-/// its start, and each other one comes from the first stretch of what is left. By a machine of lines it is the list that rises
+/// its start, and each other one comes from the first stretch of what is left; so it is by a pair table of lines. By a machine of lines it is the list that rises
 /// strictly and holds the machine's boundaries, the cuts strictly inside runs where the machine has none, with status 0, and
 /// nothing else.
 pub fn boundaries_are_one(segmenter: LineSegmenterBorrowed<'_>)
@@ -36,12 +40,24 @@ pub fn equal_words()
         → line_boundaries_by (with_words rules others) ≡ line_boundaries_by rules }
 {}
 
-/// Law: with no dictionary in any place, or where clusters are found, a text may be segmented anew from any of its
-/// boundaries: for every list of code points, the boundaries after one of them are those of the rest taken alone, shifted,
-/// with the same statuses.
+/// Law: a text may be segmented anew from any of its boundaries, where clusters are found, where no code point of it is complex by
+/// the pair table (under `BreakAll` none is), or by a machine with no dictionary in any place: the boundaries after one of
+/// them are those of the rest taken alone, shifted, with the same statuses.
 pub fn restart(segmenter: LineSegmenterBorrowed<'_>)
-    ensures { (code_points : List ℕ) → HasNoCuts (line_rules segmenter.entry).finder (line_rules segmenter.entry).payloads.words
+    ensures { (code_points : List ℕ) → HasNoCuts (line_rules segmenter.entry).finder (line_rules segmenter.entry).payloads.words code_points
         → RestartsIn (line_boundaries_by (line_rules segmenter.entry)) code_points }
 {
     let _ = segmenter;
+}
+
+/// Law: by a pair table, under every strictness but `Anywhere`, no boundary but that at 0 stands before a code point of class CM
+/// or ZWJ, except after one of class BK, CR, LF, NL, SP or ZW.
+pub fn mark_law(segmenter: LineSegmenterBorrowed<'_>)
+    ensures { (rules : TableRules) → (line_rules segmenter.entry).finder ≡ ByTable rules → (code_points : List ℕ)
+        → KeepsMarks rules code_points (line_boundaries_by (line_rules segmenter.entry) code_points) }
+{
+    segmenter.payloads.facts();
+    if let Finder::Table(pairs) = segmenter.finder {
+        laws::mark_law(pairs);
+    }
 }

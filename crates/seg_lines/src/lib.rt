@@ -8,3 +8,4 @@ pub mod laws;
 pub mod line;
 mod neo_lines;
 pub mod provider;
+mod unmarked;

@@ -7,8 +7,10 @@ ghost use Rattle.seg_text.specs.Latin1.{latin1};
 ghost use Rattle.seg_text.specs.Utf8.{utf8};
 ghost use Rattle.seg_text.specs.Utf16.{utf16};
 ghost use Rattle.seg_data.specs.Faults.{IsFaultless, IsLowestFault};
-ghost use Rattle.seg_dictionary.specs.ScriptWords.{filled, lent_words, script_words};
-ghost use Rattle.seg_lines.specs.LineBreaks.{line_boundaries_of, with_words};
+ghost use Rattle.seg_dictionary.specs.ScriptWords.{filled, lent_words, no_words, script_words};
+ghost use Rattle.seg_line_rules.specs.LineFaults.{HasLineTableFault};
+ghost use Rattle.seg_line_rules.specs.LineStyles.{style_of};
+ghost use Rattle.seg_lines.specs.LineBreaks.{line_boundaries_of, table_lines, with_words};
 ghost use Rattle.seg_lines.specs.Lines.{line_rules};
 ghost use Rattle.seg_lines.specs.Options.{machine_choice};
 
@@ -30,7 +32,10 @@ use seg_clusters::grapheme::{GraphemeClusterSegmenter, GraphemeClusterSegmenterB
 use seg_complex::complex::ComplexPayloadsBorrowed;
 use seg_data::provider::DataError;
 use seg_dictionary::dictionaries::{Dictionaries, DictionariesBorrowed};
+use seg_line_rules::line_pairs::{LinePairs, OwnedLinePairs};
+use seg_line_rules::options::LineStyle;
 use seg_machine::provider::SegmenterStateMachine;
+use seg_pairs::provider::RuleBreakData;
 use seg_text::cursor::Cursor;
 use seg_text::indices::{Latin1Indices, StrCharIndices, Utf8CharIndices, Utf16Indices};
 use seg_text::scaffold::{Latin1, PotentiallyIllFormedUtf8, RuleBreakType, Utf8, Utf16};
@@ -99,6 +104,48 @@ pub struct LineSegmenter {
 
 impl LineSegmenter {
     ghost use Rattle.seg_lines.specs.Lines.{owned_line_rules, chosen_rules, without_ja, HasLineFault};
+
+    /// A segmenter by a pair table of lines, or, where the strictness is `Anywhere`, by that of clusters alone, and then no
+    /// break is mandatory; nor is any by the table. A run of complex characters (those of the class `complex_property`, as the options read it) may also be
+    /// broken strictly inside, after each of its pieces of one script, until dictionaries are loaded. Of several faults that
+    /// with the lowest number: `ClassOutOfRange` where the table has no class ID, `StartRowKeeps` where no boundary stands
+    /// between the start of the text and some class of code points in clusters, `ComplexItems` where some code points are
+    /// complex in clusters, `ComplexBelow0100` where one below U+0100 is in lines, `ComplexClassNamed` where the complex
+    /// class is one that has a name. Takes no memory.
+    pub fn try_new_for_non_complex_scripts(
+        table: RuleBreakData,
+        clusters: RuleBreakData,
+        options: LineBreakOptions<'_>,
+    ) -> Result<Self, DataError>
+        ensures accepted { IfOk result (λ segmenter. (owned_line_rules segmenter ≡ table_lines (record { table = table; style = style_of options.entry }) clusters no_words)
+            × IsFaultless (HasLineTableFault table clusters)) }
+        ensures refused { IfErr result (IsLowestFault (HasLineTableFault table clusters)) }
+    {
+        let style = LineStyle::new(options);
+        let pairs = OwnedLinePairs::try_new(table, &clusters, style)?;
+        Ok(LineSegmenter {
+            finder: OwnedFinder::of_table(style.strictness, pairs),
+            clusters: GraphemeClusterSegmenter::try_new(clusters)?,
+            dictionaries: Dictionaries::none(),
+        })
+    }
+
+    /// The same with the dictionaries of Myanmar, Khmer, Lao and Thai: each piece of a script that has one is cut by its words.
+    /// The faults are the same.
+    pub fn try_new_dictionary(
+        table: RuleBreakData,
+        clusters: RuleBreakData,
+        dictionaries: Dictionaries,
+        options: LineBreakOptions<'_>,
+    ) -> Result<Self, DataError>
+        ensures accepted { IfOk result (λ segmenter. (owned_line_rules segmenter ≡ table_lines (record { table = table; style = style_of options.entry }) clusters (without_ja (script_words dictionaries)))
+            × IsFaultless (HasLineTableFault table clusters)) }
+        ensures refused { IfErr result (IsLowestFault (HasLineTableFault table clusters)) }
+    {
+        let mut segmenter = Self::try_new_for_non_complex_scripts(table, clusters, options)?;
+        segmenter.load_dictionary(dictionaries);
+        Ok(segmenter)
+    }
 
     /// A segmenter by the state machine of lines, or by that of clusters where the strictness is
     /// `Anywhere` and the word option `Normal`, which refuses nothing. Otherwise
@@ -169,6 +216,48 @@ pub struct LineSegmenterBorrowed<'data> {
 impl<'data> LineSegmenterBorrowed<'data> {
     ghost use Rattle.seg_lines.specs.Lines.{lines_left, is_mandatory, chosen_rules, without_ja, HasLineFault};
     ghost use Rattle.seg_lines.specs.LineTailorings.{lent_tailorings};
+
+    /// A segmenter by a pair table of lines, or, where the strictness is `Anywhere`, by that of clusters alone, and then no
+    /// break is mandatory; nor is any by the table. A run of complex characters (those of the class `complex_property`, as the options read it) may also be
+    /// broken strictly inside, after each of its pieces of one script, until dictionaries are loaded. Of several faults that
+    /// with the lowest number: `ClassOutOfRange` where the table has no class ID, `StartRowKeeps` where no boundary stands
+    /// between the start of the text and some class of code points in clusters, `ComplexItems` where some code points are
+    /// complex in clusters, `ComplexBelow0100` where one below U+0100 is in lines, `ComplexClassNamed` where the complex
+    /// class is one that has a name. Takes no memory.
+    pub fn new_for_non_complex_scripts(
+        table: &'data RuleBreakData,
+        clusters: &'data RuleBreakData,
+        options: LineBreakOptions<'_>,
+    ) -> Result<Self, DataError>
+        ensures accepted { IfOk result (λ segmenter. (line_rules segmenter ≡ table_lines (record { table = table.now; style = style_of options.entry }) clusters.now no_words)
+            × IsFaultless (HasLineTableFault table.now clusters.now)) }
+        ensures refused { IfErr result (IsLowestFault (HasLineTableFault table.now clusters.now)) }
+    {
+        Self::new_dictionary(table, clusters, DictionariesBorrowed::none(), options)
+    }
+
+    /// The same with the dictionaries of Myanmar, Khmer, Lao and Thai: each piece of a script that has one is cut by its words.
+    /// The faults are the same.
+    pub fn new_dictionary(
+        table: &'data RuleBreakData,
+        clusters: &'data RuleBreakData,
+        dictionaries: DictionariesBorrowed<'data>,
+        options: LineBreakOptions<'_>,
+    ) -> Result<Self, DataError>
+        ensures accepted { IfOk result (λ segmenter. (line_rules segmenter ≡ table_lines (record { table = table.now; style = style_of options.entry }) clusters.now (without_ja (lent_words dictionaries.entry)))
+            × IsFaultless (HasLineTableFault table.now clusters.now)) }
+        ensures refused { IfErr result (IsLowestFault (HasLineTableFault table.now clusters.now)) }
+    {
+        let style = LineStyle::new(options);
+        let pairs = LinePairs::try_new(table, clusters, style)?;
+        Ok(LineSegmenterBorrowed {
+            finder: Finder::of_table(style.strictness, pairs),
+            payloads: ComplexPayloadsBorrowed::new(
+                lent_without_ja(dictionaries),
+                GraphemeClusterSegmenterBorrowed::new(clusters)?,
+            ),
+        })
+    }
 
     /// A segmenter by the state machine of lines, or by that of clusters where the strictness is
     /// `Anywhere` and the word option `Normal`, which refuses nothing. Otherwise
