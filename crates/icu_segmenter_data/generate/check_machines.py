@@ -73,3 +73,36 @@ def table_segments(table, classes):
                 saved_class = entry[1]
             state, place = entry[1], place + 1
     return found
+
+
+def line_table_segments(table, classes, marks, keeps_none, joiner):
+    """[(place, 0)] of a text's boundaries by a pair table of lines, over units: each of `marks` belongs to what stands before it, but
+    after `keeps_none`; and after a unit that ends with the joiner there is no boundary."""
+    units = []
+    for k, c in enumerate(classes):
+        if c in marks and units and units[-1][0] not in keeps_none:
+            units[-1][1:] = [k + 1, c == joiner]
+        else:
+            units.append([c, k + 1, c == joiner])
+    found, left, n = [(0, 0)], 0, len(units)
+    while left < n:
+        if left == n - 1:
+            return found + [(len(classes), 0)]
+        entry, place = table.entries[units[left][0]][units[left + 1][0]], left + 1
+        saved = place
+        while not isinstance(entry, str):
+            state, place = entry[1], place + 1
+            if place == n:
+                if table.entries[state][table.end_of_text] != "NO_MATCH":
+                    return found + [(len(classes), 0)]
+                entry = "NO_MATCH"
+                break
+            entry = table.entries[state][units[place][0]]
+            if not isinstance(entry, str) and (entry[0] == "Intermediate" or state <= table.last):
+                saved = place
+        if entry == "NO_MATCH":
+            place = saved
+        if entry != "KEEP" and not units[place - 1][2]:
+            found.append((units[place - 1][1], 0))
+        left = place
+    return found

@@ -156,11 +156,6 @@ def shift(machine):
                     len(machine.symbols) + 1)
 
 
-def entry_uses(machine):
-    names = sorted({"CONTINUE" if status is None else f"ACCEPT_{status}" for status in machine.accepted})
-    return f"use crate::parts::{{{', '.join(names + ['Entry'])}}};"
-
-
 def classes(machine):
     """The symbols as classes, by their numbers."""
     return {k + 1: symbol for k, symbol in enumerate(machine.symbols)}
@@ -252,17 +247,29 @@ def lines(database, version):
             pseudo.append((symbol, script, tailored))
         value_of.update(dict.fromkeys(code_points, value))
     default = len(machine.symbols) + 1
+    # The classes of pair tables are those that the engine of lines names; it glues marks itself.
+    class_numbers = {name: k for k, name in enumerate(properties.LINE_CLASSES) if name}
+    class_of = {c: class_numbers[name] for c, name in properties.line_classes(database).items()}
+    class_names = {k: name for name, k in class_numbers.items()}
+    table = pair_tables.pair_table(machine, {k: properties.LINE_CLASS_SYMBOLS.get(name, name) for k, name in class_names.items()})
+    marks, keeps_none = ({class_numbers[name] for name in names.split()} for names in ("CM ZWJ", "BK CR LF NL SP ZW"))
+    verify(database.folder, "LineBreakTest.txt", "by pair table", lambda text: check_machines.line_table_segments(
+        table, [class_of.get(c, class_numbers["XX"]) for c in text], marks, keeps_none, class_numbers["ZWJ"]))
     maps = []
     for name in properties.TAILORINGS:
         pairs = [tailored.get(name, (symbol, script)) for symbol, script, tailored in pseudo]
         maps += map_array(f"The map by the tailoring {name}.", name.upper(), [(numbers[s], script) for s, script in pairs])
-    return file("lines/data.rt", version, "Lines: the parts of the machine and its tailorings, by UAX #14 and CSS Text 3.", [
-        entry_uses(machine), "use icu_segmenter::provider::{ComplexScript, State, Symbol};"], [
+    return file("lines/data.rt", version, "Lines: the parts of the machine, its tailorings and the pair table, by UAX #14 and CSS Text 3.", [
+        *table_uses(machine, table), "use icu_segmenter::provider::{ComplexScript, State, Symbol};"], [
         *ranges_array(PLAIN_RANGES.replace("symbol;", "symbol and pseudo symbol;"), "RANGES", "Symbol",
                       properties.ranges(value_of, default)), *other(default),
         *states_array(machine), *transitions_array(machine), *shift(machine),
         *map_array("The symbol and the script of each pseudo symbol.", "MAP",
-                   [(numbers[symbol], script) for symbol, script, _ in pseudo]), *maps])
+                   [(numbers[symbol], script) for symbol, script, _ in pseudo]), *maps,
+        *ranges_array("The code points of each class of the pair table; others have OTHER_CLASS.", "CLASSES", "u8",
+                      properties.ranges(class_of, class_numbers["XX"])),
+        *constant("The class of the code points that no range of CLASSES holds.", "OTHER_CLASS", "u8", class_numbers["XX"]),
+        *entries_array(table, class_names), *numbers_of(table, class_numbers["SA"])])
 
 
 def main():

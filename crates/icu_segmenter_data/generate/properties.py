@@ -166,3 +166,35 @@ def line_values(database):
         if rest[name]:
             kind(take(name), name)
     return found
+
+
+# The classes of lines by pair tables, by their numbers; 46 is that of complex characters.
+LINE_CLASSES = (" AI AK AL AL_DOTTED_CIRCLE AP AS B2 BA BB BK CB CJ CL CM CP CR EB EM EX GL H2 H3 HL HY ID ID_CN IN IS JL JT JV LF NL NS NU "
+                "OP_EA OP_OP30 PO PO_EAW PR PR_EAW QU QU_PF QU_PI RI SA SP SY VF VI WJ XX ZW ZWJ").split(" ")
+
+# What the rules read for a class that isn't one of their symbols. Marks are glued before the table is asked, and one that isn't is AL
+# (LB10); CJ is NS where no option says otherwise (LB1).
+LINE_CLASS_SYMBOLS = {
+    "AI": "AL", "AK": "AL", "AL_DOTTED_CIRCLE": "AL", "AP": "AL", "AS": "AL", "CJ": "NS", "CM": "AL", "ID_CN": "ID_UNASSIGNED", "OP_EA": "OP_WIDE",
+    "OP_OP30": "OP_NARROW", "PO_EAW": "PO", "PR_EAW": "PR", "QU_PF": "QU", "QU_PI": "QU", "SA": "AL", "VF": "AL", "VI": "AL", "XX": "AL", "ZWJ": "AL",
+}
+
+
+def line_classes(database):
+    """The class of each code point by pair tables; others have XX. All of SA is complex, marks too."""
+    found = database.values("LineBreak.txt")
+    wide, unassigned = database.values("EastAsianWidth.txt"), database.categories()["Cn"]
+    full = wide["F"] | wide["W"]
+    for name in ["XX", "SG"]:
+        found.pop(name, None)
+
+    def split(name, part, chosen):
+        found[part] = found[name] & chosen
+        found[name] -= chosen
+
+    split("ID", "ID_CN", database.pictographs() & unassigned)
+    split("OP", "OP_EA", full | wide["H"])
+    found["OP_OP30"] = found.pop("OP")
+    split("PO", "PO_EAW", full | wide["A"])
+    split("PR", "PR_EAW", full | wide["A"])
+    return one_each(found)

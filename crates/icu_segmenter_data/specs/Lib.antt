@@ -1,1 +1,2 @@
 pub mod Tailorings
+pub mod Unicode

@@ -1,8 +1,6 @@
 //! Grapheme clusters.
-ghost use Rattle.std.specs.Prelude.{◌≡◌, [], IfOk};
-ghost use Rattle.icu_segmenter.specs.Machine.{machine};
-ghost use Rattle.icu_segmenter.specs.PairTable.{pair_table};
-ghost use Rattle.icu_segmenter.specs.Table.{table};
+ghost use Rattle.std.specs.Prelude.{◌≡◌, IfOk};
+ghost use Rattle.icu_segmenter_data.specs.Unicode.{cluster_machine, cluster_table};
 
 mod data;
 
@@ -13,7 +11,7 @@ use std::alloc::Global;
 
 /// The machine of extended grapheme clusters, by UAX #29. The only error that is met is want of memory.
 pub fn cluster_machine(alloc: Global) -> Result<SegmenterStateMachine, DataError>
-    ensures { IfOk result (λ m. m ≡ machine (table RANGES OTHER) STATES TRANSITIONS 0 SHIFT []) }
+    ensures { IfOk result (λ m. m ≡ cluster_machine) }
 {
     machine_of(alloc, &RANGES, OTHER, &STATES, &TRANSITIONS, SHIFT, &[])
 }
@@ -21,7 +19,7 @@ pub fn cluster_machine(alloc: Global) -> Result<SegmenterStateMachine, DataError
 /// The pair table of the same clusters, which words and lines with dictionaries ask for too. The only error that is
 /// met is want of memory.
 pub fn cluster_table(alloc: Global) -> Result<RuleBreakData, DataError>
-    ensures { IfOk result (λ t. t ≡ pair_table (table RANGES OTHER) ENTRIES [] NUMBERS.count NUMBERS.last NUMBERS.start_of_text NUMBERS.end_of_text NUMBERS.complex) }
+    ensures { IfOk result (λ t. t ≡ cluster_table) }
 {
     table_of(alloc, &RANGES, OTHER, &ENTRIES, &[], NUMBERS)
 }

@@ -14,7 +14,7 @@ mod version;
 mod words;
 
 pub use clusters::{cluster_machine, cluster_table};
-pub use lines::{line_machine, line_tailorings};
+pub use lines::{line_machine, line_table, line_tailorings};
 pub use sentences::{sentence_machine, sentence_table};
 pub use version::UNICODE_VERSION;
 pub use words::{word_machine, word_table};

@@ -1,25 +1,22 @@
 //! Lines.
-ghost use Rattle.std.specs.Prelude.{◌≡◌, Some, IfOk};
-ghost use Rattle.icu_segmenter.specs.Machine.{machine};
-ghost use Rattle.icu_segmenter.specs.LineTailorings.{TailoringMaps};
-ghost use Rattle.icu_segmenter.specs.Table.{table};
-ghost use Rattle.icu_segmenter_data.specs.Tailorings.{tailoring_maps};
+ghost use Rattle.std.specs.Prelude.{◌≡◌, IfOk};
+ghost use Rattle.icu_segmenter_data.specs.Unicode.{line_machine, line_tailorings, line_table};
 
 mod data;
 
-use crate::parts::{machine_of, tailoring_of};
+use crate::parts::{machine_of, table_of, tailoring_of};
 use data::{
-    BREAKALL, JA, JA_LOOSE, JA_NORMAL, KEEPALL, LOOSE, MAP, NORMAL, OTHER, RANGES, SHIFT, STATES,
-    TRANSITIONS,
+    BREAKALL, CLASSES, ENTRIES, JA, JA_LOOSE, JA_NORMAL, KEEPALL, LOOSE, MAP, NORMAL, NUMBERS,
+    OTHER, OTHER_CLASS, RANGES, SHIFT, STATES, TRANSITIONS,
 };
-use icu_segmenter::provider::{DataError, LineTailorings, SegmenterStateMachine};
+use icu_segmenter::provider::{DataError, LineTailorings, RuleBreakData, SegmenterStateMachine};
 use std::alloc::Global;
 
 /// The machine of lines, by UAX #14, with numbers as its example 7 of section 8.2 has them, which the official test takes too.
 /// Status 1 is a mandatory break. What has complex context in Thai, Lao, Khmer and Myanmar has its script, so that
 /// dictionaries can cut it. The only error that is met is want of memory.
 pub fn line_machine(alloc: Global) -> Result<SegmenterStateMachine, DataError>
-    ensures { IfOk result (λ m. m ≡ machine (table RANGES OTHER) STATES TRANSITIONS 0 SHIFT MAP) }
+    ensures { IfOk result (λ m. m ≡ line_machine) }
 {
     machine_of(alloc, &RANGES, OTHER, &STATES, &TRANSITIONS, SHIFT, &MAP)
 }
@@ -27,7 +24,7 @@ pub fn line_machine(alloc: Global) -> Result<SegmenterStateMachine, DataError>
 /// The tailorings of that machine, all seven, by the properties `line-break` and `word-break` of CSS Text 3. The only error that is
 /// met is want of memory.
 pub fn line_tailorings(alloc: Global) -> Result<LineTailorings, DataError>
-    ensures { IfOk result (λ maps. maps ≡ tailoring_maps BREAKALL KEEPALL JA_LOOSE LOOSE JA_NORMAL NORMAL JA) }
+    ensures { IfOk result (λ tailorings. tailorings ≡ line_tailorings) }
 {
     Ok(LineTailorings {
         breakall: Some(tailoring_of(alloc, &BREAKALL)?),
@@ -38,4 +35,12 @@ pub fn line_tailorings(alloc: Global) -> Result<LineTailorings, DataError>
         normal: Some(tailoring_of(alloc, &NORMAL)?),
         ja: Some(tailoring_of(alloc, &JA)?),
     })
+}
+
+/// The pair table of the same lines, over the classes that the classic engine of lines names (UAX #14's, where East Asian width and
+/// Extended_Pictographic split some); of class SA all is complex, marks too. The only error that is met is want of memory.
+pub fn line_table(alloc: Global) -> Result<RuleBreakData, DataError>
+    ensures { IfOk result (λ t. t ≡ line_table) }
+{
+    table_of(alloc, &CLASSES, OTHER_CLASS, &ENTRIES, &[], NUMBERS)
 }

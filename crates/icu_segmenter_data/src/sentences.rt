@@ -1,8 +1,6 @@
 //! Sentences.
-ghost use Rattle.std.specs.Prelude.{◌≡◌, [], IfOk};
-ghost use Rattle.icu_segmenter.specs.Machine.{machine};
-ghost use Rattle.icu_segmenter.specs.PairTable.{pair_table};
-ghost use Rattle.icu_segmenter.specs.Table.{table};
+ghost use Rattle.std.specs.Prelude.{◌≡◌, IfOk};
+ghost use Rattle.icu_segmenter_data.specs.Unicode.{sentence_machine, sentence_table};
 
 mod data;
 
@@ -13,14 +11,14 @@ use std::alloc::Global;
 
 /// The machine of sentences, by UAX #29. The only error that is met is want of memory.
 pub fn sentence_machine(alloc: Global) -> Result<SegmenterStateMachine, DataError>
-    ensures { IfOk result (λ m. m ≡ machine (table RANGES OTHER) STATES TRANSITIONS 0 SHIFT []) }
+    ensures { IfOk result (λ m. m ≡ sentence_machine) }
 {
     machine_of(alloc, &RANGES, OTHER, &STATES, &TRANSITIONS, SHIFT, &[])
 }
 
 /// The pair table of the same sentences. The only error that is met is want of memory.
 pub fn sentence_table(alloc: Global) -> Result<RuleBreakData, DataError>
-    ensures { IfOk result (λ t. t ≡ pair_table (table RANGES OTHER) ENTRIES [] NUMBERS.count NUMBERS.last NUMBERS.start_of_text NUMBERS.end_of_text NUMBERS.complex) }
+    ensures { IfOk result (λ t. t ≡ sentence_table) }
 {
     table_of(alloc, &RANGES, OTHER, &ENTRIES, &[], NUMBERS)
 }

@@ -1,8 +1,6 @@
 //! Words.
 ghost use Rattle.std.specs.Prelude.{◌≡◌, IfOk};
-ghost use Rattle.icu_segmenter.specs.Machine.{machine};
-ghost use Rattle.icu_segmenter.specs.PairTable.{pair_table};
-ghost use Rattle.icu_segmenter.specs.Table.{table};
+ghost use Rattle.icu_segmenter_data.specs.Unicode.{word_machine, word_table};
 
 mod data;
 
@@ -15,7 +13,7 @@ use std::alloc::Global;
 /// 0 where there is none. What has complex context in Thai, Lao, Khmer and Myanmar, Han, Hiragana and Katakana have
 /// their scripts, so that dictionaries can cut them. The only error that is met is want of memory.
 pub fn word_machine(alloc: Global) -> Result<SegmenterStateMachine, DataError>
-    ensures { IfOk result (λ m. m ≡ machine (table RANGES OTHER) STATES TRANSITIONS 0 SHIFT MAP) }
+    ensures { IfOk result (λ m. m ≡ word_machine) }
 {
     machine_of(alloc, &RANGES, OTHER, &STATES, &TRANSITIONS, SHIFT, &MAP)
 }
@@ -23,7 +21,7 @@ pub fn word_machine(alloc: Global) -> Result<SegmenterStateMachine, DataError>
 /// The pair table of the same words, with the same statuses. Its complex characters are what dictionaries cut: all that has a
 /// script in the machine, but Katakana. The only error that is met is want of memory.
 pub fn word_table(alloc: Global) -> Result<RuleBreakData, DataError>
-    ensures { IfOk result (λ t. t ≡ pair_table (table CLASSES OTHER) ENTRIES STATUSES NUMBERS.count NUMBERS.last NUMBERS.start_of_text NUMBERS.end_of_text NUMBERS.complex) }
+    ensures { IfOk result (λ t. t ≡ word_table) }
 {
     table_of(alloc, &CLASSES, OTHER, &ENTRIES, &STATUSES, NUMBERS)
 }

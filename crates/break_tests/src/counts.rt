@@ -1,0 +1,83 @@
+//! How many samples are passed.
+ghost use Rattle.std.specs.Prelude.{◌↔◌, IfOk, IsTrue};
+ghost use Rattle.break_tests.specs.Segmenter.{HasMandatory, IsPassed};
+
+use crate::options::segmenter_with;
+use crate::sample::{Sample, sample_of};
+use crate::segmenter::Segmenter;
+use anyhow::Result;
+use std::alloc::{AllocError, Global};
+
+/// How many samples were passed, and how many were not.
+#[derive(Clone, Copy, Default)]
+pub struct Counts {
+    /// How many were passed.
+    pub passed: u32,
+    /// How many were not.
+    pub failed: u32,
+}
+
+impl Counts {
+    /// Counts one more.
+    fn add(&mut self, is_passed: bool) {
+        if is_passed {
+            self.passed = self.passed.saturating_add(1);
+        } else {
+            self.failed = self.failed.saturating_add(1);
+        }
+    }
+}
+
+/// Counts the samples of a test file. The errors are want of memory, and a line that has neither marks nor code points.
+pub fn counts_of(alloc: Global, segmenter: &Segmenter, text: &str) -> Result<Counts> {
+    let mut counts = Counts::default();
+    for line in text.lines() {
+        if let Some(sample) = sample_of(alloc, line)? {
+            counts.add(is_passed(alloc, segmenter, &sample)?);
+        }
+    }
+    Ok(counts)
+}
+
+/// Counts the rows of lines with options: each has its options, a semicolon, and a sample. The errors are want of memory, and
+/// a row that can't be read.
+pub fn option_counts_of(alloc: Global, text: &str) -> Result<Counts> {
+    let mut counts = Counts::default();
+    for line in text.lines() {
+        let Some((options, line)) = line.split_once(';') else {
+            continue;
+        };
+        if let Some(sample) = sample_of(alloc, line)? {
+            let segmenter = segmenter_with(alloc, options)?;
+            counts.add(is_passed(alloc, &segmenter, &sample)?);
+        }
+    }
+    Ok(counts)
+}
+
+// Whether the text has just the sample's boundaries, in each encoding, and of lines the mandatory ones.
+fn is_passed(alloc: Global, segmenter: &Segmenter, sample: &Sample) -> Result<bool, AllocError>
+    ensures { IfOk result (λ passed. IsTrue passed ↔ IsPassed segmenter.now sample.now) }
+{
+    let text = sample.text.as_str();
+    let in_str = segmenter.places_in_str(alloc, text)?;
+    let in_utf8 = segmenter.places_in_utf8(alloc, text.as_bytes())?;
+    let in_utf16 = segmenter.places_in_utf16(alloc, sample.units.as_slice())?;
+    let has_mandatory = has_mandatory(alloc, segmenter, sample)?;
+    Ok(
+        in_str == sample.places
+            && in_utf8 == sample.places
+            && in_utf16 == sample.unit_places
+            && has_mandatory,
+    )
+}
+
+// Whether the lines of the text have just the sample's mandatory boundaries; true of what isn't lines.
+fn has_mandatory(alloc: Global, segmenter: &Segmenter, sample: &Sample) -> Result<bool, AllocError>
+    ensures { IfOk result (λ has. IsTrue has ↔ HasMandatory segmenter.now sample.now) }
+{
+    match segmenter.mandatory_places(alloc, sample.text.as_str())? {
+        Some(places) => Ok(places == sample.mandatory),
+        None => Ok(true),
+    }
+}

@@ -1,0 +1,129 @@
+//! The engines that have real data.
+
+use crate::segmenter::Segmenter;
+use anyhow::Result;
+use icu_segmenter::options::{LineBreakOptions, SentenceBreakOptions, WordBreakOptions};
+use icu_segmenter::{GraphemeClusterSegmenter, LineSegmenter, SentenceSegmenter, WordSegmenter};
+use icu_segmenter_data::{
+    cluster_machine, cluster_table, line_machine, line_tailorings, sentence_machine,
+    sentence_table, word_machine, word_table,
+};
+use std::alloc::Global;
+
+/// What is found, and by which engine.
+#[derive(Clone, Copy)]
+pub enum Engine {
+    /// Grapheme clusters, by the machine.
+    ClusterMachine,
+    /// Grapheme clusters, by the pair table.
+    ClusterTable,
+    /// Words, by the machine.
+    WordMachine,
+    /// Words, by the pair table.
+    WordTable,
+    /// Sentences, by the machine.
+    SentenceMachine,
+    /// Sentences, by the pair table.
+    SentenceTable,
+    /// Lines, by the machine.
+    LineMachine,
+}
+
+/// All engines, in the order in which they are tested.
+pub const ENGINES: [Engine; 7] = [
+    Engine::ClusterMachine,
+    Engine::ClusterTable,
+    Engine::WordMachine,
+    Engine::WordTable,
+    Engine::SentenceMachine,
+    Engine::SentenceTable,
+    Engine::LineMachine,
+];
+
+impl Engine {
+    /// The file of its tests.
+    pub fn file(self) -> &'static str {
+        match self {
+            Engine::ClusterMachine | Engine::ClusterTable => "GraphemeBreakTest.txt",
+            Engine::WordMachine | Engine::WordTable => "WordBreakTest.txt",
+            Engine::SentenceMachine | Engine::SentenceTable => "SentenceBreakTest.txt",
+            Engine::LineMachine => "LineBreakTest.txt",
+        }
+    }
+
+    /// What is printed of it.
+    pub fn name(self) -> &'static str {
+        match self {
+            Engine::ClusterMachine => "clusters by machine",
+            Engine::ClusterTable => "clusters by pair table",
+            Engine::WordMachine => "words by machine",
+            Engine::WordTable => "words by pair table",
+            Engine::SentenceMachine => "sentences by machine",
+            Engine::SentenceTable => "sentences by pair table",
+            Engine::LineMachine => "lines by machine",
+        }
+    }
+
+    /// The segmenter with its data. The errors are want of memory, and data that are refused.
+    pub fn segmenter(self, alloc: Global) -> Result<Segmenter> {
+        match self {
+            Engine::ClusterMachine => cluster_machine_segmenter(alloc),
+            Engine::ClusterTable => cluster_table_segmenter(alloc),
+            Engine::WordMachine => word_machine_segmenter(alloc),
+            Engine::WordTable => word_table_segmenter(alloc),
+            Engine::SentenceMachine => sentence_machine_segmenter(alloc),
+            Engine::SentenceTable => sentence_table_segmenter(alloc),
+            Engine::LineMachine => line_segmenter(alloc, LineBreakOptions::default()),
+        }
+    }
+}
+
+fn cluster_machine_segmenter(alloc: Global) -> Result<Segmenter> {
+    let segmenter = GraphemeClusterSegmenter::try_new_neo(cluster_machine(alloc)?)?;
+    Ok(Segmenter::Clusters(segmenter))
+}
+
+fn cluster_table_segmenter(alloc: Global) -> Result<Segmenter> {
+    let segmenter = GraphemeClusterSegmenter::try_new(cluster_table(alloc)?)?;
+    Ok(Segmenter::Clusters(segmenter))
+}
+
+fn word_machine_segmenter(alloc: Global) -> Result<Segmenter> {
+    let options = WordBreakOptions::default();
+    let segmenter = WordSegmenter::try_new_neo_for_non_complex_scripts(
+        word_machine(alloc)?,
+        cluster_table(alloc)?,
+        options,
+    )?;
+    Ok(Segmenter::Words(segmenter))
+}
+
+fn word_table_segmenter(alloc: Global) -> Result<Segmenter> {
+    let (table, clusters) = (word_table(alloc)?, cluster_table(alloc)?);
+    let options = WordBreakOptions::default();
+    let segmenter = WordSegmenter::try_new_for_non_complex_scripts(table, None, clusters, options)?;
+    Ok(Segmenter::Words(segmenter))
+}
+
+fn sentence_machine_segmenter(alloc: Global) -> Result<Segmenter> {
+    let options = SentenceBreakOptions::default();
+    let segmenter = SentenceSegmenter::try_new_neo(sentence_machine(alloc)?, None, options)?;
+    Ok(Segmenter::Sentences(segmenter))
+}
+
+fn sentence_table_segmenter(alloc: Global) -> Result<Segmenter> {
+    let options = SentenceBreakOptions::default();
+    let segmenter = SentenceSegmenter::try_new(sentence_table(alloc)?, None, options)?;
+    Ok(Segmenter::Sentences(segmenter))
+}
+
+/// The segmenter of lines by the machine, with these options. The errors are want of memory, and data that are refused.
+pub fn line_segmenter(alloc: Global, options: LineBreakOptions<'_>) -> Result<Segmenter> {
+    let segmenter = LineSegmenter::try_new_neo_for_non_complex_scripts(
+        line_machine(alloc)?,
+        line_tailorings(alloc)?,
+        cluster_machine(alloc)?,
+        options,
+    )?;
+    Ok(Segmenter::Lines(segmenter))
+}

@@ -1,0 +1,54 @@
+//! Runs the official break tests of Unicode 15.0 through the library, with the data of `icu_segmenter_data`, and rows of lines with
+//! options.
+//!
+//! A test is passed where the text has just the boundaries that its line says, as str, as UTF-8 and as UTF-16; in lines also just the
+//! mandatory ones that the rules named in its comment make so. The argument is the folder of the test files.
+#![tactic(auto)]
+
+mod counts;
+mod engine;
+mod options;
+mod sample;
+mod segmenter;
+
+use anyhow::{Context, Result};
+use counts::{Counts, counts_of, option_counts_of};
+use engine::ENGINES;
+use std::process::ExitCode;
+use std::{env, fs};
+
+fn main(rt: HostRuntime) -> Result<ExitCode> {
+    let alloc = rt.alloc();
+    let folder = env::args(&rt)?.nth(1).context("usage: break_tests FOLDER")?;
+    let mut failed = 0u32;
+    for engine in ENGINES {
+        let text = read(&rt, folder.as_str(), engine.file())?;
+        let counts = counts_of(alloc, &engine.segmenter(alloc)?, text.as_str())?;
+        print(&rt, engine.file(), engine.name(), counts)?;
+        failed = failed.saturating_add(counts.failed);
+    }
+    let text = read(&rt, folder.as_str(), OPTION_FILE)?;
+    let counts = option_counts_of(alloc, text.as_str())?;
+    print(&rt, OPTION_FILE, "lines by machine", counts)?;
+    failed = failed.saturating_add(counts.failed);
+    Ok(if failed > 0 {
+        ExitCode::FAILURE
+    } else {
+        ExitCode::SUCCESS
+    })
+}
+
+// The rows of lines with options.
+const OPTION_FILE: &str = "LineOptionTest.txt";
+
+// A file of the folder.
+fn read(rt: &HostRuntime, folder: &str, file: &str) -> Result<String> {
+    let path = format!(in rt.alloc(); "{folder}/{file}")?;
+    Ok(fs::read_to_string(rt, path.as_str()).context("reading a test file")?)
+}
+
+fn print(rt: &HostRuntime, file: &str, name: &str, counts: Counts) -> Result<()> {
+    let Counts { passed, failed } = counts;
+    println!(rt; "{file}, {name}: {passed} passed, {failed} failed")?;
+    Ok(())
+}

@@ -1,0 +1,114 @@
+//! Segmenters of any kind.
+ghost use Rattle.std.specs.Prelude.{◌≡◌, IfOk};
+ghost use Rattle.icu_segmenter.specs.Lines.{line_rules};
+ghost use Rattle.icu_segmenter.specs.Utf8.{utf8};
+ghost use Rattle.break_tests.specs.Segmenter.{mandatory_by};
+
+use icu_segmenter::{
+    GraphemeClusterSegmenter, LineSegmenter, LineSegmenterBorrowed, SentenceSegmenter,
+    WordSegmenter,
+};
+use std::alloc::{AllocError, Global};
+
+/// A segmenter with data of its own.
+#[derive(Drop)]
+pub enum Segmenter {
+    /// Of grapheme clusters.
+    Clusters(GraphemeClusterSegmenter),
+    /// Of words.
+    Words(WordSegmenter),
+    /// Of sentences.
+    Sentences(SentenceSegmenter),
+    /// Of lines.
+    Lines(LineSegmenter),
+}
+
+impl Segmenter {
+    ghost use Rattle.std.specs.Option.{option_map};
+    ghost use Rattle.icu_segmenter.specs.Utf8.{utf8};
+    ghost use Rattle.icu_segmenter.specs.Utf16.{utf16};
+    ghost use Rattle.break_tests.specs.Segmenter.{places_by, mandatory_places_by};
+
+    /// The boundaries of a text, in bytes. The only error is want of memory.
+    pub fn places_in_str(&self, alloc: Global, text: &str) -> Result<Vec<usize>, AllocError>
+        ensures { IfOk result (λ found. found.items ≡ places_by self.now (utf8 text.now)) }
+    {
+        match self {
+            Segmenter::Clusters(clusters) => {
+                clusters.as_borrowed().segment_str(text).collect(alloc)
+            }
+            Segmenter::Words(words) => words.as_borrowed().segment_str(text).collect(alloc),
+            Segmenter::Sentences(sentences) => {
+                sentences.as_borrowed().segment_str(text).collect(alloc)
+            }
+            Segmenter::Lines(lines) => lines.as_borrowed().segment_str(text).collect(alloc),
+        }
+    }
+
+    /// The boundaries of a text in UTF-8, in bytes. The only error is want of memory.
+    pub fn places_in_utf8(&self, alloc: Global, text: &[u8]) -> Result<Vec<usize>, AllocError>
+        ensures { IfOk result (λ found. found.items ≡ places_by self.now (utf8 text.now)) }
+    {
+        match self {
+            Segmenter::Clusters(clusters) => {
+                clusters.as_borrowed().segment_utf8(text).collect(alloc)
+            }
+            Segmenter::Words(words) => words.as_borrowed().segment_utf8(text).collect(alloc),
+            Segmenter::Sentences(sentences) => {
+                sentences.as_borrowed().segment_utf8(text).collect(alloc)
+            }
+            Segmenter::Lines(lines) => lines.as_borrowed().segment_utf8(text).collect(alloc),
+        }
+    }
+
+    /// The boundaries of a text in UTF-16, in units. The only error is want of memory.
+    pub fn places_in_utf16(&self, alloc: Global, text: &[u16]) -> Result<Vec<usize>, AllocError>
+        ensures { IfOk result (λ found. found.items ≡ places_by self.now (utf16 text.now)) }
+    {
+        match self {
+            Segmenter::Clusters(clusters) => {
+                clusters.as_borrowed().segment_utf16(text).collect(alloc)
+            }
+            Segmenter::Words(words) => words.as_borrowed().segment_utf16(text).collect(alloc),
+            Segmenter::Sentences(sentences) => {
+                sentences.as_borrowed().segment_utf16(text).collect(alloc)
+            }
+            Segmenter::Lines(lines) => lines.as_borrowed().segment_utf16(text).collect(alloc),
+        }
+    }
+
+    /// The mandatory boundaries of lines, in bytes; of others None. The only error is want of memory.
+    pub fn mandatory_places(
+        &self,
+        alloc: Global,
+        text: &str,
+    ) -> Result<Option<Vec<usize>>, AllocError>
+        ensures { IfOk result (λ found. option_map (λ places. places.items) found ≡ mandatory_places_by self.now (utf8 text.now)) }
+    {
+        match self {
+            Segmenter::Lines(lines) => {
+                let places = mandatory_breaks(alloc, lines.as_borrowed(), text)?;
+                Ok(Some(places))
+            }
+            _ => Ok(None),
+        }
+    }
+}
+
+// The places where a line must be broken.
+fn mandatory_breaks(
+    alloc: Global,
+    segmenter: LineSegmenterBorrowed<'_>,
+    text: &str,
+) -> Result<Vec<usize>, AllocError>
+    ensures { IfOk result (λ found. found.items ≡ mandatory_by (line_rules segmenter.entry) (utf8 text.now)) }
+{
+    let mut lines = segmenter.segment_str(text);
+    let mut places = Vec::new(alloc);
+    while let Some(place) = lines.next() {
+        if lines.is_mandatory() {
+            places.push(place)?;
+        }
+    }
+    Ok(places)
+}

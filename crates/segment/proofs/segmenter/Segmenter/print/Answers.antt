@@ -1,0 +1,45 @@
+-- Each iterator has all the boundaries left when it is made.
+use Rattle.std.proofs.Common.{ℕ, List, ap, ◌∙◌}
+use Rattle.icu_segmenter.specs.Boundaries.{offsets}
+use Rattle.icu_segmenter.specs.Clusters.{clusters_places}
+use Rattle.icu_segmenter.specs.LineBreaks.{LineRules, line_boundaries_of}
+use Rattle.icu_segmenter.specs.Lines.{line_places}
+use Rattle.icu_segmenter.specs.Rules.{Rules, boundaries_of}
+use Rattle.icu_segmenter.specs.Sentences.{sentences_places}
+use Rattle.icu_segmenter.specs.Utf8.{utf8}
+use Rattle.icu_segmenter.specs.WordRules.{WordRules, word_boundaries_of}
+use Rattle.icu_segmenter.specs.Words.{typed_places, with_types, word_places}
+use Rattle.segment.specs.Output.{lines_of, segments, words_alone}
+use Rattle.segment.proofs.Printed.{lines-are_left}
+use Rattle.segment.proofs.segmenter.Segmenter.print.Goals as goal
+
+pub returns-in-Clusters : goal.returns-in-Clusters
+returns-in-Clusters g c =
+    rw c.in-Clusters.is
+    (lines-are_left clusters_places (λ (places : List ℕ). lines_of c.args.style c.args.text.now (segments places)) _ _ _ _ _ c.print_segments.ensures
+    (ap offsets (c.segment_utf8.ensures.boundaries ∙ ap (λ (rules : Rules). boundaries_of rules (utf8 c.args.text.now)) c.as_borrowed.ensures)))
+
+pub returns-in-Words : goal.returns-in-Words
+returns-in-Words g c =
+    rw c.in-Words.is
+    (lines-are_left word_places (λ (places : List ℕ). lines_of c.args.style c.args.text.now (segments places)) _ _ _ _ _ c.print_segments-in-Words.ensures
+    (ap offsets (c.segment_utf8-in-Words.ensures.boundaries ∙ ap (λ (rules : WordRules). word_boundaries_of rules (utf8 c.args.text.now)) c.as_borrowed-in-Words.ensures)))
+
+pub returns-in-WordsAlone : goal.returns-in-WordsAlone
+returns-in-WordsAlone g c =
+    rw c.in-WordsAlone.is
+    (lines-are_left typed_places (λ boundaries. lines_of c.args.style c.args.text.now (words_alone boundaries)) _ _ _ _ _ c.print_words.ensures
+    (c.iter_with_word_type.ensures
+    ∙ ap with_types (c.segment_utf8-words.ensures.boundaries ∙ ap (λ (rules : WordRules). word_boundaries_of rules (utf8 c.args.text.now)) c.as_borrowed-in-WordsAlone.ensures)))
+
+pub returns-in-Sentences : goal.returns-in-Sentences
+returns-in-Sentences g c =
+    rw c.in-Sentences.is
+    (lines-are_left sentences_places (λ (places : List ℕ). lines_of c.args.style c.args.text.now (segments places)) _ _ _ _ _ c.print_segments-in-Sentences.ensures
+    (ap offsets (c.segment_utf8-in-Sentences.ensures.boundaries ∙ ap (λ (rules : Rules). boundaries_of rules (utf8 c.args.text.now)) c.as_borrowed-in-Sentences.ensures)))
+
+pub returns-in-Lines : goal.returns-in-Lines
+returns-in-Lines g c =
+    rw c.in-Lines.is
+    (lines-are_left line_places (λ (places : List ℕ). lines_of c.args.style c.args.text.now (segments places)) _ _ _ _ _ c.print_segments-in-Lines.ensures
+    (ap offsets (c.segment_utf8-in-Lines.ensures.boundaries ∙ ap (λ (rules : LineRules). line_boundaries_of rules (utf8 c.args.text.now)) c.as_borrowed-in-Lines.ensures)))

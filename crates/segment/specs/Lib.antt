@@ -1,0 +1,3 @@
+pub mod Escapes
+pub mod Output
+pub mod Segmenter

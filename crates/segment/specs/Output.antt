@@ -1,0 +1,31 @@
+-- What is written of a text: each of its segments on a line of its own.
+use Rattle.std.specs.Prelude.{ℕ, Option, None, Some, List, [], ◌∷◌, ◌++◌, drop, map, filter, decimal}
+use Rattle.std.specs.List.{flat_map, slice_range, zip}
+use Rattle.icu_segmenter.specs.WordRules.{is_word_like}
+use Rattle.icu_segmenter.specs.declared.options.WordType.{WordType}
+use Rattle.segment.specs.Escapes.{escaped}
+use Rattle.segment.specs.declared.output.Style.{Style}
+use Rattle.segment.specs.declared.output.Style.TheVariants.{Escaped, Raw, Offsets}
+
+-- the segments between the boundaries of a text, which are neighbours: where each begins, and where it ends
+abbrev pub segments : List ℕ → List (ℕ × ℕ)
+segments places = zip places (drop 1 places)
+
+-- of boundaries, each with the type of what ends there, the segments that are words
+abbrev pub words_alone : List (ℕ × WordType) → List (ℕ × ℕ)
+words_alone boundaries =
+    map (λ pair. (pair.0.0, pair.1.0)) (filter (λ pair. is_word_like pair.1.1) (zip boundaries (drop 1 boundaries)))
+
+-- the line of a segment
+abbrev pub line_of : Style → List ℕ → ℕ × ℕ → List ℕ
+line_of Escaped text segment = escaped (slice_range text segment.0 segment.1) ++ 10 ∷ []
+line_of Raw text segment = slice_range text segment.0 segment.1 ++ 10 ∷ []
+line_of Offsets text segment = decimal segment.0 ++ 32 ∷ decimal segment.1 ++ 10 ∷ []
+
+abbrev pub lines_of : Style → List ℕ → List (ℕ × ℕ) → List ℕ
+lines_of style text segments = flat_map (line_of style text) segments
+
+-- the segment that ends at a place, if one begins before it
+abbrev pub ended : Option ℕ → ℕ → List (ℕ × ℕ)
+ended None end = []
+ended (Some start) end = (start, end) ∷ []

@@ -1,0 +1,210 @@
+//! The command line.
+
+use crate::output::Style;
+use anyhow::{Context, Result, bail, ensure};
+use clap::{Arg, ArgAction, ArgMatches, Command};
+use icu_segmenter::options::{LanguageIdentifier, LineBreakStrictness, LineBreakWordOption};
+use icu_segmenter::provider::ComplexScript;
+use std::alloc::{AllocError, Global};
+
+/// What is found.
+#[derive(Clone, Copy, Debug, PartialEq, Eq)]
+pub enum Kind {
+    /// Grapheme clusters.
+    Clusters,
+    /// Words, and what stands between them.
+    Words,
+    /// Words alone.
+    WordsAlone,
+    /// Sentences.
+    Sentences,
+    /// Lines.
+    Lines,
+}
+
+/// What the command line asks for.
+#[derive(Drop)]
+pub struct Request<'a> {
+    /// What is found.
+    pub kind: Kind,
+    /// How segments are written.
+    pub style: Style,
+    /// Of lines, how strict they are.
+    pub strictness: Option<LineBreakStrictness>,
+    /// Of lines, whether they break within words.
+    pub word_option: Option<LineBreakWordOption>,
+    /// Of lines, the language of the text.
+    pub language: Option<LanguageIdentifier>,
+    /// Of words and lines, the file of a dictionary, and its script.
+    pub dictionary: Option<(&'a str, ComplexScript)>,
+}
+
+const KINDS: [&str; 4] = ["grapheme", "word", "sentence", "line"];
+
+const STRICTNESSES: [&str; 4] = ["loose", "normal", "strict", "anywhere"];
+
+const WORD_OPTIONS: [&str; 3] = ["normal", "break-all", "keep-all"];
+
+const SCRIPTS: [&str; 5] = ["thai", "lao", "khmer", "myanmar", "cj"];
+
+/// The arguments that there are. The only error is want of memory.
+pub fn command_line<'a>(alloc: Global) -> Result<Command<'a>, AllocError> {
+    let command = Command::new(alloc, "segment").about(
+        "Cuts standard input (UTF-8) into segments, and writes each on a line of its own",
+    );
+    let command = command
+        .arg(kind_argument(alloc))?
+        .arg(flag(
+            alloc,
+            "offsets",
+            "Write where each segment begins and ends, in bytes",
+        ))?
+        .arg(flag(
+            alloc,
+            "raw",
+            "Write control characters as they are, and not as escapes",
+        ))?
+        .arg(flag(
+            alloc,
+            "words",
+            "Of words: leave out what stands between them",
+        ))?;
+    let strictness = "Of lines: the property line-break of CSS";
+    let word_break = "Of lines: the property word-break of CSS";
+    let script = "The script of that dictionary";
+    command
+        .arg(choice(alloc, "strictness", &STRICTNESSES, strictness))?
+        .arg(choice(alloc, "word-break", &WORD_OPTIONS, word_break))?
+        .arg(option(alloc, "lang", "Of lines: the language of the text, as ja"))?
+        .arg(dictionary_argument(alloc)?)?
+        .arg(choice(alloc, "script", &SCRIPTS, script).requires_arg("dictionary")?)
+}
+
+fn kind_argument<'a>(alloc: Global) -> Arg<'a> {
+    Arg::new(alloc, "kind")
+        .required(true)
+        .action(ArgAction::Set)
+        .value_parser(KINDS.as_slice())
+}
+
+fn flag<'a>(alloc: Global, name: &'a str, help: &'a str) -> Arg<'a> {
+    Arg::new(alloc, name)
+        .long(name)
+        .action(ArgAction::SetTrue)
+        .help(help)
+}
+
+fn option<'a>(alloc: Global, name: &'a str, help: &'a str) -> Arg<'a> {
+    Arg::new(alloc, name)
+        .long(name)
+        .action(ArgAction::Set)
+        .help(help)
+}
+
+fn choice<'a>(alloc: Global, name: &'a str, values: &'a [&'a str], help: &'a str) -> Arg<'a> {
+    option(alloc, name, help).value_parser(values)
+}
+
+fn dictionary_argument<'a>(alloc: Global) -> Result<Arg<'a>, AllocError> {
+    option(
+        alloc,
+        "dictionary",
+        "Of words and lines: a file of words, one a line, that cut its script",
+    )
+    .value_name("FILE")
+    .requires_arg("script")
+}
+
+/// What the arguments ask for. The error is an argument that its kind of segments doesn't have, or a language that isn't one.
+pub fn request_of<'a>(matches: &ArgMatches<'a>) -> Result<Request<'a>> {
+    let dictionary = match (matches.get_str("dictionary"), matches.get_str("script")) {
+        (Some(file), Some(script)) => Some((file, script_of(script)?)),
+        _ => None,
+    };
+    let request = Request {
+        kind: kind_of(matches.get_str("kind"), matches.get_flag("words"))?,
+        style: style_of(matches.get_flag("offsets"), matches.get_flag("raw")),
+        strictness: matches.get_str("strictness").and_then(strictness_of),
+        word_option: matches.get_str("word-break").and_then(word_option_of),
+        language: language_of(matches.get_str("lang"))?,
+        dictionary,
+    };
+    check(&request)?;
+    Ok(request)
+}
+
+// The error is an option that its kind of segments doesn't have.
+fn check(request: &Request<'_>) -> Result<()> {
+    let has_words = matches!(request.kind, Kind::Words | Kind::WordsAlone);
+    let has_lines = matches!(request.kind, Kind::Lines);
+    let asks_lines = request.strictness.is_some()
+        || request.word_option.is_some()
+        || request.language.is_some();
+    ensure!(
+        has_lines || !asks_lines,
+        "--strictness, --word-break and --lang are options of lines"
+    );
+    ensure!(
+        has_words || has_lines || request.dictionary.is_none(),
+        "--dictionary is an option of words and lines"
+    );
+    Ok(())
+}
+
+fn kind_of(word: Option<&str>, is_alone: bool) -> Result<Kind> {
+    match (word, is_alone) {
+        (Some("word"), true) => Ok(Kind::WordsAlone),
+        (_, true) => bail!("--words is an option of words"),
+        (Some("grapheme"), _) => Ok(Kind::Clusters),
+        (Some("word"), _) => Ok(Kind::Words),
+        (Some("sentence"), _) => Ok(Kind::Sentences),
+        (Some("line"), _) => Ok(Kind::Lines),
+        _ => bail!("no such kind of segments"),
+    }
+}
+
+fn style_of(offsets: bool, raw: bool) -> Style {
+    match (offsets, raw) {
+        (true, _) => Style::Offsets,
+        (false, true) => Style::Raw,
+        (false, false) => Style::Escaped,
+    }
+}
+
+fn strictness_of(word: &str) -> Option<LineBreakStrictness> {
+    match word {
+        "loose" => Some(LineBreakStrictness::Loose),
+        "normal" => Some(LineBreakStrictness::Normal),
+        "strict" => Some(LineBreakStrictness::Strict),
+        "anywhere" => Some(LineBreakStrictness::Anywhere),
+        _ => None,
+    }
+}
+
+fn word_option_of(word: &str) -> Option<LineBreakWordOption> {
+    match word {
+        "normal" => Some(LineBreakWordOption::Normal),
+        "break-all" => Some(LineBreakWordOption::BreakAll),
+        "keep-all" => Some(LineBreakWordOption::KeepAll),
+        _ => None,
+    }
+}
+
+fn language_of(word: Option<&str>) -> Result<Option<LanguageIdentifier>> {
+    let Some(word) = word else {
+        return Ok(None);
+    };
+    let language = LanguageIdentifier::try_from_language(word);
+    Ok(Some(language.context("a language has 2 to 8 letters")?))
+}
+
+fn script_of(word: &str) -> Result<ComplexScript> {
+    match word {
+        "thai" => Ok(ComplexScript::Thai),
+        "lao" => Ok(ComplexScript::Lao),
+        "khmer" => Ok(ComplexScript::Khmer),
+        "myanmar" => Ok(ComplexScript::Myanmar),
+        "cj" => Ok(ComplexScript::ChineseOrJapanese),
+        _ => bail!("no such script"),
+    }
+}

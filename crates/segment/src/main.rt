@@ -1,0 +1,47 @@
+//! Cuts standard input into grapheme clusters, words, sentences or lines, by the data of Unicode 15.0, and writes each segment on a
+//! line of its own.
+#![tactic(auto)]
+
+mod command;
+mod cut;
+mod dictionary;
+mod escapes;
+mod output;
+mod segmenter;
+#[cfg(test)]
+mod tests;
+
+use anyhow::{Context, Result};
+use command::{command_line, request_of};
+use cut::{Fault, cut};
+use dictionary::dictionaries_of;
+use segmenter::segmenter_of;
+use std::env;
+use std::io::{BufWriter, ErrorKind};
+use std::process::ExitCode;
+
+// Room for some thousands of segments, so that few writes reach the system.
+const OUTPUT_CAPACITY: usize = 65536;
+
+fn main(rt: HostRuntime) -> Result<ExitCode> {
+    let alloc = rt.alloc();
+    let words: Vec<String> = env::args(&rt)?.collect(alloc)?;
+    let matches = match command_line(alloc)?.try_get_matches_from(words.as_slice()) {
+        Ok(matches) => matches,
+        Err(error) => {
+            error.print(&rt)?;
+            return Ok(ExitCode::from(error.exit_code() as u8));
+        }
+    };
+    let request = request_of(&matches)?;
+    let dictionaries = dictionaries_of(&rt, request.dictionary)?;
+    let segmenter = segmenter_of(alloc, &request, dictionaries)?;
+    let mut out = BufWriter::with_capacity(alloc, OUTPUT_CAPACITY, rt.stdout())?;
+    match cut(alloc, &segmenter, request.style, &mut rt.stdin(), &mut out) {
+        Ok(()) => Ok(ExitCode::SUCCESS),
+        // Nobody reads on, so there is nothing more to do.
+        Err(Fault::Write(error)) if error.kind() == ErrorKind::BrokenPipe => Ok(ExitCode::SUCCESS),
+        Err(Fault::Write(error)) => Err(error).context("writing standard output"),
+        Err(Fault::Read(error)) => Err(error).context("reading standard input"),
+    }
+}

@@ -1,0 +1,134 @@
+//! Segmenters by Unicode's data.
+ghost use Rattle.std.specs.Prelude.{◌≡◌, IfOk, OnOk};
+ghost use Rattle.std.specs.Io.KnownBytes.{Appends};
+ghost use Rattle.segment.specs.Output.{lines_of};
+ghost use Rattle.icu_segmenter.specs.LineBreaks.{with_words};
+ghost use Rattle.icu_segmenter.specs.Lines.{chosen_rules, owned_line_rules, without_ja};
+ghost use Rattle.icu_segmenter.specs.Options.{machine_choice};
+ghost use Rattle.icu_segmenter.specs.ScriptWords.{script_words};
+ghost use Rattle.icu_segmenter.specs.WordRules.{machine_words};
+ghost use Rattle.icu_segmenter.specs.Words.{owned_word_rules};
+ghost use Rattle.icu_segmenter.specs.declared.options.LineBreakOptions.{LineBreakOptions};
+ghost use Rattle.icu_segmenter_data.specs.Unicode.{cluster_machine, cluster_table, line_machine, line_tailorings, word_machine};
+ghost use Rattle.segment.specs.Segmenter.{segments_by, AreOptions, IsAsked};
+
+use crate::command::{Kind, Request};
+use crate::output::{Style, print_segments, print_words};
+use anyhow::Result;
+use icu_segmenter::options::{LineBreakOptions, SentenceBreakOptions, WordBreakOptions};
+use icu_segmenter::provider::Dictionaries;
+use icu_segmenter::{GraphemeClusterSegmenter, LineSegmenter, SentenceSegmenter, WordSegmenter};
+use icu_segmenter_data::{
+    cluster_machine, cluster_table, line_machine, line_tailorings, sentence_machine, word_machine,
+};
+use std::alloc::Global;
+use std::io;
+use std::io::Write;
+
+/// A segmenter with data of its own.
+#[derive(Drop)]
+pub enum Segmenter {
+    /// Of grapheme clusters.
+    Clusters(GraphemeClusterSegmenter),
+    /// Of words, and of what stands between them.
+    Words(WordSegmenter),
+    /// Of words alone.
+    WordsAlone(WordSegmenter),
+    /// Of sentences.
+    Sentences(SentenceSegmenter),
+    /// Of lines.
+    Lines(LineSegmenter),
+}
+
+impl Segmenter {
+    /// Writes the segments of a text, each on a line of its own, and flushes. The error is the writer's.
+    pub fn print<O: Write>(&self, text: &[u8], style: Style, out: &mut O) -> io::Result<()>
+        ensures { OnOk result (Appends (O.contents out.old) (O.contents out.new) (lines_of style text.now (segments_by self.now text.now))) }
+    {
+        match self {
+            Segmenter::Clusters(clusters) => {
+                print_segments(clusters.as_borrowed().segment_utf8(text), text, style, out)
+            }
+            Segmenter::Words(words) => {
+                print_segments(words.as_borrowed().segment_utf8(text), text, style, out)
+            }
+            Segmenter::WordsAlone(words) => {
+                let words = words.as_borrowed().segment_utf8(text);
+                print_words(words.iter_with_word_type(), text, style, out)
+            }
+            Segmenter::Sentences(sentences) => {
+                print_segments(sentences.as_borrowed().segment_utf8(text), text, style, out)
+            }
+            Segmenter::Lines(lines) => {
+                print_segments(lines.as_borrowed().segment_utf8(text), text, style, out)
+            }
+        }
+    }
+}
+
+/// The segmenter that is asked for, with these dictionaries where its kind has some. The error is want of memory.
+pub fn segmenter_of(
+    alloc: Global,
+    request: &Request<'_>,
+    dictionaries: Dictionaries,
+) -> Result<Segmenter>
+    ensures { IfOk result (λ segmenter. IsAsked request.now (script_words dictionaries) segmenter) }
+{
+    match request.kind {
+        Kind::Clusters => {
+            let clusters = GraphemeClusterSegmenter::try_new_neo(cluster_machine(alloc)?)?;
+            Ok(Segmenter::Clusters(clusters))
+        }
+        Kind::Words => Ok(Segmenter::Words(word_segmenter(alloc, dictionaries)?)),
+        Kind::WordsAlone => Ok(Segmenter::WordsAlone(word_segmenter(alloc, dictionaries)?)),
+        Kind::Sentences => {
+            let options = SentenceBreakOptions::default();
+            let machine = sentence_machine(alloc)?;
+            let sentences = SentenceSegmenter::try_new_neo(machine, None, options)?;
+            Ok(Segmenter::Sentences(sentences))
+        }
+        Kind::Lines => Ok(Segmenter::Lines(line_segmenter(alloc, request, dictionaries)?)),
+    }
+}
+
+fn word_segmenter(alloc: Global, dictionaries: Dictionaries) -> Result<WordSegmenter>
+    ensures { IfOk result (λ words. owned_word_rules words ≡ machine_words word_machine cluster_table (script_words dictionaries)) }
+{
+    let mut words = WordSegmenter::try_new_neo_for_non_complex_scripts(
+        word_machine(alloc)?,
+        cluster_table(alloc)?,
+        WordBreakOptions::default(),
+    )?;
+    words.load_dictionary(dictionaries);
+    Ok(words)
+}
+
+fn line_segmenter(
+    alloc: Global,
+    request: &Request<'_>,
+    dictionaries: Dictionaries,
+) -> Result<LineSegmenter>
+    ensures { IfOk result (λ lines. (options : LineBreakOptions) × AreOptions request.now options
+        × (owned_line_rules lines ≡ with_words (chosen_rules line_machine line_tailorings cluster_machine (machine_choice options)) (without_ja (script_words dictionaries)))) }
+{
+    let options = options_of(request);
+    let mut lines = LineSegmenter::try_new_neo_for_non_complex_scripts(
+        line_machine(alloc)?,
+        line_tailorings(alloc)?,
+        cluster_machine(alloc)?,
+        options,
+    )?;
+    lines.load_dictionary(dictionaries);
+    Ok(lines)
+}
+
+// The options of lines that are asked for.
+fn options_of<'r>(request: &'r Request<'_>) -> LineBreakOptions<'r>
+    ensures { AreOptions request.now result }
+{
+    LineBreakOptions {
+        strictness: request.strictness,
+        word_option: request.word_option,
+        content_locale: request.language.as_ref(),
+    }
+}
