@@ -43,6 +43,7 @@ pub use Rattle.seg_lines.specs.LineTailorings
 pub use Rattle.seg_lines.specs.Lines
 pub use Rattle.seg_lines.specs.Joined
 pub use Rattle.seg_lines.specs.LineBreaks
+pub use Rattle.seg_lines.specs.Unmarked
 pub use Rattle.seg_text.specs.Cuts
 pub use Rattle.seg_pairs.specs.Runs
 pub use Rattle.seg_complex.specs.Scripts
