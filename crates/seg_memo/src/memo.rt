@@ -96,7 +96,10 @@ impl<'data, I: Cursor, R: ReadTransitions> MemoBreakIterator<'data, I, R> {
 impl<'data, I: Cursor, R: ReadTransitions> MemoBreakIterator<'data, I, R> {
     /// The same, all but the transitions, which are the reader's: no boundary was given yet, the reader counts from 0 and has as
     /// many states as the machine, and the machine with its transitions has no fault.
-    pub fn with_reader<Other: ReadTransitions>(self, reader: Other) -> MemoBreakIterator<'data, I, Other>
+    pub fn with_reader<Other: ReadTransitions>(
+        self,
+        reader: Other,
+    ) -> MemoBreakIterator<'data, I, Other>
         requires started { self.started ≡ false }
         requires count { Other.counted reader ≡ 0 }
         requires states { Other.states reader ≡ length self.machine.states }

@@ -147,7 +147,9 @@ impl<'data, 's, Y: RuleBreakType<'s>> WordBreakIterator<'data, 's, Y> {
         ensures refused { IfErr result (IsMemoRefusal (machine_in (word_finder self.now).rules) ((word_finder self.now).payloads.words ≢ no_words) (Y.IterAttr.text (words_source self.now))) }
     {
         let text = Y::fork(&self.whole);
-        self.segmenter.payloads.memoised(alloc, self.segmenter.engine, text)
+        self.segmenter
+            .payloads
+            .memoised(alloc, self.segmenter.engine, text)
     }
 }
 

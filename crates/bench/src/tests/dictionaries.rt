@@ -206,7 +206,10 @@ fn ill_formed_bytes_that_are_complex(rt: HostRuntime) -> Result<(), Fail> {
 }
 
 /// A segmenter of words by a machine, where the bench dictionaries are loaded after it is made.
-pub(super) fn neo_segmenter(alloc: Global, machine: SegmenterStateMachine) -> Result<WordSegmenter, Fail> {
+pub(super) fn neo_segmenter(
+    alloc: Global,
+    machine: SegmenterStateMachine,
+) -> Result<WordSegmenter, Fail> {
     let clusters = cluster_table(alloc)?;
     let options = WordBreakOptions::default();
     let mut words = WordSegmenter::try_new_neo_for_non_complex_scripts(machine, clusters, options)?;

@@ -42,8 +42,16 @@ fn clusters_are_memoised_from_the_start(rt: HostRuntime) -> Result<(), Fail> {
     let mut clusters = segmenter.segment_str("ab");
     assert_eq!(rt; clusters.next(), Some(0));
     assert_eq!(rt; clusters.next(), Some(1));
-    expect_memo(&rt, clusters.with_memo(alloc)?, &[(0, 0, 0), (1, 0, 2), (2, 0, 4)]);
-    expect_memo(&rt, segmenter.segment_str("").with_memo(alloc)?, &[(0, 0, 0)]);
+    expect_memo(
+        &rt,
+        clusters.with_memo(alloc)?,
+        &[(0, 0, 0), (1, 0, 2), (2, 0, 4)],
+    );
+    expect_memo(
+        &rt,
+        segmenter.segment_str("").with_memo(alloc)?,
+        &[(0, 0, 0)],
+    );
     Ok(())
 }
 
@@ -77,7 +85,10 @@ fn lines_are_memoised(rt: HostRuntime) -> Result<(), Fail> {
 }
 
 /// What a memo of clusters is refused for.
-fn refusal_of(alloc: Global, clusters: GraphemeClusterBreakIterator<'_, '_, Utf8>) -> Option<MemoError> {
+fn refusal_of(
+    alloc: Global,
+    clusters: GraphemeClusterBreakIterator<'_, '_, Utf8>,
+) -> Option<MemoError> {
     clusters.with_memo(alloc).err()
 }
 
