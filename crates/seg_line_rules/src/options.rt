@@ -14,8 +14,8 @@ pub enum LineBreakStrictness {
     /// The strictest rules: the default.
     #[default]
     Strict,
-    /// A line may be broken at each boundary of a grapheme cluster. The word options `BreakAll` and
-    /// `KeepAll` come before it.
+    /// A line may be broken at each boundary of a grapheme cluster. By a machine the word options `BreakAll` and
+    /// `KeepAll` come before it; by a pair table it comes first.
     Anywhere,
 }
 
@@ -37,9 +37,9 @@ pub enum LineBreakWordOption {
     /// By the customary rules: the default.
     #[default]
     Normal,
-    /// Between any two letters or digits, as between ideographs, whatever the strictness.
+    /// Between any two letters or digits, as between ideographs, whatever the strictness (by a pair table but for `Anywhere`).
     BreakAll,
-    /// Nowhere, so that ideographs too stay together, whatever the strictness.
+    /// Nowhere, so that ideographs too stay together, whatever the strictness (by a pair table but for `Anywhere`).
     KeepAll,
 }
 
