@@ -1,6 +1,5 @@
 // Laws are calls, which return.
 use crate::clusters::cluster_machine;
-use crate::line_tables::line_table;
 use crate::lines::line_machine;
 use crate::pair_tables::{cluster_table, word_table};
 use crate::sentences::sentence_machine;
@@ -56,15 +55,9 @@ fn laws_of_lines(rt: HostRuntime) -> Result<(), Fail> {
         &clusters,
         LineBreakOptions::default(),
     )?;
-    let (table, clusters) = (line_table(rt.alloc())?, cluster_table(rt.alloc())?);
-    let options = LineBreakOptions::default();
-    let by_table = LineSegmenterBorrowed::new_for_non_complex_scripts(&table, &clusters, options)?;
-    for segmenter in [segmenter, by_table] {
-        line::boundaries_are_one(segmenter);
-        line::equal_code_points(segmenter);
-        line::restart(segmenter);
-        line::mark_law(segmenter);
-    }
+    line::boundaries_are_one(segmenter);
+    line::equal_code_points(segmenter);
+    line::restart(segmenter);
     Ok(())
 }
 
