@@ -1,0 +1,2 @@
+pub mod TurnForward
+pub mod TurnStretches
