@@ -1,2 +1,4 @@
 pub mod TurnForward
 pub mod TurnStretches
+pub mod TurnSets
+pub mod TurnMarks

@@ -43,7 +43,7 @@ pub stands-sum : (rules : LineRules) (whole : List ℕ) (last class : ℕ) (item
 stands-sum rules whole last class items at =
     let long = ap length at.here in let dropped = length-drop last whole in omega (arith, long, dropped)
 
-stands-next : (rules : LineRules) (whole : List ℕ) (last class next : ℕ) (items : List ℕ) → StandsAt rules whole last class (next ∷ items)
+pub stands-next : (rules : LineRules) (whole : List ℕ) (last class next : ℕ) (items : List ℕ) → StandsAt rules whole last class (next ∷ items)
     → StandsAt rules whole (suc last) (turn_class rules next) items
 stands-next rules whole last class next items at =
     let more : last + 1 ≡ suc last = omega arith in

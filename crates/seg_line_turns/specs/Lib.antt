@@ -5,3 +5,4 @@ pub mod TurnUnits
 pub mod TurnLists
 pub mod Turns
 pub mod TurnBoundaries
+pub mod TurnMarks

@@ -1,5 +1,5 @@
 -- The sets of classes that the rules of the engine 17 speak of.
-use Rattle.std.specs.Prelude.{ℕ, ◌==◌, Bool, [], ◌∷◌}
+use Rattle.std.specs.Prelude.{ℕ, ◌==◌, ◌&&◌, not, Bool, [], ◌∷◌}
 use Rattle.seg_line_rules.specs.LineRules.{is_among}
 use Rattle.seg_line_turns.specs.TurnClasses.{AI, AI_EASTASIAN, AL, AL_DOTTED_CIRCLE, AL_EASTASIAN, BK, CB, CL, CL_EASTASIAN, CM, CM_EASTASIAN, CP, CR, EX, EX_EASTASIAN, GL, GL_EASTASIAN, HH, HL, HY, IS, LF, NL, NU, OP, OP_EASTASIAN, QU, QU_PF, QU_PI, SA, SA_MC_MN, SP, SY, WJ, XX, XX_EXTPICT, ZW, ZWJ}
 
@@ -43,6 +43,10 @@ is_after_quote class =
 -- a hyphen after one of these begins a word
 unfoldable pub is_before_hyphen : ℕ → Bool
 is_before_hyphen class = is_among (BK ∷ CB ∷ CR ∷ LF ∷ NL ∷ SP ∷ ZW ∷ []) class
+
+-- a mark is glued to an item of this class
+abbrev pub is_glued : ℕ → ℕ → Bool
+is_glued before class = is_mark class && not (bears_none before)
 
 -- classes alone
 

@@ -7,6 +7,7 @@ ghost use Rattle.seg_text.specs.Cuts.{Cuts};
 ghost use Rattle.seg_line_rules.specs.LineBoundaries.{CutsCover, inside};
 ghost use Rattle.seg_line_rules.specs.LineRules.{LineRules};
 ghost use Rattle.seg_line_turns.specs.TurnBoundaries.{HasOneTurnList, turn_boundaries};
+ghost use Rattle.seg_line_turns.specs.TurnMarks.{KeepsTurnMarks, StartsBear};
 
 /// Law: a list of code points has exactly one list of boundaries: the first is at its start, and the others come from the first turn of what
 /// is left, again and again.
@@ -26,5 +27,13 @@ pub fn strict_cover()
 /// rules and of the decoded list, which names no place, length or encoding.
 pub fn equal_code_points()
     ensures { (cuts : Cuts) (rules : LineRules) → HasEqualOrdinals (turn_boundaries cuts rules) }
+{
+}
+
+/// Law: no boundary but that at 0 stands before a code point of class CM, CM_EASTASIAN or ZWJ, except after one of class BK, CR, LF, NL, SP or
+/// ZW, provided that the table reads no class at the start of a text as one of these six.
+pub fn mark_law()
+    ensures { (cuts : Cuts) (rules : LineRules) → CutsCover cuts → StartsBear rules.table → (code_points : List ℕ)
+        → KeepsTurnMarks rules code_points (turn_boundaries (inside cuts) rules code_points) }
 {
 }
