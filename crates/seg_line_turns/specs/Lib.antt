@@ -6,3 +6,5 @@ pub mod TurnLists
 pub mod Turns
 pub mod TurnBoundaries
 pub mod TurnMarks
+pub mod TurnFaults
+pub mod TurnPairs
