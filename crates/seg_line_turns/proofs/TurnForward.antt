@@ -14,8 +14,9 @@ use Rattle.seg_line_turns.specs.TurnLists.{keeps, listed}
 use Rattle.seg_line_turns.specs.TurnReadings.{turn_class}
 use Rattle.seg_line_turns.specs.TurnSets.{is_mark, is_glue, bears_none, is_complex, is_letter, is_hyphen, is_before_quote, is_after_quote, is_before_hyphen, is_joiner, is_space, is_zero_space, is_infix, is_digit, is_quote, is_contingent}
 use Rattle.seg_line_turns.specs.TurnUnits.{LeftUnit, with_item, is_joined, left_unit}
-use Rattle.seg_line_turns.specs.Turns.{next_base, comes, to_base, sticks, Turn, Walking, turn_unless, walk_end_turn, walk_back_turn, walk_stop_turn, walk_on, walk_begin, walk_turn, table_turn, quote_turn, begins_marked, list_turn, class_turn, right_turn, is_taken, opens, turn, start_unit, first_unit}
+use Rattle.seg_line_turns.specs.Turns.{next_base, comes, to_base, sticks, Turn, Walking, turn_unless, walk_end_turn, walk_back_turn, walk_stop_turn, walk_begin, WalkStep, walk_step, walk_by, walk_turn, table_turn, quote_turn, begins_marked, list_turn, class_turn, right_turn, is_taken, opens, turn, start_unit, first_unit}
 use Rattle.seg_line_turns.specs.Turns.Turn.{BreakAt, GoTo, RunAt}
+use Rattle.seg_line_turns.specs.Turns.WalkStep.{Stops, GoesOn}
 
 -- of this list a turn takes some items. Where it begins a run, two complex items stand
 abbrev pub IsTurnOf : LineRules → List ℕ → Turn → Type 0
@@ -104,15 +105,47 @@ module _ (rules : LineRules) (whole : List ℕ) where
   stop-forward w joined place Break some less more within = unless-forward joined w.opened place more within
   stop-forward w joined place _ some less more within = back-forward w joined some less
 
-  option-forward : (f : ℕ → Turn) (found : Option ℕ) (x : Turn) → ((n : ℕ) → IsTurnOf rules whole (f n)) → IsTurnOf rules whole x
-      → IsTurnOf rules whole (option_map_or f found x)
-  option-forward f None x some none = none
-  option-forward f (Some n) x some none = some n
+  -- where a walk goes on, the place that it saved stands inside
+  abbrev IsStepOf : WalkStep → Type 0
+  IsStepOf (Stops found) = IsTurnOf rules whole found
+  IsStepOf (GoesOn w) = (0 < w.saved) × (w.saved < length whole)
+
+  if-step : (b : Bool) (x y : WalkStep) → (b ≡ true → IsStepOf x) → IsStepOf y → IsStepOf (cond b x y)
+  if-step true x y some other = some refl
+  if-step false x y some other = other
+
+  option-step : (f : ℕ → WalkStep) (found : Option ℕ) (x : WalkStep) → ((n : ℕ) → IsStepOf (f n)) → IsStepOf x → IsStepOf (option_map_or f found x)
+  option-step f None x some none = none
+  option-step f (Some n) x some none = some n
 
   cond-inside : (b : Bool) (place saved : ℕ) → (0 < place) × (place < length whole) → (0 < saved) × (saved < length whole)
       → (0 < cond b place saved) × (cond b place saved < length whole)
   cond-inside true place saved here other = here
   cond-inside false place saved here other = other
+
+  step-forward : (w : Walking) (place class : ℕ) (after : List ℕ) → 0 < w.saved → w.saved < length whole → 0 < place → place + suc (length after) ≡ length whole
+      → IsStepOf (walk_step rules w place class after)
+  step-forward w place class after some less more sum =
+      let within : place < length whole = omega (arith, sum) in
+      let u : Walking = record w { opened = w.opened && is_space class } in
+      if-step (is_glue class && not (bears_none w.before)) _ _ (λ glued. (some, less))
+      (if-step (w.opened && not (is_space class) && not (is_hyphen class)) _ _ (λ is. (more, within))
+      (if-step (is_space w.before && not (is_zero_space w.state) && is_infix class && not (sticks rules.table w.state)) _ _ (λ is. (some, less))
+      (if-step (is_quote class && is_space w.before && not (is_class rules.table w.state)) _ _
+      (λ is. cond-inside (sticks rules.table w.state) place w.saved (more, within) (some, less))
+      (if-step (is_space w.before && is_hyphen class && comes rules is_letter after) _ _
+      (λ is.
+      let there : comes rules is_letter after ≡ true = and-last (is_space w.before && is_hyphen class) (comes rules is_letter after) is in
+      let inside : to_base rules after < length after = base-inside is_letter after there in
+      if-forward (sticks rules.table w.state) _ _ (λ is. (omega arith, omega (arith, inside, sum))) (more, omega arith, inl (omega (arith, inside, sum))))
+      (option-step _ (named_state (entry_of rules.table w.state class)) _
+      (λ state. cond-inside (is_intermediate (entry_of rules.table w.state class) || is_class rules.table w.state) place w.saved (more, within) (some, less))
+      (stop-forward u (is_joiner w.before) place (entry_of rules.table w.state class) some less more within))))))
+
+  by-forward : (s : WalkStep) (later : Walking → Turn) → IsStepOf s → ((w : Walking) → 0 < w.saved → w.saved < length whole → IsTurnOf rules whole (later w))
+      → IsTurnOf rules whole (walk_by s later)
+  by-forward (Stops found) later good more = good
+  by-forward (GoesOn w) later good more = more w good.0 good.1
 
   walk-forward : (w : Walking) (place : ℕ) (items : List ℕ) → 0 < w.saved → w.saved < length whole → 0 < place → place + length items ≡ length whole
       → IsTurnOf rules whole (walk_turn rules w place items)
@@ -120,33 +153,8 @@ module _ (rules : LineRules) (whole : List ℕ) where
   walk-forward w place [] some less more sum =
       end-forward w place (entry_of rules.table w.state rules.table.eot_property) some less more (omega (arith, sum))
   walk-forward w place (item ∷ items) some less more sum =
-      let class : ℕ = turn_class rules item in
-      if-forward (is_glue class && not (bears_none w.before)) _ _
-      (λ glued. walk-forward (record w { before = class }) (suc place) items some less (omega arith) (omega (arith, sum)))
-      (if-forward (w.opened && not (is_space class) && not (is_hyphen class)) _ _ (λ is. (more, within))
-      (if-forward (is_space w.before && not (is_zero_space w.state) && is_infix class && not (sticks rules.table w.state)) _ _ (λ is. (some, less))
-      (if-forward (is_quote class && is_space w.before && not (is_class rules.table w.state)) _ _
-      (λ is. cond-inside (sticks rules.table w.state) place w.saved (more, within) (some, less))
-      (if-forward (is_space w.before && is_hyphen class && comes rules is_letter items) _ _
-      (λ is.
-      let there : comes rules is_letter items ≡ true = and-last (is_space w.before && is_hyphen class) (comes rules is_letter items) is in
-      let inside : to_base rules items < length items = base-inside is_letter items there in
-      if-forward (sticks rules.table w.state) _ _ (λ is. (omega arith, omega (arith, inside, sum))) (more, omega arith, inl (omega (arith, inside, sum))))
-      (option-forward _ (named_state (entry_of rules.table w.state class)) _
-      (λ state.
-      let saved = cond-inside (is_intermediate (entry_of rules.table w.state class) || is_class rules.table w.state) place w.saved (more, within) (some, less) in
-      walk-forward (record {
-        state = state;
-        saved = cond (is_intermediate (entry_of rules.table w.state class) || is_class rules.table w.state) place w.saved;
-        is_saved_joined = cond (is_intermediate (entry_of rules.table w.state class) || is_class rules.table w.state) (is_joiner w.before) w.is_saved_joined;
-        before = class;
-        is_composite_first = w.is_composite_first;
-        opened = w.opened && is_space class;
-      }) (suc place) items saved.0 saved.1 (omega arith) (omega (arith, sum)))
-      (stop-forward (record w { opened = w.opened && is_space class }) (is_joiner w.before) place (entry_of rules.table w.state class) some less more within))))))
-    where
-      within : place < length whole
-      within = omega (arith, sum)
+      by-forward (walk_step rules w place (turn_class rules item) items) _ (step-forward w place (turn_class rules item) items some less more sum)
+      (λ next some less. walk-forward next (suc place) items some less (omega arith) (omega (arith, sum)))
 
   list-forward : (found : Option Bool) (place : ℕ) (opened : Bool) (x : Turn) → 0 < place → place < length whole → IsTurnOf rules whole x
       → IsTurnOf rules whole (list_turn found place opened x)

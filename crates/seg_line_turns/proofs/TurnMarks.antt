@@ -24,8 +24,9 @@ use Rattle.seg_line_turns.specs.TurnMarks.{KeepsTurnMarks, StartsBear}
 use Rattle.seg_line_turns.specs.TurnReadings.{turn_class}
 use Rattle.seg_line_turns.specs.TurnSets.{is_mark, is_glue, is_glued, bears_none, is_complex, is_complex_mark, is_letter, is_hyphen, is_start, is_before_quote, is_after_quote, is_before_hyphen, is_joiner, is_space, is_zero_space, is_infix, is_digit, is_quote, is_contingent}
 use Rattle.seg_line_turns.specs.TurnUnits.{LeftUnit, with_item, is_joined, left_unit}
-use Rattle.seg_line_turns.specs.Turns.{comes, to_base, sticks, Turn, Walking, turn_unless, walk_end_turn, walk_back_turn, walk_stop_turn, walk_begin, walk_turn, table_turn, quote_turn, begins_marked, list_turn, class_turn, right_turn, is_taken, opens, turn, start_unit, first_unit}
+use Rattle.seg_line_turns.specs.Turns.{comes, to_base, sticks, Turn, Walking, turn_unless, walk_end_turn, walk_back_turn, walk_stop_turn, walk_begin, WalkStep, walk_step, walk_by, walk_turn, table_turn, quote_turn, begins_marked, list_turn, class_turn, right_turn, is_taken, opens, turn, start_unit, first_unit}
 use Rattle.seg_line_turns.specs.Turns.Turn.{BreakAt, GoTo, RunAt}
+use Rattle.seg_line_turns.specs.Turns.WalkStep.{Stops, GoesOn}
 use Rattle.seg_line_turns.proofs.TurnForward.{IsTurnOf, StandsAt, stands-next, first-last, first-forward}
 use Rattle.seg_line_turns.proofs.TurnSets.{marks-bear, complex-bear, starts-bear, complex-apart, complex-is, glue-is, mark-apart}
 use Rattle.seg_line_turns.proofs.TurnStretches.{going, turns-nil, turns-next}
@@ -152,9 +153,19 @@ module _ (rules : LineRules) where
     good-stop w joined place Break saved good = good-unless joined w.opened place good
     good-stop w joined place _ saved good = good-back w joined saved
 
-    good-option : (f : ℕ → Turn) (found : Option ℕ) (x : Turn) → ((n : ℕ) → IsGood (f n)) → IsGood x → IsGood (option_map_or f found x)
-    good-option f None x some none = none
-    good-option f (Some n) x some none = some n
+    -- where a walk goes on after an item of this class, it saved a place that parts
+    abbrev IsGoodStep : ℕ → WalkStep → Type 0
+    IsGoodStep class (Stops found) = IsGood found
+    IsGoodStep class (GoesOn w) = Parts whole w.saved × (w.before ≡ class)
+
+    step-cond : (class : ℕ) (b : Bool) (x y : WalkStep) → IsGoodStep class x → IsGoodStep class y → IsGoodStep class (cond b x y)
+    step-cond class true x y good other = good
+    step-cond class false x y good other = other
+
+    step-option : (class : ℕ) (f : ℕ → WalkStep) (found : Option ℕ) (x : WalkStep) → ((n : ℕ) → IsGoodStep class (f n)) → IsGoodStep class x
+        → IsGoodStep class (option_map_or f found x)
+    step-option class f None x some none = none
+    step-option class f (Some n) x some none = some n
 
     good-saved : (b : Bool) (place saved : ℕ) → Parts whole place → Parts whole saved → Parts whole (cond b place saved)
     good-saved true place saved good other = good
@@ -168,41 +179,40 @@ module _ (rules : LineRules) where
         on true is = is
         on false is = refl
 
+    step-good : (w : Walking) (last item : ℕ) (items : List ℕ) → StandsAt rules whole last w.before (item ∷ items) → Parts whole w.saved
+        → IsGoodStep (turn_class rules item) (walk_step rules w (suc last) (turn_class rules item) items)
+    step-good w last item items at saved = on (is_glue (turn_class rules item) && not (bears_none w.before)) refl
+      where
+        on : (b : Bool) → (is_glue (turn_class rules item) && not (bears_none w.before)) ≡ b
+            → IsGoodStep (turn_class rules item) (walk_step rules w (suc last) (turn_class rules item) items)
+        on true is = rw is (saved, refl)
+        on false is =
+            let class : ℕ = turn_class rules item in
+            let here : Parts whole (suc last) = item-parts last w.before item items at (not-glued w.before class is) in
+            let u : Walking = record w { opened = w.opened && is_space class } in
+            let saves : Bool = is_intermediate (entry_of rules.table w.state class) || is_class rules.table w.state in
+            rw is
+            (step-cond class (w.opened && not (is_space class) && not (is_hyphen class)) _ _ tt
+            (step-cond class (is_space w.before && not (is_zero_space w.state) && is_infix class && not (sticks rules.table w.state)) _ _ tt
+            (step-cond class (is_quote class && is_space w.before && not (is_class rules.table w.state)) _ _ tt
+            (step-cond class (is_space w.before && is_hyphen class && comes rules is_letter items) _ _
+            (good-cond (sticks rules.table w.state) _ _ tt here)
+            (step-option class _ (named_state (entry_of rules.table w.state class)) _
+            (λ state. (good-saved saves (suc last) w.saved here saved, refl))
+            (good-stop u (is_joiner w.before) (suc last) (entry_of rules.table w.state class) saved here))))))
+
+    by-good : (class : ℕ) (s : WalkStep) (later : Walking → Turn) → IsGoodStep class s → ((w : Walking) → w.before ≡ class → Parts whole w.saved → IsGood (later w))
+        → IsGood (walk_by s later)
+    by-good class (Stops found) later good more = good
+    by-good class (GoesOn w) later good more = more w good.1 good.0
+
     walk-good : (w : Walking) (last : ℕ) (items : List ℕ) → StandsAt rules whole last w.before items → Parts whole w.saved
         → IsGood (walk_turn rules w (suc last) items)
     unfolding walk_turn
     walk-good w last [] at saved = good-end w (suc last) (entry_of rules.table w.state rules.table.eot_property) saved (end-parts last w.before at)
     walk-good w last (item ∷ items) at saved =
-        let class : ℕ = turn_class rules item in
-        on (is_glue class && not (bears_none w.before)) refl
-        (walk-good (record w { before = class }) (suc last) items (stands-next rules whole last w.before item items at) saved)
-        (λ state place joined good. walk-good (record { state = state; saved = place; is_saved_joined = joined; before = class; is_composite_first = w.is_composite_first; opened = w.opened && is_space class })
-        (suc last) items (stands-next rules whole last w.before item items at) good)
-      where
-        class : ℕ
-        class = turn_class rules item
-
-        Next : Type 0
-        Next = (state place : ℕ) (joined : Bool) → Parts whole place
-            → IsGood (walk_turn rules (record { state = state; saved = place; is_saved_joined = joined; before = turn_class rules item; is_composite_first = w.is_composite_first; opened = w.opened && is_space (turn_class rules item) }) (suc (suc last)) items)
-
-        on : (b : Bool) → (is_glue (turn_class rules item) && not (bears_none w.before)) ≡ b
-            → IsGood (walk_turn rules (record w { before = turn_class rules item }) (suc (suc last)) items) → Next
-            → IsGood (walk_turn rules w (suc last) (item ∷ items))
-        on true is glued next = rw is glued
-        on false is glued next =
-            let here : Parts whole (suc last) = item-parts last w.before item items at (not-glued w.before (turn_class rules item) is) in
-            let u : Walking = record w { opened = w.opened && is_space (turn_class rules item) } in
-            let saves : Bool = is_intermediate (entry_of rules.table w.state (turn_class rules item)) || is_class rules.table w.state in
-            rw is
-            (good-cond (w.opened && not (is_space (turn_class rules item)) && not (is_hyphen (turn_class rules item))) _ _ tt
-            (good-cond (is_space w.before && not (is_zero_space w.state) && is_infix (turn_class rules item) && not (sticks rules.table w.state)) _ _ tt
-            (good-cond (is_quote (turn_class rules item) && is_space w.before && not (is_class rules.table w.state)) _ _ tt
-            (good-cond (is_space w.before && is_hyphen (turn_class rules item) && comes rules is_letter items) _ _
-            (good-cond (sticks rules.table w.state) _ _ tt here)
-            (good-option _ (named_state (entry_of rules.table w.state (turn_class rules item))) _
-            (λ state. next state (cond saves (suc last) w.saved) (cond saves (is_joiner w.before) w.is_saved_joined) (good-saved saves (suc last) w.saved here saved))
-            (good-stop u (is_joiner w.before) (suc last) (entry_of rules.table w.state (turn_class rules item)) saved here))))))
+        by-good (turn_class rules item) (walk_step rules w (suc last) (turn_class rules item) items) _ (step-good w last item items at saved)
+        (λ next is good. walk-good next (suc last) items (subst (λ class. StandsAt rules whole (suc last) class items) (sym is) (stands-next rules whole last w.before item items at)) good)
 
     good-list : (found : Option Bool) (place : ℕ) (opened : Bool) (x : Turn) → Parts whole place → IsGood x → IsGood (list_turn found place opened x)
     good-list (Some true) place opened x good other = good

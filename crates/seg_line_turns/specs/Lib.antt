@@ -8,3 +8,4 @@ pub mod TurnBoundaries
 pub mod TurnMarks
 pub mod TurnFaults
 pub mod TurnPairs
+pub mod TurnPlaces

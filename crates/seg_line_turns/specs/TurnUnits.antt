@@ -4,11 +4,10 @@ use Rattle.seg_line_rules.specs.LineRules.{LineRules}
 use Rattle.seg_line_turns.specs.TurnReadings.{turn_class}
 use Rattle.seg_line_turns.specs.TurnSets.{is_joiner}
 
--- how many items come after the first, which is its base; the class and the code point of the base, and those of the last item
+-- how many items come after the first, which is its base; the class of the base; and the class and the code point of the last item
 pub record LeftUnit : Type 0 where
   pub last : ℕ
   pub class : ℕ
-  pub code_point : ℕ
   pub last_class : ℕ
   pub last_code_point : ℕ
 
@@ -16,7 +15,6 @@ abbrev pub left_unit : LineRules → ℕ → LeftUnit
 left_unit rules code_point = record {
   last = 0;
   class = turn_class rules code_point;
-  code_point = code_point;
   last_class = turn_class rules code_point;
   last_code_point = code_point;
 }

@@ -94,22 +94,38 @@ walk_on t w place class next =
       opened = w.opened;
     }
 
--- the walk goes on before the item with this number: the seven cases of a walk, in their order
+-- what an item does to a walk: a turn is found, or it goes on
+pub data WalkStep : Type 0 where
+  Stops : Turn → WalkStep
+  GoesOn : Walking → WalkStep
+
+-- what the entry of the state and the class says
+abbrev pub walk_entry_step : LineRules → Walking → ℕ → ℕ → BreakState → WalkStep
+walk_entry_step rules w place class entry =
+    option_map_or (λ next. GoesOn (walk_on rules.table w place class next)) (named_state entry) (Stops (walk_stop_turn w (is_joiner w.before) place entry))
+
+-- the item with this number and class: the cases of a walk, in their order
+abbrev pub walk_step : LineRules → Walking → ℕ → ℕ → List ℕ → WalkStep
+walk_step rules w place class after =
+    if is_glue class && not (bears_none w.before) then GoesOn (record w { before = class })
+    else if w.opened && not (is_space class) && not (is_hyphen class) then Stops (GoTo place false)
+    else (let u = record w { opened = w.opened && is_space class } in
+    if is_space w.before && not (is_zero_space w.state) && is_infix class && not (sticks rules.table w.state) then Stops (GoTo w.saved u.opened)
+    else if is_quote class && is_space w.before && not (is_class rules.table w.state)
+    then Stops (GoTo (if sticks rules.table w.state then place else w.saved) u.opened)
+    else if is_space w.before && is_hyphen class && comes rules is_letter after
+    then Stops (if sticks rules.table w.state then GoTo (place + suc (to_base rules after)) u.opened else BreakAt place (suc place))
+    else walk_entry_step rules u place class (entry_of rules.table w.state class))
+
+abbrev pub walk_by : WalkStep → (Walking → Turn) → Turn
+walk_by (Stops turn) later = turn
+walk_by (GoesOn w) later = later w
+
+-- the walk goes on before the item with this number
 unfoldable pub walk_turn : LineRules → Walking → ℕ → List ℕ → Turn
 walk_turn rules w place [] = walk_end_turn w place (entry_of rules.table w.state rules.table.eot_property)
 walk_turn rules w place (code_point ∷ after) =
-    let class = turn_class rules code_point in
-    if is_glue class && not (bears_none w.before) then walk_turn rules (record w { before = class }) (suc place) after
-    else if w.opened && not (is_space class) && not (is_hyphen class) then GoTo place false
-    else (let u = record w { opened = w.opened && is_space class } in
-    if is_space w.before && not (is_zero_space w.state) && is_infix class && not (sticks rules.table w.state) then GoTo w.saved u.opened
-    else if is_quote class && is_space w.before && not (is_class rules.table w.state)
-    then GoTo (if sticks rules.table w.state then place else w.saved) u.opened
-    else if is_space w.before && is_hyphen class && comes rules is_letter after
-    then (if sticks rules.table w.state then GoTo (place + suc (to_base rules after)) u.opened else BreakAt place (suc place))
-    else option_map_or (λ next. walk_turn rules (walk_on rules.table u place class next) (suc place) after)
-    (named_state (entry_of rules.table w.state class))
-    (walk_stop_turn u (is_joiner w.before) place (entry_of rules.table w.state class)))
+    walk_by (walk_step rules w place (turn_class rules code_point) after) (λ w. walk_turn rules w (suc place) after)
 
 -- a walk that begins after the right item, which has this number
 abbrev pub walk_begin : PairTable → Bool → Bool → ℕ → ℕ → ℕ → Walking

@@ -13,27 +13,23 @@ ghost use Rattle.seg_line_turns.specs.TurnMarks.{KeepsTurnMarks, StartsBear};
 /// is left, again and again.
 pub fn boundaries_are_one()
     ensures { (cuts : Cuts) (rules : LineRules) → HasOneTurnList cuts rules }
-{
-}
+{}
 
 /// Law: the boundaries rise strictly from 0 to the number of the code points.
 pub fn strict_cover()
     ensures { (cuts : Cuts) (rules : LineRules) → CutsCover cuts → (code_points : List ℕ)
         → IsCover 0 (length code_points) (turn_boundaries (inside cuts) rules code_points) }
-{
-}
+{}
 
 /// Law: two texts with equal code points, in whatever encodings, have the same boundaries, counted in code points: one function of the
 /// rules and of the decoded list, which names no place, length or encoding.
 pub fn equal_code_points()
     ensures { (cuts : Cuts) (rules : LineRules) → HasEqualOrdinals (turn_boundaries cuts rules) }
-{
-}
+{}
 
 /// Law: no boundary but that at 0 stands before a code point of class CM, CM_EASTASIAN or ZWJ, except after one of class BK, CR, LF, NL, SP or
 /// ZW, provided that the table reads no class at the start of a text as one of these six.
 pub fn mark_law()
     ensures { (cuts : Cuts) (rules : LineRules) → CutsCover cuts → StartsBear rules.table → (code_points : List ℕ)
         → KeepsTurnMarks rules code_points (turn_boundaries (inside cuts) rules code_points) }
-{
-}
+{}

@@ -109,7 +109,10 @@ impl<'data> TurnPairs<'data> {
         ensures value { result ≡ turn_class (turn_rules_by self.entry) code_point }
         ensures below { result < (turn_rules_by self.entry).table.property_count }
     {
-        class_read(self.style, PairDataBorrowed::new(self.table).class(code_point))
+        class_read(
+            self.style,
+            PairDataBorrowed::new(self.table).class(code_point),
+        )
     }
 }
 
