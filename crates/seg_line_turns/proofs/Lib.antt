@@ -5,3 +5,5 @@ pub mod TurnMarks
 pub mod TurnLists
 pub mod TurnPlaces
 pub mod TurnReads
+pub mod TurnEvents
+pub mod TurnsLeft

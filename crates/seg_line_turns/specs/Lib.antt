@@ -9,3 +9,4 @@ pub mod TurnMarks
 pub mod TurnFaults
 pub mod TurnPairs
 pub mod TurnPlaces
+pub mod TurnEvents

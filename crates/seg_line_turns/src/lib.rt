@@ -2,8 +2,10 @@
 #![tactic(auto)]
 
 mod bases;
+pub mod boundaries;
 mod classes;
 pub mod laws;
+pub mod turn_events;
 mod turn_lists;
 pub mod turn_pairs;
 pub mod turn_units;
