@@ -7,3 +7,5 @@ pub mod TurnPlaces
 pub mod TurnReads
 pub mod TurnEvents
 pub mod TurnsLeft
+pub mod PlainUnits
+pub mod PlainTurns

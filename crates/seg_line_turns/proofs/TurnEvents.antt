@@ -79,8 +79,8 @@ module _ (rules : LineRules) where
   pub to-break : (starts opened : Bool) (here : Text) (found : Turn) (place resume : ℕ) → 0 < length here.items → TurnsTo starts opened here found
       → Break place resume ≡ placed here found → ToBreak starts opened here place resume
   to-break starts opened here (BreakAt at to) place resume there turns is =
-      let both : (place, resume) ≡ (item_place at here, item_place to here) = ap break-in is in
       let some : 0 < to = omega (arith, turns.forward.0, turns.forward.1) in
+      let both : (place, resume) ≡ (item_place at here, item_place to here) = ap break-in is in
       record {
         taken = to;
         resume_is = ap (λ (both : ℕ × ℕ). both.1) both;

@@ -10,3 +10,4 @@ pub mod TurnFaults
 pub mod TurnPairs
 pub mod TurnPlaces
 pub mod TurnEvents
+pub mod PlainTexts

@@ -6,6 +6,7 @@ ghost use Rattle.seg_text.specs.Boundaries.{HasEqualOrdinals, IsCover};
 ghost use Rattle.seg_text.specs.Cuts.{Cuts};
 ghost use Rattle.seg_line_rules.specs.LineBoundaries.{CutsCover, inside};
 ghost use Rattle.seg_line_rules.specs.LineRules.{LineRules};
+ghost use Rattle.seg_line_turns.specs.PlainTexts.{ArePlain, HasNoOpening, plain_boundaries, turn_units};
 ghost use Rattle.seg_line_turns.specs.TurnBoundaries.{HasOneTurnList, turn_boundaries};
 ghost use Rattle.seg_line_turns.specs.TurnMarks.{KeepsTurnMarks, StartsBear};
 
@@ -33,3 +34,13 @@ pub fn mark_law()
     ensures { (cuts : Cuts) (rules : LineRules) → CutsCover cuts → StartsBear rules.table → (code_points : List ℕ)
         → KeepsTurnMarks rules code_points (turn_boundaries (inside cuts) rules code_points) }
 {}
+
+/// Law: on plain texts the boundaries are those of the verdicts on units by which lines by a pair table are found, with the classes, readings,
+/// KeepAll set and lists of the engine 17: CM_EASTASIAN is glued as CM is, and the loose list looks at the last code point of the left unit.
+/// A text is plain where no code point has class IS, HY, HH, QU, QU_PI, QU_PF, SA or SA_MC_MN and no opening unit stands directly before a
+/// space.
+pub fn plain_texts()
+    ensures { (cuts : Cuts) (rules : LineRules) (code_points : List ℕ) → ArePlain rules code_points → HasNoOpening (turn_units rules code_points)
+        → turn_boundaries cuts rules code_points ≡ plain_boundaries cuts rules code_points }
+{
+}
