@@ -23,7 +23,7 @@ use Rattle.seg_line_rules.proofs.UnitLists.{PartsAfter, units, first-unit, exten
 use Rattle.seg_line_rules.proofs.Inside.{rises-le}
 use Rattle.seg_line_rules.proofs.LineStretches.{StandInside, line-forward, line-going, line-run, run-two}
 
-get-drop : (n k : ℕ) (xs : List ℕ) → slice_get (drop n xs) k ≡ slice_get xs (n + k)
+pub get-drop : (n k : ℕ) (xs : List ℕ) → slice_get (drop n xs) k ≡ slice_get xs (n + k)
 get-drop zero k xs = let none : k ≡ 0 + k = omega arith in ap (slice_get xs) none
 get-drop (suc n) k [] = none k ∙ sym (none (suc n + k))
   where

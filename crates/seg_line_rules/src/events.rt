@@ -2,9 +2,8 @@
 //! some other way.
 
 ghost use Rattle.std.specs.Prelude.{◌≡◌, ◌-◌, []};
-ghost use Rattle.seg_text.specs.Items.{code_points, rest_after, start_of, text_before};
+ghost use Rattle.seg_text.specs.Items.{prefix_length, rest_after, start_of, text_before};
 ghost use Rattle.seg_pairs.specs.Elements.{onto, place_at};
-ghost use Rattle.seg_line_rules.specs.LineBoundaries.{complex_length};
 ghost use Rattle.seg_line_rules.specs.LineEvents.{LeadsToLines, GoesOnLines};
 ghost use Rattle.seg_line_rules.specs.LinePairs.{rules_by};
 ghost use Rattle.seg_line_rules.specs.LineRules.{is_complex};
@@ -15,6 +14,7 @@ use crate::verdicts::LineVerdicts;
 use seg_pairs::elements::{Element, Elements};
 use seg_pairs::verdicts::{Outcome, next_break};
 use seg_text::cursor::Cursor;
+use seg_text::prefixes::CodePointTest;
 use std::marker::Model;
 
 /// What comes next of a text.
@@ -97,7 +97,7 @@ impl<'data, I: Cursor> LineEvents<'data, I> {
             }
             Outcome::Run(first, _second) => {
                 self.here.seek(first.place);
-                let (run, end) = take_run(self.pairs, &mut self.here);
+                let (run, end) = take_run(&mut self.here, &ComplexPoints { pairs: self.pairs });
                 self.rest = Units::new(self.pairs, self.here.fork());
                 self.next = self.rest.next_element();
                 LineEvent::Run(run, end)
@@ -116,23 +116,40 @@ fn place_before<E: Elements>(next: Option<Element>, rest: &E) -> usize
     }
 }
 
-/// The complex items that a text begins with, as a text that ends there, and the place of its end: its places stay. `rest` goes on at the
-/// last of them. Takes no memory.
-fn take_run<I: Cursor>(pairs: LinePairs<'_>, rest: &mut I) -> (I, usize)
-    ensures run { I.text result.0 ≡ text_before (complex_length (rules_by pairs.entry) (code_points (I.text rest.old).items)) (I.text rest.old) }
+/// Which code points are complex, as the options read their classes.
+#[derive(Clone, Copy, Debug)]
+struct ComplexPoints<'data> {
+    pairs: LinePairs<'data>,
+}
+
+impl<'data> CodePointTest for ComplexPoints<'data> {
+    ghost use Rattle.seg_line_rules.specs.LinePairs.{rules_by};
+    ghost use Rattle.seg_line_rules.specs.LineRules.{is_complex};
+
+    ghost passes = { λ test code_point. is_complex (rules_by test.pairs) code_point };
+
+    fn accepts(&self, code_point: u32) -> bool {
+        is_complex(self.pairs, code_point)
+    }
+}
+
+/// The longest beginning of a text whose code points pass a test, as a text that ends there, and the place of its end: its places stay.
+/// `rest` goes on at the last of them. Takes no memory.
+pub fn take_run<I: Cursor, T: CodePointTest>(rest: &mut I, test: &T) -> (I, usize)
+    ensures run { I.text result.0 ≡ text_before (prefix_length (T.passes test.now) (I.text rest.old)) (I.text rest.old) }
     ensures end { result.1 ≡ (I.text result.0).end }
-    ensures rest { I.text rest.new ≡ rest_after (complex_length (rules_by pairs.entry) (code_points (I.text rest.old).items) - 1) (I.text rest.old) }
+    ensures rest { I.text rest.new ≡ rest_after (prefix_length (T.passes test.now) (I.text rest.old) - 1) (I.text rest.old) }
 {
-    let (last, end) = run_ends(pairs, rest);
+    let (last, end) = run_ends(rest, test);
     let run = rest.up_to(end);
     rest.seek(last);
     (run, end)
 }
 
-/// The place of the last of the complex items that a text begins with, and the place after it.
-fn run_ends<I: Cursor>(pairs: LinePairs<'_>, rest: &I) -> (usize, usize)
-    ensures last { result.0 ≡ start_of (rest_after (complex_length (rules_by pairs.entry) (code_points (I.text rest.now).items) - 1) (I.text rest.now)) }
-    ensures end { result.1 ≡ start_of (rest_after (complex_length (rules_by pairs.entry) (code_points (I.text rest.now).items)) (I.text rest.now)) }
+/// The place of the last of the code points that a text begins with and that pass a test, and the place after it.
+fn run_ends<I: Cursor, T: CodePointTest>(rest: &I, test: &T) -> (usize, usize)
+    ensures last { result.0 ≡ start_of (rest_after (prefix_length (T.passes test.now) (I.text rest.now) - 1) (I.text rest.now)) }
+    ensures end { result.1 ≡ start_of (rest_after (prefix_length (T.passes test.now) (I.text rest.now)) (I.text rest.now)) }
 {
     let mut ahead = rest.fork();
     let mut last = rest.place();
@@ -140,7 +157,7 @@ fn run_ends<I: Cursor>(pairs: LinePairs<'_>, rest: &I) -> (usize, usize)
         let place = ahead.place();
         match ahead.next_item() {
             Some((_, code_point)) => {
-                if !is_complex(pairs, code_point) {
+                if !test.accepts(code_point) {
                     return (last, place);
                 }
                 last = place;

@@ -13,7 +13,7 @@ use std::marker::Model;
 
 /// The cuts strictly inside a run, as places in units.
 #[derive(Debug, Drop)]
-pub(crate) struct InsideCuts<'data, I: Cursor> {
+pub struct InsideCuts<'data, I: Cursor> {
     cuts: RunCuts<'data, I>,
     // Where the run ends.
     end: usize,
@@ -30,7 +30,7 @@ impl<'data, I: Cursor> Model for InsideCuts<'data, I> {
 
 impl<'data, I: Cursor> InsideCuts<'data, I> {
     /// The cuts of a run, which ends at this place. Takes no memory.
-    pub(crate) fn new(payloads: ComplexPayloadsBorrowed<'data>, run: I, end: usize) -> Self
+    pub fn new(payloads: ComplexPayloadsBorrowed<'data>, run: I, end: usize) -> Self
         requires { end ≡ (I.text run).end }
         ensures { result ≡ cut_places (inside (run_cuts_by (payloads_of payloads.entry))) (I.text run) }
     {

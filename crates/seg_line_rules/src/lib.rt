@@ -3,7 +3,7 @@
 
 pub mod boundaries;
 pub mod events;
-mod inside_cuts;
+pub mod inside_cuts;
 pub mod laws;
 pub mod line_pairs;
 mod lists;

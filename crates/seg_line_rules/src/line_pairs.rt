@@ -113,8 +113,9 @@ impl<'data> LinePairs<'data> {
     }
 }
 
-/// What is wrong with the pair table of clusters, if anything is.
-fn check_clusters(clusters: &RuleBreakData) -> Result<(), DataError>
+/// What is wrong with the pair table of clusters, if anything is: `StartRowKeeps` where no boundary stands between the text's start and some
+/// class of code points, and `ComplexItems` where some code points are complex.
+pub fn check_clusters(clusters: &RuleBreakData) -> Result<(), DataError>
     ensures accepted { IfOk result (λ _. IsFaultless (HasPairDataFault clusters.now None)) }
     ensures refused { IfErr result (IsLowestFault (HasPairDataFault clusters.now None)) }
 {

@@ -96,6 +96,27 @@ impl LineStyle {
             is_ja_or_zh: options.content_locale.is_some_and(is_japanese_or_chinese),
         }
     }
+
+    /// Whether words are broken everywhere.
+    pub fn breaks_all(self) -> bool
+        ensures { result ≡ is_break_all self.word_option }
+    {
+        self.word_option.is_break_all()
+    }
+
+    /// Whether words are kept together.
+    pub fn keeps_all(self) -> bool
+        ensures { result ≡ is_keep_all self.word_option }
+    {
+        self.word_option.is_keep_all()
+    }
+
+    /// Whether small kana are ideographs by the strictness alone.
+    pub fn is_loose_or_normal(self) -> bool
+        ensures { result ≡ is_loose_or_normal self.strictness }
+    {
+        self.strictness.is_loose_or_normal()
+    }
 }
 
 // Whether the language is Japanese or Chinese.

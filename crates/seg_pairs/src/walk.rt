@@ -94,6 +94,35 @@ pub fn entry_between(table: &RuleBreakData, left: Element, right: Element) -> Br
     table.entry(left.class, right.class)
 }
 
+/// The entry of a state and a class.
+pub fn entry_after(table: &RuleBreakData, state: u8, class: u8) -> BreakState
+    requires state { state < table.now.property_count }
+    requires class { class < table.now.property_count }
+    ensures value { result ≡ entry_of table.now state class }
+    ensures state { (next : ℕ) → named_state result ≡ Some next → next < table.now.property_count }
+{
+    table.entry(state, class)
+}
+
+/// The entry of a state and the end of the text.
+pub fn entry_at_end(table: &RuleBreakData, state: u8) -> BreakState
+    requires { state < table.now.property_count }
+    ensures { result ≡ entry_of table.now state table.now.eot_property }
+{
+    table.facts();
+    table.entry(state, table.eot_property())
+}
+
+/// The entry of the start of the text and a class.
+pub fn entry_at_start(table: &RuleBreakData, class: u8) -> BreakState
+    requires { class < table.now.property_count }
+    ensures value { result ≡ entry_of table.now table.now.sot_property class }
+    ensures state { (next : ℕ) → named_state result ≡ Some next → next < table.now.property_count }
+{
+    table.facts();
+    table.entry(table.sot_property(), class)
+}
+
 /// The state that an entry names, if it names one.
 pub fn state_named(entry: BreakState) -> Option<u8>
     ensures { result ≡ named_state entry }
@@ -134,7 +163,7 @@ pub fn is_class(table: &RuleBreakData, state: u8) -> bool
 
 /// Whether the place before an entry that names a state is saved: before each `Intermediate`, and
 /// where the walk leaves a class.
-fn saves(entry: BreakState, leaves_class: bool) -> bool
+pub fn saves(entry: BreakState, leaves_class: bool) -> bool
     ensures { result ≡ (is_intermediate entry || leaves_class) }
 {
     entry.is_intermediate() || leaves_class

@@ -1,0 +1,11 @@
+pub mod TurnForward
+pub mod TurnStretches
+pub mod TurnSets
+pub mod TurnMarks
+pub mod TurnLists
+pub mod TurnPlaces
+pub mod TurnReads
+pub mod TurnEvents
+pub mod TurnsLeft
+pub mod PlainUnits
+pub mod PlainTurns

@@ -1,0 +1,72 @@
+-- What the sets of classes have to do with one another.
+use Rattle.std.proofs.Common.{◌≡◌, ℕ, ◌==◌, ◌&&◌, ◌||◌, not, Bool, true, false, List, [], ◌∷◌, refl, sym, ap, ◌∙◌}
+use Rattle.std.proofs.lemmas.Bool.{eqb-true}
+use Rattle.seg_line_rules.specs.LineRules.{is_among}
+use Rattle.seg_line_turns.specs.TurnClasses.{BK, CM, CM_EASTASIAN, CR, HH, HY, LF, NL, QU, QU_PF, QU_PI, SA, SA_MC_MN, SP, ZW, ZWJ}
+use Rattle.seg_line_turns.specs.TurnSets.{is_mark, is_glue, bears_none, is_complex, is_complex_mark, is_start}
+
+abbrev Each : (ℕ → Bool) → List ℕ → Type 0
+Each test [] = Unit {0}
+Each test (one ∷ others) = (test one ≡ false) × Each test others
+
+-- a test that no number of a list passes is passed by none among them
+none-among : (test : ℕ → Bool) (ones : List ℕ) (class : ℕ) → Each test ones → is_among ones class ≡ true → test class ≡ false
+none-among test [] class each among = cc
+none-among test (one ∷ others) class each among = on (class == one) refl (λ among. none-among test others class each.1 among) among
+  where
+    on : (b : Bool) → (class == one) ≡ b → (is_among others class ≡ true → test class ≡ false) → (b || is_among others class) ≡ true → test class ≡ false
+    on true is later among = let same : class ≡ one = eqb-true class one is in rw same each.0
+    on false is later among = later among
+
+bears : ℕ → Bool
+bears class = is_among (BK ∷ CR ∷ LF ∷ NL ∷ SP ∷ ZW ∷ []) class
+
+pub marks-bear : (class : ℕ) → is_mark class ≡ true → bears_none class ≡ false
+unfolding is_mark bears_none bears
+marks-bear class among = none-among bears (CM ∷ CM_EASTASIAN ∷ ZWJ ∷ []) class (refl, (refl, (refl, tt))) among
+
+pub complex-bear : (class : ℕ) → is_complex class ≡ true → bears_none class ≡ false
+unfolding is_complex bears_none bears
+complex-bear class among = none-among bears (SA ∷ SA_MC_MN ∷ []) class (refl, (refl, tt)) among
+
+pub starts-bear : (class : ℕ) → is_start class ≡ true → bears_none class ≡ false
+unfolding is_start bears_none bears
+starts-bear class among = none-among bears (HY ∷ HH ∷ QU_PI ∷ QU_PF ∷ QU ∷ []) class (refl, (refl, (refl, (refl, (refl, tt))))) among
+
+marks : ℕ → Bool
+marks class = is_among (CM ∷ CM_EASTASIAN ∷ ZWJ ∷ []) class
+
+pub complex-apart : (class : ℕ) → is_complex class ≡ true → is_mark class ≡ false
+unfolding is_complex is_mark marks
+complex-apart class among = none-among marks (SA ∷ SA_MC_MN ∷ []) class (refl, (refl, tt)) among
+
+or-true : (b : Bool) → (b || true) ≡ true
+or-true true = refl
+or-true false = refl
+
+pub complex-is : (class : ℕ) → is_complex_mark class ≡ true → is_complex class ≡ true
+unfolding is_complex
+complex-is class is = rw is (or-true (class == SA))
+
+-- glue is a mark, or one that is complex
+pub glue-is : (class : ℕ) → is_glue class ≡ (is_mark class || is_complex_mark class)
+unfolding is_glue is_mark
+glue-is class = on (class == CM) (class == CM_EASTASIAN) (class == SA_MC_MN) (class == ZWJ)
+  where
+    on : (a b m z : Bool) → (a || (b || (m || (z || false)))) ≡ ((a || (b || (z || false))) || m)
+    on true b m z = refl
+    on false true m z = refl
+    on false false true true = refl
+    on false false true false = refl
+    on false false false true = refl
+    on false false false false = refl
+
+pub mark-apart : (class : ℕ) → is_mark class ≡ true → is_complex_mark class ≡ false
+mark-apart class mark = on (is_complex_mark class) refl
+  where
+    no : false ≡ true → ⊥
+    no is = cc
+
+    on : (b : Bool) → is_complex_mark class ≡ b → b ≡ false
+    on true is = absurd (no (sym (complex-apart class (complex-is class is)) ∙ mark))
+    on false is = refl

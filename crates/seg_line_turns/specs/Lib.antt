@@ -1,0 +1,13 @@
+pub mod TurnClasses
+pub mod TurnSets
+pub mod TurnReadings
+pub mod TurnUnits
+pub mod TurnLists
+pub mod Turns
+pub mod TurnBoundaries
+pub mod TurnMarks
+pub mod TurnFaults
+pub mod TurnPairs
+pub mod TurnPlaces
+pub mod TurnEvents
+pub mod PlainTexts
