@@ -13,7 +13,7 @@ use Rattle.icu_segmenter.specs.WordRules.{word_boundaries_of}
 use Rattle.icu_segmenter.specs.Words.{owned_word_rules}
 use Rattle.break_tests.specs.declared.sample.Sample.{Sample}
 use Rattle.break_tests.specs.declared.segmenter.Segmenter.{Segmenter}
-use Rattle.break_tests.specs.declared.segmenter.Segmenter.TheVariants.{Clusters, Words, Sentences, Lines}
+use Rattle.break_tests.specs.declared.segmenter.Segmenter.TheVariants.{Clusters, Words, Sentences, Lines, LinesByTable}
 
 -- the places of a text's boundaries by a segmenter
 abbrev pub places_by : Segmenter → Text → List ℕ
@@ -21,12 +21,13 @@ places_by (Clusters clusters) text = offsets (boundaries_of (owned_cluster_rules
 places_by (Words words) text = offsets (word_boundaries_of (owned_word_rules words) text)
 places_by (Sentences sentences) text = offsets (boundaries_of (owned_sentence_rules sentences) text)
 places_by (Lines lines) text = offsets (line_boundaries_of (owned_line_rules lines) text)
+places_by (LinesByTable lines) text = offsets (line_boundaries_of (owned_line_rules lines) text)
 
 -- the places where a line must be broken: the status there is 1
 abbrev pub mandatory_by : LineRules → Text → List ℕ
 mandatory_by rules text = offsets (filter (λ boundary. boundary.status == 1) (line_boundaries_of rules text))
 
--- .. of lines, and none of others
+-- .. of lines by a machine, and none of others
 abbrev pub mandatory_places_by : Segmenter → Text → Option (List ℕ)
 mandatory_places_by (Lines lines) text = Some (mandatory_by (owned_line_rules lines) text)
 mandatory_places_by _ text = None

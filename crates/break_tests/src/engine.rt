@@ -5,7 +5,7 @@ use anyhow::Result;
 use icu_segmenter::options::{LineBreakOptions, SentenceBreakOptions, WordBreakOptions};
 use icu_segmenter::{GraphemeClusterSegmenter, LineSegmenter, SentenceSegmenter, WordSegmenter};
 use icu_segmenter_data::{
-    cluster_machine, cluster_table, line_machine, line_tailorings, sentence_machine,
+    cluster_machine, cluster_table, line_machine, line_table, line_tailorings, sentence_machine,
     sentence_table, word_machine, word_table,
 };
 use std::alloc::Global;
@@ -27,10 +27,12 @@ pub enum Engine {
     SentenceTable,
     /// Lines, by the machine.
     LineMachine,
+    /// Lines, by the pair table.
+    LineTable,
 }
 
 /// All engines, in the order in which they are tested.
-pub const ENGINES: [Engine; 7] = [
+pub const ENGINES: [Engine; 8] = [
     Engine::ClusterMachine,
     Engine::ClusterTable,
     Engine::WordMachine,
@@ -38,6 +40,7 @@ pub const ENGINES: [Engine; 7] = [
     Engine::SentenceMachine,
     Engine::SentenceTable,
     Engine::LineMachine,
+    Engine::LineTable,
 ];
 
 impl Engine {
@@ -47,7 +50,7 @@ impl Engine {
             Engine::ClusterMachine | Engine::ClusterTable => "GraphemeBreakTest.txt",
             Engine::WordMachine | Engine::WordTable => "WordBreakTest.txt",
             Engine::SentenceMachine | Engine::SentenceTable => "SentenceBreakTest.txt",
-            Engine::LineMachine => "LineBreakTest.txt",
+            Engine::LineMachine | Engine::LineTable => "LineBreakTest.txt",
         }
     }
 
@@ -61,6 +64,7 @@ impl Engine {
             Engine::SentenceMachine => "sentences by machine",
             Engine::SentenceTable => "sentences by pair table",
             Engine::LineMachine => "lines by machine",
+            Engine::LineTable => "lines by pair table",
         }
     }
 
@@ -74,6 +78,7 @@ impl Engine {
             Engine::SentenceMachine => sentence_machine_segmenter(alloc),
             Engine::SentenceTable => sentence_table_segmenter(alloc),
             Engine::LineMachine => line_segmenter(alloc, LineBreakOptions::default()),
+            Engine::LineTable => line_table_segmenter(alloc),
         }
     }
 }
@@ -126,4 +131,11 @@ pub fn line_segmenter(alloc: Global, options: LineBreakOptions<'_>) -> Result<Se
         options,
     )?;
     Ok(Segmenter::Lines(segmenter))
+}
+
+fn line_table_segmenter(alloc: Global) -> Result<Segmenter> {
+    let (table, clusters) = (line_table(alloc)?, cluster_table(alloc)?);
+    let options = LineBreakOptions::default();
+    let segmenter = LineSegmenter::try_new_for_non_complex_scripts(table, clusters, options)?;
+    Ok(Segmenter::LinesByTable(segmenter))
 }

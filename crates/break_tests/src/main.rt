@@ -13,29 +13,39 @@ mod segmenter;
 
 use anyhow::{Context, Result};
 use counts::{Counts, counts_of, option_counts_of};
-use engine::ENGINES;
+use engine::{ENGINES, Engine};
 use std::process::ExitCode;
 use std::{env, fs};
 
 fn main(rt: HostRuntime) -> Result<ExitCode> {
-    let alloc = rt.alloc();
     let folder = env::args(&rt)?.nth(1).context("usage: break_tests FOLDER")?;
-    let mut failed = 0u32;
+    let mut failed = failed_with_options(&rt, folder.as_str())?;
     for engine in ENGINES {
-        let text = read(&rt, folder.as_str(), engine.file())?;
-        let counts = counts_of(alloc, &engine.segmenter(alloc)?, text.as_str())?;
-        print(&rt, engine.file(), engine.name(), counts)?;
-        failed = failed.saturating_add(counts.failed);
+        failed = failed.saturating_add(failed_by(&rt, folder.as_str(), engine)?);
     }
-    let text = read(&rt, folder.as_str(), OPTION_FILE)?;
-    let counts = option_counts_of(alloc, text.as_str())?;
-    print(&rt, OPTION_FILE, "lines by machine", counts)?;
-    failed = failed.saturating_add(counts.failed);
     Ok(if failed > 0 {
         ExitCode::FAILURE
     } else {
         ExitCode::SUCCESS
     })
+}
+
+// Runs an engine over its file, and returns how many samples it failed.
+fn failed_by(rt: &HostRuntime, folder: &str, engine: Engine) -> Result<u32> {
+    let alloc = rt.alloc();
+    let text = read(rt, folder, engine.file())?;
+    let segmenter = engine.segmenter(alloc)?;
+    let counts = counts_of(alloc, &segmenter, text.as_str())?;
+    print(rt, engine.file(), engine.name(), counts)?;
+    Ok(counts.failed)
+}
+
+// Runs the rows of lines with options, and returns how many failed.
+fn failed_with_options(rt: &HostRuntime, folder: &str) -> Result<u32> {
+    let text = read(rt, folder, OPTION_FILE)?;
+    let counts = option_counts_of(rt.alloc(), text.as_str())?;
+    print(rt, OPTION_FILE, "lines by machine", counts)?;
+    Ok(counts.failed)
 }
 
 // The rows of lines with options.

@@ -19,8 +19,10 @@ pub enum Segmenter {
     Words(WordSegmenter),
     /// Of sentences.
     Sentences(SentenceSegmenter),
-    /// Of lines.
+    /// Of lines by a machine, which says what is mandatory.
     Lines(LineSegmenter),
+    /// Of lines by a pair table, which doesn't.
+    LinesByTable(LineSegmenter),
 }
 
 impl Segmenter {
@@ -42,6 +44,9 @@ impl Segmenter {
                 sentences.as_borrowed().segment_str(text).collect(alloc)
             }
             Segmenter::Lines(lines) => lines.as_borrowed().segment_str(text).collect(alloc),
+            Segmenter::LinesByTable(lines) => {
+                lines.as_borrowed().segment_str(text).collect(alloc)
+            }
         }
     }
 
@@ -58,6 +63,9 @@ impl Segmenter {
                 sentences.as_borrowed().segment_utf8(text).collect(alloc)
             }
             Segmenter::Lines(lines) => lines.as_borrowed().segment_utf8(text).collect(alloc),
+            Segmenter::LinesByTable(lines) => {
+                lines.as_borrowed().segment_utf8(text).collect(alloc)
+            }
         }
     }
 
@@ -74,10 +82,13 @@ impl Segmenter {
                 sentences.as_borrowed().segment_utf16(text).collect(alloc)
             }
             Segmenter::Lines(lines) => lines.as_borrowed().segment_utf16(text).collect(alloc),
+            Segmenter::LinesByTable(lines) => {
+                lines.as_borrowed().segment_utf16(text).collect(alloc)
+            }
         }
     }
 
-    /// The mandatory boundaries of lines, in bytes; of others None. The only error is want of memory.
+    /// The mandatory boundaries of lines by a machine, in bytes; of others None. The only error is want of memory.
     pub fn mandatory_places(
         &self,
         alloc: Global,
