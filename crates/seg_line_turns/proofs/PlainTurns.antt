@@ -1,31 +1,28 @@
 -- On plain texts a turn is the line verdict of its units, and the boundaries are those of the verdicts.
-use Rattle.std.proofs.Common.{◌≡◌, ℕ, zero, suc, ◌+◌, ◌-◌, ◌<◌, ◌≤◌, ◌==◌, ◌&&◌, ◌||◌, not, Bool, true, false, cond, Option, Some, None, List, [], ◌∷◌, ◌++◌, length, drop, refl, sym, ap, ◌∙◌, subst, inl, inr, arith}
+use Rattle.std.proofs.Common.{◌≡◌, ℕ, zero, suc, ◌+◌, ◌<◌, ◌==◌, ◌&&◌, ◌||◌, not, Bool, true, false, cond, Option, Some, None, List, [], ◌∷◌, ◌++◌, length, drop, refl, sym, ap, ◌∙◌, subst, arith}
 use Rattle.seg_text.specs.declared.boundary.Boundary.{Boundary}
 use Rattle.seg_text.specs.Boundaries.{start, shift_all, boundary}
 use Rattle.seg_text.specs.Cuts.{Cuts}
-use Rattle.seg_text.specs.Stretches.{Stretch, later_boundaries_within, later_boundaries}
+use Rattle.seg_text.specs.Stretches.{later_boundaries_within, later_boundaries}
 use Rattle.seg_pairs.specs.declared.provider.pairs.BreakState.{BreakState}
 use Rattle.seg_pairs.specs.declared.provider.pairs.BreakState.TheVariants.{Break, Keep, NoMatch, Intermediate, Index}
-use Rattle.seg_pairs.specs.PairTable.{PairTable, entry_of}
-use Rattle.seg_pairs.specs.Walk.{Walk, walk, is_class}
-use Rattle.seg_pairs.specs.Verdict.{Verdict, walk_from}
+use Rattle.seg_pairs.specs.PairTable.{entry_of}
+use Rattle.seg_pairs.specs.Walk.{is_class}
+use Rattle.seg_pairs.specs.Verdict.{Verdict}
 use Rattle.seg_pairs.specs.Verdict.Verdict.{BreakAfter, GoAfter, RunBegins}
-use Rattle.seg_line_rules.specs.declared.verdicts.Case.{Case}
 use Rattle.seg_line_rules.specs.declared.verdicts.Case.TheVariants.{Together}
 use Rattle.seg_line_rules.specs.LineRules.{LineRules}
-use Rattle.seg_line_rules.specs.LineUnits.{LineUnit}
-use Rattle.seg_line_rules.specs.LineVerdict.{case_verdict, list_case, unless, unit_classes, unit_first_verdict, unit_named_verdict, unit_walk_verdict}
+use Rattle.seg_line_rules.specs.LineVerdict.{case_verdict, list_case, unless, unit_first_verdict, unit_named_verdict}
 use Rattle.seg_line_turns.specs.PlainTexts.{TurnUnit, unit_at, unit_with, turn_units_from, turn_units, extent_in, line_unit, line_units, plain_case, plain_unit_verdict, in_points, plain_stretch_of, plain_stretch, plain_boundaries, ArePlain, HasNoOpening}
-use Rattle.seg_line_turns.specs.TurnBoundaries.{TurnStretch, is_complex_point, run_length, stretch_of, turn_stretch, turns_within, later_turns, turn_boundaries}
+use Rattle.seg_line_turns.specs.TurnBoundaries.{run_length, stretch_of, turns_within, later_turns, turn_boundaries}
 use Rattle.seg_line_turns.specs.TurnLists.{keeps, listed}
 use Rattle.seg_line_turns.specs.TurnReadings.{turn_class}
-use Rattle.seg_line_turns.specs.TurnSets.{bears_none, is_mark, is_glue, is_glued, is_complex, is_complex_mark, is_opening, is_space}
+use Rattle.seg_line_turns.specs.TurnSets.{bears_none, is_mark, is_glued, is_complex, is_opening, is_space}
 use Rattle.seg_line_turns.specs.TurnUnits.{LeftUnit, left_unit, with_item, is_joined}
 use Rattle.seg_line_turns.specs.Turns.{Turn, turn_unless, walk_turn, walk_begin, table_turn, list_turn, class_turn, right_turn, is_taken, opens, turn, first_unit}
-use Rattle.seg_line_turns.specs.Turns.Turn.{BreakAt, GoTo, RunAt}
-use Rattle.seg_line_turns.proofs.PlainUnits.{Ruled, ruled, and-none, glue-mark, with-alike, Head, units-head, walks, unit_walk, unit-walks, turn_by}
+use Rattle.seg_line_turns.specs.Turns.Turn.{BreakAt, GoTo}
+use Rattle.seg_line_turns.proofs.PlainUnits.{Ruled, ruled, and-none, glue-mark, units-head, walks, unit_walk, unit-walks, turn_by}
 use Rattle.seg_line_turns.proofs.TurnForward.{IsTurnOf, first-forward}
-use Rattle.seg_line_turns.proofs.TurnMarks.{BearsAlike}
 
 module _ (rules : LineRules) where
   taken-is : (left : LeftUnit) (class : ℕ) → Ruled class → is_taken left class ≡ is_glued left.class class

@@ -1,10 +1,10 @@
 -- What the premises of plain texts rule out, and walks over the units of plain texts.
-use Rattle.std.proofs.Common.{◌≡◌, ℕ, zero, suc, ◌+◌, ◌==◌, ◌&&◌, ◌||◌, ◌⊎◌, not, Bool, true, false, cond, Option, Some, None, List, [], ◌∷◌, map, drop, refl, sym, ap, ◌∙◌, subst, inl, inr, arith}
+use Rattle.std.proofs.Common.{◌≡◌, ℕ, zero, suc, ◌+◌, ◌==◌, ◌&&◌, ◌||◌, not, Bool, true, false, cond, Option, Some, None, List, [], ◌∷◌, map, drop, refl, sym, ap, ◌∙◌, inl, inr, arith}
 use Rattle.std.proofs.lemmas.List.{drop-drop, drop-map}
 use Rattle.std.specs.Option.{option_map_or}
 use Rattle.seg_data.proofs.Options.{option-cases}
 use Rattle.seg_pairs.specs.declared.provider.pairs.BreakState.{BreakState}
-use Rattle.seg_pairs.specs.declared.provider.pairs.BreakState.TheVariants.{Break, Keep, NoMatch, Intermediate, Index}
+use Rattle.seg_pairs.specs.declared.provider.pairs.BreakState.TheVariants.{Break, Keep, NoMatch}
 use Rattle.seg_pairs.specs.BreakStates.{named_state, is_intermediate}
 use Rattle.seg_pairs.specs.PairTable.{PairTable, entry_of}
 use Rattle.seg_pairs.specs.Walk.{Walk, walk, is_class}
@@ -16,9 +16,9 @@ use Rattle.seg_line_rules.specs.LineUnits.{LineUnit}
 use Rattle.seg_line_rules.specs.LineVerdict.{unit_classes, joined_before, begins_joined, unless, unit_stop_verdict, unit_end_verdict, unit_walk_verdict}
 use Rattle.seg_line_turns.specs.PlainTexts.{TurnUnit, unit_at, unit_with, turn_units_from, extent_in, line_unit, line_units, is_quoting, ArePlain}
 use Rattle.seg_line_turns.specs.TurnReadings.{turn_class}
-use Rattle.seg_line_turns.specs.TurnSets.{is_mark, is_glue, is_glued, bears_none, is_complex, is_complex_mark, is_hyphen, is_start, is_infix, is_quote, is_space, is_joiner}
-use Rattle.seg_line_turns.specs.TurnUnits.{LeftUnit, is_joined}
-use Rattle.seg_line_turns.specs.Turns.{Turn, Walking, WalkStep, turn_unless, walk_end_turn, walk_stop_turn, walk_back_turn, walk_on, walk_entry_step, walk_step, walk_by, walk_turn}
+use Rattle.seg_line_turns.specs.TurnSets.{is_mark, is_glue, is_glued, bears_none, is_complex, is_complex_mark, is_hyphen, is_start, is_infix, is_quote, is_joiner}
+use Rattle.seg_line_turns.specs.TurnUnits.{is_joined}
+use Rattle.seg_line_turns.specs.Turns.{Turn, Walking, WalkStep, turn_unless, walk_end_turn, walk_stop_turn, walk_on, walk_entry_step, walk_step, walk_by, walk_turn}
 use Rattle.seg_line_turns.specs.Turns.Turn.{BreakAt, GoTo, RunAt}
 use Rattle.seg_line_turns.specs.Turns.WalkStep.{Stops, GoesOn}
 use Rattle.seg_line_turns.proofs.TurnMarks.{BearsAlike}

@@ -1,10 +1,9 @@
 -- What comes next of a text that is read turn by turn.
-use Rattle.std.proofs.Common.{◌≡◌, ◌≢◌, ℕ, zero, suc, ◌+◌, ◌-◌, ◌<◌, ◌&&◌, Bool, true, false, List, [], ◌∷◌, ◌++◌, length, map, take, drop, refl, sym, ap, ◌∙◌, subst, inl, inr, arith}
-use Rattle.std.specs.List.{prefix_len}
+use Rattle.std.proofs.Common.{◌≡◌, ◌≢◌, ℕ, ◌+◌, ◌-◌, ◌<◌, ◌&&◌, Bool, false, List, [], ◌∷◌, ◌++◌, length, map, take, drop, refl, sym, ap, ◌∙◌, subst, arith}
 use Rattle.std.proofs.lemmas.List.{drop-drop, length-drop, length-take, length-map, take-map}
 use Rattle.std.proofs.lemmas.List.Sums.{prefix_len-le-length}
 use Rattle.seg_text.specs.declared.boundary.Boundary.{Boundary}
-use Rattle.seg_text.specs.Items.{Item, Text, place_of, start_of, rest_after, text_before, code_points, prefix_length}
+use Rattle.seg_text.specs.Items.{Item, Text, start_of, rest_after, text_before, code_points, prefix_length}
 use Rattle.seg_text.specs.Boundaries.{boundary, boundary_in, boundaries_in, shift_all}
 use Rattle.seg_text.specs.Cuts.{Cuts, AreCutsOf, with_status, cut_places}
 use Rattle.seg_text.proofs.Places.{in-append, in-shift, code_points-drop}
@@ -13,14 +12,14 @@ use Rattle.seg_line_rules.specs.LineRules.{LineRules}
 use Rattle.seg_line_turns.specs.declared.turn_units.Left.{Left}
 use Rattle.seg_line_turns.specs.declared.turn_units.TurnOutcome.{TurnOutcome}
 use Rattle.seg_line_turns.specs.declared.turn_units.TurnOutcome.TheVariants.{Break, Go, Run}
-use Rattle.seg_line_turns.specs.TurnBoundaries.{TurnStretch, is_complex_point, run_length, has_none, stretch_of, turn_stretch, later_turns}
+use Rattle.seg_line_turns.specs.TurnBoundaries.{is_complex_point, run_length, has_none, stretch_of, turn_stretch, later_turns}
 use Rattle.seg_line_turns.specs.TurnEvents.{UnreadTurns, GoesOnTurns, unread_turns, after_cuts}
-use Rattle.seg_line_turns.specs.TurnPlaces.{item_place, placed, left_seen, IsLeft, FindsFrom}
+use Rattle.seg_line_turns.specs.TurnPlaces.{item_place, placed, left_seen, FindsFrom}
 use Rattle.seg_line_turns.specs.Turns.{Turn, turn, first_unit}
 use Rattle.seg_line_turns.specs.Turns.Turn.{BreakAt, GoTo, RunAt}
 use Rattle.seg_line_turns.proofs.TurnForward.{IsTurnOf, first-forward}
 use Rattle.seg_line_turns.proofs.TurnPlaces.{next-of}
-use Rattle.seg_line_turns.proofs.TurnStretches.{turns-nil, turns-next}
+use Rattle.seg_line_turns.proofs.TurnStretches.{turns-next}
 
 module _ (rules : LineRules) where
   abbrev unread : Cuts → (starts opened : Bool) → Text → List Boundary

@@ -1,5 +1,5 @@
 -- The loose list of the engine 17, row by row.
-use Rattle.std.proofs.Common.{◌≡◌, ℕ, Bool, true, false, ◌||◌, Option, Some, None, List, [], ◌∷◌, refl, ap, ◌∙◌}
+use Rattle.std.proofs.Common.{◌≡◌, ℕ, Bool, true, false, ◌||◌, Option, Some, List, [], ◌∷◌, refl, ap, ◌∙◌}
 use Rattle.std.specs.Prelude.{if◌then◌else◌, find}
 use Rattle.std.specs.Option.{option_map}
 use Rattle.seg_line_turns.specs.TurnLists.{LooseCase, loose_cases, loose_list, fits, hyphens, waves, iterations, middle_dots, leaders, exclamations, wide_postfixes, postfixes, wide_prefixes, prefixes}

@@ -1,5 +1,5 @@
 -- No boundary of the engine 17 stands before a mark that is glued.
-use Rattle.std.proofs.Common.{◌≡◌, ℕ, zero, suc, ◌+◌, ◌-◌, ◌<◌, ◌≤◌, ◌&&◌, ◌||◌, not, Bool, true, false, cond, Option, Some, None, List, [], ◌∷◌, ◌++◌, length, take, drop, refl, sym, ap, ◌∙◌, subst, inl, inr, arith}
+use Rattle.std.proofs.Common.{◌≡◌, ℕ, zero, suc, ◌+◌, ◌<◌, ◌≤◌, ◌&&◌, ◌||◌, not, Bool, true, false, cond, Option, Some, None, List, [], ◌∷◌, ◌++◌, length, drop, refl, sym, ap, ◌∙◌, subst, arith}
 use Rattle.std.specs.Prelude.{slice_get}
 use Rattle.std.specs.Option.{option_map_or}
 use Rattle.std.proofs.lemmas.List.{length-drop}
@@ -18,13 +18,13 @@ use Rattle.seg_line_rules.specs.LineRules.{LineRules}
 use Rattle.seg_line_rules.proofs.Inside.{rises-le}
 use Rattle.seg_line_rules.proofs.LineStretches.{StandInside}
 use Rattle.seg_line_rules.proofs.MarkLaw.{get-drop}
-use Rattle.seg_line_turns.specs.TurnBoundaries.{TurnStretch, is_complex_point, run_length, run_of, stretch_of, turn_stretch, later_turns, turn_boundaries}
+use Rattle.seg_line_turns.specs.TurnBoundaries.{is_complex_point, run_length, run_of, stretch_of, turn_stretch, later_turns, turn_boundaries}
 use Rattle.seg_line_turns.specs.TurnLists.{keeps, listed}
 use Rattle.seg_line_turns.specs.TurnMarks.{KeepsTurnMarks, StartsBear}
 use Rattle.seg_line_turns.specs.TurnReadings.{turn_class}
 use Rattle.seg_line_turns.specs.TurnSets.{is_mark, is_glue, is_glued, bears_none, is_complex, is_complex_mark, is_letter, is_hyphen, is_start, is_before_quote, is_after_quote, is_before_hyphen, is_joiner, is_space, is_zero_space, is_infix, is_digit, is_quote, is_contingent}
 use Rattle.seg_line_turns.specs.TurnUnits.{LeftUnit, with_item, is_joined, left_unit}
-use Rattle.seg_line_turns.specs.Turns.{comes, to_base, sticks, Turn, Walking, turn_unless, walk_end_turn, walk_back_turn, walk_stop_turn, walk_begin, WalkStep, walk_step, walk_by, walk_turn, table_turn, quote_turn, begins_marked, list_turn, class_turn, right_turn, is_taken, opens, turn, start_unit, first_unit}
+use Rattle.seg_line_turns.specs.Turns.{comes, to_base, sticks, Turn, Walking, turn_unless, walk_end_turn, walk_back_turn, walk_stop_turn, walk_begin, WalkStep, walk_step, walk_by, walk_turn, table_turn, quote_turn, begins_marked, list_turn, right_turn, is_taken, opens, turn, start_unit, first_unit}
 use Rattle.seg_line_turns.specs.Turns.Turn.{BreakAt, GoTo, RunAt}
 use Rattle.seg_line_turns.specs.Turns.WalkStep.{Stops, GoesOn}
 use Rattle.seg_line_turns.proofs.TurnForward.{IsTurnOf, StandsAt, stands-next, first-last, first-forward}

@@ -1,5 +1,5 @@
 -- Items of a text as they are read, one after another.
-use Rattle.std.proofs.Common.{◌≡◌, ℕ, suc, ◌+◌, ◌-◌, Bool, true, false, Option, Some, None, List, [], ◌∷◌, length, drop, refl, sym, ap, ◌∙◌, arith}
+use Rattle.std.proofs.Common.{◌≡◌, ℕ, suc, ◌+◌, ◌-◌, true, false, Option, Some, None, List, [], ◌∷◌, length, drop, refl, sym, ap, ◌∙◌, arith}
 use Rattle.std.proofs.lemmas.List.{drop-drop}
 use Rattle.std.specs.Option.{option_map, option_map_or}
 use Rattle.seg_text.specs.Items.{Item, Text, start_of, rest_after, code_points}
@@ -8,7 +8,7 @@ use Rattle.seg_line_turns.specs.declared.bases.BaseAhead.{BaseAhead}
 use Rattle.seg_line_turns.specs.TurnPlaces.{item_place, IsBaseOf}
 use Rattle.seg_line_turns.specs.TurnReadings.{turn_class}
 use Rattle.seg_line_turns.specs.TurnSets.{is_mark}
-use Rattle.seg_line_turns.specs.Turns.{next_base, to_base}
+use Rattle.seg_line_turns.specs.Turns.{next_base}
 
 -- the next item of what is left, and what is left after it
 pub record NextOf (whole after : Text) (number place : ℕ) : Type 0 where

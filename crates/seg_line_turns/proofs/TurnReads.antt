@@ -1,6 +1,6 @@
 -- Turns and walks as their items are read, one after another.
-use Rattle.std.proofs.Common.{◌≡◌, ℕ, suc, ◌+◌, ◌&&◌, ◌||◌, not, Bool, true, false, cond, Option, Some, None, List, [], ◌∷◌, refl, sym, ap, ◌∙◌, arith}
-use Rattle.seg_text.specs.Items.{Item, Text, start_of, rest_after, code_points}
+use Rattle.std.proofs.Common.{◌≡◌, ℕ, suc, ◌||◌, Bool, true, false, cond, List, [], ◌∷◌, refl, sym, ap, ◌∙◌}
+use Rattle.seg_text.specs.Items.{Item, Text, start_of, code_points}
 use Rattle.seg_pairs.specs.PairTable.{entry_of}
 use Rattle.seg_line_rules.specs.LineRules.{LineRules}
 use Rattle.seg_line_turns.specs.declared.turn_units.Left.{Left}
@@ -9,11 +9,11 @@ use Rattle.seg_line_turns.specs.declared.turn_units.TurnOutcome.TheVariants as f
 use Rattle.seg_line_turns.specs.declared.turn_walk.Walker.{Walker}
 use Rattle.seg_line_turns.specs.declared.turn_walk.WalkOutcome.{WalkOutcome}
 use Rattle.seg_line_turns.specs.declared.turn_walk.WalkOutcome.TheVariants as outcome
-use Rattle.seg_line_turns.specs.TurnPlaces.{item_place, placed, step_at, walker_at, walker_seen, left_seen, IsLeft, IsBetween, IsWalkAt, FindsBetween}
+use Rattle.seg_line_turns.specs.TurnPlaces.{item_place, placed, step_at, walker_at, walker_seen, left_seen, IsLeft, IsWalkAt, FindsBetween}
 use Rattle.seg_line_turns.specs.TurnReadings.{turn_class}
 use Rattle.seg_line_turns.specs.TurnUnits.{LeftUnit, with_item}
 use Rattle.seg_line_turns.specs.Turns.{Turn, Walking, WalkStep, walk_step, walk_by, walk_turn, walk_end_turn, turn, right_turn, is_taken, opens}
-use Rattle.seg_line_turns.specs.Turns.Turn.{BreakAt, GoTo, RunAt}
+use Rattle.seg_line_turns.specs.Turns.Turn.{BreakAt}
 use Rattle.seg_line_turns.specs.Turns.WalkStep.{Stops, GoesOn}
 use Rattle.seg_line_turns.proofs.TurnPlaces.{next-of, end-of}
 

@@ -1,5 +1,5 @@
 -- What the sets of classes have to do with one another.
-use Rattle.std.proofs.Common.{◌≡◌, ℕ, ◌==◌, ◌&&◌, ◌||◌, not, Bool, true, false, List, [], ◌∷◌, refl, sym, ap, ◌∙◌}
+use Rattle.std.proofs.Common.{◌≡◌, ℕ, ◌==◌, ◌||◌, Bool, true, false, List, [], ◌∷◌, refl, sym, ◌∙◌}
 use Rattle.std.proofs.lemmas.Bool.{eqb-true}
 use Rattle.seg_line_rules.specs.LineRules.{is_among}
 use Rattle.seg_line_turns.specs.TurnClasses.{BK, CM, CM_EASTASIAN, CR, HH, HY, LF, NL, QU, QU_PF, QU_PI, SA, SA_MC_MN, SP, ZW, ZWJ}

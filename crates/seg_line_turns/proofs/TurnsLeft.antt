@@ -1,8 +1,8 @@
 -- What is left of a text that is read turn by turn, and of its runs.
-use Rattle.std.proofs.Common.{◌≡◌, ◌≢◌, ℕ, suc, ◌<◌, ◌&&◌, Bool, true, false, List, [], ◌∷◌, ◌++◌, length, map, drop, refl, sym, ap, ◌∙◌, subst, arith}
+use Rattle.std.proofs.Common.{◌≡◌, ℕ, ◌&&◌, Bool, true, false, List, [], ◌∷◌, ◌++◌, length, map, refl, sym, ap, ◌∙◌}
 use Rattle.std.proofs.lemmas.List.{length-map}
 use Rattle.seg_text.specs.declared.boundary.Boundary.{Boundary}
-use Rattle.seg_text.specs.Items.{Item, Text, start_of, rest_after, code_points, IsRising}
+use Rattle.seg_text.specs.Items.{Item, Text, start_of, code_points, IsRising}
 use Rattle.seg_text.specs.Boundaries.{IsCover, boundary, boundaries_in, offsets}
 use Rattle.seg_text.specs.Cuts.{Cuts, AreCutsOf, with_status, cut_places}
 use Rattle.seg_text.proofs.Covers.{covers-in}
@@ -10,9 +10,9 @@ use Rattle.seg_line_rules.specs.LineBoundaries.{CutsCover, inside}
 use Rattle.seg_line_rules.specs.LineRules.{LineRules}
 use Rattle.seg_line_rules.proofs.Inside.{inside-stand}
 use Rattle.seg_line_rules.proofs.LinesLeft.{inside-cuts}
-use Rattle.seg_line_turns.specs.declared.turn_events.TurnEvent.TheVariants.{Go, Break, Run}
-use Rattle.seg_line_turns.specs.TurnBoundaries.{later_turns, has_none, turn_boundaries}
-use Rattle.seg_line_turns.specs.TurnEvents.{UnreadTurns, LeadsToTurns, GoesOnTurns, unread_turns, after_cuts, whole_text}
+use Rattle.seg_line_turns.specs.declared.turn_events.TurnEvent.TheVariants.{Run}
+use Rattle.seg_line_turns.specs.TurnBoundaries.{later_turns, turn_boundaries}
+use Rattle.seg_line_turns.specs.TurnEvents.{UnreadTurns, LeadsToTurns, unread_turns, after_cuts, whole_text}
 use Rattle.seg_line_turns.proofs.TurnStretches.{turns-cover, turns-nil}
 
 and-true : (b : Bool) → (b && true) ≡ b

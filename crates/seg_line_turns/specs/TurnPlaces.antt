@@ -1,5 +1,5 @@
 -- What a turn finds, as places of a text.
-use Rattle.std.specs.Prelude.{◌≡◌, ℕ, ◌<◌, ◌&&◌, suc, Bool, Option, Some, None, List, if◌then◌else◌}
+use Rattle.std.specs.Prelude.{◌≡◌, ℕ, ◌<◌, ◌&&◌, suc, Bool, if◌then◌else◌}
 use Rattle.std.specs.Option.{option_map}
 use Rattle.seg_text.specs.Items.{Text, start_of, rest_after, code_points}
 use Rattle.seg_pairs.specs.declared.provider.pairs.BreakState.{BreakState}

@@ -1,5 +1,5 @@
 -- The rules of the engine 17: one turn, from a left unit and the code points after it.
-use Rattle.std.specs.Prelude.{ℕ, zero, suc, ◌+◌, ◌-◌, ◌==◌, ◌&&◌, ◌||◌, not, Bool, true, false, if◌then◌else◌, Option, Some, None, List, [], ◌∷◌, length}
+use Rattle.std.specs.Prelude.{ℕ, suc, ◌+◌, ◌-◌, ◌&&◌, ◌||◌, not, Bool, true, false, if◌then◌else◌, Option, Some, None, List, [], ◌∷◌, length}
 use Rattle.std.specs.Option.{option_map_or}
 use Rattle.seg_pairs.specs.declared.provider.pairs.BreakState.{BreakState}
 use Rattle.seg_pairs.specs.declared.provider.pairs.BreakState.TheVariants.{Break, Keep, NoMatch, Intermediate, Index}
@@ -104,18 +104,22 @@ abbrev pub walk_entry_step : LineRules → Walking → ℕ → ℕ → BreakStat
 walk_entry_step rules w place class entry =
     option_map_or (λ next. GoesOn (walk_on rules.table w place class next)) (named_state entry) (Stops (walk_stop_turn w (is_joiner w.before) place entry))
 
+-- an item that isn't glued: after a space some classes decide, and else the table
+abbrev pub space_step : LineRules → Walking → ℕ → ℕ → List ℕ → WalkStep
+space_step rules w place class after =
+    if is_space w.before && not (is_zero_space w.state) && is_infix class && not (sticks rules.table w.state) then Stops (GoTo w.saved w.opened)
+    else if is_quote class && is_space w.before && not (is_class rules.table w.state)
+    then Stops (GoTo (if sticks rules.table w.state then place else w.saved) w.opened)
+    else if is_space w.before && is_hyphen class && comes rules is_letter after
+    then Stops (if sticks rules.table w.state then GoTo (place + suc (to_base rules after)) w.opened else BreakAt place (suc place))
+    else walk_entry_step rules w place class (entry_of rules.table w.state class)
+
 -- the item with this number and class: the cases of a walk, in their order
 abbrev pub walk_step : LineRules → Walking → ℕ → ℕ → List ℕ → WalkStep
 walk_step rules w place class after =
     if is_glue class && not (bears_none w.before) then GoesOn (record w { before = class })
     else if w.opened && not (is_space class) && not (is_hyphen class) then Stops (GoTo place false)
-    else (let u = record w { opened = w.opened && is_space class } in
-    if is_space w.before && not (is_zero_space w.state) && is_infix class && not (sticks rules.table w.state) then Stops (GoTo w.saved u.opened)
-    else if is_quote class && is_space w.before && not (is_class rules.table w.state)
-    then Stops (GoTo (if sticks rules.table w.state then place else w.saved) u.opened)
-    else if is_space w.before && is_hyphen class && comes rules is_letter after
-    then Stops (if sticks rules.table w.state then GoTo (place + suc (to_base rules after)) u.opened else BreakAt place (suc place))
-    else walk_entry_step rules u place class (entry_of rules.table w.state class))
+    else space_step rules (record w { opened = w.opened && is_space class }) place class after
 
 abbrev pub walk_by : WalkStep → (Walking → Turn) → Turn
 walk_by (Stops turn) later = turn

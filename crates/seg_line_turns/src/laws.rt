@@ -42,5 +42,4 @@ pub fn mark_law()
 pub fn plain_texts()
     ensures { (cuts : Cuts) (rules : LineRules) (code_points : List ℕ) → ArePlain rules code_points → HasNoOpening (turn_units rules code_points)
         → turn_boundaries cuts rules code_points ≡ plain_boundaries cuts rules code_points }
-{
-}
+{}

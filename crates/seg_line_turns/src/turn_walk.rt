@@ -4,7 +4,7 @@ ghost use Rattle.seg_text.specs.Items.{Text, code_points};
 ghost use Rattle.seg_pairs.specs.PairTable.{entry_of};
 ghost use Rattle.seg_line_turns.specs.TurnPairs.{turn_rules_by};
 ghost use Rattle.seg_line_turns.specs.TurnPlaces.{IsWalkAt, item_place, placed, step_at, walker_seen, IsBelowState};
-ghost use Rattle.seg_line_turns.specs.Turns.{sticks, walk_back_turn, walk_end_turn, walk_entry_step, walk_step, walk_stop_turn, walk_turn};
+ghost use Rattle.seg_line_turns.specs.Turns.{space_step, sticks, walk_back_turn, walk_end_turn, walk_entry_step, walk_step, walk_stop_turn, walk_turn};
 
 use crate::bases::{go_to_base, letter_comes};
 use crate::classes::{bears_none, is_glue, is_hyphen};
@@ -96,6 +96,23 @@ fn walk_step<I: Cursor>(
         return WalkOutcome::Stops(TurnOutcome::Go(place, false));
     }
     let opened = walker.opened && is_space;
+    space_step(pairs, Walker { opened, ..walker }, place, class, rest)
+}
+
+/// What an item that isn't glued does to a walk: after a space some classes decide, and else the table.
+fn space_step<I: Cursor>(
+    pairs: TurnPairs<'_>,
+    walker: Walker,
+    place: usize,
+    class: u8,
+    rest: &I,
+) -> WalkOutcome
+    requires state { walker.state < (turn_rules_by pairs).table.property_count }
+    requires class { class < (turn_rules_by pairs).table.property_count }
+    ensures value { (whole : Text) (number saved : ℕ) → place ≡ item_place number whole → IsWalkAt whole (suc number) saved walker (I.text rest.now)
+        → result ≡ step_at whole (space_step (turn_rules_by pairs.entry) (walker_seen saved walker) number class (code_points (I.text rest.now).items)) }
+    ensures state { IsBelowState (turn_rules_by pairs.entry).table.property_count result }
+{
     let after_space = walker.before == RuleBreakData::LINE_V3_PROPERTY_SP;
     let table = pairs.table();
     if after_space
@@ -103,7 +120,7 @@ fn walk_step<I: Cursor>(
         && class == RuleBreakData::LINE_V3_PROPERTY_IS
         && !sticks(table, walker.state)
     {
-        return WalkOutcome::Stops(TurnOutcome::Go(walker.saved, opened));
+        return WalkOutcome::Stops(TurnOutcome::Go(walker.saved, walker.opened));
     }
     if class == RuleBreakData::LINE_V3_PROPERTY_QU_PF
         && after_space
@@ -114,15 +131,15 @@ fn walk_step<I: Cursor>(
         } else {
             walker.saved
         };
-        return WalkOutcome::Stops(TurnOutcome::Go(to, opened));
+        return WalkOutcome::Stops(TurnOutcome::Go(to, walker.opened));
     }
     if after_space && is_hyphen(class) && letter_comes(pairs, rest) {
         if sticks(table, walker.state) {
-            return WalkOutcome::Stops(go_to_base(pairs, opened, rest));
+            return WalkOutcome::Stops(go_to_base(pairs, walker.opened, rest));
         }
         return WalkOutcome::Stops(TurnOutcome::Break(place, rest.place()));
     }
-    entry_step(pairs, Walker { opened, ..walker }, place, class)
+    entry_step(pairs, walker, place, class)
 }
 
 /// What the entry of the state and the class of an item says of a walk.

@@ -1,7 +1,7 @@
 use Rattle.std.proofs.Common.{Some, refl, sym, ap, ◌∙◌}
 use Rattle.seg_line_turns.specs.TurnPairs.{turn_rules_by}
 use Rattle.seg_line_turns.specs.TurnSets.{is_mark}
-use Rattle.seg_line_turns.proofs.TurnPlaces.{looking-end, looking-found, looking-next, looking-start}
+use Rattle.seg_line_turns.proofs.TurnPlaces.{looking-end, looking-found, looking-next}
 use Rattle.seg_line_turns.proofs.bases.base_ahead.Goals as goal
 
 pub returns-in_default : goal.returns-in_default

@@ -1,4 +1,4 @@
-use Rattle.std.proofs.Common.{refl, ap, ◌∙◌}
+use Rattle.std.proofs.Common.{ap, ◌∙◌}
 use Rattle.seg_line_turns.specs.declared.turn_units.TurnOutcome.TheVariants.{Break}
 use Rattle.seg_line_turns.specs.TurnPlaces.{item_place}
 use Rattle.seg_line_turns.proofs.TurnPlaces.{base-past}

@@ -1,4 +1,4 @@
-use Rattle.std.proofs.Common.{refl, ap, ◌∙◌}
+use Rattle.std.proofs.Common.{ap}
 use Rattle.seg_line_turns.specs.declared.turn_units.TurnOutcome.TheVariants.{Go}
 use Rattle.seg_line_turns.proofs.TurnPlaces.{base-past}
 use Rattle.seg_line_turns.proofs.bases.go_to_base.Goals as goal

@@ -1,4 +1,4 @@
-use Rattle.std.proofs.Common.{◌≡◌, ◌||◌, ℕ, refl, sym, ap, ◌∙◌}
+use Rattle.std.proofs.Common.{◌≡◌, ◌||◌, ℕ, refl, ap, ◌∙◌}
 use Rattle.seg_line_turns.specs.TurnPairs.{turn_rules_by}
 use Rattle.seg_line_turns.specs.TurnPlaces.{left_seen}
 use Rattle.seg_line_turns.specs.TurnReadings.{turn_class}

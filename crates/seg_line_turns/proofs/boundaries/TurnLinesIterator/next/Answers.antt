@@ -1,4 +1,4 @@
-use Rattle.std.proofs.Common.{ap, refl, sym, ◌∙◌}
+use Rattle.std.proofs.Common.{ap, refl}
 use Rattle.seg_text.specs.Boundaries.{offsets}
 use Rattle.seg_complex.specs.Payloads.{payloads_of, run_cuts_by}
 use Rattle.seg_line_rules.specs.LineBoundaries.{inside}

@@ -1,4 +1,4 @@
-use Rattle.std.proofs.Common.{refl, sym, ap, ◌∙◌}
+use Rattle.std.proofs.Common.{sym, ap, ◌∙◌}
 use Rattle.seg_line_turns.specs.TurnPairs.{turn_rules_by}
 use Rattle.seg_line_turns.proofs.TurnEvents.{break-leads, break-of, go-leads, go-of, goes-on, not-empty, run-goes, run-leads-to, run-of}
 use Rattle.seg_line_turns.proofs.turn_events.TurnEvents.next_event.Goals as goal
