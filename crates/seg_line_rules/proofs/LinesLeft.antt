@@ -1,11 +1,10 @@
 -- What is left of a text of lines.
-use Rattle.std.proofs.Common.{◌≡◌, ◌≢◌, ℕ, suc, ◌<◌, ◌≤◌, nat_lt, Bool, true, false, List, [], ◌∷◌, ◌++◌, length, map, drop, refl, sym, ap, ◌∙◌, subst, inl, inr, arith}
+use Rattle.std.proofs.Common.{◌≡◌, ◌≢◌, ℕ, ◌<◌, ◌≤◌, nat_lt, Bool, true, false, List, [], ◌∷◌, ◌++◌, length, map, drop, refl, sym, ap, ◌∙◌, subst, inl, inr, arith}
 use Rattle.std.specs.Prelude.{filter}
-use Rattle.std.specs.Iterator.{YieldsFirst}
 use Rattle.std.proofs.lemmas.Bool.{cases_lt, lt-ltb, ltb-true, false_from_ne_true}
 use Rattle.std.proofs.lemmas.List.{length-map, drop_all}
 use Rattle.seg_text.specs.declared.boundary.Boundary.{Boundary}
-use Rattle.seg_text.specs.Items.{Item, Text, place_of, start_of, rest_after, code_points, IsRising}
+use Rattle.seg_text.specs.Items.{Item, Text, place_of, start_of, code_points, IsRising}
 use Rattle.seg_text.specs.Boundaries.{IsCover, boundary, boundaries_in, offsets}
 use Rattle.seg_text.specs.Cuts.{Cuts, AreCutsOf, with_status, cut_places}
 use Rattle.seg_text.specs.Stretches.{later_boundaries, list_boundaries}

@@ -1,5 +1,6 @@
 // Laws are calls, which return.
 use crate::clusters::cluster_machine;
+use crate::line_tables::line_table;
 use crate::lines::line_machine;
 use crate::pair_tables::{cluster_table, word_table};
 use crate::sentences::sentence_machine;
@@ -58,6 +59,19 @@ fn laws_of_lines(rt: HostRuntime) -> Result<(), Fail> {
     line::boundaries_are_one(segmenter);
     line::equal_code_points(segmenter);
     line::restart(segmenter);
+    line::equal_words();
+    Ok(())
+}
+
+#[test]
+fn laws_of_lines_by_pair_tables(rt: HostRuntime) -> Result<(), Fail> {
+    let (table, clusters) = (line_table(rt.alloc())?, cluster_table(rt.alloc())?);
+    let options = LineBreakOptions::default();
+    let segmenter = LineSegmenterBorrowed::new_for_non_complex_scripts(&table, &clusters, options)?;
+    line::boundaries_are_one(segmenter);
+    line::equal_code_points(segmenter);
+    line::restart(segmenter);
+    line::mark_law(segmenter);
     Ok(())
 }
 
