@@ -1,10 +1,11 @@
 -- What follows a configuration, its outcome, and what a scan looks up from it on.
-use Rattle.std.proofs.Common.{◌≡◌, ℕ, suc, ◌+◌, ◌-◌, ◌^◌, ◌<◌, ◌≤◌, Option, Some, None, List, [], ◌∷◌, ◌++◌, length, drop, get_or, map, replicate, min, refl, sym, ap, ◌∙◌, subst, arith, drop-cons, inl, inr, length-append}
+use Rattle.std.proofs.Common.{◌≡◌, ℕ, suc, ◌+◌, ◌-◌, ◌^◌, ◌<◌, ◌≤◌, ◌==◌, Bool, true, false, if◌then◌else◌, Option, Some, None, List, [], ◌∷◌, ◌++◌, length, drop, get_or, map, replicate, min, refl, sym, ap, ◌∙◌, subst, arith, drop-cons, inl, inr, length-append}
 use Rattle.std.specs.Prelude.{IfSome}
 use Rattle.std.specs.Option.{option_map_or}
 use Rattle.std.proofs.lemmas.Bool.{cases_lt, cases_eq, ne_eqb, eq-eqb}
 use Rattle.std.proofs.lemmas.List.{get_or_past, drop_all, length-drop, length-replicate}
 use Rattle.std.proofs.lemmas.Nat.{or_lt, pow_below}
+use Rattle.seg_text.specs.declared.boundary.Boundary.{Boundary}
 use Rattle.seg_text.specs.Boundaries.{boundary}
 use Rattle.seg_machine.specs.declared.provider.Acceptance.{Acceptance}
 use Rattle.seg_machine.specs.declared.provider.Acceptance.TheVariants.{Continue, Accept, Conditional}
@@ -76,6 +77,10 @@ at-none : (move : ℕ → ℕ) (kept : ℕ) → at move (outcome kept []) ≡ No
 unfolding outcome
 at-none move kept = refl
 
+outcome-nil : (kept : ℕ) → outcome kept [] ≡ Nothing
+unfolding outcome
+outcome-nil kept = refl
+
 outcome-none : (s : Subject) (c : Configuration) → following s c ≡ [] → outcome_at s c ≡ Nothing
 unfolding outcome_at
 outcome-none s c none = rw none (at-none _ c.kept)
@@ -113,6 +118,50 @@ unfolding outcome_at
 outcome-follows s c d f =
     rw (f.states, outcome-cons c.kept (state_at s.machine d.state) (map (state_at s.machine) (following s d)) None f.free, ← f.kept)
     (at-after c.place (length s.symbols) d.place (state_at s.machine d.state) (outcome d.kept (map (state_at s.machine) (following s d))) f.place)
+
+-- a segment's end is past the configuration, but at the end of the text
+
+entered-past : (state : Acceptance × Option ℕ) (o : Outcome) (found : Boundary) → entered 1 state (at suc o) ≡ Picked found → 0 < found.offset
+entered-past (Accept status, name) Nothing found is = let same : boundary 1 status ≡ found = cc in let offset : 1 ≡ found.offset = ap (λ (b : Boundary). b.offset) same in omega (arith, offset)
+entered-past (Continue, name) Nothing found is = cc
+entered-past (Conditional lookahead status, name) Nothing found is = cc
+entered-past (acceptance, name) (Picked later) found is =
+    let same : boundary (suc later.offset) later.status ≡ found = cc in
+    let offset : suc later.offset ≡ found.offset = ap (λ (b : Boundary). b.offset) same in
+    omega (arith, offset)
+entered-past (acceptance, None) (Kept lookahead status) found is = cc
+entered-past (acceptance, Some name) (Kept lookahead status) found is = on (name == lookahead) is
+  where
+    on : (same : Bool) → (if same then Picked (boundary 1 status) else Kept lookahead status) ≡ Picked found → 0 < found.offset
+    on true is = let same : boundary 1 status ≡ found = cc in let offset : 1 ≡ found.offset = ap (λ (b : Boundary). b.offset) same in omega (arith, offset)
+    on false is = cc
+
+outcome-past : (kept : ℕ) (states : List (Acceptance × Option ℕ)) (found : Boundary) → outcome kept states ≡ Picked found → 0 < found.offset
+outcome-past kept [] found is = let never : Nothing ≡ Picked found = sym (outcome-nil kept) ∙ is in cc
+outcome-past kept (state ∷ states) found is = on (condition_held kept state) refl
+  where
+    on : (held : Option (ℕ × ℕ)) → condition_held kept state ≡ held → 0 < found.offset
+    on None free = entered-past state (outcome (keep kept state.1) states) found (sym (outcome-cons kept state states None free) ∙ is)
+    on (Some f) holds = let never : Kept f.0 f.1 ≡ Picked found = sym (outcome-cons kept state states (Some f) holds) ∙ is in cc
+
+outcome-at : (s : Subject) (c : Configuration) → outcome_at s c ≡ at (λ steps. min (c.place + steps) (length s.symbols)) (outcome c.kept (map (state_at s.machine) (following s c)))
+unfolding outcome_at
+outcome-at s c = refl
+
+pub picked-past : (s : Subject) (c : Configuration) (found : Boundary) → found.offset < length s.symbols → outcome_at s c ≡ Picked found → c.place < found.offset
+picked-past s c found less is = on (outcome c.kept (map (state_at s.machine) (following s c))) refl (sym (outcome-at s c) ∙ is)
+  where
+    on : (o : Outcome) → outcome c.kept (map (state_at s.machine) (following s c)) ≡ o → at (λ steps. min (c.place + steps) (length s.symbols)) o ≡ Picked found → c.place < found.offset
+    on Nothing e picks = cc
+    on (Kept lookahead status) e picks = cc
+    on (Picked first) e picks =
+        let same : boundary (min (c.place + first.offset) (length s.symbols)) first.status ≡ found = cc in
+        let offset : min (c.place + first.offset) (length s.symbols) ≡ found.offset = ap (λ (b : Boundary). b.offset) same in
+        let past : 0 < first.offset = outcome-past c.kept (map (state_at s.machine) (following s c)) first e in
+        omega (arith, offset, past, less)
+
+pub same-picked : (a b : Boundary) → Picked a ≡ Picked b → a ≡ b
+same-picked a b is = cc
 
 -- what a scan looks up from a configuration on
 

@@ -8,7 +8,7 @@ use Rattle.seg_machine.specs.declared.provider.Acceptance.{Acceptance}
 use Rattle.seg_machine.specs.Checked.{IsChecked}
 use Rattle.seg_machine.specs.Machine.{Machine, symbol_and_script, symbol_count, symbols_of}
 use Rattle.seg_memo.specs.declared.configuration.Cell.{Cell}
-use Rattle.seg_memo.specs.declared.configuration.Cell.TheVariants.{Unknown, First, Way, KnownNothing, KnownPicked, KnownKept}
+use Rattle.seg_memo.specs.declared.configuration.Cell.TheVariants.{Unknown, First, Way, KnownNothing, KnownKept}
 use Rattle.seg_memo.specs.Configurations.{AreStarts, Subject, all_look_ups, configurations, reading, subject}
 use Rattle.seg_memo.specs.Grids.{Grid, IsFit, IsMemo, IsRight, IsSound, cell, filled, has_number, is_filled, is_filled_at, number}
 use Rattle.seg_memo.proofs.Counts.{count-none, has-nil}
@@ -37,9 +37,8 @@ fresh-sound m items checked room = record {
 unfilled : (x : Cell) → is_filled x ≡ false → x ≡ Unknown
 unfilled Unknown is = refl
 unfilled First is = absurd (false≢true (sym is))
-unfilled (Way state kept place) is = absurd (false≢true (sym is))
+unfilled (Way state kept stays) is = absurd (false≢true (sym is))
 unfilled KnownNothing is = absurd (false≢true (sym is))
-unfilled (KnownPicked status place) is = absurd (false≢true (sym is))
 unfilled (KnownKept lookahead status) is = absurd (false≢true (sym is))
 
 pub fresh-memo : (s : Subject) (g : Grid) → IsFit s g → ((i : ℕ) → is_filled_at g.cells i ≡ false) → IsMemo s g 0
@@ -49,7 +48,7 @@ fresh-memo s g fit none = record {
   within = omega arith;
   table = record {
     fit = fit;
-    right = λ c inside off. subst (IsRight s c) (sym (unfilled (cell s g c) (none (number s c)))) tt;
+    right = λ some c past inside off. subst (IsRight s c) (sym (unfilled (cell s g c) (none (number s c)))) tt;
   };
   filling = λ i.
       none i

@@ -1,7 +1,8 @@
 -- A segment, of what the code has in hand.
-use Rattle.std.proofs.Common.{◌≡◌, ◌≢◌, ℕ, ◌+◌, ◌-◌, ◌<◌, ◌≤◌, ◌||◌, Bool, Option, Some, None, List, [], ◌∷◌, length, drop, IsSome, refl, sym, ap, ◌∙◌, subst, arith}
+use Rattle.std.proofs.Common.{◌≡◌, ◌≢◌, ℕ, ◌+◌, ◌-◌, ◌<◌, ◌≤◌, ◌||◌, Bool, Option, Some, None, List, [], ◌∷◌, length, drop, IsSome, refl, sym, ap, ◌∙◌, subst, arith, inl, inr}
 use Rattle.std.specs.Option.{option_map}
-use Rattle.std.proofs.lemmas.List.{length-drop}
+use Rattle.std.proofs.lemmas.Bool.{cases_lt}
+use Rattle.std.proofs.lemmas.List.{drop_all, length-drop}
 use Rattle.seg_text.specs.Items.{Item, Text, code_points, rest_after}
 use Rattle.seg_text.specs.declared.boundary.Boundary.{Boundary}
 use Rattle.seg_text.specs.Boundaries.{shift}
@@ -10,6 +11,7 @@ use Rattle.seg_machine.specs.Pick.{pick}
 use Rattle.seg_machine.proofs.Picks.{pick-bounds}
 use Rattle.seg_machine.proofs.Scanned.{pick-some, after-after}
 use Rattle.seg_memo.specs.declared.configuration.Outcome.{Outcome}
+use Rattle.seg_memo.specs.declared.configuration.Outcome.TheVariants.{Nothing, Picked, Kept}
 use Rattle.seg_memo.specs.Configurations.{Subject, reading, start_at, look_ups, all_look_ups}
 use Rattle.seg_memo.specs.Outcomes.{picked}
 use Rattle.seg_memo.specs.Grids.{Grid, IsAt, IsMemo, IsReadBy, IsScanned, has_number}
@@ -39,12 +41,31 @@ pub record Segment (s : Subject) (place : ℕ) (found : Boundary) : Type 0 where
 picked-is : (s : Subject) (g : Grid) (place : ℕ) (o : Outcome) → IsScanned s g place o → picked o ≡ option_map (shift place) (pick s.machine (drop place s.symbols))
 picked-is s g place o scanned = ap picked scanned.is ∙ picked-start s place scanned.within
 
+nonempty : (m : Machine) (items : List Item) → items ≢ [] → symbols_of m (code_points items) ≢ []
+nonempty m [] some = absurd (some refl)
+nonempty m (item ∷ items) some = λ e. cc
+
+picked-some : (o : Outcome) (b : Boundary) → picked o ≡ Some b → o ≡ Picked b
+picked-some Nothing b is = cc
+picked-some (Picked found) b is = let same : found ≡ b = cc in ap Picked same
+picked-some (Kept lookahead status) b is = cc
+
+-- a text isn't at its end
+pub some-left : (s : Subject) (m : Machine) (states : ℕ) (transitions : List ℕ) (place : ℕ) (items : List Item) → IsReadBy s m states transitions → IsAt s m place items → items ≢ []
+    → place < length s.symbols
+some-left s m states transitions place items read here some =
+    elim (cases_lt place (length s.symbols)) [
+      | inl less ↦ less
+      | inr past ↦
+          absurd (nonempty s.machine items some (own-symbols s m states transitions place items read here ∙ drop_all place s.symbols past))
+    ]
+
 -- there is a pick
 pub segment-some : (s : Subject) (m : Machine) (states : ℕ) (transitions : List ℕ) (g : Grid) (place : ℕ) (o : Outcome) (items : List Item) (found : Option Boundary)
     → IsScanned s g place o → IsReadBy s m states transitions → IsAt s m place items → items ≢ [] → found ≡ picked o → found ≡ None → ⊥
 segment-some s m states transitions g place o items found scanned read here some is none =
     on (pick s.machine (drop place s.symbols))
-    (subst (λ (xs : List ℕ). IsSome (pick s.machine xs)) (own-symbols s m states transitions place items read here) (pick-some s.machine scanned.table.fit.sound.checked items some))
+    (subst (λ (xs : List ℕ). IsSome (pick s.machine xs)) (own-symbols s m states transitions place items read here) (pick-some s.machine scanned.fit.sound.checked items some))
     (sym none ∙ is ∙ picked-is s g place o scanned)
   where
     on : (f : Option Boundary) → IsSome f → None ≡ option_map (shift place) f → ⊥
@@ -57,10 +78,6 @@ segment-found s g place o found b scanned is some = on (pick s.machine (drop pla
     on : (f : Option Boundary) → pick s.machine (drop place s.symbols) ≡ f → Some b ≡ option_map (shift place) f → Segment s place b
     on None picks e = cc
     on (Some p) picks e = let same : b ≡ shift place p = cc in record { p = p; picks = picks; is = same }
-
-nonempty : (m : Machine) (items : List Item) → items ≢ [] → symbols_of m (code_points items) ≢ []
-nonempty m [] some = absurd (some refl)
-nonempty m (item ∷ items) some = λ e. cc
 
 -- a segment ends in the text
 segment-within : (s : Subject) (m : Machine) (states : ℕ) (transitions : List ℕ) (place : ℕ) (items : List Item) (b : Boundary) → IsReadBy s m states transitions → IsAt s m place items
@@ -80,7 +97,7 @@ segment-memo s m states transitions g place o items b scanned read here some seg
       starts = place ∷ scanned.starts;
       are = ((segment.p, segment.picks, ap (λ (x : Boundary). x.offset) segment.is), bounds.0, scanned.are);
       within = bounds.1;
-      table = scanned.table;
+      table = scanned.table b (picked-some o b (picked-is s g place o scanned ∙ ap (option_map (shift place)) segment.picks ∙ ap Some (sym segment.is)));
       filling = λ i.
           scanned.filling i
           ∙ sym (ap (λ (c : Bool). c || has_number s i (all_look_ups s (place ∷ scanned.starts))) (has-nil s i)

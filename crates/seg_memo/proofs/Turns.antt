@@ -1,5 +1,5 @@
 -- The turns of a scan, of what the code has in hand.
-use Rattle.std.proofs.Common.{◌≡◌, ℕ, ◌+◌, ◌-◌, ◌<◌, Option, Some, None, List, length, refl, sym, ap, ◌∙◌, subst}
+use Rattle.std.proofs.Common.{◌≡◌, ℕ, ◌+◌, ◌-◌, ◌<◌, Bool, Option, Some, None, List, length, refl, sym, ap, ◌∙◌, subst}
 use Rattle.seg_text.specs.Items.{Item}
 use Rattle.seg_machine.specs.declared.provider.Acceptance.{Acceptance}
 use Rattle.seg_machine.specs.Machine.{Machine, state_at}
@@ -9,24 +9,24 @@ use Rattle.seg_memo.specs.declared.configuration.LookUp.{LookUp}
 use Rattle.seg_memo.specs.declared.configuration.LookUp.TheVariants.{Ends, Leads}
 use Rattle.seg_memo.specs.declared.configuration.Cell.{Cell}
 use Rattle.seg_memo.specs.declared.configuration.Cell.TheVariants.{Unknown, First, Way}
-use Rattle.seg_memo.specs.Configurations.{Subject, configuration, following, start_at}
+use Rattle.seg_memo.specs.Configurations.{Subject, following, start_at}
 use Rattle.seg_memo.specs.Outcomes.{entered, look_up}
-use Rattle.seg_memo.specs.Grids.{Grid, IsAt, IsMemo, IsReadBy, IsScanned, IsWithin, Walking, Went, cell, with_cell, filled, holding, known, way_to}
+use Rattle.seg_memo.specs.Grids.{Grid, IsAt, IsMemo, IsReadBy, IsScanned, IsWithin, Walking, Went, cell, with_cell, filled, holding, known, came_from, way_from}
 use Rattle.seg_memo.proofs.Following.{fewer}
 use Rattle.seg_memo.proofs.Reading.{state-read}
-use Rattle.seg_memo.proofs.Ways.{way-inside, walk-start, count-start, walk-next, count-next, walk-ends, walk-known, back-inside, back-filled, back-next, back-first, back-fewer, scan-known}
+use Rattle.seg_memo.proofs.Ways.{way-inside, walk-start, count-start, walk-next, count-next, walk-ends, walk-known, back-inside, back-filled, back-next, back-first, back-end, back-room, back-fewer, scan-known}
 
 -- forward
 
 pub walk-inside : (s : Subject) (g : Grid) (place : ℕ) (here : Configuration) → Walking s g place here → IsWithin s here
 walk-inside s g place here w = way-inside s g (start_at place) here w.path w.way
 
-pub start-walk : (s : Subject) (g after : Grid) (place : ℕ) (first : Configuration) → IsMemo s g place → first ≡ start_at place → cell s g first ≡ Unknown
+pub start-walk : (s : Subject) (g after : Grid) (place : ℕ) (first : Configuration) → IsMemo s g place → place < length s.symbols → first ≡ start_at place → cell s g first ≡ Unknown
     → after ≡ with_cell s g first First → Walking s after place first
-start-walk s g after place first memo is unknown written =
+start-walk s g after place first memo some is unknown written =
     subst (λ (x : Configuration). Walking s after place x) (sym is)
     (subst (λ (x : Grid). Walking s x place (start_at place)) (sym (written ∙ ap (λ (x : Configuration). with_cell s g x First) is))
-    (walk-start s g place memo (ap (cell s g) (sym is) ∙ unknown)))
+    (walk-start s g place memo some (ap (cell s g) (sym is) ∙ unknown)))
 
 pub start-count : (s : Subject) (g after : Grid) (place counted : ℕ) (first : Configuration) → IsMemo s g place → first ≡ start_at place → cell s g first ≡ Unknown
     → after ≡ with_cell s g first First → counted ≡ filled g.cells → counted + 1 ≡ filled after.cells
@@ -51,16 +51,16 @@ turn-known s m states transitions g place here next found x is_known o result en
     (walk-known s g place here next o w (sym value ∙ leads) inside (ap known (sym c) ∙ sym k ∙ some))
 
 -- or to one that isn't
-pub turn-next : (s : Subject) (g after : Grid) (place : ℕ) (here next : Configuration) (found : LookUp) (x : Cell) (is_known : Option Outcome) → Walking s g place here → found ≡ look_up s here
-    → found ≡ Leads next → IsWithin s next → x ≡ cell s g next → is_known ≡ known x → is_known ≡ None → after ≡ with_cell s g next (way_to here) → Walking s after place next
-turn-next s g after place here next found x is_known w value leads inside c k none written =
-    subst (λ (y : Grid). Walking s y place next) (sym written) (walk-next s g place here next w (sym value ∙ leads) inside (ap known (sym c) ∙ sym k ∙ none))
+pub turn-next : (s : Subject) (g after : Grid) (place : ℕ) (here next : Configuration) (found : LookUp) (x marked : Cell) (is_known : Option Outcome) → Walking s g place here → found ≡ look_up s here
+    → found ≡ Leads next → IsWithin s next → x ≡ cell s g next → is_known ≡ known x → is_known ≡ None → marked ≡ way_from here next → after ≡ with_cell s g next marked → Walking s after place next
+turn-next s g after place here next found x marked is_known w value leads inside c k none marks written =
+    subst (λ (y : Grid). Walking s y place next) (sym (written ∙ ap (with_cell s g next) marks)) (walk-next s g place here next w (sym value ∙ leads) inside (ap known (sym c) ∙ sym k ∙ none))
 
-pub turn-count : (s : Subject) (g after : Grid) (place counted count : ℕ) (here next : Configuration) (found : LookUp) (x : Cell) (is_known : Option Outcome) → Walking s g place here
-    → found ≡ look_up s here → found ≡ Leads next → IsWithin s next → x ≡ cell s g next → is_known ≡ known x → is_known ≡ None → after ≡ with_cell s g next (way_to here)
+pub turn-count : (s : Subject) (g after : Grid) (place counted count : ℕ) (here next : Configuration) (found : LookUp) (x marked : Cell) (is_known : Option Outcome) → Walking s g place here
+    → found ≡ look_up s here → found ≡ Leads next → IsWithin s next → x ≡ cell s g next → is_known ≡ known x → is_known ≡ None → marked ≡ way_from here next → after ≡ with_cell s g next marked
     → counted + 1 ≡ filled g.cells → count ≡ counted + 1 → count + 1 ≡ filled after.cells
-turn-count s g after place counted count here next found x is_known w value leads inside c k none written was read =
-    count-next s g place counted count here next w (sym value ∙ leads) inside (ap known (sym c) ∙ sym k ∙ none) was read ∙ ap (λ (y : Grid). filled y.cells) (sym written)
+turn-count s g after place counted count here next found x marked is_known w value leads inside c k none marks written was read =
+    count-next s g place counted count here next w (sym value ∙ leads) inside (ap known (sym c) ∙ sym k ∙ none) was read ∙ ap (λ (y : Grid). filled y.cells) (sym (written ∙ ap (with_cell s g next) marks))
 
 pub turn-fewer : (s : Subject) (g : Grid) (place : ℕ) (here next : Configuration) (found : LookUp) → Walking s g place here → found ≡ look_up s here → found ≡ Leads next
     → length (following s next) < length (following s here)
@@ -76,29 +76,37 @@ pub state-below : (s : Subject) (states : List (Acceptance × Option ℕ)) (g : 
     → here.state < length states
 state-below s states g place here o w same = subst (λ (xs : List (Acceptance × Option ℕ)). here.state < length xs) same (back-inside s g place here o w).state
 
-pub back-count : (s : Subject) (g after : Grid) (place : ℕ) (here : Configuration) (o : Outcome) (x : Cell) → Went s g place here o → x ≡ holding o → after ≡ with_cell s g here x
-    → filled after.cells ≡ filled g.cells
-back-count s g after place here o x w holds written =
-    ap (λ (y : Grid). filled y.cells) (written ∙ ap (with_cell s g here) holds) ∙ back-filled s g place here o w
+pub back-count : (s : Subject) (g after : Grid) (place : ℕ) (here : Configuration) (o : Outcome) (held : Option Cell) (x : Cell) → Went s g place here o → held ≡ holding o → held ≡ Some x
+    → after ≡ with_cell s g here x → filled after.cells ≡ filled g.cells
+back-count s g after place here o held x w holds is written = ap (λ (y : Grid). filled y.cells) written ∙ back-filled s g place here o x w (sym holds ∙ is)
 
-pub back-ends : (s : Subject) (g after : Grid) (place : ℕ) (here : Configuration) (o : Outcome) (was x : Cell) → Went s g place here o → was ≡ cell s g here
-    → ((state kept at : ℕ) → was ≡ Way state kept at → ⊥) → x ≡ holding o → after ≡ with_cell s g here x → IsScanned s after place o
-back-ends s g after place here o was x w c not holds written =
-    subst (λ (y : Grid). IsScanned s y place o) (sym (written ∙ ap (with_cell s g here) holds)) (back-first s g place here o w (λ state kept at is. not state kept at (c ∙ is)))
+-- it ends where a segment's end is found, or at the first configuration
+pub back-found : (s : Subject) (g : Grid) (place : ℕ) (here : Configuration) (o : Outcome) (held : Option Cell) → Went s g place here o → held ≡ holding o → held ≡ None → IsScanned s g place o
+back-found s g place here o held w holds none = back-end s g place here o w (sym holds ∙ none)
 
-pub back-turn : (s : Subject) (m : Machine) (g after : Grid) (place : ℕ) (here : Configuration) (o result : Outcome) (was x : Cell) (state kept at : ℕ) (entry : Acceptance × Option ℕ)
-    → Went s g place here o → was ≡ cell s g here → was ≡ Way state kept at → x ≡ holding o → after ≡ with_cell s g here x → s.machine.states ≡ m.states
-    → entry ≡ state_at m here.state → result ≡ entered here.place entry o → Went s after place (configuration state at kept) result
-back-turn s m g after place here o result was x state kept at entry w c way holds written same e is =
-    subst (λ (y : Grid). Went s y place (configuration state at kept) result) (sym (written ∙ ap (with_cell s g here) holds))
-    (subst (Went s (with_cell s g here (holding o)) place (configuration state at kept)) (sym (is ∙ ap (λ (y : Acceptance × Option ℕ). entered here.place y o) (e ∙ states-same s m here.state same)))
-    (back-next s g place here o state kept at w (sym c ∙ way)))
+pub back-ends : (s : Subject) (g : Grid) (place : ℕ) (here : Configuration) (o : Outcome) (held : Option Cell) (x was : Cell) → Went s g place here o → held ≡ holding o → held ≡ Some x
+    → was ≡ cell s g here → ((state kept : ℕ) (stays : Bool) → was ≡ Way state kept stays → ⊥) → IsScanned s g place o
+back-ends s g place here o held x was w holds is c not = back-first s g place here o x w (sym holds ∙ is) (λ state kept stays way. not state kept stays (c ∙ way))
 
-pub back-less : (s : Subject) (g : Grid) (place : ℕ) (here : Configuration) (o : Outcome) (was : Cell) (state kept at : ℕ) → Went s g place here o → was ≡ cell s g here → was ≡ Way state kept at
-    → length s.symbols + length s.machine.states - length (following s (configuration state at kept)) < length s.symbols + length s.machine.states - length (following s here)
-back-less s g place here o was state kept at w c way = back-fewer s g place here o state kept at w (sym c ∙ way)
+pub before-room : (s : Subject) (g : Grid) (place : ℕ) (here : Configuration) (o : Outcome) (was : Cell) (state kept : ℕ) (stays : Bool) → Went s g place here o → was ≡ cell s g here
+    → was ≡ Way state kept stays → 0 < here.place
+before-room s g place here o was state kept stays w c way = back-room s g place here o state kept stays w (sym c ∙ way)
+
+pub back-turn : (s : Subject) (m : Machine) (g after : Grid) (place : ℕ) (here back : Configuration) (o result : Outcome) (held : Option Cell) (x was : Cell) (state kept : ℕ) (stays : Bool) (entry : Acceptance × Option ℕ)
+    → Went s g place here o → held ≡ holding o → held ≡ Some x → was ≡ cell s g here → was ≡ Way state kept stays → after ≡ with_cell s g here x → s.machine.states ≡ m.states
+    → entry ≡ state_at m here.state → result ≡ entered here.place entry o → back ≡ came_from here state kept stays → Went s after place back result
+back-turn s m g after place here back o result held x was state kept stays entry w holds holds_it c way written same e is from =
+    subst (λ (d : Configuration). Went s after place d result) (sym from)
+    (subst (λ (y : Grid). Went s y place (came_from here state kept stays) result) (sym written)
+    (subst (Went s (with_cell s g here x) place (came_from here state kept stays)) (sym (is ∙ ap (λ (y : Acceptance × Option ℕ). entered here.place y o) (e ∙ states-same s m here.state same)))
+    (back-next s g place here o x state kept stays w (sym holds ∙ holds_it) (sym c ∙ way))))
+
+pub back-less : (s : Subject) (g : Grid) (place : ℕ) (here back : Configuration) (o : Outcome) (was : Cell) (state kept : ℕ) (stays : Bool) → Went s g place here o → was ≡ cell s g here
+    → was ≡ Way state kept stays → back ≡ came_from here state kept stays
+    → length s.symbols + length s.machine.states - length (following s back) < length s.symbols + length s.machine.states - length (following s here)
+back-less s g place here back o was state kept stays w c way from = rw from (back-fewer s g place here o state kept stays w (sym c ∙ way))
 
 -- a scan whose beginning is known
-pub known-before : (s : Subject) (g : Grid) (place : ℕ) (first : Configuration) (x : Cell) (is_known : Option Outcome) (o : Outcome) → IsMemo s g place → first ≡ start_at place
+pub known-before : (s : Subject) (g : Grid) (place : ℕ) (first : Configuration) (x : Cell) (is_known : Option Outcome) (o : Outcome) → IsMemo s g place → place < length s.symbols → first ≡ start_at place
     → x ≡ cell s g first → is_known ≡ known x → is_known ≡ Some o → IsScanned s g place o
-known-before s g place first x is_known o memo is c k some = scan-known s g place o memo (ap (λ (y : Configuration). known (cell s g y)) (sym is) ∙ ap known (sym c) ∙ sym k ∙ some)
+known-before s g place first x is_known o memo more is c k some = scan-known s g place o memo more (ap (λ (y : Configuration). known (cell s g y)) (sym is) ∙ ap known (sym c) ∙ sym k ∙ some)

@@ -1,20 +1,20 @@
 -- The way of a scan, forward over the cells and back.
-use Rattle.std.proofs.Common.{◌≡◌, ℕ, ◌+◌, ◌-◌, ◌<◌, ◌==◌, ◌||◌, Bool, true, false, Some, None, List, [], ◌∷◌, length, set, refl, sym, ap, ◌∙◌, subst, arith, inl, inr, eq-eqb}
-use Rattle.std.proofs.lemmas.Bool.{cases_eq, ne_eqb, false≢true}
+use Rattle.std.proofs.Common.{◌≡◌, ℕ, suc, ◌+◌, ◌-◌, ◌<◌, ◌≤◌, ◌==◌, ◌||◌, Bool, true, false, Some, None, List, [], ◌∷◌, if◌then◌else◌, length, min, set, refl, sym, ap, ◌∙◌, subst, arith, inl, inr, eq-eqb}
+use Rattle.std.proofs.lemmas.Bool.{cases_eq, eqb-true, eqb-false, ne_eqb, false≢true}
 use Rattle.std.proofs.lemmas.List.{length-set, get_or-set_same, get_or-set_other}
-use Rattle.seg_text.specs.Boundaries.{boundary}
+use Rattle.seg_text.specs.declared.boundary.Boundary.{Boundary}
 use Rattle.seg_machine.specs.Machine.{state_at}
 use Rattle.seg_memo.specs.declared.configuration.Configuration.{Configuration}
 use Rattle.seg_memo.specs.declared.configuration.Outcome.{Outcome}
 use Rattle.seg_memo.specs.declared.configuration.Outcome.TheVariants.{Nothing, Picked, Kept}
 use Rattle.seg_memo.specs.declared.configuration.LookUp.TheVariants.{Ends, Leads}
 use Rattle.seg_memo.specs.declared.configuration.Cell.{Cell}
-use Rattle.seg_memo.specs.declared.configuration.Cell.TheVariants.{Unknown, First, Way, KnownNothing, KnownPicked, KnownKept}
+use Rattle.seg_memo.specs.declared.configuration.Cell.TheVariants.{Unknown, First, Way, KnownNothing, KnownKept}
 use Rattle.seg_memo.specs.Configurations.{Subject, configuration, start_at, following, look_ups, all_look_ups}
 use Rattle.seg_memo.specs.Outcomes.{entered, outcome_at, look_up}
-use Rattle.seg_memo.specs.Grids.{Grid, AreFilled, IsFit, IsMemo, IsOn, IsRight, IsScanned, IsSound, IsTable, IsWay, IsWithin, Walking, Went, cell, with_cell, has_number, holding, is_filled, is_filled_at, filled, known, number, way_to}
+use Rattle.seg_memo.specs.Grids.{Grid, AreFilled, IsFit, IsMemo, IsOn, IsRight, IsScanned, IsSound, IsTable, IsWay, IsWithin, Walking, Went, cell, with_cell, has_number, holding, is_filled, is_filled_at, filled, known, number, came_from, way_from}
 use Rattle.seg_memo.proofs.Numbers.{number-in, number-same}
-use Rattle.seg_memo.proofs.Following.{ends, few, fewer, look-ups-leads, outcome-leads}
+use Rattle.seg_memo.proofs.Following.{ends, few, fewer, leads, look-ups-leads, outcome-leads, picked-past, same-picked}
 use Rattle.seg_memo.proofs.Counts.{AreWithin, count-bound, fills-other, fills-same, filled-mark, filled-stays, has-cons, has-nil, on-has, or-cases, stays-filled}
 use Rattle.seg_memo.proofs.Scanning.{all-part, all-within, start-within}
 
@@ -23,36 +23,46 @@ use Rattle.seg_memo.proofs.Scanning.{all-part, all-within, start-within}
 right-known : (s : Subject) (c : Configuration) (x : Cell) (o : Outcome) → IsRight s c x → known x ≡ Some o → o ≡ outcome_at s c
 right-known s c Unknown o right is = cc
 right-known s c First o right is = cc
-right-known s c (Way state kept place) o right is = cc
+right-known s c (Way state kept stays) o right is = cc
 right-known s c KnownNothing o right is = let same : Nothing ≡ o = cc in sym same ∙ right
-right-known s c (KnownPicked status place) o right is = let same : Picked (boundary place status) ≡ o = cc in sym same ∙ right
 right-known s c (KnownKept lookahead status) o right is = let same : Kept lookahead status ≡ o = cc in sym same ∙ right
 
 right-unknown : (s : Subject) (c : Configuration) (x : Cell) → IsRight s c x → known x ≡ None → x ≡ Unknown
 right-unknown s c Unknown right is = refl
 right-unknown s c First right is = absurd right
-right-unknown s c (Way state kept place) right is = absurd right
+right-unknown s c (Way state kept stays) right is = absurd right
 right-unknown s c KnownNothing right is = cc
-right-unknown s c (KnownPicked status place) right is = cc
 right-unknown s c (KnownKept lookahead status) right is = cc
 
 known-filled : (x : Cell) (o : Outcome) → known x ≡ Some o → is_filled x ≡ true
 known-filled Unknown o is = cc
 known-filled First o is = refl
-known-filled (Way state kept place) o is = refl
+known-filled (Way state kept stays) o is = refl
 known-filled KnownNothing o is = refl
-known-filled (KnownPicked status place) o is = refl
 known-filled (KnownKept lookahead status) o is = refl
 
-right-holding : (s : Subject) (c : Configuration) (o : Outcome) → o ≡ outcome_at s c → IsRight s c (holding o)
-right-holding s c Nothing is = is
-right-holding s c (Picked found) is = is
-right-holding s c (Kept lookahead status) is = is
+right-holding : (s : Subject) (c : Configuration) (o : Outcome) (x : Cell) → o ≡ outcome_at s c → holding o ≡ Some x → IsRight s c x
+right-holding s c Nothing x is holds = let same : KnownNothing ≡ x = cc in subst (IsRight s c) same is
+right-holding s c (Picked found) x is holds = cc
+right-holding s c (Kept lookahead status) x is holds = let same : KnownKept lookahead status ≡ x = cc in subst (IsRight s c) same is
 
-holding-filled : (o : Outcome) → is_filled (holding o) ≡ true
-holding-filled Nothing = refl
-holding-filled (Picked found) = refl
-holding-filled (Kept lookahead status) = refl
+holding-filled : (o : Outcome) (x : Cell) → holding o ≡ Some x → is_filled x ≡ true
+holding-filled Nothing x holds = let same : KnownNothing ≡ x = cc in ap is_filled (sym same)
+holding-filled (Picked found) x holds = cc
+holding-filled (Kept lookahead status) x holds = let same : KnownKept lookahead status ≡ x = cc in ap is_filled (sym same)
+
+-- a cell holds just what is no segment's end
+holding-open : (o : Outcome) (x : Cell) (found : Boundary) → holding o ≡ Some x → o ≡ Picked found → ⊥
+holding-open Nothing x found holds is = cc
+holding-open (Picked later) x found holds is = cc
+holding-open (Kept lookahead status) x found holds is = cc
+
+known-open : (x : Cell) (o : Outcome) (found : Boundary) → known x ≡ Some o → o ≡ Picked found → ⊥
+known-open Unknown o found is picks = cc
+known-open First o found is picks = cc
+known-open (Way state kept stays) o found is picks = cc
+known-open KnownNothing o found is picks = cc
+known-open (KnownKept lookahead status) o found is picks = cc
 
 -- a write changes one cell
 
@@ -65,24 +75,26 @@ same-cell s g c x fit inside = get_or-set_same g.cells (number s c) x Unknown (n
 fit-write : (s : Subject) (g : Grid) (c : Configuration) (x : Cell) → IsFit s g → IsFit s (with_cell s g c x)
 fit-write s g c x fit = record { sound = fit.sound; states = fit.states; sets = fit.sets; size = length-set g.cells (number s c) x ∙ fit.size }
 
-table-mark : (s : Subject) (g : Grid) (path : List Configuration) (c : Configuration) (x : Cell) → IsTable s g path → IsWithin s c → IsTable s (with_cell s g c x) (c ∷ path)
-table-mark s g path c x table inside = record {
+table-mark : (s : Subject) (g : Grid) (place : ℕ) (path : List Configuration) (c : Configuration) (x : Cell) → IsTable s g place path → IsWithin s c
+    → IsTable s (with_cell s g c x) place (c ∷ path)
+table-mark s g place path c x table inside = record {
   fit = fit-write s g c x table.fit;
-  right = λ d within off.
-      subst (IsRight s d) (sym (other-cell s g c d x inside within (λ is. off (inl is)))) (table.right d within (λ on. off (inr on)));
+  right = λ some d past within off.
+      subst (IsRight s d) (sym (other-cell s g c d x inside within (λ is. off (inl is)))) (table.right some d past within (λ on. off (inr on)));
 }
 
-table-fill : (s : Subject) (g : Grid) (path : List Configuration) (c : Configuration) (x : Cell) → IsTable s g (c ∷ path) → IsWithin s c → IsRight s c x → IsTable s (with_cell s g c x) path
-table-fill s g path c x table inside right = record {
+table-fill : (s : Subject) (g : Grid) (place : ℕ) (path : List Configuration) (c : Configuration) (x : Cell) → IsTable s g place (c ∷ path) → IsWithin s c → IsRight s c x
+    → IsTable s (with_cell s g c x) place path
+table-fill s g place path c x table inside right = record {
   fit = fit-write s g c x table.fit;
-  right = λ d within off.
+  right = λ some d past within off.
       elim (cases_eq (number s d) (number s c)) [
         | inl same ↦
             subst (λ (e : Configuration). IsRight s e (cell s (with_cell s g c x) e)) (sym (number-same s d c within inside same))
             (subst (IsRight s c) (sym (same-cell s g c x table.fit inside)) right)
         | inr other ↦
             let differs : d ≡ c → ⊥ = λ is. other (ap (number s) is) in
-            subst (IsRight s d) (sym (other-cell s g c d x inside within differs)) (table.right d within (λ on. elim on [ inl is ↦ differs is | inr rest ↦ off rest ]))
+            subst (IsRight s d) (sym (other-cell s g c d x inside within differs)) (table.right some d past within (λ on. elim on [ inl is ↦ differs is | inr rest ↦ off rest ]))
       ];
 }
 
@@ -124,6 +136,31 @@ way-within s g first here (before ∷ path) way d on =
       | inl is ↦ subst (IsWithin s) (sym is) way.1
       | inr rest ↦ way-within s g first before path way.3 d rest
     ]
+
+-- it goes on from the first
+way-past : (s : Subject) (g : Grid) (first here : Configuration) (path : List Configuration) → IsSound s → IsWay s g first here path → first.place ≤ here.place
+way-past s g first here [] sound way = let same : here.place ≡ first.place = ap (λ (c : Configuration). c.place) way.0 in omega (arith, same)
+way-past s g first here (before ∷ path) sound way =
+    let inside = way-inside s g first before path way.3 in
+    let more = way-past s g first before path sound way.3 in
+    let place : here.place ≡ min (suc before.place) (length s.symbols) = (leads s before here sound inside way.0).place in
+    omega (arith, more, inside.place, place)
+
+-- a segment's end is the same from each of them
+way-picked : (s : Subject) (g : Grid) (first here c : Configuration) (path : List Configuration) (found : Boundary) → IsSound s → IsWay s g first here path → outcome_at s here ≡ Picked found
+    → IsOn c (here ∷ path) → outcome_at s c ≡ Picked found
+way-picked s g first here c [] found sound way is on = elim on [ inl same ↦ ap (outcome_at s) same ∙ is | inr none ↦ absurd none ]
+way-picked s g first here c (before ∷ path) found sound way is on =
+    elim on [
+      | inl same ↦ ap (outcome_at s) same ∙ is
+      | inr rest ↦
+          way-picked s g first before c path found sound way.3
+          (outcome-leads s before here sound (way-inside s g first before path way.3) way.0 ∙ ap (entered here.place (state_at s.machine here.state)) is) rest
+    ]
+
+way-first : (s : Subject) (g : Grid) (first here : Configuration) (path : List Configuration) → IsWay s g first here path → IsOn first (here ∷ path)
+way-first s g first here [] way = inl (sym way.0)
+way-first s g first here (before ∷ path) way = inr (way-first s g first before path way.3)
 
 -- more states come after those that lie further back
 way-shorter : (s : Subject) (g : Grid) (first here c : Configuration) (path : List Configuration) → IsSound s → IsWay s g first here path → IsOn c path
@@ -174,16 +211,16 @@ way-covers s g first here (before ∷ path) i sound way =
 
 -- the scan goes on
 
-pub walk-start : (s : Subject) (g : Grid) (place : ℕ) → IsMemo s g place → cell s g (start_at place) ≡ Unknown → Walking s (with_cell s g (start_at place) First) place (start_at place)
-walk-start s g place memo unknown =
+pub walk-start : (s : Subject) (g : Grid) (place : ℕ) → IsMemo s g place → place < length s.symbols → cell s g (start_at place) ≡ Unknown → Walking s (with_cell s g (start_at place) First) place (start_at place)
+walk-start s g place memo some unknown =
     let inside = start-within s place memo.table.fit.sound memo.within in
     record {
       starts = memo.starts;
       are = memo.are;
-      within = memo.within;
+      some = some;
       path = [];
       way = (refl, inside, same-cell s g (start_at place) First memo.table.fit inside);
-      table = table-mark s g [] (start_at place) First memo.table inside;
+      table = table-mark s g place [] (start_at place) First memo.table inside;
       filling = filling-mark s g memo.starts [] (start_at place) First memo.filling memo.table.fit inside refl;
     }
 
@@ -195,33 +232,37 @@ count-start s g place counted memo unknown count =
     omega (arith, count, more)
 
 next-right : (s : Subject) (g : Grid) (place : ℕ) (here next : Configuration) → Walking s g place here → look_up s here ≡ Leads next → IsWithin s next → IsRight s next (cell s g next)
-next-right s g place here next w leads inside = w.table.right next inside (next-off-way s g (start_at place) here next w.path w.table.fit.sound w.way leads)
+next-right s g place here next w is inside =
+    let here-inside = way-inside s g (start_at place) here w.path w.way in
+    let past = way-past s g (start_at place) here w.path w.table.fit.sound w.way in
+    let on : next.place ≡ min (suc here.place) (length s.symbols) = (leads s here next w.table.fit.sound here-inside is).place in
+    w.table.right w.some next (omega (arith, past, here-inside.place, on)) inside (next-off-way s g (start_at place) here next w.path w.table.fit.sound w.way is)
 
 next-unknown : (s : Subject) (g : Grid) (place : ℕ) (here next : Configuration) → Walking s g place here → look_up s here ≡ Leads next → IsWithin s next → known (cell s g next) ≡ None
     → cell s g next ≡ Unknown
 next-unknown s g place here next w leads inside none = right-unknown s next (cell s g next) (next-right s g place here next w leads inside) none
 
 pub walk-next : (s : Subject) (g : Grid) (place : ℕ) (here next : Configuration) → Walking s g place here → look_up s here ≡ Leads next → IsWithin s next → known (cell s g next) ≡ None
-    → Walking s (with_cell s g next (way_to here)) place next
+    → Walking s (with_cell s g next (way_from here next)) place next
 walk-next s g place here next w leads inside none = record {
   starts = w.starts;
   are = w.are;
-  within = w.within;
+  some = w.some;
   path = here ∷ w.path;
   way = (
     leads,
     inside,
-    same-cell s g next (way_to here) w.table.fit inside,
-    way-write s g (start_at place) here w.path next (way_to here) w.way inside (next-off-way s g (start_at place) here next w.path w.table.fit.sound w.way leads),
+    same-cell s g next (way_from here next) w.table.fit inside,
+    way-write s g (start_at place) here w.path next (way_from here next) w.way inside (next-off-way s g (start_at place) here next w.path w.table.fit.sound w.way leads),
   );
-  table = table-mark s g (here ∷ w.path) next (way_to here) w.table inside;
-  filling = filling-mark s g w.starts (here ∷ w.path) next (way_to here) w.filling w.table.fit inside refl;
+  table = table-mark s g place (here ∷ w.path) next (way_from here next) w.table inside;
+  filling = filling-mark s g w.starts (here ∷ w.path) next (way_from here next) w.filling w.table.fit inside refl;
 }
 
 pub count-next : (s : Subject) (g : Grid) (place counted after : ℕ) (here next : Configuration) → Walking s g place here → look_up s here ≡ Leads next → IsWithin s next
-    → known (cell s g next) ≡ None → counted + 1 ≡ filled g.cells → after ≡ counted + 1 → after + 1 ≡ filled (with_cell s g next (way_to here)).cells
+    → known (cell s g next) ≡ None → counted + 1 ≡ filled g.cells → after ≡ counted + 1 → after + 1 ≡ filled (with_cell s g next (way_from here next)).cells
 count-next s g place counted after here next w leads inside none count read =
-    let more = filled-mark g.cells (number s next) (way_to here) (number-in s g next w.table.fit inside) (ap is_filled (next-unknown s g place here next w leads inside none)) refl in
+    let more = filled-mark g.cells (number s next) (way_from here next) (number-in s g next w.table.fit inside) (ap is_filled (next-unknown s g place here next w leads inside none)) refl in
     omega (arith, count, read, more)
 
 -- the scan's last look-up
@@ -244,7 +285,7 @@ walk-ends s g place here o w is =
     record {
       starts = w.starts;
       are = w.are;
-      within = w.within;
+      some = w.some;
       path = w.path;
       way = w.way;
       table = w.table;
@@ -274,7 +315,7 @@ next-before s g place here next o w leads inside is =
       | inl path ↦
           absurd (next-off-way s g (start_at place) here next w.path w.table.fit.sound w.way leads
           (on-has s next (here ∷ w.path) inside (way-within s g (start_at place) here w.path w.way) path))
-      | inr past ↦ on-has s next (all_look_ups s w.starts) inside (all-within s w.starts place w.table.fit.sound w.are w.within) past
+      | inr past ↦ on-has s next (all_look_ups s w.starts) inside (all-within s w.starts place w.table.fit.sound w.are (omega (arith, w.some))) past
     ]
 
 pub walk-known : (s : Subject) (g : Grid) (place : ℕ) (here next : Configuration) (o : Outcome) → Walking s g place here → look_up s here ≡ Leads next → IsWithin s next
@@ -285,7 +326,7 @@ walk-known s g place here next o w leads inside is =
     record {
       starts = w.starts;
       are = w.are;
-      within = w.within;
+      some = w.some;
       path = w.path;
       way = w.way;
       table = w.table;
@@ -293,7 +334,7 @@ walk-known s g place here next o w leads inside is =
           w.filling i
           ∙ ap (λ (b : Bool). b || has_number s i (all_look_ups s w.starts)) (has-cons s i here w.path)
           ∙ or-part (number s here == i) (has_number s i w.path) (has_number s i (look_ups s next)) (has_number s i (all_look_ups s w.starts))
-          (all-part s w.starts place next w.table.fit.sound w.are w.within on i)
+          (all-part s w.starts place next w.table.fit.sound w.are (omega (arith, w.some)) on i)
           ∙ ap (λ (b : Bool). b || has_number s i (all_look_ups s w.starts))
           (ap (λ (b : Bool). has_number s i w.path || b) (sym (has-cons s i here (look_ups s next)))
           ∙ ap (λ (cs : List Configuration). has_number s i w.path || has_number s i cs) (sym (look-ups-leads s here next w.table.fit.sound here-inside leads))
@@ -303,8 +344,8 @@ walk-known s g place here next o w leads inside is =
     }
 
 -- a scan whose beginning was looked up before
-pub scan-known : (s : Subject) (g : Grid) (place : ℕ) (o : Outcome) → IsMemo s g place → known (cell s g (start_at place)) ≡ Some o → IsScanned s g place o
-scan-known s g place o memo is =
+pub scan-known : (s : Subject) (g : Grid) (place : ℕ) (o : Outcome) → IsMemo s g place → place < length s.symbols → known (cell s g (start_at place)) ≡ Some o → IsScanned s g place o
+scan-known s g place o memo some is =
     let inside = start-within s place memo.table.fit.sound memo.within in
     let has : has_number s (number s (start_at place)) (all_look_ups s memo.starts) ≡ true =
     sym (ap (λ (b : Bool). b || has_number s (number s (start_at place)) (all_look_ups s memo.starts)) (has-nil s (number s (start_at place))))
@@ -314,11 +355,12 @@ scan-known s g place o memo is =
       starts = memo.starts;
       are = memo.are;
       within = memo.within;
-      table = memo.table;
+      fit = memo.table.fit;
+      table = λ found picks. absurd (known-open (cell s g (start_at place)) o found is picks);
       filling = λ i.
           memo.filling i ∙ ap (λ (b : Bool). b || has_number s i (all_look_ups s memo.starts)) (has-nil s i)
           ∙ or-part false false (has_number s i (look_ups s (start_at place))) (has_number s i (all_look_ups s memo.starts)) (all-part s memo.starts place (start_at place) memo.table.fit.sound memo.are memo.within on i);
-      is = right-known s (start_at place) (cell s g (start_at place)) o (memo.table.right (start_at place) inside (λ on. on)) is;
+      is = right-known s (start_at place) (cell s g (start_at place)) o (memo.table.right some (start_at place) (omega arith) inside (λ on. on)) is;
     }
 
 -- and back
@@ -326,71 +368,126 @@ scan-known s g place o memo is =
 pub back-inside : (s : Subject) (g : Grid) (place : ℕ) (here : Configuration) (o : Outcome) → Went s g place here o → IsWithin s here
 back-inside s g place here o w = way-inside s g (start_at place) here w.path w.way
 
-pub back-filled : (s : Subject) (g : Grid) (place : ℕ) (here : Configuration) (o : Outcome) → Went s g place here o → filled (with_cell s g here (holding o)).cells ≡ filled g.cells
-back-filled s g place here o w =
-    filled-stays g.cells (number s here) (holding o) (number-in s g here w.table.fit (back-inside s g place here o w)) (way-filled s g (start_at place) here w.path w.way) (holding-filled o)
+pub back-filled : (s : Subject) (g : Grid) (place : ℕ) (here : Configuration) (o : Outcome) (x : Cell) → Went s g place here o → holding o ≡ Some x
+    → filled (with_cell s g here x).cells ≡ filled g.cells
+back-filled s g place here o x w holds =
+    filled-stays g.cells (number s here) x (number-in s g here w.table.fit (back-inside s g place here o w)) (way-filled s g (start_at place) here w.path w.way) (holding-filled o x holds)
 
-back-filling : (s : Subject) (g : Grid) (place : ℕ) (here : Configuration) (o : Outcome) → (w : Went s g place here o) → AreFilled s (with_cell s g here (holding o)) w.starts (look_ups s (start_at place))
-back-filling s g place here o w =
-    filling-stays s g w.starts (look_ups s (start_at place)) here (holding o) w.filling w.table.fit (back-inside s g place here o w) (way-filled s g (start_at place) here w.path w.way) (holding-filled o)
+back-filling : (s : Subject) (g : Grid) (place : ℕ) (here : Configuration) (o : Outcome) (x : Cell) → (w : Went s g place here o) → holding o ≡ Some x
+    → AreFilled s (with_cell s g here x) w.starts (look_ups s (start_at place))
+back-filling s g place here o x w holds =
+    filling-stays s g w.starts (look_ups s (start_at place)) here x w.filling w.table.fit (back-inside s g place here o w) (way-filled s g (start_at place) here w.path w.way) (holding-filled o x holds)
 
 same-configuration : (c d : Configuration) → c.state ≡ d.state → c.place ≡ d.place → c.kept ≡ d.kept → c ≡ d
 same-configuration c d s p k =
     ap (λ (x : ℕ). configuration x c.place c.kept) s ∙ ap (λ (x : ℕ). configuration d.state x c.kept) p ∙ ap (λ (x : ℕ). configuration d.state d.place x) k
 
-way-same : (c : Configuration) (state kept place : ℕ) → way_to c ≡ Way state kept place → c ≡ configuration state place kept
-way-same c state kept place is =
-    let states : c.state ≡ state = cc in
-    let sets : c.kept ≡ kept = cc in
-    let places : c.place ≡ place = cc in
-    same-configuration c (configuration state place kept) states places sets
+-- the place before, by whether it stays
+place-before : (before here most : ℕ) (stays : Bool) → before ≤ most → here ≡ min (suc before) most → (here == before) ≡ stays → before ≡ (if stays then here else here - 1)
+place-before before here most true within is same = sym (eqb-true here before same)
+place-before before here most false within is same =
+    elim (cases_eq here before) [
+      | inl equal ↦ absurd (eqb-false here before same equal)
+      | inr other ↦ omega (arith, within, is, other)
+    ]
 
-pub back-next : (s : Subject) (g : Grid) (place : ℕ) (here : Configuration) (o : Outcome) (state kept at : ℕ) → Went s g place here o → cell s g here ≡ Way state kept at
-    → Went s (with_cell s g here (holding o)) place (configuration state at kept) (entered here.place (state_at s.machine here.state) o)
-back-next s g place here o state kept at w is = on w.path w.way w.table
+way-same : (s : Subject) (before here : Configuration) (state kept : ℕ) (stays : Bool) → IsSound s → IsWithin s before → look_up s before ≡ Leads here
+    → way_from before here ≡ Way state kept stays → before ≡ came_from here state kept stays
+way-same s before here state kept stays sound inside is way =
+    let states : before.state ≡ state = cc in
+    let sets : before.kept ≡ kept = cc in
+    let same : (here.place == before.place) ≡ stays = cc in
+    same-configuration before (came_from here state kept stays) states (place-before before.place here.place (length s.symbols) stays inside.place (leads s before here sound inside is).place same) sets
+
+-- a place that doesn't stay is one after another
+pub back-room : (s : Subject) (g : Grid) (place : ℕ) (here : Configuration) (o : Outcome) (state kept : ℕ) (stays : Bool) → Went s g place here o → cell s g here ≡ Way state kept stays → 0 < here.place
+back-room s g place here o state kept stays w is = on w.path w.way
   where
-    on : (path : List Configuration) → IsWay s g (start_at place) here path → IsTable s g (here ∷ path)
-        → Went s (with_cell s g here (holding o)) place (configuration state at kept) (entered here.place (state_at s.machine here.state) o)
-    on [] way table = let never : First ≡ Way state kept at = sym way.2 ∙ is in cc
+    on : (path : List Configuration) → IsWay s g (start_at place) here path → 0 < here.place
+    on [] way = let never : First ≡ Way state kept stays = sym way.2 ∙ is in cc
+    on (before ∷ path) way =
+        let inside = way-inside s g (start_at place) before path way.3 in
+        let after : here.place ≡ min (suc before.place) (length s.symbols) = (leads s before here w.table.fit.sound inside way.0).place in
+        omega (arith, w.some, after)
+
+pub back-next : (s : Subject) (g : Grid) (place : ℕ) (here : Configuration) (o : Outcome) (x : Cell) (state kept : ℕ) (stays : Bool) → Went s g place here o → holding o ≡ Some x
+    → cell s g here ≡ Way state kept stays → Went s (with_cell s g here x) place (came_from here state kept stays) (entered here.place (state_at s.machine here.state) o)
+back-next s g place here o x state kept stays w holds is = on w.path w.way w.table
+  where
+    on : (path : List Configuration) → IsWay s g (start_at place) here path → IsTable s g place (here ∷ path)
+        → Went s (with_cell s g here x) place (came_from here state kept stays) (entered here.place (state_at s.machine here.state) o)
+    on [] way table = let never : First ≡ Way state kept stays = sym way.2 ∙ is in cc
     on (before ∷ path) way table =
-        let one : before ≡ configuration state at kept = way-same before state kept at (sym way.2 ∙ is) in
-        subst (λ (c : Configuration). Went s (with_cell s g here (holding o)) place c (entered here.place (state_at s.machine here.state) o)) one (record {
+        let inside = way-inside s g (start_at place) before path way.3 in
+        let one : before ≡ came_from here state kept stays = way-same s before here state kept stays w.table.fit.sound inside way.0 (sym way.2 ∙ is) in
+        subst (λ (c : Configuration). Went s (with_cell s g here x) place c (entered here.place (state_at s.machine here.state) o)) one (record {
           starts = w.starts;
           are = w.are;
-          within = w.within;
+          some = w.some;
           path = path;
-          way = way-write s g (start_at place) before path here (holding o) way.3 way.1 (off-way s g (start_at place) here (before ∷ path) w.table.fit.sound way);
-          table = table-fill s g (before ∷ path) here (holding o) table way.1 (right-holding s here o w.is);
-          filling = back-filling s g place here o w;
-          is = ap (entered here.place (state_at s.machine here.state)) w.is
-              ∙ sym (outcome-leads s before here w.table.fit.sound (way-inside s g (start_at place) before path way.3) way.0);
+          way = way-write s g (start_at place) before path here x way.3 way.1 (off-way s g (start_at place) here (before ∷ path) w.table.fit.sound way);
+          table = table-fill s g place (before ∷ path) here x table way.1 (right-holding s here o x w.is holds);
+          filling = back-filling s g place here o x w holds;
+          is = ap (entered here.place (state_at s.machine here.state)) w.is ∙ sym (outcome-leads s before here w.table.fit.sound inside way.0);
         })
 
-pub back-first : (s : Subject) (g : Grid) (place : ℕ) (here : Configuration) (o : Outcome) → Went s g place here o → ((state kept at : ℕ) → cell s g here ≡ Way state kept at → ⊥)
-    → IsScanned s (with_cell s g here (holding o)) place o
-back-first s g place here o w not = on w.path w.way w.table
+-- at the scan's first configuration
+pub back-first : (s : Subject) (g : Grid) (place : ℕ) (here : Configuration) (o : Outcome) (x : Cell) → Went s g place here o → holding o ≡ Some x
+    → ((state kept : ℕ) (stays : Bool) → cell s g here ≡ Way state kept stays → ⊥) → IsScanned s g place o
+back-first s g place here o x w holds not = on w.path w.way
   where
-    on : (path : List Configuration) → IsWay s g (start_at place) here path → IsTable s g (here ∷ path) → IsScanned s (with_cell s g here (holding o)) place o
-    on (before ∷ path) way table = absurd (not before.state before.kept before.place way.2)
-    on [] way table = record {
+    on : (path : List Configuration) → IsWay s g (start_at place) here path → IsScanned s g place o
+    on (before ∷ path) way = absurd (not before.state before.kept (here.place == before.place) way.2)
+    on [] way = record {
       starts = w.starts;
       are = w.are;
-      within = w.within;
-      table = table-fill s g [] here (holding o) table way.1 (right-holding s here o w.is);
-      filling = back-filling s g place here o w;
+      within = omega (arith, w.some);
+      fit = w.table.fit;
+      table = λ found picks. absurd (holding-open o x found holds picks);
+      filling = w.filling;
       is = w.is ∙ ap (outcome_at s) way.0;
     }
 
+-- at the segment's end: no later scan comes to what lies further back
+back-picked : (s : Subject) (g : Grid) (place : ℕ) (here : Configuration) (o : Outcome) (found : Boundary) → Went s g place here o → o ≡ Picked found → IsScanned s g place o
+back-picked s g place here o found w picks =
+    let all : (c : Configuration) → IsOn c (here ∷ w.path) → outcome_at s c ≡ Picked found = λ c on. way-picked s g (start_at place) here c w.path found w.table.fit.sound w.way (sym w.is ∙ picks) on in
+    let first : outcome_at s (start_at place) ≡ Picked found = all (start_at place) (way-first s g (start_at place) here w.path w.way) in
+    record {
+      starts = w.starts;
+      are = w.are;
+      within = omega (arith, w.some);
+      fit = w.table.fit;
+      table = λ end ends.
+          let same : found ≡ end = same-picked found end (sym picks ∙ ends) in
+          subst (λ (b : Boundary). IsTable s g b.offset []) same (record {
+            fit = w.table.fit;
+            right = λ some c past within off.
+                let begins : place < found.offset = picked-past s (start_at place) found some first in
+                w.table.right w.some c (omega (arith, past, begins)) within (λ in_way. let less = picked-past s c found some (all c in_way) in absurd (omega (arith, less, past)));
+          });
+      filling = w.filling;
+      is = picks ∙ sym first;
+    }
+
+pub back-end : (s : Subject) (g : Grid) (place : ℕ) (here : Configuration) (o : Outcome) → Went s g place here o → holding o ≡ None → IsScanned s g place o
+back-end s g place here o w none = on o refl
+  where
+    on : (p : Outcome) → o ≡ p → IsScanned s g place o
+    on Nothing is = let never : None ≡ Some KnownNothing = sym none ∙ ap holding is in cc
+    on (Picked found) is = back-picked s g place here o found w is
+    on (Kept lookahead status) is = let never : None ≡ Some (KnownKept lookahead status) = sym none ∙ ap holding is in cc
+
 -- each step back has a state more to come
-pub back-fewer : (s : Subject) (g : Grid) (place : ℕ) (here : Configuration) (o : Outcome) (state kept at : ℕ) → Went s g place here o → cell s g here ≡ Way state kept at
-    → let most = length s.symbols + length s.machine.states in most - length (following s (configuration state at kept)) < most - length (following s here)
-back-fewer s g place here o state kept at w is = on w.path w.way
+pub back-fewer : (s : Subject) (g : Grid) (place : ℕ) (here : Configuration) (o : Outcome) (state kept : ℕ) (stays : Bool) → Went s g place here o → cell s g here ≡ Way state kept stays
+    → let most = length s.symbols + length s.machine.states in most - length (following s (came_from here state kept stays)) < most - length (following s here)
+back-fewer s g place here o state kept stays w is = on w.path w.way
   where
     on : (path : List Configuration) → IsWay s g (start_at place) here path
-        → let most = length s.symbols + length s.machine.states in most - length (following s (configuration state at kept)) < most - length (following s here)
-    on [] way = let never : First ≡ Way state kept at = sym way.2 ∙ is in cc
+        → let most = length s.symbols + length s.machine.states in most - length (following s (came_from here state kept stays)) < most - length (following s here)
+    on [] way = let never : First ≡ Way state kept stays = sym way.2 ∙ is in cc
     on (before ∷ path) way =
-        let one : before ≡ configuration state at kept = way-same before state kept at (sym way.2 ∙ is) in
+        let one : before ≡ came_from here state kept stays = way-same s before here state kept stays w.table.fit.sound (way-inside s g (start_at place) before path way.3) way.0 (sym way.2 ∙ is) in
         subst (λ (c : Configuration). let most = length s.symbols + length s.machine.states in most - length (following s c) < most - length (following s here)) one
         (omega (arith, few s before, fewer s before here w.table.fit.sound (way-inside s g (start_at place) before path way.3) way.0))
 

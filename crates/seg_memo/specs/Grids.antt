@@ -1,6 +1,6 @@
 -- The table of configurations.
-use Rattle.std.specs.Prelude.{◌≡◌, ℕ, zero, suc, ◌+◌, ◌*◌, ◌^◌, ◌<◌, ◌≤◌, ◌⊎◌, ◌==◌, ◌||◌, Bool, true, false, if◌then◌else◌, Option, Some, None, List, [], ◌∷◌, drop, length, slice_index_or, slice_set}
-use Rattle.seg_text.specs.Boundaries.{boundary}
+use Rattle.std.specs.Prelude.{◌≡◌, ℕ, zero, suc, ◌+◌, ◌-◌, ◌*◌, ◌^◌, ◌<◌, ◌≤◌, ◌⊎◌, ◌==◌, ◌||◌, Bool, true, false, if◌then◌else◌, Option, Some, None, List, [], ◌∷◌, drop, length, slice_index_or, slice_set}
+use Rattle.seg_text.specs.declared.boundary.Boundary.{Boundary}
 use Rattle.seg_text.specs.Items.{Item, code_points}
 use Rattle.seg_machine.specs.Machine.{Machine, symbol_count, symbols_of}
 use Rattle.seg_machine.specs.Checked.{IsChecked}
@@ -9,9 +9,9 @@ use Rattle.seg_memo.specs.declared.configuration.Outcome.{Outcome}
 use Rattle.seg_memo.specs.declared.configuration.Outcome.TheVariants.{Nothing, Picked, Kept}
 use Rattle.seg_memo.specs.declared.configuration.LookUp.TheVariants.{Leads}
 use Rattle.seg_memo.specs.declared.configuration.Cell.{Cell}
-use Rattle.seg_memo.specs.declared.configuration.Cell.TheVariants.{Unknown, First, Way, KnownNothing, KnownPicked, KnownKept}
+use Rattle.seg_memo.specs.declared.configuration.Cell.TheVariants.{Unknown, First, Way, KnownNothing, KnownKept}
 use Rattle.seg_memo.specs.declared.table.Table.{Table}
-use Rattle.seg_memo.specs.Configurations.{Subject, configurations, reading, look_ups, all_look_ups, start_at, AreStarts}
+use Rattle.seg_memo.specs.Configurations.{Subject, configuration, configurations, reading, look_ups, all_look_ups, start_at, AreStarts}
 use Rattle.seg_memo.specs.Outcomes.{outcome_at, look_up}
 
 -- so many states, so many sets of lookaheads, and a cell for each of them at each place
@@ -36,19 +36,22 @@ with_cell s g c x = record g { cells = slice_set g.cells (number s c) x }
 -- the outcome that a cell holds
 abbrev pub known : Cell → Option Outcome
 known KnownNothing = Some Nothing
-known (KnownPicked status place) = Some (Picked (boundary place status))
 known (KnownKept lookahead status) = Some (Kept lookahead status)
 known _ = None
 
--- the cell that holds an outcome
-abbrev pub holding : Outcome → Cell
-holding Nothing = KnownNothing
-holding (Picked found) = KnownPicked found.status found.offset
-holding (Kept lookahead status) = KnownKept lookahead status
+-- the cell that holds an outcome; none holds a segment's end
+abbrev pub holding : Outcome → Option Cell
+holding Nothing = Some KnownNothing
+holding (Picked found) = None
+holding (Kept lookahead status) = Some (KnownKept lookahead status)
 
--- the cell that leads back to a configuration
-abbrev pub way_to : Configuration → Cell
-way_to c = Way c.state c.kept c.place
+-- the cell of a configuration that a scan comes to from another: it says whether the place stayed
+abbrev pub way_from : Configuration → Configuration → Cell
+way_from before here = Way before.state before.kept (here.place == before.place)
+
+-- the configuration that such a cell leads back to
+abbrev pub came_from : Configuration → ℕ → ℕ → Bool → Configuration
+came_from here state kept stays = configuration state (if stays then here.place else here.place - 1) kept
 
 abbrev pub is_filled : Cell → Bool
 is_filled Unknown = false
@@ -98,19 +101,18 @@ IsAt s m place items = symbols_of m (code_points items) ≡ drop place s.symbols
 abbrev pub IsRight : Subject → Configuration → Cell → Type 0
 IsRight s c Unknown = Unit {0}
 IsRight s c First = ⊥
-IsRight s c (Way state kept place) = ⊥
+IsRight s c (Way state kept stays) = ⊥
 IsRight s c KnownNothing = Nothing ≡ outcome_at s c
-IsRight s c (KnownPicked status place) = Picked (boundary place status) ≡ outcome_at s c
 IsRight s c (KnownKept lookahead status) = Kept lookahead status ≡ outcome_at s c
 
 abbrev pub IsOn : Configuration → List Configuration → Type 0
 IsOn c [] = ⊥
 IsOn c (d ∷ path) = (c ≡ d) ⊎ IsOn c path
 
--- each cell is right, but for those on a path
-pub record IsTable (s : Subject) (g : Grid) (path : List Configuration) : Type 0 where
+-- each cell from a place on is right, but for those on a path; at the end of the text none has to be
+pub record IsTable (s : Subject) (g : Grid) (place : ℕ) (path : List Configuration) : Type 0 where
   pub fit : IsFit s g
-  pub right : (c : Configuration) → IsWithin s c → (IsOn c path → ⊥) → IsRight s c (cell s g c)
+  pub right : place < length s.symbols → (c : Configuration) → place ≤ c.place → IsWithin s c → (IsOn c path → ⊥) → IsRight s c (cell s g c)
 
 -- does a configuration of a list have this number
 unfoldable pub has_number : Subject → ℕ → List Configuration → Bool
@@ -121,7 +123,7 @@ has_number s i (c ∷ cs) = number s c == i || has_number s i cs
 abbrev pub IsWay : Subject → Grid → Configuration → Configuration → List Configuration → Type 0
 IsWay s g first here [] = (here ≡ first) × IsWithin s here × (cell s g here ≡ First)
 IsWay s g first here (before ∷ path) =
-    (look_up s before ≡ Leads here) × IsWithin s here × (cell s g here ≡ way_to before) × IsWay s g first before path
+    (look_up s before ≡ Leads here) × IsWithin s here × (cell s g here ≡ way_from before here) × IsWay s g first before path
 
 -- the cells of just these look-ups are filled, beside those of the scans before
 abbrev pub AreFilled : Subject → Grid → List ℕ → List Configuration → Type 0
@@ -133,27 +135,27 @@ pub record IsMemo (s : Subject) (g : Grid) (place : ℕ) : Type 0 where
   pub starts : List ℕ
   pub are : AreStarts s starts place
   pub within : place ≤ length s.symbols
-  pub table : IsTable s g []
+  pub table : IsTable s g place []
   pub filling : AreFilled s g starts []
 
 -- a scan is under way: it looked up the configurations of a path, and is to look up this one, whose cell is marked already
 pub record Walking (s : Subject) (g : Grid) (place : ℕ) (here : Configuration) : Type 0 where
   pub starts : List ℕ
   pub are : AreStarts s starts place
-  pub within : place ≤ length s.symbols
+  pub some : place < length s.symbols
   pub path : List Configuration
   pub way : IsWay s g (start_at place) here path
-  pub table : IsTable s g (here ∷ path)
+  pub table : IsTable s g place (here ∷ path)
   pub filling : AreFilled s g starts (here ∷ path)
 
 -- a scan went on to its last look-up, or goes back from there: the cells hold the way back, and this one's outcome is known
 pub record Went (s : Subject) (g : Grid) (place : ℕ) (here : Configuration) (o : Outcome) : Type 0 where
   pub starts : List ℕ
   pub are : AreStarts s starts place
-  pub within : place ≤ length s.symbols
+  pub some : place < length s.symbols
   pub path : List Configuration
   pub way : IsWay s g (start_at place) here path
-  pub table : IsTable s g (here ∷ path)
+  pub table : IsTable s g place (here ∷ path)
   pub filling : AreFilled s g starts (look_ups s (start_at place))
   pub is : o ≡ outcome_at s here
 
@@ -162,6 +164,7 @@ pub record IsScanned (s : Subject) (g : Grid) (place : ℕ) (o : Outcome) : Type
   pub starts : List ℕ
   pub are : AreStarts s starts place
   pub within : place ≤ length s.symbols
-  pub table : IsTable s g []
+  pub fit : IsFit s g
+  pub table : (found : Boundary) → o ≡ Picked found → IsTable s g found.offset []
   pub filling : AreFilled s g starts (look_ups s (start_at place))
   pub is : o ≡ outcome_at s (start_at place)

@@ -1,11 +1,11 @@
 //! Configurations of a scan, what scans come to from them, and the cells that keep that.
 
-ghost use Rattle.std.specs.Prelude.{◌≡◌, ℕ, ◌<◌, IfSome};
+ghost use Rattle.std.specs.Prelude.{◌≡◌, ℕ, ◌<◌, false, IfSome};
 ghost use Rattle.seg_machine.specs.MachineFaults.{NamesPast};
 ghost use Rattle.seg_machine.specs.Search.{keep};
 ghost use Rattle.seg_memo.specs.Configurations.{condition_held};
 ghost use Rattle.seg_memo.specs.Outcomes.{arrival, entered, picked};
-ghost use Rattle.seg_memo.specs.Grids.{known, holding};
+ghost use Rattle.seg_memo.specs.Grids.{known, holding, way_from, came_from};
 
 use seg_machine::provider::{Acceptance, Lookahead, State};
 use seg_text::boundary::Boundary;
@@ -47,14 +47,12 @@ pub enum LookUp {
 pub(crate) enum Cell {
     /// It was not looked up.
     Unknown,
-    /// The scan that is under way began in it.
+    /// A scan began in it.
     First,
-    /// The scan that is under way came to it from the configuration of this state, set of lookaheads and place.
-    Way(State, u8, usize),
+    /// A scan came to it from the configuration of this state and set of lookaheads: at the same place, or at that before.
+    Way(State, u8, bool),
     /// Its outcome is nothing.
     KnownNothing,
-    /// Its outcome is a segment's end: the status, and the place.
-    KnownPicked(u8, usize),
     /// Its outcome is a condition that holds on a lookahead named before, with a status.
     KnownKept(Lookahead, u8),
 }
@@ -148,19 +146,34 @@ pub(crate) fn known(cell: Cell) -> Option<Outcome>
 {
     match cell {
         Cell::KnownNothing => Some(Outcome::Nothing),
-        Cell::KnownPicked(status, offset) => Some(Outcome::Picked(Boundary { offset, status })),
         Cell::KnownKept(lookahead, status) => Some(Outcome::Kept(lookahead, status)),
         _ => None,
     }
 }
 
-/// The cell that holds an outcome.
-pub(crate) fn holding(outcome: Outcome) -> Cell
+/// The cell that holds an outcome. None holds a segment's end: no later scan comes to such a configuration.
+pub(crate) fn holding(outcome: Outcome) -> Option<Cell>
     ensures { result ≡ holding outcome }
 {
     match outcome {
-        Outcome::Nothing => Cell::KnownNothing,
-        Outcome::Picked(found) => Cell::KnownPicked(found.status, found.offset),
-        Outcome::Kept(lookahead, status) => Cell::KnownKept(lookahead, status),
+        Outcome::Nothing => Some(Cell::KnownNothing),
+        Outcome::Picked(_) => None,
+        Outcome::Kept(lookahead, status) => Some(Cell::KnownKept(lookahead, status)),
     }
+}
+
+/// The cell of a configuration that a scan comes to from another.
+pub(crate) fn way(before: Configuration, here: Configuration) -> Cell
+    ensures { result ≡ way_from before here }
+{
+    Cell::Way(before.state, before.kept, here.place == before.place)
+}
+
+/// The configuration of a state and a set of lookaheads that a scan came from: at the same place, or at that before.
+pub(crate) fn before(here: Configuration, state: State, kept: u8, stays: bool) -> Configuration
+    requires { stays ≡ false → 0 < here.place }
+    ensures { result ≡ came_from here state kept stays }
+{
+    let place = if stays { here.place } else { here.place - 1 };
+    Configuration { state, place, kept }
 }

@@ -12,7 +12,7 @@ ghost use Rattle.seg_memo.specs.declared.configuration.Cell.TheVariants.{Unknown
 ghost use Rattle.seg_memo.specs.Grids.{cell, filled, grid, IsAt, IsMemo, IsReadBy, IsScanned, IsSound, IsWithin, Went};
 
 use crate::configuration::{
-    Cell, Configuration, LookUp, Outcome, arrive, entered, holding, known, picked,
+    Cell, Configuration, LookUp, Outcome, arrive, before, entered, holding, known, picked, way,
 };
 use crate::reader::ReadTransitions;
 use crate::table::Table;
@@ -85,6 +85,7 @@ fn go_forward<I: Cursor, R: ReadTransitions>(
     requires first { first ≡ start_at scan.start }
     requires unknown { cell scan.subject (grid table.old) first ≡ Unknown }
     requires rest { IsAt scan.subject (machine_of machine.now) scan.start (I.text rest.old).items }
+    requires some { scan.start < length scan.subject.symbols }
     ensures read { IsReadBy scan.subject (machine_of machine.now) (R.states reader.new) (R.transitions reader.new) }
     ensures went { Went scan.subject (grid table.new) scan.start result.0 result.1 }
     ensures count { R.counted reader.new ≡ filled table.new.cells.items }
@@ -100,12 +101,13 @@ fn go_forward<I: Cursor, R: ReadTransitions>(
             let entry = machine.entry(next.state);
             return (here, entered(next.place, entry, outcome));
         }
-        table.write(next, Cell::Way(here.state, here.kept, here.place));
+        table.write(next, way(here, next));
         here = next;
     }
 }
 
-/// Goes back over the cells of a scan, and fills each with its outcome. Gives the outcome of the first.
+/// Goes back over the cells of a scan, and fills each with its outcome, as far as the segment's end. Gives the outcome of
+/// the first.
 fn go_back(
     machine: &TailoredMachineBorrowed<'_>,
     table: &mut Table,
@@ -121,13 +123,15 @@ fn go_back(
     let mut here = last;
     let mut outcome = outcome;
     'back: loop {
-        let cell = table.cell(here);
-        table.write(here, holding(outcome));
-        let Cell::Way(state, kept, place) = cell else {
+        let Some(held) = holding(outcome) else {
             return outcome;
         };
+        let Cell::Way(state, kept, stays) = table.cell(here) else {
+            return outcome;
+        };
+        table.write(here, held);
         outcome = entered(here.place, machine.entry(here.state), outcome);
-        here = Configuration { state, place, kept };
+        here = before(here, state, kept, stays);
     }
 }
 
@@ -145,6 +149,7 @@ fn outcome_from<I: Cursor, R: ReadTransitions>(
     requires count { R.counted reader.old ≡ filled table.old.cells.items }
     requires start { start ≡ scan.start }
     requires rest { IsAt scan.subject (machine_of machine.now) scan.start (I.text rest.now).items }
+    requires some { scan.start < length scan.subject.symbols }
     ensures read { IsReadBy scan.subject (machine_of machine.now) (R.states reader.new) (R.transitions reader.new) }
     ensures scanned { IsScanned scan.subject (grid table.new) scan.start result }
     ensures count { R.counted reader.new ≡ filled table.new.cells.items }

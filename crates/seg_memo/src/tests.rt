@@ -237,7 +237,7 @@ fn expect_hostile(
 
 #[test]
 fn cells_are_small(rt: HostRuntime) -> Result<(), Fail> {
-    assert!(rt; size_of::<Cell>() <= 16);
+    assert!(rt; size_of::<Cell>() <= 4);
     Ok(())
 }
 

@@ -5,9 +5,9 @@ use Rattle.seg_memo.proofs.search.go_forward.Goals as goal
 pub scan-init : goal.scan-init
 scan-init g c = record {
   read = c.requires.1.1.0;
-  walking = start-walk _ _ _ _ _ c.requires.1.1.1.0 c.requires.1.1.1.1.1.0 c.requires.1.1.1.1.1.1.0 c.write.ensures;
+  walking = start-walk _ _ _ _ _ c.requires.1.1.1.0 c.requires.1.1.1.1.1.1.1.1 c.requires.1.1.1.1.1.0 c.requires.1.1.1.1.1.1.0 c.write.ensures;
   count = start-count _ _ _ _ _ _ c.requires.1.1.1.0 c.requires.1.1.1.1.1.0 c.requires.1.1.1.1.1.1.0 c.write.ensures c.requires.1.1.1.1.0;
-  rest = start-rest g.scan.subject _ _ _ _ c.requires.1.1.1.1.1.0 c.requires.1.1.1.1.1.1.1;
+  rest = start-rest g.scan.subject _ _ _ _ c.requires.1.1.1.1.1.0 c.requires.1.1.1.1.1.1.1.0;
 }
 
 pub look_up-requires : goal.look_up-requires
@@ -42,8 +42,8 @@ scan-smaller g c = turn-fewer _ _ _ _ _ _ c.scan.invariant.walking c.look_up.ens
 pub scan-preserved : goal.scan-preserved
 scan-preserved g c = record {
   read = c.look_up.ensures.read;
-  walking = turn-next _ _ _ _ _ _ _ _ _ c.scan.invariant.walking c.look_up.ensures.value c.in-Leads.is c.in-Leads.ensures.within c.cell.ensures c.known.ensures c.in_default.is c.write-in-scan.ensures;
-  count = turn-count _ _ _ _ _ _ _ _ _ _ _ c.scan.invariant.walking c.look_up.ensures.value c.in-Leads.is c.in-Leads.ensures.within c.cell.ensures c.known.ensures c.in_default.is c.write-in-scan.ensures
+  walking = turn-next _ _ _ _ _ _ _ _ _ _ c.scan.invariant.walking c.look_up.ensures.value c.in-Leads.is c.in-Leads.ensures.within c.cell.ensures c.known.ensures c.in_default.is c.way.ensures c.write-in-scan.ensures;
+  count = turn-count _ _ _ _ _ _ _ _ _ _ _ _ c.scan.invariant.walking c.look_up.ensures.value c.in-Leads.is c.in-Leads.ensures.within c.cell.ensures c.known.ensures c.in_default.is c.way.ensures c.write-in-scan.ensures
       c.scan.invariant.count c.look_up.ensures.count;
   rest = c.in-Leads.ensures.rest;
 }

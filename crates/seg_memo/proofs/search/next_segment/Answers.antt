@@ -1,5 +1,21 @@
-use Rattle.seg_memo.proofs.Segments.{segment-found, segment-memo, segment-some, segment-rest, skip-next}
+use Rattle.std.proofs.Common.{refl}
+use Rattle.seg_memo.proofs.Segments.{segment-found, segment-memo, segment-some, segment-rest, skip-next, some-left}
 use Rattle.seg_memo.proofs.search.next_segment.Goals as goal
+
+pub outcome_from-outcome-requires : goal.outcome_from-outcome-requires
+outcome_from-outcome-requires g c κs within = (
+  within.0,
+  (
+    within.1,
+    (
+      c.requires.1.1.0,
+      (
+        c.requires.1.1.1.0,
+        (c.requires.1.1.1.1.0, (refl, (c.requires.1.1.1.1.1.0, some-left _ _ _ _ _ _ c.requires.1.1.0 c.requires.1.1.1.1.1.0 c.requires.1.1.1.1.1.1))),
+      ),
+    ),
+  ),
+)
 
 pub unreachable-requires : goal.unreachable-requires
 unreachable-requires g c =
