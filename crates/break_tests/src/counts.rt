@@ -26,6 +26,12 @@ impl Counts {
             self.failed = self.failed.saturating_add(1);
         }
     }
+
+    /// Takes others with them.
+    fn join(&mut self, others: Counts) {
+        self.passed = self.passed.saturating_add(others.passed);
+        self.failed = self.failed.saturating_add(others.failed);
+    }
 }
 
 /// Counts the samples of a test file. The errors are want of memory, and a line that has neither marks nor code points.
@@ -43,16 +49,24 @@ pub fn counts_of(alloc: Global, segmenter: &Segmenter, text: &str) -> Result<Cou
 /// a row that can't be read.
 pub fn option_counts_of(alloc: Global, text: &str) -> Result<Counts> {
     let mut counts = Counts::default();
-    for line in text.lines() {
-        let Some((options, line)) = line.split_once(';') else {
-            continue;
-        };
-        if let Some(sample) = sample_of(alloc, line)? {
-            let segmenter = segmenter_with(alloc, options)?;
-            counts.add(is_passed(alloc, &segmenter, &sample)?);
-        }
+    for row in text.lines() {
+        counts.join(row_counts(alloc, row)?);
     }
     Ok(counts)
+}
+
+// Counts a row; a line without a semicolon is none.
+fn row_counts(alloc: Global, row: &str) -> Result<Counts> {
+    match row.split_once(';') {
+        Some((options, sample)) => counts_with(alloc, options, sample),
+        None => Ok(Counts::default()),
+    }
+}
+
+// Counts samples by lines with these options.
+fn counts_with(alloc: Global, options: &str, samples: &str) -> Result<Counts> {
+    let segmenter = segmenter_with(alloc, options)?;
+    counts_of(alloc, &segmenter, samples)
 }
 
 // Whether the text has just the sample's boundaries, in each encoding, and of lines the mandatory ones.
