@@ -53,9 +53,9 @@ const LOOSE_KEEP_ALL: LineStyle = LineStyle {
 /// A text, with options, and the places of its boundaries in bytes.
 type Row = (&'static str, LineStyle, &'static [usize]);
 
-/// What a program gives that was written from the rules apart from this repository. Of 48 changes of that program, each in one decision of
-/// a turn or of a walk, each changes some row.
-const ROWS: [Row; 36] = [
+/// What a program gives under loose options that was written from the rules apart from this repository. Of 48 changes of that program, each in
+/// one decision of a turn or of a walk, each changes some row of the three tables.
+const LOOSE_ROWS: [Row; 7] = [
     ("\u{E34}\u{E34}", LOOSE_KEEP_ALL, &[0, 6]),
     (
         "\u{20AC}\u{301} \u{2010}\u{2010}",
@@ -67,6 +67,10 @@ const ROWS: [Row; 36] = [
     ("1\u{200D}a", LOOSE, &[0, 5]),
     ("-\u{2010}a", LOOSE, &[0, 1, 5]),
     ("1\u{200D}a1", LOOSE, &[0, 5, 6]),
+];
+
+/// The same under normal options.
+const NORMAL_ROWS: [Row; 10] = [
     ("\u{2019}\u{E34}", NORMAL_KEEP_ALL, &[0, 3, 6]),
     ("a\u{301C}", NORMAL_KEEP_ALL, &[0, 1, 4]),
     ("  .", NORMAL_KEEP_ALL, &[0, 3]),
@@ -81,6 +85,10 @@ const ROWS: [Row; 36] = [
     ("  \u{2010}a", NORMAL, &[0, 2, 6]),
     ("11\u{200D}1", NORMAL, &[0, 6]),
     ("1\u{200D}a\u{200D}\u{200D}\u{200D}1", NORMAL, &[0, 15]),
+];
+
+/// The same under strict options.
+const STRICT_ROWS: [Row; 19] = [
     ("aa", KEEP_ALL, &[0, 2]),
     ("\u{E34}\u{301}\u{E34}", KEEP_ALL, &[0, 5, 8]),
     ("  \u{2019}", KEEP_ALL, &[0, 2, 5]),
@@ -150,6 +158,29 @@ const ENTRIES: [(u8, u8, BreakState); 36] = [
     (70, 60, BreakState::Intermediate(70)),
 ];
 
+/// Data of lines: a pair table, and what runs are cut by.
+#[derive(Drop)]
+struct Data {
+    table: RuleBreakData,
+    clusters: RuleBreakData,
+    segmenter: GraphemeClusterSegmenter,
+    dictionaries: Dictionaries,
+}
+
+/// Data with the pair table of walks, whose complex class is SA, and the dictionary {ภาษา, ไทย}.
+fn walk_data(alloc: Global) -> Result<Data, Fail> {
+    let words = ["ภาษา", "ไทย"];
+    Ok(Data {
+        table: walk_table(alloc, 58)?,
+        clusters: cluster_table(alloc)?,
+        segmenter: GraphemeClusterSegmenter::try_new(cluster_table(alloc)?)?,
+        dictionaries: Dictionaries {
+            th: Some(DictionaryBreakData::try_from_words(alloc, &words)?),
+            ..Dictionaries::none()
+        },
+    })
+}
+
 /// A pair table of clusters: a code point, with the marks after it.
 fn cluster_table(alloc: Global) -> Result<RuleBreakData, Fail> {
     let ranges = [(0x300, 0x36F, 1), (0xE34, 0xE3A, 1), (0x200D, 0x200D, 1)];
@@ -207,35 +238,48 @@ fn walk_table(alloc: Global, complex: u8) -> Result<RuleBreakData, Fail> {
 /// The boundaries of a text are at these places.
 fn expect_lines(
     rt: &impl Abort,
-    pairs: TurnPairs<'_>,
-    payloads: ComplexPayloadsBorrowed<'_>,
+    data: &Data,
+    style: LineStyle,
     text: &str,
     places: &[usize],
-) {
+) -> Result<(), Fail> {
+    let payloads = ComplexPayloadsBorrowed::new(
+        data.dictionaries.as_borrowed(),
+        data.segmenter.as_borrowed(),
+    );
+    let pairs = TurnPairs::try_new(&data.table, &data.clusters, style)?;
     let mut lines = TurnLines::new(pairs, payloads, StrCharIndices::new(text));
     for place in places {
         assert_eq!(rt; lines.next(), Some(*place));
     }
     assert_eq!(rt; lines.next(), None);
     assert_eq!(rt; lines.next(), None);
+    Ok(())
 }
 
 #[test]
-fn finds_lines(rt: HostRuntime) -> Result<(), Fail> {
-    let table = walk_table(rt.alloc(), 58)?;
-    let clusters = cluster_table(rt.alloc())?;
-    let segmenter = GraphemeClusterSegmenter::try_new(cluster_table(rt.alloc())?)?;
-    let dictionaries = Dictionaries {
-        th: Some(DictionaryBreakData::try_from_words(rt.alloc(), &["ภาษา", "ไทย"])?),
-        ..Dictionaries::none()
-    };
-    let payloads = ComplexPayloadsBorrowed::new(
-        dictionaries.as_borrowed(),
-        segmenter.as_borrowed(),
-    );
-    for (text, style, places) in ROWS {
-        let pairs = TurnPairs::try_new(&table, &clusters, style)?;
-        expect_lines(&rt, pairs, payloads, text, places);
+fn finds_loose_lines(rt: HostRuntime) -> Result<(), Fail> {
+    let data = walk_data(rt.alloc())?;
+    for (text, style, places) in LOOSE_ROWS {
+        expect_lines(&rt, &data, style, text, places)?;
+    }
+    Ok(())
+}
+
+#[test]
+fn finds_normal_lines(rt: HostRuntime) -> Result<(), Fail> {
+    let data = walk_data(rt.alloc())?;
+    for (text, style, places) in NORMAL_ROWS {
+        expect_lines(&rt, &data, style, text, places)?;
+    }
+    Ok(())
+}
+
+#[test]
+fn finds_strict_lines(rt: HostRuntime) -> Result<(), Fail> {
+    let data = walk_data(rt.alloc())?;
+    for (text, style, places) in STRICT_ROWS {
+        expect_lines(&rt, &data, style, text, places)?;
     }
     Ok(())
 }
