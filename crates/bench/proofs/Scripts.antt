@@ -6,8 +6,8 @@ use Rattle.seg_data.specs.declared.provider.ComplexScript.TheVariants.{None as N
 use Rattle.seg_data.specs.Table.{value_of}
 use Rattle.seg_machine.specs.Machine.{Machine, symbol_and_script}
 use Rattle.seg_machine.specs.MachineFaults.{HasComplexBelow0100}
-use Rattle.seg_pairs.specs.PairFaults.{HasComplexClassBelow0100}
-use Rattle.seg_pairs.specs.PairTable.{PairTable, class_of}
+use Rattle.seg_pair_data.specs.PairFaults.{HasComplexClassBelow0100}
+use Rattle.seg_pair_data.specs.PairTable.{PairTable, class_of}
 use Rattle.bench.specs.Lines.{line_machine}
 use Rattle.bench.specs.LineTables.{line_table}
 use Rattle.bench.specs.PairTables.{word_table}

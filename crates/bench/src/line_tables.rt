@@ -1,7 +1,7 @@
 //! The bench pair table of lines.
 
 ghost use Rattle.std.specs.Prelude.{◌≡◌, if◌then◌else◌, [], ◌∷◌, ◌++◌, IfOk, OnOk};
-ghost use Rattle.seg_pairs.specs.declared.provider.pairs.BreakState.TheVariants.{Break, Keep};
+ghost use Rattle.seg_pair_data.specs.declared.provider.pairs.BreakState.TheVariants.{Break, Keep};
 ghost use Rattle.bench.specs.LineTables.{line_entry, line_row, line_rows, line_table};
 ghost use Rattle.bench.specs.PairTables.{cluster_table};
 ghost use Rattle.icu_segmenter.specs.Faults.{IsFaultless};

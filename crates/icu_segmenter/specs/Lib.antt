@@ -18,9 +18,9 @@ pub use Rattle.seg_machine.specs.Segments
 pub use Rattle.seg_machine.specs.Checked
 pub use Rattle.seg_memo.specs.Configurations
 pub use Rattle.seg_memo.specs.Memos
-pub use Rattle.seg_pairs.specs.BreakStates
-pub use Rattle.seg_pairs.specs.PairTable
-pub use Rattle.seg_pairs.specs.PairFaults
+pub use Rattle.seg_pair_data.specs.BreakStates
+pub use Rattle.seg_pair_data.specs.PairTable
+pub use Rattle.seg_pair_data.specs.PairFaults
 pub use Rattle.seg_pairs.specs.Walk
 pub use Rattle.seg_pairs.specs.Verdict
 pub use Rattle.seg_pairs.specs.Breaks

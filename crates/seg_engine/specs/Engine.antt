@@ -1,6 +1,6 @@
 -- What is seen of an engine, and of the boundaries that it gives.
 use Rattle.seg_machine.specs.Tailored.{machine_of, owned_machine}
-use Rattle.seg_pairs.specs.PairData.{pair_table_of, override_of, owned_pair_table, owned_override}
+use Rattle.seg_pair_data.specs.PairData.{pair_table_of, override_of, owned_pair_table, owned_override}
 use Rattle.seg_engine.specs.declared.engine.Engine.{Engine}
 use Rattle.seg_engine.specs.declared.engine.Engine.TheVariants.{Classic, Neo}
 use Rattle.seg_engine.specs.declared.engine.OwnedEngine.{OwnedEngine}

@@ -8,7 +8,7 @@ use Rattle.seg_data.specs.Table.{Table}
 use Rattle.seg_machine.specs.Machine.{Machine}
 use Rattle.seg_machine.specs.Segments.{machine_stretch}
 use Rattle.seg_pairs.specs.Breaks.{table_stretch}
-use Rattle.seg_pairs.specs.PairTable.{PairTable}
+use Rattle.seg_pair_data.specs.PairTable.{PairTable}
 
 pub data Rules : Type 0 where
   -- a pair table and its override, if there is one

@@ -13,7 +13,7 @@ use Rattle.seg_text.proofs.Stretches.{text-later-next}
 use Rattle.seg_pairs.specs.declared.elements.Element.{Element}
 use Rattle.seg_pairs.specs.declared.verdicts.Outcome.TheVariants.{Break as BreakOut, Run as RunOut}
 use Rattle.seg_pairs.specs.Elements.{onto, place_at}
-use Rattle.seg_pairs.specs.PairTable.{PairTable}
+use Rattle.seg_pair_data.specs.PairTable.{PairTable}
 use Rattle.seg_pairs.specs.Verdict.{Verdict}
 use Rattle.seg_pairs.specs.Verdict.Verdict.{BreakAfter, GoAfter, RunBegins}
 use Rattle.seg_pairs.specs.Chains.{chain, TakesOf}

@@ -2,8 +2,8 @@
 use Rattle.std.specs.Prelude.{◌≡◌, ℕ, ◌&&◌, ◌||◌, nat_le, Bool, true, None, ◌≤◌, ◌⊎◌}
 use Rattle.seg_data.specs.declared.provider.DataError.{DataError}
 use Rattle.seg_data.specs.declared.provider.DataError.TheVariants.{ClassOutOfRange, ComplexBelow0100, ComplexClassNamed}
-use Rattle.seg_pairs.specs.PairTable.{PairTable}
-use Rattle.seg_pairs.specs.PairFaults.{HasPairDataFault, HasComplexClassBelow0100}
+use Rattle.seg_pair_data.specs.PairTable.{PairTable}
+use Rattle.seg_pair_data.specs.PairFaults.{HasPairDataFault, HasComplexClassBelow0100}
 use Rattle.seg_line_rules.specs.LineClasses.{ID}
 
 -- the number of a class that has a name: all from AI to ZWJ but 46

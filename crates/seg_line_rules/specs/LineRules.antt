@@ -1,6 +1,6 @@
 -- What the boundaries of lines are found by, and the classes that code points have by it.
 use Rattle.std.specs.Prelude.{ℕ, ◌==◌, ◌&&◌, ◌||◌, Bool, false, if◌then◌else◌, None, List, [], ◌∷◌}
-use Rattle.seg_pairs.specs.PairTable.{PairTable, class_of}
+use Rattle.seg_pair_data.specs.PairTable.{PairTable, class_of}
 use Rattle.seg_line_rules.specs.declared.options.LineStyle.{LineStyle}
 use Rattle.seg_line_rules.specs.LineClasses.{AL, CJ, ID, NU}
 use Rattle.seg_line_rules.specs.LineStyles.{is_break_all, is_loose_or_normal}

@@ -1,15 +1,15 @@
 //! Pair tables of lines, with what options say. They aren't part of the library's surface.
 ghost use Rattle.std.specs.Prelude.{◌≡◌, ◌<◌, false, None, IfOk, IfErr};
 ghost use Rattle.seg_data.specs.Faults.{IsFaultless, IsLowestFault};
-ghost use Rattle.seg_pairs.specs.PairFaults.{HasPairDataFault};
+ghost use Rattle.seg_pair_data.specs.PairFaults.{HasPairDataFault};
 ghost use Rattle.seg_line_rules.specs.LineClasses.{ID};
 ghost use Rattle.seg_line_rules.specs.LineFaults.{is_named_class};
 ghost use Rattle.seg_line_rules.specs.LineRules.{class_read, is_read_as_id};
 
 use crate::options::LineStyle;
 use seg_data::provider::DataError;
-use seg_pairs::pair_data::PairDataBorrowed;
-use seg_pairs::provider::RuleBreakData;
+use seg_pair_data::pair_data::PairDataBorrowed;
+use seg_pair_data::provider::RuleBreakData;
 
 /// A pair table of lines of its own, with what options say.
 #[derive(Debug, Drop)]

@@ -5,8 +5,8 @@ ghost use Rattle.seg_line_rules.specs.LineRules.{is_among};
 ghost use Rattle.seg_line_rules.specs.UnitElements.{unit_seen};
 
 use crate::options::{LineBreakStrictness, LineStyle};
+use seg_pair_data::provider::RuleBreakData;
 use seg_pairs::elements::Element;
-use seg_pairs::provider::RuleBreakData;
 
 /// Whether no boundary stands between two units under `KeepAll`.
 pub(crate) fn keeps(style: LineStyle, left: Element, right: Element) -> bool

@@ -7,7 +7,7 @@ use seg_complex::complex::ComplexPayloadsBorrowed;
 use seg_data::provider::{ClassTable, DataError, LanguageIdentifier};
 use seg_dictionary::dictionaries::Dictionaries;
 use seg_dictionary::provider::DictionaryBreakData;
-use seg_pairs::provider::{BreakState, RuleBreakData};
+use seg_pair_data::provider::{BreakState, RuleBreakData};
 use seg_text::cursor::Cursor;
 use seg_text::indices::{StrCharIndices, Utf8CharIndices, Utf16Indices};
 use std::alloc::Global;

@@ -6,8 +6,8 @@ ghost use Rattle.seg_line_rules.specs.LineUnits.{bears_none, is_glued, is_mark};
 ghost use Rattle.seg_line_rules.specs.UnitElements.{base_element, base_of, elements_after, elements_from, line_elements, marked_element};
 
 use crate::line_pairs::LinePairs;
+use seg_pair_data::provider::RuleBreakData;
 use seg_pairs::elements::{Element, Elements};
-use seg_pairs::provider::RuleBreakData;
 use seg_text::cursor::Cursor;
 use std::marker::Model;
 

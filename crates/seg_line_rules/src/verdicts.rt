@@ -1,7 +1,7 @@
 //! What comes after a unit of lines: a boundary, none, or a run of complex code points.
 
 ghost use Rattle.std.specs.Prelude.{◌≡◌, ◌<◌, ◌∷◌};
-ghost use Rattle.seg_pairs.specs.PairTable.{entry_of};
+ghost use Rattle.seg_pair_data.specs.PairTable.{entry_of};
 ghost use Rattle.seg_pairs.specs.Steps.{Lands, IsStepBelow};
 ghost use Rattle.seg_line_rules.specs.LinePairs.{rules_by};
 ghost use Rattle.seg_line_rules.specs.LineSteps.{step_unless};
@@ -10,8 +10,8 @@ ghost use Rattle.seg_line_rules.specs.UnitElements.{unit_seen, units_seen};
 
 use crate::line_pairs::LinePairs;
 use crate::lists::{keeps, listed};
+use seg_pair_data::provider::{BreakState, RuleBreakData};
 use seg_pairs::elements::{Element, Elements};
-use seg_pairs::provider::{BreakState, RuleBreakData};
 use seg_pairs::verdicts::{Step, Verdicts};
 use seg_pairs::walk::{Stop, entry_between, is_class, state_named, walk};
 

@@ -9,10 +9,10 @@ use Rattle.std.proofs.lemmas.Option.{get_or_from_slice_get}
 use Rattle.seg_text.specs.declared.boundary.Boundary.{Boundary}
 use Rattle.seg_text.specs.Boundaries.{RisesTo, shift_all}
 use Rattle.seg_text.specs.Cuts.{Cuts, with_status}
-use Rattle.seg_pairs.specs.declared.provider.pairs.BreakState.{BreakState}
-use Rattle.seg_pairs.specs.declared.provider.pairs.BreakState.TheVariants.{Break, Keep, NoMatch, Intermediate, Index}
-use Rattle.seg_pairs.specs.BreakStates.{named_state, is_intermediate}
-use Rattle.seg_pairs.specs.PairTable.{entry_of}
+use Rattle.seg_pair_data.specs.declared.provider.pairs.BreakState.{BreakState}
+use Rattle.seg_pair_data.specs.declared.provider.pairs.BreakState.TheVariants.{Break, Keep, NoMatch, Intermediate, Index}
+use Rattle.seg_pair_data.specs.BreakStates.{named_state, is_intermediate}
+use Rattle.seg_pair_data.specs.PairTable.{entry_of}
 use Rattle.seg_pairs.specs.Walk.{is_class}
 use Rattle.seg_line_rules.specs.LineRules.{LineRules}
 use Rattle.seg_line_rules.proofs.Inside.{rises-le}

@@ -2,8 +2,8 @@
 use Rattle.std.specs.Prelude.{◌≡◌, ◌≢◌, ℕ, ◌<◌, ◌≤◌, ◌⊎◌, true, None}
 use Rattle.seg_data.specs.declared.provider.DataError.{DataError}
 use Rattle.seg_data.specs.declared.provider.DataError.TheVariants.{ClassOutOfRange, ComplexBelow0100, ComplexClassNamed}
-use Rattle.seg_pairs.specs.PairTable.{PairTable, class_of}
-use Rattle.seg_pairs.specs.PairFaults.{HasPairDataFault}
+use Rattle.seg_pair_data.specs.PairTable.{PairTable, class_of}
+use Rattle.seg_pair_data.specs.PairFaults.{HasPairDataFault}
 use Rattle.seg_line_turns.specs.TurnClasses.{ID, SA}
 use Rattle.seg_line_turns.specs.TurnSets.{is_complex}
 

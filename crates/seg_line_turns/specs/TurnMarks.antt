@@ -2,8 +2,8 @@
 use Rattle.std.specs.Prelude.{◌≡◌, ℕ, suc, true, false, Some, List, slice_get, Contains}
 use Rattle.seg_text.specs.declared.boundary.Boundary.{Boundary}
 use Rattle.seg_text.specs.Boundaries.{offsets}
-use Rattle.seg_pairs.specs.declared.provider.pairs.BreakState.TheVariants.{Index}
-use Rattle.seg_pairs.specs.PairTable.{PairTable, entry_of}
+use Rattle.seg_pair_data.specs.declared.provider.pairs.BreakState.TheVariants.{Index}
+use Rattle.seg_pair_data.specs.PairTable.{PairTable, entry_of}
 use Rattle.seg_line_rules.specs.LineRules.{LineRules}
 use Rattle.seg_line_turns.specs.TurnReadings.{turn_class}
 use Rattle.seg_line_turns.specs.TurnSets.{is_mark, bears_none}

@@ -1,6 +1,6 @@
 -- The classes that code points have for the engine 17.
 use Rattle.std.specs.Prelude.{ℕ, ◌&&◌, ◌||◌, Bool, if◌then◌else◌, None, [], ◌∷◌}
-use Rattle.seg_pairs.specs.PairTable.{class_of}
+use Rattle.seg_pair_data.specs.PairTable.{class_of}
 use Rattle.seg_line_rules.specs.declared.options.LineStyle.{LineStyle}
 use Rattle.seg_line_rules.specs.LineRules.{LineRules, is_among}
 use Rattle.seg_line_rules.specs.LineStyles.{is_break_all, is_loose_or_normal}

@@ -1,10 +1,10 @@
 -- The rules of the engine 17: one turn, from a left unit and the code points after it.
 use Rattle.std.specs.Prelude.{ℕ, suc, ◌+◌, ◌-◌, ◌&&◌, ◌||◌, not, Bool, true, false, if◌then◌else◌, Option, Some, None, List, [], ◌∷◌, length}
 use Rattle.std.specs.Option.{option_map_or}
-use Rattle.seg_pairs.specs.declared.provider.pairs.BreakState.{BreakState}
-use Rattle.seg_pairs.specs.declared.provider.pairs.BreakState.TheVariants.{Break, Keep, NoMatch, Intermediate, Index}
-use Rattle.seg_pairs.specs.BreakStates.{named_state, is_intermediate}
-use Rattle.seg_pairs.specs.PairTable.{PairTable, entry_of}
+use Rattle.seg_pair_data.specs.declared.provider.pairs.BreakState.{BreakState}
+use Rattle.seg_pair_data.specs.declared.provider.pairs.BreakState.TheVariants.{Break, Keep, NoMatch, Intermediate, Index}
+use Rattle.seg_pair_data.specs.BreakStates.{named_state, is_intermediate}
+use Rattle.seg_pair_data.specs.PairTable.{PairTable, entry_of}
 use Rattle.seg_pairs.specs.Walk.{is_class}
 use Rattle.seg_line_rules.specs.LineRules.{LineRules}
 use Rattle.seg_line_turns.specs.TurnClasses.{AL}

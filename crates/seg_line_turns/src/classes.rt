@@ -2,7 +2,7 @@
 ghost use Rattle.std.specs.Prelude.{◌≡◌};
 ghost use Rattle.seg_line_turns.specs.TurnSets.{bears_none, is_after_quote, is_before_hyphen, is_before_quote, is_complex, is_glue, is_hyphen, is_letter, is_mark, is_opening, is_start};
 
-use seg_pairs::provider::RuleBreakData;
+use seg_pair_data::provider::RuleBreakData;
 
 /// Whether the class is one of marks.
 #[tactic(auto, unfolding(crate::specs::TurnSets::is_mark))]

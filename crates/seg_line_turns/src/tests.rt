@@ -7,7 +7,7 @@ use seg_data::provider::{ClassTable, DataError};
 use seg_dictionary::dictionaries::Dictionaries;
 use seg_dictionary::provider::DictionaryBreakData;
 use seg_line_rules::options::{LineBreakStrictness, LineBreakWordOption, LineStyle};
-use seg_pairs::provider::{BreakState, RuleBreakData};
+use seg_pair_data::provider::{BreakState, RuleBreakData};
 use seg_text::indices::StrCharIndices;
 use std::alloc::Global;
 use std::process::Abort;

@@ -4,7 +4,7 @@ ghost use Rattle.seg_line_rules.specs.LineRules.{is_among};
 ghost use Rattle.seg_line_turns.specs.TurnLists.{fits, is_kept, keeps, listed, loose_list, hyphens, waves, iterations, middle_dots, leaders, exclamations, wide_postfixes, postfixes, wide_prefixes, prefixes};
 
 use seg_line_rules::options::{LineBreakStrictness, LineStyle};
-use seg_pairs::provider::RuleBreakData;
+use seg_pair_data::provider::RuleBreakData;
 
 /// Two items side by side: the class of the left unit and the code point of its last item, and those of the right item.
 #[derive(Clone, Copy, Debug)]

@@ -3,7 +3,7 @@ ghost use Rattle.std.specs.Prelude.{◌≡◌};
 ghost use Rattle.seg_line_turns.specs.TurnPlaces.{outcome_unless};
 ghost use Rattle.seg_line_turns.specs.TurnSets.{is_joiner};
 
-use seg_pairs::provider::RuleBreakData;
+use seg_pair_data::provider::RuleBreakData;
 
 /// An item with the marks that are glued to it.
 #[derive(Clone, Copy, Debug)]

@@ -1,7 +1,7 @@
 //! Turns by the rules of the engine 17.
 ghost use Rattle.std.specs.Prelude.{◌≡◌, ◌<◌, ℕ, suc};
 ghost use Rattle.seg_text.specs.Items.{Text, code_points, rest_after};
-ghost use Rattle.seg_pairs.specs.PairTable.{entry_of};
+ghost use Rattle.seg_pair_data.specs.PairTable.{entry_of};
 ghost use Rattle.seg_line_turns.specs.TurnPairs.{turn_rules_by};
 ghost use Rattle.seg_line_turns.specs.TurnPlaces.{FindsBetween, FindsFrom, class_at_start, hyphen_outcome, item_place, left_seen, placed};
 ghost use Rattle.seg_line_turns.specs.TurnReadings.{turn_class};
@@ -18,7 +18,7 @@ use crate::turn_lists::{Neighbours, keeps, listed};
 use crate::turn_pairs::TurnPairs;
 use crate::turn_units::{Left, Right, TurnOutcome, is_joiner, unless};
 use crate::turn_walk::{Walker, walk};
-use seg_pairs::provider::{BreakState, RuleBreakData};
+use seg_pair_data::provider::{BreakState, RuleBreakData};
 use seg_pairs::walk::{entry_after, entry_at_start, is_class, state_named};
 use seg_text::cursor::Cursor;
 

@@ -39,7 +39,7 @@ use seg_line_rules::options::LineStyle;
 use seg_machine::provider::SegmenterStateMachine;
 use seg_memo::memo::{MemoBreakIterator, MemoError};
 use seg_memo::reader::CountedTransitions;
-use seg_pairs::provider::RuleBreakData;
+use seg_pair_data::provider::RuleBreakData;
 use seg_text::cursor::Cursor;
 use seg_text::indices::{Latin1Indices, StrCharIndices, Utf8CharIndices, Utf16Indices};
 use seg_text::scaffold::{Latin1, PotentiallyIllFormedUtf8, RuleBreakType, Utf8, Utf16};

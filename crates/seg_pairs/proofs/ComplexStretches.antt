@@ -9,7 +9,7 @@ use Rattle.seg_text.specs.Boundaries.{shift_all, RisesTo}
 use Rattle.seg_text.specs.Cuts.{Cuts, with_status}
 use Rattle.seg_text.specs.Stretches.{Stretch, later_boundaries_within, later_boundaries, HasProgress, IsWithin}
 use Rattle.seg_data.specs.Table.{Table}
-use Rattle.seg_pairs.specs.PairTable.{PairTable, class_of}
+use Rattle.seg_pair_data.specs.PairTable.{PairTable, class_of}
 use Rattle.seg_pairs.specs.Verdict.{Verdict, verdict, complex_verdict}
 use Rattle.seg_pairs.specs.Verdict.Verdict.{BreakAfter, GoAfter, RunBegins}
 use Rattle.seg_pairs.specs.Chains.{TakesOf, IsForward}

@@ -1,4 +1,3 @@
-pub mod Pairs
 pub mod Walks
 pub mod Landings
 pub mod Forward

@@ -1,9 +1,9 @@
 -- A text as items and as elements, of which the first is read already.
 use Rattle.std.specs.Prelude.{◌≡◌, ◌<◌, Option, None, [], IfSome}
 use Rattle.seg_text.specs.Items.{Text}
-use Rattle.seg_pairs.specs.declared.pair_data.PairDataBorrowed.{PairDataBorrowed}
+use Rattle.seg_pair_data.specs.declared.pair_data.PairDataBorrowed.{PairDataBorrowed}
 use Rattle.seg_pairs.specs.declared.elements.Element.{Element}
-use Rattle.seg_pairs.specs.PairData.{pair_table_of}
+use Rattle.seg_pair_data.specs.PairData.{pair_table_of}
 use Rattle.seg_pairs.specs.Elements.{onto}
 use Rattle.seg_pairs.specs.Items.{elements_of}
 

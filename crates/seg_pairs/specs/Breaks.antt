@@ -4,7 +4,7 @@ use Rattle.seg_text.specs.declared.boundary.Boundary.{Boundary}
 use Rattle.seg_text.specs.Boundaries.{boundary}
 use Rattle.seg_text.specs.Stretches.{Stretch, list_boundaries}
 use Rattle.seg_data.specs.Table.{Table}
-use Rattle.seg_pairs.specs.PairTable.{PairTable, class_of}
+use Rattle.seg_pair_data.specs.PairTable.{PairTable, class_of}
 use Rattle.seg_pairs.specs.Verdict.{Verdict, verdict}
 use Rattle.seg_pairs.specs.Verdict.Verdict.{BreakAfter, GoAfter, RunBegins}
 

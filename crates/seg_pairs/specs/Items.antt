@@ -1,8 +1,8 @@
 -- The items of a text as elements.
 use Rattle.std.specs.Prelude.{true, false, List, map}
 use Rattle.seg_text.specs.Items.{Item}
-use Rattle.seg_pairs.specs.declared.pair_data.PairDataBorrowed.{PairDataBorrowed}
-use Rattle.seg_pairs.specs.PairData.{class_by}
+use Rattle.seg_pair_data.specs.declared.pair_data.PairDataBorrowed.{PairDataBorrowed}
+use Rattle.seg_pair_data.specs.PairData.{class_by}
 use Rattle.seg_pairs.specs.declared.elements.Element.{Element}
 
 -- an item with the class of its code point

@@ -1,8 +1,3 @@
-pub mod BreakStates
-pub mod PairTable
-pub mod PairFaults
-pub mod PairData
-pub mod Overriding
 pub mod Elements
 pub mod Items
 pub mod Walk
@@ -14,4 +9,3 @@ pub mod Steps
 pub mod Runs
 pub mod Ahead
 pub mod Rows
-pub mod Lemmas

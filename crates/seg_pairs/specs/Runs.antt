@@ -8,11 +8,11 @@ use Rattle.seg_text.specs.Boundaries.{boundary, boundaries_in}
 use Rattle.seg_text.specs.Cuts.{Cuts, AreCutsOf, with_status, cut_places}
 use Rattle.seg_text.specs.Stretches.{Stretch, later_boundaries}
 use Rattle.seg_data.specs.Table.{Table}
-use Rattle.seg_pairs.specs.declared.pair_data.PairDataBorrowed.{PairDataBorrowed}
+use Rattle.seg_pair_data.specs.declared.pair_data.PairDataBorrowed.{PairDataBorrowed}
 use Rattle.seg_pairs.specs.declared.runs.Event.{Event}
 use Rattle.seg_pairs.specs.declared.runs.Event.TheVariants.{End, Break, Run}
-use Rattle.seg_pairs.specs.PairData.{pair_table_of, override_of}
-use Rattle.seg_pairs.specs.PairTable.{PairTable, class_of}
+use Rattle.seg_pair_data.specs.PairData.{pair_table_of, override_of}
+use Rattle.seg_pair_data.specs.PairTable.{PairTable, class_of}
 use Rattle.seg_pairs.specs.Verdict.{Verdict, complex_verdict}
 use Rattle.seg_pairs.specs.Verdict.Verdict.{BreakAfter, GoAfter, RunBegins}
 use Rattle.seg_pairs.specs.Breaks.{status_of, stretch_of, classes_by}

@@ -1,9 +1,9 @@
 -- Where a walk over elements stops.
 use Rattle.std.specs.Prelude.{◌≡◌, ℕ, suc, Option, Some, None, List, [], ◌∷◌, drop}
 use Rattle.std.specs.Option.{option_map_or}
-use Rattle.seg_pairs.specs.declared.provider.pairs.BreakState.{BreakState}
-use Rattle.seg_pairs.specs.BreakStates.{named_state}
-use Rattle.seg_pairs.specs.PairTable.{PairTable, entry_of}
+use Rattle.seg_pair_data.specs.declared.provider.pairs.BreakState.{BreakState}
+use Rattle.seg_pair_data.specs.BreakStates.{named_state}
+use Rattle.seg_pair_data.specs.PairTable.{PairTable, entry_of}
 use Rattle.seg_pairs.specs.declared.elements.Element.{Element}
 use Rattle.seg_pairs.specs.Elements.{classes_of, onto}
 use Rattle.seg_pairs.specs.Walk.{Walk}

@@ -1,12 +1,12 @@
 //! Laws of boundaries by pair tables.
 
 ghost use Rattle.std.specs.Prelude.{◌≡◌, ℕ, List, [], ◌∷◌, Contains};
-ghost use Rattle.seg_pairs.specs.declared.provider.pairs.BreakState.TheVariants.{Index, Intermediate};
+ghost use Rattle.seg_pair_data.specs.declared.provider.pairs.BreakState.TheVariants.{Index, Intermediate};
 ghost use Rattle.seg_pairs.specs.Rows.{breaks_of, retreat_table, composite_table};
 ghost use Rattle.seg_pairs.specs.Verdict.{verdict, complex_verdict};
 ghost use Rattle.seg_text.specs.Boundaries.{boundary};
 
-use crate::provider::RuleBreakData;
+use seg_pair_data::provider::RuleBreakData;
 
 /// Law: no run begins where no element is complex: the verdicts are
 /// those of the table alone.

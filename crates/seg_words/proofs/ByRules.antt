@@ -9,7 +9,7 @@ use Rattle.seg_text.proofs.Stretches.{one-answer}
 use Rattle.seg_data.specs.Table.{Table}
 use Rattle.seg_machine.specs.Segments.{machine_stretch}
 use Rattle.seg_machine.proofs.Segmentations.{machine-going, machine-alone}
-use Rattle.seg_pairs.specs.PairTable.{PairTable}
+use Rattle.seg_pair_data.specs.PairTable.{PairTable}
 use Rattle.seg_pairs.specs.Breaks.{table_stretch}
 use Rattle.seg_pairs.specs.Runs.{HasComplexElement, complex_stretch}
 use Rattle.seg_pairs.proofs.ComplexStretches.{complex-going, none-after, without-complex}

@@ -6,8 +6,8 @@ use Rattle.seg_data.specs.Faults.{number_of, IsFaultless, IsLowestFault}
 use Rattle.seg_data.specs.Table.{Table}
 use Rattle.seg_machine.specs.Machine.{Machine}
 use Rattle.seg_machine.specs.MachineFaults.{HasComplexBelow0100}
-use Rattle.seg_pairs.specs.PairTable.{PairTable}
-use Rattle.seg_pairs.specs.PairFaults.{HasPairDataFault, HasComplexClassBelow0100}
+use Rattle.seg_pair_data.specs.PairTable.{PairTable}
+use Rattle.seg_pair_data.specs.PairFaults.{HasPairDataFault, HasComplexClassBelow0100}
 use Rattle.seg_words.specs.WordFaults.{HasOwnFault, HasWordTableFault, HasWordMachineFault}
 
 own-cases : (t : PairTable) (o : Option Table) (fault : DataError) → HasOwnFault t o fault

@@ -11,7 +11,7 @@ use Rattle.seg_text.proofs.Covers.{covers}
 use Rattle.seg_text.proofs.Stretches.{text-later-nil}
 use Rattle.seg_data.specs.Table.{Table}
 use Rattle.seg_pairs.specs.declared.runs.Event.TheVariants.{Run}
-use Rattle.seg_pairs.specs.PairTable.{PairTable}
+use Rattle.seg_pair_data.specs.PairTable.{PairTable}
 use Rattle.seg_pairs.specs.Runs.{Unread, LeadsTo, GoesOn, complex_stretch, run_status, unread_boundaries}
 use Rattle.seg_pairs.proofs.ComplexStretches.{complex-within}
 use Rattle.seg_complex.specs.RunCuts.{PieceCuts, CoverPieces, run_cuts}

@@ -5,8 +5,8 @@ use Rattle.seg_data.specs.declared.provider.DataError.TheVariants.{ClassOutOfRan
 use Rattle.seg_data.specs.Table.{Table}
 use Rattle.seg_machine.specs.Machine.{Machine}
 use Rattle.seg_machine.specs.MachineFaults.{HasComplexBelow0100}
-use Rattle.seg_pairs.specs.PairTable.{PairTable}
-use Rattle.seg_pairs.specs.PairFaults.{HasPairDataFault, HasComplexClassBelow0100}
+use Rattle.seg_pair_data.specs.PairTable.{PairTable}
+use Rattle.seg_pair_data.specs.PairFaults.{HasPairDataFault, HasComplexClassBelow0100}
 
 -- the faults of a pair table of words with its override
 abbrev pub HasOwnFault : PairTable → Option Table → DataError → Type 0

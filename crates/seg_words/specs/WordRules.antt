@@ -8,7 +8,7 @@ use Rattle.seg_text.specs.Stretches.{Stretch, later_boundaries, list_boundaries}
 use Rattle.seg_data.specs.Table.{Table}
 use Rattle.seg_machine.specs.Machine.{Machine}
 use Rattle.seg_machine.specs.Segments.{machine_stretch}
-use Rattle.seg_pairs.specs.PairTable.{PairTable}
+use Rattle.seg_pair_data.specs.PairTable.{PairTable}
 use Rattle.seg_pairs.specs.Runs.{HasComplexElement, complex_stretch}
 use Rattle.seg_engine.specs.Rules.{Rules, boundaries_by}
 use Rattle.seg_engine.specs.Rules.Rules.{ByTable, ByMachine}

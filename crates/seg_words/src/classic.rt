@@ -4,14 +4,14 @@ ghost use Rattle.std.specs.Prelude.{◌≡◌, ⊤};
 ghost use Rattle.std.specs.Iterator.{YieldsFirst, MakesProgress, item_count};
 ghost use Rattle.seg_text.specs.Items.{start_of};
 ghost use Rattle.seg_text.specs.Boundaries.{GivesNext, IsCover, offsets_left};
-ghost use Rattle.seg_pairs.specs.PairData.{pair_table_of, override_of};
+ghost use Rattle.seg_pair_data.specs.PairData.{pair_table_of, override_of};
 ghost use Rattle.seg_engine.specs.Rules.Rules.{ByTable};
 ghost use Rattle.seg_complex.specs.Payloads.{payloads_of};
 ghost use Rattle.seg_words.specs.WordRules.{word_boundaries_of};
 
 use seg_complex::complex::ComplexPayloadsBorrowed;
 use seg_complex::runs::RunCuts;
-use seg_pairs::pair_data::PairDataBorrowed;
+use seg_pair_data::pair_data::PairDataBorrowed;
 use seg_pairs::rule_segmenter_v1::rule_status;
 use seg_pairs::runs::{Event, Events};
 use seg_text::cursor::Cursor;

@@ -13,7 +13,7 @@ use icu_segmenter::{
     GraphemeClusterSegmenter, GraphemeClusterSegmenterBorrowed, SentenceSegmenter,
     SentenceSegmenterBorrowed,
 };
-use seg_pairs::pair_data::PairDataBorrowed;
+use seg_pair_data::pair_data::PairDataBorrowed;
 use seg_pairs::rule_segmenter_v1::RuleBreakIterator;
 use std::alloc::{AllocError, Global};
 use std::process::Abort;

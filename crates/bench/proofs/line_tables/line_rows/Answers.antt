@@ -1,5 +1,5 @@
 use Rattle.std.proofs.Common.{List, ◌++◌, ◌∙◌, ap, sym}
-use Rattle.seg_pairs.specs.declared.provider.pairs.BreakState.{BreakState}
+use Rattle.seg_pair_data.specs.declared.provider.pairs.BreakState.{BreakState}
 use Rattle.bench.specs.LineTables.{line_row, line_rows}
 use Rattle.bench.proofs.LineFaults.{rows-next}
 use Rattle.bench.proofs.line_tables.line_rows.Goals as goal
