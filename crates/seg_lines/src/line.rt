@@ -19,8 +19,6 @@ mod dictionaries;
 mod neo;
 mod options;
 mod tailorings;
-#[cfg(test)]
-mod tests;
 
 use crate::boundaries::Boundaries;
 use crate::finder::{Finder, OwnedFinder};

@@ -1,12 +1,13 @@
-use crate::boundaries::TurnLines;
-use crate::laws;
-use crate::turn_pairs::{OwnedTurnPairs, TurnPairs};
+// Lines by the rules of the engine 17.
 use seg_clusters::grapheme::GraphemeClusterSegmenter;
 use seg_complex::complex::ComplexPayloadsBorrowed;
 use seg_data::provider::{ClassTable, DataError};
 use seg_dictionary::dictionaries::Dictionaries;
 use seg_dictionary::provider::DictionaryBreakData;
 use seg_line_rules::options::{LineBreakStrictness, LineBreakWordOption, LineStyle};
+use seg_line_turns::boundaries::TurnLines;
+use seg_line_turns::laws;
+use seg_line_turns::turn_pairs::{OwnedTurnPairs, TurnPairs};
 use seg_pair_data::provider::{BreakState, RuleBreakData};
 use seg_text::indices::StrCharIndices;
 use std::alloc::Global;

@@ -1,12 +1,15 @@
-use crate::boundaries::ClassicLines;
-use crate::laws;
-use crate::line_pairs::LinePairs;
-use crate::options::{LineBreakOptions, LineBreakStrictness, LineBreakWordOption, LineStyle};
+// Lines by pair tables, over units.
 use seg_clusters::grapheme::GraphemeClusterSegmenter;
 use seg_complex::complex::ComplexPayloadsBorrowed;
 use seg_data::provider::{ClassTable, DataError, LanguageIdentifier};
 use seg_dictionary::dictionaries::Dictionaries;
 use seg_dictionary::provider::DictionaryBreakData;
+use seg_line_rules::boundaries::ClassicLines;
+use seg_line_rules::laws;
+use seg_line_rules::line_pairs::LinePairs;
+use seg_line_rules::options::{
+    LineBreakOptions, LineBreakStrictness, LineBreakWordOption, LineStyle,
+};
 use seg_pair_data::provider::{BreakState, RuleBreakData};
 use seg_text::cursor::Cursor;
 use seg_text::indices::{StrCharIndices, Utf8CharIndices, Utf16Indices};
