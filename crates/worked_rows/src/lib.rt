@@ -9,6 +9,8 @@ mod memos;
 #[cfg(test)]
 mod runs;
 #[cfg(test)]
+mod samples;
+#[cfg(test)]
 mod turns;
 #[cfg(test)]
 mod units;
