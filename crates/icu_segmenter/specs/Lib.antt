@@ -37,6 +37,14 @@ pub use Rattle.seg_line_rules.specs.LineLists
 pub use Rattle.seg_line_rules.specs.LineVerdict
 pub use Rattle.seg_line_rules.specs.LineBoundaries
 pub use Rattle.seg_line_rules.specs.LineFaults
+pub use Rattle.seg_line_turns.specs.TurnClasses
+pub use Rattle.seg_line_turns.specs.TurnSets
+pub use Rattle.seg_line_turns.specs.TurnReadings
+pub use Rattle.seg_line_turns.specs.TurnUnits
+pub use Rattle.seg_line_turns.specs.TurnLists
+pub use Rattle.seg_line_turns.specs.Turns
+pub use Rattle.seg_line_turns.specs.TurnBoundaries
+pub use Rattle.seg_line_turns.specs.TurnFaults
 pub use Rattle.seg_lines.specs.Options
 pub use Rattle.seg_lines.specs.Tailorings
 pub use Rattle.seg_lines.specs.LineTailorings

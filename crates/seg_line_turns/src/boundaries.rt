@@ -52,6 +52,14 @@ impl<'data, I: Cursor> TurnLines<'data, I> {
             started: false,
         }
     }
+
+    /// The status of the boundary that was given last: 0.
+    pub fn status(&self) -> u8
+        ensures { result ≡ self.now.status }
+    {
+        let _ = &self.started;
+        0
+    }
 }
 
 impl<'data, I: Cursor> Iterator for TurnLines<'data, I> {

@@ -1,7 +1,8 @@
 -- Laws of the boundaries of lines.
-use Rattle.std.proofs.Common.{◌≡◌, ℕ, List, drop, refl, ap, ◌∙◌, subst}
+use Rattle.std.proofs.Common.{◌≡◌, ℕ, List, ◌∷◌, drop, refl, ap, ◌∙◌, subst}
+use Rattle.std.specs.Prelude.{true, false}
 use Rattle.seg_text.specs.declared.boundary.Boundary.{Boundary}
-use Rattle.seg_text.specs.Boundaries.{RestartsIn}
+use Rattle.seg_text.specs.Boundaries.{RestartsIn, start}
 use Rattle.seg_text.specs.Stretches.{HasOneAnswer, later_boundaries}
 use Rattle.seg_text.proofs.Restarts.{restarts, restarts-as}
 use Rattle.seg_text.proofs.Stretches.{later-are, later-only, one-answer}
@@ -31,12 +32,15 @@ use Rattle.seg_line_rules.specs.LineRules.{LineRules as TableRules}
 use Rattle.seg_line_rules.specs.MarkLaw.{KeepsMarks}
 use Rattle.seg_line_rules.proofs.LineRestarts.{line-restarts}
 use Rattle.seg_line_rules.proofs.LineStretches.{line-going}
+use Rattle.seg_line_turns.specs.TurnBoundaries.{later_turns, turn_boundaries}
+use Rattle.seg_line_turns.specs.TurnPairs.{turn_rules_by}
+use Rattle.seg_line_turns.proofs.TurnStretches.{one-list}
 use Rattle.seg_lines.specs.Joined.{joined}
 use Rattle.seg_lines.specs.LineBreaks.{AreBoundariesWith, HasNoCuts, HasOneList, LineFinder, LineRules, boundaries_with, line_boundaries_by, with_words}
-use Rattle.seg_lines.specs.LineBreaks.LineFinder.{ByClusters, ByPlaces, ByTable, ByMachine}
+use Rattle.seg_lines.specs.LineBreaks.LineFinder.{ByClusters, ByPlaces, ByTable, ByTurns, ByMachine}
 use Rattle.seg_lines.specs.Lines.{finder_of}
 use Rattle.seg_lines.specs.declared.finder.Finder.{Finder}
-use Rattle.seg_lines.specs.declared.finder.Finder.TheVariants.{Clusters, Places, Table, Machine}
+use Rattle.seg_lines.specs.declared.finder.Finder.TheVariants.{Clusters, Places, Table, Turns, Machine}
 use Rattle.seg_machine.specs.declared.tailored_machine.TailoredMachineBorrowed.{TailoredMachineBorrowed}
 use Rattle.seg_lines.proofs.JoinCover.{cuts-rising, plain-rising}
 use Rattle.seg_lines.proofs.JoinMembers.{is-join, one-join}
@@ -63,6 +67,15 @@ one-by-table rules payloads =
     let stretch = line_stretch (inside (run_cuts_by payloads)) rules in
     let one = one-answer stretch (line-going rules (inside (run_cuts_by payloads))) in
     record { exists = one.exists; only = one.only }
+
+pub one-by-turns : (rules : TableRules) (payloads : Payloads) → HasOneList (record { finder = ByTurns rules; payloads = payloads })
+one-by-turns rules payloads =
+    let cuts = inside (run_cuts_by payloads) in
+    let one = one-list cuts rules in
+    record {
+      exists = λ code_points. let turns = one.exists code_points in (turns.0, (later_turns cuts rules true false code_points, (turns.1, refl)));
+      only = λ code_points found are. are.1.1.1 ∙ ap (λ (later : List Boundary). start ∷ later) (one.only code_points are.0 are.1.0 are.1.1.0);
+    }
 
 -- by a machine of lines
 
@@ -93,6 +106,7 @@ pub one-by : (finder : Finder) (payloads : Payloads) → ((machine : TailoredMac
 one-by Clusters payloads none = one-by-clusters payloads
 one-by Places payloads none = one-by-places payloads
 one-by (Table pairs) payloads none = one-by-table (rules_by pairs) payloads
+one-by (Turns pairs) payloads none = one-by-turns (turn_rules_by pairs) payloads
 one-by (Machine machine) payloads none = absurd (none machine refl)
 
 -- without words of any script nothing is joined
@@ -106,6 +120,7 @@ restarts-with : (finder : LineFinder) (payloads : Payloads) (code_points : List 
 restarts-with ByClusters payloads code_points none = restarts-by payloads.clusters code_points
 restarts-with ByPlaces payloads code_points none = restarts-plain (boundaries_by payloads.clusters) code_points (restarts-by payloads.clusters code_points)
 restarts-with (ByTable rules) payloads code_points none = line-restarts rules (inside (run_cuts_by payloads)) code_points none
+restarts-with (ByTurns rules) payloads code_points none = absurd none
 restarts-with (ByMachine m) payloads code_points none =
     restarts-as (boundaries_with (ByMachine m) payloads) (machine_boundaries m) code_points
     (λ n. without-cuts m payloads (drop n code_points) none) (restarts (machine_stretch m) (machine-going m) (machine-alone m) code_points)
@@ -121,6 +136,7 @@ same-with : (finder : LineFinder) (payloads : Payloads) (others : ScriptWords) �
 same-with ByClusters payloads others same = refl
 same-with ByPlaces payloads others same = refl
 same-with (ByTable rules) payloads others same = ap (λ (cuts : Cuts). line_boundaries (inside cuts) rules) (same-run-cuts payloads others same)
+same-with (ByTurns rules) payloads others same = ap (λ (cuts : Cuts). turn_boundaries (inside cuts) rules) (same-run-cuts payloads others same)
 same-with (ByMachine m) payloads others same =
     ap (λ (cuts : List ℕ → List ℕ). (λ code_points. joined (machine_boundaries m code_points) (cuts code_points))) (same-inner-cuts m payloads others same)
 
@@ -134,6 +150,7 @@ rules-in : LineFinder → TableRules → TableRules
 rules-in ByClusters other = other
 rules-in ByPlaces other = other
 rules-in (ByTable rules) other = rules
+rules-in (ByTurns rules) other = other
 rules-in (ByMachine m) other = other
 
 pub marks-by-table : (own rules : TableRules) (payloads : Payloads) (code_points : List ℕ) → ByTable own ≡ ByTable rules
@@ -145,5 +162,6 @@ marks-by-table own rules payloads code_points is keeps =
 pub no-table : (finder : Finder) (rules : TableRules) → ((pairs : LinePairs) → finder ≡ Table pairs → ⊥) → finder_of finder ≡ ByTable rules → ⊥
 no-table Clusters rules none is = absurd cc
 no-table Places rules none is = absurd cc
+no-table (Turns pairs) rules none is = absurd cc
 no-table (Machine machine) rules none is = absurd cc
 no-table (Table pairs) rules none is = none pairs refl

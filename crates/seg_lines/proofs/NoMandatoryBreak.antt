@@ -1,6 +1,6 @@
--- Lines by a pair table have no mandatory break: each stretch has boundaries of status 0 alone.
+-- Lines by a pair table have no mandatory break: each stretch, or turn, has boundaries of status 0 alone.
 use Rattle.std.proofs.Common.{◌≡◌, ℕ, zero, suc, List, [], ◌∷◌, ◌++◌, drop, length, refl, sym, ap, ◌∙◌}
-use Rattle.std.specs.Prelude.{Option, Some, slice_get}
+use Rattle.std.specs.Prelude.{Bool, true, false, Option, Some, slice_get}
 use Rattle.std.proofs.lemmas.Option.{none-some, same_Some}
 use Rattle.seg_text.specs.declared.boundary.Boundary.{Boundary}
 use Rattle.seg_text.specs.Boundaries.{shift_all, offsets}
@@ -12,8 +12,11 @@ use Rattle.seg_engine.specs.Rules.{boundaries_by}
 use Rattle.seg_complex.specs.Payloads.{Payloads, run_cuts_by}
 use Rattle.seg_line_rules.specs.LineBoundaries.{inside, complex_length, line_stretch, line_stretch_of, line_verdict}
 use Rattle.seg_line_rules.specs.LineRules.{LineRules as TableRules}
+use Rattle.seg_line_turns.specs.TurnBoundaries.{later_turns, stretch_of, turn_stretch, turns_within}
+use Rattle.seg_line_turns.specs.Turns.{Turn, first_unit, turn}
+use Rattle.seg_line_turns.specs.Turns.Turn.{BreakAt, GoTo, RunAt}
 use Rattle.seg_lines.specs.LineBreaks.{LineFinder, boundaries_with}
-use Rattle.seg_lines.specs.LineBreaks.LineFinder.{ByClusters, ByPlaces, ByTable, ByMachine}
+use Rattle.seg_lines.specs.LineBreaks.LineFinder.{ByClusters, ByPlaces, ByTable, ByTurns, ByMachine}
 use Rattle.seg_lines.specs.Unmarked.{HasNoMandatoryBreak, IsByPairTable}
 
 AreUnmarked : List Boundary → Type 0
@@ -65,6 +68,29 @@ by-verdict cuts rules code_points RunBegins = unmarked-at _
 in-lines : (cuts : Cuts) (rules : TableRules) (code_points : List ℕ) → AreUnmarked (later_boundaries (line_stretch cuts rules) code_points)
 in-lines cuts rules = later (line_stretch cuts rules) (λ code_points. by-verdict cuts rules code_points (line_verdict rules code_points))
 
+by-turn : (cuts : Cuts) (rules : TableRules) (code_points : List ℕ) (found : Turn) → AreUnmarked (stretch_of cuts rules code_points found).boundaries
+unfolding AreUnmarked
+by-turn cuts rules code_points (BreakAt place resume) = (refl, tt)
+by-turn cuts rules code_points (GoTo place opened) = tt
+by-turn cuts rules code_points (RunAt first opened) = unmarked-later first _ (unmarked-at _)
+
+within-turns : (cuts : Cuts) (rules : TableRules) (most : ℕ) (starts opened : Bool) (code_points : List ℕ)
+    → AreUnmarked (turns_within cuts rules most starts opened code_points)
+unfolding turns_within AreUnmarked
+within-turns cuts rules zero starts opened code_points = tt
+within-turns cuts rules (suc most) starts opened [] = tt
+within-turns cuts rules (suc most) starts opened (c ∷ code_points) =
+    let stretch = turn_stretch cuts rules starts opened c code_points in
+    let rest = drop stretch.extent (c ∷ code_points) in
+    let later = turns_within cuts rules most false stretch.opened rest in
+    unmarked-both stretch.boundaries (shift_all stretch.extent later)
+    (by-turn cuts rules (c ∷ code_points) (turn rules opened (first_unit rules starts c) code_points))
+    (unmarked-later stretch.extent later (within-turns cuts rules most false stretch.opened rest))
+
+in-turns : (cuts : Cuts) (rules : TableRules) (code_points : List ℕ) → AreUnmarked (later_turns cuts rules true false code_points)
+unfolding later_turns
+in-turns cuts rules code_points = within-turns cuts rules (length code_points) true false code_points
+
 pub no-mandatory : (finder : LineFinder) (payloads : Payloads) → IsByPairTable finder → (code_points : List ℕ) → HasNoMandatoryBreak (boundaries_with finder payloads code_points)
 unfolding AreUnmarked
 no-mandatory ByClusters payloads by code_points = absurd by
@@ -73,3 +99,5 @@ no-mandatory ByPlaces payloads by code_points =
     unmarked-each (boundaries_with ByPlaces payloads code_points) (unmarked-at (offsets (boundaries_by payloads.clusters code_points)))
 no-mandatory (ByTable rules) payloads by code_points =
     unmarked-each (boundaries_with (ByTable rules) payloads code_points) (refl, in-lines (inside (run_cuts_by payloads)) rules code_points)
+no-mandatory (ByTurns rules) payloads by code_points =
+    unmarked-each (boundaries_with (ByTurns rules) payloads code_points) (refl, in-turns (inside (run_cuts_by payloads)) rules code_points)

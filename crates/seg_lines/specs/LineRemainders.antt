@@ -1,10 +1,11 @@
--- What either engine of lines has still to give.
+-- What each engine of lines has still to give.
 use Rattle.seg_text.specs.Boundaries.{Remainder}
 use Rattle.seg_lines.specs.declared.boundaries.BoundariesBy.{BoundariesBy}
-use Rattle.seg_lines.specs.declared.boundaries.BoundariesBy.TheVariants.{Plain, Unmarked, Classic, Joined}
+use Rattle.seg_lines.specs.declared.boundaries.BoundariesBy.TheVariants.{Plain, Unmarked, Classic, Turns, Joined}
 
 abbrev pub remainder_by : {I : Type 0} → BoundariesBy I → Remainder
 remainder_by (Plain remainder) = remainder
 remainder_by (Unmarked remainder) = remainder
 remainder_by (Classic remainder) = remainder
+remainder_by (Turns remainder) = remainder
 remainder_by (Joined remainder) = remainder

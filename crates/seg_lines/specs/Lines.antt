@@ -13,12 +13,13 @@ use Rattle.seg_clusters.specs.Clusters.{owned_cluster_rules}
 use Rattle.seg_machine.specs.Tailored.{machine_of, owned_machine}
 use Rattle.seg_complex.specs.Payloads.{payloads_of}
 use Rattle.seg_lines.specs.declared.finder.Finder.{Finder}
-use Rattle.seg_lines.specs.declared.finder.Finder.TheVariants.{Clusters as LentClusters, Places as LentPlaces, Table as LentTable, Machine as LentMachine}
+use Rattle.seg_lines.specs.declared.finder.Finder.TheVariants.{Clusters as LentClusters, Places as LentPlaces, Table as LentTable, Turns as LentTurns, Machine as LentMachine}
 use Rattle.seg_lines.specs.declared.finder.OwnedFinder.{OwnedFinder}
-use Rattle.seg_lines.specs.declared.finder.OwnedFinder.TheVariants.{Clusters as OwnedClusters, Places as OwnedPlaces, Table as OwnedTable, Machine as OwnedMachine}
+use Rattle.seg_lines.specs.declared.finder.OwnedFinder.TheVariants.{Clusters as OwnedClusters, Places as OwnedPlaces, Table as OwnedTable, Turns as OwnedTurns, Machine as OwnedMachine}
 use Rattle.seg_line_rules.specs.LinePairs.{owned_rules_by, rules_by}
+use Rattle.seg_line_turns.specs.TurnPairs.{owned_turn_rules_by, turn_rules_by}
 use Rattle.seg_lines.specs.LineBreaks.{LineFinder, LineRules}
-use Rattle.seg_lines.specs.LineBreaks.LineFinder.{ByClusters, ByPlaces, ByTable, ByMachine}
+use Rattle.seg_lines.specs.LineBreaks.LineFinder.{ByClusters, ByPlaces, ByTable, ByTurns, ByMachine}
 use Rattle.seg_lines.specs.declared.line.options.MachineChoice.{MachineChoice}
 use Rattle.seg_lines.specs.declared.line.options.MachineChoice.TheVariants.{Clusters, Lines}
 use Rattle.seg_lines.specs.LineTailorings.{TailoringMaps}
@@ -63,12 +64,14 @@ abbrev pub finder_of : Finder → LineFinder
 finder_of LentClusters = ByClusters
 finder_of LentPlaces = ByPlaces
 finder_of (LentTable pairs) = ByTable (rules_by pairs)
+finder_of (LentTurns pairs) = ByTurns (turn_rules_by pairs)
 finder_of (LentMachine machine) = ByMachine (machine_of machine)
 
 abbrev pub owned_finder : OwnedFinder → LineFinder
 owned_finder OwnedClusters = ByClusters
 owned_finder OwnedPlaces = ByPlaces
 owned_finder (OwnedTable pairs) = ByTable (owned_rules_by pairs)
+owned_finder (OwnedTurns pairs) = ByTurns (owned_turn_rules_by pairs)
 owned_finder (OwnedMachine machine) = ByMachine (owned_machine machine)
 
 -- what a segmenter finds line breaks by

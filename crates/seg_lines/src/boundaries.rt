@@ -1,4 +1,5 @@
-//! The boundaries of lines: those of clusters or of a machine as they are, those of a pair table, or those of a machine joined with cuts.
+//! The boundaries of lines: those of clusters or of a machine as they are, those of a pair table, by verdicts on units or turn by turn, or
+//! those of a machine joined with cuts.
 
 ghost use Rattle.std.specs.Prelude.{◌≡◌, ⊤};
 ghost use Rattle.std.specs.Iterator.{YieldsFirst, MakesProgress, item_count};
@@ -17,6 +18,7 @@ use crate::unmarked::UnmarkedBoundaries;
 use seg_complex::complex::ComplexPayloadsBorrowed;
 use seg_engine::engine::{self, Engine};
 use seg_line_rules::boundaries::ClassicLines;
+use seg_line_turns::boundaries::TurnLines;
 use seg_machine::tailored_machine::TailoredMachineBorrowed;
 use seg_text::cursor::Cursor;
 use std::marker::Model;
@@ -36,6 +38,8 @@ enum BoundariesBy<'data, I: Cursor> {
     Unmarked(UnmarkedBoundaries<'data, I>),
     /// That of a pair table.
     Classic(ClassicLines<'data, I>),
+    /// That of a pair table of the engine 17.
+    Turns(TurnLines<'data, I>),
     /// That of a machine, joined with the cuts inside runs.
     Joined(JoinedBoundaries<'data, I>),
 }
@@ -90,6 +94,9 @@ impl<'data, I: Cursor> Boundaries<'data, I> {
             Finder::Table(pairs) => Boundaries {
                 by: BoundariesBy::Classic(ClassicLines::new(pairs, payloads, text)),
             },
+            Finder::Turns(pairs) => Boundaries {
+                by: BoundariesBy::Turns(TurnLines::new(pairs, payloads, text)),
+            },
             Finder::Machine(machine) => Boundaries {
                 by: BoundariesBy::by_machine(machine, payloads, text),
             },
@@ -104,6 +111,7 @@ impl<'data, I: Cursor> Boundaries<'data, I> {
             BoundariesBy::Plain(engine) => engine.status(),
             BoundariesBy::Unmarked(places) => places.status(),
             BoundariesBy::Classic(engine) => engine.status(),
+            BoundariesBy::Turns(engine) => engine.status(),
             BoundariesBy::Joined(engine) => engine.status(),
         }
     }
@@ -125,6 +133,7 @@ impl<'data, I: Cursor> Iterator for Boundaries<'data, I> {
             BoundariesBy::Plain(engine) => engine.next(),
             BoundariesBy::Unmarked(places) => places.next(),
             BoundariesBy::Classic(engine) => engine.next(),
+            BoundariesBy::Turns(engine) => engine.next(),
             BoundariesBy::Joined(engine) => engine.next(),
         }
     }

@@ -2,11 +2,14 @@
 
 ghost use Rattle.std.specs.Prelude.{◌≡◌};
 ghost use Rattle.seg_line_rules.specs.LinePairs.{owned_rules_by, rules_by};
-ghost use Rattle.seg_lines.specs.LineBreaks.{table_finder};
+ghost use Rattle.seg_line_turns.specs.TurnPairs.{owned_turn_rules_by, turn_rules_by};
+ghost use Rattle.seg_lines.specs.LineBreaks.LineFinder.{ByTable, ByTurns};
+ghost use Rattle.seg_lines.specs.LineBreaks.{unless_anywhere};
 ghost use Rattle.seg_lines.specs.Lines.{finder_of, owned_finder};
 
 use seg_line_rules::line_pairs::{LinePairs, OwnedLinePairs};
 use seg_line_rules::options::LineBreakStrictness;
+use seg_line_turns::turn_pairs::{OwnedTurnPairs, TurnPairs};
 use seg_machine::tailored_machine::{TailoredMachine, TailoredMachineBorrowed};
 
 /// What the breaks of lines are found by.
@@ -18,6 +21,8 @@ pub(crate) enum OwnedFinder {
     Places,
     /// A pair table of lines, with what options say.
     Table(OwnedLinePairs),
+    /// A pair table of lines of the engine 17, with what options say.
+    Turns(OwnedTurnPairs),
     /// A machine of lines, with its tailoring.
     Machine(TailoredMachine),
 }
@@ -25,11 +30,21 @@ pub(crate) enum OwnedFinder {
 impl OwnedFinder {
     /// That of a pair table under this strictness.
     pub(crate) fn of_table(strictness: LineBreakStrictness, pairs: OwnedLinePairs) -> Self
-        ensures { owned_finder result ≡ table_finder strictness (owned_rules_by pairs) }
+        ensures { owned_finder result ≡ unless_anywhere strictness (ByTable (owned_rules_by pairs)) }
     {
         match strictness {
             LineBreakStrictness::Anywhere => OwnedFinder::Places,
             _ => OwnedFinder::Table(pairs),
+        }
+    }
+
+    /// That of a pair table of the engine 17 under this strictness.
+    pub(crate) fn of_turns(strictness: LineBreakStrictness, pairs: OwnedTurnPairs) -> Self
+        ensures { owned_finder result ≡ unless_anywhere strictness (ByTurns (owned_turn_rules_by pairs)) }
+    {
+        match strictness {
+            LineBreakStrictness::Anywhere => OwnedFinder::Places,
+            _ => OwnedFinder::Turns(pairs),
         }
     }
 
@@ -41,6 +56,7 @@ impl OwnedFinder {
             OwnedFinder::Clusters => Finder::Clusters,
             OwnedFinder::Places => Finder::Places,
             OwnedFinder::Table(pairs) => Finder::Table(pairs.as_borrowed()),
+            OwnedFinder::Turns(pairs) => Finder::Turns(pairs.as_borrowed()),
             OwnedFinder::Machine(machine) => Finder::Machine(machine.as_borrowed()),
         }
     }
@@ -55,6 +71,8 @@ pub(crate) enum Finder<'data> {
     Places,
     /// A pair table of lines, with what options say.
     Table(LinePairs<'data>),
+    /// A pair table of lines of the engine 17, with what options say.
+    Turns(TurnPairs<'data>),
     /// A machine of lines, with its tailoring.
     Machine(TailoredMachineBorrowed<'data>),
 }
@@ -62,11 +80,21 @@ pub(crate) enum Finder<'data> {
 impl<'data> Finder<'data> {
     /// That of a pair table under this strictness.
     pub(crate) fn of_table(strictness: LineBreakStrictness, pairs: LinePairs<'data>) -> Self
-        ensures { finder_of result ≡ table_finder strictness (rules_by pairs.entry) }
+        ensures { finder_of result ≡ unless_anywhere strictness (ByTable (rules_by pairs.entry)) }
     {
         match strictness {
             LineBreakStrictness::Anywhere => Finder::Places,
             _ => Finder::Table(pairs),
+        }
+    }
+
+    /// That of a pair table of the engine 17 under this strictness.
+    pub(crate) fn of_turns(strictness: LineBreakStrictness, pairs: TurnPairs<'data>) -> Self
+        ensures { finder_of result ≡ unless_anywhere strictness (ByTurns (turn_rules_by pairs.entry)) }
+    {
+        match strictness {
+            LineBreakStrictness::Anywhere => Finder::Places,
+            _ => Finder::Turns(pairs),
         }
     }
 }

@@ -3,9 +3,13 @@
 ghost use Rattle.std.specs.Prelude.{◌≡◌, ℕ, List};
 ghost use Rattle.seg_text.specs.Boundaries.{HasEqualOrdinals, RestartsIn};
 ghost use Rattle.seg_dictionary.specs.ScriptWords.{ScriptWords, AreSameWords};
+ghost use Rattle.seg_complex.specs.Payloads.{run_cuts_by};
+ghost use Rattle.seg_line_rules.specs.LineBoundaries.{inside};
 ghost use Rattle.seg_line_rules.specs.LineRules.{LineRules as TableRules};
 ghost use Rattle.seg_line_rules.specs.MarkLaw.{KeepsMarks};
-ghost use Rattle.seg_lines.specs.LineBreaks.LineFinder.{ByTable};
+ghost use Rattle.seg_line_turns.specs.PlainTexts.{ArePlain, HasNoOpening, plain_boundaries, turn_units};
+ghost use Rattle.seg_line_turns.specs.TurnMarks.{KeepsTurnMarks, StartsBear};
+ghost use Rattle.seg_lines.specs.LineBreaks.LineFinder.{ByTable, ByTurns};
 ghost use Rattle.seg_lines.specs.LineBreaks.{HasNoCuts, HasOneList, LineRules, line_boundaries_by, with_words};
 ghost use Rattle.seg_lines.specs.Lines.{line_rules};
 ghost use Rattle.seg_lines.specs.Unmarked.{HasNoMandatoryBreak, IsByPairTable};
@@ -13,10 +17,11 @@ ghost use Rattle.seg_lines.specs.Unmarked.{HasNoMandatoryBreak, IsByPairTable};
 use crate::finder::Finder;
 use crate::line::LineSegmenterBorrowed;
 use seg_line_rules::laws;
+use seg_line_turns::laws as turn_laws;
 
 /// Law: a list of code points has exactly one list of boundaries, in code points. Where clusters are found, the first is at
-/// its start, and each other one comes from the first stretch of what is left; so it is by a pair table of lines. By a machine of lines it is the list that rises
-/// strictly and holds the machine's boundaries, the cuts strictly inside runs where the machine has none, with status 0, and
+/// its start, and each other one comes from the first stretch of what is left; so it is by a pair table of lines, and by the engine 17 from the first
+/// turn of what is left. By a machine of lines it is the list that rises strictly and holds the machine's boundaries, the cuts strictly inside runs where the machine has none, with status 0, and
 /// nothing else.
 pub fn boundaries_are_one(segmenter: LineSegmenterBorrowed<'_>)
     ensures { HasOneList (line_rules segmenter.entry) }
@@ -43,7 +48,8 @@ pub fn equal_words()
 
 /// Law: a text may be segmented anew from any of its boundaries, where clusters are found, where no code point of it is complex by
 /// the pair table (under `BreakAll` none is), or by a machine with no dictionary in any place: the boundaries after one of
-/// them are those of the rest taken alone, shifted, with the same statuses.
+/// them are those of the rest taken alone, shifted, with the same statuses. By the engine 17 no such law holds: the sample table has the boundaries 0, 1 and 3 in
+/// a space, a hyphen and a letter, and in what is left of them from 1 on 0, 1 and 2.
 pub fn restart(segmenter: LineSegmenterBorrowed<'_>)
     ensures { (code_points : List ℕ) → HasNoCuts (line_rules segmenter.entry).finder (line_rules segmenter.entry).payloads.words code_points
         → RestartsIn (line_boundaries_by (line_rules segmenter.entry)) code_points }
@@ -51,7 +57,7 @@ pub fn restart(segmenter: LineSegmenterBorrowed<'_>)
     let _ = segmenter;
 }
 
-/// Law: by a pair table no break is mandatory: the status of each boundary of every list of code points is 0.
+/// Law: by a pair table, by the engine 17 too, no break is mandatory: the status of each boundary of every list of code points is 0.
 pub fn no_mandatory_break(segmenter: LineSegmenterBorrowed<'_>)
     ensures { IsByPairTable (line_rules segmenter.entry).finder → (code_points : List ℕ)
         → HasNoMandatoryBreak (line_boundaries_by (line_rules segmenter.entry) code_points) }
@@ -69,4 +75,27 @@ pub fn mark_law(segmenter: LineSegmenterBorrowed<'_>)
     if let Finder::Table(pairs) = segmenter.finder {
         laws::mark_law(pairs);
     }
+}
+
+/// Law: by the engine 17, under every strictness but `Anywhere`, no boundary but that at 0 stands before a code point of class CM,
+/// CM_EASTASIAN or ZWJ, except after one of class BK, CR, LF, NL, SP or ZW, provided that the table reads no class at the start of a text as one of
+/// these six.
+pub fn mark_law_17(segmenter: LineSegmenterBorrowed<'_>)
+    ensures { (rules : TableRules) → (line_rules segmenter.entry).finder ≡ ByTurns rules → StartsBear rules.table → (code_points : List ℕ)
+        → KeepsTurnMarks rules code_points (line_boundaries_by (line_rules segmenter.entry) code_points) }
+{
+    segmenter.payloads.facts();
+    turn_laws::mark_law();
+}
+
+/// Law: by the engine 17, under every strictness but `Anywhere`, the boundaries of a plain text are those of the verdicts on units by which lines by
+/// a pair table are found, with the classes, readings, KeepAll set and lists of the engine 17. A text is plain where no code point has class IS, HY,
+/// HH, QU, QU_PI, QU_PF, SA or SA_MC_MN and no opening unit stands directly before a space.
+pub fn plain_texts(segmenter: LineSegmenterBorrowed<'_>)
+    ensures { (rules : TableRules) → (line_rules segmenter.entry).finder ≡ ByTurns rules → (code_points : List ℕ)
+        → ArePlain rules code_points → HasNoOpening (turn_units rules code_points)
+        → line_boundaries_by (line_rules segmenter.entry) code_points ≡ plain_boundaries (inside (run_cuts_by (line_rules segmenter.entry).payloads)) rules code_points }
+{
+    let _ = segmenter;
+    turn_laws::plain_texts();
 }

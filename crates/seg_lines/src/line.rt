@@ -11,7 +11,8 @@ ghost use Rattle.seg_memo.specs.Memos.{IsMemoRefusal, IsNewMemo};
 ghost use Rattle.seg_dictionary.specs.ScriptWords.{filled, lent_words, no_words, script_words};
 ghost use Rattle.seg_line_rules.specs.LineFaults.{HasLineTableFault};
 ghost use Rattle.seg_line_rules.specs.LineStyles.{style_of};
-ghost use Rattle.seg_lines.specs.LineBreaks.{line_boundaries_of, machine_of_lines, table_lines, with_words};
+ghost use Rattle.seg_line_turns.specs.TurnFaults.{HasTurnTableFault};
+ghost use Rattle.seg_lines.specs.LineBreaks.{line_boundaries_of, machine_of_lines, table_lines, turn_lines, with_words};
 ghost use Rattle.seg_lines.specs.Lines.{line_rules};
 ghost use Rattle.seg_lines.specs.Options.{machine_choice};
 
@@ -36,6 +37,7 @@ use seg_data::provider::DataError;
 use seg_dictionary::dictionaries::{Dictionaries, DictionariesBorrowed};
 use seg_line_rules::line_pairs::{LinePairs, OwnedLinePairs};
 use seg_line_rules::options::LineStyle;
+use seg_line_turns::turn_pairs::{OwnedTurnPairs, TurnPairs};
 use seg_machine::provider::SegmenterStateMachine;
 use seg_memo::memo::{MemoBreakIterator, MemoError};
 use seg_memo::reader::CountedTransitions;
@@ -175,6 +177,31 @@ impl LineSegmenter {
         Ok(segmenter)
     }
 
+    /// A segmenter by a pair table of lines of the engine 17, whose classes are those of `RuleBreakData::LINE_V3_PROPERTY_ID` and its kin, or, where the strictness
+    /// is `Anywhere`, by that of clusters alone; by neither a break is mandatory. A run of complex characters (those of class SA or SA_MC_MN, as the options read it) may also be
+    /// broken strictly inside, after each of its pieces of one script, until dictionaries are loaded. Of several faults that
+    /// with the lowest number: `ClassOutOfRange` where the table has no class ID, `StartRowKeeps` where no boundary stands
+    /// between the start of the text and some class of code points in clusters, `ComplexItems` where some code points are
+    /// complex in clusters, `ComplexBelow0100` where one below U+0100 has class SA or SA_MC_MN in lines, `ComplexClassNamed` where the complex
+    /// class isn't SA. Takes no memory.
+    pub fn try_new_17_for_non_complex_scripts(
+        table: RuleBreakData,
+        clusters: RuleBreakData,
+        options: LineBreakOptions<'_>,
+    ) -> Result<Self, DataError>
+        ensures accepted { IfOk result (λ segmenter. (owned_line_rules segmenter ≡ turn_lines (record { table = table; style = style_of options.entry }) clusters no_words)
+            × IsFaultless (HasTurnTableFault table clusters)) }
+        ensures refused { IfErr result (IsLowestFault (HasTurnTableFault table clusters)) }
+    {
+        let style = LineStyle::new(options);
+        let pairs = OwnedTurnPairs::try_new(table, &clusters, style)?;
+        Ok(LineSegmenter {
+            finder: OwnedFinder::of_turns(style.strictness, pairs),
+            clusters: GraphemeClusterSegmenter::try_new(clusters)?,
+            dictionaries: Dictionaries::none(),
+        })
+    }
+
     /// A segmenter by the state machine of lines, or by that of clusters where the strictness is
     /// `Anywhere` and the word option `Normal`, which refuses nothing. Otherwise
     /// `ComplexBelow0100` where a code point below U+0100 has a script, with the tailoring that the
@@ -282,6 +309,33 @@ impl<'data> LineSegmenterBorrowed<'data> {
             finder: Finder::of_table(style.strictness, pairs),
             payloads: ComplexPayloadsBorrowed::new(
                 lent_without_ja(dictionaries),
+                GraphemeClusterSegmenterBorrowed::new(clusters)?,
+            ),
+        })
+    }
+
+    /// A segmenter by a pair table of lines of the engine 17, whose classes are those of `RuleBreakData::LINE_V3_PROPERTY_ID` and its kin, or, where the strictness
+    /// is `Anywhere`, by that of clusters alone; by neither a break is mandatory. A run of complex characters (those of class SA or SA_MC_MN, as the options read it) may also be
+    /// broken strictly inside, after each of its pieces of one script, until dictionaries are loaded. Of several faults that
+    /// with the lowest number: `ClassOutOfRange` where the table has no class ID, `StartRowKeeps` where no boundary stands
+    /// between the start of the text and some class of code points in clusters, `ComplexItems` where some code points are
+    /// complex in clusters, `ComplexBelow0100` where one below U+0100 has class SA or SA_MC_MN in lines, `ComplexClassNamed` where the complex
+    /// class isn't SA. Takes no memory.
+    pub fn new_17_for_non_complex_scripts(
+        table: &'data RuleBreakData,
+        clusters: &'data RuleBreakData,
+        options: LineBreakOptions<'_>,
+    ) -> Result<Self, DataError>
+        ensures accepted { IfOk result (λ segmenter. (line_rules segmenter ≡ turn_lines (record { table = table.now; style = style_of options.entry }) clusters.now no_words)
+            × IsFaultless (HasTurnTableFault table.now clusters.now)) }
+        ensures refused { IfErr result (IsLowestFault (HasTurnTableFault table.now clusters.now)) }
+    {
+        let style = LineStyle::new(options);
+        let pairs = TurnPairs::try_new(table, clusters, style)?;
+        Ok(LineSegmenterBorrowed {
+            finder: Finder::of_turns(style.strictness, pairs),
+            payloads: ComplexPayloadsBorrowed::new(
+                DictionariesBorrowed::none(),
                 GraphemeClusterSegmenterBorrowed::new(clusters)?,
             ),
         })

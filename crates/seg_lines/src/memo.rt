@@ -30,7 +30,7 @@ pub(crate) fn memoised<'data, I: Cursor>(
 {
     match finder {
         Finder::Clusters => payloads.memoised(alloc, payloads.clusters.engine(), text),
-        Finder::Places | Finder::Table(_) => Err(MemoError::NotNeo),
+        Finder::Places | Finder::Table(_) | Finder::Turns(_) => Err(MemoError::NotNeo),
         Finder::Machine(machine) => payloads.memoised(alloc, Engine::Neo(machine), text),
     }
 }
