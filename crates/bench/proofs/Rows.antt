@@ -1,5 +1,6 @@
 -- The entries of a pair table by a rule for each: how many there are, and that none names a state past the last.
 use Rattle.std.proofs.Common.{◌≡◌, ℕ, zero, suc, ◌+◌, ◌*◌, Bool, true, false, List, [], ◌∷◌, ◌++◌, length, append-nil, append_assoc, if◌then◌else◌, refl, sym, arith}
+use Rattle.std.proofs.Math.Nat.{suc-mul, zero-mul}
 use Rattle.std.proofs.lemmas.List.{length-append}
 use Rattle.std.proofs.lemmas.List.Folds.{list_all-append}
 use Rattle.std.specs.List.{list_all}
@@ -40,8 +41,8 @@ module _ (entry : ℕ → ℕ → BreakState) where
 
   pub rows-length : (count left : ℕ) → length (rows entry count left) ≡ left * count
   unfolding rows
-  rows-length count zero = refl
-  rows-length count (suc left) = omega (arith, length-append (rows entry count left) (row entry left count), rows-length count left, row-length left count)
+  rows-length count zero = sym (zero-mul count)
+  rows-length count (suc left) = omega (arith, suc-mul left count, length-append (rows entry count left) (row entry left count), rows-length count left, row-length left count)
 
   -- no entry names a state past the last
 

@@ -6,4 +6,4 @@ pub loop-right-init : goal.loop-right-init
 loop-right-init c = row-begins turn_entry _ _
 
 pub loop-right-preserved : goal.loop-right-preserved
-loop-right-preserved c = row-goes turn_entry _ _ _ _ _ _ c.loop-right.invariant c.line_entry.ensures c.in_ok-push.ensures.items
+loop-right-preserved c = row-goes turn_entry _ _ _ _ _ _ c.loop-right.invariant c.turn_entry.ensures c.in_ok-push.ensures.items
