@@ -1,6 +1,6 @@
 -- Lines by a pair table have no mandatory break: each stretch, or turn, has boundaries of status 0 alone.
 use Rattle.std.proofs.Common.{◌≡◌, ℕ, zero, suc, List, [], ◌∷◌, ◌++◌, drop, length, refl, sym, ap, ◌∙◌}
-use Rattle.std.specs.Prelude.{Bool, true, false, Option, Some, slice_get}
+use Rattle.std.specs.Prelude.{Bool, true, false}
 use Rattle.std.proofs.lemmas.Option.{none-some, same_Some}
 use Rattle.seg_text.specs.declared.boundary.Boundary.{Boundary}
 use Rattle.seg_text.specs.Boundaries.{shift_all, offsets}
@@ -10,7 +10,7 @@ use Rattle.seg_pairs.specs.Verdict.{Verdict}
 use Rattle.seg_pairs.specs.Verdict.Verdict.{BreakAfter, GoAfter, RunBegins}
 use Rattle.seg_engine.specs.Rules.{boundaries_by}
 use Rattle.seg_complex.specs.Payloads.{Payloads, run_cuts_by}
-use Rattle.seg_line_rules.specs.LineBoundaries.{inside, complex_length, line_stretch, line_stretch_of, line_verdict}
+use Rattle.seg_line_rules.specs.LineBoundaries.{inside, line_stretch, line_stretch_of, line_verdict}
 use Rattle.seg_line_rules.specs.LineRules.{LineRules as TableRules}
 use Rattle.seg_line_turns.specs.TurnBoundaries.{later_turns, stretch_of, turn_stretch, turns_within}
 use Rattle.seg_line_turns.specs.Turns.{Turn, first_unit, turn}

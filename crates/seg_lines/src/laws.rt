@@ -48,8 +48,8 @@ pub fn equal_words()
 
 /// Law: a text may be segmented anew from any of its boundaries, where clusters are found, where no code point of it is complex by
 /// the pair table (under `BreakAll` none is), or by a machine with no dictionary in any place: the boundaries after one of
-/// them are those of the rest taken alone, shifted, with the same statuses. By the engine 17 no such law holds: the sample table has the boundaries 0, 1 and 3 in
-/// a space, a hyphen and a letter, and in what is left of them from 1 on 0, 1 and 2.
+/// them are those of the rest taken alone, shifted, with the same statuses. By the engine 17 there is no such law: with the sample
+/// data a space, a hyphen and a letter have the boundaries 0, 1 and 3, and the rest from 1 on, taken alone, 0, 1 and 2.
 pub fn restart(segmenter: LineSegmenterBorrowed<'_>)
     ensures { (code_points : List ℕ) → HasNoCuts (line_rules segmenter.entry).finder (line_rules segmenter.entry).payloads.words code_points
         → RestartsIn (line_boundaries_by (line_rules segmenter.entry)) code_points }
