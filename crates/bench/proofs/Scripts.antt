@@ -1,16 +1,20 @@
--- No code point below U+0100 has a script in the bench machines of lines and of words, or is complex in the pair tables of words and of lines.
+-- No code point below U+0100 has a script in the bench machines of lines and of words, or is complex in the pair tables of words and of lines, of either engine.
 use Rattle.std.proofs.Common.{◌≡◌, ℕ, Bool, true, false, not, ◌==◌, None, refl, sym, ap, ◌∙◌, eq-eqb}
 use Rattle.std.proofs.lemmas.Bool.{false≢true}
 use Rattle.seg_data.specs.declared.provider.ComplexScript.{ComplexScript}
 use Rattle.seg_data.specs.declared.provider.ComplexScript.TheVariants.{None as NoScript}
+use Rattle.seg_data.specs.declared.provider.DataError.TheVariants.{ComplexBelow0100}
 use Rattle.seg_data.specs.Table.{value_of}
 use Rattle.seg_machine.specs.Machine.{Machine, symbol_and_script}
 use Rattle.seg_machine.specs.MachineFaults.{HasComplexBelow0100}
 use Rattle.seg_pair_data.specs.PairFaults.{HasComplexClassBelow0100}
 use Rattle.seg_pair_data.specs.PairTable.{PairTable, class_of}
+use Rattle.icu_segmenter.specs.TurnFaults.{HasOwnTurnFault}
+use Rattle.icu_segmenter.specs.TurnSets.{is_complex}
 use Rattle.bench.specs.Lines.{line_machine}
 use Rattle.bench.specs.LineTables.{line_table}
 use Rattle.bench.specs.PairTables.{word_table}
+use Rattle.bench.specs.TurnTables.{turn_table}
 use Rattle.bench.specs.Words.{word_machine}
 use Rattle.bench.proofs.Faultless.{all_below, all_below-at}
 
@@ -52,3 +56,15 @@ pub line_table-not_complex : HasComplexClassBelow0100 line_table None → ⊥
 unfolding all_below is_not_complex class_of value_of
 line_table-not_complex (code_point, below, complex) =
     no-complex line_table code_point (all_below-at (is_not_complex line_table) 0x100 code_point refl below) complex
+
+is_simple : ℕ → Bool
+is_simple code_point = not (is_complex (class_of turn_table None code_point))
+
+simple : (code_point : ℕ) → is_simple code_point ≡ true → is_complex (class_of turn_table None code_point) ≡ true → ⊥
+unfolding is_simple
+simple code_point passed complex = false≢true (ap not (sym complex) ∙ passed)
+
+pub turn_table-not_complex : HasOwnTurnFault turn_table ComplexBelow0100 → ⊥
+unfolding all_below is_simple is_complex class_of value_of
+turn_table-not_complex (code_point, below, complex) =
+    simple code_point (all_below-at is_simple 0x100 code_point refl below) complex

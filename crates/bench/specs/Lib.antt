@@ -3,5 +3,7 @@ pub mod Sentences
 pub mod Words
 pub mod Lines
 pub mod PairTables
+pub mod Rows
 pub mod LineTables
+pub mod TurnTables
 pub mod Dictionaries

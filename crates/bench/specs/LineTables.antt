@@ -1,11 +1,12 @@
 -- The bench pair table of lines, hand-written for tests and for the program.
-use Rattle.std.specs.Prelude.{ℕ, zero, suc, ◌==◌, ◌||◌, if◌then◌else◌, List, [], ◌∷◌, ◌++◌}
+use Rattle.std.specs.Prelude.{ℕ, ◌==◌, ◌||◌, if◌then◌else◌, [], ◌∷◌}
 use Rattle.seg_pair_data.specs.declared.provider.pairs.BreakState.{BreakState}
 use Rattle.seg_pair_data.specs.declared.provider.pairs.BreakState.TheVariants.{Break, Keep}
 use Rattle.icu_segmenter.specs.LineClasses.{BA, BK, CJ, CR, EX, HY, ID, IN, LF, NL, NS, SP, ZW}
 use Rattle.icu_segmenter.specs.LineRules.{is_among}
 use Rattle.icu_segmenter.specs.PairTable.{PairTable, pair_table}
 use Rattle.icu_segmenter.specs.Table.{Table}
+use Rattle.bench.specs.Rows.{rows}
 
 -- 32 LF, 16 CR, 47 SP, 19 EX, 24 HY, 28 IS, 35 NU, 3 AL, 14 CM, 46 Thai and Myanmar, which are complex, 54 ZWJ, 34 NS, 12 CJ, 25 ID, 1 AI;
 -- 52, XX, any other character
@@ -30,15 +31,5 @@ line_entry left right =
     if left == ID || right == ID then (if is_among (NS ∷ IN ∷ BA ∷ CJ ∷ HY ∷ []) right then Keep else Break) else
     Keep
 
--- what stands between a class and each of so many
-unfoldable pub line_row : ℕ → ℕ → List BreakState
-line_row left zero = []
-line_row left (suc right) = line_row left right ++ line_entry left right ∷ []
-
--- the rows of so many classes
-unfoldable pub line_rows : ℕ → List BreakState
-line_rows zero = []
-line_rows (suc left) = line_rows left ++ line_row left 57
-
 abbrev pub line_table : PairTable
-line_table = pair_table line_classes (line_rows 57) [] 57 54 55 56 46
+line_table = pair_table line_classes (rows line_entry 57 57) [] 57 54 55 56 46

@@ -13,4 +13,5 @@ pub mod pair_tables;
 pub mod sentences;
 #[cfg(test)]
 mod tests;
+pub mod turn_tables;
 pub mod words;

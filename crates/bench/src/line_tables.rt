@@ -2,8 +2,9 @@
 
 ghost use Rattle.std.specs.Prelude.{◌≡◌, if◌then◌else◌, [], ◌∷◌, ◌++◌, IfOk, OnOk};
 ghost use Rattle.seg_pair_data.specs.declared.provider.pairs.BreakState.TheVariants.{Break, Keep};
-ghost use Rattle.bench.specs.LineTables.{line_entry, line_row, line_rows, line_table};
+ghost use Rattle.bench.specs.LineTables.{line_entry, line_table};
 ghost use Rattle.bench.specs.PairTables.{cluster_table};
+ghost use Rattle.bench.specs.Rows.{row, rows};
 ghost use Rattle.icu_segmenter.specs.Faults.{IsFaultless};
 ghost use Rattle.icu_segmenter.specs.LineClasses.{BA, BK, CJ, CR, EX, HY, IN, LF, NL, NS, SP, ZW};
 ghost use Rattle.icu_segmenter.specs.LineFaults.{HasLineTableFault};
@@ -63,7 +64,7 @@ pub fn line_table(alloc: Global) -> Result<RuleBreakData, AllocError>
 
 /// The rows of all classes.
 fn line_rows(alloc: Global) -> Result<Vec<BreakState>, AllocError>
-    ensures { IfOk result (λ entries. entries.items ≡ line_rows 57) }
+    ensures { IfOk result (λ entries. entries.items ≡ rows line_entry 57 57) }
 {
     let mut entries = Vec::new(alloc);
     for left in 0..COUNT {
@@ -74,7 +75,7 @@ fn line_rows(alloc: Global) -> Result<Vec<BreakState>, AllocError>
 
 /// Adds the row of a class.
 fn push_row(entries: &mut Vec<BreakState>, left: u8) -> Result<(), AllocError>
-    ensures { OnOk result (entries.new.items ≡ entries.old.items ++ line_row left 57) }
+    ensures { OnOk result (entries.new.items ≡ entries.old.items ++ row line_entry left 57) }
 {
     for right in 0..COUNT {
         entries.push(line_entry(left, right))?;
@@ -102,7 +103,7 @@ fn line_entry(left: u8, right: u8) -> BreakState
 }
 
 /// `Keep`, or else `Break`.
-fn keep_if(keeps: bool) -> BreakState
+pub(crate) fn keep_if(keeps: bool) -> BreakState
     ensures { result ≡ (if keeps then Keep else Break) }
 {
     if keeps {

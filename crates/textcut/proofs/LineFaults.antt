@@ -6,7 +6,7 @@ use Rattle.icu_segmenter.specs.declared.options.LineBreakOptions.{LineBreakOptio
 use Rattle.icu_segmenter.specs.Machine.{Machine}
 use Rattle.icu_segmenter.specs.Options.{machine_choice}
 use Rattle.icu_segmenter.specs.Lines.{HasFaultWith, HasLineFault, chosen_rules, without_ja}
-use Rattle.icu_segmenter.specs.LineBreaks.{machine_lines, table_lines}
+use Rattle.icu_segmenter.specs.LineBreaks.{machine_lines, table_lines, turn_lines}
 use Rattle.icu_segmenter.specs.ScriptWords.{ScriptWords, AreSameWords, no_words}
 use Rattle.icu_segmenter.specs.declared.provider.ComplexScript.TheVariants.{None as NoScript, Myanmar, ChineseOrJapanese, Khmer, Lao, Thai}
 use Rattle.icu_segmenter.specs.LineStyles.{style_of}
@@ -27,6 +27,10 @@ IsDefault options = (options.strictness ≡ None) × ((options.word_option ≡ N
 pub table-default : (options : LineBreakOptions) → IsDefault options → (table clusters : PairTable) (words : ScriptWords)
     → table_lines (record { table = table; style = style_of options }) clusters words ≡ table_lines (default_rules table) clusters words
 table-default options default table clusters words = rw (default.0, default.1.0, default.1.1) refl
+
+pub turns-default : (options : LineBreakOptions) → IsDefault options → (table clusters : PairTable) (words : ScriptWords)
+    → turn_lines (record { table = table; style = style_of options }) clusters words ≡ turn_lines (default_rules table) clusters words
+turns-default options default table clusters words = rw (default.0, default.1.0, default.1.1) refl
 
 module _ (machine : Machine) (tailorings : TailoringMaps) (options : LineBreakOptions) (default : IsDefault options) where
   pub no-fault : (fault : DataError) → machine ≡ line_machine → HasLineFault machine tailorings (machine_choice options) fault → ⊥

@@ -7,7 +7,7 @@ use Rattle.icu_segmenter.specs.Items.{Text}
 use Rattle.icu_segmenter.specs.Rules.{boundaries_of}
 use Rattle.icu_segmenter.specs.declared.options.LineBreakStrictness.TheVariants as strictness
 use Rattle.icu_segmenter.specs.declared.options.LineBreakWordOption.TheVariants as word_option
-use Rattle.icu_segmenter.specs.LineBreaks.{line_boundaries_of, machine_lines, table_lines}
+use Rattle.icu_segmenter.specs.LineBreaks.{line_boundaries_of, machine_lines, table_lines, turn_lines}
 use Rattle.icu_segmenter.specs.LineRules.{LineRules}
 use Rattle.icu_segmenter.specs.Lines.{without_ja}
 use Rattle.icu_segmenter.specs.PairTable.{PairTable}
@@ -20,8 +20,9 @@ use Rattle.bench.specs.Words.{word_machine}
 use Rattle.bench.specs.Lines.{line_machine}
 use Rattle.bench.specs.LineTables.{line_table}
 use Rattle.bench.specs.PairTables.{cluster_table, sentence_table, word_table}
+use Rattle.bench.specs.TurnTables.{turn_table}
 use Rattle.textcut.specs.declared.command.Command.{Command}
-use Rattle.textcut.specs.declared.command.Command.TheVariants.{GraphemeClassic, GraphemeNeo, SentenceClassic, SentenceNeo, WordClassic, WordNeo, LineClassic, LineNeo}
+use Rattle.textcut.specs.declared.command.Command.TheVariants.{GraphemeClassic, GraphemeNeo, SentenceClassic, SentenceNeo, WordClassic, WordNeo, LineClassic, Line17, LineNeo}
 
 -- the texts that references point to
 abbrev pub texts : List (Bor (List ℕ)) → List (List ℕ)
@@ -36,6 +37,7 @@ words_of SentenceNeo = codes "sentence" ∷ codes "neo" ∷ []
 words_of WordClassic = codes "word" ∷ codes "classic" ∷ []
 words_of WordNeo = codes "word" ∷ codes "neo" ∷ []
 words_of LineClassic = codes "line" ∷ codes "classic" ∷ []
+words_of Line17 = codes "line" ∷ codes "17" ∷ []
 words_of LineNeo = codes "line" ∷ codes "neo" ∷ []
 
 -- words that no command has
@@ -58,6 +60,7 @@ places_in SentenceNeo text = offsets (boundaries_of (ByMachine sentence_machine)
 places_in WordClassic text = offsets (word_boundaries_of (table_words word_table None cluster_table dictionary_words) text)
 places_in WordNeo text = offsets (word_boundaries_of (machine_words word_machine cluster_table dictionary_words) text)
 places_in LineClassic text = offsets (line_boundaries_of (table_lines (default_rules line_table) cluster_table (without_ja dictionary_words)) text)
+places_in Line17 text = offsets (line_boundaries_of (turn_lines (default_rules turn_table) cluster_table (without_ja dictionary_words)) text)
 places_in LineNeo text = offsets (line_boundaries_of (machine_lines line_machine cluster_machine (without_ja dictionary_words)) text)
 
 -- .. and in the text of some bytes

@@ -20,6 +20,8 @@ pub enum Command {
     WordNeo,
     /// Where lines may be broken, by the pair table that is built in, with the default options.
     LineClassic,
+    /// Where lines may be broken, by the rules of the engine 17 over the pair table that is built in, with the default options.
+    Line17,
     /// Where lines may be broken, by the machine that is built in, with the default options.
     LineNeo,
 }
@@ -38,6 +40,7 @@ pub fn command_of(words: &[&str]) -> Option<Command>
         ["word", "classic"] => Some(Command::WordClassic),
         ["word", "neo"] => Some(Command::WordNeo),
         ["line", "classic"] => Some(Command::LineClassic),
+        ["line", "17"] => Some(Command::Line17),
         ["line", "neo"] => Some(Command::LineNeo),
         _ => None,
     }

@@ -26,6 +26,7 @@ use bench::line_tables::line_table;
 use bench::lines::{line_machine, line_tailorings};
 use bench::pair_tables::{cluster_table, sentence_table, word_table};
 use bench::sentences::sentence_machine;
+use bench::turn_tables::turn_table;
 use bench::words::word_machine;
 use icu_segmenter::options::{
     LineBreakOptions, SentenceBreakInvariantOptions, WordBreakInvariantOptions,
@@ -120,6 +121,7 @@ fn print_boundaries<O: Write>(
         Command::WordClassic => print_words_by_table(alloc, text, out),
         Command::WordNeo => print_words_by_machine(alloc, text, out),
         Command::LineClassic => print_line_breaks_by_table(alloc, text, out),
+        Command::Line17 => print_line_breaks_by_turns(alloc, text, out),
         Command::LineNeo => print_line_breaks_by_machine(alloc, text, out),
     }
 }
@@ -246,6 +248,29 @@ fn print_line_breaks_by_table<O: Write>(
     let Ok(lines) = LineSegmenterBorrowed::new_dictionary(&table, &clusters, words, options) else {
         unreachable!()
     };
+    print_line_breaks(lines, text, out)
+}
+
+fn print_line_breaks_by_turns<O: Write>(
+    alloc: Global,
+    text: &[u8],
+    out: &mut O,
+) -> Result<(), Failure>
+    ensures printed { OnOk result
+        (Appends (O.contents out.old) (O.contents out.new) (lines_of (places_of Command.Line17 text.now))) }
+    ensures unwritten { IsErrOf result Failure.NoMemory → out.new ≡ out.old }
+    ensures cause { result ≢ Err Failure.Usage × result ≢ Err Failure.ReadFailed }
+{
+    let table = turn_table(alloc)?;
+    let clusters = cluster_table(alloc)?;
+    let dictionaries = dictionaries(alloc)?;
+    let options = LineBreakOptions::default();
+    let Ok(mut lines) = LineSegmenterBorrowed::new_17_for_non_complex_scripts(
+        &table, &clusters, options,
+    ) else {
+        unreachable!()
+    };
+    lines.load_dictionary(dictionaries.as_borrowed());
     print_line_breaks(lines, text, out)
 }
 

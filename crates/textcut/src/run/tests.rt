@@ -57,6 +57,18 @@ fn prints_classic_boundaries(rt: HostRuntime) {
 }
 
 #[test]
+fn prints_lines_by_the_engine_17(rt: HostRuntime) {
+    for (text, lines) in [
+        ("", "0\n"),
+        (" -a", "0\n1\n3\n"),
+        ("ภาษาไทยaภาษาไทย", "0\n12\n34\n43\n"),
+    ] {
+        let ran = run_on(rt.alloc(), &["line", "17"], &mut text.as_bytes());
+        assert!(rt; ran.is(0, lines, ""), "{text:?}");
+    }
+}
+
+#[test]
 fn prints_boundaries_by_machines_and_dictionaries(rt: HostRuntime) {
     for (kind, text, lines) in [
         ("word", "12ไทยab", "0\n2\n11\n13\n"),
