@@ -1,10 +1,24 @@
 -- What the bytes at the head of a text are written as, and then those further on.
-use Rattle.std.proofs.Common.{◌≡◌, ℕ, suc, zero, ◌+◌, ◌-◌, ◌<◌, ◌≤◌, true, false, Option, List, [], ◌∷◌, ◌++◌, length, take, drop, refl, sym, ap, ◌∙◌, append-nil, append_assoc, arith, slice_index_or}
+use Rattle.std.proofs.Common.{◌≡◌, ℕ, suc, zero, ◌+◌, ◌-◌, ◌<◌, ◌≤◌, ◌==◌, true, false, Option, List, [], ◌∷◌, ◌++◌, length, take, drop, refl, sym, ap, ◌∙◌, append-nil, append_assoc, arith, slice_index_or}
 use Rattle.std.proofs.Math.Seq.{take-add, drop-drop}
 use Rattle.std.proofs.lemmas.List.{take_all, drop_all, length-drop}
+use Rattle.std.proofs.lemmas.Bool.{and_parts, not-true}
 use Rattle.std.proofs.KnownBytes.{Appends-trans}
+use Rattle.std.specs.List.{list_all}
 use Rattle.std.specs.Io.KnownBytes.{Appends}
-use Rattle.segment.specs.Escapes.{are_control, escape_of, escaped, is_control}
+use Rattle.segment.specs.Escapes.{are_control, escape_of, escaped, is_control, is_plain}
+
+-- bytes of which none is a control character or begins one
+pub escaped-plain : (bytes : List ℕ) → list_all is_plain bytes ≡ true → escaped bytes ≡ bytes
+unfolding escaped
+escaped-plain [] plain = refl
+escaped-plain (byte ∷ []) plain =
+    let alone : is_control byte ≡ false = not-true (is_control byte) (and_parts _ _ (and_parts _ _ plain).0).0 in rw alone refl
+escaped-plain (first ∷ second ∷ bytes) plain =
+    let parts = and_parts _ _ plain in
+    let alone : is_control first ≡ false = not-true (is_control first) (and_parts _ _ parts.0).0 in
+    let nor : (first == 0xC2) ≡ false = not-true (first == 0xC2) (and_parts _ _ parts.0).1 in
+    rw (alone, nor) (ap (λ rest. first ∷ rest) (escaped-plain (second ∷ bytes) parts.1))
 
 -- a byte that is a control character
 pub escaped-one : (bytes : List ℕ) → 0 < length bytes → is_control (slice_index_or bytes 0 0) ≡ true

@@ -1,13 +1,25 @@
 //! Escapes of control characters.
 ghost use Rattle.std.specs.Prelude.{◌≡◌, ◌<◌, ◌≤◌, ◌++◌, length, take, drop, MatchOption, OnOk};
 ghost use Rattle.std.specs.Io.KnownBytes.{Appends};
-ghost use Rattle.segment.specs.Escapes.{are_control, escape_of, escaped, hex_digit, is_control};
+ghost use Rattle.segment.specs.Escapes.{are_control, escape_of, escaped, hex_digit, is_control, is_plain};
 
 use std::io;
 use std::io::Write;
 
 /// Writes bytes in UTF-8 with their control characters as escapes, and all else as it is. The error is the writer's.
+#[inline(always)]
 pub fn write_escaped<O: Write>(bytes: &[u8], out: &mut O) -> io::Result<()>
+    ensures { OnOk result (Appends (O.contents out.old) (O.contents out.new) (escaped bytes.now)) }
+{
+    if bytes.iter().all(|byte| is_plain(*byte)) {
+        return out.write_all(bytes);
+    }
+    write_with_escapes(bytes, out)
+}
+
+// The same, control character by control character.
+#[inline(never)]
+fn write_with_escapes<O: Write>(bytes: &[u8], out: &mut O) -> io::Result<()>
     ensures { OnOk result (Appends (O.contents out.old) (O.contents out.new) (escaped bytes.now)) }
 {
     let mut rest = bytes;
@@ -64,10 +76,19 @@ fn control_at(bytes: &[u8]) -> Option<(u8, usize)>
 }
 
 // Whether a byte is a control character.
+#[inline(always)]
 fn is_control(byte: u8) -> bool
     ensures { result ≡ is_control byte }
 {
     byte < 0x20 || byte == 0x7F
+}
+
+// Whether a byte neither is a control character nor begins one of two bytes.
+#[inline(always)]
+fn is_plain(byte: u8) -> bool
+    ensures { result ≡ is_plain byte }
+{
+    !is_control(byte) && byte != 0xC2
 }
 
 // Whether two bytes are one.

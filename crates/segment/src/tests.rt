@@ -20,7 +20,8 @@ fn output(
     let request = request_of(&matches)?;
     let segmenter = segmenter_of(alloc, &request, dictionaries)?;
     let (mut input, mut out) = (text, Vec::new(alloc));
-    match cut(alloc, &segmenter, request.style, &mut input, &mut out) {
+    let (style, engine) = (request.style, request.engine);
+    match cut(alloc, &segmenter, style, engine, &mut input, &mut out) {
         Ok(()) => Ok(out),
         Err(_) => bail!("a fault"),
     }
@@ -56,12 +57,16 @@ fn cuts_texts_by_the_standards(rt: HostRuntime) {
             "a\\u{85}\nb\\u{1b}\n",
         ),
     ] {
-        let words = ["segment", kind, option];
-        let out = output(rt.alloc(), &words, Dictionaries::none(), text.as_bytes());
-        assert!(rt;
-            out.is_ok_and(|out| out.as_slice() == lines.as_bytes()),
-            "{kind} {option} {text:?}"
-        );
+        for words in [
+            ["segment", kind, option].as_slice(),
+            &["segment", "--memo", kind, option],
+        ] {
+            let out = output(rt.alloc(), words, Dictionaries::none(), text.as_bytes());
+            assert!(rt;
+                out.is_ok_and(|out| out.as_slice() == lines.as_bytes()),
+                "{words:?} {text:?}"
+            );
+        }
     }
 }
 

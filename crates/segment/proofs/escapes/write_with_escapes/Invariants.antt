@@ -2,7 +2,7 @@
 use Rattle.std.proofs.Common.{◌≡◌, ℕ, List, ◌++◌, length}
 use Rattle.std.specs.Io.KnownBytes.{Appends}
 use Rattle.segment.specs.Escapes.{escaped}
-use Rattle.segment.proofs.escapes.write_escaped.Given as goal
+use Rattle.segment.proofs.escapes.write_with_escapes.Given as goal
 
 abbrev pub invariant-loop-control : goal.invariant-loop-control
 invariant-loop-control g l =
