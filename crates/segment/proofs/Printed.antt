@@ -1,5 +1,5 @@
 -- What is printed of an iterator that says what it has left.
-use Rattle.std.proofs.Common.{◌≡◌, ℕ, List, Option, Result, Ok, Err, IfOk, IsErr, MatchResult, OnOk}
+use Rattle.std.proofs.Common.{◌≡◌, ℕ, List, Option, Result, Ok, Err, IfOk, IsErr, MatchResult, OnOk, is_ok}
 use Rattle.std.specs.Iterator.{YieldsFirst, Drains}
 use Rattle.std.specs.Io.KnownBytes.{Appends}
 use Rattle.icu_segmenter.specs.Items.{Text}
@@ -14,6 +14,12 @@ pub lines-are_left : {S A : Type 0} (left : S → List A) (lines : List A → Li
 lines-are_left left lines s all old new (Err e) h is_all = tt
 lines-are_left left lines s all old new (Ok u) h is_all =
     rw (← is_all, ← given-is_left left s h.0 h.1) h.2
+
+-- what is so of a success is so where only an error is turned into another
+pub of-success : {E F : Type 0} (P : Type 0) (r : Result (Unit {0}) E) (s : Result (Unit {0}) F) → is_ok s ≡ is_ok r → OnOk r P → OnOk s P
+of-success P (Ok u) (Ok v) same p = p
+of-success P (Err e) (Ok v) same p = cc
+of-success P r (Err f) same p = tt
 
 -- what is printed of a memoised engine, if there is one, is all the boundaries of the text
 pub memo-lines-are : {E F : Type 0} (lines : List Boundary → List ℕ) (found_by : Option Machine) (whole : Text) (found all : List Boundary)

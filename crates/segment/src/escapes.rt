@@ -1,6 +1,7 @@
 //! Escapes of control characters.
 ghost use Rattle.std.specs.Prelude.{◌≡◌, ◌<◌, ◌≤◌, ◌++◌, length, take, drop, MatchOption, OnOk};
 ghost use Rattle.std.specs.Io.KnownBytes.{Appends};
+ghost use Rattle.std.specs.List.{list_all};
 ghost use Rattle.segment.specs.Escapes.{are_control, escape_of, escaped, hex_digit, is_control, is_plain};
 
 use std::io;
@@ -11,7 +12,7 @@ use std::io::Write;
 pub fn write_escaped<O: Write>(bytes: &[u8], out: &mut O) -> io::Result<()>
     ensures { OnOk result (Appends (O.contents out.old) (O.contents out.new) (escaped bytes.now)) }
 {
-    if bytes.iter().all(|byte| is_plain(*byte)) {
+    if are_plain(bytes) {
         return out.write_all(bytes);
     }
     write_with_escapes(bytes, out)
@@ -89,6 +90,14 @@ fn is_plain(byte: u8) -> bool
     ensures { result ≡ is_plain byte }
 {
     !is_control(byte) && byte != 0xC2
+}
+
+// Whether all bytes are such.
+#[inline(always)]
+fn are_plain(bytes: &[u8]) -> bool
+    ensures { result ≡ list_all is_plain bytes.now }
+{
+    bytes.iter().all(|byte| is_plain(*byte))
 }
 
 // Whether two bytes are one.

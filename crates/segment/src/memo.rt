@@ -65,12 +65,14 @@ fn print_places<O: Write>(
     style: Style,
     out: &mut O,
 ) -> Result<(), Fault>
-    ensures written { MatchResult memo
+    ensures written { MatchResult memo.entry
         (λ memo. OnOk result (Appends (O.contents out.old) (O.contents out.new) (lines_of style text.now (segments (offsets_left memo.coming))))) (λ _. IsErr result) }
     ensures unwritten { IfErr result (λ fault. IsBeforeWriting fault → out.new ≡ out.old) }
 {
-    let memo = memo.map_err(Fault::Memo)?;
-    print_segments(memo, text, style, out).map_err(Fault::Write)
+    match memo {
+        Ok(memo) => print_segments(memo, text, style, out).map_err(Fault::Write),
+        Err(error) => Err(Fault::Memo(error)),
+    }
 }
 
 // Writes the words between these boundaries.
@@ -80,12 +82,17 @@ fn print_typed<O: Write>(
     style: Style,
     out: &mut O,
 ) -> Result<(), Fault>
-    ensures written { MatchResult memo
+    ensures written { MatchResult memo.entry
         (λ memo. OnOk result (Appends (O.contents out.old) (O.contents out.new) (lines_of style text.now (words_alone (with_types memo.coming.left))))) (λ _. IsErr result) }
     ensures unwritten { IfErr result (λ fault. IsBeforeWriting fault → out.new ≡ out.old) }
 {
-    let memo = memo.map_err(Fault::Memo)?;
-    print_words(MemoWords { memo }, text, style, out).map_err(Fault::Write)
+    match memo {
+        Ok(memo) => {
+            let words = MemoWords { memo };
+            print_words(words, text, style, out).map_err(Fault::Write)
+        }
+        Err(error) => Err(Fault::Memo(error)),
+    }
 }
 
 /// The boundaries of words that a memoised engine has still to give, each with the type of what ends there.
