@@ -108,7 +108,8 @@ fn flag<'a>(alloc: Global, name: &'a str, help: &'a str) -> Arg<'a> {
 
 // Dictionaries go with the plain engine alone.
 fn memo_argument<'a>(alloc: Global) -> Result<Arg<'a>, AllocError> {
-    let help = "Look up no configuration twice: takes time in step with the text's length, and memory";
+    let help =
+        "Look up no configuration twice: takes time in step with the text's length, and memory";
     flag(alloc, "memo", help).conflicts_with("dictionary")
 }
 
@@ -191,7 +192,11 @@ fn style_of(offsets: bool, raw: bool) -> Style {
 }
 
 fn engine_of(memo: bool) -> Engine {
-    if memo { Engine::Memoised } else { Engine::Plain }
+    if memo {
+        Engine::Memoised
+    } else {
+        Engine::Plain
+    }
 }
 
 fn strictness_of(word: &str) -> Option<LineBreakStrictness> {

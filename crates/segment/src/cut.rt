@@ -31,7 +31,9 @@ pub fn cut<I: Read, O: Write>(
     let text = read_text(alloc, input)?;
     let text = text.as_slice();
     match engine {
-        Engine::Plain => segmenter.print(text, style, out).map_err(Fault::Write),
+        Engine::Plain => segmenter
+            .print(alloc, text, style, out)
+            .map_err(Fault::Write),
         Engine::Memoised => print_by_memo(alloc, segmenter, text, style, out),
     }
 }

@@ -20,11 +20,8 @@ use dictionary::dictionaries_of;
 use fault::Fault;
 use segmenter::segmenter_of;
 use std::env;
-use std::io::{BufWriter, ErrorKind};
+use std::io::ErrorKind;
 use std::process::ExitCode;
-
-// Room for some thousands of segments, so that few writes reach the system.
-const OUTPUT_CAPACITY: usize = 65536;
 
 fn main(rt: HostRuntime) -> Result<ExitCode> {
     let alloc = rt.alloc();
@@ -39,9 +36,15 @@ fn main(rt: HostRuntime) -> Result<ExitCode> {
     let request = request_of(&matches)?;
     let dictionaries = dictionaries_of(&rt, request.dictionary)?;
     let segmenter = segmenter_of(alloc, &request, dictionaries)?;
-    let mut out = BufWriter::with_capacity(alloc, OUTPUT_CAPACITY, rt.stdout())?;
     let (style, engine) = (request.style, request.engine);
-    match cut(alloc, &segmenter, style, engine, &mut rt.stdin(), &mut out) {
+    match cut(
+        alloc,
+        &segmenter,
+        style,
+        engine,
+        &mut rt.stdin(),
+        &mut rt.stdout(),
+    ) {
         Ok(()) => Ok(ExitCode::SUCCESS),
         // Nobody reads on, so there is nothing more to do.
         Err(Fault::Write(error)) if error.kind() == ErrorKind::BrokenPipe => Ok(ExitCode::SUCCESS),

@@ -23,7 +23,7 @@ use std::io::Write;
 type Memo<'data, 's> = MemoBreakIterator<'data, Utf8CharIndices<'s>, CountedTransitions<'data>>;
 
 /// Writes just what `Segmenter::print` writes, and flushes, but looks up no configuration of the machine twice. The errors are those of
-/// `with_memo`, which are met before anything is written, and the writer's.
+/// `with_memo`, which are met before anything is written, the writer's, and want of memory.
 pub fn print_by_memo<O: Write>(
     alloc: Global,
     segmenter: &Segmenter,
@@ -37,29 +37,30 @@ pub fn print_by_memo<O: Write>(
     match segmenter {
         Segmenter::Clusters(clusters) => {
             let clusters = clusters.as_borrowed().segment_utf8(text);
-            print_places(clusters.with_memo(alloc), text, style, out)
+            print_places(alloc, clusters.with_memo(alloc), text, style, out)
         }
         Segmenter::Words(words) => {
             let words = words.as_borrowed().segment_utf8(text);
-            print_places(words.with_memo(alloc), text, style, out)
+            print_places(alloc, words.with_memo(alloc), text, style, out)
         }
         Segmenter::WordsAlone(words) => {
             let words = words.as_borrowed().segment_utf8(text);
-            print_typed(words.with_memo(alloc), text, style, out)
+            print_typed(alloc, words.with_memo(alloc), text, style, out)
         }
         Segmenter::Sentences(sentences) => {
             let sentences = sentences.as_borrowed().segment_utf8(text);
-            print_places(sentences.with_memo(alloc), text, style, out)
+            print_places(alloc, sentences.with_memo(alloc), text, style, out)
         }
         Segmenter::Lines(lines) => {
             let lines = lines.as_borrowed().segment_utf8(text);
-            print_places(lines.with_memo(alloc), text, style, out)
+            print_places(alloc, lines.with_memo(alloc), text, style, out)
         }
     }
 }
 
 // Writes the segments between the boundaries that a memoised engine has still to give, if there is one.
 fn print_places<O: Write>(
+    alloc: Global,
     memo: Result<Memo<'_, '_>, MemoError>,
     text: &[u8],
     style: Style,
@@ -70,13 +71,14 @@ fn print_places<O: Write>(
     ensures unwritten { IfErr result (λ fault. IsBeforeWriting fault → out.new ≡ out.old) }
 {
     match memo {
-        Ok(memo) => print_segments(memo, text, style, out).map_err(Fault::Write),
+        Ok(memo) => print_segments(alloc, memo, text, style, out).map_err(Fault::Write),
         Err(error) => Err(Fault::Memo(error)),
     }
 }
 
 // Writes the words between these boundaries.
 fn print_typed<O: Write>(
+    alloc: Global,
     memo: Result<Memo<'_, '_>, MemoError>,
     text: &[u8],
     style: Style,
@@ -89,7 +91,7 @@ fn print_typed<O: Write>(
     match memo {
         Ok(memo) => {
             let words = MemoWords { memo };
-            print_words(words, text, style, out).map_err(Fault::Write)
+            print_words(alloc, words, text, style, out).map_err(Fault::Write)
         }
         Err(error) => Err(Fault::Memo(error)),
     }
