@@ -50,6 +50,6 @@ fn main(rt: HostRuntime) -> Result<ExitCode> {
         Err(Fault::Write(error)) if error.kind() == ErrorKind::BrokenPipe => Ok(ExitCode::SUCCESS),
         Err(Fault::Write(error)) => Err(error).context("writing standard output"),
         Err(Fault::Read(error)) => Err(error).context("reading standard input"),
-        Err(Fault::Memo(error)) => Err(error).context("no memoised engine"),
+        Err(Fault::Memo(error)) => Err(error).context("making the memoised engine"),
     }
 }
