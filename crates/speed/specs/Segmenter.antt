@@ -44,18 +44,18 @@ default_rules table = record {
 
 -- the places of boundaries by an engine with its data, where no script has words: a memoised engine finds those of its machine
 abbrev pub segmentation_by : Engine → Data → Text → List ℕ
-segmentation_by GraphemeClassic data = places_by (ByTable (cluster_table data) None)
-segmentation_by GraphemeNeo data = places_by (ByMachine (cluster_machine data))
-segmentation_by GraphemeMemo data = places_by (ByMachine (cluster_machine data))
-segmentation_by SentenceClassic data = places_by (ByTable (sentence_table data) None)
-segmentation_by SentenceNeo data = places_by (ByMachine (sentence_machine data))
-segmentation_by SentenceMemo data = places_by (ByMachine (sentence_machine data))
-segmentation_by WordClassic data = word_places_by (table_words (word_table data) None (cluster_table data) no_words)
-segmentation_by WordNeo data = word_places_by (machine_words (word_machine data) (cluster_table data) no_words)
-segmentation_by WordMemo data = word_places_by (machine_words (word_machine data) (cluster_table data) no_words)
-segmentation_by LineClassic data = line_places_by (table_lines (default_rules (line_table data)) (cluster_table data) no_words)
-segmentation_by LineNeo data = line_places_by (machine_lines (line_machine data) (cluster_machine data) no_words)
-segmentation_by LineMemo data = line_places_by (machine_lines (line_machine data) (cluster_machine data) no_words)
+segmentation_by GraphemeClassic source = places_by (ByTable (cluster_table source) None)
+segmentation_by GraphemeNeo source = places_by (ByMachine (cluster_machine source))
+segmentation_by GraphemeMemo source = places_by (ByMachine (cluster_machine source))
+segmentation_by SentenceClassic source = places_by (ByTable (sentence_table source) None)
+segmentation_by SentenceNeo source = places_by (ByMachine (sentence_machine source))
+segmentation_by SentenceMemo source = places_by (ByMachine (sentence_machine source))
+segmentation_by WordClassic source = word_places_by (table_words (word_table source) None (cluster_table source) no_words)
+segmentation_by WordNeo source = word_places_by (machine_words (word_machine source) (cluster_table source) no_words)
+segmentation_by WordMemo source = word_places_by (machine_words (word_machine source) (cluster_table source) no_words)
+segmentation_by LineClassic source = line_places_by (table_lines (default_rules (line_table source)) (cluster_table source) no_words)
+segmentation_by LineNeo source = line_places_by (machine_lines (line_machine source) (cluster_machine source) no_words)
+segmentation_by LineMemo source = line_places_by (machine_lines (line_machine source) (cluster_machine source) no_words)
 
 -- the places of boundaries by a segmenter
 abbrev pub segmentation_of : Segmenter → Text → List ℕ

@@ -19,31 +19,31 @@ use icu_segmenter::{GraphemeClusterSegmenter, LineSegmenter, SentenceSegmenter, 
 use std::alloc::Global;
 
 /// The segmenter of an engine with its data, with no dictionaries. The only error that is met is want of memory.
-pub fn segmenter_of(alloc: Global, engine: Engine, data: Data) -> Result<Segmenter>
-    ensures { IfOk result (λ segmenter. segmentation_of segmenter ≡ segmentation_by engine data) }
+pub fn segmenter_of(alloc: Global, engine: Engine, source: Data) -> Result<Segmenter>
+    ensures { IfOk result (λ segmenter. segmentation_of segmenter ≡ segmentation_by engine source) }
 {
     match engine {
-        Engine::GraphemeClassic => clusters_by_table(cluster_table(alloc, data)?),
+        Engine::GraphemeClassic => clusters_by_table(cluster_table(alloc, source)?),
         Engine::GraphemeNeo | Engine::GraphemeMemo => {
-            clusters_by_machine(cluster_machine(alloc, data)?)
+            clusters_by_machine(cluster_machine(alloc, source)?)
         }
-        Engine::SentenceClassic => sentences_by_table(sentence_table(alloc, data)?),
+        Engine::SentenceClassic => sentences_by_table(sentence_table(alloc, source)?),
         Engine::SentenceNeo | Engine::SentenceMemo => {
-            sentences_by_machine(sentence_machine(alloc, data)?)
+            sentences_by_machine(sentence_machine(alloc, source)?)
         }
         Engine::WordClassic => {
-            words_by_table(word_table(alloc, data)?, cluster_table(alloc, data)?)
+            words_by_table(word_table(alloc, source)?, cluster_table(alloc, source)?)
         }
         Engine::WordNeo | Engine::WordMemo => {
-            words_by_machine(word_machine(alloc, data)?, cluster_table(alloc, data)?)
+            words_by_machine(word_machine(alloc, source)?, cluster_table(alloc, source)?)
         }
         Engine::LineClassic => {
-            lines_by_table(line_table(alloc, data)?, cluster_table(alloc, data)?)
+            lines_by_table(line_table(alloc, source)?, cluster_table(alloc, source)?)
         }
         Engine::LineNeo | Engine::LineMemo => lines_by_machine(
-            line_machine(alloc, data)?,
-            line_tailorings(alloc, data)?,
-            cluster_machine(alloc, data)?,
+            line_machine(alloc, source)?,
+            line_tailorings(alloc, source)?,
+            cluster_machine(alloc, source)?,
         ),
     }
 }

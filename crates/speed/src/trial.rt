@@ -23,7 +23,7 @@ pub struct Trial {
     /// The engine.
     pub engine: Engine,
     /// Which data it has.
-    pub data: Data,
+    pub source: Data,
     /// The segmenter.
     pub segmenter: Segmenter,
     /// How long making the segmenter and its data took at best.
@@ -32,19 +32,19 @@ pub struct Trial {
     pub tally: Tally,
     /// How long a pass took at best.
     pub best: Duration,
-    ghost boundaries: { segmentation_of segmenter ≡ segmentation_by engine data },
+    ghost boundaries: { segmentation_of segmenter ≡ segmentation_by engine source },
 }
 
 impl Trial {
     /// The engine with these data. The errors that are met are want of memory, and a clock that can't be read.
-    pub fn new<C: Clock>(clock: &C, alloc: Global, engine: Engine, data: Data) -> Result<Trial>
-        ensures { IfOk result (λ trial. (trial.engine ≡ engine) × (trial.data ≡ data)) }
+    pub fn new<C: Clock>(clock: &C, alloc: Global, engine: Engine, source: Data) -> Result<Trial>
+        ensures { IfOk result (λ trial. (trial.engine ≡ engine) × (trial.source ≡ source)) }
     {
         Ok(Trial {
             engine,
-            data,
-            segmenter: segmenter_of(alloc, engine, data)?,
-            making: making_time(clock, alloc, engine, data)?,
+            source,
+            segmenter: segmenter_of(alloc, engine, source)?,
+            making: making_time(clock, alloc, engine, source)?,
             tally: Tally::default(),
             best: Duration::MAX,
         })
@@ -53,8 +53,8 @@ impl Trial {
     /// Goes over the text once, a memoised engine with a table of cells that is made anew. The errors that are met are want of
     /// memory, and a clock that can't be read.
     pub fn pass<C: Clock>(&mut self, clock: &C, alloc: Global, text: &[u8]) -> Result<()>
-        ensures tally { OnOk result (self.new.tally ≡ tally_by (segmentation_by self.old.engine self.old.data) text.now) }
-        ensures names { (self.new.engine ≡ self.old.engine) × (self.new.data ≡ self.old.data) }
+        ensures tally { OnOk result (self.new.tally ≡ tally_by (segmentation_by self.old.engine self.old.source) text.now) }
+        ensures names { (self.new.engine ≡ self.old.engine) × (self.new.source ≡ self.old.source) }
         ensures best { as_nanos self.new.best ≤ as_nanos self.old.best }
     {
         let start = Instant::now(clock)?;
@@ -69,17 +69,17 @@ impl Trial {
 
     /// Prints what is the same each time.
     pub fn print_found<O: Write>(&self, out: &mut O) -> io::Result<()> {
-        let (engine, data) = (self.engine.word(), self.data.word());
+        let (engine, source) = (self.engine.word(), self.source.word());
         let Tally { count, sum } = self.tally;
-        writeln!(out, "{engine} {data}: {count} boundaries, sum {sum}")
+        writeln!(out, "{engine} {source}: {count} boundaries, sum {sum}")
     }
 
     /// Prints what differs each time, over a text of this length.
     pub fn print_time<E: Write>(&self, len: usize, err: &mut E) -> io::Result<()> {
-        let (engine, data) = (self.engine.word(), self.data.word());
+        let (engine, source) = (self.engine.word(), self.source.word());
         let rate = megabytes_a_second(len, self.best);
         let micros = self.making.as_micros();
-        writeln!(err, "{engine} {data}: {rate} MB/s; made in {micros} microseconds")
+        writeln!(err, "{engine} {source}: {rate} MB/s; made in {micros} microseconds")
     }
 }
 
@@ -88,12 +88,12 @@ fn making_time<C: Clock>(
     clock: &C,
     alloc: Global,
     engine: Engine,
-    data: Data,
+    source: Data,
 ) -> Result<Duration> {
     let mut best = Duration::MAX;
     for _ in 0..PASSES {
         let start = Instant::now(clock)?;
-        let _segmenter = segmenter_of(alloc, engine, data)?;
+        let _segmenter = segmenter_of(alloc, engine, source)?;
         best = best.min(start.elapsed(clock)?);
     }
     Ok(best)
