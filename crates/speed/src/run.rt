@@ -17,8 +17,7 @@ mod tests;
 // How many bytes a text has at most.
 const TEXT_LEN: usize = 300_000;
 
-const USAGE: &str =
-    "usage: speed [{grapheme,sentence,word,line}-{classic,neo,memo}].. FILE\n";
+const USAGE: &str = "usage: speed [{grapheme,sentence,word,line}-{classic,neo,memo}].. FILE\n";
 
 /// Measures the engines that the words name over the text of the file that the last word names, and
 /// returns the exit status: 0, or 2 where the words are no command's.

@@ -15,7 +15,7 @@ use std::rt::Clock;
 use std::time::{Duration, Instant};
 
 /// How often everything is done: the best time counts.
-pub const PASSES: usize = 100;
+pub const PASSES: usize = 25;
 
 /// An engine with its data, and what was measured of it.
 #[derive(Drop)]
@@ -79,7 +79,10 @@ impl Trial {
         let (engine, source) = (self.engine.word(), self.source.word());
         let rate = megabytes_a_second(len, self.best);
         let micros = self.making.as_micros();
-        writeln!(err, "{engine} {source}: {rate} MB/s; made in {micros} microseconds")
+        writeln!(
+            err,
+            "{engine} {source}: {rate} MB/s; made in {micros} microseconds"
+        )
     }
 }
 
