@@ -4,9 +4,11 @@ pub mod Reading
 pub mod Counts
 pub mod Scanning
 pub mod Ways
+pub mod Windows
 pub mod Turns
 pub mod Picking
 pub mod Segments
+pub mod Held
 pub mod Different
 pub mod Memoised
 pub mod Fresh

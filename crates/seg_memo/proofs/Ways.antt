@@ -27,7 +27,7 @@ right-known s c (Way state kept stays) o right is = cc
 right-known s c KnownNothing o right is = let same : Nothing ≡ o = cc in sym same ∙ right
 right-known s c (KnownKept lookahead status) o right is = let same : Kept lookahead status ≡ o = cc in sym same ∙ right
 
-right-unknown : (s : Subject) (c : Configuration) (x : Cell) → IsRight s c x → known x ≡ None → x ≡ Unknown
+pub right-unknown : (s : Subject) (c : Configuration) (x : Cell) → IsRight s c x → known x ≡ None → x ≡ Unknown
 right-unknown s c Unknown right is = refl
 right-unknown s c First right is = absurd right
 right-unknown s c (Way state kept stays) right is = absurd right
@@ -72,7 +72,7 @@ other-cell s g c d x inside within other = get_or-set_other g.cells (number s c)
 same-cell : (s : Subject) (g : Grid) (c : Configuration) (x : Cell) → IsFit s g → IsWithin s c → cell s (with_cell s g c x) c ≡ x
 same-cell s g c x fit inside = get_or-set_same g.cells (number s c) x Unknown (number-in s g c fit inside)
 
-fit-write : (s : Subject) (g : Grid) (c : Configuration) (x : Cell) → IsFit s g → IsFit s (with_cell s g c x)
+pub fit-write : (s : Subject) (g : Grid) (c : Configuration) (x : Cell) → IsFit s g → IsFit s (with_cell s g c x)
 fit-write s g c x fit = record { sound = fit.sound; states = fit.states; sets = fit.sets; size = length-set g.cells (number s c) x ∙ fit.size }
 
 table-mark : (s : Subject) (g : Grid) (place : ℕ) (path : List Configuration) (c : Configuration) (x : Cell) → IsTable s g place path → IsWithin s c
@@ -138,7 +138,7 @@ way-within s g first here (before ∷ path) way d on =
     ]
 
 -- it goes on from the first
-way-past : (s : Subject) (g : Grid) (first here : Configuration) (path : List Configuration) → IsSound s → IsWay s g first here path → first.place ≤ here.place
+pub way-past : (s : Subject) (g : Grid) (first here : Configuration) (path : List Configuration) → IsSound s → IsWay s g first here path → first.place ≤ here.place
 way-past s g first here [] sound way = let same : here.place ≡ first.place = ap (λ (c : Configuration). c.place) way.0 in omega (arith, same)
 way-past s g first here (before ∷ path) sound way =
     let inside = way-inside s g first before path way.3 in

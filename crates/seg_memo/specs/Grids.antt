@@ -10,7 +10,6 @@ use Rattle.seg_memo.specs.declared.configuration.Outcome.TheVariants.{Nothing, P
 use Rattle.seg_memo.specs.declared.configuration.LookUp.TheVariants.{Leads}
 use Rattle.seg_memo.specs.declared.configuration.Cell.{Cell}
 use Rattle.seg_memo.specs.declared.configuration.Cell.TheVariants.{Unknown, First, Way, KnownNothing, KnownKept}
-use Rattle.seg_memo.specs.declared.table.Table.{Table}
 use Rattle.seg_memo.specs.Configurations.{Subject, configuration, configurations, reading, look_ups, all_look_ups, start_at, AreStarts}
 use Rattle.seg_memo.specs.Outcomes.{outcome_at, look_up}
 
@@ -19,9 +18,6 @@ pub record Grid : Type 0 where
   pub states : ℕ
   pub sets : ℕ
   pub cells : List Cell
-
-abbrev pub grid : Table → Grid
-grid t = record { states = t.states; sets = t.sets; cells = t.cells.items }
 
 -- the number of a configuration, which is that of its cell
 unfoldable pub number : Subject → Configuration → ℕ
@@ -137,6 +133,11 @@ pub record IsMemo (s : Subject) (g : Grid) (place : ℕ) : Type 0 where
   pub within : place ≤ length s.symbols
   pub table : IsTable s g place []
   pub filling : AreFilled s g starts []
+
+-- it is so, and that from this place is to begin: its first configuration was not looked up
+pub record IsBegun (s : Subject) (place : ℕ) (g : Grid) : Type 0 where
+  pub memo : IsMemo s g place
+  pub unknown : cell s g (start_at place) ≡ Unknown
 
 -- a scan is under way: it looked up the configurations of a path, and is to look up this one, whose cell is marked already
 pub record Walking (s : Subject) (g : Grid) (place : ℕ) (here : Configuration) : Type 0 where

@@ -10,7 +10,6 @@ ghost use Rattle.seg_machine.specs.Tailored.{machine_of};
 ghost use Rattle.seg_memo.specs.Configurations.{AreLookedUp, configurations, reading};
 ghost use Rattle.seg_memo.specs.Memos.{IsMemoRefusal, IsNewMemo, memo_places, subject_of};
 
-use crate::configuration::Cell;
 use crate::reader::{CountedTransitions, ReadTransitions};
 use crate::search::{next_segment, skip};
 use crate::table::Table;
@@ -57,8 +56,9 @@ impl<'data, I: Cursor, R: ReadTransitions> Model for MemoBreakIterator<'data, I,
     ghost use Rattle.seg_machine.specs.Machine.{symbols_of};
     ghost use Rattle.seg_machine.specs.Tailored.{machine_of};
     ghost use Rattle.seg_memo.specs.Configurations.{reading, subject};
-    ghost use Rattle.seg_memo.specs.Grids.{filled, grid, IsMemo, IsReadBy};
+    ghost use Rattle.seg_memo.specs.Grids.{IsMemo, IsReadBy};
     ghost use Rattle.seg_memo.specs.Memos.{Memo, memo};
+    ghost use Rattle.seg_memo.specs.Windows.{Keeps};
 
     ghost Value = { Memo };
 
@@ -70,8 +70,7 @@ impl<'data, I: Cursor, R: ReadTransitions> Model for MemoBreakIterator<'data, I,
         (s.started ≡ false → (s.status ≡ 0) × (s.place ≡ 0))
         × IsReadBy scanned (machine_of s.machine) (R.states s.reader) (R.transitions s.reader)
         × (I.text s.rest ≡ rest_after s.place (I.text s.text))
-        × IsMemo scanned (grid s.table) s.place
-        × (R.counted s.reader ≡ filled s.table.cells.items) };
+        × Keeps scanned s.table s.place (R.counted s.reader) (λ whole. IsMemo scanned whole s.place) };
 }
 
 impl<'data, I: Cursor, R: ReadTransitions> MemoBreakIterator<'data, I, R> {
@@ -174,7 +173,7 @@ impl<'data, I: Cursor> MemoBreakIterator<'data, I, CountedTransitions<'data>> {
         let Some(count) = count_configurations(states, sets, items) else {
             return Err(MemoError::TooLarge);
         };
-        let Ok(cells) = vec![in alloc; Cell::Unknown; count] else {
+        let Ok(cells) = Vec::with_capacity(alloc, count) else {
             return Err(MemoError::Memory);
         };
         Ok(MemoBreakIterator {
@@ -183,6 +182,7 @@ impl<'data, I: Cursor> MemoBreakIterator<'data, I, CountedTransitions<'data>> {
             table: Table {
                 states,
                 sets,
+                first: 0,
                 cells,
             },
             rest: text.fork(),

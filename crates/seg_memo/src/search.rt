@@ -8,8 +8,8 @@ ghost use Rattle.seg_machine.specs.Pick.{pick};
 ghost use Rattle.seg_machine.specs.Tailored.{machine_of};
 ghost use Rattle.seg_memo.specs.Configurations.{Scan, Subject, start_at};
 ghost use Rattle.seg_memo.specs.Outcomes.{look_up, IfLeads};
-ghost use Rattle.seg_memo.specs.declared.configuration.Cell.TheVariants.{Unknown};
-ghost use Rattle.seg_memo.specs.Grids.{cell, filled, grid, IsAt, IsMemo, IsReadBy, IsScanned, IsSound, IsWithin, Went};
+ghost use Rattle.seg_memo.specs.Grids.{IsAt, IsBegun, IsMemo, IsReadBy, IsScanned, IsSound, IsWithin, Went};
+ghost use Rattle.seg_memo.specs.Windows.{Keeps};
 
 use crate::configuration::{
     Cell, Configuration, LookUp, Outcome, arrive, before, entered, holding, known, picked, way,
@@ -80,15 +80,12 @@ fn go_forward<I: Cursor, R: ReadTransitions>(
 ) -> (Configuration, Outcome)
     ghost scan: { Scan }
     requires read { IsReadBy scan.subject (machine_of machine.now) (R.states reader.old) (R.transitions reader.old) }
-    requires memo { IsMemo scan.subject (grid table.old) scan.start }
-    requires count { R.counted reader.old ≡ filled table.old.cells.items }
+    requires memo { Keeps scan.subject table.old scan.start (R.counted reader.old) (IsBegun scan.subject scan.start) }
     requires first { first ≡ start_at scan.start }
-    requires unknown { cell scan.subject (grid table.old) first ≡ Unknown }
     requires rest { IsAt scan.subject (machine_of machine.now) scan.start (I.text rest.old).items }
     requires some { scan.start < length scan.subject.symbols }
     ensures read { IsReadBy scan.subject (machine_of machine.now) (R.states reader.new) (R.transitions reader.new) }
-    ensures went { Went scan.subject (grid table.new) scan.start result.0 result.1 }
-    ensures count { R.counted reader.new ≡ filled table.new.cells.items }
+    ensures went { Keeps scan.subject table.new scan.start (R.counted reader.new) (λ whole. Went scan.subject whole scan.start result.0 result.1) }
 {
     let mut here = first;
     table.write(here, Cell::First);
@@ -116,9 +113,9 @@ fn go_back(
 ) -> Outcome
     ghost scan: { Scan }
     requires states { scan.subject.machine.states ≡ (machine_of machine.now).states }
-    requires went { Went scan.subject (grid table.old) scan.start last outcome }
-    ensures scanned { IsScanned scan.subject (grid table.new) scan.start result }
-    ensures count { filled table.new.cells.items ≡ filled table.old.cells.items }
+    requires went { (count : ℕ) × Keeps scan.subject table.old scan.start count (λ whole. Went scan.subject whole scan.start last outcome) }
+    ensures scanned { (count : ℕ) → Keeps scan.subject table.old scan.start count (λ whole. Went scan.subject whole scan.start last outcome)
+        → Keeps scan.subject table.new scan.start count (λ whole. IsScanned scan.subject whole scan.start result) }
 {
     let mut here = last;
     let mut outcome = outcome;
@@ -145,14 +142,12 @@ fn outcome_from<I: Cursor, R: ReadTransitions>(
 ) -> Outcome
     ghost scan: { Scan }
     requires read { IsReadBy scan.subject (machine_of machine.now) (R.states reader.old) (R.transitions reader.old) }
-    requires memo { IsMemo scan.subject (grid table.old) scan.start }
-    requires count { R.counted reader.old ≡ filled table.old.cells.items }
+    requires memo { Keeps scan.subject table.old scan.start (R.counted reader.old) (λ whole. IsMemo scan.subject whole scan.start) }
     requires start { start ≡ scan.start }
     requires rest { IsAt scan.subject (machine_of machine.now) scan.start (I.text rest.now).items }
     requires some { scan.start < length scan.subject.symbols }
     ensures read { IsReadBy scan.subject (machine_of machine.now) (R.states reader.new) (R.transitions reader.new) }
-    ensures scanned { IsScanned scan.subject (grid table.new) scan.start result }
-    ensures count { R.counted reader.new ≡ filled table.new.cells.items }
+    ensures scanned { Keeps scan.subject table.new scan.start (R.counted reader.new) (λ whole. IsScanned scan.subject whole scan.start result) }
 {
     let first = Configuration {
         state: SegmenterStateMachine::START_STATE,
@@ -189,16 +184,15 @@ pub(crate) fn next_segment<I: Cursor, R: ReadTransitions>(
 ) -> Boundary
     ghost subject: { Subject }
     requires read { IsReadBy subject (machine_of machine.now) (R.states reader.old) (R.transitions reader.old) }
-    requires memo { IsMemo subject (grid table.old) start }
-    requires count { R.counted reader.old ≡ filled table.old.cells.items }
+    requires memo { Keeps subject table.old start (R.counted reader.old) (λ whole. IsMemo subject whole start) }
     requires rest { IsAt subject (machine_of machine.now) start (I.text rest.old).items }
     requires some { (I.text rest.old).items ≢ [] }
     ensures read { IsReadBy subject (machine_of machine.now) (R.states reader.new) (R.transitions reader.new) }
-    ensures memo { IsMemo subject (grid table.new) result.offset }
-    ensures count { R.counted reader.new ≡ filled table.new.cells.items }
+    ensures memo { Keeps subject table.new result.offset (R.counted reader.new) (λ whole. IsMemo subject whole result.offset) }
     ensures segment { (p : AnyBoundary) × (pick subject.machine (drop start subject.symbols) ≡ Some p) × (result ≡ shift start p)
         × (I.text rest.new ≡ rest_after p.offset (I.text rest.old)) }
 {
+    table.leave(start);
     let outcome = outcome_from(machine, reader, table, rest, start);
     let Some(found) = picked(outcome) else {
         unreachable!()

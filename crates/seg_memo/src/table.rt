@@ -1,49 +1,111 @@
-//! The table of configurations: a cell for each.
+//! The table of configurations: a cell for each, of which those are held that a scan may come to.
 
-ghost use Rattle.std.specs.Prelude.{◌≡◌, ◌<◌, ℕ, length, replicate};
-ghost use Rattle.seg_memo.specs.Configurations.{Subject};
-ghost use Rattle.seg_memo.specs.Grids.{cell, grid, with_cell, number, IsFit, IsWithin};
+ghost use Rattle.std.specs.Prelude.{◌≡◌, ◌+◌, ◌<◌, ◌≤◌, ◌^◌, ℕ, length, slice_index_or, vec_capacity};
+ghost use Rattle.seg_memo.specs.Configurations.{Scan};
+ghost use Rattle.seg_memo.specs.declared.configuration.Cell.TheVariants.{Unknown};
+ghost use Rattle.seg_memo.specs.Grids.{Grid, cell, with_cell, number, IsWithin};
+ghost use Rattle.seg_memo.specs.Windows.{IsHeld, IsWindow};
 
 use crate::configuration::{Cell, Configuration};
+use seg_machine::provider::SegmenterStateMachine;
 
-/// A cell for each configuration of a text: for so many states and so many sets of lookaheads at each place.
+/// So many cells at least are let go at once.
+const LET_GO: usize = 1024;
+
+/// A cell for each configuration of a text: for so many states and so many sets of lookaheads at each place. Held are the
+/// cells from the first on, as far as one was written; those after them are unknown, and no scan comes back to those before.
 #[derive(Drop)]
 pub(crate) struct Table {
     pub(crate) states: usize,
     pub(crate) sets: usize,
+    pub(crate) first: usize,
     pub(crate) cells: Vec<Cell>,
 }
 
 impl Table {
-    /// The number of a configuration.
-    fn number(&self, here: Configuration) -> usize
-        ghost subject: { Subject }
-        requires fit { IsFit subject (grid self.now) }
-        requires here { IsWithin subject here }
-        ensures number { result ≡ number subject here }
-        ensures below { result < length self.now.cells.items }
+    /// Where the cell of a configuration is, counted from the first that is held.
+    fn index(&self, here: Configuration) -> usize
+        ghost scan: { Scan }
+        requires window { IsHeld scan.subject self.now scan.start }
+        requires here { IsWithin scan.subject here }
+        requires from { scan.start ≤ here.place }
+        ensures number { self.now.first + result ≡ number scan.subject here }
+        ensures room { result < vec_capacity self.now.cells }
+        ensures fits { self.now.first + result < 2 ^ 64 }
     {
-        (here.place * self.sets + here.kept as usize) * self.states + here.state as usize
+        ((here.place * self.sets + here.kept as usize) * self.states + here.state as usize)
+            - self.first
     }
 
     /// The cell of a configuration.
     pub(crate) fn cell(&self, here: Configuration) -> Cell
-        ghost subject: { Subject }
-        requires fit { IsFit subject (grid self.now) }
-        requires here { IsWithin subject here }
-        ensures { result ≡ cell subject (grid self.now) here }
+        ghost scan: { Scan }
+        requires window { IsHeld scan.subject self.now scan.start }
+        requires here { IsWithin scan.subject here }
+        requires from { scan.start ≤ here.place }
+        ensures { (whole : Grid) → IsWindow scan.subject self.now scan.start whole → result ≡ cell scan.subject whole here }
     {
-        self.cells[self.number(here)]
+        let index = self.index(here);
+        if index < self.cells.len() {
+            self.cells[index]
+        } else {
+            Cell::Unknown
+        }
+    }
+
+    /// Holds as many cells as there have to be for one at an index. There is room for it.
+    fn reach(&mut self, index: usize)
+        requires { index < vec_capacity self.old.cells }
+        ensures states { self.new.states ≡ self.old.states }
+        ensures sets { self.new.sets ≡ self.old.sets }
+        ensures first { self.new.first ≡ self.old.first }
+        ensures capacity { vec_capacity self.old.cells ≤ vec_capacity self.new.cells }
+        ensures length { index < length self.new.cells.items }
+        ensures held { (i : ℕ) → slice_index_or self.new.cells.items i Unknown ≡ slice_index_or self.old.cells.items i Unknown }
+    {
+        if index < self.cells.len() {
+            return;
+        }
+        let Ok(()) = self.cells.resize(index + 1, Cell::Unknown) else {
+            unreachable!()
+        };
     }
 
     /// Writes into the cell of a configuration.
     pub(crate) fn write(&mut self, here: Configuration, cell: Cell)
-        ghost subject: { Subject }
-        requires fit { IsFit subject (grid self.old) }
-        requires here { IsWithin subject here }
-        ensures { grid self.new ≡ with_cell subject (grid self.old) here cell }
+        ghost scan: { Scan }
+        requires window { IsHeld scan.subject self.old scan.start }
+        requires here { IsWithin scan.subject here }
+        requires from { scan.start ≤ here.place }
+        ensures { (whole : Grid) → IsWindow scan.subject self.old scan.start whole
+            → IsWindow scan.subject self.new scan.start (with_cell scan.subject whole here cell) }
     {
-        let number = self.number(here);
-        self.cells[number] = cell;
+        let index = self.index(here);
+        self.reach(index);
+        self.cells[index] = cell;
+    }
+
+    /// Lets go the cells before a place, where there are many of them, and no fewer than others.
+    pub(crate) fn leave(&mut self, start: usize)
+        ghost scan: { Scan }
+        requires window { IsHeld scan.subject self.old scan.start }
+        requires start { start ≡ scan.start }
+        requires place { start ≤ length scan.subject.symbols }
+        ensures { (whole : Grid) → IsWindow scan.subject self.old scan.start whole → IsWindow scan.subject self.new scan.start whole }
+    {
+        let before = self.index(Configuration {
+            state: SegmenterStateMachine::START_STATE,
+            place: start,
+            kept: 0,
+        });
+        let len = self.cells.len();
+        let gone = if before < len { before } else { len };
+        let left = len - gone;
+        if gone < LET_GO || gone < left {
+            return;
+        }
+        self.cells.copy_within(gone..len, 0);
+        self.cells.truncate(left);
+        self.first += gone;
     }
 }

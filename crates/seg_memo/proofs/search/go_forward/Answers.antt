@@ -1,13 +1,16 @@
 use Rattle.seg_memo.proofs.Ways.{count-room}
-use Rattle.seg_memo.proofs.Turns.{start-count, start-rest, start-walk, turn-count, turn-ends, turn-fewer, turn-known, turn-next, walk-inside}
+use Rattle.seg_memo.proofs.Held.{first-there, keeps-ends, keeps-known, keeps-memo, keeps-next, keeps-start, next-there}
+use Rattle.seg_memo.proofs.Turns.{start-rest, turn-fewer, walk-inside}
 use Rattle.seg_memo.proofs.search.go_forward.Goals as goal
+
+pub write-requires : goal.write-requires
+write-requires g c = first-there _ _ _ _ _ (keeps-memo _ _ _ _ c.requires.1.1.1.0) c.requires.1.1.1.1.0
 
 pub scan-init : goal.scan-init
 scan-init g c = record {
   read = c.requires.1.1.0;
-  walking = start-walk _ _ _ _ _ c.requires.1.1.1.0 c.requires.1.1.1.1.1.1.1.1 c.requires.1.1.1.1.1.0 c.requires.1.1.1.1.1.1.0 c.write.ensures;
-  count = start-count _ _ _ _ _ _ c.requires.1.1.1.0 c.requires.1.1.1.1.1.0 c.requires.1.1.1.1.1.1.0 c.write.ensures c.requires.1.1.1.1.0;
-  rest = start-rest g.scan.subject _ _ _ _ c.requires.1.1.1.1.1.0 c.requires.1.1.1.1.1.1.1.0;
+  walking = keeps-start _ _ _ _ _ _ c.requires.1.1.1.0 c.requires.1.1.1.1.1.1 c.requires.1.1.1.1.0 c.write.ensures;
+  rest = start-rest g.scan.subject _ _ _ _ c.requires.1.1.1.1.0 c.requires.1.1.1.1.1.0;
 }
 
 pub look_up-requires : goal.look_up-requires
@@ -16,12 +19,12 @@ look_up-requires g c = λ κs lives. (
   (
     lives.1,
     (
-      c.scan.invariant.walking.table.fit.sound,
+      c.scan.invariant.walking.is.table.fit.sound,
       (
         c.scan.invariant.read,
         (
-          count-room _ _ _ c.scan.invariant.walking.table.fit c.scan.invariant.count,
-          (walk-inside _ _ _ _ c.scan.invariant.walking, c.scan.invariant.rest),
+          count-room _ _ _ c.scan.invariant.walking.is.table.fit c.scan.invariant.walking.count,
+          (walk-inside _ _ _ _ c.scan.invariant.walking.is, c.scan.invariant.rest),
         ),
       ),
     ),
@@ -29,21 +32,26 @@ look_up-requires g c = λ κs lives. (
 )
 
 pub returns-in-Ends-clause-went : goal.returns-in-Ends-clause-went
-returns-in-Ends-clause-went g c = turn-ends _ _ _ _ _ _ c.scan.invariant.walking c.look_up.ensures.value c.in-Ends.is
+returns-in-Ends-clause-went g c = keeps-ends _ _ _ _ _ _ _ _ c.scan.invariant.walking c.look_up.ensures.value c.in-Ends.is c.look_up.ensures.count
+
+pub cell-requires : goal.cell-requires
+cell-requires g c = next-there _ _ _ _ _ _ _ c.scan.invariant.walking c.look_up.ensures.value c.in-Leads.is c.in-Leads.ensures.within
 
 pub returns-in-Some-clause-went : goal.returns-in-Some-clause-went
 returns-in-Some-clause-went g c =
-    turn-known _ _ _ _ _ _ _ _ _ _ _ _ _ _ c.scan.invariant.walking c.scan.invariant.read c.look_up.ensures.value c.in-Leads.is c.in-Leads.ensures.within c.cell.ensures c.known.ensures
-    c.in-Some.is c.entry-entry.ensures c.entered.ensures
+    keeps-known _ _ _ _ _ _ _ _ _ _ _ _ _ _ _ _ c.scan.invariant.walking c.scan.invariant.read c.look_up.ensures.value c.in-Leads.is c.in-Leads.ensures.within c.cell.ensures c.known.ensures
+    c.in-Some.is c.entry-entry.ensures c.entered.ensures c.look_up.ensures.count
+
+pub write-requires-in-scan : goal.write-requires-in-scan
+write-requires-in-scan g c = next-there _ _ _ _ _ _ _ c.scan.invariant.walking c.look_up.ensures.value c.in-Leads.is c.in-Leads.ensures.within
 
 pub scan-smaller : goal.scan-smaller
-scan-smaller g c = turn-fewer _ _ _ _ _ _ c.scan.invariant.walking c.look_up.ensures.value c.in-Leads.is
+scan-smaller g c = turn-fewer _ _ _ _ _ _ c.scan.invariant.walking.is c.look_up.ensures.value c.in-Leads.is
 
 pub scan-preserved : goal.scan-preserved
 scan-preserved g c = record {
   read = c.look_up.ensures.read;
-  walking = turn-next _ _ _ _ _ _ _ _ _ _ c.scan.invariant.walking c.look_up.ensures.value c.in-Leads.is c.in-Leads.ensures.within c.cell.ensures c.known.ensures c.in_default.is c.way.ensures c.write-in-scan.ensures;
-  count = turn-count _ _ _ _ _ _ _ _ _ _ _ _ c.scan.invariant.walking c.look_up.ensures.value c.in-Leads.is c.in-Leads.ensures.within c.cell.ensures c.known.ensures c.in_default.is c.way.ensures c.write-in-scan.ensures
-      c.scan.invariant.count c.look_up.ensures.count;
+  walking = keeps-next _ _ _ _ _ _ _ _ _ _ _ _ c.scan.invariant.walking c.look_up.ensures.value c.in-Leads.is c.in-Leads.ensures.within c.cell.ensures c.known.ensures c.in_default.is c.way.ensures
+      c.write-in-scan.ensures c.look_up.ensures.count;
   rest = c.in-Leads.ensures.rest;
 }

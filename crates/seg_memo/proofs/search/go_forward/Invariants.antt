@@ -1,14 +1,15 @@
-use Rattle.std.proofs.Common.{◌≡◌, ◌+◌, length}
+use Rattle.std.proofs.Common.{◌+◌, length}
 use Rattle.seg_machine.specs.Tailored.{machine_of}
 use Rattle.seg_memo.specs.Configurations.{following}
-use Rattle.seg_memo.specs.Grids.{IsAt, IsReadBy, Walking, filled, grid}
+use Rattle.seg_memo.specs.Grids.{IsAt, IsReadBy, Walking}
+use Rattle.seg_memo.specs.Windows.{Keeps}
 use Rattle.seg_memo.proofs.search.go_forward.Given as goal
 
 abbrev pub ghost-cell : goal.ghost-cell
-ghost-cell g a = g.scan.subject
+ghost-cell g a = g.scan
 
 abbrev pub ghost-write : goal.ghost-write
-ghost-write g a = g.scan.subject
+ghost-write g a = g.scan
 
 abbrev pub ghost-look_up : goal.ghost-look_up
 ghost-look_up g a = g.scan.subject
@@ -16,8 +17,7 @@ ghost-look_up g a = g.scan.subject
 abbrev pub invariant-scan : goal.invariant-scan
 invariant-scan g l = record {
   read : IsReadBy g.scan.subject (machine_of l.machine) (g.R.ReadTransitions.states l.reader) (g.R.ReadTransitions.transitions l.reader);
-  walking : Walking g.scan.subject (grid l.table) g.scan.start l.here;
-  count : g.R.ReadTransitions.counted l.reader + 1 ≡ filled l.table.cells.items;
+  walking : Keeps g.scan.subject l.table g.scan.start (g.R.ReadTransitions.counted l.reader + 1) (λ whole. Walking g.scan.subject whole g.scan.start l.here);
   rest : IsAt g.scan.subject (machine_of l.machine) l.here.place (g.I.Cursor.text l.rest).items;
 }
 

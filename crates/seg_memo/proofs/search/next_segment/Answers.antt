@@ -1,6 +1,10 @@
 use Rattle.std.proofs.Common.{refl}
 use Rattle.seg_memo.proofs.Segments.{segment-found, segment-memo, segment-some, segment-rest, skip-next, some-left}
+use Rattle.seg_memo.proofs.Held.{keeps-left, keeps-on, segment-on}
 use Rattle.seg_memo.proofs.search.next_segment.Goals as goal
+
+pub leave-requires : goal.leave-requires
+leave-requires g c = let k = c.requires.1.1.1.0 in ((k.whole, k.window), (refl, k.is.within))
 
 pub outcome_from-outcome-requires : goal.outcome_from-outcome-requires
 outcome_from-outcome-requires g c κs within = (
@@ -10,8 +14,8 @@ outcome_from-outcome-requires g c κs within = (
     (
       c.requires.1.1.0,
       (
-        c.requires.1.1.1.0,
-        (c.requires.1.1.1.1.0, (refl, (c.requires.1.1.1.1.1.0, some-left _ _ _ _ _ _ c.requires.1.1.0 c.requires.1.1.1.1.1.0 c.requires.1.1.1.1.1.1))),
+        keeps-left _ _ _ _ _ _ c.requires.1.1.1.0 c.leave.ensures,
+        (refl, (c.requires.1.1.1.1.0, some-left _ _ _ _ _ _ c.requires.1.1.0 c.requires.1.1.1.1.0 c.requires.1.1.1.1.1)),
       ),
     ),
   ),
@@ -19,17 +23,18 @@ outcome_from-outcome-requires g c κs within = (
 
 pub unreachable-requires : goal.unreachable-requires
 unreachable-requires g c =
-    segment-some _ _ _ _ _ _ _ _ _ c.outcome_from-outcome.ensures.scanned c.outcome_from-outcome.ensures.read c.requires.1.1.1.1.1.0 c.requires.1.1.1.1.1.1 c.picked.ensures c.in_default.is
+    segment-some _ _ _ _ _ _ _ _ _ c.outcome_from-outcome.ensures.scanned.is c.outcome_from-outcome.ensures.read c.requires.1.1.1.1.0 c.requires.1.1.1.1.1 c.picked.ensures c.in_default.is
 
 pub loop-item-preserved : goal.loop-item-preserved
 loop-item-preserved g c = skip-next _ _ _ c.args.start c.loop-item.item c.loop-item.auto.item c.loop-item.invariant c.skip.ensures
 
 pub returns-clause-memo : goal.returns-clause-memo
 returns-clause-memo g c =
-    segment-memo _ _ _ _ _ _ _ _ _ c.outcome_from-outcome.ensures.scanned c.outcome_from-outcome.ensures.read c.requires.1.1.1.1.1.0 c.requires.1.1.1.1.1.1
-    (segment-found _ _ _ _ _ _ c.outcome_from-outcome.ensures.scanned c.picked.ensures c.in-Some.is)
+    let k = c.outcome_from-outcome.ensures.scanned in
+    let segment = segment-found g.subject _ _ _ _ _ k.is c.picked.ensures c.in-Some.is in
+    keeps-on _ _ _ _ _ _ _ (segment-on _ _ _ segment) k (segment-memo _ _ _ _ _ _ _ _ _ k.is c.outcome_from-outcome.ensures.read c.requires.1.1.1.1.0 c.requires.1.1.1.1.1 segment)
 
 pub returns-clause-segment : goal.returns-clause-segment
 returns-clause-segment g c =
     segment-rest g.subject _ _ c.args.start c.loop-item.item c.in-Some.found
-    (segment-found _ _ _ _ _ _ c.outcome_from-outcome.ensures.scanned c.picked.ensures c.in-Some.is) c.loop-item-test.false c.loop-item.auto.item-end c.loop-item.invariant
+    (segment-found _ _ _ _ _ _ c.outcome_from-outcome.ensures.scanned.is c.picked.ensures c.in-Some.is) c.loop-item-test.false c.loop-item.auto.item-end c.loop-item.invariant

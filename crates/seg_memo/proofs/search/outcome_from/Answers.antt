@@ -1,7 +1,11 @@
 use Rattle.std.proofs.Common.{ap}
 use Rattle.seg_memo.specs.Configurations.{start_at}
-use Rattle.seg_memo.proofs.Turns.{known-before}
+use Rattle.seg_memo.proofs.Held.{first-there, keeps-before}
 use Rattle.seg_memo.proofs.search.outcome_from.Goals as goal
 
+pub cell-requires : goal.cell-requires
+cell-requires g c = first-there _ _ _ _ _ c.requires.1.1.1.0 (ap start_at c.requires.1.1.1.1.0)
+
 pub returns-in-Some-clause-scanned : goal.returns-in-Some-clause-scanned
-returns-in-Some-clause-scanned g c = known-before g.scan.subject _ _ _ _ _ _ c.requires.1.1.1.0 c.requires.1.1.1.1.1.1.1 (ap start_at c.requires.1.1.1.1.1.0) c.cell.ensures c.known.ensures c.in-Some.is
+returns-in-Some-clause-scanned g c =
+    keeps-before g.scan.subject _ _ _ _ _ _ _ c.requires.1.1.1.0 c.requires.1.1.1.1.1.1 (ap start_at c.requires.1.1.1.1.0) c.cell.ensures c.known.ensures c.in-Some.is

@@ -1,5 +1,5 @@
 use Rattle.std.proofs.Common.{◌∙◌, ap, refl}
-use Rattle.seg_memo.proofs.Fresh.{first-memo, fresh-count, none-filled, sets-made, states-made}
+use Rattle.seg_memo.proofs.Fresh.{first-keeps, sets-made, states-made}
 use Rattle.seg_machine.specs.Tailored.{machine_of}
 use Rattle.seg_memo.proofs.Memoised.{read-by}
 use Rattle.seg_memo.proofs.memo.«MemoBreakIterator+I+CountedTransitions».try_new.Goals as goal
@@ -9,8 +9,7 @@ invariant_of-result g c = (
   λ off. (refl, refl),
   read-by (machine_of c.args.machine) _ _ _ (c.new.ensures.states ∙ states-made (machine_of c.args.machine) _ c.machine-2.ensures.states),
   ap (g.I.Cursor.text) c.fork.ensures,
-  first-memo (machine_of c.args.machine) _ _ _ _ _ _ _ c.facts.ensures (c.new.ensures.transitions ∙ c.machine-2.ensures.transitions)
+  first-keeps (machine_of c.args.machine) _ _ _ _ _ _ c.facts.ensures (c.new.ensures.transitions ∙ c.machine-2.ensures.transitions)
       (states-made (machine_of c.args.machine) _ (c.states-states.ensures ∙ c.machine.ensures.states)) (sets-made _ _ c.facts.ensures c.num_lookaheads-sets.ensures) c.in-Some.ensures.1
-      c.in-Some-count_configurations.ensures (c.in-Ok.ensures.items_if_clones_equal (λ y same. same)),
-  fresh-count _ _ (none-filled _ _ (c.in-Ok.ensures.items_if_clones_equal (λ y same. same))) c.new.ensures.count,
+      c.in-Some-count_configurations.ensures refl c.in-Ok.ensures.items c.in-Ok.ensures.exact c.new.ensures.count,
 )

@@ -1,4 +1,4 @@
 use Rattle.seg_memo.proofs.table.Table.cell.Given as goal
 
-abbrev pub ghost-number : goal.ghost-number
-ghost-number g a = g.subject
+abbrev pub ghost-index : goal.ghost-index
+ghost-index g a = g.scan
