@@ -137,7 +137,8 @@ fn allows_a_break(class: u8) -> bool
 fn is_ideographic(class: u8) -> bool
     ensures { result ≡ is_among (ID ∷ ID_EASTASIAN ∷ []) class }
 {
-    class == RuleBreakData::LINE_V3_PROPERTY_ID || class == RuleBreakData::LINE_V3_PROPERTY_ID_EASTASIAN
+    class == RuleBreakData::LINE_V3_PROPERTY_ID
+        || class == RuleBreakData::LINE_V3_PROPERTY_ID_EASTASIAN
 }
 
 /// Whether the class stays with an ideograph before it.

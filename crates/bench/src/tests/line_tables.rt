@@ -10,9 +10,7 @@ use crate::turn_tables::turn_table;
 use icu_segmenter::options::{
     LanguageIdentifier, LineBreakOptions, LineBreakStrictness, LineBreakWordOption,
 };
-use icu_segmenter::provider::{
-    BreakState, ClassTable, DataError, Dictionaries, RuleBreakData,
-};
+use icu_segmenter::provider::{BreakState, ClassTable, DataError, Dictionaries, RuleBreakData};
 use icu_segmenter::{LineSegmenter, LineSegmenterBorrowed};
 use std::alloc::{AllocError, Global};
 use std::process::Abort;
@@ -198,7 +196,12 @@ fn bench_segmenter(alloc: Global, engine: Engine, asked: Asked) -> Result<LineSe
 }
 
 /// Asserts the boundaries of a text by the sample segmenter, of which none is mandatory.
-fn expect_bench_lines(rt: &impl Abort, alloc: Global, engine: Engine, row: Row) -> Result<(), Fail> {
+fn expect_bench_lines(
+    rt: &impl Abort,
+    alloc: Global,
+    engine: Engine,
+    row: Row,
+) -> Result<(), Fail> {
     let segmenter = bench_segmenter(alloc, engine, row.0)?;
     Ok(expect_lines(rt, alloc, segmenter.as_borrowed(), row.1, (row.2, &[]))?)
 }
@@ -206,7 +209,12 @@ fn expect_bench_lines(rt: &impl Abort, alloc: Global, engine: Engine, row: Row) 
 #[test]
 fn lines_by_the_table(rt: HostRuntime) -> Result<(), Fail> {
     let alloc = rt.alloc();
-    expect_bench_lines(&rt, alloc, Engine::Classic, (DEFAULT, "a -b", &[0, 2, 3, 4]))?;
+    expect_bench_lines(
+        &rt,
+        alloc,
+        Engine::Classic,
+        (DEFAULT, "a -b", &[0, 2, 3, 4]),
+    )?;
     for row in ROWS {
         expect_bench_lines(&rt, alloc, Engine::Classic, row)?;
         expect_bench_lines(&rt, alloc, Engine::Turns, row)?;
@@ -234,8 +242,13 @@ fn lines_by_turns(rt: HostRuntime) -> Result<(), Fail> {
     let alloc = rt.alloc();
     expect_turns(&rt, alloc, &turn_table(alloc)?, &TURN_ROWS)?;
     expect_turns(&rt, alloc, &quote_table(alloc)?, &QUOTE_ROWS)?;
-    // No class at the start of a text may be read as one that bears no mark, or else a boundary stands before a mark.
-    expect_turns(&rt, alloc, &start_table(alloc)?, &[("-\u{301}", &[0, 1, 3])])
+    // Where the table reads the hyphen at the start of a text as a space, a boundary stands before its mark.
+    expect_turns(
+        &rt,
+        alloc,
+        &start_table(alloc)?,
+        &[("-\u{301}", &[0, 1, 3])],
+    )
 }
 
 /// Asserts the boundaries of Thai and Myanmar by a segmenter, of which none is mandatory.
@@ -317,7 +330,13 @@ fn changed_table(
 fn complex_table(alloc: Global, engine: Engine, complex: u8) -> Result<RuleBreakData, Fail> {
     let bench = engine.table(alloc)?;
     let entries = Vec::from_slice(alloc, bench.break_state_table())?;
-    changed_table(alloc, &bench, bench.property_table().ranges(), entries, complex)
+    changed_table(
+        alloc,
+        &bench,
+        bench.property_table().ranges(),
+        entries,
+        complex,
+    )
 }
 
 /// The sample table of the engine 17 where U+2019 has class QU_PF and U+0028 class OP.
@@ -382,7 +401,13 @@ fn tables_of_lines_are_refused_by_the_lowest_fault(rt: HostRuntime) -> Result<()
     let alloc = rt.alloc();
     let bench = cluster_table(alloc)?;
     for (engine, complex, keeps, complex_clusters, want) in [
-        (Engine::Classic, 25, false, 127, DataError::ComplexClassNamed),
+        (
+            Engine::Classic,
+            25,
+            false,
+            127,
+            DataError::ComplexClassNamed,
+        ),
         (Engine::Classic, 3, false, 127, DataError::ComplexBelow0100),
         (Engine::Classic, 3, false, 3, DataError::ComplexItems),
         (Engine::Classic, 3, true, 3, DataError::StartRowKeeps),
