@@ -1,5 +1,5 @@
-//! Sample data, written by hand: machines, pair tables and tailorings for tests, examples and the programs, and readers
-//! and writers that fail. The tests that cross crates stand here too.
+//! Sample data, written by hand: machines, pair tables, tailorings and dictionaries for tests, examples and the programs. The tests that
+//! cross crates stand here too.
 //!
 //! This is no benchmark (crates/speed measures), and no claim is made that the data agree with UAX #14 or UAX #29.
 #![tactic(auto)]

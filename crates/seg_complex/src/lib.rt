@@ -9,5 +9,3 @@ pub mod laws;
 pub mod runs;
 pub mod script_iter;
 pub mod spans;
-#[cfg(test)]
-mod tests;

@@ -3,6 +3,4 @@
 
 pub mod dictionaries;
 pub mod provider;
-#[cfg(test)]
-mod tests;
 pub mod words;

@@ -8,7 +8,5 @@ pub mod laws;
 pub mod line_pairs;
 mod lists;
 pub mod options;
-#[cfg(test)]
-mod tests;
 pub mod units;
 pub mod verdicts;

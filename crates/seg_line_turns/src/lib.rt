@@ -5,8 +5,6 @@ mod bases;
 pub mod boundaries;
 mod classes;
 pub mod laws;
-#[cfg(test)]
-mod tests;
 pub mod turn_events;
 mod turn_lists;
 pub mod turn_pairs;

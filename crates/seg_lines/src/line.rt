@@ -20,8 +20,6 @@ mod dictionaries;
 mod neo;
 mod options;
 mod tailorings;
-#[cfg(test)]
-mod tests;
 
 use crate::boundaries::Boundaries;
 use crate::finder::{Finder, OwnedFinder};

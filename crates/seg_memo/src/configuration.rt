@@ -44,7 +44,7 @@ pub enum LookUp {
 
 /// What is known of a configuration.
 #[derive(Clone, Copy, Debug)]
-pub(crate) enum Cell {
+pub enum Cell {
     /// It was not looked up.
     Unknown,
     /// A scan began in it.

@@ -7,5 +7,3 @@ pub mod memo;
 pub mod reader;
 mod search;
 mod table;
-#[cfg(test)]
-mod tests;

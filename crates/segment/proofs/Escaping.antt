@@ -1,10 +1,15 @@
 -- What the bytes at the head of a text are written as, and then those further on.
-use Rattle.std.proofs.Common.{◌≡◌, ℕ, suc, zero, ◌+◌, ◌-◌, ◌<◌, ◌≤◌, true, false, Option, List, [], ◌∷◌, ◌++◌, length, take, drop, refl, sym, ap, ◌∙◌, append-nil, append_assoc, arith, slice_index_or}
+use Rattle.std.proofs.Common.{◌≡◌, ℕ, ◌+◌, ◌-◌, ◌<◌, ◌≤◌, ◌==◌, true, false, List, [], ◌∷◌, ◌++◌, length, take, drop, refl, sym, ap, ◌∙◌, append-nil, append_assoc, arith, slice_index_or}
 use Rattle.std.proofs.Math.Seq.{take-add, drop-drop}
 use Rattle.std.proofs.lemmas.List.{take_all, drop_all, length-drop}
-use Rattle.std.proofs.KnownBytes.{Appends-trans}
-use Rattle.std.specs.Io.KnownBytes.{Appends}
-use Rattle.segment.specs.Escapes.{are_control, escape_of, escaped, is_control}
+use Rattle.std.proofs.lemmas.Bool.{and_parts, not-true}
+use Rattle.segment.specs.Escapes.{are_control, escape_of, escaped, is_control, is_plain}
+
+-- a plain byte, before any other
+pub plain-none : (first second : ℕ) → is_plain first ≡ true → (is_control first ≡ false) × (are_control first second ≡ false)
+plain-none first second plain =
+    let parts = and_parts _ _ plain in
+    let nor : (first == 0xC2) ≡ false = not-true _ parts.1 in (not-true _ parts.0, rw nor refl)
 
 -- a byte that is a control character
 pub escaped-one : (bytes : List ℕ) → 0 < length bytes → is_control (slice_index_or bytes 0 0) ≡ true
@@ -65,21 +70,17 @@ module _ (bytes : List ℕ) (start : ℕ) (plain : escaped bytes ≡ take start 
   pub escaped-end : length bytes ≤ start → escaped bytes ≡ bytes
   escaped-end past = plain ∙ rw (take_all start bytes past, drop_all start bytes past, escaped-nothing) (append-nil bytes)
 
--- one control character more is written, after what stands before it
-pub escaped-turn : (bytes rest written : List ℕ) (code start end : ℕ) (old mid next new : Option (List ℕ))
-    → Appends old mid written → written ++ escaped rest ≡ escaped bytes
+-- one control character more is added, after what stands before it
+pub escaped-turn : (rest lines front more all : List ℕ) (code start end : ℕ) → lines ++ escaped rest ≡ all
     → escaped rest ≡ take start rest ++ escape_of code ++ escaped (drop end rest)
-    → Appends mid next (take start rest) → Appends next new (escape_of code)
-    → (all : List ℕ) × Appends old new all × (all ++ escaped (take (length rest - end) (drop end rest)) ≡ escaped bytes)
-escaped-turn bytes rest written code start end old mid next new before whole found front escape =
+    → front ≡ lines ++ take start rest → more ≡ front ++ escape_of code
+    → more ++ escaped (take (length rest - end) (drop end rest)) ≡ all
+escaped-turn rest lines front more all code start end whole found front-is more-is =
     let plain = take start rest in
     let left = escaped (drop end rest) in
-    let is : (written ++ plain ++ escape_of code) ++ left ≡ escaped bytes =
-    append_assoc (written ++ plain) (escape_of code) left
-    ∙ append_assoc written plain (escape_of code ++ left)
-    ∙ ap (λ rest. written ++ rest) (sym (append_assoc plain (escape_of code) left) ∙ sym found)
-    ∙ whole in (
-      written ++ plain ++ escape_of code,
-      Appends-trans old next new _ _ (Appends-trans old mid next _ _ before front) escape,
-      rw (take_all (length rest - end) (drop end rest) (omega (arith, length-drop end rest))) is,
-    )
+    ap (λ bytes. more ++ escaped bytes) (rest-is rest end)
+    ∙ ap (λ bytes. bytes ++ left) (more-is ∙ ap (λ bytes. bytes ++ escape_of code) front-is)
+    ∙ append_assoc (lines ++ plain) (escape_of code) left
+    ∙ append_assoc lines plain (escape_of code ++ left)
+    ∙ ap (λ bytes. lines ++ bytes) (sym (append_assoc plain (escape_of code) left) ∙ sym found)
+    ∙ whole

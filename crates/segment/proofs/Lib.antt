@@ -1,3 +1,4 @@
 pub mod Segments
+pub mod Gathered
 pub mod Escaping
 pub mod Printed

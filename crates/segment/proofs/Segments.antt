@@ -1,15 +1,12 @@
 -- One boundary more ends one segment more.
-use Rattle.std.proofs.Common.{◌≡◌, ℕ, true, false, Option, None, Some, List, [], ◌∷◌, ◌++◌, drop, map, filter, refl, sym, ap, ◌∙◌, append_assoc, append-nil}
+use Rattle.std.proofs.Common.{◌≡◌, ℕ, true, false, Option, None, Some, List, [], ◌∷◌, ◌++◌, drop, map, filter, refl, ap, ◌∙◌, append-nil}
 use Rattle.std.proofs.lemmas.List.{map-append}
 use Rattle.std.proofs.lemmas.List.Elements.{filter-append}
-use Rattle.std.proofs.KnownBytes.{Appends-trans}
-use Rattle.std.specs.Io.KnownBytes.{Appends}
 use Rattle.std.specs.List.{zip}
 use Rattle.std.specs.Option.{option_map}
 use Rattle.icu_segmenter.specs.WordRules.{is_word_like}
 use Rattle.icu_segmenter.specs.declared.options.WordType.{WordType}
-use Rattle.segment.specs.Output.{ended, segments, words_alone, line_of, lines_of}
-use Rattle.segment.specs.declared.output.Style.{Style}
+use Rattle.segment.specs.Output.{ended, segments, words_alone}
 
 -- the last of a list
 abbrev pub last : {X : Type 0} → List X → Option X
@@ -73,15 +70,3 @@ module _ (boundaries : List (ℕ × WordType)) (end : ℕ) (kind : WordType) whe
   pub words-same : is_word_like kind ≡ false → words_alone (boundaries ++ (end, kind) ∷ []) ≡ words_alone boundaries
   words-same is =
       more-is ∙ ap (λ more. words_alone boundaries ++ more) (word-is_none (last boundaries) end kind is) ∙ append-nil (words_alone boundaries)
-
-lines-append : (style : Style) (text : List ℕ) (done more : List (ℕ × ℕ)) → lines_of style text (done ++ more) ≡ lines_of style text done ++ lines_of style text more
-lines-append style text [] more = refl
-lines-append style text (segment ∷ done) more =
-    ap (λ rest. line_of style text segment ++ rest) (lines-append style text done more)
-    ∙ sym (append_assoc (line_of style text segment) (lines_of style text done) (lines_of style text more))
-
--- the lines of the segments so far, and then of those that are more
-pub lines-more : (style : Style) (text : List ℕ) (done more all : List (ℕ × ℕ)) (old mid new : Option (List ℕ)) → all ≡ done ++ more
-    → Appends old mid (lines_of style text done) → Appends mid new (lines_of style text more) → Appends old new (lines_of style text all)
-lines-more style text done more all old mid new is before after =
-    rw (is, lines-append style text done more) (Appends-trans old mid new _ _ before after)

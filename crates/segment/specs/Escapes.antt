@@ -1,5 +1,5 @@
 -- Control characters and their escapes, in texts in UTF-8.
-use Rattle.std.specs.Prelude.{ℕ, ◌+◌, ◌/◌, ◌%◌, ◌==◌, ◌&&◌, ◌||◌, nat_le, nat_lt, Bool, List, [], ◌∷◌, ◌++◌, codes, if◌then◌else◌}
+use Rattle.std.specs.Prelude.{ℕ, ◌+◌, ◌/◌, ◌%◌, ◌==◌, ◌&&◌, ◌||◌, not, nat_le, nat_lt, Bool, List, [], ◌∷◌, ◌++◌, codes, if◌then◌else◌}
 
 -- the digit of a number below 16
 abbrev pub hex_digit : ℕ → ℕ
@@ -20,6 +20,10 @@ is_control byte = nat_lt byte 0x20 || byte == 0x7F
 -- two bytes that are one: U+0080 to U+009F. C2 stands nowhere but at the head of a character
 abbrev pub are_control : ℕ → ℕ → Bool
 are_control first second = first == 0xC2 && nat_le 0x80 second && nat_le second 0x9F
+
+-- a byte that neither is a control character nor begins one of two bytes
+abbrev pub is_plain : ℕ → Bool
+is_plain byte = not (is_control byte) && not (byte == 0xC2)
 
 -- bytes whose control characters are written as escapes, and all else as it is
 unfoldable pub escaped : List ℕ → List ℕ

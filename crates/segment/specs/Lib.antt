@@ -1,3 +1,5 @@
 pub mod Escapes
+pub mod Fault
+pub mod Memo
 pub mod Output
 pub mod Segmenter

@@ -22,6 +22,15 @@ pub enum Kind {
     Lines,
 }
 
+/// What finds the boundaries. Both find the same.
+#[derive(Clone, Copy, Debug, PartialEq, Eq)]
+pub enum Engine {
+    /// The engine that takes no memory.
+    Plain,
+    /// That which looks up no configuration of its machine twice.
+    Memoised,
+}
+
 /// What the command line asks for.
 #[derive(Drop)]
 pub struct Request<'a> {
@@ -29,6 +38,8 @@ pub struct Request<'a> {
     pub kind: Kind,
     /// How segments are written.
     pub style: Style,
+    /// What finds the boundaries.
+    pub engine: Engine,
     /// Of lines, how strict they are.
     pub strictness: Option<LineBreakStrictness>,
     /// Of lines, whether they break within words.
@@ -68,7 +79,8 @@ pub fn command_line<'a>(alloc: Global) -> Result<Command<'a>, AllocError> {
             alloc,
             "words",
             "Of words: leave out what stands between them",
-        ))?;
+        ))?
+        .arg(memo_argument(alloc)?)?;
     let strictness = "Of lines: the property line-break of CSS";
     let word_break = "Of lines: the property word-break of CSS";
     let script = "The script of that dictionary";
@@ -92,6 +104,13 @@ fn flag<'a>(alloc: Global, name: &'a str, help: &'a str) -> Arg<'a> {
         .long(name)
         .action(ArgAction::SetTrue)
         .help(help)
+}
+
+// Dictionaries go with the plain engine alone.
+fn memo_argument<'a>(alloc: Global) -> Result<Arg<'a>, AllocError> {
+    let help =
+        "Look up no configuration twice: takes time in step with the text's length, and memory";
+    flag(alloc, "memo", help).conflicts_with("dictionary")
 }
 
 fn option<'a>(alloc: Global, name: &'a str, help: &'a str) -> Arg<'a> {
@@ -124,6 +143,7 @@ pub fn request_of<'a>(matches: &ArgMatches<'a>) -> Result<Request<'a>> {
     let request = Request {
         kind: kind_of(matches.get_str("kind"), matches.get_flag("words"))?,
         style: style_of(matches.get_flag("offsets"), matches.get_flag("raw")),
+        engine: engine_of(matches.get_flag("memo")),
         strictness: matches.get_str("strictness").and_then(strictness_of),
         word_option: matches.get_str("word-break").and_then(word_option_of),
         language: language_of(matches.get_str("lang"))?,
@@ -168,6 +188,14 @@ fn style_of(offsets: bool, raw: bool) -> Style {
         (true, _) => Style::Offsets,
         (false, true) => Style::Raw,
         (false, false) => Style::Escaped,
+    }
+}
+
+fn engine_of(memo: bool) -> Engine {
+    if memo {
+        Engine::Memoised
+    } else {
+        Engine::Plain
     }
 }
 

@@ -1,41 +1,41 @@
 //! The program, over any reader and writer.
-ghost use Rattle.std.specs.Prelude.{◌≡◌, IfOk, IfSome, OnOk};
+ghost use Rattle.std.specs.Prelude.{◌≡◌, IfErr, IfOk, IfSome, OnOk};
 ghost use Rattle.std.specs.Io.KnownBytes.{Appends, IsAtEnd};
+ghost use Rattle.segment.specs.Fault.{IsBeforeWriting};
 ghost use Rattle.segment.specs.Output.{lines_of};
 ghost use Rattle.segment.specs.Segmenter.{segments_by};
 
+use crate::command::Engine;
+use crate::fault::Fault;
+use crate::memo::print_by_memo;
 use crate::output::Style;
 use crate::segmenter::Segmenter;
 use std::alloc::Global;
-use std::io;
 use std::io::{Read, Write};
 
-/// What ends a run early.
-#[derive(Drop)]
-pub enum Fault {
-    /// The input can't be read to its end, or there isn't memory for it.
-    Read(io::Error),
-    /// The output took not all.
-    Write(io::Error),
-}
-
-/// Writes each segment of what a reader has on a line of its own. The errors are those of the reader, which are met before anything
-/// is written, and of the writer.
+/// Writes each segment of what a reader has on a line of its own; what is written doesn't depend on the engine. The errors are those
+/// of the reader and of the memoised engine, which are met before anything is written, and of the writer.
 pub fn cut<I: Read, O: Write>(
     alloc: Global,
     segmenter: &Segmenter,
     style: Style,
+    engine: Engine,
     input: &mut I,
     out: &mut O,
 ) -> Result<(), Fault>
     ensures read_all { OnOk result (IsAtEnd (I.remaining input.new)) }
     ensures written { OnOk result (IfSome (I.remaining input.old) (λ bytes.
         Appends (O.contents out.old) (O.contents out.new) (lines_of style bytes (segments_by segmenter.now bytes)))) }
+    ensures unwritten { IfErr result (λ fault. IsBeforeWriting fault → out.new ≡ out.old) }
 {
     let text = read_text(alloc, input)?;
-    segmenter
-        .print(text.as_slice(), style, out)
-        .map_err(Fault::Write)
+    let text = text.as_slice();
+    match engine {
+        Engine::Plain => segmenter
+            .print(alloc, text, style, out)
+            .map_err(Fault::Write),
+        Engine::Memoised => print_by_memo(alloc, segmenter, text, style, out),
+    }
 }
 
 // All that the reader has.

@@ -1,22 +1,21 @@
 //! Escapes of control characters.
 ghost use Rattle.std.specs.Prelude.{◌≡◌, ◌<◌, ◌≤◌, ◌++◌, length, take, drop, MatchOption, OnOk};
-ghost use Rattle.std.specs.Io.KnownBytes.{Appends};
-ghost use Rattle.segment.specs.Escapes.{are_control, escape_of, escaped, hex_digit, is_control};
+ghost use Rattle.segment.specs.Escapes.{are_control, escape_of, escaped, hex_digit, is_control, is_plain};
 
-use std::io;
-use std::io::Write;
+use std::alloc::AllocError;
 
-/// Writes bytes in UTF-8 with their control characters as escapes, and all else as it is. The error is the writer's.
-pub fn write_escaped<O: Write>(bytes: &[u8], out: &mut O) -> io::Result<()>
-    ensures { OnOk result (Appends (O.contents out.old) (O.contents out.new) (escaped bytes.now)) }
+/// Adds bytes in UTF-8 to some lines, with their control characters as escapes, and all else as it is. The error is want of memory.
+#[inline(always)]
+pub fn push_escaped(bytes: &[u8], lines: &mut Vec<u8>) -> Result<(), AllocError>
+    ensures { OnOk result (lines.new.items ≡ lines.old.items ++ escaped bytes.now) }
 {
     let mut rest = bytes;
     while let Some(control) = first_control(rest) {
-        out.write_all(&rest[..control.start])?;
-        write_escape(control.code, out)?;
+        lines.extend_from_slice(&rest[..control.start])?;
+        push_escape(control.code, lines)?;
         rest = &rest[control.end..];
     }
-    out.write_all(rest)
+    lines.extend_from_slice(rest)
 }
 
 // A control character.
@@ -31,6 +30,7 @@ struct Control {
 }
 
 // The first control character of some bytes.
+#[inline(always)]
 fn first_control(bytes: &[u8]) -> Option<Control>
     ensures { MatchOption result (escaped bytes.now ≡ bytes.now)
         (λ control. (control.start < control.end) × (control.end ≤ length bytes.now)
@@ -54,6 +54,9 @@ fn control_at(bytes: &[u8]) -> Option<(u8, usize)>
         × (escaped bytes.now ≡ escape_of control.0 ++ escaped (drop control.1 bytes.now))) }
 {
     let first = bytes[0];
+    if is_plain(first) {
+        return None;
+    }
     if is_control(first) {
         return Some((first, 1));
     }
@@ -64,10 +67,19 @@ fn control_at(bytes: &[u8]) -> Option<(u8, usize)>
 }
 
 // Whether a byte is a control character.
+#[inline(always)]
 fn is_control(byte: u8) -> bool
     ensures { result ≡ is_control byte }
 {
     byte < 0x20 || byte == 0x7F
+}
+
+// Whether a byte neither is a control character nor begins one of two bytes.
+#[inline(always)]
+fn is_plain(byte: u8) -> bool
+    ensures { result ≡ is_plain byte }
+{
+    !is_control(byte) && byte != 0xC2
 }
 
 // Whether two bytes are one.
@@ -77,16 +89,16 @@ fn are_control(first: u8, second: u8) -> bool
     first == 0xC2 && second >= 0x80 && second <= 0x9F
 }
 
-fn write_escape<O: Write>(code: u8, out: &mut O) -> io::Result<()>
-    ensures { OnOk result (Appends (O.contents out.old) (O.contents out.new) (escape_of code)) }
+fn push_escape(code: u8, lines: &mut Vec<u8>) -> Result<(), AllocError>
+    ensures { OnOk result (lines.new.items ≡ lines.old.items ++ escape_of code) }
 {
     match code {
-        b'\t' => out.write_all(b"\\t"),
-        b'\n' => out.write_all(b"\\n"),
-        b'\r' => out.write_all(b"\\r"),
+        b'\t' => lines.extend_from_slice(b"\\t"),
+        b'\n' => lines.extend_from_slice(b"\\n"),
+        b'\r' => lines.extend_from_slice(b"\\r"),
         _ => {
             let digits = [hex_digit(code / 16), hex_digit(code % 16)];
-            out.write_all(&[b'\\', b'u', b'{', digits[0], digits[1], b'}'])
+            lines.extend_from_slice(&[b'\\', b'u', b'{', digits[0], digits[1], b'}'])
         }
     }
 }

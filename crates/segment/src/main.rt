@@ -6,6 +6,8 @@ mod command;
 mod cut;
 mod dictionary;
 mod escapes;
+mod fault;
+mod memo;
 mod output;
 mod segmenter;
 #[cfg(test)]
@@ -13,15 +15,13 @@ mod tests;
 
 use anyhow::{Context, Result};
 use command::{command_line, request_of};
-use cut::{Fault, cut};
+use cut::cut;
 use dictionary::dictionaries_of;
+use fault::Fault;
 use segmenter::segmenter_of;
 use std::env;
-use std::io::{BufWriter, ErrorKind};
+use std::io::ErrorKind;
 use std::process::ExitCode;
-
-// Room for some thousands of segments, so that few writes reach the system.
-const OUTPUT_CAPACITY: usize = 65536;
 
 fn main(rt: HostRuntime) -> Result<ExitCode> {
     let alloc = rt.alloc();
@@ -36,12 +36,20 @@ fn main(rt: HostRuntime) -> Result<ExitCode> {
     let request = request_of(&matches)?;
     let dictionaries = dictionaries_of(&rt, request.dictionary)?;
     let segmenter = segmenter_of(alloc, &request, dictionaries)?;
-    let mut out = BufWriter::with_capacity(alloc, OUTPUT_CAPACITY, rt.stdout())?;
-    match cut(alloc, &segmenter, request.style, &mut rt.stdin(), &mut out) {
+    let (style, engine) = (request.style, request.engine);
+    match cut(
+        alloc,
+        &segmenter,
+        style,
+        engine,
+        &mut rt.stdin(),
+        &mut rt.stdout(),
+    ) {
         Ok(()) => Ok(ExitCode::SUCCESS),
         // Nobody reads on, so there is nothing more to do.
         Err(Fault::Write(error)) if error.kind() == ErrorKind::BrokenPipe => Ok(ExitCode::SUCCESS),
         Err(Fault::Write(error)) => Err(error).context("writing standard output"),
         Err(Fault::Read(error)) => Err(error).context("reading standard input"),
+        Err(Fault::Memo(error)) => Err(error).context("making the memoised engine"),
     }
 }

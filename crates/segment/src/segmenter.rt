@@ -41,26 +41,36 @@ pub enum Segmenter {
 }
 
 impl Segmenter {
-    /// Writes the segments of a text, each on a line of its own, and flushes. The error is the writer's.
-    pub fn print<O: Write>(&self, text: &[u8], style: Style, out: &mut O) -> io::Result<()>
+    /// Writes the segments of a text, each on a line of its own, and flushes. The errors are the writer's, and want of memory.
+    pub fn print<O: Write>(
+        &self,
+        alloc: Global,
+        text: &[u8],
+        style: Style,
+        out: &mut O,
+    ) -> io::Result<()>
         ensures { OnOk result (Appends (O.contents out.old) (O.contents out.new) (lines_of style text.now (segments_by self.now text.now))) }
     {
         match self {
             Segmenter::Clusters(clusters) => {
-                print_segments(clusters.as_borrowed().segment_utf8(text), text, style, out)
+                let places = clusters.as_borrowed().segment_utf8(text);
+                print_segments(alloc, places, text, style, out)
             }
             Segmenter::Words(words) => {
-                print_segments(words.as_borrowed().segment_utf8(text), text, style, out)
+                let places = words.as_borrowed().segment_utf8(text);
+                print_segments(alloc, places, text, style, out)
             }
             Segmenter::WordsAlone(words) => {
                 let words = words.as_borrowed().segment_utf8(text);
-                print_words(words.iter_with_word_type(), text, style, out)
+                print_words(alloc, words.iter_with_word_type(), text, style, out)
             }
             Segmenter::Sentences(sentences) => {
-                print_segments(sentences.as_borrowed().segment_utf8(text), text, style, out)
+                let places = sentences.as_borrowed().segment_utf8(text);
+                print_segments(alloc, places, text, style, out)
             }
             Segmenter::Lines(lines) => {
-                print_segments(lines.as_borrowed().segment_utf8(text), text, style, out)
+                let places = lines.as_borrowed().segment_utf8(text);
+                print_segments(alloc, places, text, style, out)
             }
         }
     }

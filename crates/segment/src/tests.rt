@@ -1,11 +1,17 @@
 // Whole runs over texts in memory, by Unicode's data.
-use crate::command::{command_line, request_of};
+use crate::command::{Engine, command_line, request_of};
 use crate::cut::cut;
 use crate::dictionary::{dictionary_of, with_dictionary};
-use crate::segmenter::segmenter_of;
+use crate::fault::Fault;
+use crate::output::Style;
+use crate::segmenter::{Segmenter, segmenter_of};
 use anyhow::{Result, bail};
+use failing_io::{FailingReader, FailingWriter};
+use icu_segmenter::GraphemeClusterSegmenter;
 use icu_segmenter::provider::{ComplexScript, Dictionaries};
+use icu_segmenter_data::cluster_machine;
 use std::alloc::Global;
+use std::io::ErrorKind;
 
 // What is written of a text, where a command line has these words after the program's name.
 fn output(
@@ -20,7 +26,8 @@ fn output(
     let request = request_of(&matches)?;
     let segmenter = segmenter_of(alloc, &request, dictionaries)?;
     let (mut input, mut out) = (text, Vec::new(alloc));
-    match cut(alloc, &segmenter, request.style, &mut input, &mut out) {
+    let (style, engine) = (request.style, request.engine);
+    match cut(alloc, &segmenter, style, engine, &mut input, &mut out) {
         Ok(()) => Ok(out),
         Err(_) => bail!("a fault"),
     }
@@ -42,6 +49,7 @@ fn cuts_texts_by_the_standards(rt: HostRuntime) {
             "Mr. Smith went. He left!",
             "Mr. \nSmith went. \nHe left!\n",
         ),
+        ("word", "--words", "can't pay 3.14!", "can't\npay\n3.14\n"),
         (
             "line",
             "--strictness=strict",
@@ -56,12 +64,16 @@ fn cuts_texts_by_the_standards(rt: HostRuntime) {
             "a\\u{85}\nb\\u{1b}\n",
         ),
     ] {
-        let words = ["segment", kind, option];
-        let out = output(rt.alloc(), &words, Dictionaries::none(), text.as_bytes());
-        assert!(rt;
-            out.is_ok_and(|out| out.as_slice() == lines.as_bytes()),
-            "{kind} {option} {text:?}"
-        );
+        for words in [
+            ["segment", kind, option].as_slice(),
+            &["segment", "--memo", kind, option],
+        ] {
+            let out = output(rt.alloc(), words, Dictionaries::none(), text.as_bytes());
+            assert!(rt;
+                out.is_ok_and(|out| out.as_slice() == lines.as_bytes()),
+                "{words:?} {text:?}"
+            );
+        }
     }
 }
 
@@ -101,5 +113,67 @@ fn refuses_options_of_another_kind(rt: HostRuntime) {
         );
         assert!(rt; out.is_err(), "{kind} {option}");
     }
+    let words = [
+        "segment",
+        "word",
+        "--memo",
+        "--dictionary=a",
+        "--script=thai",
+    ];
+    let out = output(rt.alloc(), &words, Dictionaries::none(), b"");
+    assert!(rt; out.is_err());
     assert!(rt; dictionary_of(rt.alloc(), " \n").is_err());
+}
+
+// A segmenter of clusters.
+fn clusters(alloc: Global) -> Result<Segmenter> {
+    let clusters = GraphemeClusterSegmenter::try_new_neo(cluster_machine(alloc)?)?;
+    Ok(Segmenter::Clusters(clusters))
+}
+
+#[test]
+fn says_that_a_writer_fails(rt: HostRuntime) {
+    let segmenter = clusters(rt.alloc()).expect(&rt, "memory");
+    // Its lines have 80,000 bytes, which are written in two pieces.
+    let text = [b'a'; 40_000];
+    for (room, can_flush, fails) in [
+        (80_000, true, false),
+        (80_000, false, true),
+        (79_999, true, true),
+        (3, true, true),
+    ] {
+        let mut out = FailingWriter { room, can_flush };
+        let (mut input, engine) = (text.as_slice(), Engine::Plain);
+        let ended = cut(
+            rt.alloc(),
+            &segmenter,
+            Style::Raw,
+            engine,
+            &mut input,
+            &mut out,
+        );
+        assert_eq!(rt; matches!(ended, Err(Fault::Write(_))), fails);
+        assert_eq!(rt; ended.is_ok(), !fails);
+    }
+}
+
+#[test]
+fn says_that_a_reader_fails(rt: HostRuntime) {
+    let segmenter = clusters(rt.alloc()).expect(&rt, "memory");
+    let mut input = FailingReader {
+        left: 3,
+        kind: ErrorKind::TimedOut,
+    };
+    let mut out = Vec::new(rt.alloc());
+    let engine = Engine::Memoised;
+    let ended = cut(
+        rt.alloc(),
+        &segmenter,
+        Style::Raw,
+        engine,
+        &mut input,
+        &mut out,
+    );
+    assert!(rt; matches!(ended, Err(Fault::Read(_))));
+    assert!(rt; out.is_empty());
 }

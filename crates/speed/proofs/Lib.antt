@@ -1,4 +1,3 @@
 mod Counted
-mod Ranged
 mod Repeated
 mod Words

@@ -1,4 +1,4 @@
-pub mod Classes
 pub mod Command
+pub mod Data
 pub mod Segmenter
 pub mod Tally

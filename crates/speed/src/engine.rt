@@ -10,35 +10,50 @@ pub enum Engine {
     GraphemeClassic,
     /// The grapheme clusters, by a machine.
     GraphemeNeo,
+    /// The grapheme clusters, by the memoised engine of that machine.
+    GraphemeMemo,
     /// The sentences, by a pair table.
     SentenceClassic,
     /// The sentences, by a machine.
     SentenceNeo,
+    /// The sentences, by the memoised engine of that machine.
+    SentenceMemo,
     /// The words, by a pair table.
     WordClassic,
     /// The words, by a machine.
     WordNeo,
+    /// The words, by the memoised engine of that machine.
+    WordMemo,
+    /// The lines, by a pair table.
+    LineClassic,
     /// The lines, by a machine.
     LineNeo,
+    /// The lines, by the memoised engine of that machine.
+    LineMemo,
 }
 
 /// All engines, in the order in which they are measured.
-pub const ENGINES: [Engine; 7] = [
+pub const ENGINES: [Engine; 12] = [
     Engine::GraphemeClassic,
     Engine::GraphemeNeo,
+    Engine::GraphemeMemo,
     Engine::SentenceClassic,
     Engine::SentenceNeo,
+    Engine::SentenceMemo,
     Engine::WordClassic,
     Engine::WordNeo,
+    Engine::WordMemo,
+    Engine::LineClassic,
     Engine::LineNeo,
+    Engine::LineMemo,
 ];
 
 /// Where an engine's data come from.
 #[derive(Clone, Copy, Debug, PartialEq, Eq)]
 pub enum Data {
-    /// Those of the crate `bench`, of a few ranges.
+    /// Those of the crate `bench`, written by hand.
     Small,
-    /// The same, with the ranges that Unicode's property has.
+    /// Those of Unicode, of the crate `icu_segmenter_data`.
     Real,
 }
 
@@ -50,12 +65,25 @@ impl Engine {
         match self {
             Engine::GraphemeClassic => "grapheme-classic",
             Engine::GraphemeNeo => "grapheme-neo",
+            Engine::GraphemeMemo => "grapheme-memo",
             Engine::SentenceClassic => "sentence-classic",
             Engine::SentenceNeo => "sentence-neo",
+            Engine::SentenceMemo => "sentence-memo",
             Engine::WordClassic => "word-classic",
             Engine::WordNeo => "word-neo",
+            Engine::WordMemo => "word-memo",
+            Engine::LineClassic => "line-classic",
             Engine::LineNeo => "line-neo",
+            Engine::LineMemo => "line-memo",
         }
+    }
+
+    /// Whether it looks up no configuration of its machine twice.
+    pub fn is_memoised(self) -> bool {
+        matches!(
+            self,
+            Engine::GraphemeMemo | Engine::SentenceMemo | Engine::WordMemo | Engine::LineMemo
+        )
     }
 }
 
@@ -76,11 +104,16 @@ pub fn engine_of(word: &str) -> Option<Engine>
     match word {
         "grapheme-classic" => Some(Engine::GraphemeClassic),
         "grapheme-neo" => Some(Engine::GraphemeNeo),
+        "grapheme-memo" => Some(Engine::GraphemeMemo),
         "sentence-classic" => Some(Engine::SentenceClassic),
         "sentence-neo" => Some(Engine::SentenceNeo),
+        "sentence-memo" => Some(Engine::SentenceMemo),
         "word-classic" => Some(Engine::WordClassic),
         "word-neo" => Some(Engine::WordNeo),
+        "word-memo" => Some(Engine::WordMemo),
+        "line-classic" => Some(Engine::LineClassic),
         "line-neo" => Some(Engine::LineNeo),
+        "line-memo" => Some(Engine::LineMemo),
         _ => None,
     }
 }

@@ -1,9 +1,9 @@
-//! Measures how many bytes of a text the engines segment a second, over small data and over data as large as Unicode's.
+//! Measures how many bytes of a text the engines segment a second, over small data and over Unicode's.
 #![tactic(auto)]
 
 mod data;
 mod engine;
-mod ranges;
+mod making;
 mod run;
 mod segmenter;
 mod tally;

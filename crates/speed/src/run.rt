@@ -3,7 +3,7 @@ ghost use Rattle.std.specs.Prelude.{◌≡◌, ◌*◌, ◌<◌, ◌≤◌, ◌�
 ghost use Rattle.std.specs.List.{repeat};
 ghost use Rattle.speed.specs.Command.{IsCommand};
 
-use crate::engine::{ENGINES, are_engines, is_chosen};
+use crate::engine::{Data, ENGINES, are_engines, is_chosen};
 use crate::trial::{PASSES, Trial};
 use anyhow::{Context, Result, ensure};
 use std::alloc::{AllocError, Global};
@@ -17,8 +17,7 @@ mod tests;
 // How many bytes a text has at most.
 const TEXT_LEN: usize = 300_000;
 
-const USAGE: &str = "usage: speed [grapheme-classic|grapheme-neo|sentence-classic|sentence-neo|\
-    word-classic|word-neo|line-neo].. FILE\n";
+const USAGE: &str = "usage: speed [{grapheme,sentence,word,line}-{classic,neo,memo}].. FILE\n";
 
 /// Measures the engines that the words name over the text of the file that the last word names, and
 /// returns the exit status: 0, or 2 where the words are no command's.
@@ -82,12 +81,10 @@ fn trials_of<R: AllocGlobal + Clock>(rt: &R, engines: &[&str]) -> Result<Vec<Tri
     let mut trials = Vec::new(alloc);
     for engine in ENGINES {
         if is_chosen(engines, engine) {
-            trials
-                .push(Trial::small(alloc, engine)?)
-                .map_err(AllocError::from)?;
-            trials
-                .push(Trial::real(rt, alloc, engine)?)
-                .map_err(AllocError::from)?;
+            let small = Trial::new(rt, alloc, engine, Data::Small)?;
+            trials.push(small).map_err(AllocError::from)?;
+            let real = Trial::new(rt, alloc, engine, Data::Real)?;
+            trials.push(real).map_err(AllocError::from)?;
         }
     }
     Ok(trials)
@@ -95,10 +92,10 @@ fn trials_of<R: AllocGlobal + Clock>(rt: &R, engines: &[&str]) -> Result<Vec<Tri
 
 // Goes over the text with each engine in turn, and that again and again, so that what disturbs the
 // machine disturbs them all.
-fn measure<C: Clock>(clock: &C, trials: &mut [Trial], text: &[u8]) -> io::Result<()> {
+fn measure<R: AllocGlobal + Clock>(rt: &R, trials: &mut [Trial], text: &[u8]) -> Result<()> {
     for _ in 0..PASSES {
         for trial in trials.iter_mut() {
-            trial.pass(clock, text)?;
+            trial.pass(rt, rt.alloc(), text)?;
         }
     }
     Ok(())

@@ -1,8 +1,6 @@
 // Runs over files that the tests write.
 use super::run;
-use crate::data::segmenter_of;
-use crate::engine::Engine;
-use crate::tally::Tally;
+use crate::engine::{Data, Engine};
 use crate::trial::Trial;
 use failing_io::FailingWriter;
 use std::io::ErrorKind;
@@ -74,43 +72,10 @@ fn fails_where_the_file_or_a_writer_does(rt: HostRuntime) {
 
 #[test]
 fn fails_where_the_clock_does(rt: HostRuntime) {
-    let trial = Trial::small(rt.alloc(), Engine::GraphemeNeo);
-    let Ok(mut trial) = trial else {
+    let (alloc, engine) = (rt.alloc(), Engine::GraphemeNeo);
+    assert!(rt; Trial::new(&NoClock, alloc, engine, Data::Small).is_err());
+    let Ok(mut trial) = Trial::new(&rt, alloc, engine, Data::Small) else {
         panic!(rt; "no memory")
     };
-    assert!(rt; trial.pass(&NoClock, b"ab").is_err());
-    assert!(rt; Trial::real(&NoClock, rt.alloc(), Engine::GraphemeNeo).is_err());
-}
-
-// A mark of 2 bytes after a letter, a line end of 2 bytes, and a letter.
-#[test]
-fn counts_the_boundaries_of_clusters(rt: HostRuntime) {
-    for engine in [Engine::GraphemeClassic, Engine::GraphemeNeo] {
-        let Ok(segmenter) = segmenter_of(rt.alloc(), engine, None) else {
-            panic!(rt; "no memory")
-        };
-        let tally = segmenter.tally("a\u{301}\r\nb".as_bytes());
-        let (count, sum) = (4, 14);
-        assert!(rt; tally == Tally { count, sum });
-    }
-}
-
-// The Thai is one word of the small data only, the Russian one of the real data only.
-#[test]
-fn counts_the_boundaries_of_words(rt: HostRuntime) {
-    let text = "a1 กข жд".as_bytes();
-    for engine in [Engine::WordClassic, Engine::WordNeo] {
-        let trials = [
-            Trial::small(rt.alloc(), engine),
-            Trial::real(&rt, rt.alloc(), engine),
-        ];
-        let tallies = [(7, 50), (7, 44)];
-        for (trial, (count, sum)) in trials.into_iter().zip(tallies) {
-            let Ok(mut trial) = trial else {
-                panic!(rt; "no memory")
-            };
-            assert!(rt; trial.pass(&rt, text).is_ok());
-            assert!(rt; trial.tally == Tally { count, sum });
-        }
-    }
+    assert!(rt; trial.pass(&NoClock, alloc, b"ab").is_err());
 }

@@ -17,13 +17,13 @@ pub returns-in-Clusters : goal.returns-in-Clusters
 returns-in-Clusters g c =
     rw c.in-Clusters.is
     (lines-are_left clusters_places (λ (places : List ℕ). lines_of c.args.style c.args.text.now (segments places)) _ _ _ _ _ c.print_segments.ensures
-    (ap offsets (c.segment_utf8.ensures.boundaries ∙ ap (λ (rules : Rules). boundaries_of rules (utf8 c.args.text.now)) c.as_borrowed.ensures)))
+    (ap offsets (c.segment_utf8-places.ensures.boundaries ∙ ap (λ (rules : Rules). boundaries_of rules (utf8 c.args.text.now)) c.as_borrowed.ensures)))
 
 pub returns-in-Words : goal.returns-in-Words
 returns-in-Words g c =
     rw c.in-Words.is
     (lines-are_left word_places (λ (places : List ℕ). lines_of c.args.style c.args.text.now (segments places)) _ _ _ _ _ c.print_segments-in-Words.ensures
-    (ap offsets (c.segment_utf8-in-Words.ensures.boundaries ∙ ap (λ (rules : WordRules). word_boundaries_of rules (utf8 c.args.text.now)) c.as_borrowed-in-Words.ensures)))
+    (ap offsets (c.segment_utf8-places-in-Words.ensures.boundaries ∙ ap (λ (rules : WordRules). word_boundaries_of rules (utf8 c.args.text.now)) c.as_borrowed-in-Words.ensures)))
 
 pub returns-in-WordsAlone : goal.returns-in-WordsAlone
 returns-in-WordsAlone g c =
@@ -36,10 +36,10 @@ pub returns-in-Sentences : goal.returns-in-Sentences
 returns-in-Sentences g c =
     rw c.in-Sentences.is
     (lines-are_left sentences_places (λ (places : List ℕ). lines_of c.args.style c.args.text.now (segments places)) _ _ _ _ _ c.print_segments-in-Sentences.ensures
-    (ap offsets (c.segment_utf8-in-Sentences.ensures.boundaries ∙ ap (λ (rules : Rules). boundaries_of rules (utf8 c.args.text.now)) c.as_borrowed-in-Sentences.ensures)))
+    (ap offsets (c.segment_utf8-places-in-Sentences.ensures.boundaries ∙ ap (λ (rules : Rules). boundaries_of rules (utf8 c.args.text.now)) c.as_borrowed-in-Sentences.ensures)))
 
 pub returns-in-Lines : goal.returns-in-Lines
 returns-in-Lines g c =
     rw c.in-Lines.is
     (lines-are_left line_places (λ (places : List ℕ). lines_of c.args.style c.args.text.now (segments places)) _ _ _ _ _ c.print_segments-in-Lines.ensures
-    (ap offsets (c.segment_utf8-in-Lines.ensures.boundaries ∙ ap (λ (rules : LineRules). line_boundaries_of rules (utf8 c.args.text.now)) c.as_borrowed-in-Lines.ensures)))
+    (ap offsets (c.segment_utf8-places-in-Lines.ensures.boundaries ∙ ap (λ (rules : LineRules). line_boundaries_of rules (utf8 c.args.text.now)) c.as_borrowed-in-Lines.ensures)))

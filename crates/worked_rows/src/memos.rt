@@ -1,13 +1,14 @@
+// The memoised engine: places, statuses, and how many look-ups.
 ghost use Rattle.std.specs.Prelude.{◌≡◌, IfOk};
 ghost use Rattle.seg_machine.specs.Tailored.{machine_of};
 ghost use Rattle.seg_memo.specs.Configurations.{reading};
 
-use crate::configuration::Cell;
-use crate::memo::MemoBreakIterator;
-use crate::reader::ReadTransitions;
 use seg_data::provider::ClassTable;
 use seg_machine::provider::{Acceptance, Lookahead, SegmenterStateMachine, State, Symbol};
 use seg_machine::tailored_machine::{TailoredMachine, TailoredMachineBorrowed};
+use seg_memo::configuration::Cell;
+use seg_memo::memo::MemoBreakIterator;
+use seg_memo::reader::ReadTransitions;
 use seg_text::indices::Utf8CharIndices;
 use std::alloc::Global;
 use std::mem::size_of;

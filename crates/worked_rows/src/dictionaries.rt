@@ -1,5 +1,6 @@
-use crate::provider::{DictionaryBreakData, DictionaryCursor};
-use crate::words::WordCursor;
+// Words, and cursors over them.
+use seg_dictionary::provider::{DictionaryBreakData, DictionaryCursor};
+use seg_dictionary::words::WordCursor;
 use std::alloc::Global;
 use std::process::Abort;
 use std::test::Fail;

@@ -1,12 +1,13 @@
-use crate::complex::{ComplexPayloadBorrowed, ComplexPayloadsBorrowed};
-use crate::dictionaries::DictionaryCuts;
-use crate::laws::{
+// Scripts, pieces, and the cuts of pieces and runs.
+use seg_clusters::grapheme::GraphemeClusterSegmenter;
+use seg_complex::complex::{ComplexPayloadBorrowed, ComplexPayloadsBorrowed};
+use seg_complex::dictionaries::DictionaryCuts;
+use seg_complex::laws::{
     cuts_cover_runs, dictionary_cuts_are_one, dictionary_cuts_cover, pieces_are_one,
     small_dictionaries_cut,
 };
-use crate::runs::RunCuts;
-use crate::script_iter::{ScriptIterator, script_of};
-use seg_clusters::grapheme::GraphemeClusterSegmenter;
+use seg_complex::runs::RunCuts;
+use seg_complex::script_iter::{ScriptIterator, script_of};
 use seg_data::provider::{ClassTable, ComplexScript};
 use seg_dictionary::dictionaries::Dictionaries;
 use seg_dictionary::provider::DictionaryBreakData;

@@ -1,23 +1,16 @@
-use crate::boundaries::TurnLines;
-use crate::laws;
-use crate::turn_pairs::{OwnedTurnPairs, TurnPairs};
-use seg_clusters::grapheme::GraphemeClusterSegmenter;
+// Lines by the rules of the engine 17.
+use crate::samples::{BREAK, Data, KEEP, NO_MATCH, cluster_table, data_with};
 use seg_complex::complex::ComplexPayloadsBorrowed;
 use seg_data::provider::{ClassTable, DataError};
-use seg_dictionary::dictionaries::Dictionaries;
-use seg_dictionary::provider::DictionaryBreakData;
 use seg_line_rules::options::{LineBreakStrictness, LineBreakWordOption, LineStyle};
+use seg_line_turns::boundaries::TurnLines;
+use seg_line_turns::laws;
+use seg_line_turns::turn_pairs::{OwnedTurnPairs, TurnPairs};
 use seg_pair_data::provider::{BreakState, RuleBreakData};
 use seg_text::indices::StrCharIndices;
 use std::alloc::Global;
 use std::process::Abort;
 use std::test::Fail;
-
-const KEEP: BreakState = BreakState::Keep;
-
-const BREAK: BreakState = BreakState::Break;
-
-const NO_MATCH: BreakState = BreakState::NoMatch;
 
 const STRICT: LineStyle = LineStyle {
     strictness: LineBreakStrictness::Strict,
@@ -158,43 +151,9 @@ const ENTRIES: [(u8, u8, BreakState); 36] = [
     (70, 60, BreakState::Intermediate(70)),
 ];
 
-/// Data of lines: a pair table, and what runs are cut by.
-#[derive(Drop)]
-struct Data {
-    table: RuleBreakData,
-    clusters: RuleBreakData,
-    segmenter: GraphemeClusterSegmenter,
-    dictionaries: Dictionaries,
-}
-
-/// Data with the pair table of walks, whose complex class is SA, and the dictionary {ภาษา, ไทย}.
+/// Data with the pair table of walks, whose complex class is SA.
 fn walk_data(alloc: Global) -> Result<Data, Fail> {
-    let words = ["ภาษา", "ไทย"];
-    Ok(Data {
-        table: walk_table(alloc, 58)?,
-        clusters: cluster_table(alloc)?,
-        segmenter: GraphemeClusterSegmenter::try_new(cluster_table(alloc)?)?,
-        dictionaries: Dictionaries {
-            th: Some(DictionaryBreakData::try_from_words(alloc, &words)?),
-            ..Dictionaries::none()
-        },
-    })
-}
-
-/// A pair table of clusters: a code point, with the marks after it.
-fn cluster_table(alloc: Global) -> Result<RuleBreakData, Fail> {
-    let ranges = [(0x300, 0x36F, 1), (0xE34, 0xE3A, 1), (0x200D, 0x200D, 1)];
-    let classes = ClassTable::try_from_ranges(Vec::from_slice(alloc, &ranges)?, 0)?;
-    let entries = [
-        BREAK, KEEP, BREAK, BREAK, //
-        BREAK, KEEP, BREAK, BREAK, //
-        BREAK, BREAK, BREAK, BREAK, //
-        BREAK, BREAK, BREAK, BREAK,
-    ];
-    let entries = Vec::from_slice(alloc, &entries)?;
-    let statuses = Vec::new(alloc);
-    let table = RuleBreakData::try_from_parts(classes, entries, statuses, 4, 1, 2, 3, 127)?;
-    Ok(table)
+    data_with(alloc, walk_table(alloc, 58)?)
 }
 
 /// A pair table of lines that has few entries other than `Break`, with this complex class: 69 and 70 are composites.

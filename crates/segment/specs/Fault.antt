@@ -1,0 +1,9 @@
+-- What ends a run early.
+use Rattle.segment.specs.declared.fault.Fault.{Fault}
+use Rattle.segment.specs.declared.fault.Fault.TheVariants.{Read, Memo, Write}
+
+-- a fault that is met before anything is written
+abbrev pub IsBeforeWriting : Fault → Type 0
+IsBeforeWriting (Read error) = Unit {0}
+IsBeforeWriting (Memo error) = Unit {0}
+IsBeforeWriting (Write error) = ⊥

@@ -1,0 +1,113 @@
+//! How the segmenter of each engine is made.
+ghost use Rattle.std.specs.Prelude.{◌≡◌, None, IfOk};
+ghost use Rattle.icu_segmenter.specs.LineBreaks.{machine_lines, table_lines};
+ghost use Rattle.icu_segmenter.specs.Rules.Rules.{ByTable, ByMachine};
+ghost use Rattle.icu_segmenter.specs.ScriptWords.{no_words};
+ghost use Rattle.icu_segmenter.specs.WordRules.{machine_words, table_words};
+ghost use Rattle.speed.specs.Segmenter.{default_rules, line_places_by, places_by, segmentation_by, segmentation_of, word_places_by};
+
+use crate::data::{
+    cluster_machine, cluster_table, line_machine, line_table, line_tailorings, sentence_machine,
+    sentence_table, word_machine, word_table,
+};
+use crate::engine::{Data, Engine};
+use crate::segmenter::Segmenter;
+use anyhow::Result;
+use icu_segmenter::options::{LineBreakOptions, SentenceBreakOptions, WordBreakOptions};
+use icu_segmenter::provider::{LineTailorings, RuleBreakData, SegmenterStateMachine};
+use icu_segmenter::{GraphemeClusterSegmenter, LineSegmenter, SentenceSegmenter, WordSegmenter};
+use std::alloc::Global;
+
+/// The segmenter of an engine with its data, with no dictionaries. The only error that is met is want of memory.
+pub fn segmenter_of(alloc: Global, engine: Engine, source: Data) -> Result<Segmenter>
+    ensures { IfOk result (λ segmenter. segmentation_of segmenter ≡ segmentation_by engine source) }
+{
+    match engine {
+        Engine::GraphemeClassic => clusters_by_table(cluster_table(alloc, source)?),
+        Engine::GraphemeNeo | Engine::GraphemeMemo => {
+            clusters_by_machine(cluster_machine(alloc, source)?)
+        }
+        Engine::SentenceClassic => sentences_by_table(sentence_table(alloc, source)?),
+        Engine::SentenceNeo | Engine::SentenceMemo => {
+            sentences_by_machine(sentence_machine(alloc, source)?)
+        }
+        Engine::WordClassic => {
+            words_by_table(word_table(alloc, source)?, cluster_table(alloc, source)?)
+        }
+        Engine::WordNeo | Engine::WordMemo => {
+            words_by_machine(word_machine(alloc, source)?, cluster_table(alloc, source)?)
+        }
+        Engine::LineClassic => {
+            lines_by_table(line_table(alloc, source)?, cluster_table(alloc, source)?)
+        }
+        Engine::LineNeo | Engine::LineMemo => lines_by_machine(
+            line_machine(alloc, source)?,
+            line_tailorings(alloc, source)?,
+            cluster_machine(alloc, source)?,
+        ),
+    }
+}
+
+fn clusters_by_table(table: RuleBreakData) -> Result<Segmenter>
+    ensures { IfOk result (λ segmenter. segmentation_of segmenter ≡ places_by (ByTable table None)) }
+{
+    Ok(Segmenter::Clusters(GraphemeClusterSegmenter::try_new(table)?))
+}
+
+fn clusters_by_machine(machine: SegmenterStateMachine) -> Result<Segmenter>
+    ensures { IfOk result (λ segmenter. segmentation_of segmenter ≡ places_by (ByMachine machine)) }
+{
+    Ok(Segmenter::Clusters(GraphemeClusterSegmenter::try_new_neo(machine)?))
+}
+
+fn sentences_by_table(table: RuleBreakData) -> Result<Segmenter>
+    ensures { IfOk result (λ segmenter. segmentation_of segmenter ≡ places_by (ByTable table None)) }
+{
+    let options = SentenceBreakOptions::default();
+    Ok(Segmenter::Sentences(SentenceSegmenter::try_new(table, None, options)?))
+}
+
+fn sentences_by_machine(machine: SegmenterStateMachine) -> Result<Segmenter>
+    ensures { IfOk result (λ segmenter. segmentation_of segmenter ≡ places_by (ByMachine machine)) }
+{
+    let options = SentenceBreakOptions::default();
+    Ok(Segmenter::Sentences(SentenceSegmenter::try_new_neo(machine, None, options)?))
+}
+
+fn words_by_table(table: RuleBreakData, clusters: RuleBreakData) -> Result<Segmenter>
+    ensures { IfOk result (λ segmenter. segmentation_of segmenter ≡ word_places_by (table_words table None clusters no_words)) }
+{
+    let options = WordBreakOptions::default();
+    let segmenter = WordSegmenter::try_new_for_non_complex_scripts(table, None, clusters, options)?;
+    Ok(Segmenter::Words(segmenter))
+}
+
+fn words_by_machine(machine: SegmenterStateMachine, clusters: RuleBreakData) -> Result<Segmenter>
+    ensures { IfOk result (λ segmenter. segmentation_of segmenter ≡ word_places_by (machine_words machine clusters no_words)) }
+{
+    let options = WordBreakOptions::default();
+    let segmenter = WordSegmenter::try_new_neo_for_non_complex_scripts(machine, clusters, options)?;
+    Ok(Segmenter::Words(segmenter))
+}
+
+fn lines_by_table(table: RuleBreakData, clusters: RuleBreakData) -> Result<Segmenter>
+    ensures { IfOk result (λ segmenter. segmentation_of segmenter ≡ line_places_by (table_lines (default_rules table) clusters no_words)) }
+{
+    let options = LineBreakOptions::default();
+    let segmenter = LineSegmenter::try_new_for_non_complex_scripts(table, clusters, options)?;
+    Ok(Segmenter::Lines(segmenter))
+}
+
+fn lines_by_machine(
+    machine: SegmenterStateMachine,
+    tailorings: LineTailorings,
+    clusters: SegmenterStateMachine,
+) -> Result<Segmenter>
+    ensures { IfOk result (λ segmenter. segmentation_of segmenter ≡ line_places_by (machine_lines machine clusters no_words)) }
+{
+    let options = LineBreakOptions::default();
+    let segmenter = LineSegmenter::try_new_neo_for_non_complex_scripts(
+        machine, tailorings, clusters, options,
+    )?;
+    Ok(Segmenter::Lines(segmenter))
+}
