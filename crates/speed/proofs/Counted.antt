@@ -17,6 +17,14 @@ pub tally-is_left : {S : Type 0} (left : S → List ℕ) (s : S) (all : List ℕ
     → (given : List ℕ) × Drains (YieldsFirst left) s given × (tally ≡ tally_of given) → left s ≡ all → tally ≡ tally_of all
 tally-is_left left s all tally (given, drains, is) is_all = is ∙ ap tally_of (given-is_left left s given drains ∙ is_all)
 
+-- .. of an iterator of which nothing was given yet: that of all boundaries by the rules that were lent to it
+pub tally-is_whole : {R I : Type 0} (left : I → List Boundary) (boundaries : R → Text → List Boundary) (lent rules : R) (text : Text) (s : I) (tally : Tally)
+    → left s ≡ boundaries lent text → lent ≡ rules
+    → (given : List ℕ) × Drains (YieldsFirst (λ i. offsets (left i))) s given × (tally ≡ tally_of given)
+    → tally ≡ tally_of (offsets (boundaries rules text))
+tally-is_whole left boundaries lent rules text s tally all same counted =
+    tally-is_left (λ i. offsets (left i)) s _ tally counted (ap offsets (all ∙ ap (λ r. boundaries r text) same))
+
 -- .. of a memo of which nothing was given yet: that of all boundaries by the rules of the iterator that it was made of
 pub tally-is_memo : {R : Type 0} (boundaries : R → Text → List Boundary) (finder rules : R) (source : Rest ℕ) (text : List ℕ)
     (found_by : Option Machine) (s : Memo) (tally : Tally)

@@ -26,7 +26,7 @@ pub struct Trial {
     pub source: Data,
     /// The segmenter.
     pub segmenter: Segmenter,
-    /// How long making the segmenter and its data took at best.
+    /// How long making the segmenter and its data, and letting them go, took at best.
     pub making: Duration,
     /// The boundaries of the text in the last pass.
     pub tally: Tally,
@@ -86,7 +86,7 @@ impl Trial {
     }
 }
 
-// How long it takes at best to make a segmenter and its data.
+// How long it takes at best to make a segmenter and its data, and to let them go.
 fn making_time<C: Clock>(
     clock: &C,
     alloc: Global,
@@ -96,10 +96,16 @@ fn making_time<C: Clock>(
     let mut best = Duration::MAX;
     for _ in 0..PASSES {
         let start = Instant::now(clock)?;
-        let _segmenter = segmenter_of(alloc, engine, source)?;
+        make(alloc, engine, source)?;
         best = best.min(start.elapsed(clock)?);
     }
     Ok(best)
+}
+
+// Makes a segmenter and its data, and lets them go.
+fn make(alloc: Global, engine: Engine, source: Data) -> Result<()> {
+    let _segmenter = segmenter_of(alloc, engine, source)?;
+    Ok(())
 }
 
 // How many millions of bytes are done in a second, where so many take so long.

@@ -242,7 +242,7 @@ fn lines_by_turns(rt: HostRuntime) -> Result<(), Fail> {
     let alloc = rt.alloc();
     expect_turns(&rt, alloc, &turn_table(alloc)?, &TURN_ROWS)?;
     expect_turns(&rt, alloc, &quote_table(alloc)?, &QUOTE_ROWS)?;
-    // No class at the start of a text may be read as one that bears no mark, or else a boundary stands before a mark.
+    // Where the table reads the hyphen at the start of a text as a space, a boundary stands before its mark.
     expect_turns(
         &rt,
         alloc,
