@@ -1,6 +1,8 @@
 -- What the boundaries of lines are found by, and the classes that code points have by it.
 use Rattle.std.specs.Prelude.{ℕ, ◌==◌, ◌&&◌, ◌||◌, Bool, false, if◌then◌else◌, None, List, [], ◌∷◌}
 use Rattle.seg_pair_data.specs.PairTable.{PairTable, class_of}
+use Rattle.seg_line_rules.specs.declared.options.LineBreakStrictness.TheVariants as strictness
+use Rattle.seg_line_rules.specs.declared.options.LineBreakWordOption.TheVariants as word_option
 use Rattle.seg_line_rules.specs.declared.options.LineStyle.{LineStyle}
 use Rattle.seg_line_rules.specs.LineClasses.{AL, CJ, ID, NU}
 use Rattle.seg_line_rules.specs.LineStyles.{is_break_all, is_loose_or_normal}
@@ -9,6 +11,13 @@ use Rattle.seg_line_rules.specs.LineStyles.{is_break_all, is_loose_or_normal}
 pub record LineRules : Type 0 where
   pub table : PairTable
   pub style : LineStyle
+
+-- the table, and what the default options say
+abbrev pub default_rules : PairTable → LineRules
+default_rules table = record {
+  table = table;
+  style = record { strictness = strictness.Strict; word_option = word_option.Normal; is_ja_or_zh = false };
+}
 
 -- the number is one of these
 abbrev pub is_among : List ℕ → ℕ → Bool

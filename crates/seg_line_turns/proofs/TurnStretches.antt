@@ -4,7 +4,7 @@ use Rattle.std.proofs.lemmas.List.{length-drop}
 use Rattle.std.proofs.lemmas.List.Folds.{length-prefix_len}
 use Rattle.std.proofs.lemmas.List.Sums.{prefix_len-le-length}
 use Rattle.seg_text.specs.declared.boundary.Boundary.{Boundary}
-use Rattle.seg_text.specs.Boundaries.{RisesTo, IsCover, shift_all}
+use Rattle.seg_text.specs.Boundaries.{RisesTo, IsCover, shift_all, start}
 use Rattle.seg_text.specs.Cuts.{Cuts, with_status}
 use Rattle.seg_text.specs.Stretches.{Stretch, IsWithin}
 use Rattle.seg_text.proofs.Places.{shifted-none, shifted-twice, shifted-append}
@@ -86,8 +86,8 @@ module _ (cuts : Cuts) (rules : LineRules) where
 
   pub one-list : HasOneTurnList cuts rules
   one-list = record {
-    exists = λ xs. turns-are (length xs) true false xs (omega arith);
-    only = λ xs stretches found are. turns-only true false xs stretches found are;
+    exists = λ xs. let turns = turns-are (length xs) true false xs (omega arith) in (turns.0, (later_turns cuts rules true false xs, (turns.1, refl)));
+    only = λ xs found are. are.1.1.1 ∙ ap (λ (later : List Boundary). start ∷ later) (turns-only true false xs are.0 are.1.0 are.1.1.0);
   }
 
 -- cuts of a run inside it rise in what comes before it too

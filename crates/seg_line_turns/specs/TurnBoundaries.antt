@@ -81,8 +81,12 @@ turn_boundaries cuts rules code_points = start ∷ later_turns cuts rules true f
 abbrev pub turn_boundaries_of : Cuts → LineRules → Text → List Boundary
 turn_boundaries_of cuts rules text = boundaries_in (turn_boundaries (inside cuts) rules) text
 
+-- the same as a relation: that at the start, and then those of some turns, of which the first starts the text
+abbrev pub AreTurnBoundaries : Cuts → LineRules → List ℕ → List Boundary → Type 0
+AreTurnBoundaries cuts rules code_points found =
+    (stretches : List TurnStretch) × ((later : List Boundary) × (AreTurns cuts rules true false code_points stretches later × (found ≡ start ∷ later)))
+
 -- each list has such boundaries, and no others
 pub record HasOneTurnList (cuts : Cuts) (rules : LineRules) : Type 0 where
-  pub exists : (code_points : List ℕ) → (stretches : List TurnStretch) × AreTurns cuts rules true false code_points stretches (later_turns cuts rules true false code_points)
-  pub only : (code_points : List ℕ) (stretches : List TurnStretch) (found : List Boundary)
-      → AreTurns cuts rules true false code_points stretches found → found ≡ later_turns cuts rules true false code_points
+  pub exists : (code_points : List ℕ) → AreTurnBoundaries cuts rules code_points (turn_boundaries cuts rules code_points)
+  pub only : (code_points : List ℕ) (found : List Boundary) → AreTurnBoundaries cuts rules code_points found → found ≡ turn_boundaries cuts rules code_points

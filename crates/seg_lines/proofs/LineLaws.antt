@@ -1,8 +1,8 @@
 -- Laws of the boundaries of lines.
-use Rattle.std.proofs.Common.{◌≡◌, ℕ, List, ◌∷◌, drop, refl, ap, ◌∙◌, subst}
-use Rattle.std.specs.Prelude.{true, false}
+use Rattle.std.proofs.Common.{◌≡◌, ℕ, List, drop, refl, ap, ◌∙◌, subst}
 use Rattle.seg_text.specs.declared.boundary.Boundary.{Boundary}
-use Rattle.seg_text.specs.Boundaries.{RestartsIn, start}
+use Rattle.seg_text.specs.Boundaries.{RestartsIn, offsets}
+use Rattle.seg_text.specs.Cuts.{Cuts, with_status}
 use Rattle.seg_text.specs.Stretches.{HasOneAnswer, later_boundaries}
 use Rattle.seg_text.proofs.Restarts.{restarts, restarts-as}
 use Rattle.seg_text.proofs.Stretches.{later-are, later-only, one-answer}
@@ -10,21 +10,16 @@ use Rattle.seg_machine.specs.Checked.{IsChecked}
 use Rattle.seg_machine.specs.Machine.{Machine as AnyMachine}
 use Rattle.seg_machine.specs.Segments.{machine_boundaries, machine_stretch}
 use Rattle.seg_machine.proofs.Segmentations.{machine-alone, machine-going}
-use Rattle.seg_engine.specs.Rules.{first_stretch}
+use Rattle.seg_engine.specs.Rules.{boundaries_by, first_stretch}
 use Rattle.seg_engine.proofs.ByRules.{going, restarts-by}
-use Rattle.seg_dictionary.specs.ScriptWords.{ScriptWords, AreSameWords}
+use Rattle.seg_dictionary.specs.ScriptWords.{ScriptWords, AreSameWords, no_words}
 use Rattle.seg_complex.specs.InnerCuts.{inner_cuts, inner_stretch}
-use Rattle.seg_complex.specs.Payloads.{Payloads, piece_cuts_by}
+use Rattle.seg_complex.specs.Payloads.{Payloads, piece_cuts_by, run_cuts_by}
 use Rattle.seg_complex.specs.RunCuts.{CoverPieces}
 use Rattle.seg_complex.proofs.EqualSpans.{same-inner-cuts}
+use Rattle.seg_complex.proofs.EqualWords.{same-run-cuts}
 use Rattle.seg_complex.proofs.SpanStretches.{span-some}
 use Rattle.seg_complex.proofs.UnwordedSpans.{inner-none}
-use Rattle.seg_complex.specs.Payloads.{run_cuts_by}
-use Rattle.seg_complex.proofs.EqualWords.{same-run-cuts}
-use Rattle.seg_text.specs.Cuts.{Cuts, with_status}
-use Rattle.seg_text.specs.Boundaries.{offsets}
-use Rattle.seg_engine.specs.Rules.{boundaries_by}
-use Rattle.seg_dictionary.specs.ScriptWords.{no_words}
 use Rattle.seg_line_rules.specs.declared.line_pairs.LinePairs.{LinePairs}
 use Rattle.seg_line_rules.specs.LineBoundaries.{inside, line_boundaries, line_stretch}
 use Rattle.seg_line_rules.specs.LinePairs.{rules_by}
@@ -32,11 +27,11 @@ use Rattle.seg_line_rules.specs.LineRules.{LineRules as TableRules}
 use Rattle.seg_line_rules.specs.MarkLaw.{KeepsMarks}
 use Rattle.seg_line_rules.proofs.LineRestarts.{line-restarts}
 use Rattle.seg_line_rules.proofs.LineStretches.{line-going}
-use Rattle.seg_line_turns.specs.TurnBoundaries.{later_turns, turn_boundaries}
+use Rattle.seg_line_turns.specs.TurnBoundaries.{turn_boundaries}
 use Rattle.seg_line_turns.specs.TurnPairs.{turn_rules_by}
 use Rattle.seg_line_turns.proofs.TurnStretches.{one-list}
 use Rattle.seg_lines.specs.Joined.{joined}
-use Rattle.seg_lines.specs.LineBreaks.{AreBoundariesWith, HasNoCuts, HasOneList, LineFinder, LineRules, boundaries_with, line_boundaries_by, with_words}
+use Rattle.seg_lines.specs.LineBreaks.{AreBoundariesWith, HasOneList, LineFinder, LineRules, MayRestart, boundaries_with, line_boundaries_by, with_words}
 use Rattle.seg_lines.specs.LineBreaks.LineFinder.{ByClusters, ByPlaces, ByTable, ByTurns, ByMachine}
 use Rattle.seg_lines.specs.Lines.{finder_of}
 use Rattle.seg_lines.specs.declared.finder.Finder.{Finder}
@@ -70,12 +65,8 @@ one-by-table rules payloads =
 
 pub one-by-turns : (rules : TableRules) (payloads : Payloads) → HasOneList (record { finder = ByTurns rules; payloads = payloads })
 one-by-turns rules payloads =
-    let cuts = inside (run_cuts_by payloads) in
-    let one = one-list cuts rules in
-    record {
-      exists = λ code_points. let turns = one.exists code_points in (turns.0, (later_turns cuts rules true false code_points, (turns.1, refl)));
-      only = λ code_points found are. are.1.1.1 ∙ ap (λ (later : List Boundary). start ∷ later) (one.only code_points are.0 are.1.0 are.1.1.0);
-    }
+    let one = one-list (inside (run_cuts_by payloads)) rules in
+    record { exists = one.exists; only = one.only }
 
 -- by a machine of lines
 
@@ -115,7 +106,7 @@ pub without-cuts : (m : AnyMachine) (payloads : Payloads) (code_points : List �
     → boundaries_with (ByMachine m) payloads code_points ≡ machine_boundaries m code_points
 without-cuts m payloads code_points none = ap (joined (machine_boundaries m code_points)) (inner-none m payloads none code_points)
 
-restarts-with : (finder : LineFinder) (payloads : Payloads) (code_points : List ℕ) → HasNoCuts finder payloads.words code_points
+restarts-with : (finder : LineFinder) (payloads : Payloads) (code_points : List ℕ) → MayRestart finder payloads.words code_points
     → RestartsIn (boundaries_with finder payloads) code_points
 restarts-with ByClusters payloads code_points none = restarts-by payloads.clusters code_points
 restarts-with ByPlaces payloads code_points none = restarts-plain (boundaries_by payloads.clusters) code_points (restarts-by payloads.clusters code_points)
@@ -125,7 +116,7 @@ restarts-with (ByMachine m) payloads code_points none =
     restarts-as (boundaries_with (ByMachine m) payloads) (machine_boundaries m) code_points
     (λ n. without-cuts m payloads (drop n code_points) none) (restarts (machine_stretch m) (machine-going m) (machine-alone m) code_points)
 
-pub restarts-without : (rules : LineRules) (code_points : List ℕ) → HasNoCuts rules.finder rules.payloads.words code_points
+pub restarts-without : (rules : LineRules) (code_points : List ℕ) → MayRestart rules.finder rules.payloads.words code_points
     → RestartsIn (line_boundaries_by rules) code_points
 restarts-without rules = restarts-with rules.finder rules.payloads
 

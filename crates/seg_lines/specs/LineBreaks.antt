@@ -1,9 +1,9 @@
 -- The boundaries of lines: those of clusters, those of a pair table, by verdicts on units or turn by turn, or those of a machine joined with
 -- the cuts strictly inside runs.
-use Rattle.std.specs.Prelude.{◌≡◌, List, ◌∷◌, ℕ, Option, Some, None, true, false}
+use Rattle.std.specs.Prelude.{◌≡◌, List, ℕ, Option, Some, None}
 use Rattle.seg_text.specs.declared.boundary.Boundary.{Boundary}
 use Rattle.seg_text.specs.Items.{Text}
-use Rattle.seg_text.specs.Boundaries.{boundaries_in, offsets, start}
+use Rattle.seg_text.specs.Boundaries.{boundaries_in, offsets}
 use Rattle.seg_text.specs.Stretches.{AreBoundaries, AreLaterBoundaries, Stretch, list_boundaries}
 use Rattle.seg_machine.specs.Machine.{Machine}
 use Rattle.seg_machine.specs.Segments.{machine_stretch}
@@ -15,7 +15,7 @@ use Rattle.seg_line_rules.specs.declared.options.LineBreakStrictness.{LineBreakS
 use Rattle.seg_line_rules.specs.declared.options.LineBreakStrictness.TheVariants as strictness
 use Rattle.seg_line_rules.specs.LineBoundaries.{HasComplexCodePoint, inside, line_boundaries, line_stretch}
 use Rattle.seg_line_rules.specs.LineRules.{LineRules as TableRules}
-use Rattle.seg_line_turns.specs.TurnBoundaries.{AreTurns, TurnStretch, turn_boundaries}
+use Rattle.seg_line_turns.specs.TurnBoundaries.{AreTurnBoundaries, turn_boundaries}
 use Rattle.seg_dictionary.specs.ScriptWords.{ScriptWords, no_words}
 use Rattle.seg_complex.specs.InnerCuts.{inner_cuts, inner_stretch}
 use Rattle.seg_complex.specs.Payloads.{Payloads, run_cuts_by}
@@ -101,8 +101,7 @@ AreBoundariesWith ByClusters payloads code_points found = AreBoundaries (first_s
 AreBoundariesWith ByPlaces payloads code_points found =
     (boundaries : List Boundary) × (AreBoundaries (first_stretch payloads.clusters) code_points boundaries × (found ≡ with_status 0 (offsets boundaries)))
 AreBoundariesWith (ByTable rules) payloads code_points found = AreBoundaries (line_stretch (inside (run_cuts_by payloads)) rules) code_points found
-AreBoundariesWith (ByTurns rules) payloads code_points found =
-    (stretches : List TurnStretch) × ((later : List Boundary) × (AreTurns (inside (run_cuts_by payloads)) rules true false code_points stretches later × (found ≡ start ∷ later)))
+AreBoundariesWith (ByTurns rules) payloads code_points found = AreTurnBoundaries (inside (run_cuts_by payloads)) rules code_points found
 AreBoundariesWith (ByMachine m) payloads code_points found =
     (boundaries : List Boundary) × (AreBoundaries (machine_stretch m) code_points boundaries
     × ((inner : List Boundary) × ((spans : List Stretch) × (AreLaterBoundaries (inner_stretch m payloads) code_points spans inner
@@ -116,11 +115,11 @@ pub record HasOneList (rules : LineRules) : Type 0 where
   pub exists : (code_points : List ℕ) → AreLineBoundaries rules code_points (line_boundaries_by rules code_points)
   pub only : (code_points : List ℕ) (found : List Boundary) → AreLineBoundaries rules code_points found → found ≡ line_boundaries_by rules code_points
 
--- no run is cut: clusters are found, no code point is complex, or no script has words. By turns it is said of no text, since a boundary may
--- be decided by what stands far before it
-abbrev pub HasNoCuts : LineFinder → ScriptWords → List ℕ → Type 0
-HasNoCuts ByClusters words code_points = Unit {0}
-HasNoCuts ByPlaces words code_points = Unit {0}
-HasNoCuts (ByTable rules) words code_points = HasComplexCodePoint rules code_points → ⊥
-HasNoCuts (ByTurns rules) words code_points = ⊥
-HasNoCuts (ByMachine m) words code_points = words ≡ no_words
+-- a text may be segmented anew from any of its boundaries: clusters are found, no code point is complex, or no script has words; by turns it is
+-- said of no text, since a boundary may be decided by what stands far before it
+abbrev pub MayRestart : LineFinder → ScriptWords → List ℕ → Type 0
+MayRestart ByClusters words code_points = Unit {0}
+MayRestart ByPlaces words code_points = Unit {0}
+MayRestart (ByTable rules) words code_points = HasComplexCodePoint rules code_points → ⊥
+MayRestart (ByTurns rules) words code_points = ⊥
+MayRestart (ByMachine m) words code_points = words ≡ no_words

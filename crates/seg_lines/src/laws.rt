@@ -10,7 +10,7 @@ ghost use Rattle.seg_line_rules.specs.MarkLaw.{KeepsMarks};
 ghost use Rattle.seg_line_turns.specs.PlainTexts.{ArePlain, HasNoOpening, plain_boundaries, turn_units};
 ghost use Rattle.seg_line_turns.specs.TurnMarks.{KeepsTurnMarks, StartsBear};
 ghost use Rattle.seg_lines.specs.LineBreaks.LineFinder.{ByTable, ByTurns};
-ghost use Rattle.seg_lines.specs.LineBreaks.{HasNoCuts, HasOneList, LineRules, line_boundaries_by, with_words};
+ghost use Rattle.seg_lines.specs.LineBreaks.{HasOneList, LineRules, MayRestart, line_boundaries_by, with_words};
 ghost use Rattle.seg_lines.specs.Lines.{line_rules};
 ghost use Rattle.seg_lines.specs.Unmarked.{HasNoMandatoryBreak, IsByPairTable};
 
@@ -51,7 +51,7 @@ pub fn equal_words()
 /// them are those of the rest taken alone, shifted, with the same statuses. By the engine 17 there is no such law: with the sample
 /// data a space, a hyphen and a letter have the boundaries 0, 1 and 3, and the rest from 1 on, taken alone, 0, 1 and 2.
 pub fn restart(segmenter: LineSegmenterBorrowed<'_>)
-    ensures { (code_points : List ℕ) → HasNoCuts (line_rules segmenter.entry).finder (line_rules segmenter.entry).payloads.words code_points
+    ensures { (code_points : List ℕ) → MayRestart (line_rules segmenter.entry).finder (line_rules segmenter.entry).payloads.words code_points
         → RestartsIn (line_boundaries_by (line_rules segmenter.entry)) code_points }
 {
     let _ = segmenter;

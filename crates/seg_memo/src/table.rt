@@ -10,10 +10,13 @@ use crate::configuration::{Cell, Configuration};
 use seg_machine::provider::SegmenterStateMachine;
 
 /// So many cells at least are let go at once.
-const LET_GO: usize = 1024;
+const LET_GO: usize = 4096;
+
+/// So many cells are made at once, where there is room.
+const AHEAD: usize = 256;
 
 /// A cell for each configuration of a text: for so many states and so many sets of lookaheads at each place. Held are the
-/// cells from the first on, as far as one was written; those after them are unknown, and no scan comes back to those before.
+/// cells from the first on, as far as some were made; those after them are unknown, and no scan comes back to those before.
 #[derive(Drop)]
 pub(crate) struct Table {
     pub(crate) states: usize,
@@ -53,7 +56,7 @@ impl Table {
         }
     }
 
-    /// Holds as many cells as there have to be for one at an index. There is room for it.
+    /// Holds the cell at an index, for which there is room.
     fn reach(&mut self, index: usize)
         requires { index < vec_capacity self.old.cells }
         ensures states { self.new.states ≡ self.old.states }
@@ -66,7 +69,13 @@ impl Table {
         if index < self.cells.len() {
             return;
         }
-        let Ok(()) = self.cells.resize(index + 1, Cell::Unknown) else {
+        let room = self.cells.capacity();
+        let len = if AHEAD < room - index {
+            index + AHEAD
+        } else {
+            room
+        };
+        let Ok(()) = self.cells.resize(len, Cell::Unknown) else {
             unreachable!()
         };
     }

@@ -1,12 +1,11 @@
 -- The boundaries that each engine finds with its data, and those that a segmenter gives.
-use Rattle.std.specs.Prelude.{ℕ, false, None, List}
+use Rattle.std.specs.Prelude.{ℕ, None, List}
 use Rattle.icu_segmenter.specs.Boundaries.{offsets}
 use Rattle.icu_segmenter.specs.Clusters.{owned_cluster_rules}
 use Rattle.icu_segmenter.specs.Items.{Text}
 use Rattle.icu_segmenter.specs.LineBreaks.{LineRules, line_boundaries_of, machine_lines, table_lines}
-use Rattle.icu_segmenter.specs.LineRules.{LineRules as TableRules}
+use Rattle.icu_segmenter.specs.LineRules.{default_rules}
 use Rattle.icu_segmenter.specs.Lines.{owned_line_rules}
-use Rattle.icu_segmenter.specs.PairTable.{PairTable}
 use Rattle.icu_segmenter.specs.Rules.{Rules, boundaries_of}
 use Rattle.icu_segmenter.specs.Rules.Rules.{ByTable, ByMachine}
 use Rattle.icu_segmenter.specs.ScriptWords.{no_words}
@@ -14,8 +13,6 @@ use Rattle.icu_segmenter.specs.Sentences.{owned_sentence_rules}
 use Rattle.icu_segmenter.specs.Utf8.{utf8}
 use Rattle.icu_segmenter.specs.WordRules.{WordRules, machine_words, table_words, word_boundaries_of}
 use Rattle.icu_segmenter.specs.Words.{owned_word_rules}
-use Rattle.icu_segmenter.specs.declared.options.LineBreakStrictness.TheVariants as strictness
-use Rattle.icu_segmenter.specs.declared.options.LineBreakWordOption.TheVariants as word_option
 use Rattle.speed.specs.Data.{cluster_machine, cluster_table, line_machine, line_table, sentence_machine, sentence_table, word_machine, word_table}
 use Rattle.speed.specs.declared.engine.Data.{Data}
 use Rattle.speed.specs.declared.engine.Engine.{Engine}
@@ -34,13 +31,6 @@ word_places_by words text = offsets (word_boundaries_of words text)
 
 abbrev pub line_places_by : LineRules → Text → List ℕ
 line_places_by rules text = offsets (line_boundaries_of rules text)
-
--- a pair table of lines, with what the default options say
-abbrev pub default_rules : PairTable → TableRules
-default_rules table = record {
-  table = table;
-  style = record { strictness = strictness.Strict; word_option = word_option.Normal; is_ja_or_zh = false };
-}
 
 -- the places of boundaries by an engine with its data, where no script has words: a memoised engine finds those of its machine
 abbrev pub segmentation_by : Engine → Data → Text → List ℕ

@@ -1,10 +1,11 @@
 //! How the segmenter of each engine is made.
 ghost use Rattle.std.specs.Prelude.{◌≡◌, None, IfOk};
 ghost use Rattle.icu_segmenter.specs.LineBreaks.{machine_lines, table_lines};
+ghost use Rattle.icu_segmenter.specs.LineRules.{default_rules};
 ghost use Rattle.icu_segmenter.specs.Rules.Rules.{ByTable, ByMachine};
 ghost use Rattle.icu_segmenter.specs.ScriptWords.{no_words};
 ghost use Rattle.icu_segmenter.specs.WordRules.{machine_words, table_words};
-ghost use Rattle.speed.specs.Segmenter.{default_rules, line_places_by, places_by, segmentation_by, segmentation_of, word_places_by};
+ghost use Rattle.speed.specs.Segmenter.{line_places_by, places_by, segmentation_by, segmentation_of, word_places_by};
 
 use crate::data::{
     cluster_machine, cluster_table, line_machine, line_table, line_tailorings, sentence_machine,

@@ -9,11 +9,11 @@ use Rattle.icu_segmenter.specs.Lines.{HasFaultWith, HasLineFault, chosen_rules, 
 use Rattle.icu_segmenter.specs.LineBreaks.{machine_lines, table_lines, turn_lines}
 use Rattle.icu_segmenter.specs.ScriptWords.{ScriptWords, AreSameWords, no_words}
 use Rattle.icu_segmenter.specs.declared.provider.ComplexScript.TheVariants.{None as NoScript, Myanmar, ChineseOrJapanese, Khmer, Lao, Thai}
+use Rattle.icu_segmenter.specs.LineRules.{default_rules}
 use Rattle.icu_segmenter.specs.LineStyles.{style_of}
 use Rattle.icu_segmenter.specs.PairTable.{PairTable}
 use Rattle.bench.specs.Lines.{line_machine}
 use Rattle.bench.proofs.Scripts.{lines-not_complex}
-use Rattle.textcut.specs.Command.{default_rules}
 
 none : (fault : DataError) → HasFaultWith line_machine (Some None) fault → ⊥
 none fault (inl has) = has

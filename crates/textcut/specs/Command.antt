@@ -1,16 +1,13 @@
 -- The words of each command, and what it prints of a text.
-use Rattle.std.specs.Prelude.{◌≢◌, ℕ, false, None, List, [], ◌∷◌, map, codes}
+use Rattle.std.specs.Prelude.{◌≢◌, ℕ, None, List, [], ◌∷◌, map, codes}
 use Rattle.std.specs.Borrow.{Bor}
 use Rattle.icu_segmenter.specs.Utf8.{utf8}
 use Rattle.icu_segmenter.specs.Boundaries.{offsets}
 use Rattle.icu_segmenter.specs.Items.{Text}
 use Rattle.icu_segmenter.specs.Rules.{boundaries_of}
-use Rattle.icu_segmenter.specs.declared.options.LineBreakStrictness.TheVariants as strictness
-use Rattle.icu_segmenter.specs.declared.options.LineBreakWordOption.TheVariants as word_option
 use Rattle.icu_segmenter.specs.LineBreaks.{line_boundaries_of, machine_lines, table_lines, turn_lines}
-use Rattle.icu_segmenter.specs.LineRules.{LineRules}
+use Rattle.icu_segmenter.specs.LineRules.{default_rules}
 use Rattle.icu_segmenter.specs.Lines.{without_ja}
-use Rattle.icu_segmenter.specs.PairTable.{PairTable}
 use Rattle.icu_segmenter.specs.WordRules.{machine_words, table_words, word_boundaries_of}
 use Rattle.icu_segmenter.specs.Rules.Rules.{ByTable, ByMachine}
 use Rattle.bench.specs.Clusters.{cluster_machine}
@@ -43,13 +40,6 @@ words_of LineNeo = codes "line" ∷ codes "neo" ∷ []
 -- words that no command has
 abbrev pub IsNoCommand : List (List ℕ) → Type 0
 IsNoCommand words = (command : Command) → words ≢ words_of command
-
--- a pair table of lines, with what the default options say
-abbrev pub default_rules : PairTable → LineRules
-default_rules table = record {
-  table = table;
-  style = record { strictness = strictness.Strict; word_option = word_option.Normal; is_ja_or_zh = false };
-}
 
 -- the places of the boundaries that a command finds in a text; by default options the machine of lines isn't tailored
 abbrev pub places_in : Command → Text → List ℕ

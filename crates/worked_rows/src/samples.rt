@@ -1,5 +1,6 @@
 // Data of lines.
 use seg_clusters::grapheme::GraphemeClusterSegmenter;
+use seg_complex::complex::ComplexPayloadsBorrowed;
 use seg_data::provider::ClassTable;
 use seg_dictionary::dictionaries::Dictionaries;
 use seg_dictionary::provider::DictionaryBreakData;
@@ -20,6 +21,16 @@ pub(crate) struct Data {
     pub(crate) clusters: RuleBreakData,
     pub(crate) segmenter: GraphemeClusterSegmenter,
     pub(crate) dictionaries: Dictionaries,
+}
+
+impl Data {
+    /// What runs are cut by.
+    pub(crate) fn payloads(&self) -> ComplexPayloadsBorrowed<'_> {
+        ComplexPayloadsBorrowed::new(
+            self.dictionaries.as_borrowed(),
+            self.segmenter.as_borrowed(),
+        )
+    }
 }
 
 /// Data with this pair table, and the dictionary {ภาษา, ไทย}.

@@ -1,6 +1,5 @@
 // Lines by pair tables, over units.
 use crate::samples::{BREAK, Data, KEEP, NO_MATCH, cluster_table, data_with};
-use seg_complex::complex::ComplexPayloadsBorrowed;
 use seg_data::provider::{ClassTable, DataError, LanguageIdentifier};
 use seg_line_rules::boundaries::ClassicLines;
 use seg_line_rules::laws;
@@ -85,16 +84,11 @@ fn expect_lines(
     text: &str,
     places: &[usize],
 ) -> Result<(), Fail> {
-    let payloads = ComplexPayloadsBorrowed::new(
-        data.dictionaries.as_borrowed(),
-        data.segmenter.as_borrowed(),
-    );
     let pairs = LinePairs::try_new(&data.table, &data.clusters, style)?;
-    let mut lines = ClassicLines::new(pairs, payloads, StrCharIndices::new(text));
+    let mut lines = ClassicLines::new(pairs, data.payloads(), StrCharIndices::new(text));
     for place in places {
         assert_eq!(rt; lines.next(), Some(*place));
     }
-    assert_eq!(rt; lines.next(), None);
     assert_eq!(rt; lines.next(), None);
     Ok(())
 }

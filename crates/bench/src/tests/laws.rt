@@ -4,6 +4,7 @@ use crate::line_tables::line_table;
 use crate::lines::line_machine;
 use crate::pair_tables::{cluster_table, word_table};
 use crate::sentences::sentence_machine;
+use crate::turn_tables::turn_table;
 use crate::words::word_machine;
 use icu_segmenter::options::{
     LineBreakOptions, SentenceBreakInvariantOptions, WordBreakInvariantOptions,
@@ -72,6 +73,22 @@ fn laws_of_lines_by_pair_tables(rt: HostRuntime) -> Result<(), Fail> {
     line::equal_code_points(segmenter);
     line::restart(segmenter);
     line::mark_law(segmenter);
+    line::no_mandatory_break(segmenter);
+    Ok(())
+}
+
+#[test]
+fn laws_of_lines_by_turns(rt: HostRuntime) -> Result<(), Fail> {
+    let (table, clusters) = (turn_table(rt.alloc())?, cluster_table(rt.alloc())?);
+    let options = LineBreakOptions::default();
+    let segmenter = LineSegmenterBorrowed::new_17_for_non_complex_scripts(
+        &table, &clusters, options,
+    )?;
+    line::boundaries_are_one(segmenter);
+    line::equal_code_points(segmenter);
+    line::no_mandatory_break(segmenter);
+    line::mark_law_17(segmenter);
+    line::plain_texts(segmenter);
     Ok(())
 }
 

@@ -168,9 +168,10 @@ const ROWS: [Row; 31] = [
 ];
 
 /// By the rules of the engine 17 alone, where a hyphen before a letter begins a word.
-const TURN_ROWS: [(&str, &[usize]); 3] = [
+const TURN_ROWS: [(&str, &[usize]); 4] = [
     ("a -b", &[0, 2, 4]),
     (" -a", &[0, 1, 3]),
+    ("-a", &[0, 1, 2]),
     ("-\u{301}", &[0, 3]),
 ];
 

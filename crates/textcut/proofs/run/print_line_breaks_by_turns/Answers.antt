@@ -3,6 +3,7 @@ use Rattle.std.proofs.Common.{◌≡◌, ℕ, List, OnOk, sym, ap, subst, ◌∙
 use Rattle.std.specs.Io.KnownBytes.{Appends}
 use Rattle.icu_segmenter.specs.Boundaries.{offsets}
 use Rattle.icu_segmenter.specs.LineBreaks.{LineRules, line_boundaries_of, turn_lines, with_words}
+use Rattle.icu_segmenter.specs.LineRules.{default_rules}
 use Rattle.icu_segmenter.specs.Lines.{line_rules, without_ja}
 use Rattle.icu_segmenter.specs.PairTable.{PairTable}
 use Rattle.icu_segmenter.specs.ScriptWords.{ScriptWords, filled, no_words, script_words}
@@ -11,7 +12,6 @@ use Rattle.icu_segmenter.proofs.Callers.{line-words-are-sets}
 use Rattle.bench.specs.Dictionaries.{dictionary_words}
 use Rattle.bench.specs.PairTables.{cluster_table}
 use Rattle.bench.specs.TurnTables.{turn_table}
-use Rattle.textcut.specs.Command.{default_rules}
 use Rattle.textcut.specs.Lines.{lines_of}
 use Rattle.textcut.proofs.LineFaults.{same-without_ja, turns-default}
 use Rattle.textcut.proofs.run.print_line_breaks_by_turns.Goals as goal
