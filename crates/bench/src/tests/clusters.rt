@@ -193,18 +193,6 @@ fn clusters_have_equal_ordinals(rt: HostRuntime) -> Result<(), Fail> {
 }
 
 #[test]
-fn clusters_end_for_ever(rt: HostRuntime) -> Result<(), Fail> {
-    let machine = cluster_machine(rt.alloc())?;
-    let segmenter = GraphemeClusterSegmenterBorrowed::new_neo(&machine)?;
-    let want = [Some(0), None, None];
-    expect_next(&rt, segmenter.segment_str(""), &want);
-    expect_next(&rt, segmenter.segment_utf8(b""), &want);
-    expect_next(&rt, segmenter.segment_utf16(&[]), &want);
-    expect_next(&rt, segmenter.segment_latin1(b""), &want);
-    Ok(())
-}
-
-#[test]
 fn owned_segmenters_of_clusters(rt: HostRuntime) -> Result<(), Fail> {
     let owned = GraphemeClusterSegmenter::try_new_neo(cluster_machine(rt.alloc())?)?;
     let want = [Some(0), Some(1), Some(3), Some(4), None, None];

@@ -5,6 +5,7 @@ use crate::provider::{
 use crate::tailored_machine::{TailoredMachine, TailoredMachineBorrowed, has_complex_below_0100};
 use seg_data::provider::{ClassTable, ComplexScript, DataError};
 use std::alloc::Global;
+use std::process::Abort;
 use std::test::Fail;
 
 type Range = (u32, u32, u8);
@@ -82,71 +83,94 @@ fn refusal(
     .err())
 }
 
-#[test]
-fn refuses_parts(rt: HostRuntime) -> Result<(), Fail> {
-    let alloc = rt.alloc();
-    let mut many = Vec::new(alloc);
-    many.resize(256, TAKE)?;
-    let few: [Entry; 0] = [];
-    for (given, fault) in [
-        (
-            refusal(alloc, &RANGES, &few, &TRANSITIONS, 5, 5)?,
-            DataError::StateCount,
-        ),
-        (
-            refusal(alloc, &RANGES, &many, &TRANSITIONS, 0, 5)?,
-            DataError::StateCount,
-        ),
-        (
-            refusal(alloc, &RANGES, &STATES, &TRANSITIONS[..19], 0, 5)?,
-            DataError::TransitionSize,
-        ),
-        (
-            refusal(alloc, &RANGES, &STATES, &[], 0, 5)?,
-            DataError::TransitionSize,
-        ),
-        (
-            refusal(alloc, &RANGES, &STATES, &PAST, 5, 5)?,
-            DataError::TransitionOutOfRange,
-        ),
-    ] {
-        assert_eq!(rt; given, Some(fault));
+/// A machine's parts, and what is wrong with them.
+type Row<'a> = (&'a [Range], &'a [Entry], &'a [State], usize, u8, DataError);
+
+/// Asserts what is wrong with the parts of machines.
+fn expect_refusals(rt: &impl Abort, alloc: Global, rows: &[Row<'_>]) -> Result<(), Fail> {
+    for (ranges, states, transitions, lookaheads, shift, fault) in rows {
+        let given = refusal(alloc, ranges, states, transitions, *lookaheads, *shift)?;
+        assert_eq!(rt; given, Some(*fault));
     }
     Ok(())
 }
 
 #[test]
+fn refuses_parts(rt: HostRuntime) -> Result<(), Fail> {
+    let many = [TAKE; 256];
+    let rows: [Row<'_>; 5] = [
+        (&RANGES, &[], &TRANSITIONS, 5, 5, DataError::StateCount),
+        (&RANGES, &many, &TRANSITIONS, 0, 5, DataError::StateCount),
+        (
+            &RANGES,
+            &STATES,
+            &TRANSITIONS[..19],
+            0,
+            5,
+            DataError::TransitionSize,
+        ),
+        (&RANGES, &STATES, &[], 0, 5, DataError::TransitionSize),
+        (
+            &RANGES,
+            &STATES,
+            &PAST,
+            5,
+            5,
+            DataError::TransitionOutOfRange,
+        ),
+    ];
+    expect_refusals(&rt, rt.alloc(), &rows)
+}
+
+#[test]
 fn refuses_names(rt: HostRuntime) -> Result<(), Fail> {
-    let alloc = rt.alloc();
     let zero = [(97, 97, 0), (99, 99, 2)];
     let pseudo = [(97, 97, 5), (99, 99, 2)];
     let named = [GO, TAKE, GO, TAKE, (Acceptance::Accept(0), Some(0))];
     let conditional = [GO, TAKE, (Acceptance::Conditional(0, 1), None), TAKE, TAKE];
-    for (given, fault) in [
+    let rows: [Row<'_>; 5] = [
         (
-            refusal(alloc, &zero, &STATES, &TRANSITIONS, 5, 255)?,
+            &zero,
+            &STATES,
+            &TRANSITIONS,
+            5,
+            255,
             DataError::SymbolOutOfRange,
         ),
         (
-            refusal(alloc, &pseudo, &STATES, &TRANSITIONS, 0, 5)?,
+            &pseudo,
+            &STATES,
+            &TRANSITIONS,
+            0,
+            5,
             DataError::SymbolOutOfRange,
         ),
         (
-            refusal(alloc, &RANGES, &named, &TRANSITIONS, 5, 5)?,
+            &RANGES,
+            &named,
+            &TRANSITIONS,
+            5,
+            5,
             DataError::TooManyLookaheads,
         ),
         (
-            refusal(alloc, &RANGES, &named, &TRANSITIONS, 0, 5)?,
+            &RANGES,
+            &named,
+            &TRANSITIONS,
+            0,
+            5,
             DataError::LookaheadOutOfRange,
         ),
         (
-            refusal(alloc, &RANGES, &conditional, &TRANSITIONS, 0, 5)?,
+            &RANGES,
+            &conditional,
+            &TRANSITIONS,
+            0,
+            5,
             DataError::LookaheadOutOfRange,
         ),
-    ] {
-        assert_eq!(rt; given, Some(fault));
-    }
-    Ok(())
+    ];
+    expect_refusals(&rt, rt.alloc(), &rows)
 }
 
 // What is wrong with a machine, if anything, where code points outside the ranges have value 1.
@@ -196,29 +220,22 @@ fn follows_texts(rt: HostRuntime) -> Result<(), Fail> {
 #[test]
 fn follows_lookaheads(rt: HostRuntime) -> Result<(), Fail> {
     let alloc = rt.alloc();
-    let b = [(98, 98, 2)];
     let plain = [GO, GO, ASK];
     let named = [GO, NAME, ASK];
+    let late = [GO, GO, NAME, ASK];
     let whole = [255, 2, 255, 1, 2, 255, 1, 2, 255];
     let open = [255, 255, 255, 1, 2, 255, 1, 2, 255];
-    assert_eq!(rt; fault(alloc, &named, &whole, 1, &b)?, None);
-    assert_eq!(rt;
-        fault(alloc, &named, &open, 1, &b)?,
-        Some(DataError::Stalls)
-    );
-    assert_eq!(rt;
-        fault(alloc, &plain, &whole, 1, &b)?,
-        Some(DataError::Stalls)
-    );
-    assert_eq!(rt;
-        fault(alloc, &named, &[255, 2, 255, 1, 1, 255], 1, &[])?,
-        None
-    );
-    let late = [GO, GO, NAME, ASK];
-    assert_eq!(rt;
-        fault(alloc, &late, &[255, 2, 3, 255, 1, 1, 255, 255], 1, &[])?,
-        None
-    );
+    let b: [Range; 1] = [(98, 98, 2)];
+    let rows: [(&[Entry], &[State], &[Range], Option<DataError>); 5] = [
+        (&named, &whole, &b, None),
+        (&named, &open, &b, Some(DataError::Stalls)),
+        (&plain, &whole, &b, Some(DataError::Stalls)),
+        (&named, &[255, 2, 255, 1, 1, 255], &[], None),
+        (&late, &[255, 2, 3, 255, 1, 1, 255, 255], &[], None),
+    ];
+    for (states, transitions, ranges, wanted) in rows {
+        assert_eq!(rt; fault(alloc, states, transitions, 1, ranges)?, wanted);
+    }
     Ok(())
 }
 
