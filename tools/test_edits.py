@@ -1,0 +1,207 @@
+#!/usr/bin/env python3
+"""Tests of tools/edits: python3 tools/test_edits.py. The last one checks a small crate some ten times, which takes a minute."""
+import contextlib
+import importlib.machinery
+import importlib.util
+import io
+import os
+import subprocess
+import sys
+import tempfile
+import unittest
+
+sys.dont_write_bytecode = True
+
+
+def load():
+    loader = importlib.machinery.SourceFileLoader("edits", os.path.join(os.path.dirname(os.path.abspath(__file__)), "edits"))
+    made = importlib.util.module_from_spec(importlib.util.spec_from_loader("edits", loader))
+    sys.modules["edits"] = made
+    loader.exec_module(made)
+    return made
+
+
+edits = load()
+
+UNITS = """\
+const LIMIT: u8 = 7;
+
+impl<'a, U: Copy, E: ReadsUnits<U>> Iterator for Indices<'a, U, E> {
+    const SIZE: usize = 1;
+    fn next(&mut self) -> Option<usize>
+        ensures { result ≡ 1 }
+    {
+        self.place()
+    }
+}
+
+impl ReadsUnits<u8> for Latin1 {
+    fn read_first(units: &[u8]) -> (usize, u32) {
+        if units.len() > 0 {
+            (1, 2)
+        }
+    }
+}
+
+impl<'a, E> Indices<'a, u8, E> {
+    pub fn new_of_bytes(input: &'a [u8]) -> usize {
+        input.len()
+    }
+}
+
+impl<'a, U, E> Indices<'a, U, E> {
+    pub fn new(input: &'a [u8]) -> Indices<'a> {
+        input
+    }
+}
+
+pub fn seek(
+    place: usize,
+) -> usize {
+    place
+}
+"""
+
+SAID = """\
+./proofs/a/seek/Answers.antt:5:38: error: `returns`: computed as far as they go, the two types differ
+./proofs/a/take/Answers.antt:5:38: error: `left` is not in scope
+fn small::a::seek: not proved
+fn small::a::take: not proved; it calls `small::a::seek`, which is not proved
+fn small::a::first: no proof: expected answers in ./proofs/a/first/Answers.antt; `search` did not prove `returns-clause-rest`, `overflow`; it calls `small::a::seek`, which is not proved
+fn small::a::caller: no proof: it calls `small::a::seek`, which is not proved
+fn small::a::other: proved
+"""
+
+
+def edit(name, functions, pairs=()):
+    return edits.Edit("small", name, f"edits/{name}.edit", list(pairs), {*functions})
+
+
+class Places(unittest.TestCase):
+    def place(self, old, new, path="src/indices/units.rt", homes=None):
+        return edits.function_of(path, UNITS, old, new, homes)
+
+    def test_names_are_those_of_a_check(self):
+        self.assertEqual(self.place("self.place()", "0 * self.place()"), "indices::units::IndicesIterator::next")
+        self.assertEqual(self.place("(1, 2)", "(2, 2)"), "indices::units::Latin1ReadsUnitsU8::read_first")
+        self.assertEqual(self.place("        input\n", "        &input[1..]\n"), "indices::units::Indices::new")
+        self.assertEqual(self.place("        input\n", "        &input[1..]\n", homes={"Indices": "indices"}), "indices::Indices::new")
+        self.assertEqual(self.place("input.len()", "1"), "indices::units::Indices+u8+E::new_of_bytes")
+        self.assertEqual(self.place("    place\n", "    place + 1\n"), "indices::units::seek")
+        self.assertEqual(self.place("    place\n", "    place + 1\n", path="src/lib.rt"), "seek")
+
+    def test_what_a_body_begins_with_may_stand_behind_its_header(self):
+        header = "pub fn new(input: &'a [u8]) -> Indices<'a> {"
+        self.assertEqual(self.place(header, f"{header} let input = &input[1..];"), "indices::units::Indices::new")
+
+    def test_what_is_no_body_is_no_function(self):
+        self.assertIsNone(self.place("u8 = 7", "u8 = 8"))
+        self.assertIsNone(self.place("SIZE: usize = 1", "SIZE: usize = 2"))
+        self.assertIsNone(self.place("result ≡ 1", "result ≡ 2"))
+        self.assertIsNone(self.place("    place: usize", "    _place: usize"))
+        self.assertIsNone(self.place("    place\n", "    1\n", path="specs/A.antt"))
+
+
+class Judging(unittest.TestCase):
+    def test_refusals_are_a_functions_own(self):
+        found = edits.refusals(SAID, "small")
+        self.assertEqual(found, {"a::seek": "returns", "a::take": None, "a::first": "returns-clause-rest, overflow"})
+
+    def test_a_round_is_judged_function_by_function(self):
+        round = [edit("seeks", ["a::seek"]), edit("firsts", ["a::first"]), edit("takes", ["a::take"]), edit("others", ["a::other"])]
+        verdicts, unclear, _ = edits.judge(SAID, "small", round)
+        self.assertEqual([it.edit.name for it in verdicts], ["seeks", "firsts"])
+        self.assertIn("returns of a::seek", verdicts[0].said)
+        self.assertEqual([it.name for it in unclear], ["takes", "others"])
+
+    def test_a_round_is_unclear_where_another_function_fails_by_itself(self):
+        round = [edit("seeks", ["a::seek"]), edit("takes", ["a::take"])]
+        self.assertEqual(edits.judge(SAID, "small", round), ([], round, ["a::first"]))
+
+    def test_a_closure_fails_for_its_function(self):
+        said = "fn small::a::fn::Type::find::any+FnMut::call_mut: no proof: expected answers; `search` did not prove `returns`"
+        verdicts, _, others = edits.judge(said, "small", [edit("finds", ["a::Type::find"])])
+        self.assertEqual(([it.said for it in verdicts], others), (["refused at returns of a::Type::find"], []))
+
+    def test_an_edit_of_two_functions_wants_both_refused(self):
+        round = [edit("both", ["a::seek", "a::take", "a::first"])]
+        self.assertEqual(edits.judge(SAID, "small", round), ([], round, []))
+
+
+CRATE = """\
+//! A crate for the tests of the edits.
+#![tactic(auto)]
+
+ghost use Rattle.std.specs.Prelude.{◌≡◌};
+
+const LIMIT: u8 = 7;
+
+/// The number.
+pub fn same(number: u8) -> u8
+    ensures { result ≡ number }
+{
+    number
+}
+
+/// The limit.
+pub fn limit() -> u8
+    ensures { result ≡ 7 }
+{
+    LIMIT
+}
+
+/// The limit, by way of another function.
+pub fn limit_again() -> u8
+    ensures { result ≡ 7 }
+{
+    same(limit())
+}
+"""
+
+# Each edit, and whether it is refused as it must be.
+EDITS = {
+    "must-fail/one_less": ("    number", "    number ^ 1", True),
+    "edits/always_one": ("    number", "    number | 1", True),
+    "edits/limit_of_eight": ("    LIMIT", "    LIMIT ^ 15", True),
+    "edits/limit_that_calls": ("same(limit())", "same(limit()) ^ same(limit())", True),
+    "edits/constant": ("u8 = 7", "u8 = 8", True),
+    "edits/another_promise": ("result ≡ number", "result ≡ 7", True),
+    "edits/changes_nothing": ("same(limit())", "same(same(limit()))", False),
+    "edits/name_gone": ("same(limit())", "missing(limit())", False),
+    "edits/stands_twice": ("result ≡ 7", "result ≡ 8", False),
+    "edits/stands_nowhere": ("LIMITS", "LIMIT", False),
+}
+
+
+class Whole(unittest.TestCase):
+    def test_a_small_crate(self):
+        with tempfile.TemporaryDirectory() as room:
+            self.write(room)
+            said = io.StringIO()
+            here = os.getcwd()
+            os.chdir(room)
+            try:
+                with contextlib.redirect_stdout(said):
+                    status = edits.main([])
+            finally:
+                os.chdir(here)
+        lines = said.getvalue().split("\n")
+        failed = {f"small/{os.path.basename(name)}" for name, (_, _, is_refused) in EDITS.items() if not is_refused}
+        self.assertEqual(status, 1, lines)
+        self.assertEqual({*next(it for it in lines if it.startswith("FAILED: "))[8:].split()}, failed, lines)
+        self.assertEqual([it for it in lines if it][-1], f"{len(EDITS) - len(failed)} passed, {len(failed)} failed")
+
+    def write(self, room):
+        for folder in ("src", "must-fail", "edits"):
+            os.makedirs(f"{room}/crates/small/{folder}")
+        files = {"crates.txt": "small:\n", "crates/small/src/lib.rt": CRATE}
+        for name, (old, new, _) in EDITS.items():
+            files[f"crates/small/{name}.edit"] = f"file: src/lib.rt\nold: {old}\nnew: {new}\n"
+        for name, text in files.items():
+            with open(f"{room}/{name}", "w", encoding="utf-8") as it:
+                it.write(text)
+        subprocess.run(["git", "init", "-q", room], check=True)
+
+
+if __name__ == "__main__":
+    unittest.main()
