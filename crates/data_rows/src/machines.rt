@@ -1,7 +1,7 @@
 //! State machines.
 
 use crate::kind::sameness;
-use crate::row::{Row, bytes_of, numbers_of};
+use crate::row::{Row, bytes_of};
 use crate::tables::table_of;
 use anyhow::{Context, Result, bail};
 use seg_data::provider::ComplexScript;
@@ -80,9 +80,12 @@ pub fn boundaries(alloc: Global, row: Row<'_>) -> Result<String> {
     let read = TailoredMachineBorrowed::without_tailoring(&machine);
     let mut boundaries = RuleBreakIterator::new(read, Utf8CharIndices::new(bytes));
     let mut shown = String::new(alloc);
-    while let Some(place) = boundaries.next() {
-        let status = boundaries.status();
-        write!(shown, "{place}:{status} ")?;
+    // One turn more than a text can have boundaries.
+    for _turn in 0..bytes.len().saturating_add(2) {
+        if let Some(place) = boundaries.next() {
+            let status = boundaries.status();
+            write!(shown, "{place}:{status} ")?;
+        }
     }
     Ok(shown)
 }
@@ -92,7 +95,7 @@ pub fn machine_of(alloc: Global, row: Row<'_>) -> Result<SegmenterStateMachine> 
     let lookaheads = row.number("lookaheads")?;
     let shift = u8::try_from(row.number("shift")?)?;
     let symbols = table_of(alloc, row)?;
-    let moves = bytes_of(alloc, numbers_of(alloc, row.words("moves"), 10)?.as_slice())?;
+    let moves = bytes_of(alloc, row.words("moves"), 10)?;
     let states = states_of(alloc, row.words("states"))?;
     let map = map_of(alloc, row.words("map"))?;
     Ok(SegmenterStateMachine::try_from_parts(symbols, states, moves, lookaheads, shift, map)?)

@@ -54,8 +54,20 @@ fn print_laws(rt: &HostRuntime) -> Result<()> {
 // Judges the rows of a file, and returns how many failed.
 fn failed_in(rt: &HostRuntime, folder: &str, kind: Kind) -> Result<u32> {
     let file = kind.file();
+    let text = read(rt, folder, file)?;
+    let (agreed, failed) = counts_of(rt, kind, text.as_str())?;
+    println!(rt; "{file}: {agreed} agreed, {failed} failed")?;
+    Ok(failed)
+}
+
+// A file of the folder.
+fn read(rt: &HostRuntime, folder: &str, file: &str) -> Result<String> {
     let path = format!(in rt.alloc(); "{folder}/{file}")?;
-    let text = fs::read_to_string(rt, path.as_str()).context("reading a file of rows")?;
+    Ok(fs::read_to_string(rt, path.as_str()).context("reading a file of rows")?)
+}
+
+// How many rows of a text agree, and how many fail.
+fn counts_of(rt: &HostRuntime, kind: Kind, text: &str) -> Result<(u32, u32)> {
     let (mut agreed, mut failed, mut number) = (0u32, 0u32, 0u32);
     let mut base = "";
     for line in text.lines() {
@@ -70,8 +82,7 @@ fn failed_in(rt: &HostRuntime, folder: &str, kind: Kind) -> Result<u32> {
             }
         }
     }
-    println!(rt; "{file}: {agreed} agreed, {failed} failed")?;
-    Ok(failed)
+    Ok((agreed, failed))
 }
 
 // What a line asks, and what must be found; None for a comment or an empty line. The error is any other line.

@@ -1,4 +1,5 @@
 //! The rows of a file: parts with semicolons between them, each a name and what it holds.
+ghost use Rattle.std.specs.Prelude.{◌≤◌};
 
 use anyhow::{Context, Result};
 use std::alloc::{AllocError, Global};
@@ -58,38 +59,25 @@ fn part_of<'a>(parts: &'a str, name: &str) -> Option<&'a str> {
     None
 }
 
-/// The numbers in a text, in digits of this base.
-pub fn numbers_of(alloc: Global, text: &str, base: u32) -> Result<Vec<u32>>
+/// The bytes in a text, in digits of this base.
+pub fn bytes_of(alloc: Global, words: &str, base: u32) -> Result<Vec<u8>>
     requires low { 2 ≤ base }
     requires high { base ≤ 36 }
 {
-    let mut numbers = Vec::new(alloc);
-    for word in text.split_whitespace() {
-        numbers
-            .push(u32::from_str_radix(word, base)?)
-            .map_err(AllocError::from)?;
-    }
-    Ok(numbers)
-}
-
-/// The bytes among numbers. The error is a number that is none.
-pub fn bytes_of(alloc: Global, numbers: &[u32]) -> Result<Vec<u8>> {
     let mut bytes = Vec::new(alloc);
-    for number in numbers {
-        bytes
-            .push(u8::try_from(*number)?)
-            .map_err(AllocError::from)?;
+    for word in words.split_whitespace() {
+        let byte = u8::from_str_radix(word, base)?;
+        bytes.push(byte).map_err(AllocError::from)?;
     }
     Ok(bytes)
 }
 
-/// The units of 16 bits among numbers. The error is a number that is none.
-pub fn units_of(alloc: Global, numbers: &[u32]) -> Result<Vec<u16>> {
+/// The units of 16 bits in a text, in hexadecimal digits.
+pub fn units_of(alloc: Global, words: &str) -> Result<Vec<u16>> {
     let mut units = Vec::new(alloc);
-    for number in numbers {
-        units
-            .push(u16::try_from(*number)?)
-            .map_err(AllocError::from)?;
+    for word in words.split_whitespace() {
+        let unit = u16::from_str_radix(word, 16)?;
+        units.push(unit).map_err(AllocError::from)?;
     }
     Ok(units)
 }

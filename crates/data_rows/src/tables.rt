@@ -1,4 +1,6 @@
 //! Tables of classes, and the faults of data.
+ghost use Rattle.std.specs.Prelude.{IfOk};
+ghost use Rattle.seg_data.specs.Faults.{HasRangeFault, IsFaultless};
 
 use crate::kind::sameness;
 use crate::row::Row;
@@ -16,7 +18,9 @@ pub fn table(alloc: Global, row: Row<'_>) -> Result<String> {
 }
 
 // The value of a code point, which is the same by halving.
-fn value(alloc: Global, table: &ClassTable, code_point: u32) -> Result<String> {
+fn value(alloc: Global, table: &ClassTable, code_point: u32) -> Result<String>
+    requires { IsFaultless (HasRangeFault table.now.ranges) }
+{
     let value = table.get32(code_point);
     if value_by_halving(table.ranges(), table.default(), code_point) != value {
         bail!("another value by halving");
@@ -43,7 +47,9 @@ pub fn same_tables(alloc: Global, row: Row<'_>) -> Result<String> {
 }
 
 /// The table of a row: ranges as `61-7A:1`, and its default.
-pub fn table_of(alloc: Global, row: Row<'_>) -> Result<ClassTable> {
+pub fn table_of(alloc: Global, row: Row<'_>) -> Result<ClassTable>
+    ensures { IfOk result (λ table. IsFaultless (HasRangeFault table.ranges)) }
+{
     let default = u8::try_from(row.number("default")?)?;
     let ranges = ranges_of(alloc, row.words("ranges"))?;
     Ok(ClassTable::try_from_ranges(ranges, default)?)

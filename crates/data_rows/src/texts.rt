@@ -4,7 +4,7 @@ ghost use Rattle.std.specs.Iterator.{IsFinite};
 ghost use Rattle.std.specs.List.{All};
 ghost use Rattle.seg_text.specs.Items.{start_of, rest_after, code_points};
 
-use crate::row::{Row, bytes_of, numbers_of, units_of};
+use crate::row::{Row, bytes_of, units_of};
 use anyhow::{Result, bail};
 use seg_text::cursor::Cursor;
 use seg_text::indices::{
@@ -28,19 +28,15 @@ enum Text {
 // The text of a row: an encoding, and units in hexadecimal digits.
 fn text_of(alloc: Global, row: Row<'_>) -> Result<Text> {
     if let Some(bytes) = row.part("latin1") {
-        let bytes = numbers_of(alloc, bytes, 16)?;
-        return Ok(Text::Latin1(bytes_of(alloc, bytes.as_slice())?));
+        return Ok(Text::Latin1(bytes_of(alloc, bytes, 16)?));
     }
     if let Some(bytes) = row.part("utf8") {
-        let bytes = numbers_of(alloc, bytes, 16)?;
-        return Ok(Text::IllFormed(bytes_of(alloc, bytes.as_slice())?));
+        return Ok(Text::IllFormed(bytes_of(alloc, bytes, 16)?));
     }
     if let Some(units) = row.part("utf16") {
-        let units = numbers_of(alloc, units, 16)?;
-        return Ok(Text::Utf16(units_of(alloc, units.as_slice())?));
+        return Ok(Text::Utf16(units_of(alloc, units)?));
     }
-    let bytes = numbers_of(alloc, row.words("str"), 16)?;
-    let text = String::from_utf8(bytes_of(alloc, bytes.as_slice())?)?;
+    let text = String::from_utf8(bytes_of(alloc, row.words("str"), 16)?)?;
     str_is_well_formed(text.as_str());
     Ok(Text::Utf8(text))
 }
