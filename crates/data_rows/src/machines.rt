@@ -32,18 +32,18 @@ pub fn parts(alloc: Global, row: Row<'_>) -> Result<String> {
     let (states, moves) = (machine.states().len(), machine.transitions().len());
     let (lookaheads, shift) = (machine.num_lookaheads(), machine.pseudo_symbol_shift());
     let map = machine.pseudo_symbol_map().len();
-    let (acceptance, name) = start(&machine);
+    let lent = TailoredMachineBorrowed::without_tailoring(&machine);
+    let ((acceptance, name), named) = (start(lent), lent.num_lookaheads());
     Ok(format!(in alloc;
-        "states {states}, moves {moves}, lookaheads {lookaheads}, shift {shift}, map {map}, start {acceptance:?} {name:?}"
+        "states {states}, moves {moves}, lookaheads {lookaheads} and lent {named}, shift {shift}, map {map}, start {acceptance:?} {name:?}"
     )?)
 }
 
 // What the start of a machine accepts, and the lookahead that it names.
-fn start(machine: &SegmenterStateMachine) -> (Acceptance, Option<Lookahead>) {
-    let read = TailoredMachineBorrowed::without_tailoring(machine);
-    read.facts();
-    picks_are_first_or_last(read);
-    read.entry(SegmenterStateMachine::START_STATE)
+fn start(machine: TailoredMachineBorrowed<'_>) -> (Acceptance, Option<Lookahead>) {
+    machine.facts();
+    picks_are_first_or_last(machine);
+    machine.entry(SegmenterStateMachine::START_STATE)
 }
 
 /// Whether the machine of a row is the one that it is based on.

@@ -5,12 +5,17 @@ ghost use Rattle.seg_data.specs.Faults.{HasRangeFault, IsFaultless};
 use crate::kind::sameness;
 use crate::row::Row;
 use anyhow::{Context, Result, bail};
-use seg_data::provider::{ClassTable, DataError, value_by_halving};
+use seg_data::provider::{ClassTable, DataError, page_byte_count, value_by_halving};
 use std::alloc::{AllocError, Global};
 
-/// The value of the code point that a row names, or else the table's ranges and default.
+/// How many bytes the table's pages take where a row asks for its pages; the value of the code point that it names; or else the
+/// table's ranges and default.
 pub fn table(alloc: Global, row: Row<'_>) -> Result<String> {
     let table = table_of(alloc, row)?;
+    if row.part("pages").is_some() {
+        let bytes = page_byte_count(&table);
+        return Ok(format!(in alloc; "{bytes}")?);
+    }
     match row.part("at") {
         Some(digits) => value(alloc, &table, u32::from_str_radix(digits.trim(), 16)?),
         None => shown(alloc, &table),
