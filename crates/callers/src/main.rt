@@ -30,44 +30,61 @@ use icu_segmenter::{
     GraphemeClusterSegmenterBorrowed, LineSegmenterBorrowed, SentenceSegmenterBorrowed,
     WordSegmenterBorrowed,
 };
-use std::fmt::Debug;
 
 fn main(rt: HostRuntime) -> Result<()> {
-    find_clusters(&rt)?;
-    find_sentences(&rt)?;
-    find_lines(&rt)?;
-    find_lines_beside_letters(&rt)?;
-    find_runs(&rt)?;
-    find_words(&rt)
+    find_all(&rt)
 }
 
-// Prints what is found, and where.
-fn print<T: Debug>(rt: &HostRuntime, subject: &str, answer: &T) -> Result<()> {
-    println!(rt; "{subject}: {answer:?}")?;
+fn find_all(rt: &HostRuntime) -> Result<()> {
+    find_clusters(rt)?;
+    find_sentences(rt)?;
+    find_lines(rt)?;
+    find_lines_beside_letters(rt)?;
+    find_runs(rt)?;
+    find_words(rt)
+}
+
+// Prints places that are found.
+fn print(rt: &HostRuntime, subject: &str, places: &[usize]) -> Result<()> {
+    println!(rt; "{subject}: {places:?}")?;
+    Ok(())
+}
+
+// Prints a number that is found.
+fn print_count(rt: &HostRuntime, subject: &str, count: u64) -> Result<()> {
+    println!(rt; "{subject}: {count}")?;
     Ok(())
 }
 
 fn find_clusters(rt: &HostRuntime) -> Result<()> {
+    let machine = cluster_machine(rt.alloc())?;
+    print_clusters(rt, GraphemeClusterSegmenterBorrowed::new_neo(&machine)?)
+}
+
+fn print_clusters(rt: &HostRuntime, clusters: GraphemeClusterSegmenterBorrowed<'_>) -> Result<()> {
     let alloc = rt.alloc();
-    let machine = cluster_machine(alloc)?;
-    let clusters = GraphemeClusterSegmenterBorrowed::new_neo(&machine)?;
     let places = cluster_places(alloc, clusters, "e\u{301}a")?;
-    print(rt, "clusters of e, an accent and a", &places)?;
+    print(rt, "clusters of e, an accent and a", places.as_slice())?;
     let units: Vec<usize> = clusters.segment_utf16(&[0x65, 0x301, 0x61]).collect(alloc)?;
-    print(rt, "the same in UTF-16", &units)?;
+    print(rt, "the same in UTF-16", units.as_slice())?;
     let look_ups = cluster_look_ups(alloc, clusters, "ab")?;
-    print(rt, "look-ups in ab", &look_ups)
+    print_count(rt, "look-ups in ab", look_ups as u64)
 }
 
 fn find_sentences(rt: &HostRuntime) -> Result<()> {
-    let alloc = rt.alloc();
-    let machine = sentence_machine(alloc)?;
+    let machine = sentence_machine(rt.alloc())?;
     let options = SentenceBreakInvariantOptions::default();
-    let sentences = SentenceSegmenterBorrowed::new_neo(&machine, None, options)?;
-    let places: Vec<usize> = sentences.segment_str("Hi. Bye.").collect(alloc)?;
-    print(rt, "sentences of Hi. Bye.", &places)?;
+    print_sentences(
+        rt,
+        SentenceSegmenterBorrowed::new_neo(&machine, None, options)?,
+    )
+}
+
+fn print_sentences(rt: &HostRuntime, sentences: SentenceSegmenterBorrowed<'_>) -> Result<()> {
+    let places: Vec<usize> = sentences.segment_str("Hi. Bye.").collect(rt.alloc())?;
+    print(rt, "sentences of Hi. Bye.", places.as_slice())?;
     let count = sentence_boundary_count(sentences, b"Hi. Bye.");
-    print(rt, "boundaries of sentences there", &count)
+    print_count(rt, "boundaries of sentences there", count)
 }
 
 fn find_lines(rt: &HostRuntime) -> Result<()> {
@@ -80,30 +97,46 @@ fn find_lines(rt: &HostRuntime) -> Result<()> {
         &clusters,
         LineBreakOptions::default(),
     )?;
+    print_lines(rt, lines)
+}
+
+fn print_lines(rt: &HostRuntime, lines: LineSegmenterBorrowed<'_>) -> Result<()> {
+    let alloc = rt.alloc();
     let places: Vec<usize> = lines.segment_str("a b\nc").collect(alloc)?;
-    print(rt, "lines of a b, a line feed and c", &places)?;
+    print(rt, "lines of a b, a line feed and c", places.as_slice())?;
     let mandatory = mandatory_breaks(alloc, lines, "a b\nc")?;
-    print(rt, "where they must be broken", &mandatory)?;
+    print(rt, "where they must be broken", mandatory.as_slice())?;
     let ends = filled_lines(alloc, lines, "one two three\nfour abcdefgh", 8)?;
-    print(rt, "lines of a width of 8", &ends)
+    print(rt, "lines of a width of 8", ends.as_slice())
 }
 
 fn find_lines_beside_letters(rt: &HostRuntime) -> Result<()> {
     let alloc = rt.alloc();
-    let (machine, clusters) = (line_machine(alloc)?, cluster_machine(alloc)?);
-    let lines = breakall_segmenter(machine, breakall(alloc)?, clusters)?;
-    let places: Vec<usize> = lines.as_borrowed().segment_str("ab c").collect(alloc)?;
-    print(rt, "lines of ab c beside each letter", &places)
+    let tailoring = breakall(alloc)?;
+    let clusters = cluster_machine(alloc)?;
+    let lines = breakall_segmenter(line_machine(alloc)?, tailoring, clusters)?;
+    print_lines_beside_letters(rt, lines.as_borrowed())
+}
+
+fn print_lines_beside_letters(rt: &HostRuntime, lines: LineSegmenterBorrowed<'_>) -> Result<()> {
+    let places: Vec<usize> = lines.segment_str("ab c").collect(rt.alloc())?;
+    print(rt, "lines of ab c beside each letter", places.as_slice())
 }
 
 fn find_runs(rt: &HostRuntime) -> Result<()> {
-    let alloc = rt.alloc();
-    let by_machine = runs_by_machine(alloc)?;
-    let places = cluster_places(alloc, by_machine.as_borrowed(), "two  words")?;
-    print(rt, "runs by a machine", &places)?;
-    let by_table = runs_by_table(alloc)?;
-    let places = cluster_places(alloc, by_table.as_borrowed(), "two  words")?;
-    print(rt, "runs by a pair table", &places)
+    let by_machine = runs_by_machine(rt.alloc())?;
+    print_runs(rt, "runs by a machine", by_machine.as_borrowed())?;
+    let by_table = runs_by_table(rt.alloc())?;
+    print_runs(rt, "runs by a pair table", by_table.as_borrowed())
+}
+
+fn print_runs(
+    rt: &HostRuntime,
+    subject: &str,
+    runs: GraphemeClusterSegmenterBorrowed<'_>,
+) -> Result<()> {
+    let places = cluster_places(rt.alloc(), runs, "two  words")?;
+    print(rt, subject, places.as_slice())
 }
 
 fn find_words(rt: &HostRuntime) -> Result<()> {
@@ -114,7 +147,12 @@ fn find_words(rt: &HostRuntime) -> Result<()> {
     let lent = dictionaries.as_borrowed();
     let options = WordBreakInvariantOptions::default();
     let words = WordSegmenterBorrowed::new_dictionary(&table, None, &clusters, lent, options)?;
-    let tokens = tokens(alloc, words, "ภาษาไทย 42.")?;
-    print(rt, "tokens of ภาษาไทย 42.", &tokens)?;
-    print(rt, "words there", &word_count(words, "ภาษาไทย 42."))
+    print_words(rt, words)
+}
+
+fn print_words(rt: &HostRuntime, words: WordSegmenterBorrowed<'_>) -> Result<()> {
+    for (begin, end) in tokens(rt.alloc(), words, "ภาษาไทย 42.")? {
+        print(rt, "a token of ภาษาไทย 42.", &[begin, end])?;
+    }
+    print_count(rt, "words there", word_count(words, "ภาษาไทย 42.") as u64)
 }

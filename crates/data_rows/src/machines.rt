@@ -76,9 +76,17 @@ fn first_step(machine: TailoredMachineBorrowed<'_>, code_point: u32) -> (Symbol,
 /// The boundaries of a text by a machine, each with its status.
 pub fn boundaries(alloc: Global, row: Row<'_>) -> Result<String> {
     let machine = machine_of(alloc, row)?;
-    let bytes = row.words("text").as_bytes();
-    let read = TailoredMachineBorrowed::without_tailoring(&machine);
-    let mut boundaries = RuleBreakIterator::new(read, Utf8CharIndices::new(bytes));
+    let lent = TailoredMachineBorrowed::without_tailoring(&machine);
+    boundaries_by(alloc, lent, row.words("text").as_bytes())
+}
+
+// The same by a machine that is lent.
+fn boundaries_by(
+    alloc: Global,
+    machine: TailoredMachineBorrowed<'_>,
+    bytes: &[u8],
+) -> Result<String> {
+    let mut boundaries = RuleBreakIterator::new(machine, Utf8CharIndices::new(bytes));
     let mut shown = String::new(alloc);
     // One turn more than a text can have boundaries.
     for _turn in 0..bytes.len().saturating_add(2) {

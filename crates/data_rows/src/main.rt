@@ -26,17 +26,29 @@ use std::process::ExitCode;
 use std::{env, fs};
 
 fn main(rt: HostRuntime) -> Result<ExitCode> {
-    let folder = env::args(&rt)?.nth(1).context("usage: data_rows FOLDER")?;
-    let mut failed = 0u32;
-    for kind in KINDS {
-        failed = failed.saturating_add(failed_in(&rt, folder.as_str(), kind)?);
-    }
-    print_laws(&rt)?;
+    let failed = failed_rows(&rt)?;
     Ok(if failed > 0 {
         ExitCode::FAILURE
     } else {
         ExitCode::SUCCESS
     })
+}
+
+// Judges the rows of all kinds, and returns how many failed.
+fn failed_rows(rt: &HostRuntime) -> Result<u32> {
+    let folder = env::args(rt)?.nth(1).context("usage: data_rows FOLDER")?;
+    let failed = failed_below(rt, folder.as_str())?;
+    print_laws(rt)?;
+    Ok(failed)
+}
+
+// Judges the rows of all kinds in a folder, and returns how many failed.
+fn failed_below(rt: &HostRuntime, folder: &str) -> Result<u32> {
+    let mut failed = 0u32;
+    for kind in KINDS {
+        failed = failed.saturating_add(failed_in(rt, folder, kind)?);
+    }
+    Ok(failed)
 }
 
 // Calls the laws that have no texts or machines, and prints the two lists that laws give.
