@@ -5,12 +5,10 @@ ghost use Rattle.seg_data.specs.declared.provider.DataError.TheVariants.{Memory}
 
 mod language;
 mod table;
-#[cfg(test)]
-mod tests;
 
 pub use language::LanguageIdentifier;
 use std::alloc::AllocError;
-pub use table::{ClassTable, value_by_halving};
+pub use table::{ClassTable, page_byte_count, value_by_halving};
 use thiserror::Error;
 
 /// The script of a run of text whose words only a dictionary or a model can tell apart.

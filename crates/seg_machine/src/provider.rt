@@ -7,8 +7,6 @@ mod cycles;
 mod machine;
 mod stalls;
 mod tailoring;
-#[cfg(test)]
-mod tests;
 mod transitions;
 
 pub use machine::SegmenterStateMachine;

@@ -7,8 +7,6 @@ pub mod indices;
 pub mod laws;
 pub mod prefixes;
 pub mod scaffold;
-#[cfg(test)]
-mod tests;
 
 mod private {
     /// Keeps the traits of encodings to this crate.

@@ -6,9 +6,6 @@ ghost use Rattle.std.specs.Cmp.Lexicographic.{pointwise, nat_list_eq_equiv};
 ghost use Rattle.std.specs.Str.{str_to_ascii_lowercase};
 ghost use Rattle.seg_data.specs.Language.{IsLanguage};
 
-#[cfg(test)]
-mod tests;
-
 use arrayvec::ArrayString;
 use std::marker::Model;
 

@@ -97,6 +97,12 @@ impl ClassTable {
     }
 }
 
+/// How many bytes a table's pages take: two for each page, and 128 for each block of values. It isn't part of the library's
+/// surface.
+pub fn page_byte_count(table: &ClassTable) -> usize {
+    table.pages.byte_count()
+}
+
 impl Debug for ClassTable {
     // The ranges and the default: the pages only say the same again.
     fn fmt<W: fmt::Write>(&self, f: &mut Formatter<W>) -> fmt::Result {

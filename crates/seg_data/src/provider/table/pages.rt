@@ -4,9 +4,6 @@ ghost use Rattle.seg_data.specs.Faults.{HasRangeFault, IsFaultless};
 ghost use Rattle.seg_data.specs.Pages.{AreBlocks, ArePages, HasGrown, IsFilled, IsPageAt, IsPlain};
 ghost use Rattle.seg_data.specs.Table.{Table, table, value_of};
 
-#[cfg(test)]
-mod tests;
-
 use crate::provider::table::runs::run_from;
 use std::alloc::{AllocError, Global};
 
@@ -53,6 +50,12 @@ impl Pages {
         } else {
             None
         }
+    }
+
+    /// How many bytes the pages take, or `usize::MAX` where these are more.
+    pub(super) fn byte_count(&self) -> usize {
+        let numbers = self.numbers.capacity().saturating_mul(2);
+        numbers.saturating_add(self.values.capacity())
     }
 
     /// Adds the pages of the table of these ranges and this default: all, or, where memory is

@@ -1,5 +1,5 @@
 use Rattle.std.proofs.Common.{◌≡◌, ◌+◌, ◌-◌, refl, arith}
-use Rattle.seg_text.proofs.tests.expect_slice.Goals as goal
+use Rattle.data_rows.proofs.texts.slice_in.Goals as goal
 
 pub slice-requires : goal.slice-requires
 slice-requires g c κs =

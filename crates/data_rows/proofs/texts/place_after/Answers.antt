@@ -3,7 +3,7 @@ use Rattle.std.proofs.lemmas.List.{drop-drop}
 use Rattle.std.specs.Prelude.{Option, Some, None}
 use Rattle.std.specs.Iterator.{YieldsFirst}
 use Rattle.seg_text.specs.Items.{Item}
-use Rattle.seg_text.proofs.tests.place_after.Goals as goal
+use Rattle.data_rows.proofs.texts.place_after.Goals as goal
 
 -- one more item is read
 more : {S : Type 0} (left : S → List Item) (items : List Item) (k : ℕ) (old new : S) (read : Option Item)

@@ -1,0 +1,158 @@
+//! Callers of the segmenters, proved by the gate. docs/CALLING.md shows them.
+//!
+//! The program calls each once, on the rows that the segmenters' pages show, and prints what it answers.
+#![tactic(auto)]
+
+mod clusters;
+mod data;
+mod lines;
+mod memo;
+mod sentences;
+mod words;
+
+use crate::clusters::cluster_places;
+use crate::data::{runs_by_machine, runs_by_table};
+use crate::lines::{breakall_segmenter, filled_lines, mandatory_breaks};
+use crate::memo::cluster_look_ups;
+use crate::sentences::sentence_boundary_count;
+use crate::words::{tokens, word_count};
+use anyhow::Result;
+use bench::clusters::cluster_machine;
+use bench::dictionaries::dictionaries;
+use bench::lines::{breakall, line_machine};
+use bench::pair_tables::{cluster_table, word_table};
+use bench::sentences::sentence_machine;
+use icu_segmenter::options::{
+    LineBreakOptions, SentenceBreakInvariantOptions, WordBreakInvariantOptions,
+};
+use icu_segmenter::provider::LineTailoringsBorrowed;
+use icu_segmenter::{
+    GraphemeClusterSegmenterBorrowed, LineSegmenterBorrowed, SentenceSegmenterBorrowed,
+    WordSegmenterBorrowed,
+};
+
+fn main(rt: HostRuntime) -> Result<()> {
+    find_all(&rt)
+}
+
+fn find_all(rt: &HostRuntime) -> Result<()> {
+    find_clusters(rt)?;
+    find_sentences(rt)?;
+    find_lines(rt)?;
+    find_lines_beside_letters(rt)?;
+    find_runs(rt)?;
+    find_words(rt)
+}
+
+// Prints places that are found.
+fn print(rt: &HostRuntime, subject: &str, places: &[usize]) -> Result<()> {
+    println!(rt; "{subject}: {places:?}")?;
+    Ok(())
+}
+
+// Prints a number that is found.
+fn print_count(rt: &HostRuntime, subject: &str, count: u64) -> Result<()> {
+    println!(rt; "{subject}: {count}")?;
+    Ok(())
+}
+
+fn find_clusters(rt: &HostRuntime) -> Result<()> {
+    let machine = cluster_machine(rt.alloc())?;
+    print_clusters(rt, GraphemeClusterSegmenterBorrowed::new_neo(&machine)?)
+}
+
+fn print_clusters(rt: &HostRuntime, clusters: GraphemeClusterSegmenterBorrowed<'_>) -> Result<()> {
+    let alloc = rt.alloc();
+    let places = cluster_places(alloc, clusters, "e\u{301}a")?;
+    print(rt, "clusters of e, an accent and a", places.as_slice())?;
+    let units: Vec<usize> = clusters.segment_utf16(&[0x65, 0x301, 0x61]).collect(alloc)?;
+    print(rt, "the same in UTF-16", units.as_slice())?;
+    let look_ups = cluster_look_ups(alloc, clusters, "ab")?;
+    print_count(rt, "look-ups in ab", look_ups as u64)
+}
+
+fn find_sentences(rt: &HostRuntime) -> Result<()> {
+    let machine = sentence_machine(rt.alloc())?;
+    let options = SentenceBreakInvariantOptions::default();
+    print_sentences(
+        rt,
+        SentenceSegmenterBorrowed::new_neo(&machine, None, options)?,
+    )
+}
+
+fn print_sentences(rt: &HostRuntime, sentences: SentenceSegmenterBorrowed<'_>) -> Result<()> {
+    let places: Vec<usize> = sentences.segment_str("Hi. Bye.").collect(rt.alloc())?;
+    print(rt, "sentences of Hi. Bye.", places.as_slice())?;
+    let count = sentence_boundary_count(sentences, b"Hi. Bye.");
+    print_count(rt, "boundaries of sentences there", count)
+}
+
+fn find_lines(rt: &HostRuntime) -> Result<()> {
+    let alloc = rt.alloc();
+    let machine = line_machine(alloc)?;
+    let clusters = cluster_machine(alloc)?;
+    let lines = LineSegmenterBorrowed::new_neo_for_non_complex_scripts(
+        &machine,
+        LineTailoringsBorrowed::default(),
+        &clusters,
+        LineBreakOptions::default(),
+    )?;
+    print_lines(rt, lines)
+}
+
+fn print_lines(rt: &HostRuntime, lines: LineSegmenterBorrowed<'_>) -> Result<()> {
+    let alloc = rt.alloc();
+    let places: Vec<usize> = lines.segment_str("a b\nc").collect(alloc)?;
+    print(rt, "lines of a b, a line feed and c", places.as_slice())?;
+    let mandatory = mandatory_breaks(alloc, lines, "a b\nc")?;
+    print(rt, "where they must be broken", mandatory.as_slice())?;
+    let ends = filled_lines(alloc, lines, "one two three\nfour abcdefgh", 8)?;
+    print(rt, "lines of a width of 8", ends.as_slice())
+}
+
+fn find_lines_beside_letters(rt: &HostRuntime) -> Result<()> {
+    let alloc = rt.alloc();
+    let tailoring = breakall(alloc)?;
+    let clusters = cluster_machine(alloc)?;
+    let lines = breakall_segmenter(line_machine(alloc)?, tailoring, clusters)?;
+    print_lines_beside_letters(rt, lines.as_borrowed())
+}
+
+fn print_lines_beside_letters(rt: &HostRuntime, lines: LineSegmenterBorrowed<'_>) -> Result<()> {
+    let places: Vec<usize> = lines.segment_str("ab c").collect(rt.alloc())?;
+    print(rt, "lines of ab c beside each letter", places.as_slice())
+}
+
+fn find_runs(rt: &HostRuntime) -> Result<()> {
+    let by_machine = runs_by_machine(rt.alloc())?;
+    print_runs(rt, "runs by a machine", by_machine.as_borrowed())?;
+    let by_table = runs_by_table(rt.alloc())?;
+    print_runs(rt, "runs by a pair table", by_table.as_borrowed())
+}
+
+fn print_runs(
+    rt: &HostRuntime,
+    subject: &str,
+    runs: GraphemeClusterSegmenterBorrowed<'_>,
+) -> Result<()> {
+    let places = cluster_places(rt.alloc(), runs, "two  words")?;
+    print(rt, subject, places.as_slice())
+}
+
+fn find_words(rt: &HostRuntime) -> Result<()> {
+    let alloc = rt.alloc();
+    let table = word_table(alloc)?;
+    let clusters = cluster_table(alloc)?;
+    let dictionaries = dictionaries(alloc)?;
+    let lent = dictionaries.as_borrowed();
+    let options = WordBreakInvariantOptions::default();
+    let words = WordSegmenterBorrowed::new_dictionary(&table, None, &clusters, lent, options)?;
+    print_words(rt, words)
+}
+
+fn print_words(rt: &HostRuntime, words: WordSegmenterBorrowed<'_>) -> Result<()> {
+    for (begin, end) in tokens(rt.alloc(), words, "ภาษาไทย 42.")? {
+        print(rt, "a token of ภาษาไทย 42.", &[begin, end])?;
+    }
+    print_count(rt, "words there", word_count(words, "ภาษาไทย 42.") as u64)
+}
