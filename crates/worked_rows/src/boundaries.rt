@@ -26,7 +26,10 @@ pub fn of_clusters<'s, Y: RuleBreakType<'s>>(
     mut clusters: GraphemeClusterBreakIterator<'_, 's, Y>,
 ) -> Result<Boundaries, AllocError> {
     let mut found = Vec::new(alloc);
-    while let Some(place) = clusters.next() {
+    for _ in 0..u64::MAX {
+        let Some(place) = clusters.next() else {
+            break;
+        };
         found.push((place, PLAIN))?;
     }
     if clusters.next().is_some() || clusters.next().is_some() {
@@ -41,7 +44,10 @@ pub fn of_sentences<'s, Y: RuleBreakType<'s>>(
     mut sentences: SentenceBreakIterator<'_, 's, Y>,
 ) -> Result<Boundaries, AllocError> {
     let mut found = Vec::new(alloc);
-    while let Some(place) = sentences.next() {
+    for _ in 0..u64::MAX {
+        let Some(place) = sentences.next() else {
+            break;
+        };
         found.push((place, PLAIN))?;
     }
     if sentences.next().is_some() || sentences.next().is_some() {
@@ -59,7 +65,10 @@ pub fn of_words<'s, Y: RuleBreakType<'s>>(
     if mark_of(words.word_type(), words.is_word_like()) != PLAIN {
         found.push((0, WRONG))?;
     }
-    while let Some(place) = words.next() {
+    for _ in 0..u64::MAX {
+        let Some(place) = words.next() else {
+            break;
+        };
         found.push((place, mark_of(words.word_type(), words.is_word_like())))?;
     }
     if words.is_word_like() || words.next().is_some() || words.next().is_some() {
@@ -104,7 +113,10 @@ pub fn of_lines<'s, Y: RuleBreakType<'s>>(
     if lines.is_mandatory() {
         found.push((0, WRONG))?;
     }
-    while let Some(place) = lines.next() {
+    for _ in 0..u64::MAX {
+        let Some(place) = lines.next() else {
+            break;
+        };
         found.push((place, if lines.is_mandatory() { '!' } else { PLAIN }))?;
     }
     if lines.is_mandatory() || lines.next().is_some() || lines.next().is_some() {

@@ -28,10 +28,7 @@ impl WordLists {
 
     /// Whether no script has a list of words.
     pub fn is_none(&self) -> bool {
-        !self.is_bench
-            && self.thai.is_none()
-            && self.myanmar.is_none()
-            && self.ideographs.is_none()
+        !self.is_bench && self.thai.is_none() && self.myanmar.is_none() && self.ideographs.is_none()
     }
 
     /// Takes the words of a script, of which `""` is the empty one, or the sample dictionaries. The errors are want of memory, and
@@ -90,7 +87,9 @@ fn words_of(alloc: Global, words: &str) -> Result<Vec<String>> {
         match word {
             "\"\"" => list.push(String::new(alloc)).map_err(AllocError::from)?,
             "all-numbers" => push_numbers(alloc, &mut list)?,
-            _ => list.push(unescaped(alloc, word)?).map_err(AllocError::from)?,
+            _ => list
+                .push(unescaped(alloc, word)?)
+                .map_err(AllocError::from)?,
         }
     }
     Ok(list)

@@ -10,8 +10,10 @@ use icu_segmenter::rule_segmenter_v2::CountedTransitions;
 use std::alloc::{AllocError, Global};
 
 /// The memo of a `str`, or why there is none.
-pub type Memo<'data, 's> =
-    Result<MemoBreakIterator<'data, StrCharIndices<'s>, CountedTransitions<'data>>, MemoError>;
+pub type Memo<'data, 's> = Result<
+    MemoBreakIterator<'data, StrCharIndices<'s>, CountedTransitions<'data>>,
+    MemoError,
+>;
 
 /// The boundaries of a text by the memo of its iterator, of which two were asked for before. The only error is want of memory.
 pub fn memo_answer(
@@ -54,7 +56,10 @@ fn shown_boundaries<'data, 's>(
     if memo.lookups() > 0 {
         out.push('?')?;
     }
-    while let Some(place) = memo.next() {
+    for _ in 0..u64::MAX {
+        let Some(place) = memo.next() else {
+            break;
+        };
         let (status, lookups) = (memo.status(), memo.lookups());
         let word = format!(in alloc; "{place}:{status}:{lookups}")?;
         push_word(&mut out, word.as_str())?;

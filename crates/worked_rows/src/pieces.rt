@@ -38,13 +38,19 @@ fn cuts_of(
     let piece = ComplexPayloadBorrowed::Dict(dictionary);
     match sample {
         Sample::Text(text) if text.len() < 10_000 => {
-            piece.segment_str(text.as_str(), clusters, offset).collect(alloc)
+            piece
+                .segment_str(text.as_str(), clusters, offset)
+                .collect(alloc)
         }
         Sample::Utf8(bytes) if bytes.len() < 10_000 => {
-            piece.segment_utf8(bytes.as_slice(), clusters, offset).collect(alloc)
+            piece
+                .segment_utf8(bytes.as_slice(), clusters, offset)
+                .collect(alloc)
         }
         Sample::Utf16(units) if units.len() < 10_000 => {
-            piece.segment_utf16(units.as_slice(), clusters, offset).collect(alloc)
+            piece
+                .segment_utf16(units.as_slice(), clusters, offset)
+                .collect(alloc)
         }
         _ => Ok(Vec::new(alloc)),
     }

@@ -82,7 +82,10 @@ fn shown_statuses(alloc: Global, table: &RuleBreakData, text: &str) -> Result<St
     let pairs = PairDataBorrowed::new(table);
     let mut engine = RuleBreakIterator::new(pairs, Latin1Indices::new(text.as_bytes()));
     let mut out = String::new(alloc);
-    while let Some(place) = engine.next() {
+    for _ in 0..u64::MAX {
+        let Some(place) = engine.next() else {
+            break;
+        };
         let status = engine.rule_status();
         let word = format!(in alloc; "{place}:{status}")?;
         push_word(&mut out, word.as_str())?;

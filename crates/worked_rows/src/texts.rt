@@ -55,7 +55,10 @@ fn short_texts_answer(alloc: Global, segmenter: Lent<'_>) -> Result<String, Allo
 
 /// Whether the clusters of all short texts are the same by the table and by the machine.
 pub fn same_clusters(alloc: Global, settings: &Settings) -> Result<String, DataError> {
-    let (table, machine) = (settings.table.table(alloc)?, settings.machine.machine(alloc)?);
+    let (table, machine) = (
+        settings.table.table(alloc)?,
+        settings.machine.machine(alloc)?,
+    );
     let classic = GraphemeClusterSegmenterBorrowed::new(&table)?;
     let neo = GraphemeClusterSegmenterBorrowed::new_neo(&machine)?;
     for number in 0..TEXTS {
