@@ -1,5 +1,4 @@
-//! Sample data, written by hand: machines, pair tables, tailorings and dictionaries for tests, examples and the programs. The tests that
-//! cross crates stand here too.
+//! Sample data, written by hand: machines, pair tables, tailorings and dictionaries for tests, examples and the programs.
 //!
 //! This is no benchmark (crates/speed measures), and no claim is made that the data agree with UAX #14 or UAX #29.
 #![tactic(auto)]
@@ -11,7 +10,5 @@ pub mod lines;
 mod machines;
 pub mod pair_tables;
 pub mod sentences;
-#[cfg(test)]
-mod tests;
 pub mod turn_tables;
 pub mod words;

@@ -1,127 +1,125 @@
-// Words, and cursors over them.
-use seg_dictionary::provider::{DictionaryBreakData, DictionaryCursor};
-use seg_dictionary::words::WordCursor;
-use std::alloc::Global;
-use std::process::Abort;
-use std::test::Fail;
+//! The words of scripts.
 
-/// What a cursor answers after some code points: whether they are a word, and whether a longer one
-/// begins with them.
-fn answers(dictionary: &DictionaryBreakData, read: &str) -> (bool, bool) {
-    let mut cursor = dictionary.cursor();
-    for character in read.chars() {
-        cursor.step(character as u32);
+use crate::samples::unescaped;
+use anyhow::{Result, bail};
+use bench::dictionaries::dictionaries;
+use icu_segmenter::provider::{DataError, Dictionaries, DictionaryBreakData};
+use std::alloc::{AllocError, Global};
+
+/// The words of some scripts, or the sample dictionaries.
+#[derive(Drop)]
+pub struct WordLists {
+    is_bench: bool,
+    thai: Option<Vec<String>>,
+    myanmar: Option<Vec<String>>,
+    ideographs: Option<Vec<String>>,
+}
+
+impl WordLists {
+    /// No words.
+    pub fn none() -> Self {
+        WordLists {
+            is_bench: false,
+            thai: None,
+            myanmar: None,
+            ideographs: None,
+        }
     }
-    (cursor.is_word(), cursor.goes_on())
-}
 
-fn expect_answers(
-    rt: &impl Abort,
-    dictionary: &DictionaryBreakData,
-    expected: &[(&str, bool, bool)],
-) {
-    for (read, is_word, goes_on) in expected {
-        assert_eq!(rt; answers(dictionary, read), (*is_word, *goes_on));
+    /// Whether no script has a list of words.
+    pub fn is_none(&self) -> bool {
+        !self.is_bench && self.thai.is_none() && self.myanmar.is_none() && self.ideographs.is_none()
+    }
+
+    /// Takes the words of a script, of which `""` is the empty one, or the sample dictionaries. The errors are want of memory, and
+    /// words that can't be read.
+    pub fn read(&mut self, alloc: Global, words: &str) -> Result<()> {
+        let (script, words) = words.split_once(' ').unwrap_or((words, ""));
+        let words = words_of(alloc, words)?;
+        match script {
+            "bench" => self.is_bench = true,
+            "th" => self.thai = Some(words),
+            "my" => self.myanmar = Some(words),
+            "ja" => self.ideographs = Some(words),
+            _ => bail!("no script with words"),
+        }
+        Ok(())
+    }
+
+    /// The dictionaries.
+    pub fn dictionaries(&self, alloc: Global) -> Result<Dictionaries, DataError> {
+        if self.is_bench {
+            return Ok(dictionaries(alloc)?);
+        }
+        let th = dictionary_of(alloc, &self.thai)?;
+        let my = dictionary_of(alloc, &self.myanmar)?;
+        let ja = dictionary_of(alloc, &self.ideographs)?;
+        Ok(Dictionaries {
+            th,
+            my,
+            ja,
+            km: None,
+            lo: None,
+        })
+    }
+
+    /// The dictionary of Thai, which has no words where there is no list.
+    pub fn thai(&self, alloc: Global) -> Result<DictionaryBreakData, DataError> {
+        match dictionary_of(alloc, &self.thai)? {
+            Some(dictionary) => Ok(dictionary),
+            None => DictionaryBreakData::try_from_words(alloc, &[]),
+        }
+    }
+
+    /// The words of Thai.
+    pub fn thai_words(&self) -> &[String] {
+        match &self.thai {
+            Some(words) => words.as_slice(),
+            None => &[],
+        }
     }
 }
 
-#[test]
-fn answers_after_code_points(rt: HostRuntime) -> Result<(), Fail> {
-    let words = ["ไทย", "ภาษา", "ภาษาไทย", "", "\u{20000}\u{20001}", "ภาพ"];
-    let dictionary = DictionaryBreakData::try_from_words(rt.alloc(), &words)?;
-    expect_answers(
-        &rt,
-        &dictionary,
-        &[
-            ("", true, true),
-            ("ภ", false, true),
-            ("ภา", false, true),
-            ("ภาพ", true, false),
-            ("ภาษ", false, true),
-            ("ภาษา", true, true),
-            ("ภาษาไ", false, true),
-            ("ภาษาไทย", true, false),
-            ("ภาษาไทยก", false, false),
-            ("ไทย", true, false),
-            ("ก", false, false),
-            ("กภาษา", false, false),
-            ("\u{20000}", false, true),
-            ("\u{20000}\u{20001}", true, false),
-            ("\u{20000}\u{20002}", false, false),
-        ],
-    );
-    Ok(())
+// The words, as the files write them. All words of four digits below 8 are one word of the list.
+fn words_of(alloc: Global, words: &str) -> Result<Vec<String>> {
+    let mut list = Vec::new(alloc);
+    for word in words.split_whitespace() {
+        match word {
+            "\"\"" => list.push(String::new(alloc)).map_err(AllocError::from)?,
+            "all-numbers" => push_numbers(alloc, &mut list)?,
+            _ => list
+                .push(unescaped(alloc, word)?)
+                .map_err(AllocError::from)?,
+        }
+    }
+    Ok(list)
 }
 
-#[test]
-fn equal_words_count_once(rt: HostRuntime) -> Result<(), Fail> {
-    let words = ["ไทย", "ไท", "ไทย", "ไท"];
-    let dictionary = DictionaryBreakData::try_from_words(rt.alloc(), &words)?;
-    expect_answers(
-        &rt,
-        &dictionary,
-        &[
-            ("", false, true),
-            ("ไ", false, true),
-            ("ไท", true, true),
-            ("ไทย", true, false),
-        ],
-    );
-    Ok(())
-}
-
-#[test]
-fn words_may_be_missing(rt: HostRuntime) -> Result<(), Fail> {
-    let none = DictionaryBreakData::try_from_words(rt.alloc(), &[])?;
-    expect_answers(&rt, &none, &[("", false, false), ("ก", false, false)]);
-    let empty = DictionaryBreakData::try_from_words(rt.alloc(), &[""])?;
-    expect_answers(&rt, &empty, &[("", true, false), ("ก", false, false)]);
-    Ok(())
-}
-
-#[test]
-fn forks_stay_where_they_were(rt: HostRuntime) -> Result<(), Fail> {
-    let dictionary = DictionaryBreakData::try_from_words(rt.alloc(), &["ab", "ac"])?;
-    let start = dictionary.cursor();
-    let mut ahead: DictionaryCursor<'_> = start.fork();
-    ahead.step('a' as u32);
-    ahead.step('c' as u32);
-    assert!(rt; ahead.is_word());
-    assert!(rt; !start.is_word());
-    assert!(rt; start.goes_on());
-    Ok(())
-}
-
-// The numbers below 4,096 in so many digits of 0 to 7, the last first, as words.
-fn numbers(alloc: Global) -> Result<Vec<String>, Fail> {
-    let mut words = Vec::new(alloc);
-    for number in 0..0o10000u32 {
+// Adds the 4,096 words of four digits of 0 to 7: the last digit changes slowest.
+fn push_numbers(alloc: Global, list: &mut Vec<String>) -> Result<(), AllocError> {
+    for number in 0..0o10000_u32 {
         let (low, high) = (number % 64, number / 64);
-        words.push(format!(in alloc; "{}{}{}{}", low % 8, low / 8, high % 8, high / 8)?)?;
+        let (first, second, third, fourth) = (low % 8, low / 8, high % 8, high / 8);
+        list.push(format!(in alloc; "{first}{second}{third}{fourth}")?)?;
+    }
+    Ok(())
+}
+
+fn dictionary_of(
+    alloc: Global,
+    list: &Option<Vec<String>>,
+) -> Result<Option<DictionaryBreakData>, DataError> {
+    let Some(list) = list else {
+        return Ok(None);
+    };
+    let words = lent_words(alloc, list)?;
+    Ok(Some(DictionaryBreakData::try_from_words(alloc, words.as_slice())?))
+}
+
+fn lent_words(alloc: Global, list: &Vec<String>) -> Result<Vec<&str>, AllocError> {
+    let mut words = Vec::new(alloc);
+    for word in list {
+        words.push(word.as_str())?;
     }
     Ok(words)
-}
-
-#[test]
-fn takes_many_words(rt: HostRuntime) -> Result<(), Fail> {
-    let numbers = numbers(rt.alloc())?;
-    let mut words: Vec<&str> = Vec::new(rt.alloc());
-    for number in &numbers {
-        words.push(number.as_str())?;
-    }
-    let dictionary = DictionaryBreakData::try_from_words(rt.alloc(), &words)?;
-    for number in &numbers {
-        assert_eq!(rt; answers(&dictionary, number.as_str()), (true, false));
-    }
-    expect_answers(
-        &rt,
-        &dictionary,
-        &[
-            ("", false, true),
-            ("777", false, true),
-            ("778", false, false),
-            ("77777", false, false),
-        ],
-    );
-    Ok(())
 }

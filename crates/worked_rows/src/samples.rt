@@ -1,64 +1,115 @@
-// Data of lines.
-use seg_clusters::grapheme::GraphemeClusterSegmenter;
-use seg_complex::complex::ComplexPayloadsBorrowed;
-use seg_data::provider::ClassTable;
-use seg_dictionary::dictionaries::Dictionaries;
-use seg_dictionary::provider::DictionaryBreakData;
-use seg_pair_data::provider::{BreakState, RuleBreakData};
-use std::alloc::Global;
-use std::test::Fail;
+//! What a row asks.
 
-pub(crate) const KEEP: BreakState = BreakState::Keep;
+use crate::numbers::hex_of;
+use anyhow::{Context, Result, bail};
+use std::alloc::{AllocError, Global};
 
-pub(crate) const BREAK: BreakState = BreakState::Break;
-
-pub(crate) const NO_MATCH: BreakState = BreakState::NoMatch;
-
-/// Data of lines: a pair table, and what runs are cut by.
+/// What a row asks.
 #[derive(Drop)]
-pub(crate) struct Data {
-    pub(crate) table: RuleBreakData,
-    pub(crate) clusters: RuleBreakData,
-    pub(crate) segmenter: GraphemeClusterSegmenter,
-    pub(crate) dictionaries: Dictionaries,
+pub enum Sample {
+    /// A text, in each encoding that has it.
+    Text(String),
+    /// Bytes in UTF-8 alone.
+    Utf8(Vec<u8>),
+    /// Bytes in Latin-1 alone.
+    Latin1(Vec<u8>),
+    /// Units in UTF-16 alone.
+    Utf16(Vec<u16>),
+    /// The short texts, of which the boundaries are to agree in all encodings.
+    ShortTexts,
+    /// The data alone: whether they are accepted.
+    Data,
 }
 
-impl Data {
-    /// What runs are cut by.
-    pub(crate) fn payloads(&self) -> ComplexPayloadsBorrowed<'_> {
-        ComplexPayloadsBorrowed::new(
-            self.dictionaries.as_borrowed(),
-            self.segmenter.as_borrowed(),
-        )
+/// The sample of a row: a text between quotes, an encoding and its bytes or units in hexadecimal digits, or a name. The errors are
+/// want of memory, and a row that can't be read.
+pub fn sample_of(alloc: Global, asked: &str) -> Result<Sample> {
+    if asked.starts_with('"') {
+        return Ok(Sample::Text(quoted(alloc, asked)?));
+    }
+    let (name, words) = asked.split_once(' ').unwrap_or((asked, ""));
+    match name {
+        "utf8" => Ok(Sample::Utf8(bytes_of(alloc, words)?)),
+        "latin1" => Ok(Sample::Latin1(bytes_of(alloc, words)?)),
+        "utf16" => Ok(Sample::Utf16(units_of(alloc, words)?)),
+        "short-texts" => Ok(Sample::ShortTexts),
+        "data" => Ok(Sample::Data),
+        _ => bail!("no text, and no other question"),
     }
 }
 
-/// Data with this pair table, and the dictionary {ภาษา, ไทย}.
-pub(crate) fn data_with(alloc: Global, table: RuleBreakData) -> Result<Data, Fail> {
-    let words = ["ภาษา", "ไทย"];
-    Ok(Data {
-        table,
-        clusters: cluster_table(alloc)?,
-        segmenter: GraphemeClusterSegmenter::try_new(cluster_table(alloc)?)?,
-        dictionaries: Dictionaries {
-            th: Some(DictionaryBreakData::try_from_words(alloc, &words)?),
-            ..Dictionaries::none()
-        },
-    })
+fn bytes_of(alloc: Global, words: &str) -> Result<Vec<u8>> {
+    let mut bytes = Vec::new(alloc);
+    for word in words.split_whitespace() {
+        bytes
+            .push(u8::try_from(hex_of(word)?)?)
+            .map_err(AllocError::from)?;
+    }
+    Ok(bytes)
 }
 
-/// A pair table of clusters: a code point, with the marks after it.
-pub(crate) fn cluster_table(alloc: Global) -> Result<RuleBreakData, Fail> {
-    let ranges = [(0x300, 0x36F, 1), (0xE34, 0xE3A, 1), (0x200D, 0x200D, 1)];
-    let classes = ClassTable::try_from_ranges(Vec::from_slice(alloc, &ranges)?, 0)?;
-    let entries = [
-        BREAK, KEEP, BREAK, BREAK, //
-        BREAK, KEEP, BREAK, BREAK, //
-        BREAK, BREAK, BREAK, BREAK, //
-        BREAK, BREAK, BREAK, BREAK,
-    ];
-    let entries = Vec::from_slice(alloc, &entries)?;
-    let statuses = Vec::new(alloc);
-    let table = RuleBreakData::try_from_parts(classes, entries, statuses, 4, 1, 2, 3, 127)?;
-    Ok(table)
+fn units_of(alloc: Global, words: &str) -> Result<Vec<u16>> {
+    let mut units = Vec::new(alloc);
+    for word in words.split_whitespace() {
+        units
+            .push(u16::try_from(hex_of(word)?)?)
+            .map_err(AllocError::from)?;
+    }
+    Ok(units)
+}
+
+/// The text between quotes. The errors are want of memory, and an escape or a quote that is missing.
+pub fn quoted(alloc: Global, asked: &str) -> Result<String> {
+    let text = asked
+        .strip_prefix('"')
+        .and_then(|rest| rest.strip_suffix('"'))
+        .context("a quote is missing")?;
+    unescaped(alloc, text)
+}
+
+/// The text with these escapes: `\n`, `\r`, a code point as `\u{301}`, and a text so often, as `\*3{ab}`.
+pub fn unescaped(alloc: Global, text: &str) -> Result<String> {
+    let mut out = String::new(alloc);
+    let mut rest = text;
+    for _ in 0..text.len() {
+        let Some((before, escape)) = rest.split_once('\\') else {
+            break;
+        };
+        out.push_str(before)?;
+        rest = push_escape(&mut out, escape)?;
+    }
+    out.push_str(rest)?;
+    Ok(out)
+}
+
+// Adds what an escape stands for, and returns what comes after it.
+fn push_escape<'a>(out: &mut String, escape: &'a str) -> Result<&'a str> {
+    if let Some(rest) = escape.strip_prefix('n') {
+        out.push('\n')?;
+        return Ok(rest);
+    }
+    if let Some(rest) = escape.strip_prefix('r') {
+        out.push('\r')?;
+        return Ok(rest);
+    }
+    let (name, rest) = escape.split_once('}').context("no escape")?;
+    match name.split_once('{').context("no escape")? {
+        ("u", digits) => push_code_point(out, digits)?,
+        (count, text) => push_repeated(out, count, text)?,
+    }
+    Ok(rest)
+}
+
+fn push_code_point(out: &mut String, digits: &str) -> Result<()> {
+    let character = char::from_u32(hex_of(digits)?).context("a surrogate")?;
+    out.push(character)?;
+    Ok(())
+}
+
+fn push_repeated(out: &mut String, count: &str, text: &str) -> Result<()> {
+    let count = count.strip_prefix('*').context("no escape")?;
+    for _ in 0..u32::from_str_radix(count, 10)? {
+        out.push_str(text)?;
+    }
+    Ok(())
 }

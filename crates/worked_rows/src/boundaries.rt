@@ -1,0 +1,147 @@
+//! The boundaries that iterators give, each with a mark: `N` and `L` where a number and where a word of letters ends, and `!` where a
+//! line must be broken.
+//!
+//! Each iterator is asked twice more after its end. What comes then, which is to be nothing, stands among the boundaries.
+
+use icu_segmenter::iterators::{
+    GraphemeClusterBreakIterator, LineBreakIterator, SentenceBreakIterator, WordBreakIterator,
+    WordBreakIteratorWithWordType,
+};
+use icu_segmenter::options::WordType;
+use icu_segmenter::scaffold::RuleBreakType;
+use std::alloc::{AllocError, Global};
+
+/// Boundaries: the place and the mark of each.
+pub type Boundaries = Vec<(usize, char)>;
+
+/// The mark of a boundary that has none.
+const PLAIN: char = ' ';
+
+/// The mark of what is wrong.
+const WRONG: char = '?';
+
+/// The boundaries of clusters.
+pub fn of_clusters<'s, Y: RuleBreakType<'s>>(
+    alloc: Global,
+    mut clusters: GraphemeClusterBreakIterator<'_, 's, Y>,
+) -> Result<Boundaries, AllocError> {
+    let mut found = Vec::new(alloc);
+    for _ in 0..u64::MAX {
+        let Some(place) = clusters.next() else {
+            break;
+        };
+        found.push((place, PLAIN))?;
+    }
+    if clusters.next().is_some() || clusters.next().is_some() {
+        found.push((0, WRONG))?;
+    }
+    Ok(found)
+}
+
+/// The boundaries of sentences.
+pub fn of_sentences<'s, Y: RuleBreakType<'s>>(
+    alloc: Global,
+    mut sentences: SentenceBreakIterator<'_, 's, Y>,
+) -> Result<Boundaries, AllocError> {
+    let mut found = Vec::new(alloc);
+    for _ in 0..u64::MAX {
+        let Some(place) = sentences.next() else {
+            break;
+        };
+        found.push((place, PLAIN))?;
+    }
+    if sentences.next().is_some() || sentences.next().is_some() {
+        found.push((0, WRONG))?;
+    }
+    Ok(found)
+}
+
+/// The boundaries of words.
+pub fn of_words<'s, Y: RuleBreakType<'s>>(
+    alloc: Global,
+    mut words: WordBreakIterator<'_, 's, Y>,
+) -> Result<Boundaries, AllocError> {
+    let mut found = Vec::new(alloc);
+    if mark_of(words.word_type(), words.is_word_like()) != PLAIN {
+        found.push((0, WRONG))?;
+    }
+    for _ in 0..u64::MAX {
+        let Some(place) = words.next() else {
+            break;
+        };
+        found.push((place, mark_of(words.word_type(), words.is_word_like())))?;
+    }
+    if words.is_word_like() || words.next().is_some() || words.next().is_some() {
+        found.push((0, WRONG))?;
+    }
+    if mark_of(words.word_type(), words.is_word_like()) != PLAIN {
+        found.push((0, WRONG))?;
+    }
+    Ok(found)
+}
+
+/// The same, by the iterator that gives each with its type.
+pub fn of_typed_words<'s, Y: RuleBreakType<'s>>(
+    alloc: Global,
+    mut words: WordBreakIteratorWithWordType<'_, 's, Y>,
+) -> Result<Boundaries, AllocError> {
+    let mut found = Vec::new(alloc);
+    while let Some((place, word_type)) = words.next() {
+        found.push((place, mark_of(word_type, word_type.is_word_like())))?;
+    }
+    if words.next().is_some() || words.next().is_some() {
+        found.push((0, WRONG))?;
+    }
+    Ok(found)
+}
+
+fn mark_of(word_type: WordType, is_word_like: bool) -> char {
+    match (word_type, is_word_like) {
+        (WordType::None, false) => PLAIN,
+        (WordType::Number, true) => 'N',
+        (WordType::Letter, true) => 'L',
+        _ => WRONG,
+    }
+}
+
+/// The boundaries of lines.
+pub fn of_lines<'s, Y: RuleBreakType<'s>>(
+    alloc: Global,
+    mut lines: LineBreakIterator<'_, 's, Y>,
+) -> Result<Boundaries, AllocError> {
+    let mut found = Vec::new(alloc);
+    if lines.is_mandatory() {
+        found.push((0, WRONG))?;
+    }
+    for _ in 0..u64::MAX {
+        let Some(place) = lines.next() else {
+            break;
+        };
+        found.push((place, if lines.is_mandatory() { '!' } else { PLAIN }))?;
+    }
+    if lines.is_mandatory() || lines.next().is_some() || lines.next().is_some() {
+        found.push((0, WRONG))?;
+    }
+    if lines.is_mandatory() {
+        found.push((0, WRONG))?;
+    }
+    Ok(found)
+}
+
+/// Boundaries as rows have them: each place with its mark, and a space between two.
+pub fn shown(alloc: Global, boundaries: &[(usize, char)]) -> Result<String, AllocError> {
+    let mut out = String::new(alloc);
+    for (place, mark) in boundaries {
+        let word = format!(in alloc; "{place}{mark}")?;
+        push_word(&mut out, word.as_str().trim())?;
+    }
+    Ok(out)
+}
+
+/// Adds a word, after a space if there are some.
+pub fn push_word(out: &mut String, word: &str) -> Result<(), AllocError> {
+    if !out.is_empty() {
+        out.push(' ')?;
+    }
+    out.push_str(word)
+}

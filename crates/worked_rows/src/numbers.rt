@@ -1,0 +1,99 @@
+//! Numbers, and what is made of them, as the files write them.
+
+use anyhow::{Context, Result, bail};
+use icu_segmenter::provider::{Acceptance, ComplexScript, Lookahead, Symbol};
+use std::alloc::{AllocError, Global};
+
+/// A decimal number.
+pub fn number_of(word: &str) -> Result<u8> {
+    Ok(u8::from_str_radix(word, 10)?)
+}
+
+/// A number in hexadecimal digits.
+pub fn hex_of(word: &str) -> Result<u32> {
+    Ok(u32::from_str_radix(word, 16)?)
+}
+
+/// Decimal numbers.
+pub fn numbers_of(alloc: Global, words: &str) -> Result<Vec<u8>> {
+    let mut numbers = Vec::new(alloc);
+    for word in words.split_whitespace() {
+        numbers.push(number_of(word)?).map_err(AllocError::from)?;
+    }
+    Ok(numbers)
+}
+
+/// Ranges of code points, each with a value, as `61-7A=2`; of one code point as `61=2`.
+pub fn ranges_of(alloc: Global, words: &str) -> Result<Vec<(u32, u32, u8)>> {
+    let mut ranges = Vec::new(alloc);
+    for word in words.split_whitespace() {
+        ranges.push(range_of(word)?).map_err(AllocError::from)?;
+    }
+    Ok(ranges)
+}
+
+fn range_of(word: &str) -> Result<(u32, u32, u8)> {
+    let (range, value) = word.split_once('=').context("a range without a value")?;
+    let (first, last) = range.split_once('-').unwrap_or((range, range));
+    Ok((hex_of(first)?, hex_of(last)?, number_of(value)?))
+}
+
+/// Two decimal numbers, and what stands there, as `3+35=57`.
+pub fn cell_of(word: &str) -> Result<(u8, u8, u8)> {
+    let (place, value) = word.split_once('=').context("a cell without a value")?;
+    let (one, other) = place.split_once('+').context("a cell without a place")?;
+    Ok((number_of(one)?, number_of(other)?, number_of(value)?))
+}
+
+/// The symbol and the script of each pseudo symbol, as `1=Thai`.
+pub fn map_of(alloc: Global, words: &str) -> Result<Vec<(Symbol, ComplexScript)>> {
+    let mut map = Vec::new(alloc);
+    for word in words.split_whitespace() {
+        map.push(mapped(word)?).map_err(AllocError::from)?;
+    }
+    Ok(map)
+}
+
+fn mapped(word: &str) -> Result<(Symbol, ComplexScript)> {
+    let (symbol, script) = word.split_once('=').context("a symbol without a script")?;
+    Ok((number_of(symbol)?, script_named(script)?))
+}
+
+fn script_named(name: &str) -> Result<ComplexScript> {
+    Ok(match name {
+        "None" => ComplexScript::None,
+        "Thai" => ComplexScript::Thai,
+        "Myanmar" => ComplexScript::Myanmar,
+        "ChineseOrJapanese" => ComplexScript::ChineseOrJapanese,
+        _ => bail!("no script"),
+    })
+}
+
+/// States, as `-` that accepts nothing, `1` that accepts with this status, and `0?1` with status 1 on condition of the lookahead 0;
+/// each with the lookahead that it names, as `-@0`.
+pub fn states_of(alloc: Global, words: &str) -> Result<Vec<(Acceptance, Option<Lookahead>)>> {
+    let mut states = Vec::new(alloc);
+    for word in words.split_whitespace() {
+        states.push(state_of(word)?).map_err(AllocError::from)?;
+    }
+    Ok(states)
+}
+
+fn state_of(word: &str) -> Result<(Acceptance, Option<Lookahead>)> {
+    match word.split_once('@') {
+        Some((accepted, named)) => Ok((acceptance_of(accepted)?, Some(number_of(named)?))),
+        None => Ok((acceptance_of(word)?, None)),
+    }
+}
+
+fn acceptance_of(word: &str) -> Result<Acceptance> {
+    if word == "-" {
+        return Ok(Acceptance::Continue);
+    }
+    match word.split_once('?') {
+        Some((lookahead, status)) => {
+            Ok(Acceptance::Conditional(number_of(lookahead)?, number_of(status)?))
+        }
+        None => Ok(Acceptance::Accept(number_of(word)?)),
+    }
+}

@@ -1,0 +1,73 @@
+//! Options, as the files write them.
+
+use anyhow::{Result, bail};
+use icu_segmenter::options::{
+    LanguageIdentifier, LineBreakOptions, LineBreakStrictness, LineBreakWordOption,
+};
+
+/// Options of lines and sentences.
+#[derive(Drop)]
+pub struct Options {
+    strictness: Option<LineBreakStrictness>,
+    word_option: Option<LineBreakWordOption>,
+    language: Option<LanguageIdentifier>,
+}
+
+impl Options {
+    /// None.
+    pub fn none() -> Self {
+        Options {
+            strictness: None,
+            word_option: None,
+            language: None,
+        }
+    }
+
+    /// A strictness, a word option and a language, each of which may be `-` for none.
+    pub fn read(words: &str) -> Result<Self> {
+        let mut words = words.split_whitespace();
+        let strictness = strictness_of(words.next().unwrap_or("-"))?;
+        let word_option = word_option_of(words.next().unwrap_or("-"))?;
+        let language = LanguageIdentifier::try_from_language(words.next().unwrap_or("-"));
+        Ok(Options {
+            strictness,
+            word_option,
+            language,
+        })
+    }
+
+    /// The language.
+    pub fn language(&self) -> Option<&LanguageIdentifier> {
+        self.language.as_ref()
+    }
+
+    /// Those of lines.
+    pub fn of_lines(&self) -> LineBreakOptions<'_> {
+        LineBreakOptions {
+            strictness: self.strictness,
+            word_option: self.word_option,
+            content_locale: self.language.as_ref(),
+        }
+    }
+}
+
+fn strictness_of(word: &str) -> Result<Option<LineBreakStrictness>> {
+    Ok(match word {
+        "-" => None,
+        "loose" => Some(LineBreakStrictness::Loose),
+        "normal" => Some(LineBreakStrictness::Normal),
+        "strict" => Some(LineBreakStrictness::Strict),
+        "anywhere" => Some(LineBreakStrictness::Anywhere),
+        _ => bail!("no strictness"),
+    })
+}
+
+fn word_option_of(word: &str) -> Result<Option<LineBreakWordOption>> {
+    Ok(match word {
+        "-" => None,
+        "normal" => Some(LineBreakWordOption::Normal),
+        "break-all" => Some(LineBreakWordOption::BreakAll),
+        "keep-all" => Some(LineBreakWordOption::KeepAll),
+        _ => bail!("no word option"),
+    })
+}
