@@ -7,8 +7,12 @@ use crate::segmenter::Lent;
 use crate::settings::Settings;
 use crate::small::shown_answer;
 use crate::texts::boundaries_answer;
-use icu_segmenter::options::{SentenceBreakInvariantOptions, WordBreakInvariantOptions};
-use icu_segmenter::provider::{DataError, LineTailorings};
+use icu_segmenter::options::{
+    LineBreakOptions, SentenceBreakInvariantOptions, WordBreakInvariantOptions,
+};
+use icu_segmenter::provider::{
+    DataError, DictionariesBorrowed, LineTailorings, RuleBreakData, RuleBreakDataOverride,
+};
 use icu_segmenter::{
     GraphemeClusterSegmenterBorrowed, LineSegmenterBorrowed, SentenceSegmenterBorrowed,
     WordSegmenterBorrowed,
@@ -126,15 +130,36 @@ fn word_table(
     let clusters = settings.cluster_table.table(alloc)?;
     let first = settings.words.dictionaries(alloc)?;
     let later = settings.later.dictionaries(alloc)?;
-    let mut words = WordSegmenterBorrowed::new_dictionary(
-        &table,
-        overriding.as_ref(),
-        &clusters,
-        first.as_borrowed(),
-        WordBreakInvariantOptions::default(),
-    )?;
+    let first = if settings.words.is_none() {
+        None
+    } else {
+        Some(first.as_borrowed())
+    };
+    let mut words = words_by_table(&table, overriding.as_ref(), &clusters, first)?;
     words.load_dictionary(later.as_borrowed());
     answer(alloc, Lent::Words(words), manner, sample)
+}
+
+// Words by a pair table, with these dictionaries or by the constructor that takes none.
+fn words_by_table<'a>(
+    table: &'a RuleBreakData,
+    overriding: Option<&'a RuleBreakDataOverride>,
+    clusters: &'a RuleBreakData,
+    dictionaries: Option<DictionariesBorrowed<'a>>,
+) -> Result<WordSegmenterBorrowed<'a>, DataError> {
+    let options = WordBreakInvariantOptions::default();
+    match dictionaries {
+        Some(dictionaries) => WordSegmenterBorrowed::new_dictionary(
+            table,
+            overriding,
+            clusters,
+            dictionaries,
+            options,
+        ),
+        None => WordSegmenterBorrowed::new_for_non_complex_scripts(
+            table, overriding, clusters, options,
+        ),
+    }
 }
 
 fn line_machine(
@@ -171,15 +196,30 @@ fn line_table(
     let clusters = settings.cluster_table.table(alloc)?;
     let first = settings.words.dictionaries(alloc)?;
     let later = settings.later.dictionaries(alloc)?;
+    let first = if settings.words.is_none() {
+        None
+    } else {
+        Some(first.as_borrowed())
+    };
     let options = settings.options.of_lines();
-    let mut lines = LineSegmenterBorrowed::new_dictionary(
-        &table,
-        &clusters,
-        first.as_borrowed(),
-        options,
-    )?;
+    let mut lines = lines_by_table(&table, &clusters, first, options)?;
     lines.load_dictionary(later.as_borrowed());
     answer(alloc, Lent::Lines(lines), manner, sample)
+}
+
+// Lines by a pair table, with these dictionaries or by the constructor that takes none.
+fn lines_by_table<'a>(
+    table: &'a RuleBreakData,
+    clusters: &'a RuleBreakData,
+    dictionaries: Option<DictionariesBorrowed<'a>>,
+    options: LineBreakOptions<'_>,
+) -> Result<LineSegmenterBorrowed<'a>, DataError> {
+    match dictionaries {
+        Some(dictionaries) => {
+            LineSegmenterBorrowed::new_dictionary(table, clusters, dictionaries, options)
+        }
+        None => { LineSegmenterBorrowed::new_for_non_complex_scripts(table, clusters, options) }
+    }
 }
 
 fn turn_table(
