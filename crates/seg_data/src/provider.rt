@@ -76,8 +76,8 @@ pub enum DataError {
     /// symbol that the map has, or the map gives symbol 0 or one that has no transitions.
     #[error("14 SymbolOutOfRange: the table of symbols or the map gives symbol 0, or one that the transitions or the map do not have")]
     SymbolOutOfRange,
-    /// 15: there are more than 4 lookaheads.
-    #[error("15 TooManyLookaheads: a machine has at most 4 lookaheads")]
+    /// 15: there are more than 8 lookaheads.
+    #[error("15 TooManyLookaheads: a machine has at most 8 lookaheads")]
     TooManyLookaheads,
     /// 16: a state, or its condition, names a lookahead that isn't below the number of lookaheads.
     #[error("16 LookaheadOutOfRange: a state names a lookahead that is not below the number of lookaheads")]

@@ -3,9 +3,8 @@ use Rattle.std.proofs.Common.{◌≡◌, ℕ, zero, suc, ◌<◌, List, [], ◌�
 use Rattle.std.specs.Prelude.{Option, Some, None, IsSome}
 use Rattle.std.specs.Option.{is_some}
 use Rattle.std.proofs.lemmas.Bool.{both_ways}
-use Rattle.seg_data.specs.declared.provider.ComplexScript.{ComplexScript}
 use Rattle.seg_data.proofs.Options.{option-cases}
-use Rattle.seg_machine.specs.Machine.{Machine, IsTextSymbol, with_tailoring, symbol_count, step, run, scan, state_after_ends, state_at}
+use Rattle.seg_machine.specs.Machine.{Machine, MachineTailoring, IsTextSymbol, with_tailoring, symbol_count, step, run, scan, state_after_ends, state_at}
 use Rattle.seg_machine.specs.Pick.{pick, HasStall, IsStallFree}
 use Rattle.seg_machine.specs.MachineFaults.{HasEndCycle}
 use Rattle.seg_machine.specs.Search.{bare}
@@ -82,19 +81,19 @@ some-unless (Some x) other = refl
 pub stall_free-from : (m : Machine) → (HasStall m → ⊥) → IsStallFree m
 stall_free-from m none symbols some text = some-unless (pick m symbols) (λ is. none (symbols, some, text, is))
 
-pub count-tailored : (m : Machine) (map : List (ℕ × ComplexScript)) (symbol : ℕ) → symbol < symbol_count (with_tailoring m (Some map)) → symbol < symbol_count m
+pub count-tailored : (m : Machine) (t : MachineTailoring) (symbol : ℕ) → symbol < symbol_count (with_tailoring m (Some t)) → symbol < symbol_count m
 unfolding symbol_count
-count-tailored m map symbol below = below
+count-tailored m t symbol below = below
 
-pub step-tailored : (m : Machine) (map : List (ℕ × ComplexScript)) (q symbol : ℕ) → step m q symbol ≡ step (with_tailoring m (Some map)) q symbol
+pub step-tailored : (m : Machine) (t : MachineTailoring) (q symbol : ℕ) → step m q symbol ≡ step (with_tailoring m (Some t)) q symbol
 unfolding step
-step-tailored m map q symbol = refl
+step-tailored m t q symbol = refl
 
 -- a tailoring that gives each code point a symbol of a text leaves the machine checked
-pub checked-tailored : (m : Machine) (map : List (ℕ × ComplexScript)) → IsChecked m → HasTextSymbols (with_tailoring m (Some map)) → IsChecked (with_tailoring m (Some map))
+pub checked-tailored : (m : Machine) (t : MachineTailoring) → IsChecked m → HasTextSymbols (with_tailoring m (Some t)) → IsChecked (with_tailoring m (Some t))
 unfolding step symbol_count state_at
-checked-tailored m map checked text =
-    let t = with_tailoring m (Some map) in
+checked-tailored m t checked text =
+    let tailored = with_tailoring m (Some t) in
     record {
       some_state = checked.some_state;
       few_states = checked.few_states;
@@ -102,6 +101,6 @@ checked-tailored m map checked text =
       in_range = checked.in_range;
       few_lookaheads = checked.few_lookaheads;
       lookaheads = checked.lookaheads;
-      ends = λ state here. rw (← run-plain t state, run-plain m state) (checked.ends state here);
-      stall_free = stall_free-full t (stall_free-plain m checked.stall_free);
+      ends = λ state here. rw (← run-plain tailored state, run-plain m state) (checked.ends state here);
+      stall_free = stall_free-full tailored (stall_free-plain m checked.stall_free);
     }

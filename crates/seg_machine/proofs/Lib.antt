@@ -6,6 +6,8 @@ pub mod Sets
 pub mod Settled
 pub mod Searches
 pub mod Tables
+pub mod Marks
+pub mod Replaced
 pub mod Machines
 pub mod Segmentations
 pub mod Steps

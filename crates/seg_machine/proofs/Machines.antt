@@ -1,5 +1,5 @@
 -- The faults of a machine's parts, check by check, and what holds of parts with none.
-use Rattle.std.proofs.Common.{◌≡◌, ◌≢◌, ℕ, ◌-◌, ◌*◌, ◌/◌, ◌<◌, ◌≤◌, ◌⊎◌, ◌↔◌, ◌==◌, IsTrue, nat_lt, Bool, false, cond, List, length, Any, refl, sym, ap, ◌∙◌, subst, inl, inr, arith, eq-eqb}
+use Rattle.std.proofs.Common.{◌≡◌, ◌≢◌, ℕ, ◌-◌, ◌*◌, ◌/◌, ◌<◌, ◌≤◌, ◌⊎◌, ◌↔◌, ◌==◌, IsTrue, nat_lt, Bool, false, cond, List, [], ◌∷◌, length, Any, refl, sym, ap, ◌∙◌, subst, inl, inr, arith, eq-eqb}
 use Rattle.std.specs.Prelude.{Option, Some, None, slice_index_or}
 use Rattle.std.proofs.lemmas.Bool.{cases_lt, cond_both, cond-true, cond-false, ltb-true, ltb-false, lt-ltb, le-ltb, false≢true}
 use Rattle.std.proofs.lemmas.Nat.{mul-le}
@@ -10,14 +10,14 @@ use Rattle.seg_data.specs.declared.provider.ComplexScript.{ComplexScript}
 use Rattle.seg_data.specs.declared.provider.ComplexScript.TheVariants.{None as NoScript}
 use Rattle.seg_data.specs.Table.{Table, value_of, named_values}
 use Rattle.seg_data.specs.Faults.{number_of, IsFaultless}
-use Rattle.seg_data.proofs.Anywhere.{any-at}
+use Rattle.seg_data.proofs.Anywhere.{any-at, any-head, any-tail}
 use Rattle.seg_data.proofs.Ranges.{value-named}
 use Rattle.seg_data.proofs.Lowest.{NoneBelow, none-below-more}
 use Rattle.seg_machine.specs.declared.provider.Acceptance.{Acceptance}
 use Rattle.seg_machine.specs.declared.provider.Acceptance.TheVariants.{Continue, Accept, Conditional}
-use Rattle.seg_machine.specs.Machine.{Machine, with_tailoring, IsSymbolOf, IsTextSymbol, symbol_and_script, symbol_count, step, state_at}
+use Rattle.seg_machine.specs.Machine.{Machine, MachineTailoring, Replacement, replaced, with_tailoring, IsSymbolOf, IsTextSymbol, symbol_and_script, symbol_count, step, state_at}
 use Rattle.seg_machine.specs.Pick.{IsStallFree}
-use Rattle.seg_machine.specs.MachineFaults.{HasMachineFault, HasEndCycle, IsStray, NamesPast}
+use Rattle.seg_machine.specs.MachineFaults.{HasMachineFault, HasEndCycle, IsStray, IsStrayReplacement, NamesPast}
 use Rattle.seg_machine.specs.Checked.{IsChecked}
 use Rattle.seg_machine.specs.Search.{IsBounded, bare}
 use Rattle.seg_machine.proofs.Transitions.{step-within}
@@ -76,24 +76,30 @@ size-covers m absent =
         let rows : length m.states * 1 ≤ length m.states * count = mul-le (length m.states) 1 (length m.states) count (omega arith) (omega arith) in
         omega (arith, rows)
 
+-- as the code looks for strays, part by part
+abbrev StrayBy : List (ℕ × ComplexScript) → List Replacement → Table → ℕ → ℕ → Type 0
+StrayBy map replacements symbols count shift =
+    (Any (IsStray count shift (length map)) (named_values symbols) ⊎ Any (λ entry. IsSymbolOf count entry.0 → ⊥) map)
+    ⊎ Any (IsStrayReplacement count shift) replacements
+
 -- as the code counts the symbols
 abbrev pub StrayAt : Machine → ℕ → Type 0
-StrayAt m count =
-    Any (IsStray count m.pseudo_symbol_shift (length m.pseudo_symbol_map)) (named_values m.symbols)
-    ⊎ Any (λ entry. IsSymbolOf count entry.0 → ⊥) m.pseudo_symbol_map
+StrayAt m count = StrayBy m.pseudo_symbol_map m.symbol_map m.symbols count m.pseudo_symbol_shift
 
 -- the same, from the parts one by one
-pub stray-parts : (m : Machine) (map : List (ℕ × ComplexScript)) (symbols : Table) (count shift : ℕ) (found : Bool)
-    → symbols ≡ m.symbols → count ≡ length m.transitions / length m.states → shift ≡ m.pseudo_symbol_shift
-    → (IsTrue found ↔ (Any (IsStray count shift (length map)) (named_values symbols) ⊎ Any (λ entry. IsSymbolOf count entry.0 → ⊥) map))
-    → (IsTrue found ↔ HasMachineFault (with_tailoring m (Some map)) SymbolOutOfRange)
+pub stray-parts : (m : Machine) (t : MachineTailoring) (symbols : Table) (count shift : ℕ) (map : List (ℕ × ComplexScript)) (replacements : List Replacement) (found : Bool)
+    → symbols ≡ m.symbols → count ≡ length m.transitions / length m.states → shift ≡ m.pseudo_symbol_shift → map ≡ t.pseudo_symbol_map → replacements ≡ t.symbol_map
+    → (IsTrue found ↔ StrayBy map replacements symbols count shift)
+    → (IsTrue found ↔ HasMachineFault (with_tailoring m (Some t)) SymbolOutOfRange)
 unfolding symbol_count
-stray-parts m map symbols count shift found same_symbols same_count same_shift tells =
-    let Tells : Table → ℕ → ℕ → Type 0 =
-    λ symbols count shift. IsTrue found ↔ (Any (IsStray count shift (length map)) (named_values symbols) ⊎ Any (λ entry. IsSymbolOf count entry.0 → ⊥) map)
+stray-parts m t symbols count shift map replacements found same_symbols same_count same_shift same_map same_replacements tells =
+    let Tells : List (ℕ × ComplexScript) → List Replacement → Table → ℕ → ℕ → Type 0 =
+    λ map replacements symbols count shift. IsTrue found ↔ StrayBy map replacements symbols count shift
     in
-    subst (λ symbols. Tells symbols (length m.transitions / length m.states) m.pseudo_symbol_shift) same_symbols
-    (subst (λ count. Tells symbols count m.pseudo_symbol_shift) same_count (subst (λ shift. Tells symbols count shift) same_shift tells))
+    subst (λ map. Tells map t.symbol_map m.symbols (length m.transitions / length m.states) m.pseudo_symbol_shift) same_map
+    (subst (λ replacements. Tells map replacements m.symbols (length m.transitions / length m.states) m.pseudo_symbol_shift) same_replacements
+    (subst (λ symbols. Tells map replacements symbols (length m.transitions / length m.states) m.pseudo_symbol_shift) same_symbols
+    (subst (λ count. Tells map replacements symbols count m.pseudo_symbol_shift) same_count (subst (λ shift. Tells map replacements symbols count shift) same_shift tells))))
 
 pub stray-there : (m : Machine) → StrayAt m (length m.transitions / length m.states) → HasMachineFault m SymbolOutOfRange
 unfolding symbol_count
@@ -103,7 +109,7 @@ pub below-15 : (m : Machine) → NoneBelow (HasMachineFault m) 14 → (StrayAt m
 unfolding symbol_count
 below-15 m below absent = none-below-more (HasMachineFault m) SymbolOutOfRange 14 refl below absent
 
-pub below-16 : (m : Machine) → NoneBelow (HasMachineFault m) 15 → m.num_lookaheads ≤ 4 → NoneBelow (HasMachineFault m) 16
+pub below-16 : (m : Machine) → NoneBelow (HasMachineFault m) 15 → m.num_lookaheads ≤ 8 → NoneBelow (HasMachineFault m) 16
 below-16 m below none = none-below-more (HasMachineFault m) TooManyLookaheads 15 refl below (λ has. omega arith)
 
 pub below-17 : (m : Machine) → NoneBelow (HasMachineFault m) 16 → (HasMachineFault m LookaheadOutOfRange → ⊥) → NoneBelow (HasMachineFault m) 17
@@ -141,21 +147,21 @@ lookaheads-from : (m : Machine) (state : ℕ) → (HasMachineFault m LookaheadOu
 unfolding state_at
 lookaheads-from m state absent past = no-past m.num_lookaheads m.states state absent past
 
-past-less : (count : ℕ) (state : Acceptance × Option ℕ) → count ≤ 4 → NamesPast 4 state → NamesPast count state
+past-less : (count : ℕ) (state : Acceptance × Option ℕ) → count ≤ 8 → NamesPast 8 state → NamesPast count state
 past-less count (Conditional lookahead status, naming) few (inr past) = inr (omega arith)
 past-less count (Accept status, naming) few (inr past) = absurd past
 past-less count (Continue, naming) few (inr past) = absurd past
 past-less count (acceptance, Some lookahead) few (inl past) = inl (omega arith)
 past-less count (acceptance, None) few (inl past) = absurd past
 
-plain-state : (m : Machine) (state : ℕ) → NamesPast 4 (state_at (bare m.states m.transitions) state) → NamesPast 4 (slice_index_or m.states state (Continue, None))
+plain-state : (m : Machine) (state : ℕ) → NamesPast 8 (state_at (bare m.states m.transitions) state) → NamesPast 8 (slice_index_or m.states state (Continue, None))
 unfolding state_at
 plain-state m state past = past
 
 -- the parts that the last two checks look at
 pub bounded-from : (m : Machine) → 0 < length m.states → length m.states ≤ 255
     → (HasMachineFault m TransitionSize → ⊥) → (HasMachineFault m TransitionOutOfRange → ⊥)
-    → m.num_lookaheads ≤ 4 → (HasMachineFault m LookaheadOutOfRange → ⊥) → IsBounded (bare m.states m.transitions)
+    → m.num_lookaheads ≤ 8 → (HasMachineFault m LookaheadOutOfRange → ⊥) → IsBounded (bare m.states m.transitions)
 unfolding symbol_count
 bounded-from m some few size range lookaheads names = record {
   some_state = some;
@@ -205,14 +211,26 @@ text-from count symbol sure =
       | inr least ↦ absurd (sure (λ text. omega arith))
     ]
 
+-- a symbol in the place of another is one of a text
+replaced-text : (count shift : ℕ) (entries : List Replacement) (symbol : ℕ) → (Any (IsStrayReplacement count shift) entries → ⊥) → IsSymbolOf count symbol
+    → IsSymbolOf count (replaced entries symbol).0
+unfolding replaced
+replaced-text count shift [] symbol none text = text
+replaced-text count shift (entry ∷ entries) symbol none text =
+    cond_both (entry.0 == symbol) (entry.1, entry.2) (replaced entries symbol) (λ (found : ℕ × ComplexScript). IsSymbolOf count found.0)
+    (λ here. text-from count entry.1 (λ not_text. none (any-head (IsStrayReplacement count shift) entry entries (inr not_text))))
+    (λ later. replaced-text count shift entries symbol (λ any. none (any-tail (IsStrayReplacement count shift) entry entries any)) text)
+
 symbol-from : (m : Machine) (value : ℕ) → (HasMachineFault m SymbolOutOfRange → ⊥)
     → (IsStray (symbol_count m) m.pseudo_symbol_shift (length m.pseudo_symbol_map) value → ⊥)
-    → IsTextSymbol m (let found : ℕ × ComplexScript = cond (nat_lt value m.pseudo_symbol_shift) (value, NoScript) (slice_index_or m.pseudo_symbol_map (value - m.pseudo_symbol_shift) (0, NoScript)) in found.0)
+    → IsTextSymbol m (let found : ℕ × ComplexScript = cond (nat_lt value m.pseudo_symbol_shift) (replaced m.symbol_map value) (slice_index_or m.pseudo_symbol_map (value - m.pseudo_symbol_shift) (0, NoScript)) in found.0)
 symbol-from m value faultless stays =
-    cond_both (nat_lt value m.pseudo_symbol_shift) (value, NoScript) (slice_index_or m.pseudo_symbol_map (value - m.pseudo_symbol_shift) (0, NoScript))
+    cond_both (nat_lt value m.pseudo_symbol_shift) (replaced m.symbol_map value) (slice_index_or m.pseudo_symbol_map (value - m.pseudo_symbol_shift) (0, NoScript))
     (λ (found : ℕ × ComplexScript). IsTextSymbol m found.0)
-    (λ below. text-from (symbol_count m) value (λ not_text. stays (inl (ltb-true value m.pseudo_symbol_shift below, not_text))))
-    (λ above. text-from (symbol_count m) _ (λ not_text. faultless (inr (any-at (λ entry. IsTextSymbol m entry.0 → ⊥) m.pseudo_symbol_map (value - m.pseudo_symbol_shift) (0, NoScript) (entry-within above) not_text))))
+    (λ below.
+    replaced-text (symbol_count m) m.pseudo_symbol_shift m.symbol_map value (λ stray. faultless (inr stray))
+    (text-from (symbol_count m) value (λ not_text. stays (inl (ltb-true value m.pseudo_symbol_shift below, not_text)))))
+    (λ above. text-from (symbol_count m) _ (λ not_text. faultless (inl (inr (any-at (λ entry. IsTextSymbol m entry.0 → ⊥) m.pseudo_symbol_map (value - m.pseudo_symbol_shift) (0, NoScript) (entry-within above) not_text)))))
   where
     entry-within : nat_lt value m.pseudo_symbol_shift ≡ false → value - m.pseudo_symbol_shift < length m.pseudo_symbol_map
     entry-within above =
@@ -227,20 +245,20 @@ pub text_symbols-from : (m : Machine) (code_point : ℕ) → (HasMachineFault m 
 unfolding symbol_and_script
 text_symbols-from m code_point faultless =
     symbol-from m (value_of m.symbols code_point) faultless
-    (λ stray. faultless (inl (value-named (IsStray (symbol_count m) m.pseudo_symbol_shift (length m.pseudo_symbol_map)) m.symbols code_point stray)))
+    (λ stray. faultless (inl (inl (value-named (IsStray (symbol_count m) m.pseudo_symbol_shift (length m.pseudo_symbol_map)) m.symbols code_point stray))))
 
 -- the symbol and the script of a value below the shift, and of one from the shift on
 pub symbol-below : (m : Machine) (code_point value : ℕ) → value ≡ value_of m.symbols code_point → value < m.pseudo_symbol_shift
-    → (value, NoScript) ≡ symbol_and_script m code_point
+    → replaced m.symbol_map value ≡ symbol_and_script m code_point
 unfolding symbol_and_script
 symbol-below m code_point value is below =
-    rw (← is) (sym (cond-true (nat_lt value m.pseudo_symbol_shift) (value, NoScript) (slice_index_or m.pseudo_symbol_map (value - m.pseudo_symbol_shift) (0, NoScript)) (lt-ltb value m.pseudo_symbol_shift below)))
+    rw (← is) (sym (cond-true (nat_lt value m.pseudo_symbol_shift) (replaced m.symbol_map value) (slice_index_or m.pseudo_symbol_map (value - m.pseudo_symbol_shift) (0, NoScript)) (lt-ltb value m.pseudo_symbol_shift below)))
 
 pub symbol-entry : (m : Machine) (code_point value : ℕ) → value ≡ value_of m.symbols code_point → m.pseudo_symbol_shift ≤ value
     → slice_index_or m.pseudo_symbol_map (value - m.pseudo_symbol_shift) (0, NoScript) ≡ symbol_and_script m code_point
 unfolding symbol_and_script
 symbol-entry m code_point value is past =
-    rw (← is) (sym (cond-false (nat_lt value m.pseudo_symbol_shift) (value, NoScript) (slice_index_or m.pseudo_symbol_map (value - m.pseudo_symbol_shift) (0, NoScript)) (le-ltb value m.pseudo_symbol_shift past)))
+    rw (← is) (sym (cond-false (nat_lt value m.pseudo_symbol_shift) (replaced m.symbol_map value) (slice_index_or m.pseudo_symbol_map (value - m.pseudo_symbol_shift) (0, NoScript)) (le-ltb value m.pseudo_symbol_shift past)))
 
 -- a pseudo symbol has an entry
 pub entry-within : (m : Machine) (code_point value : ℕ) → value ≡ value_of m.symbols code_point → m.pseudo_symbol_shift ≤ value
@@ -271,7 +289,7 @@ entry-none m code_point value shift is same past end =
 
 pub checked-from : (m : Machine) → IsFaultless (HasMachineFault m) → IsChecked m
 checked-from m faultless =
-    let few : m.num_lookaheads ≤ 4 = elim (cases_lt 4 m.num_lookaheads) [ inl many ↦ absurd (faultless TooManyLookaheads many) | inr few ↦ few ] in
+    let few : m.num_lookaheads ≤ 8 = elim (cases_lt 8 m.num_lookaheads) [ inl many ↦ absurd (faultless TooManyLookaheads many) | inr few ↦ few ] in
     let range = λ (state symbol : ℕ) (here : state < length m.states) (below : symbol < symbol_count m). step-within m state symbol (faultless TransitionOutOfRange) here below in
     let some : 0 < length m.states = elim (cases_lt 0 (length m.states)) [ inl some ↦ some | inr few ↦ absurd (faultless StateCount (inl (omega arith))) ] in
     let symbol : 0 < symbol_count m = count-some m some (size-covers m (faultless TransitionSize)) in

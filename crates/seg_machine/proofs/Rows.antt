@@ -3,7 +3,7 @@ use Rattle.std.proofs.Common.{◌≡◌, [], ◌∷◌, refl}
 use Rattle.seg_text.specs.Boundaries.{boundary}
 use Rattle.seg_text.specs.Stretches.{later_boundaries, later_boundaries_within}
 use Rattle.seg_data.specs.Table.{value_of}
-use Rattle.seg_machine.specs.Machine.{symbol_and_script, step, run, scan, state_at}
+use Rattle.seg_machine.specs.Machine.{replaced, symbol_and_script, step, run, scan, state_at}
 use Rattle.seg_machine.specs.Pick.{last_step, first_condition, pick}
 use Rattle.seg_machine.specs.Segments.{machine_stretch}
 use Rattle.seg_machine.specs.Rows.{boundaries_of, condition_at_end, condition_on_own_name, accepted_two_past_end, accepted_from_start, start_accepts, named_past_end}
@@ -20,7 +20,7 @@ pub record Rows : Type 0 where
   pub named_past_end_2 : boundaries_of named_past_end 2 ≡ boundary 0 0 ∷ boundary 2 1 ∷ []
 
 pub rows : Rows
-unfolding later_boundaries later_boundaries_within machine_stretch pick last_step first_condition scan run step state_at symbol_and_script value_of
+unfolding replaced later_boundaries later_boundaries_within machine_stretch pick last_step first_condition scan run step state_at symbol_and_script value_of
 rows = record {
   condition_at_end_3 = refl;
   own_name_1 = refl;

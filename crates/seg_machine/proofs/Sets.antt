@@ -36,10 +36,10 @@ has-keep kept name lookahead =
           ∙ sym (ap (λ (b : Bool). has kept lookahead || b) (ne_eqb name lookahead other) ∙ or-false (has kept lookahead))
     ]
 
--- a set of 4 lookaheads has a number below 16
-pub keep-below : (kept name : ℕ) → kept < 16 → name < 4 → bit_or kept (2 ^ name) < 16
-keep-below kept name small few = or_lt 4 kept (2 ^ name) small (pow_below name 4 few)
+-- a set of 8 lookaheads has a number below 256
+pub keep-below : (kept name : ℕ) → kept < 256 → name < 8 → bit_or kept (2 ^ name) < 256
+keep-below kept name small few = or_lt 8 kept (2 ^ name) small (pow_below name 8 few)
 
 -- the bit as the code makes it
-pub bit-made : (name : ℕ) → name < 4 → 1 * 2 ^ name % 256 ≡ 2 ^ name
-bit-made name few = let small : 2 ^ name < 16 = pow_below name 4 few in omega arith
+pub bit-made : (name : ℕ) → name < 8 → 1 * 2 ^ name % 256 ≡ 2 ^ name
+bit-made name few = let small : 2 ^ name < 256 = pow_below name 8 few in omega arith

@@ -14,8 +14,8 @@ pub record IsChecked (m : Machine) : Type 0 where
   pub text_symbols : HasTextSymbols m
   -- a step leads to a state
   pub in_range : (state symbol : ℕ) → state < length m.states → symbol < symbol_count m → IfSome (step m state symbol) (λ next. next < length m.states)
-  -- there are at most 4 lookaheads, and each that a state names or asks for is one of them
-  pub few_lookaheads : m.num_lookaheads ≤ 4
+  -- there are at most 8 lookaheads, and each that a state names or asks for is one of them
+  pub few_lookaheads : m.num_lookaheads ≤ 8
   pub lookaheads : (state : ℕ) → NamesPast m.num_lookaheads (state_at m state) → ⊥
   -- symbol 0 goes round in no cycle: it leads on less often than there are states
   pub ends : (state : ℕ) → state < length m.states → length (run m state (replicate (length m.states) 0)) < length m.states

@@ -1,4 +1,5 @@
 pub mod Machine
+pub mod Replacements
 pub mod Pick
 pub mod Segments
 pub mod MachineFaults

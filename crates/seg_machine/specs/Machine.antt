@@ -7,7 +7,11 @@ use Rattle.seg_data.specs.Table.{Table, value_of}
 use Rattle.seg_machine.specs.declared.provider.Acceptance.{Acceptance}
 use Rattle.seg_machine.specs.declared.provider.Acceptance.TheVariants.{Continue}
 
--- each state says what it accepts, and names at most one lookahead
+-- an entry that puts another symbol, and a script, in the place of a symbol
+abbrev pub Replacement : Type 0
+Replacement = ℕ × ℕ × ComplexScript
+
+-- each state says what it accepts, and names at most one lookahead; a tailoring alone replaces symbols
 pub record Machine : Type 0 where
   pub symbols : Table
   pub states : List (Acceptance × Option ℕ)
@@ -15,6 +19,16 @@ pub record Machine : Type 0 where
   pub num_lookaheads : ℕ
   pub pseudo_symbol_shift : ℕ
   pub pseudo_symbol_map : List (ℕ × ComplexScript)
+  pub symbol_map : List Replacement
+
+-- what takes the place of parts of a machine: a map of its pseudo symbols, and what replaces its symbols
+pub record MachineTailoring : Type 0 where
+  pub pseudo_symbol_map : List (ℕ × ComplexScript)
+  pub symbol_map : List Replacement
+
+-- the tailoring of these parts
+abbrev pub tailoring : List (ℕ × ComplexScript) → List Replacement → MachineTailoring
+tailoring map replacements = record { pseudo_symbol_map = map; symbol_map = replacements }
 
 -- the machine of these parts
 abbrev pub machine :
@@ -26,19 +40,26 @@ machine symbols states transitions num_lookaheads shift map = record {
   num_lookaheads = num_lookaheads;
   pseudo_symbol_shift = shift;
   pseudo_symbol_map = map;
+  symbol_map = [];
 }
 
--- the machine with a tailoring, if there is one: it takes the place of the map
-abbrev pub with_tailoring : Machine → Option (List (ℕ × ComplexScript)) → Machine
+-- the machine with a tailoring, if there is one
+abbrev pub with_tailoring : Machine → Option MachineTailoring → Machine
 with_tailoring m None = m
-with_tailoring m (Some map) = record m { pseudo_symbol_map = map }
+with_tailoring m (Some t) = record m { pseudo_symbol_map = t.pseudo_symbol_map; symbol_map = t.symbol_map }
 
--- the symbol and the script of a code point: the pseudo symbols, from the shift on, are entries of the map
+-- the symbol and the script in the place of a symbol: those of its entry, or itself and none
+unfoldable pub replaced : List Replacement → ℕ → ℕ × ComplexScript
+replaced [] symbol = (symbol, NoScript)
+replaced (entry ∷ entries) symbol = if entry.0 == symbol then (entry.1, entry.2) else replaced entries symbol
+
+-- the symbol and the script of a code point: the pseudo symbols, from the shift on, are entries of the map, and
+-- the symbols below it may be replaced
 unfoldable pub symbol_and_script : Machine → ℕ → ℕ × ComplexScript
 symbol_and_script m code_point =
     let value = value_of m.symbols code_point in
     if nat_lt value m.pseudo_symbol_shift
-    then (value, NoScript)
+    then replaced m.symbol_map value
     else slice_index_or m.pseudo_symbol_map (value - m.pseudo_symbol_shift) (0, NoScript)
 
 abbrev pub symbols_of : Machine → List ℕ → List ℕ

@@ -1,19 +1,23 @@
 -- The faults of machines and of their tailorings.
-use Rattle.std.specs.Prelude.{◌≡◌, ◌≢◌, ℕ, ◌+◌, ◌*◌, ◌<◌, ◌≤◌, ◌⊎◌, suc, Option, Some, List, length, IsSomeAnd, Any}
+use Rattle.std.specs.Prelude.{◌≡◌, ◌≢◌, ℕ, ◌+◌, ◌*◌, ◌<◌, ◌≤◌, ◌⊎◌, suc, Option, Some, List, [], ◌∷◌, length, map, IsSomeAnd, Any, Contains}
 use Rattle.seg_data.specs.declared.provider.DataError.{DataError}
 use Rattle.seg_data.specs.declared.provider.DataError.TheVariants.{StateCount, TransitionSize, TransitionOutOfRange, SymbolOutOfRange, TooManyLookaheads, LookaheadOutOfRange, EndCycle, Stalls}
-use Rattle.seg_data.specs.declared.provider.ComplexScript.{ComplexScript}
 use Rattle.seg_data.specs.declared.provider.ComplexScript.TheVariants.{None as NoScript}
 use Rattle.seg_data.specs.Table.{named_values}
 use Rattle.seg_machine.specs.declared.provider.Acceptance.{Acceptance}
 use Rattle.seg_machine.specs.declared.provider.Acceptance.TheVariants.{Continue, Accept, Conditional}
-use Rattle.seg_machine.specs.Machine.{Machine, IsSymbolOf, IsTextSymbol, with_tailoring, symbol_and_script, symbol_count, state_after_ends}
+use Rattle.seg_machine.specs.Machine.{Machine, MachineTailoring, Replacement, IsSymbolOf, IsTextSymbol, with_tailoring, symbol_and_script, symbol_count, state_after_ends}
 use Rattle.seg_machine.specs.Pick.{HasStall}
 
 -- of so many symbols, with this shift and so many entries of the map, a value gives no symbol of a text
 abbrev pub IsStray : ℕ → ℕ → ℕ → ℕ → Type 0
 IsStray count shift entries value =
     ((value < shift) × (IsSymbolOf count value → ⊥)) ⊎ (shift + entries ≤ value)
+
+-- of so many symbols and with this shift, an entry doesn't put a symbol of a text in the place of one below the shift
+abbrev pub IsStrayReplacement : ℕ → ℕ → Replacement → Type 0
+IsStrayReplacement count shift entry =
+    ((IsSymbolOf count entry.0 → ⊥) ⊎ (shift ≤ entry.0)) ⊎ (IsSymbolOf count entry.1 → ⊥)
 
 -- a condition's lookahead isn't below the number of lookaheads
 abbrev pub IsConditionPast : ℕ → Acceptance → Type 0
@@ -38,12 +42,13 @@ HasMachineFault m TransitionSize =
     (count : ℕ) → 0 < count → count ≤ 256 → length m.transitions ≢ length m.states * count
 -- a transition is neither 255 nor a state
 HasMachineFault m TransitionOutOfRange = Any (λ next. (next ≢ 255) × (length m.states ≤ next)) m.transitions
--- a value that the table of symbols names is stray, or an entry of the map gives no symbol of a text
+-- a value that the table of symbols names is stray, an entry of the map gives no symbol of a text, or a replacement is stray
 HasMachineFault m SymbolOutOfRange =
-    Any (IsStray (symbol_count m) m.pseudo_symbol_shift (length m.pseudo_symbol_map)) (named_values m.symbols)
-    ⊎ Any (λ entry. IsTextSymbol m entry.0 → ⊥) m.pseudo_symbol_map
--- there are more than 4 lookaheads
-HasMachineFault m TooManyLookaheads = 4 < m.num_lookaheads
+    (Any (IsStray (symbol_count m) m.pseudo_symbol_shift (length m.pseudo_symbol_map)) (named_values m.symbols)
+    ⊎ Any (λ entry. IsTextSymbol m entry.0 → ⊥) m.pseudo_symbol_map)
+    ⊎ Any (IsStrayReplacement (symbol_count m) m.pseudo_symbol_shift) m.symbol_map
+-- there are more than 8 lookaheads
+HasMachineFault m TooManyLookaheads = 8 < m.num_lookaheads
 -- a state names a lookahead that there isn't, or is a condition on one
 HasMachineFault m LookaheadOutOfRange = Any (NamesPast m.num_lookaheads) m.states
 -- symbol 0 goes round in a cycle
@@ -52,15 +57,25 @@ HasMachineFault m EndCycle = HasEndCycle m
 HasMachineFault m Stalls = HasStall m
 HasMachineFault m _ = ⊥
 
+-- an entry's symbol, or that in its place, is the symbol of the end
+abbrev pub NamesEnd : Replacement → Type 0
+NamesEnd entry = (entry.0 ≡ 0) ⊎ (entry.1 ≡ 0)
+
+-- some number stands twice
+abbrev pub HasTwice : List ℕ → Type 0
+HasTwice [] = ⊥
+HasTwice (number ∷ numbers) = Contains numbers number ⊎ HasTwice numbers
+
 -- the fault of a tailoring by itself
-abbrev pub HasOverrideFault : List (ℕ × ComplexScript) → DataError → Type 0
--- an entry gives the symbol of the end
-HasOverrideFault map SymbolOutOfRange = Any (λ entry. entry.0 ≡ 0) map
-HasOverrideFault map _ = ⊥
+abbrev pub HasOverrideFault : MachineTailoring → DataError → Type 0
+-- an entry names the symbol of the end, or a symbol is replaced twice
+HasOverrideFault t SymbolOutOfRange =
+    (Any (λ entry. entry.0 ≡ 0) t.pseudo_symbol_map ⊎ Any NamesEnd t.symbol_map) ⊎ HasTwice (map (λ entry. entry.0) t.symbol_map)
+HasOverrideFault t _ = ⊥
 
 -- the fault of a tailoring, if there is one, with its machine: the machine that it makes gives stray symbols
-abbrev pub HasTailoringFault : Machine → Option (List (ℕ × ComplexScript)) → DataError → Type 0
-HasTailoringFault m (Some map) SymbolOutOfRange = HasMachineFault (with_tailoring m (Some map)) SymbolOutOfRange
+abbrev pub HasTailoringFault : Machine → Option MachineTailoring → DataError → Type 0
+HasTailoringFault m (Some t) SymbolOutOfRange = HasMachineFault (with_tailoring m (Some t)) SymbolOutOfRange
 HasTailoringFault m _ _ = ⊥
 
 -- a code point below U+0100, which Latin-1 has too, has a script

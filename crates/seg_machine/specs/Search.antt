@@ -1,6 +1,6 @@
 -- The search for a text without a pick. It follows pairs of a state and a set of lookaheads: those that the
 -- states up to here have naming. Bit k of a set's number is lookahead k.
-use Rattle.std.specs.Prelude.{◌≡◌, ◌≢◌, ℕ, suc, ◌+◌, ◌*◌, ◌^◌, ◌<◌, ◌≤◌, ◌==◌, Bool, true, false, if◌then◌else◌, Option, Some, None, List, [], ◌∷◌, ◌++◌, length, map, replicate, slice_index_or, IfSome, All, Contains}
+use Rattle.std.specs.Prelude.{◌≡◌, ◌≢◌, ℕ, suc, ◌+◌, ◌*◌, ◌/◌, ◌%◌, ◌^◌, ◌<◌, ◌≤◌, ◌==◌, Bool, true, false, if◌then◌else◌, Option, Some, None, List, [], ◌∷◌, ◌++◌, length, map, replicate, slice_index_or, IfSome, All, Contains}
 use Rattle.std.specs.Int.{bit_at}
 use Rattle.std.specs.Int.Bits.{bit_or}
 use Rattle.std.specs.Option.{option_map_or}
@@ -24,7 +24,7 @@ pub record IsBounded (m : Machine) : Type 0 where
   pub few_states : length m.states ≤ 255
   pub some_symbol : 0 < symbol_count m
   pub in_range : (state symbol : ℕ) → state < length m.states → symbol < symbol_count m → IfSome (step m state symbol) (λ next. next < length m.states)
-  pub lookaheads : (state : ℕ) → NamesPast 4 (state_at m state) → ⊥
+  pub lookaheads : (state : ℕ) → NamesPast 8 (state_at m state) → ⊥
 
 -- is the lookahead in the set
 abbrev pub has : ℕ → ℕ → Bool
@@ -66,7 +66,7 @@ pub record Leads (m : Machine) (symbols : List ℕ) (state kept : ℕ) : Type 0 
 -- a pair of a state and a set that some symbols, or none, lead to
 pub record IsMet (m : Machine) (pair : Pair) : Type 0 where
   pub state : pair.0 < length m.states
-  pub kept : pair.1 < 16
+  pub kept : pair.1 < 256
   pub symbols : List ℕ
   pub leads : Leads m symbols pair.0 pair.1
 
@@ -75,28 +75,56 @@ pub record IsReached (m : Machine) (pair : Pair) : Type 0 where
   pub met : IsMet m pair
   pub some : met.symbols ≢ []
 
--- the symbol leads from the pair to a state that settles it, or to a pair of the list
-pub record IsFollowed (m : Machine) (pairs : List Pair) (state kept symbol : ℕ) : Type 0 where
+-- the number of a pair's bit: each set has 256 bits, one for each state
+abbrev pub bit_number : Pair → ℕ
+bit_number pair = pair.1 * 256 + pair.0
+
+-- the pair's bit is 1 in the words of 64 bits
+pub record IsMarked (marks : List ℕ) (pair : Pair) : Type 0 where
+  pub state : pair.0 < 255
+  pub kept : pair.1 < 256
+  pub bit : bit_at (slice_index_or marks (bit_number pair / 64) 0) (bit_number pair % 64) ≡ 1
+
+-- each marked pair is reached
+abbrev pub AreReached : Machine → List ℕ → Type 0
+AreReached m marks = (pair : Pair) → IsMarked marks pair → IsReached m pair
+
+-- the states that are marked with a set
+pub record IsQueue (marks queue : List ℕ) (kept : ℕ) : Type 0 where
+  pub listed : (state : ℕ) → IsMarked marks (state, kept) → Contains queue state
+  pub marked : (state : ℕ) → Contains queue state → IsMarked marks (state, kept)
+
+-- more pairs are marked, and none with a smaller set
+pub record IsGrowth (before after : List ℕ) (kept : ℕ) : Type 0 where
+  pub keeps : (pair : Pair) → IsMarked before pair → IsMarked after pair
+  pub above : (pair : Pair) → IsMarked after pair → pair.1 < kept → IsMarked before pair
+
+-- the symbol leads from the pair to a state that settles it, or to a marked pair
+pub record IsFollowed (m : Machine) (marks : List ℕ) (state kept symbol : ℕ) : Type 0 where
   pub next : ℕ
   pub leads : step m state symbol ≡ Some next
-  pub listed : IfSome (enter kept (state_at m next)) (λ after. Contains pairs (next, after))
+  pub marked : IfSome (enter kept (state_at m next)) (λ after. IsMarked marks (next, after))
 
 -- each symbol of a text does
-abbrev pub AreFollowed : Machine → List Pair → ℕ → ℕ → Type 0
-AreFollowed m pairs state kept = (symbol : ℕ) → symbol < symbol_count m → 0 < symbol → IsFollowed m pairs state kept symbol
+abbrev pub AreFollowed : Machine → List ℕ → ℕ → ℕ → Type 0
+AreFollowed m marks state kept = (symbol : ℕ) → symbol < symbol_count m → 0 < symbol → IsFollowed m marks state kept symbol
 
 -- nothing is left to look at from the pair
-pub record IsDone (m : Machine) (pairs : List Pair) (pair : Pair) : Type 0 where
+pub record IsDone (m : Machine) (marks : List ℕ) (pair : Pair) : Type 0 where
   pub at_end : is_settled_at_end m pair.0 pair.1 ≡ true
-  pub followed : AreFollowed m pairs pair.0 pair.1
+  pub followed : AreFollowed m marks pair.0 pair.1
+
+-- nor from the marked pairs with one of the first sets
+abbrev pub AreDone : Machine → List ℕ → ℕ → Type 0
+AreDone m marks sets = (pair : Pair) → IsMarked marks pair → pair.1 < sets → IsDone m marks pair
 
 -- how many are false
 unfoldable pub free : List Bool → ℕ
 free [] = 0
-free (true ∷ found) = free found
-free (false ∷ found) = suc (free found)
+free (true ∷ known) = free known
+free (false ∷ known) = suc (free known)
 
--- the table says of each pair whether it is in the list
-pub record IsTable (found : List Bool) (pairs : List Pair) : Type 0 where
-  pub room : length pairs + free found ≡ length found
-  pub listed : (state kept : ℕ) → kept < 16 → slice_index_or found (state * 16 + kept) false ≡ true → Contains pairs (state, kept)
+-- the table says of each state whether it is in the list
+pub record IsTable (known : List Bool) (states : List ℕ) : Type 0 where
+  pub room : length states + free known ≡ length known
+  pub listed : (state : ℕ) → slice_index_or known state false ≡ true → Contains states state

@@ -4,6 +4,7 @@ ghost use Rattle.seg_machine.specs.Unaligned.{HasByte, acceptance_of, byte_of};
 
 mod checks;
 mod cycles;
+mod found;
 mod machine;
 mod stalls;
 mod tailoring;

@@ -147,12 +147,12 @@ fn next_symbol<I: Cursor>(machine: &TailoredMachineBorrowed<'_>, iter: &mut I) -
     }
 }
 
-/// For each lookahead the place of the last state that named it. A checked machine has 4 at most.
-type Places = ArrayVec<Option<usize>, 4>;
+/// For each lookahead the place of the last state that named it. A checked machine has 8 at most.
+type Places = ArrayVec<Option<usize>, 8>;
 
 /// No place for any of so many lookaheads.
 fn no_places(lookaheads: usize) -> Places
-    requires { lookaheads ≤ 4 }
+    requires { lookaheads ≤ 8 }
     ensures { result.items ≡ replicate lookaheads None }
 {
     let mut kept = Places::new();

@@ -4,7 +4,8 @@ ghost use Rattle.std.specs.Option.{option_map};
 ghost use Rattle.seg_data.specs.Faults.{IsFaultless, IsLowestFault};
 ghost use Rattle.seg_machine.specs.Checked.{HasTextSymbols, IsChecked};
 ghost use Rattle.seg_machine.specs.MachineFaults.{HasComplexBelow0100, HasTailoringFault};
-ghost use Rattle.seg_machine.specs.Machine.{IsTextSymbol, state_at, step, symbol_and_script, symbol_count, with_tailoring};
+ghost use Rattle.seg_machine.specs.Machine.{IsTextSymbol, replaced, state_at, step, symbol_and_script, symbol_count, with_tailoring};
+ghost use Rattle.seg_machine.specs.Replacements.{replacements_of, with_parts};
 
 use crate::provider::{
     Acceptance, Lookahead, SegmenterStateMachine, SegmenterStateMachineOverride, State, Symbol,
@@ -49,9 +50,11 @@ impl TailoredMachine {
     pub fn as_borrowed(&self) -> TailoredMachineBorrowed<'_>
         ensures { machine_of result ≡ owned_machine self.now }
     {
+        let (pseudo_symbol_map, replacing) = parts_of(&self.machine, self.tailoring.as_ref());
         TailoredMachineBorrowed {
             machine: &self.machine,
-            pseudo_symbol_map: map_of(&self.machine, self.tailoring.as_ref()),
+            pseudo_symbol_map,
+            replacing,
         }
     }
 }
@@ -61,7 +64,8 @@ impl TailoredMachine {
 pub struct TailoredMachineBorrowed<'data> {
     machine: &'data SegmenterStateMachine,
     pseudo_symbol_map: &'data [(Symbol, ComplexScript)],
-    ghost text_symbols: { HasTextSymbols (with_tailoring machine.now (Some pseudo_symbol_map.now)) },
+    replacing: Option<&'data SegmenterStateMachineOverride>,
+    ghost text_symbols: { HasTextSymbols (with_parts machine.now pseudo_symbol_map.now (option_map (λ t. t.now) replacing)) },
 }
 
 impl<'data> TailoredMachineBorrowed<'data> {
@@ -72,9 +76,11 @@ impl<'data> TailoredMachineBorrowed<'data> {
         ensures { machine_of result ≡ machine.now }
     {
         machine.facts();
+        machine.has_no_replacements();
         TailoredMachineBorrowed {
             machine,
             pseudo_symbol_map: machine.pseudo_symbol_map(),
+            replacing: None,
         }
     }
 
@@ -90,17 +96,17 @@ impl<'data> TailoredMachineBorrowed<'data> {
         let Some(tailoring) = tailoring else {
             return Ok(TailoredMachineBorrowed::without_tailoring(machine));
         };
-        let pseudo_symbol_map = tailoring.pseudo_symbol_map();
-        if machine.has_stray_symbol(pseudo_symbol_map) {
+        if machine.has_stray_symbol(tailoring) {
             return Err(DataError::SymbolOutOfRange);
         }
         Ok(TailoredMachineBorrowed {
             machine,
-            pseudo_symbol_map,
+            pseudo_symbol_map: tailoring.pseudo_symbol_map(),
+            replacing: tailoring.replacing(),
         })
     }
 
-    /// The machine, whose map the tailoring's takes the place of.
+    /// The machine, parts of which the tailoring's take the place of.
     pub fn machine(&self) -> &'data SegmenterStateMachine
         ensures states { result.now.states ≡ (machine_of self.now).states }
         ensures transitions { result.now.transitions ≡ (machine_of self.now).transitions }
@@ -123,7 +129,7 @@ impl<'data> TailoredMachineBorrowed<'data> {
         let value = self.machine.symbols().get32(code_point);
         let shift = self.machine.pseudo_symbol_shift();
         if value < shift {
-            value
+            replacement_by(self.replacing, value).0
         } else {
             self.pseudo_symbol_map[(value - shift) as usize].0
         }
@@ -133,7 +139,12 @@ impl<'data> TailoredMachineBorrowed<'data> {
     pub fn script(&self, code_point: u32) -> ComplexScript
         ensures { result ≡ (symbol_and_script (machine_of self.now) code_point).1 }
     {
-        script_of(self.machine, self.pseudo_symbol_map, code_point)
+        script_of(
+            self.machine,
+            self.pseudo_symbol_map,
+            self.replacing,
+            code_point,
+        )
     }
 
     /// The state that a symbol leads to from a state, or `None` where it leads to none.
@@ -169,43 +180,65 @@ pub fn has_complex_below_0100(
 ) -> bool
     ensures { IsTrue result ↔ HasComplexBelow0100 (with_tailoring machine.now (option_map (λ t. t.now) tailoring.entry)) }
 {
-    let pseudo_symbol_map = map_of(machine, tailoring);
+    let (pseudo_symbol_map, replacing) = parts_of(machine, tailoring);
     for code_point in 0..0x100u32 {
-        if script_of(machine, pseudo_symbol_map, code_point) != ComplexScript::None {
+        if script_of(machine, pseudo_symbol_map, replacing, code_point) != ComplexScript::None {
             return true;
         }
     }
     false
 }
 
-// The map of the machine with its tailoring, if there is one.
-fn map_of<'data>(
+// The map of pseudo symbols, and what replaces symbols, of the machine with its tailoring, if
+// there is one.
+fn parts_of<'data>(
     machine: &'data SegmenterStateMachine,
     tailoring: Option<&'data SegmenterStateMachineOverride>,
-) -> &'data [(Symbol, ComplexScript)]
-    ensures { with_tailoring machine.now (Some result.now) ≡ with_tailoring machine.now (option_map (λ t. t.now) tailoring.entry) }
+) -> (
+    &'data [(Symbol, ComplexScript)],
+    Option<&'data SegmenterStateMachineOverride>,
+)
+    ensures { with_parts machine.now result.0.now (option_map (λ t. t.now) result.1) ≡ with_tailoring machine.now (option_map (λ t. t.now) tailoring.entry) }
 {
     match tailoring {
-        Some(tailoring) => tailoring.pseudo_symbol_map(),
-        None => machine.pseudo_symbol_map(),
+        Some(tailoring) => (tailoring.pseudo_symbol_map(), tailoring.replacing()),
+        None => {
+            machine.has_no_replacements();
+            (machine.pseudo_symbol_map(), None)
+        }
     }
 }
 
-// The script of a code point by the machine with this map, which may lack the code point's entry.
+// The script of a code point by the machine with these parts, which may lack the code point's entry.
 fn script_of(
     machine: &SegmenterStateMachine,
     pseudo_symbol_map: &[(Symbol, ComplexScript)],
+    replacing: Option<&SegmenterStateMachineOverride>,
     code_point: u32,
 ) -> ComplexScript
-    ensures { result ≡ (symbol_and_script (with_tailoring machine.now (Some pseudo_symbol_map.now)) code_point).1 }
+    ensures { result ≡ (symbol_and_script (with_parts machine.now pseudo_symbol_map.now (option_map (λ t. t.now) replacing.entry)) code_point).1 }
 {
     let value = machine.symbols().get32(code_point);
     let shift = machine.pseudo_symbol_shift();
     if value < shift {
-        return ComplexScript::None;
+        return replacement_by(replacing, value).1;
     }
     match pseudo_symbol_map.get((value - shift) as usize) {
         Some(entry) => entry.1,
         None => ComplexScript::None,
+    }
+}
+
+// The symbol and the script in the place of a symbol.
+#[inline(always)]
+fn replacement_by(
+    replacing: Option<&SegmenterStateMachineOverride>,
+    symbol: Symbol,
+) -> (Symbol, ComplexScript)
+    ensures { result ≡ replaced (replacements_of (option_map (λ t. t.now) replacing.entry)) symbol }
+{
+    match replacing {
+        None => (symbol, ComplexScript::None),
+        Some(tailoring) => tailoring.replacement(symbol),
     }
 }

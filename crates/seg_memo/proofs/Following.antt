@@ -211,10 +211,10 @@ look-up-leads : (s : Subject) (c : Configuration) (next : ℕ) → step s.machin
 look-up-leads s c next some free = look-up-some s c next some ∙ rw free refl
 
 -- what is read of a state of a checked machine
-pub names-few : (m : Machine) (next : ℕ) → IsChecked m → NamesPast 4 (state_at m next) → ⊥
+pub names-few : (m : Machine) (next : ℕ) → IsChecked m → NamesPast 8 (state_at m next) → ⊥
 names-few m next checked past = checked.lookaheads next (on (state_at m next) past)
   where
-    on : (state : Acceptance × Option ℕ) → NamesPast 4 state → NamesPast m.num_lookaheads state
+    on : (state : Acceptance × Option ℕ) → NamesPast 8 state → NamesPast m.num_lookaheads state
     on (Continue, None) past = past
     on (Accept status, None) past = past
     on (Conditional lookahead status, None) past = elim past [ inl named ↦ absurd named | inr asked ↦ inr (omega (arith, asked, checked.few_lookaheads)) ]

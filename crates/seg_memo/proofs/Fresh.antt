@@ -77,7 +77,7 @@ states-made m states is = ap length is
 
 pub sets-made : (m : Machine) (lookaheads : ℕ) → IsChecked m → lookaheads ≡ m.num_lookaheads → 1 * 2 ^ lookaheads % 2 ^ 64 ≡ 2 ^ m.num_lookaheads
 sets-made m lookaheads checked is =
-    let small : 2 ^ m.num_lookaheads < 2 ^ 5 = pow_below m.num_lookaheads 5 (omega (arith, checked.few_lookaheads)) in
+    let small : 2 ^ m.num_lookaheads < 2 ^ 9 = pow_below m.num_lookaheads 9 (omega (arith, checked.few_lookaheads)) in
     rw is (omega (arith, small))
 
 pub first-memo : (m : Machine) (transitions : List ℕ) (text : List Item) (states sets items count : ℕ) (cells : List Cell)

@@ -84,9 +84,9 @@ next-within s m c states transitions symbol next r some =
     subst (λ (x : Machine). next < length x.states) r.read.machine (step-within s c next r.sound r.within (leads-on s m c states transitions symbol next r some))
 
 pub entry-few : (s : Subject) (m : Machine) (states : ℕ) (transitions : List ℕ) (next : ℕ) (entry : Acceptance × Option ℕ) → IsSound s → IsReadBy s m states transitions
-    → entry ≡ state_at m next → NamesPast 4 entry → ⊥
+    → entry ≡ state_at m next → NamesPast 8 entry → ⊥
 entry-few s m states transitions next entry sound read is past =
-    names-few s.machine next sound.checked (subst (NamesPast 4) (is ∙ sym (state-read s m states transitions next read)) past)
+    names-few s.machine next sound.checked (subst (NamesPast 8) (is ∙ sym (state-read s m states transitions next read)) past)
 
 pub value-some : (s : Subject) (m : Machine) (c : Configuration) (states : ℕ) (transitions : List ℕ) (symbol next place : ℕ) (entry : Acceptance × Option ℕ) (result : LookUp)
     → Read s m c states transitions symbol next → (next ≡ 255 → ⊥) → entry ≡ state_at m next → place ≡ min (suc c.place) (length s.symbols)

@@ -59,7 +59,7 @@ pub enum Cell {
 
 /// The lookahead and the status of a state's condition, where it holds: the lookahead is in the set.
 fn condition_held(entry: (Acceptance, Option<Lookahead>), kept: u8) -> Option<(Lookahead, u8)>
-    requires { NamesPast 4 entry → ⊥ }
+    requires { NamesPast 8 entry → ⊥ }
     ensures { result ≡ condition_held kept entry }
 {
     match entry.0 {
@@ -75,7 +75,7 @@ fn condition_held(entry: (Acceptance, Option<Lookahead>), kept: u8) -> Option<(L
 
 /// The set with the lookahead that a state names.
 fn keep(name: Option<Lookahead>, kept: u8) -> u8
-    requires { IfSome name (λ lookahead. lookahead < 4) }
+    requires { IfSome name (λ lookahead. lookahead < 8) }
     ensures { result ≡ keep kept name }
 {
     match name {
@@ -91,7 +91,7 @@ pub(crate) fn arrive(
     place: usize,
     kept: u8,
 ) -> LookUp
-    requires { NamesPast 4 entry → ⊥ }
+    requires { NamesPast 8 entry → ⊥ }
     ensures { result ≡ arrival entry state place kept }
 {
     if let Some((lookahead, status)) = condition_held(entry, kept) {

@@ -2,7 +2,7 @@
 ghost use Rattle.std.specs.Prelude.{◌≡◌, ◌≢◌, ℕ, ◌+◌, ◌*◌, ◌/◌, ◌<◌, ◌≤◌, ◌↔◌, ◌⊎◌, Any, IsTrue, IfErr, IsSomeAnd, OnOk, length};
 ghost use Rattle.seg_data.specs.Faults.{IsFaultless, IsLowestFault};
 ghost use Rattle.seg_data.specs.Table.{named_values};
-ghost use Rattle.seg_machine.specs.MachineFaults.{HasMachineFault, IsConditionPast, IsStray, NamesPast};
+ghost use Rattle.seg_machine.specs.MachineFaults.{HasMachineFault, IsConditionPast, IsStray, IsStrayReplacement, NamesPast};
 ghost use Rattle.seg_machine.specs.Machine.{IsSymbolOf, machine};
 
 use crate::provider::cycles::has_end_cycle;
@@ -13,7 +13,7 @@ use seg_data::provider::{ClassTable, ComplexScript, DataError};
 // A transition is a byte, and 255 stands for none.
 const MAX_STATES: usize = 255;
 
-const MAX_LOOKAHEADS: usize = 4;
+const MAX_LOOKAHEADS: usize = 8;
 
 // The lowest fault of a machine's parts, if there is one.
 pub(super) fn check_parts(
@@ -37,7 +37,7 @@ pub(super) fn check_parts(
         return Err(DataError::TransitionOutOfRange);
     }
     let count = transitions.len() / states.len();
-    if has_stray_symbol(symbols, count, shift, map) {
+    if has_stray_symbol(symbols, count, shift, map, &[]) {
         return Err(DataError::SymbolOutOfRange);
     }
     if num_lookaheads > MAX_LOOKAHEADS {
@@ -72,17 +72,22 @@ fn leads_past(transitions: &[State], states: usize) -> bool
         && states <= *next as usize)
 }
 
-// Whether a value of the table, or an entry of the map, gives no symbol of a text.
+// Whether a value of the table, or an entry of the map, gives no symbol of a text, or an entry that
+// replaces a symbol is stray.
 pub(super) fn has_stray_symbol(
     symbols: &ClassTable,
     count: usize,
     shift: u8,
     map: &[(Symbol, ComplexScript)],
+    replacements: &[(Symbol, Symbol, ComplexScript)],
 ) -> bool
-    ensures { IsTrue result ↔ (Any (IsStray count shift (length map.now)) (named_values symbols.now)
-        ⊎ Any (λ entry. IsSymbolOf count entry.0 → ⊥) map.now) }
+    ensures { IsTrue result ↔ ((Any (IsStray count shift (length map.now)) (named_values symbols.now)
+        ⊎ Any (λ entry. IsSymbolOf count entry.0 → ⊥) map.now)
+        ⊎ Any (IsStrayReplacement count shift) replacements.now) }
 {
-    has_stray_value(symbols, count, shift, map.len()) || has_stray_entry(map, count)
+    has_stray_value(symbols, count, shift, map.len())
+        || has_stray_entry(map, count)
+        || has_stray_replacement(replacements, count, shift)
 }
 
 // Whether a value of the table gives no symbol of a text.
@@ -126,6 +131,24 @@ fn has_stray_entry(map: &[(Symbol, ComplexScript)], count: usize) -> bool
     ensures { IsTrue result ↔ Any (λ entry. IsSymbolOf count entry.0 → ⊥) map.now }
 {
     map.iter().any(|entry| !is_text_symbol(entry.0, count))
+}
+
+// Whether an entry doesn't put a symbol of a text in the place of one below the shift.
+fn has_stray_replacement(
+    replacements: &[(Symbol, Symbol, ComplexScript)],
+    count: usize,
+    shift: u8,
+) -> bool
+    ensures { IsTrue result ↔ Any (IsStrayReplacement count shift) replacements.now }
+{
+    replacements.iter().any(|entry| is_stray_replacement(entry.0, entry.1, count, shift))
+}
+
+// Whether this isn't a symbol of a text below the shift and one in its place.
+fn is_stray_replacement(from: Symbol, to: Symbol, count: usize, shift: u8) -> bool
+    ensures { IsTrue result ↔ (((IsSymbolOf count from → ⊥) ⊎ (shift ≤ from)) ⊎ (IsSymbolOf count to → ⊥)) }
+{
+    !is_text_symbol(from, count) || shift <= from || !is_text_symbol(to, count)
 }
 
 // Whether a state, or its condition, names a lookahead that isn't below the number of lookaheads.

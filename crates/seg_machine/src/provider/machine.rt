@@ -1,5 +1,5 @@
 //! State machines over the symbols of code points.
-ghost use Rattle.std.specs.Prelude.{◌≡◌, ℕ, ◌<◌, ◌↔◌, IsTrue, IfOk, IfErr, IfSome, length};
+ghost use Rattle.std.specs.Prelude.{◌≡◌, ℕ, ◌<◌, ◌↔◌, IsTrue, IfOk, IfErr, IfSome, Some, [], length};
 ghost use Rattle.seg_data.specs.declared.provider.DataError.TheVariants.{SymbolOutOfRange};
 ghost use Rattle.seg_data.specs.Faults.{IsFaultless, IsLowestFault};
 ghost use Rattle.seg_machine.specs.Checked.{IsChecked};
@@ -10,7 +10,7 @@ ghost use Rattle.seg_machine.specs.Lemmas.SameMachines.{same_machine, same_machi
 
 use crate::provider::checks::{check_parts, has_stray_symbol};
 use crate::provider::transitions::next_of;
-use crate::provider::{Acceptance, Lookahead, State, Symbol};
+use crate::provider::{Acceptance, Lookahead, SegmenterStateMachineOverride, State, Symbol};
 use seg_data::provider::{ClassTable, ComplexScript, DataError};
 use std::marker::Model;
 
@@ -140,15 +140,26 @@ impl SegmenterStateMachine {
         next_of(self.states(), self.transitions(), state, symbol as usize)
     }
 
-    // Whether the machine with this map in the place of its own has a value that gives no symbol
-    // of a text, or an entry of the map gives none.
-    pub(crate) fn has_stray_symbol(&self, pseudo_symbol_map: &[(Symbol, ComplexScript)]) -> bool
-        ensures { IsTrue result ↔ HasMachineFault (with_tailoring self.now (Some pseudo_symbol_map.now)) SymbolOutOfRange }
+    // Whether the machine with this tailoring has a value that gives no symbol of a text, an entry
+    // of the map gives none, or a replacement is stray.
+    pub(crate) fn has_stray_symbol(&self, tailoring: &SegmenterStateMachineOverride) -> bool
+        ensures { IsTrue result ↔ HasMachineFault (with_tailoring self.now (Some tailoring.now)) SymbolOutOfRange }
     {
         self.facts();
-        let count = self.transitions().len() / self.states().len();
-        let shift = self.pseudo_symbol_shift();
-        has_stray_symbol(self.symbols(), count, shift, pseudo_symbol_map)
+        has_stray_symbol(
+            self.symbols(),
+            self.transitions().len() / self.states().len(),
+            self.pseudo_symbol_shift(),
+            tailoring.pseudo_symbol_map(),
+            tailoring.symbol_map(),
+        )
+    }
+
+    /// Law: only a tailoring replaces symbols.
+    pub(crate) fn has_no_replacements(&self)
+        ensures { self.now.symbol_map ≡ [] }
+    {
+        let _symbols = &self.symbols;
     }
 
     /// Law: what holds of each machine.

@@ -1,18 +1,10 @@
-use Rattle.std.proofs.Common.{◌-◌, ◌≤◌, length}
-use Rattle.std.specs.Prelude.{All}
-use Rattle.seg_machine.specs.Search.{AreFollowed, IsReached, IsTable, bare}
-use Rattle.seg_machine.proofs.Searches.{FirstDone}
+use Rattle.seg_machine.specs.Search.{AreDone, AreFollowed, AreReached, bare}
 use Rattle.seg_machine.proofs.provider.stalls.is_stall_free.Given as goal
 
--- each listed pair is reached, START is followed, and so are the first pairs
-abbrev pub invariant-loop-done : goal.invariant-loop-done
-invariant-loop-done l = record {
-  within : l.done ≤ length l.pairs.items;
-  table : IsTable l.found l.pairs.items;
-  reached : All (IsReached (bare l.states l.transitions)) l.pairs.items;
-  start : AreFollowed (bare l.states l.transitions) l.pairs.items 0 0;
-  done : FirstDone (bare l.states l.transitions) l.pairs.items l.done;
+-- each marked pair is reached, START is followed, and the first sets are done
+abbrev pub invariant-loop-kept : goal.invariant-loop-kept
+invariant-loop-kept l = record {
+  reached : AreReached (bare l.states l.transitions) l.marks;
+  start : AreFollowed (bare l.states l.transitions) l.marks 0 0;
+  done : AreDone (bare l.states l.transitions) l.marks l.kept;
 }
-
-abbrev pub decreases-loop-done : goal.decreases-loop-done
-decreases-loop-done l = 4080 - l.done

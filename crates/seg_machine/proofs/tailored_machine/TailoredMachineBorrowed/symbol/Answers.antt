@@ -1,4 +1,4 @@
-use Rattle.std.proofs.Common.{ℕ, ap}
+use Rattle.std.proofs.Common.{ℕ, ap, ◌∙◌}
 use Rattle.seg_data.specs.declared.provider.ComplexScript.{ComplexScript}
 use Rattle.seg_machine.specs.Tailored.{machine_of}
 use Rattle.seg_machine.proofs.Machines.{symbol-below, symbol-entry, entry-within}
@@ -13,7 +13,8 @@ bounds-self-value c =
 pub returns-then-value-shift-clause-value : goal.returns-then-value-shift-clause-value
 returns-then-value-shift-clause-value c =
     ap (λ (found : ℕ × ComplexScript). found.0)
-    (symbol-below (machine_of c.args.self.now) _ _ (rw c.symbols.ensures at c.get32-value.ensures) (rw c.pseudo_symbol_shift-shift.ensures at c.if-value-shift.true))
+    (c.replacement_by.ensures
+    ∙ symbol-below (machine_of c.args.self.now) _ _ (rw c.symbols.ensures at c.get32-value.ensures) (rw c.pseudo_symbol_shift-shift.ensures at c.if-value-shift.true))
 
 pub returns-then-value-shift-clause-text : goal.returns-then-value-shift-clause-text
 returns-then-value-shift-clause-text c = rw (returns-then-value-shift-clause-value c) (c.args.self.now.text_symbols c.args.code_point)

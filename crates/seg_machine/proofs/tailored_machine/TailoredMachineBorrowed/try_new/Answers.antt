@@ -4,5 +4,7 @@ use Rattle.seg_machine.proofs.tailored_machine.TailoredMachineBorrowed.try_new.G
 
 pub invariant_of-result : goal.invariant_of-result
 invariant_of-result c = record {
-  text_symbols = λ code_point. text_symbols-from _ code_point (iff_false c.has_stray_symbol.ensures c.if-has_stray_symbol.false);
+  text_symbols =
+      rw (c.pseudo_symbol_map.ensures, c.replacing.ensures)
+      (λ code_point. text_symbols-from _ code_point (iff_false c.has_stray_symbol.ensures c.if-has_stray_symbol.false));
 }

@@ -4,5 +4,5 @@ use Rattle.seg_machine.proofs.provider.machine.SegmenterStateMachine.has_stray_s
 
 pub returns : goal.returns
 returns c =
-    stray-parts c.args.self.now _ _ _ _ _ c.symbols.ensures (rw (c.states.ensures, c.transitions.ensures) refl) c.pseudo_symbol_shift-shift.ensures
-    c.has_stray_symbol.ensures
+    stray-parts c.args.self.now c.args.tailoring.now _ _ _ _ _ _ c.symbols.ensures (rw (c.states.ensures, c.transitions.ensures) refl) c.pseudo_symbol_shift.ensures
+    c.pseudo_symbol_map.ensures c.symbol_map.ensures c.has_stray_symbol.ensures

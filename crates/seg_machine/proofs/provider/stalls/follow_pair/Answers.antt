@@ -1,9 +1,9 @@
-use Rattle.std.proofs.Common.{◌<◌, length, sym, ap, arith}
+use Rattle.std.proofs.Common.{◌<◌, length, sym, arith}
 use Rattle.seg_machine.specs.Machine.{IsTextSymbol, symbol_count, state_at}
 use Rattle.seg_machine.specs.Search.{bare}
 use Rattle.seg_machine.proofs.Searches.{stalls-step, listing-push, listing-stop}
-use Rattle.seg_machine.proofs.provider.stalls.list_next_pairs.Goals as goal
-use Rattle.seg_machine.proofs.provider.stalls.list_next_pairs.Goals.{in-Some-enter_state, in_default-enter_state}
+use Rattle.seg_machine.proofs.provider.stalls.follow_pair.Goals as goal
+use Rattle.seg_machine.proofs.provider.stalls.follow_pair.Goals.{in-Some-enter_state, in_default-enter_state}
 
 pub next_of-requires-clause-symbol : goal.next_of-requires-clause-symbol
 unfolding symbol_count
@@ -27,12 +27,13 @@ loop-symbol-preserved c =
     let within : c.in-Some.next < length c.args.states.now = c.in-Some.ensures.state in
     elim c.match-enter_state.branch [
       | in-Some-enter_state w ↦
-          rw (w.found-is, ap (λ v. v.items) w.pairs-is)
-          (listing-push m _ _ _ _ _ _ _ _ c.in-Some.next w.in-Some-enter_state.after c.loop-symbol.invariant c.requires.pair text leads within
-          (sym w.in-Some-enter_state.ensures.after) w.in-Some-enter_state.ensures.in_range w.list_pair.ensures.table w.list_pair.ensures.listed w.list_pair.ensures.more)
+          rw (w.marks-is, w.queue-is)
+          (listing-push m _ _ _ _ _ _ _ _ _ c.in-Some.next w.in-Some-enter_state.after c.loop-symbol.invariant c.requires.pair text leads within
+          (sym w.in-Some-enter_state.ensures.after) w.in-Some-enter_state.ensures.in_range w.in-Some-enter_state.ensures.grows
+          w.list_pair.ensures.queue w.list_pair.ensures.more w.list_pair.ensures.marked w.list_pair.ensures.keeps w.list_pair.ensures.only)
       | in_default-enter_state w ↦
-          rw (w.found-is, ap (λ v. v.items) w.pairs-is)
-          (listing-stop m _ _ _ _ _ _ c.in-Some.next c.loop-symbol.invariant leads (sym w.in_default-enter_state.ensures.after))
+          rw (w.marks-is, w.queue-is)
+          (listing-stop m _ _ _ _ _ _ _ c.in-Some.next c.loop-symbol.invariant leads (sym w.in_default-enter_state.ensures.after))
     ]
 
 pub returns-clause-followed : goal.returns-clause-followed

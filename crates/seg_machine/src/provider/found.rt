@@ -1,0 +1,163 @@
+//! What a search has found: pairs of a state and a set of lookaheads.
+ghost use Rattle.std.specs.Prelude.{◌≡◌, ◌↔◌, ℕ, ◌<◌, ◌≤◌, ◌+◌, ◌*◌, ◌⊎◌, IsTrue, [], ◌∷◌, ◌++◌, Contains, length, slice_index_or};
+ghost use Rattle.seg_machine.specs.Search.{IsMarked, IsQueue, Pair};
+
+use crate::provider::State;
+use arrayvec::ArrayVec;
+use std::marker::Model;
+
+// How many states there may be, and how many sets of lookaheads.
+const STATES: usize = 255;
+
+pub(super) const SETS: usize = 256;
+
+// How many bits a word has, how many words a set's states take, and how many all sets'.
+const WORD: usize = 64;
+
+const ROW: usize = 4;
+
+pub(super) const WORDS: usize = 1024;
+
+/// A bit for each pair: 256 for each set, with one for each state.
+pub(super) type Marks = [u64; WORDS];
+
+// The number of a pair's bit.
+fn bit_number(state: State, kept: u8) -> usize
+    ensures { result ≡ kept * 256 + state }
+{
+    kept as usize * SETS + state as usize
+}
+
+// Marks a pair.
+fn mark(marks: &mut Marks, state: State, kept: u8)
+    requires state { state < 255 }
+    requires kept { kept < 256 }
+    ensures marked { IsMarked marks.new (state, kept) }
+    ensures keeps { (pair : Pair) → IsMarked marks.old pair → IsMarked marks.new pair }
+    ensures only { (pair : Pair) → IsMarked marks.new pair → (pair ≡ (state, kept)) ⊎ IsMarked marks.old pair }
+{
+    let bit = bit_number(state, kept);
+    marks[bit / WORD] |= 1 << (bit % WORD);
+}
+
+// Whether a pair is marked.
+fn is_marked(marks: &Marks, state: State, kept: u8) -> bool
+    requires state { state < 255 }
+    requires kept { kept < 256 }
+    ensures { IsTrue result ↔ IsMarked marks.now (state, kept) }
+{
+    let bit = bit_number(state, kept);
+    (marks[bit / WORD] >> (bit % WORD)) & 1 == 1
+}
+
+// Whether no pair with this set is marked.
+fn has_no_mark(marks: &Marks, kept: u8) -> bool
+    requires kept { kept < 256 }
+    ensures { IsTrue result → (state : ℕ) → IsMarked marks.now (state, kept) → ⊥ }
+{
+    for word in 0..ROW {
+        if marks[kept as usize * ROW + word] != 0 {
+            return false;
+        }
+    }
+    true
+}
+
+/// States, each once, in the order in which they came.
+#[derive(Drop)]
+pub(super) struct StateQueue {
+    known: [bool; STATES],
+    states: ArrayVec<State, STATES>,
+}
+
+impl Model for StateQueue {
+    ghost use Rattle.std.specs.Prelude.{ℕ, List};
+    ghost use Rattle.seg_machine.specs.Search.{IsTable};
+
+    ghost Value = { List ℕ };
+
+    ghost view = { λ q. q.states.items };
+
+    ghost invariant = { λ q. IsTable q.known q.states.items };
+}
+
+impl StateQueue {
+    /// No states.
+    pub(super) fn new() -> Self
+        ensures { result ≡ [] }
+    {
+        let known = [false; STATES];
+        StateQueue {
+            known,
+            states: ArrayVec::new(),
+        }
+    }
+
+    /// How many states there are.
+    pub(super) fn len(&self) -> usize
+        ensures value { result ≡ length self.now }
+        ensures few { result ≤ 255 }
+    {
+        self.states.len()
+    }
+
+    /// The state at a place.
+    pub(super) fn state(&self, place: usize) -> State
+        requires { place < length self.now }
+        ensures { result ≡ slice_index_or self.now place 0 }
+    {
+        self.states[place]
+    }
+
+    /// Puts a state in the queue, unless it is there.
+    fn push(&mut self, state: State)
+        requires { state < 255 }
+        ensures listed { Contains self.new state }
+        ensures more { (self.new ≡ self.old) ⊎ (self.new ≡ self.old ++ state ∷ []) }
+    {
+        if !self.known[state as usize] {
+            self.known[state as usize] = true;
+            self.states.push(state);
+        }
+    }
+}
+
+// The states that are marked with this set.
+pub(super) fn queue_of(marks: &Marks, kept: u8) -> StateQueue
+    requires kept { kept < 256 }
+    ensures { IsQueue marks.now result kept }
+{
+    let mut queue = StateQueue::new();
+    if has_no_mark(marks, kept) {
+        return queue;
+    }
+    for state in 0..STATES {
+        if is_marked(marks, state as State, kept) {
+            queue.push(state as State);
+        }
+    }
+    queue
+}
+
+// Marks a pair, and puts its state in the queue where its set is the queue's.
+pub(super) fn list_pair(
+    marks: &mut Marks,
+    queue: &mut StateQueue,
+    kept: u8,
+    state: State,
+    after: u8,
+)
+    requires state { state < 255 }
+    requires after { after < 256 }
+    requires queue { IsQueue marks.old queue.old kept }
+    ensures queue { IsQueue marks.new queue.new kept }
+    ensures more { (queue.new ≡ queue.old) ⊎ (queue.new ≡ queue.old ++ state ∷ []) }
+    ensures marked { IsMarked marks.new (state, after) }
+    ensures keeps { (pair : Pair) → IsMarked marks.old pair → IsMarked marks.new pair }
+    ensures only { (pair : Pair) → IsMarked marks.new pair → (pair ≡ (state, after)) ⊎ IsMarked marks.old pair }
+{
+    mark(marks, state, after);
+    if after == kept {
+        queue.push(state);
+    }
+}
