@@ -3,7 +3,7 @@ use Rattle.std.proofs.Common.{◌≡◌, ◌≢◌, ℕ, zero, suc, ◌+◌, ◌
 use Rattle.std.specs.List.{list_all}
 use Rattle.std.specs.Option.{option_map_or}
 use Rattle.std.proofs.lemmas.List.Sums.{AllPass-from_list_all}
-use Rattle.std.proofs.lemmas.Bool.{cases_eq}
+use Rattle.std.proofs.lemmas.Bool.{cases_eq, false≢true}
 use Rattle.std.proofs.lemmas.Bool.Decides.{nat_tests}
 use Rattle.std.proofs.lemmas.Option.{none-some, same_Some}
 use Rattle.seg_data.specs.declared.provider.DataError.{DataError}
@@ -16,6 +16,7 @@ use Rattle.seg_machine.specs.Machine.{Machine, IsSymbolOf, symbol_count, step, s
 use Rattle.seg_machine.specs.Pick.{HasStall, pick}
 use Rattle.seg_machine.specs.Search.{AreFollowed, IsFollowed, enter, is_pick}
 use Rattle.seg_machine.specs.MachineFaults.{HasMachineFault, IsStray, NamesPast}
+use Rattle.seg_machine.proofs.Marks.{unmarked}
 use Rattle.seg_machine.proofs.Searches.{stall_free}
 use Rattle.seg_machine.proofs.Walks.{walk-next, walk-end}
 
@@ -65,7 +66,8 @@ is_simple m =
     && list_all (is_target m) m.transitions
     && list_all (is_value m) (named_values m.symbols)
     && list_all (λ entry. is_symbol m entry.0) m.pseudo_symbol_map
-    && nat_le m.num_lookaheads 4
+    && list_all (λ entry. false) m.symbol_map
+    && nat_le m.num_lookaheads 8
     && list_all names_none m.states
     && all_below (ends_soon m) (length m.states)
     && all_below (is_accepted m) (symbol_count m)
@@ -153,12 +155,12 @@ followed : (m : Machine) (symbol : ℕ) → 0 < symbol → is_accepted m symbol 
 followed m symbol some passed =
     let other : (symbol == 0) ≡ false = grind (arith, nat_tests) in
     let found = is-some _ (step m 0 symbol) (rw other at passed) in
-    record { next = found.0; leads = found.1; listed = rw (entered (state_at m found.0) found.2) tt }
+    record { next = found.0; leads = found.1; marked = rw (entered (state_at m found.0) found.2) tt }
 
 never-stalls : (m : Machine) → all_below (is_accepted m) (symbol_count m) ≡ true → HasStall m → ⊥
 never-stalls m passed (symbols, some, text, none) =
     let start : AreFollowed m [] 0 0 = λ symbol below above. followed m symbol above (all_below-at _ (symbol_count m) symbol passed below) in
-    has-value (pick m symbols) none (stall_free m [] (λ pair listed. absurd (omega arith)) start symbols some text)
+    has-value (pick m symbols) none (stall_free m [] (λ pair marked less. absurd (unmarked 0 pair marked)) start symbols some text)
   where
     has-value : {X : Type 0} (picked : Option X) → picked ≡ None → IsSome picked → ⊥
     has-value picked none some = cc
@@ -168,7 +170,8 @@ pub record IsSimple (m : Machine) : Type 0 where
   targets : list_all (is_target m) m.transitions ≡ true
   values : list_all (is_value m) (named_values m.symbols) ≡ true
   entries : list_all (λ entry. is_symbol m entry.0) m.pseudo_symbol_map ≡ true
-  lookaheads : nat_le m.num_lookaheads 4 ≡ true
+  replacements : list_all (λ entry. false) m.symbol_map ≡ true
+  lookaheads : nat_le m.num_lookaheads 8 ≡ true
   names : list_all names_none m.states ≡ true
   ends : all_below (ends_soon m) (length m.states) ≡ true
   accepted : all_below (is_accepted m) (symbol_count m) ≡ true
@@ -179,13 +182,15 @@ parts m passed = let
     ends = both _ _ accepted.0 in let
     names = both _ _ ends.0 in let
     lookaheads = both _ _ names.0 in let
-    entries = both _ _ lookaheads.0 in let
+    replacements = both _ _ lookaheads.0 in let
+    entries = both _ _ replacements.0 in let
     values = both _ _ entries.0 in let
     targets = both _ _ values.0 in record {
       size = targets.0;
       targets = targets.1;
       values = values.1;
       entries = entries.1;
+      replacements = replacements.1;
       lookaheads = lookaheads.1;
       names = names.1;
       ends = ends.1;
@@ -210,8 +215,9 @@ simple-faultless m passed fault has = none fault (parts m passed) has
     none StateCount simple (inr has) = no-more m simple.size has
     none TransitionSize simple has = no-size m simple.size has
     none TransitionOutOfRange simple has = any-refuted _ _ m.transitions simple.targets (no-target m) has
-    none SymbolOutOfRange simple (inl has) = any-refuted _ _ (named_values m.symbols) simple.values (no-value m) has
-    none SymbolOutOfRange simple (inr has) = any-refuted _ _ m.pseudo_symbol_map simple.entries (λ entry. no-symbol m entry.0) has
+    none SymbolOutOfRange simple (inl (inl has)) = any-refuted _ _ (named_values m.symbols) simple.values (no-value m) has
+    none SymbolOutOfRange simple (inl (inr has)) = any-refuted _ _ m.pseudo_symbol_map simple.entries (λ entry. no-symbol m entry.0) has
+    none SymbolOutOfRange simple (inr has) = any-refuted _ _ m.symbol_map simple.replacements (λ entry stray passed. false≢true passed) has
     none TooManyLookaheads simple has = let few = simple.lookaheads in grind (arith, nat_tests)
     none LookaheadOutOfRange simple has = any-refuted _ _ m.states simple.names (no-name m.num_lookaheads) has
     none EndCycle simple has = no-cycle m has.0 has.1 (all_below-at _ (length m.states) has.0 simple.ends has.2) has.3

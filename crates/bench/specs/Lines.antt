@@ -4,9 +4,9 @@ use Rattle.seg_data.specs.declared.provider.ComplexScript.{ComplexScript}
 use Rattle.seg_data.specs.declared.provider.ComplexScript.TheVariants.{None as NoScript, Myanmar, Thai}
 use Rattle.seg_machine.specs.declared.provider.Acceptance.{Acceptance}
 use Rattle.seg_machine.specs.declared.provider.Acceptance.TheVariants.{Continue, Accept}
-use Rattle.icu_segmenter.specs.LineTailorings.{TailoringMaps}
+use Rattle.icu_segmenter.specs.LineTailorings.{MachineTailorings}
 use Rattle.icu_segmenter.specs.Table.{Table}
-use Rattle.icu_segmenter.specs.Machine.{Machine, machine}
+use Rattle.icu_segmenter.specs.Machine.{Machine, MachineTailoring, machine, tailoring}
 
 -- 2 the space, 3 the line feed, 4 ideographs, 1 any other character; the pseudo symbols 5 Thai, 6 Myanmar, 7 Latin letters
 abbrev pub line_symbols : Table
@@ -43,11 +43,11 @@ abbrev pub line_machine : Machine
 line_machine = machine line_symbols line_states line_transitions 0 5 line_map
 
 -- the tailoring by which they are as ideographs, so that a line may be broken beside each
-abbrev pub breakall : List (ℕ × ComplexScript)
-breakall = (4, NoScript) ∷ (4, NoScript) ∷ (4, NoScript) ∷ []
+abbrev pub breakall : MachineTailoring
+breakall = tailoring ((4, NoScript) ∷ (4, NoScript) ∷ (4, NoScript) ∷ []) []
 
 -- no other tailoring is there
-abbrev pub line_tailorings : TailoringMaps
+abbrev pub line_tailorings : MachineTailorings
 line_tailorings = record {
   breakall = Some breakall;
   keepall = None;

@@ -74,7 +74,7 @@ pub fn breakall(alloc: Global) -> Result<SegmenterStateMachineOverride, AllocErr
     ensures { IfOk result (λ tailoring. tailoring ≡ breakall) }
 {
     let map = Vec::from_slice(alloc, &BREAKALL_MAP)?;
-    let Ok(tailoring) = SegmenterStateMachineOverride::try_from_parts(map) else {
+    let Ok(tailoring) = SegmenterStateMachineOverride::try_from_parts(map, Vec::new(alloc)) else {
         unreachable!()
     };
     Ok(tailoring)

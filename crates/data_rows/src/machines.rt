@@ -139,7 +139,8 @@ pub fn map_of(alloc: Global, words: &str) -> Result<Vec<(Symbol, ComplexScript)>
     Ok(map)
 }
 
-fn script_of(number: &str) -> Result<ComplexScript> {
+/// The script of this number.
+pub fn script_of(number: &str) -> Result<ComplexScript> {
     Ok(match number {
         "0" => ComplexScript::None,
         "1" => ComplexScript::Myanmar,

@@ -12,6 +12,7 @@ pub use Rattle.seg_data.specs.Faults
 pub use Rattle.seg_data.specs.Language
 pub use Rattle.seg_machine.specs.Unaligned
 pub use Rattle.seg_machine.specs.Machine
+pub use Rattle.seg_machine.specs.Replacements
 pub use Rattle.seg_machine.specs.MachineFaults
 pub use Rattle.seg_machine.specs.Pick
 pub use Rattle.seg_machine.specs.Segments

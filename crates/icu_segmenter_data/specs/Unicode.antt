@@ -1,6 +1,6 @@
 -- Unicode's data: machines, pair tables and tailorings of just the arrays that stand in the code.
 use Rattle.std.specs.Prelude.{[]}
-use Rattle.icu_segmenter.specs.LineTailorings.{TailoringMaps}
+use Rattle.icu_segmenter.specs.LineTailorings.{MachineTailorings}
 use Rattle.icu_segmenter.specs.Machine.{Machine, machine}
 use Rattle.icu_segmenter.specs.PairTable.{PairTable, pair_table}
 use Rattle.icu_segmenter.specs.Table.{table}
@@ -37,7 +37,7 @@ sentence_table =
 abbrev pub line_machine : Machine
 line_machine = machine (table lines.RANGES lines.OTHER) lines.STATES lines.TRANSITIONS 0 lines.SHIFT lines.MAP
 
-abbrev pub line_tailorings : TailoringMaps
+abbrev pub line_tailorings : MachineTailorings
 line_tailorings = tailoring_maps lines.BREAKALL lines.KEEPALL lines.JA_LOOSE lines.LOOSE lines.JA_NORMAL lines.NORMAL lines.JA
 
 abbrev pub line_table : PairTable

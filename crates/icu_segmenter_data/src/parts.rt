@@ -1,6 +1,6 @@
 //! Checked values of parts that stand in the code.
-ghost use Rattle.std.specs.Prelude.{◌≡◌, IfOk};
-ghost use Rattle.icu_segmenter.specs.Machine.{machine};
+ghost use Rattle.std.specs.Prelude.{◌≡◌, IfOk, []};
+ghost use Rattle.icu_segmenter.specs.Machine.{machine, tailoring};
 ghost use Rattle.icu_segmenter.specs.PairTable.{pair_table};
 ghost use Rattle.icu_segmenter.specs.Table.{table};
 
@@ -46,14 +46,15 @@ pub(crate) fn machine_of(
     SegmenterStateMachine::try_from_parts(symbols, states, transitions, 0, shift, map)
 }
 
-/// The tailoring by this map. The errors are want of memory, and that the map names symbol 0.
+/// The tailoring by this map, which replaces no symbols. The errors are want of memory, and that the map names symbol 0.
 pub(crate) fn tailoring_of(
     alloc: Global,
     map: &[(Symbol, ComplexScript)],
 ) -> Result<SegmenterStateMachineOverride, DataError>
-    ensures { IfOk result (λ tailoring. tailoring ≡ map.now) }
+    ensures { IfOk result (λ made. made ≡ tailoring map.now []) }
 {
-    SegmenterStateMachineOverride::try_from_parts(Vec::from_slice(alloc, map)?)
+    let pseudo_symbol_map = Vec::from_slice(alloc, map)?;
+    SegmenterStateMachineOverride::try_from_parts(pseudo_symbol_map, Vec::new(alloc))
 }
 
 /// The numbers of a pair table.

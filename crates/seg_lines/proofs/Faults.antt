@@ -1,24 +1,23 @@
 -- The faults of a line machine with its tailoring.
-use Rattle.std.proofs.Common.{◌≡◌, ℕ, List, Option, inl, inr}
-use Rattle.seg_data.specs.declared.provider.ComplexScript.{ComplexScript}
+use Rattle.std.proofs.Common.{◌≡◌, Option, inl, inr}
 use Rattle.seg_data.specs.declared.provider.DataError.{DataError}
-use Rattle.seg_machine.specs.Machine.{Machine, with_tailoring}
+use Rattle.seg_machine.specs.Machine.{Machine, MachineTailoring, with_tailoring}
 use Rattle.seg_data.specs.Faults.{IsFaultless, IsLowestFault}
 use Rattle.seg_machine.specs.MachineFaults.{HasComplexBelow0100, HasTailoringFault}
 use Rattle.seg_lines.specs.Lines.{HasFaultWith}
 use Rattle.std.specs.Prelude.{Some}
 
-pub with-faultless : (m : Machine) (tailoring : Option (List (ℕ × ComplexScript))) → (HasComplexBelow0100 (with_tailoring m tailoring) → ⊥)
+pub with-faultless : (m : Machine) (tailoring : Option MachineTailoring) → (HasComplexBelow0100 (with_tailoring m tailoring) → ⊥)
     → IsFaultless (HasTailoringFault m tailoring) → IsFaultless (HasFaultWith m (Some tailoring))
 with-faultless m tailoring none faultless fault (inl has) = faultless fault has
 with-faultless m tailoring none faultless fault (inr has) = none has.1
 
 -- where the tailoring is looked at as it is lent
-pub lent-alike : (m : Machine) (lent tailoring : Option (List (ℕ × ComplexScript))) → lent ≡ tailoring
+pub lent-alike : (m : Machine) (lent tailoring : Option MachineTailoring) → lent ≡ tailoring
     → HasComplexBelow0100 (with_tailoring m tailoring) → HasComplexBelow0100 (with_tailoring m lent)
 lent-alike m lent tailoring same has = rw same has
 
-pub with-lowest : (m : Machine) (tailoring : Option (List (ℕ × ComplexScript))) (fault : DataError) → (HasComplexBelow0100 (with_tailoring m tailoring) → ⊥)
+pub with-lowest : (m : Machine) (tailoring : Option MachineTailoring) (fault : DataError) → (HasComplexBelow0100 (with_tailoring m tailoring) → ⊥)
     → IsLowestFault (HasTailoringFault m tailoring) fault → IsLowestFault (HasFaultWith m (Some tailoring)) fault
 with-lowest m tailoring fault none lowest = record {
   is_there = inl lowest.is_there;

@@ -1,13 +1,12 @@
--- The tailorings of machines of lines as their maps, and what is lent of them.
-use Rattle.std.specs.Prelude.{ℕ, List}
+-- The tailorings of machines of lines, and what is lent of them.
 use Rattle.std.specs.Borrow.{Bor}
 use Rattle.std.specs.Option.{option_map}
-use Rattle.seg_data.specs.declared.provider.ComplexScript.{ComplexScript}
+use Rattle.seg_machine.specs.Machine.{MachineTailoring}
 use Rattle.seg_lines.specs.declared.provider.TailoringsOf.{TailoringsOf}
 
--- the map of each tailoring that is there
-abbrev pub TailoringMaps : Type 0
-TailoringMaps = TailoringsOf (List (ℕ × ComplexScript))
+-- those that are there
+abbrev pub MachineTailorings : Type 0
+MachineTailorings = TailoringsOf MachineTailoring
 
 -- the tailorings that are lent
 abbrev pub lent_tailorings : {T : Type 0} → TailoringsOf (Bor T) → TailoringsOf T

@@ -1,9 +1,8 @@
 -- Lines: what finds their breaks, the faults of its data, and what is seen of segmenters and iterators.
 use Rattle.std.specs.Prelude.{◌≡◌, ◌⊎◌, ℕ, ◌==◌, Bool, Option, Some, None, List}
-use Rattle.seg_data.specs.declared.provider.ComplexScript.{ComplexScript}
 use Rattle.seg_data.specs.declared.provider.DataError.{DataError}
 use Rattle.seg_data.specs.declared.provider.DataError.TheVariants.{ComplexBelow0100, MissingTailoring}
-use Rattle.seg_machine.specs.Machine.{Machine, with_tailoring}
+use Rattle.seg_machine.specs.Machine.{Machine, MachineTailoring, with_tailoring}
 use Rattle.seg_machine.specs.MachineFaults.{HasComplexBelow0100, HasTailoringFault}
 use Rattle.seg_text.specs.declared.boundary.Boundary.{Boundary}
 use Rattle.seg_text.specs.Boundaries.{offsets}
@@ -22,30 +21,30 @@ use Rattle.seg_lines.specs.LineBreaks.{LineFinder, LineRules}
 use Rattle.seg_lines.specs.LineBreaks.LineFinder.{ByClusters, ByPlaces, ByTable, ByTurns, ByMachine}
 use Rattle.seg_lines.specs.declared.line.options.MachineChoice.{MachineChoice}
 use Rattle.seg_lines.specs.declared.line.options.MachineChoice.TheVariants.{Clusters, Lines}
-use Rattle.seg_lines.specs.LineTailorings.{TailoringMaps}
+use Rattle.seg_lines.specs.LineTailorings.{MachineTailorings}
 use Rattle.seg_lines.specs.declared.line.LineSegmenter.{LineSegmenter}
 use Rattle.seg_lines.specs.declared.line.LineSegmenterBorrowed.{LineSegmenterBorrowed}
 use Rattle.seg_lines.specs.declared.line.LineBreakIterator.{LineBreakIterator}
 use Rattle.seg_lines.specs.Tailorings.{tailoring_for}
 
 -- the line machine with the tailoring that is named
-abbrev pub line_machine_for : Machine → Option (Option (List (ℕ × ComplexScript))) → Machine
+abbrev pub line_machine_for : Machine → Option (Option MachineTailoring) → Machine
 line_machine_for lines (Some tailoring) = with_tailoring lines tailoring
 line_machine_for lines None = lines
 
 -- the faults of the line machine with it: where the tailoring is missing, no other is looked for
-abbrev pub HasFaultWith : Machine → Option (Option (List (ℕ × ComplexScript))) → DataError → Type 0
+abbrev pub HasFaultWith : Machine → Option (Option MachineTailoring) → DataError → Type 0
 HasFaultWith lines None fault = fault ≡ MissingTailoring
 HasFaultWith lines (Some tailoring) fault =
     HasTailoringFault lines tailoring fault ⊎ ((fault ≡ ComplexBelow0100) × HasComplexBelow0100 (with_tailoring lines tailoring))
 
 -- what finds the breaks: clusters, or the line machine with its tailoring
-abbrev pub chosen_finder : Machine → TailoringMaps → MachineChoice → LineFinder
+abbrev pub chosen_finder : Machine → MachineTailorings → MachineChoice → LineFinder
 chosen_finder lines tailorings Clusters = ByClusters
 chosen_finder lines tailorings (Lines name) = ByMachine (line_machine_for lines (tailoring_for tailorings name))
 
 -- the rules of lines by machines, as yet without words of any script
-abbrev pub chosen_rules : Machine → TailoringMaps → Machine → MachineChoice → LineRules
+abbrev pub chosen_rules : Machine → MachineTailorings → Machine → MachineChoice → LineRules
 chosen_rules lines tailorings clusters choice = record {
   finder = chosen_finder lines tailorings choice;
   payloads = record { words = no_words; clusters = ByClusterMachine clusters };
@@ -56,7 +55,7 @@ abbrev pub without_ja : ScriptWords → ScriptWords
 without_ja words = record { my = words.my; km = words.km; lo = words.lo; th = words.th; ja = None }
 
 -- the faults of a line segmenter's data: none where clusters find the breaks
-abbrev pub HasLineFault : Machine → TailoringMaps → MachineChoice → DataError → Type 0
+abbrev pub HasLineFault : Machine → MachineTailorings → MachineChoice → DataError → Type 0
 HasLineFault lines tailorings Clusters fault = ⊥
 HasLineFault lines tailorings (Lines name) fault = HasFaultWith lines (tailoring_for tailorings name) fault
 

@@ -1,12 +1,13 @@
 -- The bits of the pairs that a search has found.
-use Rattle.std.proofs.Common.{◌≡◌, ◌≢◌, ℕ, zero, ◌+◌, ◌*◌, ◌/◌, ◌%◌, ◌^◌, ◌<◌, ◌⊎◌, ◌++◌, List, [], ◌∷◌, length, replicate, get_or, set, bit_or, w64, refl, sym, ap, subst, ◌∙◌, inl, inr, arith, get_or-set_same, get_or-set_other}
-use Rattle.std.specs.Int.{bit_at}
+use Rattle.std.proofs.Common.{◌≡◌, ◌≢◌, ℕ, zero, ◌+◌, ◌*◌, ◌/◌, ◌%◌, ◌^◌, ◌<◌, ◌==◌, ◌⊎◌, true, ◌++◌, List, [], ◌∷◌, length, replicate, get_or, set, bit_and, bit_or, w8, w64, refl, sym, ap, subst, ◌∙◌, inl, inr, arith, get_or-set_same, get_or-set_other, eq-eqb}
+use Rattle.std.specs.Int.{bit_at, bit_not}
 use Rattle.std.specs.Prelude.{Contains}
-use Rattle.std.proofs.lemmas.Bool.{cases_eq, cases_lt}
+use Rattle.std.proofs.lemmas.Bool.{cases_eq, cases_lt, ne_eqb, false≢true}
+use Rattle.std.proofs.lemmas.Nat.{and_le_l}
 use Rattle.std.proofs.lemmas.List.{length-replicate, get_or-replicate, get_or_past}
 use Rattle.std.proofs.lemmas.List.Elements.{Contains-append_left, Contains-push_cases}
-use Rattle.std.proofs.lemmas.Nat.Bits.{bit_at-zero, bit_at_set_same, bit_at_set_other}
-use Rattle.seg_machine.specs.Search.{IsMarked, IsQueue, Pair, bit_number}
+use Rattle.std.proofs.lemmas.Nat.Bits.{bit_at-zero, bit_at-lt, bit_at_and, bit_at_set_same, bit_at_set_other, bit_at_clear_same}
+use Rattle.seg_machine.specs.Search.{has, IsBelow, IsMarked, IsQueue, Pair, bit_number}
 
 bit : List ℕ → ℕ → ℕ
 bit words number = bit_at (get_or words (number / 64) 0) (number % 64)
@@ -94,6 +95,40 @@ grown-only queue longer state other (inr one) listed = Contains-push_cases queue
 
 -- a set's queue, with one pair more marked
 
+below-more : (marks after : List ℕ) (state kept : ℕ) → ((pair : Pair) → IsMarked marks pair → IsMarked after pair) → IsBelow marks state kept → IsBelow after state kept
+below-more marks after state kept keeps below = record {
+  set = below.set;
+  subset = below.subset;
+  less = below.less;
+  marked = keeps (state, below.set) below.marked;
+}
+
+-- a set without one of its lookaheads
+pub below-from : (marks : List ℕ) (state kept lookahead : ℕ) → lookahead < 8 → has kept lookahead ≡ true
+    → IsMarked marks (state, bit_and kept (bit_not w8 (1 * 2 ^ lookahead % 2 ^ 8))) → IsBelow marks state kept
+below-from marks state kept lookahead few there marked =
+    let mask = bit_not w8 (1 * 2 ^ lookahead % 2 ^ 8) in
+    record {
+      set = bit_and kept mask;
+      subset = λ other has_it.
+          let both = bit_at_and kept mask other in
+          let small = bit_at-lt kept other in
+          let one = is-one (bit_at (bit_and kept mask) other) has_it in
+          eq-eqb (bit_at kept other) 1 (omega arith);
+      less =
+          let cleared = bit_at_clear_same w8 kept lookahead few in
+          let one = is-one (bit_at kept lookahead) there in
+          let most = and_le_l kept mask in
+          elim (cases_lt (bit_and kept mask) kept) [
+            | inl less ↦ less
+            | inr past ↦ let same : bit_and kept mask ≡ kept = omega arith in let bits = ap (λ (set : ℕ). bit_at set lookahead) same in omega arith
+          ];
+      marked = marked;
+    }
+  where
+    is-one : (n : ℕ) → (n == 1) ≡ true → n ≡ 1
+    is-one n is = elim (cases_eq n 1) [ inl same ↦ same | inr apart ↦ absurd (false≢true (sym (ne_eqb n 1 apart) ∙ is)) ]
+
 pub queue-here : (marks after queue longer : List ℕ) (state kept : ℕ) → IsQueue marks queue kept → IsMarked after (state, kept)
     → ((pair : Pair) → IsMarked marks pair → IsMarked after pair)
     → ((pair : Pair) → IsMarked after pair → (pair ≡ (state, kept)) ⊎ IsMarked marks pair)
@@ -101,8 +136,8 @@ pub queue-here : (marks after queue longer : List ℕ) (state kept : ℕ) → Is
 queue-here marks after queue longer state kept old marked keeps only there grown = record {
   listed = λ other other_marked.
       elim (only (other, kept) other_marked) [
-        | inl same ↦ subst (Contains longer) (sym (ap (λ (pair : Pair). pair.0) same)) there
-        | inr earlier ↦ grown-keeps queue longer state other grown (old.listed other earlier)
+        | inl same ↦ inl (subst (Contains longer) (sym (ap (λ (pair : Pair). pair.0) same)) there)
+        | inr earlier ↦ still (old.listed other earlier)
       ];
   marked = λ other listed.
       elim (grown-only queue longer state other grown listed) [
@@ -110,6 +145,10 @@ queue-here marks after queue longer state kept old marked keeps only there grown
         | inr same ↦ subst (λ (s : ℕ). IsMarked after (s, kept)) same marked
       ];
 }
+  where
+    still : {other : ℕ} → Contains queue other ⊎ IsBelow marks other kept → Contains longer other ⊎ IsBelow after other kept
+    still {other} (inl listed) = inl (grown-keeps queue longer state other grown listed)
+    still {other} (inr below) = inr (below-more marks after other kept keeps below)
 
 pub queue-apart : (marks after queue : List ℕ) (state set kept : ℕ) → set ≢ kept → IsQueue marks queue kept
     → ((pair : Pair) → IsMarked marks pair → IsMarked after pair)
@@ -118,14 +157,18 @@ queue-apart marks after queue state set kept apart old keeps only = record {
   listed = λ other other_marked.
       elim (only (other, kept) other_marked) [
         | inl same ↦ absurd (apart (sym (ap (λ (pair : Pair). pair.1) same)))
-        | inr earlier ↦ old.listed other earlier
+        | inr earlier ↦ still (old.listed other earlier)
       ];
   marked = λ other listed. keeps (other, kept) (old.marked other listed);
 }
+  where
+    still : {other : ℕ} → Contains queue other ⊎ IsBelow marks other kept → Contains queue other ⊎ IsBelow after other kept
+    still {other} (inl listed) = inl listed
+    still {other} (inr below) = inr (below-more marks after other kept keeps below)
 
--- the first states that are marked with a set, and no others
+-- the first states that are to be followed with a set, and no others
 pub record AreFirst (marks queue : List ℕ) (kept bound : ℕ) : Type 0 where
-  pub listed : (state : ℕ) → state < bound → IsMarked marks (state, kept) → Contains queue state
+  pub listed : (state : ℕ) → state < bound → IsMarked marks (state, kept) → Contains queue state ⊎ IsBelow marks state kept
   pub marked : (state : ℕ) → Contains queue state → IsMarked marks (state, kept)
 
 pub first-push : (marks queue longer : List ℕ) (kept bound : ℕ) → AreFirst marks queue kept bound → IsMarked marks (bound, kept)
@@ -133,8 +176,8 @@ pub first-push : (marks queue longer : List ℕ) (kept bound : ℕ) → AreFirst
 first-push marks queue longer kept bound first marked there grown = record {
   listed = λ state less here.
       elim (cases_eq bound state) [
-        | inl last ↦ subst (Contains longer) last there
-        | inr other ↦ grown-keeps queue longer bound state grown (first.listed state (omega arith) here)
+        | inl last ↦ inl (subst (Contains longer) last there)
+        | inr other ↦ still (first.listed state (omega arith) here)
       ];
   marked = λ state listed.
       elim (grown-only queue longer bound state grown listed) [
@@ -142,12 +185,19 @@ first-push marks queue longer kept bound first marked there grown = record {
         | inr same ↦ subst (λ (s : ℕ). IsMarked marks (s, kept)) same marked
       ];
 }
+  where
+    still : {state : ℕ} → Contains queue state ⊎ IsBelow marks state kept → Contains longer state ⊎ IsBelow marks state kept
+    still {state} (inl listed) = inl (grown-keeps queue longer bound state grown listed)
+    still {state} (inr below) = inr below
 
-pub first-skip : (marks queue : List ℕ) (kept bound : ℕ) → AreFirst marks queue kept bound → (IsMarked marks (bound, kept) → ⊥) → AreFirst marks queue kept (bound + 1)
-first-skip marks queue kept bound first unmarked_here = record {
+pub first-skip : (marks queue : List ℕ) (kept bound : ℕ) → AreFirst marks queue kept bound → (IsMarked marks (bound, kept) → IsBelow marks bound kept)
+    → AreFirst marks queue kept (bound + 1)
+first-skip marks queue kept bound first below = record {
   listed = λ state less here.
       elim (cases_eq bound state) [
-        | inl last ↦ absurd (unmarked_here (subst (λ (s : ℕ). IsMarked marks (s, kept)) (sym last) here))
+        | inl last ↦
+            let at : IsMarked marks (bound, kept) = subst (λ (s : ℕ). IsMarked marks (s, kept)) (sym last) here in
+            inr (subst (λ (s : ℕ). IsBelow marks s kept) last (below at))
         | inr other ↦ first.listed state (omega arith) here
       ];
   marked = first.marked;

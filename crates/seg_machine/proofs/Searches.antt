@@ -7,8 +7,8 @@ use Rattle.std.proofs.lemmas.List.Elements.{All-head, All-tail, All-push, Contai
 use Rattle.seg_data.proofs.Options.{option-cases, none-of}
 use Rattle.seg_machine.specs.Machine.{Machine, IsTextSymbol, step, state_at}
 use Rattle.seg_machine.specs.Pick.{pick, HasStall, IsStallFree}
-use Rattle.seg_machine.specs.Search.{enter, is_settled, is_settled_at_end, IsMet, IsReached, IsMarked, IsQueue, IsGrowth, IsFollowed, AreFollowed, AreReached, IsDone, AreDone, Pair}
-use Rattle.seg_machine.proofs.Settled.{settled-none, settled-stop, settled-next, pick-settled}
+use Rattle.seg_machine.specs.Search.{enter, is_settled, is_settled_at_end, IsMet, IsReached, IsMarked, IsQueue, IsGrowth, IsFollowed, AreFollowed, AreReached, IsDone, AreDone, IsCovered, Pair}
+use Rattle.seg_machine.proofs.Settled.{settled-none, settled-stop, settled-next, settled-subset, pick-settled}
 
 settled-from : (m : Machine) (marks : List ℕ) (q kept symbol : ℕ) (more : List ℕ) → IsFollowed m marks q kept symbol
     → ((next after : ℕ) → IsMarked marks (next, after) → is_settled m next after more ≡ true) → is_settled m q kept (symbol ∷ more) ≡ true
@@ -25,11 +25,15 @@ settled-from m marks q kept symbol more followed settled =
 
 settled-marked : (m : Machine) (marks : List ℕ) (symbols : List ℕ) (q kept : ℕ) → AreDone m marks 256 → All (IsTextSymbol m) symbols → IsMarked marks (q, kept)
     → is_settled m q kept (symbols ++ replicate (length m.states) 0) ≡ true
-settled-marked m marks [] q kept done text marked = (done (q, kept) marked marked.kept).at_end
+settled-marked m marks [] q kept done text marked =
+    let covered = done (q, kept) marked marked.kept in
+    settled-subset m q covered.set kept (replicate (length m.states) 0) covered.subset covered.done.at_end
 settled-marked m marks (symbol ∷ symbols) q kept done text marked =
     let here = All-head (IsTextSymbol m) symbol symbols text in
-    settled-from m marks q kept symbol (symbols ++ replicate (length m.states) 0) ((done (q, kept) marked marked.kept).followed symbol here.1 here.0)
-    (λ next after found. settled-marked m marks symbols next after done (All-tail (IsTextSymbol m) symbol symbols text) found)
+    let covered = done (q, kept) marked marked.kept in
+    settled-subset m q covered.set kept (symbol ∷ (symbols ++ replicate (length m.states) 0)) covered.subset
+    (settled-from m marks q covered.set symbol (symbols ++ replicate (length m.states) 0) (covered.done.followed symbol here.1 here.0)
+    (λ next after found. settled-marked m marks symbols next after done (All-tail (IsTextSymbol m) symbol symbols text) found))
 
 -- where START is followed and all that is marked is done, every text has a pick
 pub stall_free : (m : Machine) (marks : List ℕ) → AreDone m marks 256 → AreFollowed m marks 0 0 → IsStallFree m
@@ -159,13 +163,24 @@ pub swept : (m : Machine) (before marks queue : List ℕ) (kept done : ℕ) → 
     → AreDone m before kept → AreDone m marks (kept + 1)
 swept m before marks queue kept done sweep all lower (state, set) marked less =
     elim (cases_lt set kept) [
-      | inl earlier ↦ done-more m before marks (state, set) sweep.growth.keeps (lower (state, set) (sweep.growth.above (state, set) marked earlier) earlier)
+      | inl earlier ↦ was set earlier marked
       | inr last ↦
           let here : kept ≡ set = omega arith in
           let at : IsMarked marks (state, kept) = subst (λ (s : ℕ). IsMarked marks (state, s)) (sym here) marked in
-          subst (λ (s : ℕ). IsDone m marks (state, s)) here (in-queue (sweep.listed.listed state at))
+          subst (λ (s : ℕ). IsCovered m marks (state, s)) here
+          (elim (sweep.listed.listed state at) [
+            | inl listed ↦ record { set = kept; subset = λ lookahead has. has; done = in-queue listed }
+            | inr below ↦
+                let covered = was below.set below.less below.marked in
+                record { set = covered.set; subset = λ lookahead has. below.subset lookahead (covered.subset lookahead has); done = covered.done }
+          ])
     ]
   where
+    was : (set : ℕ) → set < kept → IsMarked marks (state, set) → IsCovered m marks (state, set)
+    was set earlier marked =
+        let covered = lower (state, set) (sweep.growth.above (state, set) marked earlier) earlier in
+        record { set = covered.set; subset = covered.subset; done = done-more m before marks (state, covered.set) sweep.growth.keeps covered.done }
+
     in-queue : Contains queue state → IsDone m marks (state, kept)
     in-queue (k, within, is) =
         subst (λ (s : ℕ). IsDone m marks (s, kept)) (get_or_default queue k 0 state within ∙ is) (sweep.first k (omega arith))

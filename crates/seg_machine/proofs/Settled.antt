@@ -1,16 +1,16 @@
 -- What a search settles is that there is a pick.
-use Rattle.std.proofs.Common.{◌≡◌, ℕ, suc, ◌+◌, ◌-◌, ◌<◌, ◌≤◌, ◌++◌, ◌==◌, ◌||◌, Bool, true, false, cond, List, [], ◌∷◌, length, map, replicate, refl, sym, ap, ◌∙◌, inl, inr, arith}
+use Rattle.std.proofs.Common.{◌≡◌, ℕ, suc, ◌+◌, ◌-◌, ◌<◌, ◌≤◌, ◌++◌, ◌==◌, ◌||◌, Bool, true, false, cond, List, [], ◌∷◌, length, map, replicate, refl, sym, ap, ◌∙◌, inl, inr, arith, eq-eqb}
 use Rattle.std.specs.Prelude.{Option, Some, None}
 use Rattle.std.specs.Option.{is_some, option_map, option_map_or, option_or}
 use Rattle.seg_text.specs.declared.boundary.Boundary.{Boundary}
 use Rattle.seg_text.specs.Boundaries.{boundary}
-use Rattle.std.proofs.lemmas.Bool.{cases_Bool, cond-true, cond-false}
-use Rattle.seg_data.proofs.Options.{some-map, or-false}
+use Rattle.std.proofs.lemmas.Bool.{cases_Bool, cases_eq, ne_eqb, false≢true, cond-true, cond-false}
+use Rattle.seg_data.proofs.Options.{some-map, or-false, or-true}
 use Rattle.seg_machine.specs.declared.provider.Acceptance.{Acceptance}
 use Rattle.seg_machine.specs.declared.provider.Acceptance.TheVariants.{Continue, Accept, Conditional}
 use Rattle.seg_machine.specs.Machine.{Machine, step, run, scan, state_at}
 use Rattle.seg_machine.specs.Pick.{later, last_step, acceptance_status, naming, condition, first_condition, pick}
-use Rattle.seg_machine.specs.Search.{has, keep, is_pick, enter, settles, is_settled}
+use Rattle.seg_machine.specs.Search.{has, keep, is_pick, enter, settles, is_settled, IsSubset}
 use Rattle.seg_machine.proofs.Sets.{has-none, has-keep}
 
 some-either : (first second : Option Boundary) → is_some (option_or first second) ≡ (is_some first || is_some second)
@@ -178,3 +178,41 @@ pick-settled m symbols =
     some-map _ (option_or (first_condition [] states) (last_step acceptance_status states))
     ∙ some-either (first_condition [] states) (last_step acceptance_status states)
     ∙ sym (settles-picked 0 [] states (λ lookahead. has-none lookahead ∙ sym (last-none (naming lookahead))))
+
+-- what a smaller set settles, a larger one does
+
+pick-subset : (set kept : ℕ) (acceptance : Acceptance) → IsSubset set kept → is_pick set acceptance ≡ true → is_pick kept acceptance ≡ true
+pick-subset set kept Continue subset picked = picked
+pick-subset set kept (Accept status) subset picked = refl
+pick-subset set kept (Conditional lookahead status) subset picked = subset lookahead picked
+
+keep-subset : (set kept : ℕ) (named : Option ℕ) → IsSubset set kept → IsSubset (keep set named) (keep kept named)
+keep-subset set kept None subset = subset
+keep-subset set kept (Some name) subset =
+    λ lookahead there.
+    elim (cases_eq name lookahead) [
+      | inl same ↦ has-keep kept name lookahead ∙ ap (λ (b : Bool). has kept lookahead || b) (eq-eqb name lookahead same) ∙ or-true (has kept lookahead)
+      | inr apart ↦
+          has-keep kept name lookahead ∙ ap (λ (b : Bool). has kept lookahead || b) (ne_eqb name lookahead apart) ∙ or-false (has kept lookahead)
+          ∙ subset lookahead (sym (has-keep set name lookahead ∙ ap (λ (b : Bool). has set lookahead || b) (ne_eqb name lookahead apart) ∙ or-false (has set lookahead)) ∙ there)
+    ]
+
+settles-subset : (set kept : ℕ) (states : List (Acceptance × Option ℕ)) → IsSubset set kept → settles set states ≡ true → settles kept states ≡ true
+unfolding settles
+settles-subset set kept [] subset settled = settled
+settles-subset set kept (state ∷ states) subset settled =
+    elim (cases_Bool (is_pick kept state.0)) [
+      | inl picked ↦ settles-stop kept state states picked
+      | inr not ↦
+          let before : is_pick set state.0 ≡ false = not-picked (is_pick set state.0) (λ picked. false≢true (sym not ∙ pick-subset set kept state.0 subset picked)) in
+          settles-next kept state states not
+          ∙ settles-subset (keep set state.1) (keep kept state.1) states (keep-subset set kept state.1 subset) (sym (settles-next set state states before) ∙ settled)
+    ]
+  where
+    not-picked : (b : Bool) → (b ≡ true → ⊥) → b ≡ false
+    not-picked true none = absurd (none refl)
+    not-picked false none = refl
+
+pub settled-subset : (m : Machine) (q set kept : ℕ) (symbols : List ℕ) → IsSubset set kept → is_settled m q set symbols ≡ true → is_settled m q kept symbols ≡ true
+unfolding is_settled
+settled-subset m q set kept symbols subset settled = settles-subset set kept (map (state_at m) (run m q symbols)) subset settled

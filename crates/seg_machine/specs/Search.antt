@@ -1,6 +1,6 @@
 -- The search for a text without a pick. It follows pairs of a state and a set of lookaheads: those that the
 -- states up to here have naming. Bit k of a set's number is lookahead k.
-use Rattle.std.specs.Prelude.{◌≡◌, ◌≢◌, ℕ, suc, ◌+◌, ◌*◌, ◌/◌, ◌%◌, ◌^◌, ◌<◌, ◌≤◌, ◌==◌, Bool, true, false, if◌then◌else◌, Option, Some, None, List, [], ◌∷◌, ◌++◌, length, map, replicate, slice_index_or, IfSome, All, Contains}
+use Rattle.std.specs.Prelude.{◌≡◌, ◌≢◌, ℕ, suc, ◌+◌, ◌*◌, ◌/◌, ◌%◌, ◌^◌, ◌<◌, ◌≤◌, ◌⊎◌, ◌==◌, Bool, true, false, if◌then◌else◌, Option, Some, None, List, [], ◌∷◌, ◌++◌, length, map, replicate, slice_index_or, IfSome, All, Contains}
 use Rattle.std.specs.Int.{bit_at}
 use Rattle.std.specs.Int.Bits.{bit_or}
 use Rattle.std.specs.Option.{option_map_or}
@@ -89,9 +89,20 @@ pub record IsMarked (marks : List ℕ) (pair : Pair) : Type 0 where
 abbrev pub AreReached : Machine → List ℕ → Type 0
 AreReached m marks = (pair : Pair) → IsMarked marks pair → IsReached m pair
 
--- the states that are marked with a set
+-- each lookahead of the one set is in the other
+abbrev pub IsSubset : ℕ → ℕ → Type 0
+IsSubset set kept = (lookahead : ℕ) → has set lookahead ≡ true → has kept lookahead ≡ true
+
+-- the state is marked with a smaller set, too
+pub record IsBelow (marks : List ℕ) (state kept : ℕ) : Type 0 where
+  pub set : ℕ
+  pub subset : IsSubset set kept
+  pub less : set < kept
+  pub marked : IsMarked marks (state, set)
+
+-- the states that are marked with a set, but for those that are marked with a smaller one, too
 pub record IsQueue (marks queue : List ℕ) (kept : ℕ) : Type 0 where
-  pub listed : (state : ℕ) → IsMarked marks (state, kept) → Contains queue state
+  pub listed : (state : ℕ) → IsMarked marks (state, kept) → Contains queue state ⊎ IsBelow marks state kept
   pub marked : (state : ℕ) → Contains queue state → IsMarked marks (state, kept)
 
 -- more pairs are marked, and none with a smaller set
@@ -114,9 +125,15 @@ pub record IsDone (m : Machine) (marks : List ℕ) (pair : Pair) : Type 0 where
   pub at_end : is_settled_at_end m pair.0 pair.1 ≡ true
   pub followed : AreFollowed m marks pair.0 pair.1
 
+-- what a smaller set settles, the pair's does: nothing is left to look at from the same state with that one
+pub record IsCovered (m : Machine) (marks : List ℕ) (pair : Pair) : Type 0 where
+  pub set : ℕ
+  pub subset : IsSubset set pair.1
+  pub done : IsDone m marks (pair.0, set)
+
 -- nor from the marked pairs with one of the first sets
 abbrev pub AreDone : Machine → List ℕ → ℕ → Type 0
-AreDone m marks sets = (pair : Pair) → IsMarked marks pair → pair.1 < sets → IsDone m marks pair
+AreDone m marks sets = (pair : Pair) → IsMarked marks pair → pair.1 < sets → IsCovered m marks pair
 
 -- how many are false
 unfoldable pub free : List Bool → ℕ

@@ -1,7 +1,7 @@
 -- By default options the bench data of lines have no fault.
 use Rattle.std.proofs.Common.{◌≡◌, Some, None, inl, inr, refl}
 use Rattle.icu_segmenter.specs.declared.provider.DataError.{DataError}
-use Rattle.icu_segmenter.specs.LineTailorings.{TailoringMaps}
+use Rattle.icu_segmenter.specs.LineTailorings.{MachineTailorings}
 use Rattle.icu_segmenter.specs.declared.options.LineBreakOptions.{LineBreakOptions}
 use Rattle.icu_segmenter.specs.Machine.{Machine}
 use Rattle.icu_segmenter.specs.Options.{machine_choice}
@@ -32,7 +32,7 @@ pub turns-default : (options : LineBreakOptions) → IsDefault options → (tabl
     → turn_lines (record { table = table; style = style_of options }) clusters words ≡ turn_lines (default_rules table) clusters words
 turns-default options default table clusters words = rw (default.0, default.1.0, default.1.1) refl
 
-module _ (machine : Machine) (tailorings : TailoringMaps) (options : LineBreakOptions) (default : IsDefault options) where
+module _ (machine : Machine) (tailorings : MachineTailorings) (options : LineBreakOptions) (default : IsDefault options) where
   pub no-fault : (fault : DataError) → machine ≡ line_machine → HasLineFault machine tailorings (machine_choice options) fault → ⊥
   no-fault fault is has = none fault (rw (default.0, default.1.0, default.1.1, is) at has)
 

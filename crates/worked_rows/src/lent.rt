@@ -11,7 +11,7 @@ use icu_segmenter::options::{
     LineBreakOptions, SentenceBreakInvariantOptions, WordBreakInvariantOptions,
 };
 use icu_segmenter::provider::{
-    DataError, DictionariesBorrowed, LineTailorings, RuleBreakData, RuleBreakDataOverride,
+    DataError, DictionariesBorrowed, RuleBreakData, RuleBreakDataOverride,
 };
 use icu_segmenter::{
     GraphemeClusterSegmenterBorrowed, LineSegmenterBorrowed, SentenceSegmenterBorrowed,
@@ -171,11 +171,7 @@ fn line_machine(
     let machine = settings.machine.machine(alloc)?;
     let clusters = settings.cluster_machine.machine(alloc)?;
     let later = settings.later.dictionaries(alloc)?;
-    let breakall = settings.tailoring(alloc)?;
-    let tailorings = LineTailorings {
-        breakall,
-        ..LineTailorings::default()
-    };
+    let tailorings = settings.tailorings(alloc)?;
     let mut lines = LineSegmenterBorrowed::new_neo_for_non_complex_scripts(
         &machine,
         tailorings.as_borrowed(),

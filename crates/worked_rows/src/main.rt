@@ -23,6 +23,7 @@ mod samples;
 mod segmenter;
 mod settings;
 mod small;
+mod tailoring;
 mod texts;
 
 use anyhow::{Context, Result};

@@ -49,17 +49,20 @@ pub fn cell_of(word: &str) -> Result<(u8, u8, u8)> {
 pub fn map_of(alloc: Global, words: &str) -> Result<Vec<(Symbol, ComplexScript)>> {
     let mut map = Vec::new(alloc);
     for word in words.split_whitespace() {
-        map.push(mapped(word)?).map_err(AllocError::from)?;
+        map.push(symbol_and_script(word)?)
+            .map_err(AllocError::from)?;
     }
     Ok(map)
 }
 
-fn mapped(word: &str) -> Result<(Symbol, ComplexScript)> {
+/// A symbol and a script, as `1=Thai`.
+pub fn symbol_and_script(word: &str) -> Result<(Symbol, ComplexScript)> {
     let (symbol, script) = word.split_once('=').context("a symbol without a script")?;
     Ok((number_of(symbol)?, script_named(script)?))
 }
 
-fn script_named(name: &str) -> Result<ComplexScript> {
+/// The script of this name.
+pub fn script_named(name: &str) -> Result<ComplexScript> {
     Ok(match name {
         "None" => ComplexScript::None,
         "Thai" => ComplexScript::Thai,

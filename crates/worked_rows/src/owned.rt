@@ -6,7 +6,7 @@ use crate::samples::Sample;
 use crate::segmenter::Owned;
 use crate::settings::Settings;
 use icu_segmenter::options::{SentenceBreakOptions, WordBreakOptions};
-use icu_segmenter::provider::{DataError, LineTailorings};
+use icu_segmenter::provider::DataError;
 use icu_segmenter::{GraphemeClusterSegmenter, LineSegmenter, SentenceSegmenter, WordSegmenter};
 use std::alloc::Global;
 
@@ -93,11 +93,7 @@ fn line_machine(alloc: Global, settings: &Settings) -> Result<Owned, DataError> 
     let machine = settings.machine.machine(alloc)?;
     let clusters = settings.cluster_machine.machine(alloc)?;
     let later = settings.later.dictionaries(alloc)?;
-    let breakall = settings.tailoring(alloc)?;
-    let tailorings = LineTailorings {
-        breakall,
-        ..LineTailorings::default()
-    };
+    let tailorings = settings.tailorings(alloc)?;
     let options = settings.options.of_lines();
     let mut lines = LineSegmenter::try_new_neo_for_non_complex_scripts(
         machine, tailorings, clusters, options,

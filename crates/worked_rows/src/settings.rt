@@ -1,14 +1,14 @@
 //! What rows are asked of.
 
 use crate::dictionaries::WordLists;
-use crate::numbers::{map_of, number_of};
+use crate::numbers::number_of;
 use crate::options::Options;
 use crate::parts::{Classes, MachineParts, TableParts};
 use crate::question::{Engine, Question, engine_of, question_of};
-use anyhow::{Result, bail};
-use bench::lines::breakall;
+use crate::tailoring::{Place, Tailoring, place_of, tailorings_at};
+use anyhow::Result;
 use icu_segmenter::provider::{
-    ComplexScript, DataError, RuleBreakDataOverride, SegmenterStateMachineOverride, Symbol,
+    DataError, LineTailorings, RuleBreakDataOverride, SegmenterStateMachineOverride,
 };
 use std::alloc::Global;
 
@@ -27,8 +27,9 @@ pub struct Settings {
     pub cluster_machine: MachineParts,
     /// The pair table of clusters, of words and lines.
     pub cluster_table: TableParts,
-    /// The map that takes the place of the machine's, of lines by the word option `BreakAll`.
-    tailoring: Option<Vec<(Symbol, ComplexScript)>>,
+    // What takes the place of parts of the machine, and the place that it has among the tailorings of lines.
+    tailoring: Option<Tailoring>,
+    place: Place,
     // The classes that take the place of the table's.
     overriding: Option<Classes>,
     /// The words that the segmenter is made with.
@@ -52,6 +53,7 @@ impl Settings {
             cluster_machine: MachineParts::empty(alloc),
             cluster_table: TableParts::empty(alloc),
             tailoring: None,
+            place: Place::BreakAll,
             overriding: None,
             words: WordLists::none(),
             later: WordLists::none(),
@@ -66,7 +68,8 @@ impl Settings {
         match name {
             "find" => self.begin(words)?,
             "clusters" => self.read_clusters(alloc, words)?,
-            "tailoring" => self.tailoring = tailoring_of(alloc, words)?,
+            "tailoring" => self.tailoring = Some(Tailoring::read(alloc, words)?),
+            "place" => self.place = place_of(words)?,
             "override" => self.overriding = override_of(alloc, words)?,
             "words" => self.words.read(alloc, words)?,
             "later" => self.later.read(alloc, words)?,
@@ -84,6 +87,7 @@ impl Settings {
         self.question = question_of(question)?;
         self.engine = engine_of(engine)?;
         self.tailoring = None;
+        self.place = Place::BreakAll;
         self.overriding = None;
         self.words = WordLists::none();
         self.later = WordLists::none();
@@ -107,11 +111,15 @@ impl Settings {
         &self,
         alloc: Global,
     ) -> Result<Option<SegmenterStateMachineOverride>, DataError> {
-        let Some(map) = &self.tailoring else {
+        let Some(tailoring) = &self.tailoring else {
             return Ok(None);
         };
-        let map = Vec::from_slice(alloc, map.as_slice())?;
-        Ok(Some(SegmenterStateMachineOverride::try_from_parts(map)?))
+        Ok(Some(tailoring.made(alloc)?))
+    }
+
+    /// The tailorings of lines.
+    pub fn tailorings(&self, alloc: Global) -> Result<LineTailorings, DataError> {
+        Ok(tailorings_at(self.place, self.tailoring(alloc)?))
     }
 
     /// The override, if there is one.
@@ -128,17 +136,6 @@ fn is_of_machines(name: &str) -> bool {
     match name {
         "machine" | "symbols" | "states" | "moves" | "lookaheads" | "map" => true,
         _ => false,
-    }
-}
-
-fn tailoring_of(alloc: Global, words: &str) -> Result<Option<Vec<(Symbol, ComplexScript)>>> {
-    match words {
-        "none" => Ok(None),
-        "bench" => {
-            let tailoring = breakall(alloc)?;
-            Ok(Some(Vec::from_slice(alloc, tailoring.pseudo_symbol_map())?))
-        }
-        _ => Ok(Some(map_of(alloc, words)?)),
     }
 }
 

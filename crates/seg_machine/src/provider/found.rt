@@ -1,13 +1,16 @@
 //! What a search has found: pairs of a state and a set of lookaheads.
-ghost use Rattle.std.specs.Prelude.{◌≡◌, ◌↔◌, ℕ, ◌<◌, ◌≤◌, ◌+◌, ◌*◌, ◌⊎◌, IsTrue, [], ◌∷◌, ◌++◌, Contains, length, slice_index_or};
-ghost use Rattle.seg_machine.specs.Search.{IsMarked, IsQueue, Pair};
+ghost use Rattle.std.specs.Prelude.{◌≡◌, ◌↔◌, ℕ, ◌<◌, ◌≤◌, ◌+◌, ◌*◌, ◌⊎◌, IsTrue, IsFalse, [], ◌∷◌, ◌++◌, Contains, length, slice_index_or};
+ghost use Rattle.seg_machine.specs.Search.{IsBelow, IsMarked, IsQueue, Pair};
 
 use crate::provider::State;
+use crate::provider::stalls::is_kept;
 use arrayvec::ArrayVec;
 use std::marker::Model;
 
-// How many states there may be, and how many sets of lookaheads.
+// How many states and lookaheads there may be, and how many sets of lookaheads.
 const STATES: usize = 255;
+
+const LOOKAHEADS: u8 = 8;
 
 pub(super) const SETS: usize = 256;
 
@@ -122,7 +125,32 @@ impl StateQueue {
     }
 }
 
-// The states that are marked with this set.
+// Whether the state is marked with a set that lacks one lookahead of this one, too.
+fn is_found_below(marks: &Marks, state: State, kept: u8) -> bool
+    requires state { state < 255 }
+    requires kept { kept < 256 }
+    ensures { IsTrue result → IsBelow marks.now state kept }
+{
+    for lookahead in 0..LOOKAHEADS {
+        if is_kept(lookahead, kept) && is_marked(marks, state, kept & !(1 << lookahead)) {
+            return true;
+        }
+    }
+    false
+}
+
+// Whether a pair is to be followed: it is marked, and its state isn't with a smaller set, which
+// settles less.
+fn is_to_follow(marks: &Marks, state: State, kept: u8) -> bool
+    requires state { state < 255 }
+    requires kept { kept < 256 }
+    ensures marked { IsTrue result → IsMarked marks.now (state, kept) }
+    ensures others { IsFalse result → IsMarked marks.now (state, kept) → IsBelow marks.now state kept }
+{
+    is_marked(marks, state, kept) && !is_found_below(marks, state, kept)
+}
+
+// The states that are to be followed with this set.
 pub(super) fn queue_of(marks: &Marks, kept: u8) -> StateQueue
     requires kept { kept < 256 }
     ensures { IsQueue marks.now result kept }
@@ -132,7 +160,7 @@ pub(super) fn queue_of(marks: &Marks, kept: u8) -> StateQueue
         return queue;
     }
     for state in 0..STATES {
-        if is_marked(marks, state as State, kept) {
+        if is_to_follow(marks, state as State, kept) {
             queue.push(state as State);
         }
     }

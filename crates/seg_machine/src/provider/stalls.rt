@@ -157,7 +157,7 @@ fn is_sure(acceptance: Acceptance, kept: u8) -> bool
 }
 
 // Whether a lookahead is in a set.
-fn is_kept(lookahead: Lookahead, kept: u8) -> bool
+pub(super) fn is_kept(lookahead: Lookahead, kept: u8) -> bool
     requires { lookahead < 8 }
     ensures { result ≡ has kept lookahead }
 {

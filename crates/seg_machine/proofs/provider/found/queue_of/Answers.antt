@@ -1,8 +1,7 @@
 use Rattle.std.proofs.Common.{refl, arith}
-use Rattle.std.proofs.lemmas.Bool.{iff_false}
 use Rattle.seg_machine.proofs.Marks.{first-push, first-skip}
 use Rattle.seg_machine.proofs.provider.found.queue_of.Goals as goal
-use Rattle.seg_machine.proofs.provider.found.queue_of.Goals.{then-is_marked, else-is_marked}
+use Rattle.seg_machine.proofs.provider.found.queue_of.Goals.{then-is_to_follow, else-is_to_follow}
 
 pub returns-then-has_no_mark : goal.returns-then-has_no_mark
 returns-then-has_no_mark c =
@@ -22,14 +21,14 @@ loop-state-init c =
 
 pub loop-state-preserved : goal.loop-state-preserved
 loop-state-preserved c =
-    elim c.if-is_marked.branch [
-      | then-is_marked w ↦
+    elim c.if-is_to_follow.branch [
+      | then-is_to_follow w ↦
           rw w.queue-is
-          (first-push c.args.marks.now c.loop-state.queue _ c.args.kept c.loop-state.state c.loop-state.invariant (c.is_marked.ensures.0 w.if-is_marked.true)
+          (first-push c.args.marks.now c.loop-state.queue _ c.args.kept c.loop-state.state c.loop-state.invariant (w.if-is_to_follow.ensures.marked refl)
           w.push.ensures.listed w.push.ensures.more)
-      | else-is_marked w ↦
+      | else-is_to_follow w ↦
           rw w.queue-is
-          (first-skip c.args.marks.now c.loop-state.queue c.args.kept c.loop-state.state c.loop-state.invariant (iff_false c.is_marked.ensures w.if-is_marked.false))
+          (first-skip c.args.marks.now c.loop-state.queue c.args.kept c.loop-state.state c.loop-state.invariant (w.if-is_to_follow.ensures.others refl))
     ]
 
 pub returns : goal.returns
