@@ -5,7 +5,7 @@ use Rattle.seg_data.specs.declared.provider.ComplexScript.{ComplexScript}
 use Rattle.seg_data.specs.declared.provider.ComplexScript.TheVariants.{None as NoScript}
 use Rattle.seg_data.specs.declared.provider.DataError.TheVariants.{ComplexBelow0100}
 use Rattle.seg_data.specs.Table.{value_of}
-use Rattle.seg_machine.specs.Machine.{Machine, symbol_and_script}
+use Rattle.seg_machine.specs.Machine.{Machine, replaced, symbol_and_script}
 use Rattle.seg_machine.specs.MachineFaults.{HasComplexBelow0100}
 use Rattle.seg_pair_data.specs.PairFaults.{HasComplexClassBelow0100}
 use Rattle.seg_pair_data.specs.PairTable.{PairTable, class_of}
@@ -31,12 +31,12 @@ has_no_script : Machine → ℕ → Bool
 has_no_script m code_point = is_no_script (symbol_and_script m code_point).1
 
 pub lines-not_complex : HasComplexBelow0100 line_machine → ⊥
-unfolding all_below has_no_script is_no_script symbol_and_script value_of
+unfolding all_below has_no_script is_no_script symbol_and_script replaced value_of
 lines-not_complex (code_point, below, script) =
     script (no-script _ (all_below-at (has_no_script line_machine) 0x100 code_point refl below))
 
 pub words-not_complex : HasComplexBelow0100 word_machine → ⊥
-unfolding all_below has_no_script is_no_script symbol_and_script value_of
+unfolding all_below has_no_script is_no_script symbol_and_script replaced value_of
 words-not_complex (code_point, below, script) =
     script (no-script _ (all_below-at (has_no_script word_machine) 0x100 code_point refl below))
 
