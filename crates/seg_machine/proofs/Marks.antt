@@ -1,12 +1,12 @@
 -- The bits of the pairs that a search has found.
-use Rattle.std.proofs.Common.{◌≡◌, ◌≢◌, ℕ, zero, ◌+◌, ◌*◌, ◌/◌, ◌%◌, ◌^◌, ◌<◌, ◌==◌, ◌⊎◌, true, ◌++◌, List, [], ◌∷◌, length, replicate, get_or, set, bit_and, bit_or, w8, w64, refl, sym, ap, subst, ◌∙◌, inl, inr, arith, get_or-set_same, get_or-set_other, eq-eqb}
+use Rattle.std.proofs.Common.{◌≡◌, ◌≢◌, ℕ, ◌+◌, ◌*◌, ◌/◌, ◌%◌, ◌^◌, ◌<◌, ◌==◌, ◌⊎◌, true, ◌++◌, List, [], ◌∷◌, length, replicate, get_or, set, bit_and, bit_or, w8, w64, refl, sym, ap, subst, ◌∙◌, inl, inr, arith, get_or-set_same, get_or-set_other, eq-eqb}
 use Rattle.std.specs.Int.{bit_at, bit_not}
 use Rattle.std.specs.Prelude.{Contains}
 use Rattle.std.proofs.lemmas.Bool.{cases_eq, cases_lt, ne_eqb, false≢true}
 use Rattle.std.proofs.lemmas.Nat.{and_le_l}
-use Rattle.std.proofs.lemmas.List.{length-replicate, get_or-replicate, get_or_past}
 use Rattle.std.proofs.lemmas.List.Elements.{Contains-append_left, Contains-push_cases}
 use Rattle.std.proofs.lemmas.Nat.Bits.{bit_at-zero, bit_at-lt, bit_at_and, bit_at_set_same, bit_at_set_other, bit_at_clear_same}
+use Rattle.seg_machine.proofs.Tables.{replicate-reads}
 use Rattle.seg_machine.specs.Search.{has, IsBelow, IsMarked, IsQueue, Pair, bit_number}
 
 bit : List ℕ → ℕ → ℕ
@@ -75,13 +75,7 @@ unmarked-word marks pair none marked =
     omega arith
 
 pub unmarked : (n : ℕ) (pair : Pair) → IsMarked (replicate n 0) pair → ⊥
-unmarked n pair marked = unmarked-word (replicate n 0) pair (none n (bit_number pair / 64)) marked
-  where
-    none : (n k : ℕ) → get_or (replicate n zero) k 0 ≡ zero
-    none n k = elim (cases_lt k n) [
-      | inl less ↦ get_or-replicate n k zero zero less
-      | inr past ↦ get_or_past (replicate n zero) k zero (let long = length-replicate n zero in omega arith)
-    ]
+unmarked n pair marked = unmarked-word (replicate n 0) pair (replicate-reads n (bit_number pair / 64) 0) marked
 
 -- a queue that is the same, or has one state more
 

@@ -7,6 +7,14 @@ use Rattle.std.proofs.lemmas.List.{length-replicate, length-append, get_or-repli
 use Rattle.std.proofs.lemmas.List.Elements.{Contains-append_left, Contains-push}
 use Rattle.seg_machine.specs.Search.{free, IsTable}
 
+-- the same everywhere
+pub replicate-reads : {X : Type 0} (n k : ℕ) (x : X) → get_or (replicate n x) k x ≡ x
+replicate-reads n k x =
+    elim (cases_lt k n) [
+      | inl within ↦ get_or-replicate n k x x within
+      | inr past ↦ get_or_past (replicate n x) k x (let long = length-replicate n x in omega arith)
+    ]
+
 free-replicate : (n : ℕ) → free (replicate n false) ≡ n
 unfolding free
 free-replicate zero = refl
@@ -15,14 +23,8 @@ free-replicate (suc n) = ap suc (free-replicate n)
 pub table-start : (n : ℕ) → IsTable (replicate n false) []
 table-start n = record {
   room = let all = free-replicate n in let long = length-replicate n false in omega arith;
-  listed = λ state is. absurd (false≢true (sym (none state) ∙ is));
+  listed = λ state is. absurd (false≢true (sym (replicate-reads n state false) ∙ is));
 }
-  where
-    none : (k : ℕ) → get_or (replicate n false) k false ≡ false
-    none k = elim (cases_lt k n) [
-      | inl within ↦ get_or-replicate n k false false within
-      | inr past ↦ get_or_past (replicate n false) k false (let long = length-replicate n false in omega arith)
-    ]
 
 -- one more is taken
 free-set : (found : List Bool) (i : ℕ) → i < length found → get_or found i false ≡ false → free (set found i true) + 1 ≡ free found

@@ -34,7 +34,6 @@ fn bit_number(state: State, kept: u8) -> usize
 // Marks a pair.
 fn mark(marks: &mut Marks, state: State, kept: u8)
     requires state { state < 255 }
-    requires kept { kept < 256 }
     ensures marked { IsMarked marks.new (state, kept) }
     ensures keeps { (pair : Pair) → IsMarked marks.old pair → IsMarked marks.new pair }
     ensures only { (pair : Pair) → IsMarked marks.new pair → (pair ≡ (state, kept)) ⊎ IsMarked marks.old pair }
@@ -46,7 +45,6 @@ fn mark(marks: &mut Marks, state: State, kept: u8)
 // Whether a pair is marked.
 fn is_marked(marks: &Marks, state: State, kept: u8) -> bool
     requires state { state < 255 }
-    requires kept { kept < 256 }
     ensures { IsTrue result ↔ IsMarked marks.now (state, kept) }
 {
     let bit = bit_number(state, kept);
@@ -55,7 +53,6 @@ fn is_marked(marks: &Marks, state: State, kept: u8) -> bool
 
 // Whether no pair with this set is marked.
 fn has_no_mark(marks: &Marks, kept: u8) -> bool
-    requires kept { kept < 256 }
     ensures { IsTrue result → (state : ℕ) → IsMarked marks.now (state, kept) → ⊥ }
 {
     for word in 0..ROW {
@@ -128,7 +125,6 @@ impl StateQueue {
 // Whether the state is marked with a set that lacks one lookahead of this one, too.
 fn is_found_below(marks: &Marks, state: State, kept: u8) -> bool
     requires state { state < 255 }
-    requires kept { kept < 256 }
     ensures { IsTrue result → IsBelow marks.now state kept }
 {
     for lookahead in 0..LOOKAHEADS {
@@ -143,7 +139,6 @@ fn is_found_below(marks: &Marks, state: State, kept: u8) -> bool
 // settles less.
 fn is_to_follow(marks: &Marks, state: State, kept: u8) -> bool
     requires state { state < 255 }
-    requires kept { kept < 256 }
     ensures marked { IsTrue result → IsMarked marks.now (state, kept) }
     ensures others { IsFalse result → IsMarked marks.now (state, kept) → IsBelow marks.now state kept }
 {
@@ -152,7 +147,6 @@ fn is_to_follow(marks: &Marks, state: State, kept: u8) -> bool
 
 // The states that are to be followed with this set.
 pub(super) fn queue_of(marks: &Marks, kept: u8) -> StateQueue
-    requires kept { kept < 256 }
     ensures { IsQueue marks.now result kept }
 {
     let mut queue = StateQueue::new();
@@ -176,7 +170,6 @@ pub(super) fn list_pair(
     after: u8,
 )
     requires state { state < 255 }
-    requires after { after < 256 }
     requires queue { IsQueue marks.old queue.old kept }
     ensures queue { IsQueue marks.new queue.new kept }
     ensures more { (queue.new ≡ queue.old) ⊎ (queue.new ≡ queue.old ++ state ∷ []) }

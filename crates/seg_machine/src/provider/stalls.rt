@@ -46,7 +46,6 @@ fn follow_set(
     marks: &mut Marks,
 ) -> bool
     requires bounded { IsBounded (bare states.now transitions.now) }
-    requires kept { kept < 256 }
     requires reached { AreReached (bare states.now transitions.now) marks.old }
     requires done { AreDone (bare states.now transitions.now) marks.old kept }
     ensures reached { AreReached (bare states.now transitions.now) marks.new }
@@ -111,7 +110,6 @@ fn is_sure_at_end(
 ) -> bool
     requires bounded { IsBounded (bare states.now transitions.now) }
     requires state { state < length states.now }
-    requires kept { kept < 256 }
     ensures { result ≡ is_settled_at_end (bare states.now transitions.now) state kept }
 {
     let mut current = state;
@@ -132,7 +130,6 @@ fn is_sure_at_end(
 // The set of lookaheads after a state, or `None` where the state settles that there is a pick.
 fn enter_state(state: (Acceptance, Option<Lookahead>), kept: u8) -> Option<u8>
     requires named { NamesPast 8 state → ⊥ }
-    requires kept { kept < 256 }
     ensures after { result ≡ enter kept state }
     ensures in_range { IfSome result (λ after. after < 256) }
     ensures grows { IfSome result (λ after. kept ≤ after) }
@@ -167,7 +164,6 @@ pub(super) fn is_kept(lookahead: Lookahead, kept: u8) -> bool
 // The set with the lookahead that a state names.
 fn keep_named(named: Option<Lookahead>, kept: u8) -> u8
     requires named { IsSomeAnd named (λ lookahead. 8 ≤ lookahead) → ⊥ }
-    requires kept { kept < 256 }
     ensures value { result ≡ keep kept named }
     ensures in_range { result < 256 }
     ensures grows { kept ≤ result }

@@ -14,9 +14,9 @@ unfolding symbol_count
 returns-in_default-clause-stalls c =
     λ stalls. stalls-step (bare c.args.states.now c.args.transitions.now) c.args.state c.args.kept c.loop-symbol.symbol c.requires.pair (omega arith, omega arith) (sym c.in_default.ensures.value)
 
-pub enter_state-requires-clause-named : goal.enter_state-requires-clause-named
+pub enter_state-requires : goal.enter_state-requires
 unfolding state_at
-enter_state-requires-clause-named c = c.requires.bounded.lookaheads c.in-Some.next
+enter_state-requires c = record { named = c.requires.bounded.lookaheads c.in-Some.next }
 
 pub loop-symbol-preserved : goal.loop-symbol-preserved
 unfolding symbol_count state_at

@@ -4,9 +4,9 @@ use Rattle.seg_machine.specs.Search.{bare}
 use Rattle.seg_machine.proofs.Settled.{end-none, end-stop, end-next, end-all}
 use Rattle.seg_machine.proofs.provider.stalls.is_sure_at_end.Goals as goal
 
-pub enter_state-requires-clause-named : goal.enter_state-requires-clause-named
+pub enter_state-requires : goal.enter_state-requires
 unfolding state_at
-enter_state-requires-clause-named c = c.requires.bounded.lookaheads c.in-Some.next
+enter_state-requires c = record { named = c.requires.bounded.lookaheads c.in-Some.next }
 
 pub returns-in_default : goal.returns-in_default
 returns-in_default c =

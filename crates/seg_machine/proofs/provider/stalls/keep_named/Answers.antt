@@ -8,7 +8,7 @@ pub returns-in-Some-clause-in_range : goal.returns-in-Some-clause-in_range
 returns-in-Some-clause-in_range c =
     let none = rw c.in-Some.is at c.requires.named in
     let few : c.in-Some.lookahead < 8 = elim (cases_lt c.in-Some.lookahead 8) [ inl less ↦ less | inr past ↦ absurd (none past) ] in
-    rw (bit-made c.in-Some.lookahead few) (keep-below c.args.kept c.in-Some.lookahead c.requires.kept few)
+    rw (bit-made c.in-Some.lookahead few) (keep-below c.args.kept c.in-Some.lookahead c.ranges.kept.fits few)
 
 pub returns-in-Some-clause-grows : goal.returns-in-Some-clause-grows
 returns-in-Some-clause-grows c = le_or_l c.args.kept _
