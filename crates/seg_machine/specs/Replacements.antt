@@ -24,3 +24,7 @@ replacements_of (Some t) = t.symbol_map
 -- the machine with this map of pseudo symbols, and with the symbols that a tailoring replaces, if there is one
 abbrev pub with_parts : Machine → List (ℕ × ComplexScript) → Option MachineTailoring → Machine
 with_parts m map replacing = with_tailoring m (Some (tailoring map (replacements_of replacing)))
+
+-- below this value nothing is a pseudo symbol or replaced
+abbrev pub ArePlainBelow : Machine → ℕ → Type 0
+ArePlainBelow m end = (value : ℕ) → value < end → (value < m.pseudo_symbol_shift) × (replaced m.symbol_map value ≡ (value, NoScript))

@@ -151,6 +151,7 @@ fn next_symbol<I: Cursor>(machine: &TailoredMachineBorrowed<'_>, iter: &mut I) -
 type Places = ArrayVec<Option<usize>, 8>;
 
 /// No place for any of so many lookaheads.
+#[inline(always)]
 fn no_places(lookaheads: usize) -> Places
     requires { lookaheads ≤ 8 }
     ensures { result.items ≡ replicate lookaheads None }

@@ -5,7 +5,7 @@ ghost use Rattle.seg_data.specs.Faults.{IsFaultless, IsLowestFault};
 ghost use Rattle.seg_machine.specs.Checked.{HasTextSymbols, IsChecked};
 ghost use Rattle.seg_machine.specs.MachineFaults.{HasComplexBelow0100, HasTailoringFault};
 ghost use Rattle.seg_machine.specs.Machine.{IsTextSymbol, replaced, state_at, step, symbol_and_script, symbol_count, with_tailoring};
-ghost use Rattle.seg_machine.specs.Replacements.{replacements_of, with_parts};
+ghost use Rattle.seg_machine.specs.Replacements.{ArePlainBelow, replacements_of, with_parts};
 
 use crate::provider::{
     Acceptance, Lookahead, SegmenterStateMachine, SegmenterStateMachineOverride, State, Symbol,
@@ -51,11 +51,7 @@ impl TailoredMachine {
         ensures { machine_of result ≡ owned_machine self.now }
     {
         let (pseudo_symbol_map, replacing) = parts_of(&self.machine, self.tailoring.as_ref());
-        TailoredMachineBorrowed {
-            machine: &self.machine,
-            pseudo_symbol_map,
-            replacing,
-        }
+        TailoredMachineBorrowed::from_parts(&self.machine, pseudo_symbol_map, replacing)
     }
 }
 
@@ -65,7 +61,10 @@ pub struct TailoredMachineBorrowed<'data> {
     machine: &'data SegmenterStateMachine,
     pseudo_symbol_map: &'data [(Symbol, ComplexScript)],
     replacing: Option<&'data SegmenterStateMachineOverride>,
+    // Each value below it is its own symbol: it is the shift where nothing is replaced, and else 0.
+    plain_below: u8,
     ghost text_symbols: { HasTextSymbols (with_parts machine.now pseudo_symbol_map.now (option_map (λ t. t.now) replacing)) },
+    ghost plain: { ArePlainBelow (with_parts machine.now pseudo_symbol_map.now (option_map (λ t. t.now) replacing)) plain_below },
 }
 
 impl<'data> TailoredMachineBorrowed<'data> {
@@ -77,11 +76,7 @@ impl<'data> TailoredMachineBorrowed<'data> {
     {
         machine.facts();
         machine.has_no_replacements();
-        TailoredMachineBorrowed {
-            machine,
-            pseudo_symbol_map: machine.pseudo_symbol_map(),
-            replacing: None,
-        }
+        TailoredMachineBorrowed::from_parts(machine, machine.pseudo_symbol_map(), None)
     }
 
     /// The machine with its tailoring, if there is one. `SymbolOutOfRange` where they don't fit.
@@ -99,11 +94,32 @@ impl<'data> TailoredMachineBorrowed<'data> {
         if machine.has_stray_symbol(tailoring) {
             return Err(DataError::SymbolOutOfRange);
         }
-        Ok(TailoredMachineBorrowed {
+        Ok(TailoredMachineBorrowed::from_parts(
             machine,
-            pseudo_symbol_map: tailoring.pseudo_symbol_map(),
-            replacing: tailoring.replacing(),
-        })
+            tailoring.pseudo_symbol_map(),
+            tailoring.replacing(),
+        ))
+    }
+
+    // The machine with these parts.
+    fn from_parts(
+        machine: &'data SegmenterStateMachine,
+        pseudo_symbol_map: &'data [(Symbol, ComplexScript)],
+        replacing: Option<&'data SegmenterStateMachineOverride>,
+    ) -> Self
+        requires { HasTextSymbols (with_parts machine.now pseudo_symbol_map.now (option_map (λ t. t.now) replacing)) }
+        ensures { machine_of result ≡ with_parts machine.now pseudo_symbol_map.now (option_map (λ t. t.now) replacing.entry) }
+    {
+        let plain_below = match replacing {
+            Some(_) => 0,
+            None => machine.pseudo_symbol_shift(),
+        };
+        TailoredMachineBorrowed {
+            machine,
+            pseudo_symbol_map,
+            replacing,
+            plain_below,
+        }
     }
 
     /// The machine, parts of which the tailoring's take the place of.
@@ -127,6 +143,9 @@ impl<'data> TailoredMachineBorrowed<'data> {
         ensures text { IsTextSymbol (machine_of self.now) result }
     {
         let value = self.machine.symbols().get32(code_point);
+        if value < self.plain_below {
+            return value;
+        }
         let shift = self.machine.pseudo_symbol_shift();
         if value < shift {
             replacement_by(self.replacing, value).0

@@ -1,8 +1,17 @@
-use Rattle.std.proofs.Common.{ℕ, ap, ◌∙◌}
+use Rattle.std.proofs.Common.{ℕ, ap, sym, ◌∙◌}
 use Rattle.seg_data.specs.declared.provider.ComplexScript.{ComplexScript}
 use Rattle.seg_machine.specs.Tailored.{machine_of}
 use Rattle.seg_machine.proofs.Machines.{symbol-below, symbol-entry, entry-within}
 use Rattle.seg_machine.proofs.tailored_machine.TailoredMachineBorrowed.symbol.Goals as goal
+
+pub returns-then-value-self-clause-value : goal.returns-then-value-self-clause-value
+returns-then-value-self-clause-value c =
+    let plain = c.args.self.now.plain c.get32-value.result c.if-value-self.true in
+    ap (λ (found : ℕ × ComplexScript). found.0)
+    (sym plain.1 ∙ symbol-below (machine_of c.args.self.now) _ _ (rw c.symbols.ensures at c.get32-value.ensures) plain.0)
+
+pub returns-then-value-self-clause-text : goal.returns-then-value-self-clause-text
+returns-then-value-self-clause-text c = rw (returns-then-value-self-clause-value c) (c.args.self.now.text_symbols c.args.code_point)
 
 pub bounds-self-value : goal.bounds-self-value
 bounds-self-value c =

@@ -2,9 +2,7 @@ use Rattle.std.proofs.lemmas.Bool.{iff_false}
 use Rattle.seg_machine.proofs.Machines.{text_symbols-from}
 use Rattle.seg_machine.proofs.tailored_machine.TailoredMachineBorrowed.try_new.Goals as goal
 
-pub invariant_of-result : goal.invariant_of-result
-invariant_of-result c = record {
-  text_symbols =
-      rw (c.pseudo_symbol_map.ensures, c.replacing.ensures)
-      (λ code_point. text_symbols-from _ code_point (iff_false c.has_stray_symbol.ensures c.if-has_stray_symbol.false));
-}
+pub from_parts-requires : goal.from_parts-requires
+from_parts-requires c =
+    rw (c.pseudo_symbol_map.ensures, c.replacing.ensures)
+    (λ code_point. text_symbols-from _ code_point (iff_false c.has_stray_symbol.ensures c.if-has_stray_symbol.false))
