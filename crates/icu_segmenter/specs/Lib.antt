@@ -70,3 +70,6 @@ pub use Rattle.seg_complex.specs.InnerCuts
 pub use Rattle.seg_words.specs.WordRules
 pub use Rattle.seg_words.specs.WordFaults
 pub use Rattle.seg_words.specs.Words
+pub use Rattle.seg_wrap.specs.Wrapping
+pub use Rattle.seg_wrap.specs.WrapLaw
+pub use Rattle.seg_wrap.specs.WrappedLines

@@ -42,6 +42,13 @@ pub mod memo {
     pub use seg_memo::memo::{MemoBreakIterator, MemoError};
 }
 
+/// Lines of a text, wrapped to columns.
+pub mod wrap {
+    pub use seg_wrap::wrapper::{
+        LineWrapper, WrapError, WrapIterator, WrapUtf8Iterator, WrappedLine, WrappedUtf8Line,
+    };
+}
+
 /// Readers of a machine's transitions, which count what they read.
 pub mod rule_segmenter_v2 {
     pub use seg_memo::reader::{CountedTransitions, ReadTransitions};

@@ -3,6 +3,7 @@
 
 mod boundaries;
 mod finder;
+pub mod inner;
 mod joined;
 pub mod laws;
 pub mod line;

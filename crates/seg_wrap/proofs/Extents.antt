@@ -1,0 +1,113 @@
+-- The columns of characters that are put together.
+use Rattle.std.proofs.Common.{◌≡◌, ℕ, ◌+◌, ◌*◌, ◌≤◌, Bool, true, false, List, [], ◌∷◌, ◌++◌, length, refl, sym, ap, ◌∙◌, arith}
+use Rattle.std.specs.Prelude.{if◌then◌else◌, ◌&&◌}
+use Rattle.std.specs.List.{list_all}
+use Rattle.std.proofs.lemmas.List.Folds.{list_all-append}
+use Rattle.std.proofs.lemmas.List.{append_assoc, append-nil, length-append, length-map}
+use Rattle.unicode_width.proofs.Rules.{width_or_zero-le}
+use Rattle.seg_text.specs.Items.{IsRising, Item, Text, code_points, start_of}
+use Rattle.seg_wrap.specs.declared.extent.Extent.{Extent}
+use Rattle.seg_wrap.specs.Measures.{IsMeasuring, extent_of, joined, total_of}
+use Rattle.seg_wrap.specs.Wrapping.{columns_of, hangs, shown, width_of}
+use Rattle.seg_wrap.proofs.Places.{few-items}
+
+pub total-append : (xs ys : List ℕ) → total_of (xs ++ ys) ≡ total_of xs + total_of ys
+unfolding total_of
+total-append [] ys = omega arith
+total-append (x ∷ xs) ys = rw (total-append xs ys) (omega arith)
+
+-- where what follows hangs too, and where it doesn't
+pub columns-append : (xs ys : List ℕ) → columns_of (xs ++ ys) ≡ (if list_all hangs ys then columns_of xs else total_of xs + columns_of ys)
+unfolding columns_of total_of
+columns-append [] ys = on ys
+  where
+    by : (b : Bool) (n : ℕ) → (if b then 0 else n) ≡ (if b then 0 else 0 + (if b then 0 else n))
+    by true n = refl
+    by false n = omega arith
+
+    on : (ys : List ℕ) → columns_of ys ≡ (if list_all hangs ys then 0 else 0 + columns_of ys)
+    on [] = refl
+    on (y ∷ ys) = by (list_all hangs (y ∷ ys)) (width_of y + columns_of ys)
+columns-append (x ∷ xs) ys =
+    rw (columns-append xs ys, list_all-append hangs (x ∷ xs) ys)
+    (by (list_all hangs (x ∷ xs)) (list_all hangs ys) (width_of x) (columns_of xs) (total_of xs) (columns_of ys))
+  where
+    by : (b c : Bool) (w m t n : ℕ)
+        → (if b && c then 0 else w + (if c then m else t + n)) ≡ (if c then (if b then 0 else w + m) else w + t + n)
+    by true true w m t n = refl
+    by true false w m t n = omega arith
+    by false true w m t n = refl
+    by false false w m t n = omega arith
+
+pub extent-append : (xs ys : List ℕ) → extent_of (xs ++ ys) ≡ joined (extent_of xs) (extent_of ys)
+extent-append xs ys = rw (columns-append xs ys, total-append xs ys, list_all-append hangs xs ys) refl
+
+pub columns-most : (cs : List ℕ) → columns_of cs ≤ total_of cs
+unfolding columns_of total_of
+columns-most [] = omega arith
+columns-most (c ∷ cs) = by (list_all hangs (c ∷ cs)) (columns-most cs)
+  where
+    by : (b : Bool) → columns_of cs ≤ total_of cs → (if b then 0 else width_of c + columns_of cs) ≤ width_of c + total_of cs
+    by true most = omega arith
+    by false most = omega (arith, most)
+
+-- with more characters there are no fewer columns
+pub columns-grow : (xs ys : List ℕ) → columns_of xs ≤ columns_of (xs ++ ys)
+columns-grow xs ys = rw (columns-append xs ys) (by (list_all hangs ys))
+  where
+    by : (b : Bool) → columns_of xs ≤ (if b then columns_of xs else total_of xs + columns_of ys)
+    by true = omega arith
+    by false = omega (arith, columns-most xs)
+
+pub total-most : (cs : List ℕ) → total_of cs ≤ 3 * length cs
+unfolding total_of
+total-most [] = omega arith
+total-most (c ∷ cs) = omega (arith, width_or_zero-le false (shown c), total-most cs)
+
+-- a character by itself
+abbrev one_of : Bool → ℕ → Extent
+one_of b w = record { columns = if b then 0 else w; inner_columns = w; hangs = b }
+
+extent-one : (c : ℕ) → extent_of (c ∷ []) ≡ one_of (hangs c) (width_of c)
+unfolding columns_of total_of
+extent-one c = by (hangs c) (width_of c)
+  where
+    extent : ℕ → ℕ → Bool → Extent
+    extent columns total b = record { columns = columns; inner_columns = total; hangs = b }
+
+    by : (b : Bool) (w : ℕ) → extent (if b && true then 0 else w + 0) (w + 0) (b && true) ≡ one_of b w
+    by true w = ap (λ (n : ℕ). extent 0 n true) (omega arith)
+    by false w = ap (λ (n : ℕ). extent n n false) (omega arith)
+
+pub extent-hanging : (c width : ℕ) → width ≡ width_of c → hangs c ≡ true → one_of true width ≡ extent_of (c ∷ [])
+extent-hanging c width is does = sym (extent-one c ∙ rw (does, is) refl)
+
+pub extent-standing : (c width : ℕ) → width ≡ width_of c → hangs c ≡ false → one_of false width ≡ extent_of (c ∷ [])
+extent-standing c width is does = sym (extent-one c ∙ rw (does, is) refl)
+
+-- ---- a text is read item by item
+
+pub measuring-start : (text : Text) (extent : Extent) → extent ≡ extent_of [] → IsMeasuring text text extent
+measuring-start text extent none = record { read = []; measured = none; characters = refl }
+
+pub measuring-next : (text rest later : Text) (item : Item) (before one after : Extent) → IsMeasuring text rest before → rest.items ≡ item ∷ later.items
+    → one ≡ extent_of (item.1 ∷ []) → after ≡ joined before one → IsMeasuring text later after
+measuring-next text rest later item before one after is starts here next = record {
+  read = is.read ++ item.1 ∷ [];
+  measured = rw (next, here, is.measured) (sym (extent-append is.read (item.1 ∷ [])));
+  characters = is.characters ∙ ap (λ (items : List Item). is.read ++ code_points items) starts ∙ sym (append_assoc is.read (item.1 ∷ []) (code_points later.items));
+}
+
+pub measuring-end : (text rest : Text) (extent : Extent) → IsMeasuring text rest extent → rest.items ≡ [] → extent ≡ extent_of (code_points text.items)
+measuring-end text rest extent is none =
+    is.measured ∙ ap extent_of (sym (is.characters ∙ ap (λ (items : List Item). is.read ++ code_points items) none ∙ append-nil is.read))
+
+-- what was read takes few columns
+pub measuring-room : (text rest : Text) (extent : Extent) → IsRising text.items text.end → IsMeasuring text rest extent
+    → extent.inner_columns + 3 * start_of text ≤ 3 * text.end
+measuring-room text rest extent rises is =
+    let all : length (code_points text.items) ≡ length is.read + length (code_points rest.items) = ap length is.characters ∙ length-append is.read (code_points rest.items) in
+    rw is.measured (omega (arith, total-most is.read, all, length-map text.items (λ (item : Item). item.1), few-items text.items text.end rises))
+
+pub one-within : (c : ℕ) (one : Extent) → one ≡ extent_of (c ∷ []) → one.columns ≤ one.inner_columns
+one-within c one is = rw is (columns-most (c ∷ []))

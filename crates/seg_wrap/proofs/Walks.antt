@@ -1,0 +1,265 @@
+-- Pieces of a text, put together.
+use Rattle.std.proofs.Common.{◌≡◌, ℕ, ◌+◌, ◌*◌, ◌<◌, ◌≤◌, List, [], ◌∷◌, ◌++◌, length, refl, sym, ap, ◌∙◌, subst, arith}
+use Rattle.std.specs.Prelude.{Bool, true, false, nat_lt, ◌||◌, ◌==◌, Option, Some, None}
+use Rattle.std.proofs.lemmas.Bool.{le-ltb, lt-ltb}
+use Rattle.std.proofs.lemmas.List.{take-map}
+use Rattle.seg_text.specs.declared.boundary.Boundary.{Boundary}
+use Rattle.seg_text.specs.Boundaries.{boundary}
+use Rattle.seg_text.specs.Items.{Item, Text, code_points, rest_after, start_of, text_before}
+use Rattle.seg_wrap.specs.declared.extent.Extent.{Extent}
+use Rattle.seg_wrap.specs.declared.wrapping.Piece.{Piece}
+use Rattle.seg_wrap.specs.Measures.{extent_of, joined}
+use Rattle.seg_wrap.specs.Walk.{AreCuts, IsGrowing, IsHeld, IsPiece, lines_held, rest_held, segment_at, segments_held}
+use Rattle.seg_wrap.specs.Wrapping.{Line, Segment, characters_before, columns_of, count_before, line_of, lines_from, onto, rest_from, segments_from}
+use Rattle.seg_wrap.proofs.Extents.{columns-most, extent-append}
+use Rattle.seg_wrap.proofs.Places.{characters-on, count-before-on, first-before, rest-of-characters, rest-on, start-before}
+
+-- two pieces as one
+abbrev pub joined_piece : Piece → Piece → Piece
+joined_piece line piece = record { end = piece.end; extent = joined line.extent piece.extent; is_mandatory = piece.is_mandatory }
+
+abbrev segment_with : Bool → List ℕ → Segment
+segment_with mark cs = record { characters = cs; is_mandatory = mark }
+
+-- a line, and the piece after it
+pub record IsPair (text : Text) (line piece : Piece) : Type 0 where
+  pub line_is : IsPiece text line
+  pub piece_is : IsPiece (rest_from line.end text) piece
+
+ends-later : (text : Text) (line piece : Piece) → IsPair text line piece → line.end ≤ piece.end
+ends-later text line piece is =
+    omega (arith, is.line_is.at, first-before (rest_from line.end text).items text.end piece.end is.piece_is.some)
+
+-- the characters of both, and their columns
+characters-of-both : (text : Text) (line piece : Piece) → IsPair text line piece
+    → characters_before piece.end text ≡ characters_before line.end text ++ characters_before piece.end (rest_from line.end text)
+characters-of-both text line piece is = characters-on text line.end piece.end (ends-later text line piece is)
+
+extent-of-both : (text : Text) (line piece : Piece) → IsPair text line piece
+    → joined line.extent piece.extent ≡ extent_of (characters_before line.end text ++ characters_before piece.end (rest_from line.end text))
+extent-of-both text line piece is =
+    rw (is.line_is.measured, is.piece_is.measured)
+    (sym (extent-append (characters_before line.end text) (characters_before piece.end (rest_from line.end text))))
+
+columns-of-both : (text : Text) (line piece : Piece) → IsPair text line piece
+    → (joined line.extent piece.extent).columns ≡ columns_of (characters_before line.end text ++ characters_before piece.end (rest_from line.end text))
+columns-of-both text line piece is = ap (λ (extent : Extent). extent.columns) (extent-of-both text line piece is)
+
+piece-of-both : (text : Text) (line piece : Piece) → IsPair text line piece → IsPiece text (joined_piece line piece)
+piece-of-both text line piece is =
+    let within = ends-later text line piece is in
+    record {
+      some = omega (arith, count-before-on text line.end piece.end within, is.line_is.some);
+      at = is.piece_is.at ∙ ap start_of (rest-on text line.end piece.end within);
+      measured = extent-of-both text line piece is ∙ ap extent_of (sym (characters-of-both text line piece is));
+      small = omega (arith, is.line_is.small, is.piece_is.small, is.line_is.at);
+    }
+
+rest-of-both : (text : Text) (line piece : Piece) → IsPair text line piece → rest_from piece.end (rest_from line.end text) ≡ rest_from piece.end text
+rest-of-both text line piece is = rest-on text line.end piece.end (ends-later text line piece is)
+
+-- ---- a line grows
+
+pub grow-start : (limit : ℕ) (text here after : Text) (first : Piece) (held : Option Piece) (before boundaries : List Boundary)
+    → IsPiece text first → here ≡ rest_from first.end text → segments_held here held boundaries ≡ segments_from here before
+    → IsHeld here held boundaries → after ≡ rest_held here held
+    → IsGrowing limit text (lines_from limit (segment_at text first) (segments_from (rest_from first.end text) before)) first held boundaries after
+grow-start limit text here after first held before boundaries is at segments held_is after_is = record {
+  piece = is;
+  held_is = subst (λ (t : Text). IsHeld t held boundaries) at held_is;
+  after_is = after_is ∙ ap (λ (t : Text). rest_held t held) at;
+  lines = ap (lines_from limit (segment_at text first)) (subst (λ (t : Text). segments_held t held boundaries ≡ segments_from t before) at segments);
+}
+
+pair-of : (limit : ℕ) (text after : Text) (owed : List Line) (line piece : Piece) (boundaries : List Boundary)
+    → IsGrowing limit text owed line (Some piece) boundaries after → IsPair text line piece
+pair-of limit text after owed line piece boundaries is = record { line_is = is.piece; piece_is = is.held_is.0 }
+
+grow-on : (limit : ℕ) (text here after : Text) (owed : List Line) (line piece : Piece) (before : List Boundary) (held : Option Piece) (boundaries : List Boundary)
+    → IsGrowing limit text owed line (Some piece) before here
+    → (line.is_mandatory || nat_lt limit (joined line.extent piece.extent).columns) ≡ false
+    → segments_held here held boundaries ≡ segments_from here before → IsHeld here held boundaries → after ≡ rest_held here held
+    → IsGrowing limit text owed (joined_piece line piece) held boundaries after
+unfolding lines_from
+grow-on limit text here after owed line piece before held boundaries is goes segments held_is after_is =
+    let pair = pair-of limit text here owed line piece before is in
+    let there : here ≡ rest_from piece.end text = is.after_is ∙ rest-of-both text line piece pair in
+    let further : (line.is_mandatory || nat_lt limit (columns_of (characters_before line.end text ++ characters_before piece.end (rest_from line.end text)))) ≡ false
+    = subst (λ (n : ℕ). (line.is_mandatory || nat_lt limit n) ≡ false) (columns-of-both text line piece pair) goes in
+    let owes = rw further at is.lines in
+    let same : segments_held (rest_from piece.end text) held boundaries ≡ segments_from (rest_from piece.end (rest_from line.end text)) before
+    = subst (λ (t : Text). segments_held t held boundaries ≡ segments_from here before) there segments
+    ∙ ap (λ (t : Text). segments_from t before) is.after_is in
+    let segment : segment_at text (joined_piece line piece) ≡ onto (segment_at text line) (segment_at (rest_from line.end text) piece)
+    = ap (λ (cs : List ℕ). segment_with piece.is_mandatory cs) (characters-of-both text line piece pair) in
+    record {
+      piece = piece-of-both text line piece pair;
+      held_is = subst (λ (t : Text). IsHeld t held boundaries) there held_is;
+      after_is = after_is ∙ ap (λ (t : Text). rest_held t held) there;
+      lines = ap (lines_from limit (segment_at text (joined_piece line piece))) same
+          ∙ ap (λ (s : Segment). lines_from limit s (segments_from (rest_from piece.end (rest_from line.end text)) before)) segment
+          ∙ owes;
+    }
+
+grow-stop : (limit : ℕ) (text here : Text) (owed : List Line) (line piece : Piece) (boundaries : List Boundary)
+    → IsGrowing limit text owed line (Some piece) boundaries here
+    → (line.is_mandatory || nat_lt limit (joined line.extent piece.extent).columns) ≡ true
+    → owed ≡ line_of (segment_at text line) ∷ lines_held limit (rest_from line.end text) (Some piece) boundaries
+unfolding lines_from
+grow-stop limit text here owed line piece boundaries is stops =
+    let stopped : (line.is_mandatory || nat_lt limit (columns_of (characters_before line.end text ++ characters_before piece.end (rest_from line.end text)))) ≡ true
+    = subst (λ (n : ℕ). (line.is_mandatory || nat_lt limit n) ≡ true) (columns-of-both text line piece (pair-of limit text here owed line piece boundaries is)) stops in
+    sym (rw stopped at is.lines)
+
+grow-end : (limit : ℕ) (text here : Text) (owed : List Line) (line : Piece) (boundaries : List Boundary)
+    → IsGrowing limit text owed line None boundaries here
+    → owed ≡ line_of (segment_at text line) ∷ lines_held limit (rest_from line.end text) None boundaries
+unfolding lines_from
+grow-end limit text here owed line boundaries is = sym is.lines
+
+-- ---- one break is read
+
+-- the break that was read, of these boundaries
+abbrev pub IsRead : ℕ → Bool → List Boundary → List Boundary → Type 0
+IsRead end mark before after = (status : ℕ) × ((before ≡ boundary end status ∷ after) × (mark ≡ (status == 1)))
+
+pub none-segments : (text : Text) (given : Option Piece) (before after : List Boundary) → (before ≡ []) × (after ≡ []) → given ≡ None
+    → segments_held text given after ≡ segments_from text before
+unfolding segments_from
+none-segments text given before after empty none = rw (none, empty.0) refl
+
+pub none-held : (text : Text) (given : Option Piece) (before after : List Boundary) → AreCuts text before → (before ≡ []) × (after ≡ []) → given ≡ None
+    → IsHeld text given after
+unfolding AreCuts
+none-held text given before after cuts empty none =
+    let at_end : text.items ≡ [] = subst (AreCuts text) empty.0 cuts in
+    subst (λ (g : Option Piece). IsHeld text g after) (sym none) (at_end, empty.1)
+
+pub none-rest : (text : Text) (given : Option Piece) → given ≡ None → text ≡ rest_held text given
+none-rest text given none = rw none refl
+
+pub read-cuts : (text : Text) (end : ℕ) (mark : Bool) (before after : List Boundary) → AreCuts text before → IsRead end mark before after
+    → (0 < count_before end text) × ((end ≡ start_of (rest_from end text)) × AreCuts (rest_from end text) after)
+unfolding AreCuts
+read-cuts text end mark before after cuts is = subst (AreCuts text) is.1.0 cuts
+
+pub read-place : (text : Text) (end : ℕ) (mark : Bool) (before after : List Boundary) → AreCuts text before → IsRead end mark before after
+    → end ≡ start_of (rest_after (count_before end text) text)
+read-place text end mark before after cuts is = (read-cuts text end mark before after cuts is).1.0
+
+pub part-end : (text part : Text) (count end : ℕ) → part ≡ text_before count text → end ≡ start_of (rest_after count text) → part.end ≡ end
+part-end text part count end part_is at = ap (λ (t : Text). t.end) part_is ∙ sym at
+
+pub read-segments : (text : Text) (end : ℕ) (mark : Bool) (extent : Extent) (before after : List Boundary) → IsRead end mark before after
+    → segment_at text (record { end = end; extent = extent; is_mandatory = mark }) ∷ segments_from (rest_from end text) after ≡ segments_from text before
+unfolding segments_from
+read-segments text end mark extent before after is = rw (is.1.0, is.1.1) refl
+
+pub read-held : (text part : Text) (end : ℕ) (mark : Bool) (extent : Extent) (before after : List Boundary) → AreCuts text before → IsRead end mark before after
+    → part ≡ text_before (count_before end text) text → extent ≡ extent_of (code_points part.items)
+    → extent.inner_columns + 3 * start_of part ≤ 3 * part.end
+    → IsHeld text (Some (record { end = end; extent = extent; is_mandatory = mark })) after
+read-held text part end mark extent before after cuts is part_is measured small =
+    let parts = read-cuts text end mark before after cuts is in
+    let count : ℕ = count_before end text in
+    let first : start_of part ≡ start_of text = ap start_of part_is ∙ start-before count text parts.0 in
+    let last : part.end ≡ end = part-end text part count end part_is parts.1.0 in (
+      record {
+        some = parts.0;
+        at = parts.1.0;
+        measured = measured ∙ ap extent_of (ap (λ (t : Text). code_points t.items) part_is ∙ sym (take-map (λ (item : Item). item.1) count text.items));
+        small = omega (arith, small, first, last);
+      },
+      parts.1.1,
+    )
+
+-- ---- one piece more
+
+growing-at : (limit : ℕ) (text here : Text) (owed : List Line) (line : Piece) (held : Option Piece) (piece : Piece) (boundaries : List Boundary)
+    → IsGrowing limit text owed line held boundaries here → held ≡ Some piece → IsGrowing limit text owed line (Some piece) boundaries here
+growing-at limit text here owed line held piece boundaries is some = subst (λ (h : Option Piece). IsGrowing limit text owed line h boundaries here) some is
+
+pub turn-cuts : (limit : ℕ) (text here : Text) (owed : List Line) (line : Piece) (held : Option Piece) (piece : Piece) (boundaries : List Boundary)
+    → IsGrowing limit text owed line held boundaries here → held ≡ Some piece → AreCuts here boundaries
+turn-cuts limit text here owed line held piece boundaries is some =
+    let growing = growing-at limit text here owed line held piece boundaries is some in
+    subst (λ (t : Text). AreCuts t boundaries) (sym growing.after_is) growing.held_is.1
+
+pub turn-room : (limit : ℕ) (text here : Text) (owed : List Line) (line : Piece) (held : Option Piece) (piece : Piece) (boundaries : List Boundary)
+    → IsGrowing limit text owed line held boundaries here → held ≡ Some piece
+    → line.extent.inner_columns + piece.extent.inner_columns ≤ 3 * line.end + 3 * piece.end
+turn-room limit text here owed line held piece boundaries is some =
+    let growing = growing-at limit text here owed line held piece boundaries is some in
+    omega (arith, growing.piece.small, growing.held_is.0.small)
+
+pub turn-within : (limit : ℕ) (text here : Text) (owed : List Line) (line : Piece) (held : Option Piece) (piece : Piece) (boundaries : List Boundary)
+    → IsGrowing limit text owed line held boundaries here → held ≡ Some piece → piece.extent.columns ≤ piece.extent.inner_columns
+turn-within limit text here owed line held piece boundaries is some =
+    let growing = growing-at limit text here owed line held piece boundaries is some in
+    rw growing.held_is.0.measured (columns-most (characters_before piece.end (rest_from line.end text)))
+
+pub turn : (limit : ℕ) (text here after : Text) (owed : List Line) (line : Piece) (before : Option Piece) (piece : Piece) (extent : Extent) (left : List Boundary)
+    (held : Option Piece) (boundaries : List Boundary)
+    → IsGrowing limit text owed line before left here → before ≡ Some piece
+    → extent ≡ joined line.extent piece.extent → line.is_mandatory ≡ false → extent.columns ≤ limit
+    → segments_held here held boundaries ≡ segments_from here left → IsHeld here held boundaries → after ≡ rest_held here held
+    → IsGrowing limit text owed (record { end = piece.end; extent = extent; is_mandatory = piece.is_mandatory }) held boundaries after
+turn limit text here after owed line before piece extent left held boundaries is some both mark fits segments held_is after_is =
+    let goes : (line.is_mandatory || nat_lt limit (joined line.extent piece.extent).columns) ≡ false = rw mark (subst (λ (e : Extent). nat_lt limit e.columns ≡ false) both (le-ltb limit extent.columns fits)) in
+    subst (λ (e : Extent). IsGrowing limit text owed (record { end = piece.end; extent = e; is_mandatory = piece.is_mandatory }) held boundaries after) (sym both)
+    (grow-on limit text here after owed line piece left held boundaries (growing-at limit text here owed line before piece left is some) goes segments held_is after_is)
+
+-- with each piece fewer segments are left
+pub turn-fewer : (limit : ℕ) (text here : Text) (owed : List Line) (line : Piece) (before : Option Piece) (piece : Piece) (left : List Boundary)
+    (held : Option Piece) (boundaries : List Boundary)
+    → IsGrowing limit text owed line before left here → before ≡ Some piece
+    → segments_held here held boundaries ≡ segments_from here left
+    → length (segments_held (rest_from piece.end text) held boundaries) < length (segments_held (rest_from line.end text) before left)
+turn-fewer limit text here owed line before piece left held boundaries is some segments =
+    let growing = growing-at limit text here owed line before piece left is some in
+    let there : here ≡ rest_from piece.end text = growing.after_is ∙ rest-of-both text line piece (pair-of limit text here owed line piece left growing) in
+    let same : segments_held (rest_from piece.end text) held boundaries ≡ segments_from (rest_from piece.end (rest_from line.end text)) left
+    = subst (λ (t : Text). segments_held t held boundaries ≡ segments_from here left) there segments
+    ∙ ap (λ (t : Text). segments_from t left) growing.after_is in
+    rw (some, same) (omega arith)
+
+pub turn-stop : (limit : ℕ) (text here : Text) (owed : List Line) (line : Piece) (held : Option Piece) (piece : Piece) (extent : Extent) (boundaries : List Boundary)
+    → IsGrowing limit text owed line held boundaries here → held ≡ Some piece
+    → extent ≡ joined line.extent piece.extent → (line.is_mandatory || nat_lt limit extent.columns) ≡ true
+    → owed ≡ line_of (segment_at text line) ∷ lines_held limit (rest_from line.end text) (Some piece) boundaries
+turn-stop limit text here owed line held piece extent boundaries is some both stops =
+    grow-stop limit text here owed line piece boundaries (growing-at limit text here owed line held piece boundaries is some)
+    (subst (λ (e : Extent). (line.is_mandatory || nat_lt limit e.columns) ≡ true) both stops)
+
+pub turn-end : (limit : ℕ) (text here : Text) (owed : List Line) (line : Piece) (held : Option Piece) (boundaries : List Boundary)
+    → IsGrowing limit text owed line held boundaries here → held ≡ None
+    → owed ≡ line_of (segment_at text line) ∷ lines_held limit (rest_from line.end text) held boundaries
+turn-end limit text here owed line held boundaries is none =
+    rw none (grow-end limit text here owed line boundaries (subst (λ (h : Option Piece). IsGrowing limit text owed line h boundaries here) none is))
+
+-- the line that is found is given
+pub given-span : (limit : ℕ) (text rest : Text) (held : Option Piece) (first line : Piece) (next : Option Piece) (left later : List Boundary)
+    → held ≡ Some first → IsPiece text line → rest ≡ rest_from line.end text
+    → lines_from limit (segment_at text first) (segments_from (rest_from first.end text) left) ≡ line_of (segment_at text line) ∷ lines_held limit (rest_from line.end text) next later
+    → (one : Line) × ((lines_held limit text held left ≡ one ∷ lines_held limit rest next later) × ((rest ≡ rest_after (length one.characters) text)
+    × ((line.end ≡ start_of rest) × ((line.extent.columns ≡ one.columns) × (line.is_mandatory ≡ one.is_mandatory)))))
+given-span limit text rest held first line next left later held_is is rest_is lines = (
+  line_of (segment_at text line),
+  (
+    rw held_is (lines ∙ ap (λ (t : Text). line_of (segment_at text line) ∷ lines_held limit t next later) (sym rest_is)),
+    (
+      rest_is ∙ sym (rest-of-characters text line.end),
+      (
+        is.at ∙ ap start_of (sym rest_is),
+        (ap (λ (extent : Extent). extent.columns) is.measured, refl),
+      ),
+    ),
+  ),
+)
+
+pub either-first : (a b : Bool) → a ≡ true → (a || b) ≡ true
+either-first a b is = rw is refl
+
+pub either-second : (a : Bool) (limit columns : ℕ) → limit < columns → (a || nat_lt limit columns) ≡ true
+either-second true limit columns more = refl
+either-second false limit columns more = lt-ltb limit columns more

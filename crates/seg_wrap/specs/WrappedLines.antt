@@ -1,0 +1,39 @@
+-- What is seen of lines that are given, and of iterators over them.
+use Rattle.std.specs.Prelude.{ℕ, List}
+use Rattle.std.specs.List.{flat_map}
+use Rattle.seg_text.specs.Utf8.{utf8}
+use Rattle.seg_lines.specs.LineBreaks.{LineRules, line_boundaries_of}
+use Rattle.seg_lines.specs.Lines.{line_rules}
+use Rattle.seg_wrap.specs.declared.wrapper.LineWrapper.{LineWrapper}
+use Rattle.seg_wrap.specs.declared.wrapper.WrappedLine.{WrappedLine}
+use Rattle.seg_wrap.specs.declared.wrapper.WrapIterator.{WrapIterator}
+use Rattle.seg_wrap.specs.declared.wrapper.WrappedUtf8Line.{WrappedUtf8Line}
+use Rattle.seg_wrap.specs.declared.wrapper.WrapUtf8Iterator.{WrapUtf8Iterator}
+use Rattle.seg_wrap.specs.Wrapping.{TextLine, segments_of, text_lines, wrapped_lines}
+
+-- the lines of possibly ill-formed UTF-8, wrapped to so many columns at the breaks that these rules find
+abbrev pub wrapped_text : LineRules → ℕ → List ℕ → List TextLine
+wrapped_text rules limit bytes =
+    text_lines bytes (utf8 bytes) (wrapped_lines limit (segments_of (utf8 bytes) (line_boundaries_of rules (utf8 bytes))))
+
+-- what lines stand in, one after another
+abbrev pub joined_units : List TextLine → List ℕ
+joined_units lines = flat_map (λ line. line.units) lines
+
+-- what a wrapper finds line breaks by
+abbrev pub wrapper_rules : LineWrapper → LineRules
+wrapper_rules wrapper = line_rules wrapper.lines
+
+-- a line that was given
+abbrev pub line_in : WrappedLine → TextLine
+line_in line = record { units = line.text.now; columns = line.columns; is_mandatory = line.is_mandatory }
+
+abbrev pub utf8_line_in : WrappedUtf8Line → TextLine
+utf8_line_in line = record { units = line.bytes.now; columns = line.columns; is_mandatory = line.is_mandatory }
+
+-- the lines that an iterator has still to give
+abbrev pub lines_to_come : WrapIterator → List TextLine
+lines_to_come iterator = text_lines iterator.text.now iterator.lines.text iterator.lines.lines
+
+abbrev pub utf8_lines_to_come : WrapUtf8Iterator → List TextLine
+utf8_lines_to_come iterator = text_lines iterator.bytes.now iterator.lines.text iterator.lines.lines

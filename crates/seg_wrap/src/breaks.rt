@@ -1,0 +1,48 @@
+//! Where lines may end.
+
+ghost use Rattle.std.specs.Prelude.{List};
+ghost use Rattle.seg_lines.specs.Lines.{lines_left};
+ghost use Rattle.seg_text.specs.declared.boundary.Boundary.{Boundary};
+ghost use Rattle.seg_wrap.specs.Walk.{ReadsBreak};
+
+use seg_lines::line::LineBreakIterator;
+use seg_text::scaffold::{PotentiallyIllFormedUtf8, Utf8};
+
+/// A place where a line may end.
+#[derive(Clone, Copy, Debug)]
+pub(crate) struct Break {
+    /// The place, in units.
+    pub(crate) end: usize,
+    /// Whether the line must end there.
+    pub(crate) is_mandatory: bool,
+}
+
+/// What gives the breaks of a text, in order.
+pub(crate) trait Breaks: Drop {
+    /// The boundaries that are still to come.
+    ghost left: { Self → List Boundary };
+
+    /// The next break. None at the end, and from then on.
+    fn next_break(&mut self) -> Option<Break>
+        ensures { ReadsBreak (left self.old) result (left self.new) };
+}
+
+impl<'data, 's> Breaks for LineBreakIterator<'data, 's, Utf8> {
+    ghost left = { λ lines. lines_left lines };
+
+    fn next_break(&mut self) -> Option<Break> {
+        let end = self.next()?;
+        let is_mandatory = self.is_mandatory();
+        Some(Break { end, is_mandatory })
+    }
+}
+
+impl<'data, 's> Breaks for LineBreakIterator<'data, 's, PotentiallyIllFormedUtf8> {
+    ghost left = { λ lines. lines_left lines };
+
+    fn next_break(&mut self) -> Option<Break> {
+        let end = self.next()?;
+        let is_mandatory = self.is_mandatory();
+        Some(Break { end, is_mandatory })
+    }
+}

@@ -1,0 +1,108 @@
+//! How many columns characters take, at a line's end and before it.
+
+ghost use Rattle.std.specs.Prelude.{◌≡◌, ◌+◌, ◌*◌, ◌≤◌, ◌<◌, ◌^◌, ◌∷◌, [], length};
+ghost use Rattle.seg_text.specs.Items.{code_points, start_of};
+ghost use Rattle.seg_wrap.specs.Measures.{extent_of, joined};
+ghost use Rattle.seg_wrap.specs.Wrapping.{hangs, shown, width_of};
+
+use seg_text::cursor::Cursor;
+use unicode_width::UnicodeWidthChar;
+
+// The character that is shown for a code point.
+fn shown(code_point: u32) -> char
+    ensures { result ≡ shown code_point }
+{
+    char::from_u32(code_point).unwrap_or(char::REPLACEMENT_CHARACTER)
+}
+
+// The columns of a code point.
+fn width_of(code_point: u32) -> u128
+    ensures value { result ≡ width_of code_point }
+    ensures bound { result ≤ 3 }
+{
+    match shown(code_point).width() {
+        Some(width) => width as u128,
+        None => 0,
+    }
+}
+
+// Whether a character hangs at a line's end.
+fn hangs(code_point: u32) -> bool
+    ensures { result ≡ hangs code_point }
+{
+    code_point == 0x20 || code_point == 0xA || code_point == 0xD
+}
+
+/// The columns of some characters.
+#[derive(Clone, Copy, Debug)]
+pub(crate) struct Extent {
+    /// Where they end a line: what hangs at its end isn't counted.
+    pub(crate) columns: u128,
+    /// Where others follow them on the line.
+    pub(crate) inner_columns: u128,
+    /// Whether all of them hang at a line's end.
+    pub(crate) hangs: bool,
+}
+
+impl Extent {
+    /// That of no character.
+    fn none() -> Self
+        ensures { result ≡ extent_of [] }
+    {
+        Extent {
+            columns: 0,
+            inner_columns: 0,
+            hangs: true,
+        }
+    }
+
+    /// That of a character.
+    fn of_character(code_point: u32) -> Self
+        ensures value { result ≡ extent_of (code_point ∷ []) }
+        ensures bound { result.inner_columns ≤ 3 }
+    {
+        let width = width_of(code_point);
+        if hangs(code_point) {
+            return Extent {
+                columns: 0,
+                inner_columns: width,
+                hangs: true,
+            };
+        }
+        Extent {
+            columns: width,
+            inner_columns: width,
+            hangs: false,
+        }
+    }
+
+    /// That of these characters and then others.
+    pub(crate) fn joined(self, after: Extent) -> Self
+        requires room { self.inner_columns + after.inner_columns < 2 ^ 128 }
+        requires within { after.columns ≤ after.inner_columns }
+        ensures { result ≡ joined self after }
+    {
+        Extent {
+            columns: if after.hangs {
+                self.columns
+            } else {
+                self.inner_columns + after.columns
+            },
+            inner_columns: self.inner_columns + after.inner_columns,
+            hangs: self.hangs && after.hangs,
+        }
+    }
+
+    /// That of what is left of a text.
+    pub(crate) fn of_text<I: Cursor>(mut text: I) -> Self
+        requires { (I.text text).end < 2 ^ 64 }
+        ensures measured { result ≡ extent_of (code_points (I.text text).items) }
+        ensures small { result.inner_columns + 3 * start_of (I.text text) ≤ 3 * (I.text text).end }
+    {
+        let mut extent = Extent::none();
+        'items: while let Some((_, code_point)) = text.next_item() {
+            extent = extent.joined(Extent::of_character(code_point));
+        }
+        extent
+    }
+}

@@ -1,0 +1,8 @@
+//! Lines of texts, wrapped to columns.
+#![tactic(auto)]
+
+mod breaks;
+mod extent;
+pub mod laws;
+pub mod wrapper;
+mod wrapping;
