@@ -60,12 +60,12 @@ pub record IsGrowing (limit : ℕ) (text : Text) (owed : List Line) (line : Piec
   pub lines : lines_from limit (segment_at text line) (segments_held (rest_from line.end text) held boundaries) ≡ owed
 
 -- what is left of a text, and the lines that it has
-pub record Remainder : Type 0 where
+pub record LinesLeft : Type 0 where
   pub text : Text
   pub lines : List Line
 
 -- the first of those lines was given, by the places where it begins and ends
-abbrev pub GivesSpan : Remainder → Option Span → Remainder → Type 0
+abbrev pub GivesSpan : LinesLeft → Option Span → LinesLeft → Type 0
 GivesSpan before result after =
     MatchOption result ((before.lines ≡ []) × (after ≡ before)) (λ span.
     (line : Line) × ((before.lines ≡ line ∷ after.lines) × ((after.text ≡ rest_after (length line.characters) before.text)

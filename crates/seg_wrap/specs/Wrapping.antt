@@ -12,7 +12,7 @@ use Rattle.seg_text.specs.Items.{Item, Text, code_points, rest_after, start_of}
 abbrev pub hangs : ℕ → Bool
 hangs c = (c == 0x20) || (c == 0xA) || (c == 0xD)
 
--- the character that is shown for a code point: a surrogate is shown as U+FFFD
+-- the character that is shown for a code point: U+FFFD where it is none itself
 abbrev pub shown : ℕ → ℕ
 shown c = if nat_lt c 0xD800 || (nat_le 0xE000 c && nat_le c 0x10FFFF) then c else 0xFFFD
 

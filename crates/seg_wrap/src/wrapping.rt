@@ -45,9 +45,9 @@ pub(crate) struct Wrapping<I: Cursor, B: Breaks> {
 
 impl<I: Cursor, B: Breaks> Model for Wrapping<I, B> {
     ghost use Rattle.std.specs.Prelude.{◌≡◌};
-    ghost use Rattle.seg_wrap.specs.Walk.{IsHeld, Remainder, lines_held, rest_held};
+    ghost use Rattle.seg_wrap.specs.Walk.{IsHeld, LinesLeft, lines_held, rest_held};
 
-    ghost Value = { Remainder };
+    ghost Value = { LinesLeft };
 
     ghost view = { λ s. record { text = I.text s.rest; lines = lines_held s.columns (I.text s.rest) s.held (B.left s.breaks) } };
 
@@ -113,7 +113,8 @@ fn next_piece<I: Cursor, B: Breaks>(breaks: &mut B, after: &mut I) -> Option<Pie
     })
 }
 
-/// The line that begins with this piece of a text, and the piece after it. The cursor goes over both.
+/// The line that begins with this piece of a text, and the piece after it. The cursor goes over both. The text itself, `rest`, is
+/// what the contract speaks of.
 fn next_line<I: Cursor, B: Breaks>(
     breaks: &mut B,
     after: &mut I,

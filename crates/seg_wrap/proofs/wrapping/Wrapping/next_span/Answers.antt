@@ -1,6 +1,6 @@
 use Rattle.std.proofs.Common.{ap, sym, ◌∙◌, length}
 use Rattle.seg_text.specs.Items.{rest_after, start_of}
-use Rattle.seg_wrap.specs.Walk.{Remainder}
+use Rattle.seg_wrap.specs.Walk.{LinesLeft}
 use Rattle.seg_wrap.proofs.Walks.{given-span}
 use Rattle.seg_wrap.proofs.wrapping.Wrapping.next_span.Goals as goal
 
@@ -9,11 +9,11 @@ returns g c =
     let span = given-span _ _ _ _ _ _ _ _ _ c.in_ok-first.was c.next_line-held.ensures.piece (c.seek.ensures _ c.next_line-held.ensures.piece.at) c.next_line-held.ensures.lines in (
       span.0,
       (
-        ap (λ (left : Remainder). left.lines) (sym c.self.view_is) ∙ span.1.0,
+        ap (λ (left : LinesLeft). left.lines) (sym c.self.view_is) ∙ span.1.0,
         (
-          span.1.1.0 ∙ ap (λ (left : Remainder). rest_after (length span.0.characters) left.text) c.self.view_is,
+          span.1.1.0 ∙ ap (λ (left : LinesLeft). rest_after (length span.0.characters) left.text) c.self.view_is,
           (
-            c.place-start.ensures ∙ ap (λ (left : Remainder). start_of left.text) c.self.view_is,
+            c.place-start.ensures ∙ ap (λ (left : LinesLeft). start_of left.text) c.self.view_is,
             span.1.1.1,
           ),
         ),
