@@ -9,6 +9,7 @@ mod lines;
 mod memo;
 mod sentences;
 mod words;
+mod wrapped;
 
 use crate::clusters::cluster_places;
 use crate::data::{runs_by_machine, runs_by_table};
@@ -16,6 +17,7 @@ use crate::lines::{breakall_segmenter, filled_lines, mandatory_breaks};
 use crate::memo::cluster_look_ups;
 use crate::sentences::sentence_boundary_count;
 use crate::words::{tokens, word_count};
+use crate::wrapped::paragraph_height;
 use anyhow::Result;
 use bench::clusters::cluster_machine;
 use bench::dictionaries::dictionaries;
@@ -26,6 +28,7 @@ use icu_segmenter::options::{
     LineBreakOptions, SentenceBreakInvariantOptions, WordBreakInvariantOptions,
 };
 use icu_segmenter::provider::LineTailoringsBorrowed;
+use icu_segmenter::wrap::LineWrapper;
 use icu_segmenter::{
     GraphemeClusterSegmenterBorrowed, LineSegmenterBorrowed, SentenceSegmenterBorrowed,
     WordSegmenterBorrowed,
@@ -107,7 +110,15 @@ fn print_lines(rt: &HostRuntime, lines: LineSegmenterBorrowed<'_>) -> Result<()>
     let mandatory = mandatory_breaks(alloc, lines, "a b\nc")?;
     print(rt, "where they must be broken", mandatory.as_slice())?;
     let ends = filled_lines(alloc, lines, "one two three\nfour abcdefgh", 8)?;
-    print(rt, "lines of a width of 8", ends.as_slice())
+    print(rt, "lines of a width of 8", ends.as_slice())?;
+    print_height(rt, LineWrapper::new(lines)?)
+}
+
+fn print_height(rt: &HostRuntime, wrapper: LineWrapper<'_>) -> Result<()> {
+    let text = "Hello World. Xin chào thế giới!";
+    let height = paragraph_height(wrapper, text, 12);
+    println!(rt; "height of {text} at 12 columns: {height}")?;
+    Ok(())
 }
 
 fn find_lines_beside_letters(rt: &HostRuntime) -> Result<()> {

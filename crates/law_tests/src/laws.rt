@@ -20,6 +20,7 @@ use seg_line_rules::laws as unit;
 use seg_line_rules::line_pairs::LinePairs;
 use seg_line_rules::options::LineStyle;
 use seg_line_turns::laws as turn;
+use seg_line_turns::turn_pairs::TurnPairs;
 use seg_lines::laws as line;
 use seg_pairs::laws::{no_run_without_complex, small_tables_find};
 use seg_words::laws as word;
@@ -128,7 +129,8 @@ fn laws_of_the_parts_of_segmenters(rt: HostRuntime) -> Result<(), Fail> {
     turn::boundaries_are_one();
     turn::strict_cover();
     turn::equal_code_points();
-    turn::mark_law();
+    let turns = turn_table(rt.alloc())?;
+    turn::mark_law(TurnPairs::try_new(&turns, &clusters, style)?);
     turn::plain_texts();
     Ok(())
 }

@@ -1,5 +1,5 @@
 -- No boundary of the engine 17 stands before a mark that is glued.
-use Rattle.std.proofs.Common.{◌≡◌, ℕ, zero, suc, ◌+◌, ◌<◌, ◌≤◌, ◌&&◌, ◌||◌, not, Bool, true, false, cond, Option, Some, None, List, [], ◌∷◌, ◌++◌, length, drop, refl, sym, ap, ◌∙◌, subst, arith}
+use Rattle.std.proofs.Common.{◌≡◌, ℕ, zero, suc, ◌+◌, ◌<◌, ◌≤◌, ◌&&◌, ◌||◌, not, Bool, true, false, cond, if◌then◌else◌, Option, Some, None, List, [], ◌∷◌, ◌++◌, length, drop, refl, sym, ap, ◌∙◌, subst, arith}
 use Rattle.std.specs.Prelude.{slice_get}
 use Rattle.std.specs.Option.{option_map_or}
 use Rattle.std.proofs.lemmas.List.{length-drop}
@@ -12,16 +12,18 @@ use Rattle.seg_text.specs.Cuts.{Cuts, with_status}
 use Rattle.seg_pair_data.specs.declared.provider.pairs.BreakState.{BreakState}
 use Rattle.seg_pair_data.specs.declared.provider.pairs.BreakState.TheVariants.{Break, Keep, NoMatch, Intermediate, Index}
 use Rattle.seg_pair_data.specs.BreakStates.{named_state, is_intermediate}
-use Rattle.seg_pair_data.specs.PairTable.{entry_of}
+use Rattle.seg_pair_data.specs.PairTable.{IsPairTable, class_of, entry_of}
+use Rattle.seg_pair_data.proofs.Pairs.{class-below, class-table}
 use Rattle.seg_pairs.specs.Walk.{is_class}
 use Rattle.seg_line_rules.specs.LineRules.{LineRules}
 use Rattle.seg_line_rules.proofs.Inside.{rises-le}
 use Rattle.seg_line_rules.proofs.LineStretches.{StandInside}
 use Rattle.seg_line_rules.proofs.MarkLaw.{get-drop}
 use Rattle.seg_line_turns.specs.TurnBoundaries.{is_complex_point, run_length, run_of, stretch_of, turn_stretch, later_turns, turn_boundaries}
+use Rattle.seg_line_turns.specs.TurnClasses.{ID}
 use Rattle.seg_line_turns.specs.TurnLists.{keeps, listed}
 use Rattle.seg_line_turns.specs.TurnMarks.{KeepsTurnMarks, StartsBear}
-use Rattle.seg_line_turns.specs.TurnReadings.{turn_class}
+use Rattle.seg_line_turns.specs.TurnReadings.{is_read_as_id, turn_class}
 use Rattle.seg_line_turns.specs.TurnSets.{is_mark, is_glue, is_glued, bears_none, is_complex, is_complex_mark, is_letter, is_hyphen, is_start, is_before_quote, is_after_quote, is_before_hyphen, is_joiner, is_space, is_zero_space, is_infix, is_digit, is_quote, is_contingent}
 use Rattle.seg_line_turns.specs.TurnUnits.{LeftUnit, with_item, is_joined, left_unit}
 use Rattle.seg_line_turns.specs.Turns.{comes, to_base, sticks, Turn, Walking, turn_unless, walk_end_turn, walk_back_turn, walk_stop_turn, walk_begin, WalkStep, walk_step, walk_by, walk_turn, table_turn, quote_turn, begins_marked, list_turn, right_turn, is_taken, opens, turn, start_unit, first_unit}
@@ -36,6 +38,19 @@ some-same x y is = ap (λ found. option_map_or (λ z. z) found x) is
 
 false-not : false ≡ true → ⊥
 false-not is = cc
+
+-- each code point's class is one of the table's, read as ID or not
+pub class-below-count : (rules : LineRules) → IsPairTable rules.table → ID < rules.table.property_count → (code_point : ℕ)
+    → turn_class rules code_point < rules.table.property_count
+unfolding turn_class
+class-below-count rules checked has_id code_point = on (is_read_as_id rules.style class)
+  where
+    class : ℕ
+    class = class_of rules.table None code_point
+
+    on : (is_id : Bool) → (if is_id then ID else class) < rules.table.property_count
+    on true = has_id
+    on false = class-below rules.table code_point class checked (class-table rules.table None code_point refl)
 
 -- a left unit bears marks as its last item does, and as its class, which the start of the text may have changed
 abbrev pub BearsAlike : LeftUnit → Type 0
@@ -266,10 +281,10 @@ module _ (rules : LineRules) where
             (item-parts left.last left.last_class right after at (untaken left (turn_class rules right) alike is))
             (stands-next rules whole left.last left.last_class right after at))
 
-  module _ (starts_bear : StartsBear rules.table) where
+  module _ (below : (code_point : ℕ) → turn_class rules code_point < rules.table.property_count) (starts_bear : StartsBear rules.table) where
     start-alike : (code_point : ℕ) (entry : BreakState) → entry_of rules.table rules.table.sot_property (turn_class rules code_point) ≡ entry
         → is_start (turn_class rules code_point) ≡ true → BearsAlike (start_unit (left_unit rules code_point) entry)
-    start-alike code_point (Index state) at is = starts-bear (turn_class rules code_point) is ∙ sym (starts_bear (turn_class rules code_point) state at)
+    start-alike code_point (Index state) at is = starts-bear (turn_class rules code_point) is ∙ sym (starts_bear (turn_class rules code_point) state (below code_point) at)
     start-alike code_point (Intermediate state) at is = refl
     start-alike code_point Break at is = refl
     start-alike code_point Keep at is = refl

@@ -1,5 +1,5 @@
 -- No boundary of lines by the engine 17 but the first stands before a mark, except after what bears none.
-use Rattle.std.specs.Prelude.{◌≡◌, ℕ, suc, true, false, Some, List, slice_get, Contains}
+use Rattle.std.specs.Prelude.{◌≡◌, ◌<◌, ℕ, suc, true, false, Some, List, slice_get, Contains}
 use Rattle.seg_text.specs.declared.boundary.Boundary.{Boundary}
 use Rattle.seg_text.specs.Boundaries.{offsets}
 use Rattle.seg_pair_data.specs.declared.provider.pairs.BreakState.TheVariants.{Index}
@@ -17,4 +17,4 @@ KeepsTurnMarks rules code_points found =
 
 -- at the start of a text no class is read as one that bears no marks
 abbrev pub StartsBear : PairTable → Type 0
-StartsBear t = (class state : ℕ) → entry_of t t.sot_property class ≡ Index state → bears_none state ≡ false
+StartsBear t = (class state : ℕ) → class < t.property_count → entry_of t t.sot_property class ≡ Index state → bears_none state ≡ false

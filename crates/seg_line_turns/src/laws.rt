@@ -9,6 +9,9 @@ ghost use Rattle.seg_line_rules.specs.LineRules.{LineRules};
 ghost use Rattle.seg_line_turns.specs.PlainTexts.{ArePlain, HasNoOpening, plain_boundaries, turn_units};
 ghost use Rattle.seg_line_turns.specs.TurnBoundaries.{HasOneTurnList, turn_boundaries};
 ghost use Rattle.seg_line_turns.specs.TurnMarks.{KeepsTurnMarks, StartsBear};
+ghost use Rattle.seg_line_turns.specs.TurnPairs.{turn_rules_by};
+
+use crate::turn_pairs::TurnPairs;
 
 /// Law: a list of code points has exactly one list of boundaries: the first is at its start, and the others come from the first turn of what
 /// is left, again and again.
@@ -30,10 +33,12 @@ pub fn equal_code_points()
 
 /// Law: no boundary but that at 0 stands before a code point of class CM, CM_EASTASIAN or ZWJ, except after one of class BK, CR, LF, NL, SP or
 /// ZW, provided that the table reads no class at the start of a text as one of these six.
-pub fn mark_law()
-    ensures { (cuts : Cuts) (rules : LineRules) → CutsCover cuts → StartsBear rules.table → (code_points : List ℕ)
-        → KeepsTurnMarks rules code_points (turn_boundaries (inside cuts) rules code_points) }
-{}
+pub fn mark_law(pairs: TurnPairs<'_>)
+    ensures { (cuts : Cuts) → CutsCover cuts → StartsBear (turn_rules_by pairs.entry).table → (code_points : List ℕ)
+        → KeepsTurnMarks (turn_rules_by pairs.entry) code_points (turn_boundaries (inside cuts) (turn_rules_by pairs.entry) code_points) }
+{
+    pairs.table().facts();
+}
 
 /// Law: on plain texts the boundaries are those of the verdicts on units by which lines by a pair table are found, with the classes, readings,
 /// KeepAll set and lists of the engine 17: CM_EASTASIAN is glued as CM is, and the loose list looks at the last code point of the left unit.

@@ -21,6 +21,7 @@ use Rattle.seg_complex.proofs.EqualWords.{same-run-cuts}
 use Rattle.seg_complex.proofs.SpanStretches.{span-some}
 use Rattle.seg_complex.proofs.UnwordedSpans.{inner-none}
 use Rattle.seg_line_rules.specs.declared.line_pairs.LinePairs.{LinePairs}
+use Rattle.seg_line_turns.specs.declared.turn_pairs.TurnPairs.{TurnPairs}
 use Rattle.seg_line_rules.specs.LineBoundaries.{inside, line_boundaries, line_stretch}
 use Rattle.seg_line_rules.specs.LinePairs.{rules_by}
 use Rattle.seg_line_rules.specs.LineRules.{LineRules as TableRules}
@@ -28,6 +29,7 @@ use Rattle.seg_line_rules.specs.MarkLaw.{KeepsMarks}
 use Rattle.seg_line_rules.proofs.LineRestarts.{line-restarts}
 use Rattle.seg_line_rules.proofs.LineStretches.{line-going}
 use Rattle.seg_line_turns.specs.TurnBoundaries.{turn_boundaries}
+use Rattle.seg_line_turns.specs.TurnMarks.{KeepsTurnMarks, StartsBear}
 use Rattle.seg_line_turns.specs.TurnPairs.{turn_rules_by}
 use Rattle.seg_line_turns.proofs.TurnStretches.{one-list}
 use Rattle.seg_lines.specs.Joined.{joined}
@@ -141,7 +143,7 @@ rules-in : LineFinder → TableRules → TableRules
 rules-in ByClusters other = other
 rules-in ByPlaces other = other
 rules-in (ByTable rules) other = rules
-rules-in (ByTurns rules) other = other
+rules-in (ByTurns rules) other = rules
 rules-in (ByMachine m) other = other
 
 pub marks-by-table : (own rules : TableRules) (payloads : Payloads) (code_points : List ℕ) → ByTable own ≡ ByTable rules
@@ -156,3 +158,18 @@ no-table Places rules none is = absurd cc
 no-table (Turns pairs) rules none is = absurd cc
 no-table (Machine machine) rules none is = absurd cc
 no-table (Table pairs) rules none is = none pairs refl
+
+pub marks-by-turns : (own rules : TableRules) (payloads : Payloads) (code_points : List ℕ) → ByTurns own ≡ ByTurns rules
+    → (StartsBear own.table → KeepsTurnMarks own code_points (boundaries_with (ByTurns own) payloads code_points))
+    → StartsBear rules.table → KeepsTurnMarks rules code_points (boundaries_with (ByTurns own) payloads code_points)
+unfolding rules-in
+marks-by-turns own rules payloads code_points is keeps =
+    subst (λ (rules : TableRules). StartsBear rules.table → KeepsTurnMarks rules code_points (boundaries_with (ByTurns own) payloads code_points))
+    (ap (λ (finder : LineFinder). rules-in finder own) is) keeps
+
+pub no-turns : (finder : Finder) (rules : TableRules) → ((pairs : TurnPairs) → finder ≡ Turns pairs → ⊥) → finder_of finder ≡ ByTurns rules → ⊥
+no-turns Clusters rules none is = absurd cc
+no-turns Places rules none is = absurd cc
+no-turns (Table pairs) rules none is = absurd cc
+no-turns (Machine machine) rules none is = absurd cc
+no-turns (Turns pairs) rules none is = none pairs refl

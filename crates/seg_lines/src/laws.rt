@@ -85,7 +85,9 @@ pub fn mark_law_17(segmenter: LineSegmenterBorrowed<'_>)
         → KeepsTurnMarks rules code_points (line_boundaries_by (line_rules segmenter.entry) code_points) }
 {
     segmenter.payloads.facts();
-    turn_laws::mark_law();
+    if let Finder::Turns(pairs) = segmenter.finder {
+        turn_laws::mark_law(pairs);
+    }
 }
 
 /// Law: by the engine 17, under every strictness but `Anywhere`, the boundaries of a plain text are those of the verdicts on units by which lines by

@@ -147,12 +147,13 @@ lookaheads-from : (m : Machine) (state : ℕ) → (HasMachineFault m LookaheadOu
 unfolding state_at
 lookaheads-from m state absent past = no-past m.num_lookaheads m.states state absent past
 
-past-less : (count : ℕ) (state : Acceptance × Option ℕ) → count ≤ 8 → NamesPast 8 state → NamesPast count state
-past-less count (Conditional lookahead status, naming) few (inr past) = inr (omega arith)
-past-less count (Accept status, naming) few (inr past) = absurd past
-past-less count (Continue, naming) few (inr past) = absurd past
-past-less count (acceptance, Some lookahead) few (inl past) = inl (omega arith)
-past-less count (acceptance, None) few (inl past) = absurd past
+-- a lookahead past many is past fewer
+pub past-fewer : (fewer many : ℕ) (state : Acceptance × Option ℕ) → fewer ≤ many → NamesPast many state → NamesPast fewer state
+past-fewer fewer many (Conditional lookahead status, naming) le (inr past) = inr (omega arith)
+past-fewer fewer many (Accept status, naming) le (inr past) = absurd past
+past-fewer fewer many (Continue, naming) le (inr past) = absurd past
+past-fewer fewer many (acceptance, Some lookahead) le (inl past) = inl (omega arith)
+past-fewer fewer many (acceptance, None) le (inl past) = absurd past
 
 plain-state : (m : Machine) (state : ℕ) → NamesPast 8 (state_at (bare m.states m.transitions) state) → NamesPast 8 (slice_index_or m.states state (Continue, None))
 unfolding state_at
@@ -168,7 +169,7 @@ bounded-from m some few size range lookaheads names = record {
   few_states = few;
   some_symbol = count-some m some (size-covers m size);
   in_range = λ state symbol here below. step-within (bare m.states m.transitions) state symbol range here below;
-  lookaheads = λ state past. no-past m.num_lookaheads m.states state names (past-less m.num_lookaheads _ lookaheads (plain-state m state past));
+  lookaheads = λ state past. no-past m.num_lookaheads m.states state names (past-fewer m.num_lookaheads 8 _ lookaheads (plain-state m state past));
 }
 
 pub count-plain : (m : Machine) (symbol : ℕ) → symbol < symbol_count m → symbol < symbol_count (bare m.states m.transitions)
@@ -185,7 +186,7 @@ bounded-checked m checked =
       few_states = checked.few_states;
       some_symbol = omega (arith, text.0, text.1);
       in_range = checked.in_range;
-      lookaheads = λ state past. checked.lookaheads state (past-less m.num_lookaheads _ checked.few_lookaheads (plain-state m state past));
+      lookaheads = λ state past. checked.lookaheads state (past-fewer m.num_lookaheads 8 _ checked.few_lookaheads (plain-state m state past));
     }
 
 pub below-18 : (m : Machine) → NoneBelow (HasMachineFault m) 17 → (HasEndCycle (bare m.states m.transitions) → ⊥) → NoneBelow (HasMachineFault m) 18

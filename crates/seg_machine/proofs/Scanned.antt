@@ -1,5 +1,5 @@
 -- The scan of a text, step by step.
-use Rattle.std.proofs.Common.{◌≡◌, ◌≢◌, ℕ, zero, suc, ◌<◌, ◌==◌, Bool, true, false, Option, Some, None, List, [], ◌∷◌, ◌++◌, length, replicate, min, IsSome, refl, sym, ◌∙◌, ap, arith, eq-eqb, ◌+◌, append_assoc, append-nil, length-append, inl, inr, subst}
+use Rattle.std.proofs.Common.{◌≡◌, ◌≢◌, ℕ, zero, suc, ◌<◌, ◌≤◌, ◌==◌, Bool, true, false, Option, Some, None, List, [], ◌∷◌, ◌++◌, length, replicate, min, IsSome, refl, sym, ◌∙◌, ap, arith, eq-eqb, ◌+◌, append_assoc, append-nil, length-append, inl, inr, subst}
 use Rattle.std.specs.Prelude.{is_some, IsNone}
 use Rattle.std.specs.Option.{option_map, option_map_or, option_or}
 use Rattle.seg_text.specs.declared.boundary.Boundary.{Boundary}
@@ -14,6 +14,7 @@ use Rattle.seg_machine.specs.Machine.{Machine, symbol_and_script, symbols_of, st
 use Rattle.seg_machine.specs.Pick.{last_step, acceptance_status, naming, condition, first_condition, picked_step, pick}
 use Rattle.seg_machine.specs.Checked.{IsChecked}
 use Rattle.seg_machine.specs.MachineFaults.{NamesPast}
+use Rattle.seg_machine.proofs.Machines.{past-fewer}
 use Rattle.seg_machine.proofs.Segmentations.{symbols_of-text}
 use Rattle.seg_machine.specs.Scan.{future, entries, place_for, condition_end, acceptance_after, places_after, Remembered, Scanned}
 use Rattle.seg_machine.proofs.Steps.{at_step, last_step-push}
@@ -189,23 +190,23 @@ pick-placed m text found is = rw is (on found)
     on None = refl
     on (Some f) = rw (length-map, length-map, drop_min) refl
 
-pub scanned-start : (m : Machine) (text : Text) (kept : List (Option ℕ)) (lookaheads : ℕ) → IsChecked m
-    → lookaheads ≡ m.num_lookaheads → kept ≡ replicate lookaheads None → Scanned m text 0 text kept None
+pub scanned-start : (m : Machine) (text : Text) (kept : List (Option ℕ)) (places : ℕ) → IsChecked m
+    → m.num_lookaheads ≤ places → kept ≡ replicate places None → Scanned m text 0 text kept None
 unfolding scan last_step
-scanned-start m text kept lookaheads checked count none = record {
+scanned-start m text kept places checked enough none = record {
   entered = [];
   whole = refl;
   rest = refl;
   in_range = checked.some_state;
   none_held = refl;
-  size = ap length none ∙ length-replicate lookaheads None ∙ count;
-  remembered = record { places = λ lookahead below. rw none (none-kept lookaheads lookahead); accepted_last = refl };
+  size = omega (arith, enough, ap length none ∙ length-replicate places None);
+  remembered = record { places = λ lookahead below. rw none (none-kept places lookahead); accepted_last = refl };
 }
 
 -- what a state may name, by the places that there are
-pub within : (m : Machine) (state : ℕ) (kept : List (Option ℕ)) → IsChecked m → length kept ≡ m.num_lookaheads
+pub within : (m : Machine) (state : ℕ) (kept : List (Option ℕ)) → IsChecked m → m.num_lookaheads ≤ length kept
     → NamesPast (length kept) (state_at m state) → ⊥
-within m state kept checked size past = checked.lookaheads state (subst (λ (n : ℕ). NamesPast n (state_at m state)) size past)
+within m state kept checked size past = checked.lookaheads state (past-fewer m.num_lookaheads (length kept) _ size past)
 
 -- a turn of the loop that goes on
 scanned-step : (m : Machine) (text : Text) (state : ℕ) (left : Text) (kept : List (Option ℕ)) (last : Option Boundary)
@@ -232,7 +233,7 @@ scanned-step m text state left kept last symbol rest next place checked s begins
           ∙ ap (λ (xs : List ℕ). first_condition (entries m s.entered) (entries m xs)) future-is
           ∙ first_condition-none (entries m s.entered) (entries m (future m next rest)) (state_at m next) no-condition
           ∙ ap (λ (xs : List (Acceptance × Option ℕ)). first_condition xs (entries m (future m next rest))) (sym pushed);
-      size = length-keep place (state_at m next) kept ∙ s.size;
+      size = omega (arith, s.size, length-keep place (state_at m next) kept);
       remembered = rw pushed (remembered-step text place (entries m s.entered) (state_at m next) kept last s.remembered here names);
     }
 

@@ -1,5 +1,5 @@
 -- What a scan keeps as it reads a text.
-use Rattle.std.specs.Prelude.{◌≡◌, ℕ, ◌<◌, Option, Some, None, List, [], ◌++◌, map, length, replicate, slice_set, slice_index_or}
+use Rattle.std.specs.Prelude.{◌≡◌, ℕ, ◌<◌, ◌≤◌, Option, Some, None, List, [], ◌++◌, map, length, replicate, slice_set, slice_index_or}
 use Rattle.std.specs.Option.{option_map, option_or}
 use Rattle.seg_text.specs.declared.boundary.Boundary.{Boundary}
 use Rattle.seg_text.specs.Boundaries.{boundary, boundary_in}
@@ -57,5 +57,5 @@ pub record Scanned
   pub none_held :
       first_condition [] (entries m (scan m (symbols_of m (code_points text.items))))
       ≡ first_condition (entries m entered) (entries m (future m state left))
-  pub size : length kept ≡ m.num_lookaheads
+  pub size : m.num_lookaheads ≤ length kept
   pub remembered : Remembered text (entries m entered) kept last

@@ -1,6 +1,6 @@
 //! Segments by a state machine.
 
-ghost use Rattle.std.specs.Prelude.{◌≡◌, ◌≢◌, ◌<◌, ◌≤◌, ⊤, ℕ, Some, None, IsNone, [], ◌∷◌, length, replicate};
+ghost use Rattle.std.specs.Prelude.{◌≡◌, ◌≢◌, ◌<◌, ◌≤◌, ⊤, ℕ, Some, None, IsNone, [], ◌∷◌, length};
 ghost use Rattle.std.specs.Option.{option_map, option_map_or};
 ghost use Rattle.std.specs.Iterator.{YieldsFirst, MakesProgress, item_count};
 ghost use Rattle.seg_text.specs.Items.{code_points, start_of, rest_after};
@@ -15,7 +15,6 @@ ghost use Rattle.seg_machine.specs.Scan.{acceptance_after, future, condition_end
 
 use crate::provider::{Acceptance, Lookahead, SegmenterStateMachine, Symbol};
 use crate::tailored_machine::TailoredMachineBorrowed;
-use arrayvec::ArrayVec;
 use seg_text::boundary::Boundary;
 use seg_text::cursor::Cursor;
 use std::marker::Model;
@@ -102,9 +101,12 @@ fn next_segment<I: Cursor>(machine: &TailoredMachineBorrowed<'_>, rest: &mut I) 
         × (result ≡ p.status) × (I.text rest.new ≡ rest_after p.offset (I.text rest.old)) }
 {
     machine.facts();
-    let Some(picked) = scan(machine, rest) else {
-        unreachable!()
+    let picked = if machine.num_lookaheads() == 0 {
+        scan_plain(machine, rest)
+    } else {
+        scan(machine, rest)
     };
+    let Some(picked) = picked else { unreachable!() };
     rest.seek(picked.offset);
     picked.status
 }
@@ -116,7 +118,7 @@ fn scan<I: Cursor>(machine: &TailoredMachineBorrowed<'_>, rest: &I) -> Option<Bo
 {
     machine.facts();
     let mut iter = rest.fork();
-    let mut kept = no_places(machine.num_lookaheads());
+    let mut kept: Places = [None; 8];
     let mut last: Option<Boundary> = None;
     let mut state = SegmenterStateMachine::START_STATE;
     'scan: loop {
@@ -127,6 +129,31 @@ fn scan<I: Cursor>(machine: &TailoredMachineBorrowed<'_>, rest: &I) -> Option<Bo
         let found = enter(machine.entry(next), iter.place(), &mut kept, &mut last);
         if found.is_some() {
             return found;
+        }
+        state = next;
+    }
+}
+
+/// The same by a machine without lookaheads, which keeps no places.
+fn scan_plain<I: Cursor>(machine: &TailoredMachineBorrowed<'_>, rest: &I) -> Option<Boundary>
+    requires { (machine_of machine.now).num_lookaheads ≡ 0 }
+    ensures { result ≡ option_map (boundary_in (I.text rest.now))
+        (pick (machine_of machine.now) (symbols_of (machine_of machine.now) (code_points (I.text rest.now).items))) }
+{
+    machine.facts();
+    let mut iter = rest.fork();
+    let mut last: Option<Boundary> = None;
+    let mut state = SegmenterStateMachine::START_STATE;
+    'scan: loop {
+        let symbol = next_symbol(machine, &mut iter);
+        let Some(next) = machine.next_state(state, symbol) else {
+            return last;
+        };
+        if let Acceptance::Accept(status) = machine.entry(next).0 {
+            last = Some(Boundary {
+                offset: iter.place(),
+                status,
+            });
         }
         state = next;
     }
@@ -148,20 +175,7 @@ fn next_symbol<I: Cursor>(machine: &TailoredMachineBorrowed<'_>, iter: &mut I) -
 }
 
 /// For each lookahead the place of the last state that named it. A checked machine has 8 at most.
-type Places = ArrayVec<Option<usize>, 8>;
-
-/// No place for any of so many lookaheads.
-#[inline(always)]
-fn no_places(lookaheads: usize) -> Places
-    requires { lookaheads ≤ 8 }
-    ensures { result.items ≡ replicate lookaheads None }
-{
-    let mut kept = Places::new();
-    for made in 0..lookaheads {
-        kept.push(None);
-    }
-    kept
-}
+type Places = [Option<usize>; 8];
 
 /// Enters a state at a place, and gives the segment's end and status where its condition holds: at
 /// the place kept for its lookahead. Else an acceptance is remembered, and the place is kept for
@@ -173,10 +187,10 @@ fn enter(
     kept: &mut Places,
     last: &mut Option<Boundary>,
 ) -> Option<Boundary>
-    requires { NamesPast (length kept.old.items) state → ⊥ }
-    ensures condition_end { result ≡ condition_end kept.old.items state }
+    requires { NamesPast (length kept.old) state → ⊥ }
+    ensures condition_end { result ≡ condition_end kept.old state }
     ensures last { IsNone result → last.new ≡ acceptance_after place state last.old }
-    ensures kept { IsNone result → kept.new.items ≡ places_after place state kept.old.items }
+    ensures kept { IsNone result → kept.new ≡ places_after place state kept.old }
 {
     match state.0 {
         Acceptance::Accept(status) => {

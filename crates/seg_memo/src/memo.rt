@@ -4,8 +4,9 @@ ghost use Rattle.std.specs.Prelude.{◌≡◌, ◌<◌, ◌≤◌, ◌+◌, ◌*
 ghost use Rattle.std.specs.Iterator.{YieldsFirst, MakesProgress, item_count};
 ghost use Rattle.seg_text.specs.Boundaries.{GivesNext, boundaries_in};
 ghost use Rattle.seg_text.specs.Items.{code_points, rest_after};
+ghost use Rattle.seg_text.specs.Stretches.{remainder};
 ghost use Rattle.seg_machine.specs.Checked.{IsChecked};
-ghost use Rattle.seg_machine.specs.Segments.{machine_boundaries};
+ghost use Rattle.seg_machine.specs.Segments.{machine_boundaries, machine_stretch};
 ghost use Rattle.seg_machine.specs.Tailored.{machine_of};
 ghost use Rattle.seg_memo.specs.Configurations.{AreLookedUp, configurations, reading};
 ghost use Rattle.seg_memo.specs.Memos.{IsMemoRefusal, IsNewMemo, memo_places, subject_of};
@@ -82,9 +83,11 @@ impl<'data, I: Cursor, R: ReadTransitions> MemoBreakIterator<'data, I, R> {
     }
 
     /// How many transitions were looked up: as many as there are different configurations that the scans of the segments
-    /// given so far look up.
+    /// given so far look up. What is still to come begins where those end.
     pub fn lookups(&self) -> usize
         ensures count { result ≡ self.now.lookups }
+        ensures given { self.now.coming ≡ remainder self.now.started (machine_stretch self.now.machine) (rest_after self.now.given self.now.text) self.now.coming.status }
+        ensures unread { self.now.started ≡ false → self.now.given ≡ 0 }
         ensures different { AreLookedUp (subject_of self.now) self.now.given result }
         ensures bound { result ≤ configurations self.now.machine (length self.now.text.items) }
     {

@@ -11,9 +11,6 @@ use std::io::Write;
 use std::rt::{Clock, Files};
 use std::{fs, io};
 
-#[cfg(test)]
-mod tests;
-
 // How many bytes a text has at most.
 const TEXT_LEN: usize = 300_000;
 

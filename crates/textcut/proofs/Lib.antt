@@ -1,3 +1,5 @@
 mod Printed
 mod LineFaults
 mod Said
+mod Columns
+mod LinesMore

@@ -5,7 +5,7 @@ use Rattle.icu_segmenter.specs.Utf8.{utf8}
 use Rattle.icu_segmenter.specs.Boundaries.{offsets}
 use Rattle.icu_segmenter.specs.Items.{Text}
 use Rattle.icu_segmenter.specs.Rules.{boundaries_of}
-use Rattle.icu_segmenter.specs.LineBreaks.{line_boundaries_of, machine_lines, table_lines, turn_lines}
+use Rattle.icu_segmenter.specs.LineBreaks.{LineRules, line_boundaries_of, machine_lines, table_lines, turn_lines}
 use Rattle.icu_segmenter.specs.LineRules.{default_rules}
 use Rattle.icu_segmenter.specs.Lines.{without_ja}
 use Rattle.icu_segmenter.specs.WordRules.{machine_words, table_words, word_boundaries_of}
@@ -41,7 +41,11 @@ words_of LineNeo = codes "line" ∷ codes "neo" ∷ []
 abbrev pub IsNoCommand : List (List ℕ) → Type 0
 IsNoCommand words = (command : Command) → words ≢ words_of command
 
--- the places of the boundaries that a command finds in a text; by default options the machine of lines isn't tailored
+-- lines by the sample machine, with the sample dictionaries; by default options it isn't tailored
+abbrev pub sample_lines : LineRules
+sample_lines = machine_lines line_machine cluster_machine (without_ja dictionary_words)
+
+-- the places of the boundaries that a command finds in a text
 abbrev pub places_in : Command → Text → List ℕ
 places_in GraphemeClassic text = offsets (boundaries_of (ByTable cluster_table None) text)
 places_in GraphemeNeo text = offsets (boundaries_of (ByMachine cluster_machine) text)
@@ -51,7 +55,7 @@ places_in WordClassic text = offsets (word_boundaries_of (table_words word_table
 places_in WordNeo text = offsets (word_boundaries_of (machine_words word_machine cluster_table dictionary_words) text)
 places_in LineClassic text = offsets (line_boundaries_of (table_lines (default_rules line_table) cluster_table (without_ja dictionary_words)) text)
 places_in Line17 text = offsets (line_boundaries_of (turn_lines (default_rules turn_table) cluster_table (without_ja dictionary_words)) text)
-places_in LineNeo text = offsets (line_boundaries_of (machine_lines line_machine cluster_machine (without_ja dictionary_words)) text)
+places_in LineNeo text = offsets (line_boundaries_of sample_lines text)
 
 -- .. and in the text of some bytes
 abbrev pub places_of : Command → List ℕ → List ℕ

@@ -2,17 +2,19 @@
 use Rattle.std.specs.Prelude.{ℕ, Option, List, codes, ◌∷◌, [], ◌++◌, take}
 use Rattle.std.specs.Io.KnownBytes.{Appends}
 use Rattle.textcut.specs.declared.failure.Failure.{Failure}
-use Rattle.textcut.specs.declared.failure.Failure.TheVariants.{Usage, ReadFailed, WriteFailed, NoMemory}
+use Rattle.textcut.specs.declared.failure.Failure.TheVariants.{Usage, ReadFailed, NotUtf8, WriteFailed, NoMemory}
 
 abbrev pub status_of : Failure → ℕ
 status_of Usage = 2
 status_of ReadFailed = 1
+status_of NotUtf8 = 1
 status_of WriteFailed = 1
 status_of NoMemory = 1
 
 abbrev pub message_of : Failure → List ℕ
-message_of Usage = codes "usage: textcut grapheme|sentence|word|line classic|17|neo" ++ 10 ∷ []
+message_of Usage = codes "usage: textcut grapheme|sentence|word|line classic|17|neo, or textcut wrap COLUMNS" ++ 10 ∷ []
 message_of ReadFailed = codes "textcut: read failed" ++ 10 ∷ []
+message_of NotUtf8 = codes "textcut: not UTF-8" ++ 10 ∷ []
 message_of WriteFailed = codes "textcut: write failed" ++ 10 ∷ []
 message_of NoMemory = codes "textcut: no memory" ++ 10 ∷ []
 

@@ -1,3 +1,5 @@
 pub mod Command
 pub mod Failure
 pub mod Lines
+pub mod Wrapped
+pub mod Request

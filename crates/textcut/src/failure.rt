@@ -9,10 +9,12 @@ use std::io::{ErrorKind, Write};
 /// Why nothing, or not all, was printed.
 #[derive(Clone, Copy, Debug, PartialEq, Eq)]
 pub enum Failure {
-    /// The words are no command's.
+    /// The words are no request's.
     Usage,
     /// The input could not be read to its end.
     ReadFailed,
+    /// Lines are to be wrapped of an input that isn't UTF-8.
+    NotUtf8,
     /// The output took not all.
     WriteFailed,
     /// Memory ran out.
@@ -41,8 +43,11 @@ impl Failure {
         ensures { result.now ≡ message_of self }
     {
         match self {
-            Failure::Usage => "usage: textcut grapheme|sentence|word|line classic|17|neo\n",
+            Failure::Usage => {
+                "usage: textcut grapheme|sentence|word|line classic|17|neo, or textcut wrap COLUMNS\n"
+            }
             Failure::ReadFailed => "textcut: read failed\n",
+            Failure::NotUtf8 => "textcut: not UTF-8\n",
             Failure::WriteFailed => "textcut: write failed\n",
             Failure::NoMemory => "textcut: no memory\n",
         }

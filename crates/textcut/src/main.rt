@@ -1,10 +1,12 @@
-//! Prints the boundaries of a text on standard input, each on a line of its own.
+//! Prints the boundaries of a text on standard input, each on a line of its own, or its lines, wrapped to columns.
 #![tactic(auto)]
 
 mod command;
 mod failure;
 mod lines;
+mod request;
 mod run;
+mod wrapped;
 
 use failure::Failure;
 use std::env;

@@ -2,24 +2,32 @@
 ghost use Rattle.std.specs.Prelude.{◌≡◌, ◌≢◌, ◌≤◌, ◌↔◌, ℕ, List, OnOk, IfOk, IfErr, IfSome, IsErrOf, length};
 ghost use Rattle.std.specs.Iterator.{IsFinite, Drains};
 ghost use Rattle.std.specs.Io.KnownBytes.{Appends, IsAtEnd};
+ghost use Rattle.std.specs.Str.{IsUtf8};
 ghost use Rattle.icu_segmenter.specs.Utf8.{utf8};
+ghost use Rattle.icu_segmenter.specs.Items.{Text};
 ghost use Rattle.icu_segmenter.specs.Boundaries.{offsets};
 ghost use Rattle.icu_segmenter.specs.Rules.{boundaries_of};
 ghost use Rattle.icu_segmenter.specs.Clusters.{cluster_rules};
 ghost use Rattle.icu_segmenter.specs.Sentences.{sentence_rules};
 ghost use Rattle.icu_segmenter.specs.LineBreaks.{line_boundaries_of};
-ghost use Rattle.icu_segmenter.specs.Lines.{line_rules};
+ghost use Rattle.icu_segmenter.specs.Lines.{line_rules, owned_line_rules};
+ghost use Rattle.icu_segmenter.specs.Unmarked.{IsByPairTable};
 ghost use Rattle.icu_segmenter.specs.Words.{word_rules};
 ghost use Rattle.icu_segmenter.specs.WordRules.{word_boundaries_of};
-ghost use Rattle.textcut.specs.Command.{texts, words_of, IsNoCommand, places_of};
+ghost use Rattle.textcut.specs.Command.{texts, places_of, sample_lines};
 ghost use Rattle.textcut.specs.Failure.{status_of, message_of, AppendsBeginning};
 ghost use Rattle.textcut.specs.Lines.{lines_of};
+ghost use Rattle.textcut.specs.Request.{HasWords, IsNoRequest, IsReadable, output_of};
+ghost use Rattle.textcut.specs.Wrapped.{printed_lines};
+ghost use Rattle.icu_segmenter.specs.WrappedLines.{lines_to_come};
 ghost use Rattle.textcut.specs.declared.failure.Failure.{Failure as AnyFailure};
-ghost use Rattle.textcut.specs.declared.command.Command.{Command as AnyCommand};
+ghost use Rattle.textcut.specs.declared.request.Request.{Request as AnyRequest};
 
-use crate::command::{Command, command_of};
+use crate::command::Command;
 use crate::failure::Failure;
 use crate::lines::print_lines;
+use crate::request::{Request, request_of};
+use crate::wrapped::print_wrapped;
 use bench::clusters::cluster_machine;
 use bench::dictionaries::dictionaries;
 use bench::line_tables::line_table;
@@ -31,18 +39,20 @@ use bench::words::word_machine;
 use icu_segmenter::options::{
     LineBreakOptions, SentenceBreakInvariantOptions, WordBreakInvariantOptions,
 };
+use icu_segmenter::wrap::{LineWrapper, WrapIterator};
 use icu_segmenter::{
     GraphemeClusterSegmenterBorrowed, LineSegmenter, LineSegmenterBorrowed,
     SentenceSegmenterBorrowed, WordSegmenterBorrowed,
 };
-use std::alloc::Global;
+use std::alloc::{AllocError, Global};
 use std::io::{ErrorKind, Read, Write};
+use std::str;
 
 #[cfg(test)]
 mod tests;
 
-/// Prints the boundaries of the text that a reader gives, as the words ask, and returns the exit
-/// status: 0, or 1 where memory, the reader or the writer failed, or 2 where the words are no command's.
+/// Prints the boundaries of the text that a reader gives, or its lines, as the words ask, and returns the exit status: 0,
+/// or 1 where memory, the reader or the writer failed, or the text isn't what is asked for, or 2 where the words are no request's.
 pub fn run<I: Read, O: Write, E: Write>(
     alloc: Global,
     words: &[&str],
@@ -51,17 +61,21 @@ pub fn run<I: Read, O: Write, E: Write>(
     err: &mut E,
 ) -> u8
     ensures range { result ≤ 2 }
-    ensures usage { result ≡ 2 ↔ IsNoCommand (texts words.now) }
+    ensures usage { result ≡ 2 ↔ IsNoRequest (texts words.now) }
     ensures unread { result ≡ 2 → input.new ≡ input.old }
     ensures unwritten { result ≡ 2 → out.new ≡ out.old }
     ensures read_all { result ≡ 0 → IsAtEnd (I.remaining input.new) }
-    ensures printed { result ≡ 0 → (command : AnyCommand) → texts words.now ≡ words_of command
+    ensures readable { result ≡ 0 → (request : AnyRequest) → HasWords request (texts words.now)
+        → IfSome (I.remaining input.old) (IsReadable request) }
+    ensures printed { result ≡ 0 → (request : AnyRequest) → HasWords request (texts words.now)
         → IfSome (I.remaining input.old) (λ bytes.
-        Appends (O.contents out.old) (O.contents out.new) (lines_of (places_of command bytes))) }
+        Appends (O.contents out.old) (O.contents out.new) (output_of request bytes)) }
     ensures silent { result ≡ 0 → err.new ≡ err.old }
     ensures failed { result ≢ 0 → (failure : AnyFailure) × (status_of failure ≡ result)
         × AppendsBeginning (E.contents err.old) (E.contents err.new) (message_of failure)
-        × (failure ≢ Failure.WriteFailed → out.new ≡ out.old) }
+        × (failure ≢ Failure.WriteFailed → out.new ≡ out.old)
+        × (failure ≡ Failure.NotUtf8 → (request : AnyRequest) × HasWords request (texts words.now)
+        × IfSome (I.remaining input.old) (λ bytes. IsReadable request bytes → ⊥)) }
 {
     match try_run(alloc, words, input, out) {
         Ok(()) => 0,
@@ -75,30 +89,52 @@ fn try_run<I: Read, O: Write>(
     input: &mut I,
     out: &mut O,
 ) -> Result<(), Failure>
-    ensures usage { IsErrOf result Failure.Usage ↔ IsNoCommand (texts words.now) }
+    ensures usage { IsErrOf result Failure.Usage ↔ IsNoRequest (texts words.now) }
     ensures unread { IsErrOf result Failure.Usage → input.new ≡ input.old }
     ensures unwritten { IfErr result (λ failure. failure ≢ Failure.WriteFailed → out.new ≡ out.old) }
     ensures read_all { OnOk result (IsAtEnd (I.remaining input.new)) }
-    ensures printed { OnOk result ((command : AnyCommand) → texts words.now ≡ words_of command
+    ensures readable { OnOk result ((request : AnyRequest) → HasWords request (texts words.now)
+        → IfSome (I.remaining input.old) (IsReadable request)) }
+    ensures unreadable { IsErrOf result Failure.NotUtf8 → (request : AnyRequest) × HasWords request (texts words.now)
+        × IfSome (I.remaining input.old) (λ bytes. IsReadable request bytes → ⊥) }
+    ensures printed { OnOk result ((request : AnyRequest) → HasWords request (texts words.now)
         → IfSome (I.remaining input.old) (λ bytes.
-        Appends (O.contents out.old) (O.contents out.new) (lines_of (places_of command bytes)))) }
+        Appends (O.contents out.old) (O.contents out.new) (output_of request bytes))) }
 {
-    let command = command_of(words).ok_or(Failure::Usage)?;
+    let request = request_of(words).ok_or(Failure::Usage)?;
     let text = read_text(alloc, input)?;
-    print_boundaries(alloc, command, text.as_slice(), out)
+    print_answer(alloc, request, text.as_slice(), out)
 }
 
 // All that the reader has.
 fn read_text<I: Read>(alloc: Global, input: &mut I) -> Result<Vec<u8>, Failure>
     ensures bytes { IfOk result (λ text. IfSome (I.remaining input.old) (λ bytes. text.items ≡ bytes)) }
     ensures end { OnOk result (IsAtEnd (I.remaining input.new)) }
-    ensures cause { result ≢ Err Failure.Usage × result ≢ Err Failure.WriteFailed }
+    ensures cause { result ≢ Err Failure.Usage × result ≢ Err Failure.NotUtf8 × result ≢ Err Failure.WriteFailed }
 {
     let mut text = Vec::new(alloc);
     match input.read_to_end(&mut text) {
         Ok(_) => Ok(text),
         Err(e) if e.kind() == ErrorKind::OutOfMemory => Err(Failure::NoMemory),
         Err(_) => Err(Failure::ReadFailed),
+    }
+}
+
+fn print_answer<O: Write>(
+    alloc: Global,
+    request: Request,
+    text: &[u8],
+    out: &mut O,
+) -> Result<(), Failure>
+    ensures readable { OnOk result (IsReadable request text.now) }
+    ensures unreadable { IsErrOf result Failure.NotUtf8 → IsReadable request text.now → ⊥ }
+    ensures printed { OnOk result (Appends (O.contents out.old) (O.contents out.new) (output_of request text.now)) }
+    ensures unwritten { IfErr result (λ failure. failure ≢ Failure.WriteFailed → out.new ≡ out.old) }
+    ensures cause { result ≢ Err Failure.Usage × result ≢ Err Failure.ReadFailed }
+{
+    match request {
+        Request::Boundaries(command) => print_boundaries(alloc, command, text, out),
+        Request::Wrapped(columns) => print_wrapped_text(alloc, columns, text, out),
     }
 }
 
@@ -111,7 +147,7 @@ fn print_boundaries<O: Write>(
     ensures printed { OnOk result
         (Appends (O.contents out.old) (O.contents out.new) (lines_of (places_of command text.now))) }
     ensures unwritten { IsErrOf result Failure.NoMemory → out.new ≡ out.old }
-    ensures cause { result ≢ Err Failure.Usage × result ≢ Err Failure.ReadFailed }
+    ensures cause { result ≢ Err Failure.Usage × result ≢ Err Failure.ReadFailed × result ≢ Err Failure.NotUtf8 }
 {
     match command {
         Command::GraphemeClassic => print_clusters_by_table(alloc, text, out),
@@ -130,7 +166,7 @@ fn print_clusters_by_table<O: Write>(alloc: Global, text: &[u8], out: &mut O) ->
     ensures printed { OnOk result
         (Appends (O.contents out.old) (O.contents out.new) (lines_of (places_of Command.GraphemeClassic text.now))) }
     ensures unwritten { IsErrOf result Failure.NoMemory → out.new ≡ out.old }
-    ensures cause { result ≢ Err Failure.Usage × result ≢ Err Failure.ReadFailed }
+    ensures cause { result ≢ Err Failure.Usage × result ≢ Err Failure.ReadFailed × result ≢ Err Failure.NotUtf8 }
 {
     let table = cluster_table(alloc)?;
     let Ok(segmenter) = GraphemeClusterSegmenterBorrowed::new(&table) else {
@@ -147,7 +183,7 @@ fn print_clusters_by_machine<O: Write>(
     ensures printed { OnOk result
         (Appends (O.contents out.old) (O.contents out.new) (lines_of (places_of Command.GraphemeNeo text.now))) }
     ensures unwritten { IsErrOf result Failure.NoMemory → out.new ≡ out.old }
-    ensures cause { result ≢ Err Failure.Usage × result ≢ Err Failure.ReadFailed }
+    ensures cause { result ≢ Err Failure.Usage × result ≢ Err Failure.ReadFailed × result ≢ Err Failure.NotUtf8 }
 {
     let machine = cluster_machine(alloc)?;
     let Ok(segmenter) = GraphemeClusterSegmenterBorrowed::new_neo(&machine) else {
@@ -164,7 +200,7 @@ fn print_sentences_by_table<O: Write>(
     ensures printed { OnOk result
         (Appends (O.contents out.old) (O.contents out.new) (lines_of (places_of Command.SentenceClassic text.now))) }
     ensures unwritten { IsErrOf result Failure.NoMemory → out.new ≡ out.old }
-    ensures cause { result ≢ Err Failure.Usage × result ≢ Err Failure.ReadFailed }
+    ensures cause { result ≢ Err Failure.Usage × result ≢ Err Failure.ReadFailed × result ≢ Err Failure.NotUtf8 }
 {
     let table = sentence_table(alloc)?;
     let options = SentenceBreakInvariantOptions::default();
@@ -182,7 +218,7 @@ fn print_sentences_by_machine<O: Write>(
     ensures printed { OnOk result
         (Appends (O.contents out.old) (O.contents out.new) (lines_of (places_of Command.SentenceNeo text.now))) }
     ensures unwritten { IsErrOf result Failure.NoMemory → out.new ≡ out.old }
-    ensures cause { result ≢ Err Failure.Usage × result ≢ Err Failure.ReadFailed }
+    ensures cause { result ≢ Err Failure.Usage × result ≢ Err Failure.ReadFailed × result ≢ Err Failure.NotUtf8 }
 {
     let machine = sentence_machine(alloc)?;
     let options = SentenceBreakInvariantOptions::default();
@@ -196,7 +232,7 @@ fn print_words_by_table<O: Write>(alloc: Global, text: &[u8], out: &mut O) -> Re
     ensures printed { OnOk result
         (Appends (O.contents out.old) (O.contents out.new) (lines_of (places_of Command.WordClassic text.now))) }
     ensures unwritten { IsErrOf result Failure.NoMemory → out.new ≡ out.old }
-    ensures cause { result ≢ Err Failure.Usage × result ≢ Err Failure.ReadFailed }
+    ensures cause { result ≢ Err Failure.Usage × result ≢ Err Failure.ReadFailed × result ≢ Err Failure.NotUtf8 }
 {
     let table = word_table(alloc)?;
     let clusters = cluster_table(alloc)?;
@@ -215,7 +251,7 @@ fn print_words_by_machine<O: Write>(alloc: Global, text: &[u8], out: &mut O) -> 
     ensures printed { OnOk result
         (Appends (O.contents out.old) (O.contents out.new) (lines_of (places_of Command.WordNeo text.now))) }
     ensures unwritten { IsErrOf result Failure.NoMemory → out.new ≡ out.old }
-    ensures cause { result ≢ Err Failure.Usage × result ≢ Err Failure.ReadFailed }
+    ensures cause { result ≢ Err Failure.Usage × result ≢ Err Failure.ReadFailed × result ≢ Err Failure.NotUtf8 }
 {
     let machine = word_machine(alloc)?;
     let clusters = cluster_table(alloc)?;
@@ -238,7 +274,7 @@ fn print_line_breaks_by_table<O: Write>(
     ensures printed { OnOk result
         (Appends (O.contents out.old) (O.contents out.new) (lines_of (places_of Command.LineClassic text.now))) }
     ensures unwritten { IsErrOf result Failure.NoMemory → out.new ≡ out.old }
-    ensures cause { result ≢ Err Failure.Usage × result ≢ Err Failure.ReadFailed }
+    ensures cause { result ≢ Err Failure.Usage × result ≢ Err Failure.ReadFailed × result ≢ Err Failure.NotUtf8 }
 {
     let table = line_table(alloc)?;
     let clusters = cluster_table(alloc)?;
@@ -259,7 +295,7 @@ fn print_line_breaks_by_turns<O: Write>(
     ensures printed { OnOk result
         (Appends (O.contents out.old) (O.contents out.new) (lines_of (places_of Command.Line17 text.now))) }
     ensures unwritten { IsErrOf result Failure.NoMemory → out.new ≡ out.old }
-    ensures cause { result ≢ Err Failure.Usage × result ≢ Err Failure.ReadFailed }
+    ensures cause { result ≢ Err Failure.Usage × result ≢ Err Failure.ReadFailed × result ≢ Err Failure.NotUtf8 }
 {
     let table = turn_table(alloc)?;
     let clusters = cluster_table(alloc)?;
@@ -282,7 +318,60 @@ fn print_line_breaks_by_machine<O: Write>(
     ensures printed { OnOk result
         (Appends (O.contents out.old) (O.contents out.new) (lines_of (places_of Command.LineNeo text.now))) }
     ensures unwritten { IsErrOf result Failure.NoMemory → out.new ≡ out.old }
+    ensures cause { result ≢ Err Failure.Usage × result ≢ Err Failure.ReadFailed × result ≢ Err Failure.NotUtf8 }
+{
+    let lines = lines_by_machine(alloc)?;
+    print_line_breaks(lines.as_borrowed(), text, out)
+}
+
+fn print_wrapped_text<O: Write>(
+    alloc: Global,
+    columns: usize,
+    text: &[u8],
+    out: &mut O,
+) -> Result<(), Failure>
+    ensures readable { OnOk result (IsUtf8 text.now) }
+    ensures unreadable { IsErrOf result Failure.NotUtf8 → IsUtf8 text.now → ⊥ }
+    ensures printed { OnOk result
+        (Appends (O.contents out.old) (O.contents out.new) (output_of (Request.Wrapped columns) text.now)) }
+    ensures unwritten { IfErr result (λ failure. failure ≢ Failure.WriteFailed → out.new ≡ out.old) }
     ensures cause { result ≢ Err Failure.Usage × result ≢ Err Failure.ReadFailed }
+{
+    let text = str::from_utf8(text).map_err(|_| Failure::NotUtf8)?;
+    print_wrapped_str(alloc, columns, text, out)
+}
+
+fn print_wrapped_str<O: Write>(
+    alloc: Global,
+    columns: usize,
+    text: &str,
+    out: &mut O,
+) -> Result<(), Failure>
+    ensures printed { OnOk result
+        (Appends (O.contents out.old) (O.contents out.new) (output_of (Request.Wrapped columns) text.now)) }
+    ensures unwritten { IsErrOf result Failure.NoMemory → out.new ≡ out.old }
+    ensures cause { result ≢ Err Failure.Usage × result ≢ Err Failure.ReadFailed × result ≢ Err Failure.NotUtf8 }
+{
+    let lines = lines_by_machine(alloc)?;
+    let Ok(wrapper) = LineWrapper::new(lines.as_borrowed()) else {
+        unreachable!()
+    };
+    print_wrapped_lines(wrapper.wrap_str(text, columns), out)
+}
+
+fn print_wrapped_lines<O: Write>(lines: WrapIterator<'_, '_>, out: &mut O) -> Result<(), Failure>
+    ensures printed { OnOk result
+        (Appends (O.contents out.old) (O.contents out.new) (printed_lines (lines_to_come lines.entry))) }
+    ensures cause { IfErr result (λ failure. failure ≡ Failure.WriteFailed) }
+{
+    print_wrapped(lines, out).map_err(|_| Failure::WriteFailed)
+}
+
+// The sample lines by machine, with the sample dictionaries.
+fn lines_by_machine(alloc: Global) -> Result<LineSegmenter, AllocError>
+    ensures breaks { IfOk result (λ lines. (text : Text)
+        → line_boundaries_of (owned_line_rules lines) text ≡ line_boundaries_of sample_lines text) }
+    ensures finder { IfOk result (λ lines. IsByPairTable (owned_line_rules lines).finder → ⊥) }
 {
     let machine = line_machine(alloc)?;
     let clusters = cluster_machine(alloc)?;
@@ -295,7 +384,7 @@ fn print_line_breaks_by_machine<O: Write>(
         unreachable!()
     };
     lines.load_dictionary(dictionaries);
-    print_line_breaks(lines.as_borrowed(), text, out)
+    Ok(lines)
 }
 
 fn print_clusters<O: Write>(

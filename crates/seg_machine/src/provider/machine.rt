@@ -65,6 +65,7 @@ impl SegmenterStateMachine {
             IfOk result (λ m. (m ≡ parts) × IsFaultless (HasMachineFault parts)) }
         ensures refused { IfErr result (IsLowestFault (HasMachineFault (machine symbols states.items transitions.items num_lookaheads pseudo_symbol_shift pseudo_symbol_map.items))) }
         ensures stall_free { IfOk result IsStallFree }
+        ensures checked { IfOk result IsChecked }
     {
         check_parts(
             &symbols,

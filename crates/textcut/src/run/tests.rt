@@ -4,7 +4,8 @@ use failing_io::{FailingReader, FailingWriter};
 use std::alloc::Global;
 use std::io::{ErrorKind, Read};
 
-const USAGE: &str = "usage: textcut grapheme|sentence|word|line classic|17|neo\n";
+const USAGE: &str =
+    "usage: textcut grapheme|sentence|word|line classic|17|neo, or textcut wrap COLUMNS\n";
 
 // What a run leaves behind.
 #[derive(Drop)]
@@ -93,8 +94,31 @@ fn prints_the_boundaries_of_each_kind(rt: HostRuntime) {
 }
 
 #[test]
+fn prints_the_lines_of_utf8(rt: HostRuntime) {
+    for (columns, text, lines) in [
+        (
+            "12",
+            "Hello World. Xin chào thế giới!",
+            "Hello World.\nXin chào thế\ngiới!\n",
+        ),
+        ("00012", "Hello World. Xin", "Hello World.\nXin\n"),
+        ("0", "a b", "a\nb\n"),
+        ("99999", "a b", "a b\n"),
+        ("1", " a b\r\n\r\nc\n", "\na\nb\n\nc\n"),
+        ("5", "ภาษาไทยaภาษาไทย", "ภาษา\nไทยaภาษา\nไทย\n"),
+        ("12", "", ""),
+    ] {
+        let ran = run_on(rt.alloc(), &["wrap", columns], &mut text.as_bytes());
+        assert!(rt; ran.is(0, lines, ""), "{columns} {text:?}");
+    }
+    let mut broken: &[u8] = b"a b\xE1\x9F";
+    let ran = run_on(rt.alloc(), &["wrap", "1"], &mut broken);
+    assert!(rt; ran.is(1, "", "textcut: not UTF-8\n"));
+}
+
+#[test]
 fn refuses_other_words_and_reads_nothing(rt: HostRuntime) {
-    let wrong: [&[&str]; 8] = [
+    let wrong: [&[&str]; 15] = [
         &[],
         &["grapheme"],
         &["word", "17"],
@@ -103,6 +127,13 @@ fn refuses_other_words_and_reads_nothing(rt: HostRuntime) {
         &["lines", "neo"],
         &["grapheme", "neo "],
         &["grapheme", "neo", "neo"],
+        &["wrap"],
+        &["wrap", ""],
+        &["wrap", "x"],
+        &["wrap", "neo"],
+        &["wrap", "+12"],
+        &["wrap", "123456"],
+        &["wrap", "12", "12"],
     ];
     for words in wrong {
         let mut text: &[u8] = b"ab";
@@ -113,13 +144,13 @@ fn refuses_other_words_and_reads_nothing(rt: HostRuntime) {
 
 #[test]
 fn says_that_a_read_failed(rt: HostRuntime) {
-    for left in [0, 1, 5000] {
+    for (left, words) in [
+        (0, ["grapheme", "neo"]),
+        (1, ["wrap", "12"]),
+        (5000, ["grapheme", "neo"]),
+    ] {
         let kind = ErrorKind::TimedOut;
-        let ran = run_on(
-            rt.alloc(),
-            &["grapheme", "neo"],
-            &mut FailingReader { left, kind },
-        );
+        let ran = run_on(rt.alloc(), &words, &mut FailingReader { left, kind });
         assert!(rt; ran.is(1, "", "textcut: read failed\n"), "after {left}");
     }
 }
@@ -134,11 +165,18 @@ fn says_that_memory_ran_out_while_it_read(rt: HostRuntime) {
 
 #[test]
 fn says_that_a_write_or_the_flush_failed(rt: HostRuntime) {
-    for (room, can_flush) in [(0, true), (1, true), (4, true), (100, false)] {
+    for (words, room, can_flush) in [
+        (["grapheme", "neo"], 0, true),
+        (["grapheme", "neo"], 1, true),
+        (["grapheme", "neo"], 4, true),
+        (["grapheme", "neo"], 100, false),
+        (["wrap", "12"], 0, true),
+        (["wrap", "12"], 2, true),
+        (["wrap", "12"], 100, false),
+    ] {
         let mut out = FailingWriter { room, can_flush };
         let mut err = Vec::new(rt.alloc());
         let mut text: &[u8] = b"ab";
-        let words = ["grapheme", "neo"];
         let status = run(rt.alloc(), &words, &mut text, &mut out, &mut err);
         assert_eq!(rt; status, 1, "with room for {room}");
         assert!(rt; err.as_slice() == b"textcut: write failed\n".as_slice());

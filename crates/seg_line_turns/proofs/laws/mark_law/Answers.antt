@@ -1,7 +1,11 @@
 use Rattle.seg_line_rules.specs.LineBoundaries.{inside}
 use Rattle.seg_line_rules.proofs.Inside.{inside-stand}
-use Rattle.seg_line_turns.proofs.TurnMarks.{turns-keep}
+use Rattle.seg_line_turns.specs.TurnPairs.{turn_rules_by}
+use Rattle.seg_line_turns.proofs.TurnMarks.{class-below-count, turns-keep}
 use Rattle.seg_line_turns.proofs.laws.mark_law.Goals as goal
 
 pub returns : goal.returns
-returns c = λ cuts rules cover bear. turns-keep rules bear (inside cuts) (inside-stand cuts cover)
+returns c = λ cuts cover bear.
+    let rules = turn_rules_by c.args.pairs in
+    let below = class-below-count rules (rw c.table.ensures.value at c.facts.ensures) c.table.ensures.has_id in
+    turns-keep rules below bear (inside cuts) (inside-stand cuts cover)

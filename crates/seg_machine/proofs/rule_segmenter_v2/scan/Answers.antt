@@ -1,8 +1,12 @@
-use Rattle.seg_machine.proofs.Scanned.{scanned-start, turn-stop, turn, turn-held}
+use Rattle.std.proofs.Common.{None, refl, replicate}
+use Rattle.seg_machine.proofs.Scanned.{scanned-start, turn-stop, turn, turn-held, within}
 use Rattle.seg_machine.proofs.rule_segmenter_v2.scan.Goals as goal
 
 pub scan-init : goal.scan-init
-scan-init g c = rw c.fork-iter.ensures (scanned-start _ _ _ _ c.facts.ensures c.num_lookaheads.ensures c.no_places-kept.ensures)
+scan-init g c = rw c.fork-iter.ensures (scanned-start _ _ (replicate 8 None) 8 c.facts.ensures c.facts.ensures.few_lookaheads refl)
+
+pub enter-found-requires : goal.enter-found-requires
+enter-found-requires g c = rw c.entry.ensures (within _ _ _ c.facts.ensures c.scan.invariant.size)
 
 pub returns-in_default : goal.returns-in_default
 returns-in_default g c =

@@ -5,7 +5,7 @@ use Rattle.seg_machine.proofs.rule_segmenter_v2.scan.Given as goal
 
 abbrev pub invariant-scan : goal.invariant-scan
 invariant-scan g l =
-    Scanned (machine_of l.machine) (g.I.Cursor.text l.rest) l.state (g.I.Cursor.text l.iter) l.kept.items l.last
+    Scanned (machine_of l.machine) (g.I.Cursor.text l.rest) l.state (g.I.Cursor.text l.iter) l.kept l.last
 
 abbrev pub decreases-scan : goal.decreases-scan
 decreases-scan g l = length (future (machine_of l.machine) l.state (g.I.Cursor.text l.iter))

@@ -14,3 +14,7 @@ invariant_of-result c =
 pub returns-clause-stall_free : goal.returns-clause-stall_free
 returns-clause-stall_free c =
     (checked-from _ (rw (← c.as_slice.ensures.value, ← c.as_slice-2.ensures.value, ← c.as_slice-3.ensures.value) c.in_ok-check_parts.ensures.accepted)).stall_free
+
+pub returns-clause-checked : goal.returns-clause-checked
+returns-clause-checked c =
+    checked-from _ (rw (← c.as_slice.ensures.value, ← c.as_slice-2.ensures.value, ← c.as_slice-3.ensures.value) c.in_ok-check_parts.ensures.accepted)

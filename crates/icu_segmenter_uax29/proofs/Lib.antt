@@ -1,0 +1,13 @@
+mod Properties
+mod Knowledge
+mod Tables
+mod Contexts
+mod Ends
+mod Picks
+mod Clusters
+mod Texts
+mod Boundaries
+mod Sequences
+mod Parts
+mod Segments
+mod Faultless

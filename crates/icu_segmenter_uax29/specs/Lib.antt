@@ -1,0 +1,3 @@
+pub mod Clusters
+pub mod Neighbours
+pub mod Properties

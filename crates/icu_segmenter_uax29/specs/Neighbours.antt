@@ -1,0 +1,42 @@
+-- Between which code points boundaries stand.
+use Rattle.std.specs.Prelude.{◌≡◌, ℕ, ◌⊎◌, false, List, [], ◌∷◌, ◌++◌, length, reverse, All, Contains}
+use Rattle.ucd_breaks.specs.GraphemeClusterBreak.{grapheme_cluster_break}
+use Rattle.ucd_breaks.specs.declared.GraphemeClusterBreak.{GraphemeClusterBreak}
+use Rattle.ucd_breaks.specs.declared.GraphemeClusterBreak.TheVariants.{Extend, L, Lv, Lvt, Prepend, RegionalIndicator, SpacingMark, T, V, Other, Zwj}
+use Rattle.ucd_derived.specs.IndicConjunctBreak.{indic_conjunct_break}
+use Rattle.ucd_derived.specs.declared.IndicConjunctBreak.TheVariants as InCb
+use Rattle.unicode_segmentation.specs.Grapheme.{ends_in_half_flag}
+use Rattle.seg_text.specs.Boundaries.{offsets}
+use Rattle.seg_machine.specs.Segments.{machine_boundaries}
+use Rattle.icu_segmenter_uax29.specs.Clusters.{cluster_machine}
+
+-- a boundary stands between two parts of a text
+abbrev pub IsBoundary : List ℕ → List ℕ → Type 0
+IsBoundary before after = Contains (offsets (machine_boundaries cluster_machine (before ++ after))) (length before)
+
+-- none does
+abbrev pub IsJoined : List ℕ → List ℕ → Type 0
+IsJoined before after = IsBoundary before after → ⊥
+
+-- whatever text they stand in, none stands between a code point with one of these values and a next one with one of those
+abbrev pub StayTogether : (lasts nexts : List GraphemeClusterBreak) → Type 0
+StayTogether lasts nexts =
+    (before after : List ℕ) (last next : ℕ) → Contains lasts (grapheme_cluster_break last) → Contains nexts (grapheme_cluster_break next)
+    → IsJoined (before ++ last ∷ []) (next ∷ after)
+
+-- all values but those of controls: CR, LF and Control
+abbrev pub all_but_controls : List GraphemeClusterBreak
+all_but_controls = Extend ∷ L ∷ Lv ∷ Lvt ∷ Prepend ∷ RegionalIndicator ∷ SpacingMark ∷ T ∷ V ∷ Other ∷ Zwj ∷ []
+
+-- the text ends in an even number of regional indicators, or in none
+abbrev pub EndsInWholeFlags : List ℕ → Type 0
+EndsInWholeFlags before = ends_in_half_flag (reverse before) ≡ false
+
+-- all of them extend
+abbrev pub AllExtend : List ℕ → Type 0
+AllExtend code_points = All (λ c. grapheme_cluster_break c ≡ Extend) code_points
+
+-- all of them may stand within a conjunct
+abbrev pub AllInConjunct : List ℕ → Type 0
+AllInConjunct code_points =
+    All (λ c. (indic_conjunct_break c ≡ InCb.Extend) ⊎ (indic_conjunct_break c ≡ InCb.Linker)) code_points
