@@ -10,7 +10,6 @@ use Rattle.icu_segmenter.proofs.Callers.{line-words-are-sets}
 use Rattle.bench.specs.Clusters.{cluster_machine}
 use Rattle.bench.specs.Dictionaries.{dictionary_words}
 use Rattle.bench.specs.Lines.{line_machine}
-use Rattle.textcut.specs.Command.{sample_lines}
 use Rattle.textcut.proofs.LineFaults.{no-fault, chosen-plain, same-without_ja}
 use Rattle.textcut.proofs.run.lines_by_machine.Goals as goal
 
