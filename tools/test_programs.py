@@ -1,0 +1,126 @@
+#!/usr/bin/env python3
+"""Asks rows of the built programs, as `rt ci` leaves them, at the top of the repository:
+
+    tools/test_programs.py [PROGRAM..]      no PROGRAM: all that have rows
+
+tools/rows/PROGRAM.rows has a row a line: the words after the program's name, what it reads, what it must write, and where the status isn't 0 the status
+and what it must say on standard error, or how that begins where it has no line feed at its end. Texts are Python literals, bytes are written b"..". A line
+`file: NAME, TEXT` makes a file that words may name, and `devices: WORDS, READ, WRITE` has the program run with a standard input that can't be read and a
+standard output that takes nothing, and says what it must complain of; with `unread: WORDS, STATUS, COMPLAINT` it has the first, and mustn't see it. Other
+lines say nothing. Each row is asked of what either compiler built.
+
+It ends with 'N passed, M failed', and with status 1 where a row fails or a program isn't there.
+"""
+import ast
+import os
+import shlex
+import subprocess
+import sys
+import tempfile
+from dataclasses import dataclass, field
+
+BUILDS = ("", ".by-rattle")
+
+
+@dataclass
+class Row:
+    """A run of a program, and what must come of it."""
+
+    place: str
+    words: list
+    given: object
+    wanted: bytes = b""
+    status: int = 0
+    complaint: bytes = b""
+    devices: dict = field(default_factory=dict)
+
+    def fault(self, program, folder):
+        """Returns what is wrong where the program runs so, or None."""
+        how = {"stdout": subprocess.PIPE, "stderr": subprocess.PIPE, **self.devices}
+        how |= {"input": self.given} if isinstance(self.given, bytes) else {"stdin": self.given}
+        ran = subprocess.run([program, *self.words], cwd=folder, timeout=60, check=False, **how)
+        wrote, said = ran.stdout or b"", ran.stderr or b""
+        is_said = said == self.complaint if self.complaint[-1:] in (b"", b"\n") else said.startswith(self.complaint)
+        if ran.returncode == self.status and wrote == self.wanted and is_said:
+            return None
+        return f"{shlex.join(self.words)}: status {ran.returncode}, written {wrote!r}, said {said!r}"
+
+
+@dataclass
+class Rows:
+    """What a file of rows holds."""
+
+    rows: list = field(default_factory=list)
+    files: dict = field(default_factory=dict)
+
+
+def as_bytes(text):
+    return text if isinstance(text, bytes) else text.encode()
+
+
+def rows_with_devices(place, words, unread, unwritten, folder_as_input, full):
+    """Returns the rows of a command whose devices fail."""
+    words, unread, unwritten = shlex.split(words), as_bytes(unread), as_bytes(unwritten)
+    yield Row(place, words, folder_as_input, b"", 1, unread)
+    yield Row(place, words, b"ab", b"", 1, unwritten, {"stdout": full})
+    yield Row(place, words, folder_as_input, b"", 1, b"", {"stderr": full})
+
+
+def read(path, folder_as_input, full):
+    """Reads a file of rows."""
+    found = Rows()
+    with open(path, encoding="utf-8") as it:
+        for number, line in enumerate(it, 1):
+            kind, said = ("row", line) if line.startswith(('"', "'")) else line.partition(": ")[::2]
+            if kind not in ("row", "file", "devices", "unread"):
+                continue
+            place, fields = f"{os.path.basename(path)}:{number}", ast.literal_eval(f"({said.strip()},)")
+            if kind == "file":
+                found.files[fields[0]] = as_bytes(fields[1])
+            elif kind == "devices":
+                found.rows += rows_with_devices(place, *fields, folder_as_input, full)
+            elif kind == "unread":
+                words, status, complaint = fields
+                found.rows.append(Row(place, shlex.split(words), folder_as_input, b"", status, as_bytes(complaint)))
+            else:
+                words, given, wanted, *rest = fields
+                status, complaint = rest or (0, "")
+                found.rows.append(Row(place, shlex.split(words), as_bytes(given), as_bytes(wanted), status, as_bytes(complaint)))
+    return found
+
+
+def ask(program, found):
+    """Asks the rows of a program, prints those that fail, and returns how many passed and failed."""
+    with tempfile.TemporaryDirectory() as folder:
+        for name, text in found.files.items():
+            with open(f"{folder}/{name}", "wb") as it:
+                it.write(text)
+        faults = [(row.place, row.fault(program, folder)) for row in found.rows]
+    for place, fault in faults:
+        if fault:
+            print(f"{place} ({os.path.basename(program)}): {fault}")
+    failed = sum(fault is not None for _, fault in faults)
+    return len(faults) - failed, failed
+
+
+def main(names):
+    passed = failed = 0
+    folder_as_input, full = os.open("/", os.O_RDONLY), os.open("/dev/full", os.O_WRONLY)
+    for file in sorted(os.listdir("tools/rows")):
+        name = file.removesuffix(".rows")
+        if names and name not in names:
+            continue
+        found = read(f"tools/rows/{file}", folder_as_input, full)
+        built = [it for it in (os.path.abspath(f"crates/{name}/out/{name}{ending}") for ending in BUILDS) if os.path.isfile(it)]
+        if not built:
+            print(f"{name} isn't built: rt ci builds it")
+            failed += 1
+        for program in built:
+            well, badly = ask(program, found)
+            passed, failed = passed + well, failed + badly
+    print(f"{passed} passed, {failed} failed")
+    return 1 if failed else 0
+
+
+if __name__ == "__main__":
+    sys.exit(main(sys.argv[1:]))
