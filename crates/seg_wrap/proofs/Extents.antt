@@ -79,22 +79,45 @@ extent-one c = by (hangs c) (width_of c)
     by true w = ap (λ (n : ℕ). extent 0 n true) (omega arith)
     by false w = ap (λ (n : ℕ). extent n n false) (omega arith)
 
-pub extent-hanging : (c width : ℕ) → width ≡ width_of c → hangs c ≡ true → one_of true width ≡ extent_of (c ∷ [])
+extent-hanging : (c width : ℕ) → width ≡ width_of c → hangs c ≡ true → one_of true width ≡ extent_of (c ∷ [])
 extent-hanging c width is does = sym (extent-one c ∙ rw (does, is) refl)
 
-pub extent-standing : (c width : ℕ) → width ≡ width_of c → hangs c ≡ false → one_of false width ≡ extent_of (c ∷ [])
+extent-standing : (c width : ℕ) → width ≡ width_of c → hangs c ≡ false → one_of false width ≡ extent_of (c ∷ [])
 extent-standing c width is does = sym (extent-one c ∙ rw (does, is) refl)
+
+-- a character after others
+extent : ℕ → ℕ → Bool → Extent
+extent columns inner_columns hangs = record { columns = columns; inner_columns = inner_columns; hangs = hangs }
+
+pub followed-hanging : (before : Extent) (c width : ℕ) → width ≡ width_of c → hangs c ≡ true
+    → extent before.columns (before.inner_columns + width) before.hangs ≡ joined before (extent_of (c ∷ []))
+followed-hanging before c width is does =
+    ap (λ (b : Bool). extent before.columns (before.inner_columns + width) b) (same before.hangs) ∙ ap (λ (one : Extent). joined before one) (extent-hanging c width is does)
+  where
+    same : (b : Bool) → b ≡ (b && true)
+    same true = refl
+    same false = refl
+
+pub followed-standing : (before : Extent) (c width : ℕ) → width ≡ width_of c → hangs c ≡ false
+    → extent (before.inner_columns + width) (before.inner_columns + width) false ≡ joined before (extent_of (c ∷ []))
+followed-standing before c width is does =
+    ap (λ (b : Bool). extent (before.inner_columns + width) (before.inner_columns + width) b) (none before.hangs)
+    ∙ ap (λ (one : Extent). joined before one) (extent-standing c width is does)
+  where
+    none : (b : Bool) → false ≡ (b && false)
+    none true = refl
+    none false = refl
 
 -- ---- a text is read item by item
 
 pub measuring-start : (text : Text) (extent : Extent) → extent ≡ extent_of [] → IsMeasuring text text extent
 measuring-start text extent none = record { read = []; measured = none; characters = refl }
 
-pub measuring-next : (text rest later : Text) (item : Item) (before one after : Extent) → IsMeasuring text rest before → rest.items ≡ item ∷ later.items
-    → one ≡ extent_of (item.1 ∷ []) → after ≡ joined before one → IsMeasuring text later after
-measuring-next text rest later item before one after is starts here next = record {
+pub measuring-next : (text rest later : Text) (item : Item) (before after : Extent) → IsMeasuring text rest before → rest.items ≡ item ∷ later.items
+    → after ≡ joined before (extent_of (item.1 ∷ [])) → IsMeasuring text later after
+measuring-next text rest later item before after is starts next = record {
   read = is.read ++ item.1 ∷ [];
-  measured = rw (next, here, is.measured) (sym (extent-append is.read (item.1 ∷ [])));
+  measured = rw (next, is.measured) (sym (extent-append is.read (item.1 ∷ [])));
   characters = is.characters ∙ ap (λ (items : List Item). is.read ++ code_points items) starts ∙ sym (append_assoc is.read (item.1 ∷ []) (code_points later.items));
 }
 
@@ -108,6 +131,3 @@ pub measuring-room : (text rest : Text) (extent : Extent) → IsRising text.item
 measuring-room text rest extent rises is =
     let all : length (code_points text.items) ≡ length is.read + length (code_points rest.items) = ap length is.characters ∙ length-append is.read (code_points rest.items) in
     rw is.measured (omega (arith, total-most is.read, all, length-map text.items (λ (item : Item). item.1), few-items text.items text.end rises))
-
-pub one-within : (c : ℕ) (one : Extent) → one ≡ extent_of (c ∷ []) → one.columns ≤ one.inner_columns
-one-within c one is = rw is (columns-most (c ∷ []))

@@ -56,22 +56,21 @@ impl Extent {
         }
     }
 
-    /// That of a character.
-    fn of_character(code_point: u32) -> Self
-        ensures value { result ≡ extent_of (code_point ∷ []) }
-        ensures bound { result.inner_columns ≤ 3 }
+    /// That of these characters and then one more.
+    fn followed_by(self, code_point: u32) -> Self
+        requires room { self.inner_columns + 3 < 2 ^ 128 }
+        ensures { result ≡ joined self (extent_of (code_point ∷ [])) }
     {
-        let width = width_of(code_point);
+        let inner_columns = self.inner_columns + width_of(code_point);
         if hangs(code_point) {
             return Extent {
-                columns: 0,
-                inner_columns: width,
-                hangs: true,
+                inner_columns,
+                ..self
             };
         }
         Extent {
-            columns: width,
-            inner_columns: width,
+            columns: inner_columns,
+            inner_columns,
             hangs: false,
         }
     }
@@ -101,7 +100,7 @@ impl Extent {
     {
         let mut extent = Extent::none();
         'items: while let Some((_, code_point)) = text.next_item() {
-            extent = extent.joined(Extent::of_character(code_point));
+            extent = extent.followed_by(code_point);
         }
         extent
     }
