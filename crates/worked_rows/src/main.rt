@@ -11,6 +11,7 @@ mod boundaries;
 mod counts;
 mod dictionaries;
 mod lent;
+mod line_classes;
 mod memo;
 mod numbers;
 mod options;
@@ -34,7 +35,7 @@ use std::process::ExitCode;
 use std::{env, fs};
 
 /// The files of rows, in the order in which they are run.
-const FILES: [&str; 11] = [
+const FILES: [&str; 12] = [
     "clusters.rows",
     "sentences.rows",
     "statuses.rows",
@@ -46,6 +47,7 @@ const FILES: [&str; 11] = [
     "pieces.rows",
     "memos.rows",
     "faults.rows",
+    "names.rows",
 ];
 
 fn main(rt: HostRuntime) -> Result<ExitCode> {

@@ -1,13 +1,14 @@
 //! What is asked, and by what it is answered.
 
 use crate::lent::lent_answer;
+use crate::line_classes::line_class_answer;
 use crate::owned::owned_answer;
 use crate::pieces::{cuts_answer, pieces_answer, run_cuts_answer};
 use crate::samples::{Sample, sample_of};
 use crate::settings::Settings;
 use crate::small::{
-    answers_answer, break_state_answer, equality_answer, fork_answer, look_ups_answer,
-    script_answer, statuses_answer, word_type_answer,
+    answers_answer, break_state_answer, equality_answer, error_answer, fork_answer,
+    look_ups_answer, script_answer, statuses_answer, word_type_answer,
 };
 use crate::texts::same_clusters;
 use anyhow::{Result, bail};
@@ -78,6 +79,10 @@ pub enum Question {
     WordTypes,
     /// Whether the table of clusters is the sample's.
     Equality,
+    /// The number of a class of lines.
+    LineClasses,
+    /// The text of an error.
+    Errors,
 }
 
 /// The question of this name.
@@ -101,6 +106,8 @@ pub fn question_of(name: &str) -> Result<Question> {
         "break states" => Ok(Question::BreakStates),
         "word types" => Ok(Question::WordTypes),
         "equality" => Ok(Question::Equality),
+        "line classes" => Ok(Question::LineClasses),
+        "errors" => Ok(Question::Errors),
         _ => Ok(Question::Segmenter(kind_of(name)?, Manner::Boundaries)),
     }
 }
@@ -135,6 +142,8 @@ pub fn answer_of(alloc: Global, settings: &Settings, asked: &str) -> Result<Stri
         Question::Scripts => return script_answer(alloc, asked),
         Question::BreakStates => return break_state_answer(alloc, asked),
         Question::WordTypes => return word_type_answer(alloc, asked),
+        Question::LineClasses => return line_class_answer(alloc, asked),
+        Question::Errors => return error_answer(alloc, asked),
         question => {
             let sample = sample_of(alloc, asked)?;
             other_answer(alloc, settings, question, &sample)

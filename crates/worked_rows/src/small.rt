@@ -9,9 +9,10 @@ use crate::settings::Settings;
 use anyhow::{Result, bail};
 use bench::pair_tables::cluster_table;
 use icu_segmenter::indices::{Latin1Indices, StrCharIndices};
-use icu_segmenter::memo::MemoBreakIterator;
+use icu_segmenter::memo::{MemoBreakIterator, MemoError};
 use icu_segmenter::options::WordType;
 use icu_segmenter::provider::{BreakState, DataError, DictionaryBreakData, RuleBreakData};
+use icu_segmenter::wrap::WrapError;
 use seg_complex::script_iter::script_of;
 use seg_dictionary::provider::DictionaryCursor;
 use seg_dictionary::words::WordCursor;
@@ -46,6 +47,18 @@ pub fn word_type_answer(alloc: Global, asked: &str) -> Result<String> {
     };
     let is_word_like = word_type.is_word_like();
     Ok(format!(in alloc; "{is_word_like}")?)
+}
+
+/// The text of an error of this name.
+pub fn error_answer(alloc: Global, asked: &str) -> Result<String> {
+    Ok(match asked {
+        "MemoError Memory" => format!(in alloc; "{}", MemoError::Memory)?,
+        "MemoError NotNeo" => format!(in alloc; "{}", MemoError::NotNeo)?,
+        "MemoError HasDictionary" => format!(in alloc; "{}", MemoError::HasDictionary)?,
+        "MemoError TooLarge" => format!(in alloc; "{}", MemoError::TooLarge)?,
+        "WrapError NotNeo" => format!(in alloc; "{}", WrapError::NotNeo)?,
+        _ => bail!("no error"),
+    })
 }
 
 /// Whether the pair table is the sample's of clusters.
