@@ -86,7 +86,7 @@ extent-standing : (c width : ℕ) → width ≡ width_of c → hangs c ≡ false
 extent-standing c width is does = sym (extent-one c ∙ rw (does, is) refl)
 
 -- a character after others
-extent : ℕ → ℕ → Bool → Extent
+abbrev extent : ℕ → ℕ → Bool → Extent
 extent columns inner_columns hangs = record { columns = columns; inner_columns = inner_columns; hangs = hangs }
 
 pub followed-hanging : (before : Extent) (c width : ℕ) → width ≡ width_of c → hangs c ≡ true
