@@ -5,8 +5,8 @@ use anyhow::Result;
 use icu_segmenter::options::{LineBreakOptions, SentenceBreakOptions, WordBreakOptions};
 use icu_segmenter::{GraphemeClusterSegmenter, LineSegmenter, SentenceSegmenter, WordSegmenter};
 use icu_segmenter_data::{
-    cluster_machine, cluster_table, line_machine, line_table, line_tailorings, sentence_machine,
-    sentence_table, word_machine, word_table,
+    cluster_table, grapheme_segmenter, line_segmenter, line_table, sentence_segmenter,
+    sentence_table, word_segmenter, word_table,
 };
 use std::alloc::Global;
 
@@ -71,36 +71,24 @@ impl Engine {
     /// The segmenter with its data. The errors are want of memory, and data that are refused.
     pub fn segmenter(self, alloc: Global) -> Result<Segmenter> {
         match self {
-            Engine::ClusterMachine => cluster_machine_segmenter(alloc),
+            Engine::ClusterMachine => Ok(Segmenter::Clusters(grapheme_segmenter(alloc)?)),
             Engine::ClusterTable => cluster_table_segmenter(alloc),
-            Engine::WordMachine => word_machine_segmenter(alloc),
+            Engine::WordMachine => Ok(Segmenter::Words(word_segmenter(alloc)?)),
             Engine::WordTable => word_table_segmenter(alloc),
-            Engine::SentenceMachine => sentence_machine_segmenter(alloc),
+            Engine::SentenceMachine => Ok(Segmenter::Sentences(sentence_segmenter(alloc)?)),
             Engine::SentenceTable => sentence_table_segmenter(alloc),
-            Engine::LineMachine => line_segmenter(alloc, LineBreakOptions::default()),
+            Engine::LineMachine => {
+                let options = LineBreakOptions::default();
+                Ok(Segmenter::Lines(line_segmenter(alloc, options)?))
+            }
             Engine::LineTable => line_table_segmenter(alloc),
         }
     }
 }
 
-fn cluster_machine_segmenter(alloc: Global) -> Result<Segmenter> {
-    let segmenter = GraphemeClusterSegmenter::try_new_neo(cluster_machine(alloc)?)?;
-    Ok(Segmenter::Clusters(segmenter))
-}
-
 fn cluster_table_segmenter(alloc: Global) -> Result<Segmenter> {
     let segmenter = GraphemeClusterSegmenter::try_new(cluster_table(alloc)?)?;
     Ok(Segmenter::Clusters(segmenter))
-}
-
-fn word_machine_segmenter(alloc: Global) -> Result<Segmenter> {
-    let options = WordBreakOptions::default();
-    let segmenter = WordSegmenter::try_new_neo_for_non_complex_scripts(
-        word_machine(alloc)?,
-        cluster_table(alloc)?,
-        options,
-    )?;
-    Ok(Segmenter::Words(segmenter))
 }
 
 fn word_table_segmenter(alloc: Global) -> Result<Segmenter> {
@@ -110,27 +98,10 @@ fn word_table_segmenter(alloc: Global) -> Result<Segmenter> {
     Ok(Segmenter::Words(segmenter))
 }
 
-fn sentence_machine_segmenter(alloc: Global) -> Result<Segmenter> {
-    let options = SentenceBreakOptions::default();
-    let segmenter = SentenceSegmenter::try_new_neo(sentence_machine(alloc)?, None, options)?;
-    Ok(Segmenter::Sentences(segmenter))
-}
-
 fn sentence_table_segmenter(alloc: Global) -> Result<Segmenter> {
     let options = SentenceBreakOptions::default();
     let segmenter = SentenceSegmenter::try_new(sentence_table(alloc)?, None, options)?;
     Ok(Segmenter::Sentences(segmenter))
-}
-
-/// The segmenter of lines by the machine, with these options. The errors are want of memory, and data that are refused.
-pub fn line_segmenter(alloc: Global, options: LineBreakOptions<'_>) -> Result<Segmenter> {
-    let segmenter = LineSegmenter::try_new_neo_for_non_complex_scripts(
-        line_machine(alloc)?,
-        line_tailorings(alloc)?,
-        cluster_machine(alloc)?,
-        options,
-    )?;
-    Ok(Segmenter::Lines(segmenter))
 }
 
 fn line_table_segmenter(alloc: Global) -> Result<Segmenter> {

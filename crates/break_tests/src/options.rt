@@ -1,11 +1,11 @@
 //! Lines with options.
 
-use crate::engine::line_segmenter;
 use crate::segmenter::Segmenter;
 use anyhow::{Context, Result, bail};
 use icu_segmenter::options::{
     LanguageIdentifier, LineBreakOptions, LineBreakStrictness, LineBreakWordOption,
 };
+use icu_segmenter_data::line_segmenter;
 use std::alloc::Global;
 
 /// The segmenter of lines with the options of a row: the words of a strictness, a word option and a language. The errors are
@@ -15,14 +15,12 @@ pub fn segmenter_with(alloc: Global, options: &str) -> Result<Segmenter> {
     let strictness = strictness_of(words.next().context("no strictness")?)?;
     let word_option = word_option_of(words.next().context("no word option")?)?;
     let language = words.next().and_then(LanguageIdentifier::try_from_language);
-    line_segmenter(
-        alloc,
-        LineBreakOptions {
-            strictness: Some(strictness),
-            word_option: Some(word_option),
-            content_locale: language.as_ref(),
-        },
-    )
+    let options = LineBreakOptions {
+        strictness: Some(strictness),
+        word_option: Some(word_option),
+        content_locale: language.as_ref(),
+    };
+    Ok(Segmenter::Lines(line_segmenter(alloc, options)?))
 }
 
 fn strictness_of(word: &str) -> Result<LineBreakStrictness> {

@@ -9,12 +9,14 @@
 mod clusters;
 mod lines;
 mod parts;
+mod segmenters;
 mod sentences;
 mod version;
 mod words;
 
 pub use clusters::{cluster_machine, cluster_table};
 pub use lines::{line_machine, line_table, line_tailorings};
+pub use segmenters::{grapheme_segmenter, line_segmenter, sentence_segmenter, word_segmenter};
 pub use sentences::{sentence_machine, sentence_table};
 pub use version::UNICODE_VERSION;
 pub use words::{word_machine, word_table};

@@ -1,0 +1,63 @@
+//! Segmenters by Unicode's machines, each in one call.
+ghost use Rattle.std.specs.Prelude.{◌≡◌, IfOk};
+ghost use Rattle.icu_segmenter.specs.Clusters.{owned_cluster_rules};
+ghost use Rattle.icu_segmenter.specs.Lines.{chosen_rules, owned_line_rules};
+ghost use Rattle.icu_segmenter.specs.Options.{machine_choice};
+ghost use Rattle.icu_segmenter.specs.Rules.Rules.{ByMachine};
+ghost use Rattle.icu_segmenter.specs.ScriptWords.{no_words};
+ghost use Rattle.icu_segmenter.specs.Sentences.{owned_sentence_rules};
+ghost use Rattle.icu_segmenter.specs.WordRules.{machine_words};
+ghost use Rattle.icu_segmenter.specs.Words.{owned_word_rules};
+ghost use Rattle.icu_segmenter_data.specs.Unicode.{cluster_machine, cluster_table, line_machine, line_tailorings, sentence_machine, word_machine};
+
+use crate::clusters::{cluster_machine, cluster_table};
+use crate::lines::{line_machine, line_tailorings};
+use crate::sentences::sentence_machine;
+use crate::words::word_machine;
+use icu_segmenter::options::{LineBreakOptions, SentenceBreakOptions, WordBreakOptions};
+use icu_segmenter::provider::DataError;
+use icu_segmenter::{GraphemeClusterSegmenter, LineSegmenter, SentenceSegmenter, WordSegmenter};
+use std::alloc::Global;
+
+/// A segmenter of extended grapheme clusters, by the machine of UAX #29. The only error that is met is want of memory.
+pub fn grapheme_segmenter(alloc: Global) -> Result<GraphemeClusterSegmenter, DataError>
+    ensures { IfOk result (λ clusters. owned_cluster_rules clusters ≡ ByMachine cluster_machine) }
+{
+    GraphemeClusterSegmenter::try_new_neo(cluster_machine(alloc)?)
+}
+
+/// A segmenter of words, by the machine of UAX #29, without dictionaries: `load_dictionary` takes them. The only error that is met is
+/// want of memory.
+pub fn word_segmenter(alloc: Global) -> Result<WordSegmenter, DataError>
+    ensures { IfOk result (λ words. owned_word_rules words ≡ machine_words word_machine cluster_table no_words) }
+{
+    WordSegmenter::try_new_neo_for_non_complex_scripts(
+        word_machine(alloc)?,
+        cluster_table(alloc)?,
+        WordBreakOptions::default(),
+    )
+}
+
+/// A segmenter of sentences, by the machine of UAX #29. The only error that is met is want of memory.
+pub fn sentence_segmenter(alloc: Global) -> Result<SentenceSegmenter, DataError>
+    ensures { IfOk result (λ sentences. owned_sentence_rules sentences ≡ ByMachine sentence_machine) }
+{
+    let options = SentenceBreakOptions::default();
+    SentenceSegmenter::try_new_neo(sentence_machine(alloc)?, None, options)
+}
+
+/// A segmenter of lines, by the machine of UAX #14 with the tailoring of CSS Text 3 that these options choose, or by the machine of clusters
+/// where they are `Anywhere`; without dictionaries: `load_dictionary` takes them. The only error that is met is want of memory.
+pub fn line_segmenter(
+    alloc: Global,
+    options: LineBreakOptions<'_>,
+) -> Result<LineSegmenter, DataError>
+    ensures { IfOk result (λ lines. owned_line_rules lines ≡ chosen_rules line_machine line_tailorings cluster_machine (machine_choice options.entry)) }
+{
+    LineSegmenter::try_new_neo_for_non_complex_scripts(
+        line_machine(alloc)?,
+        line_tailorings(alloc)?,
+        cluster_machine(alloc)?,
+        options,
+    )
+}
