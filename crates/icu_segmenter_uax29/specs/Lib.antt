@@ -1,3 +1,6 @@
 pub mod Clusters
 pub mod Neighbours
+pub mod Pieces
 pub mod Properties
+pub mod SentenceValues
+pub mod Sentences
