@@ -3,6 +3,7 @@ import os
 import re
 
 WIDTH = 118
+PER_LINE = 14
 
 
 def rows_of(folder, file):
@@ -69,7 +70,8 @@ def transitions_file(table, module):
     widths = [max(map(len, column)) for column in zip(*(row for _, row in table))]
     body = []
     for symbol, row in table:
-        body += [f"    // {symbol}", "    " + " ".join((name + ",").ljust(width + 1) for name, width in zip(row, widths)).rstrip()]
+        cells = [(name + ",").ljust(width + 1) for name, width in zip(row, widths)]
+        body += [f"    // {symbol}", *("    " + " ".join(cells[k:k + PER_LINE]).rstrip() for k in range(0, len(cells), PER_LINE))]
     names = {name for _, row in table for name in row}
     return ["//! The transitions of the machine.",
             "// Written by generate/generate.py from the rules of UAX #29. Do not edit.", "",

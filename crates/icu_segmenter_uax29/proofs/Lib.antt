@@ -5,6 +5,7 @@ mod Picks
 mod Ends
 mod Walks
 mod Boundaries
+mod Waits
 mod Texts
 mod Parts
 mod Segments
@@ -22,3 +23,9 @@ mod SentenceTables
 mod SentenceContexts
 mod SentenceWalks
 mod SentenceFaults
+mod WordSymbols
+mod WordKnowledge
+mod WordTables
+mod WordContexts
+mod WordWalks
+mod WordFaults

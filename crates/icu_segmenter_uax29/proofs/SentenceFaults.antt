@@ -3,13 +3,15 @@ use Rattle.std.proofs.Common.{◌≡◌, ℕ, zero, suc, Bool, true, ◌==◌, [
 use Rattle.ucd_table.proofs.TrieCheck.{all_below, all_below-at}
 use Rattle.seg_data.specs.Table.{value_of}
 use Rattle.seg_machine.specs.Machine.{IsSymbolOf, replaced, symbol_and_script, symbol_count}
+use Rattle.unicode_segmentation.specs.Sentence.{is_sentence_break}
 use Rattle.icu_segmenter_uax29.specs.Sentences.{sentence_machine}
 use Rattle.icu_segmenter_uax29.specs.declared.sentences.ranges.TheConstants.{RANGES}
 use Rattle.icu_segmenter_uax29.specs.declared.sentences.states.TheConstants.{STATES}
 use Rattle.icu_segmenter_uax29.specs.declared.sentences.transitions.TheConstants.{TRANSITIONS}
 use Rattle.icu_segmenter_uax29.proofs.Faultless.{AreSound}
 use Rattle.icu_segmenter_uax29.proofs.SentenceSymbols.{symbol}
-use Rattle.icu_segmenter_uax29.proofs.SentenceWalks.{sentence-plain, sentence-reaches}
+use Rattle.icu_segmenter_uax29.proofs.SentenceWalks.{fits, follows, known, meets, sentence-plain}
+use Rattle.icu_segmenter_uax29.proofs.Waits.{start-reaches}
 
 -- a code point of each symbol
 abbrev sample : ℕ → ℕ
@@ -43,5 +45,5 @@ are-sound =
       plain = sentence-plain;
       sample = sample;
       sampled = sampled;
-      reaches = sentence-reaches;
+      reaches = start-reaches is_sentence_break sentence_machine 12 known fits meets follows;
     }

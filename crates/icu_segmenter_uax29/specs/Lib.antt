@@ -4,3 +4,5 @@ pub mod Pieces
 pub mod Properties
 pub mod SentenceValues
 pub mod Sentences
+pub mod WordValues
+pub mod Words

@@ -1,4 +1,4 @@
--- Between which code points boundaries stand: of clusters, and of sentences.
+-- Between which code points boundaries stand: of clusters, of words and of sentences.
 use Rattle.std.specs.Prelude.{◌≡◌, ℕ, ◌⊎◌, false, List, [], ◌∷◌, ◌++◌, length, reverse, All, Contains}
 use Rattle.ucd_breaks.specs.GraphemeClusterBreak.{grapheme_cluster_break}
 use Rattle.ucd_breaks.specs.declared.GraphemeClusterBreak.{GraphemeClusterBreak}
@@ -10,6 +10,7 @@ use Rattle.seg_text.specs.Boundaries.{offsets}
 use Rattle.seg_machine.specs.Segments.{machine_boundaries}
 use Rattle.icu_segmenter_uax29.specs.Clusters.{cluster_machine}
 use Rattle.icu_segmenter_uax29.specs.Sentences.{sentence_machine}
+use Rattle.icu_segmenter_uax29.specs.Words.{word_machine}
 
 -- a boundary of clusters stands between two parts of a text
 abbrev pub IsBoundary : List ℕ → List ℕ → Type 0
@@ -45,3 +46,7 @@ AllInConjunct code_points =
 -- a boundary of sentences stands between two parts of a text
 abbrev pub IsSentenceBoundary : List ℕ → List ℕ → Type 0
 IsSentenceBoundary before after = Contains (offsets (machine_boundaries sentence_machine (before ++ after))) (length before)
+
+-- a boundary of words stands between two parts of a text
+abbrev pub IsWordBoundary : List ℕ → List ℕ → Type 0
+IsWordBoundary before after = Contains (offsets (machine_boundaries word_machine (before ++ after))) (length before)

@@ -7,15 +7,18 @@ ghost use Rattle.ucd_derived.specs.declared.IndicConjunctBreak.TheVariants as In
 ghost use Rattle.ucd_emoji.specs.Binary.{is_extended_pictographic};
 ghost use Rattle.unicode_segmentation.specs.Grapheme.{is_grapheme_break};
 ghost use Rattle.unicode_segmentation.specs.Sentence.{is_sentence_break};
+ghost use Rattle.unicode_segmentation.specs.Word.{is_word_break};
 ghost use Rattle.seg_text.specs.Boundaries.{offsets};
 ghost use Rattle.seg_machine.specs.Machine.{symbol_and_script};
 ghost use Rattle.seg_machine.specs.Segments.{machine_boundaries};
 ghost use Rattle.icu_segmenter_uax29.specs.Clusters.{cluster_machine, clusters};
-ghost use Rattle.icu_segmenter_uax29.specs.Neighbours.{IsBoundary, IsJoined, IsSentenceBoundary, StayTogether, all_but_controls, EndsInWholeFlags, AllExtend, AllInConjunct};
+ghost use Rattle.icu_segmenter_uax29.specs.Neighbours.{IsBoundary, IsJoined, IsSentenceBoundary, IsWordBoundary, StayTogether, all_but_controls, EndsInWholeFlags, AllExtend, AllInConjunct};
 ghost use Rattle.icu_segmenter_uax29.specs.Pieces.{piece_bounds};
 ghost use Rattle.icu_segmenter_uax29.specs.Properties.{HasProperties};
 ghost use Rattle.icu_segmenter_uax29.specs.SentenceValues.{HasSentenceBreak};
 ghost use Rattle.icu_segmenter_uax29.specs.Sentences.{sentence_machine, sentences};
+ghost use Rattle.icu_segmenter_uax29.specs.WordValues.{HasWordBreak};
+ghost use Rattle.icu_segmenter_uax29.specs.Words.{word_machine, words};
 
 /// Law: the symbol of every code point in the machine of clusters stands for its Grapheme_Cluster_Break, Indic_Conjunct_Break and Extended_Pictographic.
 pub fn symbols_are_properties()
@@ -79,4 +82,16 @@ pub fn sentence_symbols_are_values()
 pub fn sentences_are_uax29()
     ensures sentences { (code_points : List ℕ) → offsets (machine_boundaries sentence_machine code_points) ≡ piece_bounds (sentences code_points) }
     ensures places { (before after : List ℕ) → IsSentenceBoundary before after ↔ (is_sentence_break (reverse before) after ≡ true) }
+{}
+
+/// Law: the symbol of every code point in the machine of words stands for its Word_Break and Extended_Pictographic.
+pub fn word_symbols_are_properties()
+    ensures { (code_point : ℕ) → HasWordBreak code_point (symbol_and_script word_machine code_point).0 }
+{}
+
+/// Law: the boundaries of the machine of words are the start and the ends of the words of UAX #29, and no others: one stands
+/// between two parts of a text just where the rules WB1 to WB999 have one.
+pub fn words_are_uax29()
+    ensures words { (code_points : List ℕ) → offsets (machine_boundaries word_machine code_points) ≡ piece_bounds (words code_points) }
+    ensures places { (before after : List ℕ) → IsWordBoundary before after ↔ (is_word_break (reverse before) after ≡ true) }
 {}

@@ -14,7 +14,9 @@ pub mod sentences;
 mod states;
 mod symbols;
 mod transitions;
+pub mod words;
 
 pub use machine::cluster_machine;
 pub use segmenter::ClusterSegmenter;
 pub use sentences::{SentenceSegmenter, sentence_machine};
+pub use words::{WordSegmenter, word_machine};

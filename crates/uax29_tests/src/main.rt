@@ -1,5 +1,5 @@
-//! Runs the official tests of grapheme clusters and of sentences of Unicode 15.0 through the segmenters whose boundaries are proved
-//! to be those of UAX #29, as it is in Unicode 18.0, and prints the tests that they don't pass: those of what has changed since.
+//! Runs the official tests of grapheme clusters, words and sentences of Unicode 15.0 through the segmenters whose boundaries are
+//! proved to be those of UAX #29, as it is in Unicode 18.0, and prints the tests that they don't pass: those of what has changed since.
 //!
 //! A test is passed where the text has just the boundaries that its line says. The argument is the folder of the test files.
 #![tactic(auto)]
@@ -7,7 +7,7 @@
 mod sample;
 
 use anyhow::{Context, Result};
-use icu_segmenter_uax29::{ClusterSegmenter, SentenceSegmenter};
+use icu_segmenter_uax29::{ClusterSegmenter, SentenceSegmenter, WordSegmenter};
 use sample::{Sample, sample_of};
 use std::alloc::{AllocError, Global};
 use std::{env, fs};
@@ -17,6 +17,8 @@ fn main(rt: HostRuntime) -> Result<()> {
     let folder = env::args(&rt)?.nth(1).context("usage: uax29_tests FOLDER")?;
     let clusters = Segmenter::Clusters(ClusterSegmenter::try_new(alloc)?);
     run_file(&rt, folder.as_str(), "GraphemeBreakTest.txt", &clusters)?;
+    let words = Segmenter::Words(WordSegmenter::try_new(alloc)?);
+    run_file(&rt, folder.as_str(), "WordBreakTest.txt", &words)?;
     let sentences = Segmenter::Sentences(SentenceSegmenter::try_new(alloc)?);
     run_file(&rt, folder.as_str(), "SentenceBreakTest.txt", &sentences)
 }
@@ -25,6 +27,7 @@ fn main(rt: HostRuntime) -> Result<()> {
 #[derive(Drop)]
 enum Segmenter {
     Clusters(ClusterSegmenter),
+    Words(WordSegmenter),
     Sentences(SentenceSegmenter),
 }
 
@@ -33,6 +36,7 @@ impl Segmenter {
     fn places(&self, alloc: Global, text: &str) -> Result<Vec<usize>, AllocError> {
         match self {
             Segmenter::Clusters(segmenter) => segmenter.segment_str(text).collect(alloc),
+            Segmenter::Words(segmenter) => segmenter.segment_str(text).collect(alloc),
             Segmenter::Sentences(segmenter) => segmenter.segment_str(text).collect(alloc),
         }
     }
