@@ -20,6 +20,7 @@ use Rattle.icu_segmenter_uax29.proofs.Entries.{Entry, is_plain}
 use Rattle.icu_segmenter_uax29.proofs.Lists.{every, any-passes}
 use Rattle.icu_segmenter_uax29.proofs.Picks.{IsPlain, pick-reach, reach}
 use Rattle.icu_segmenter_uax29.proofs.RangeSymbols.{symbol_in}
+use Rattle.icu_segmenter_uax29.proofs.Tests.{either}
 
 abbrev Range : Type 0
 Range = ℕ × ℕ × ℕ
@@ -112,12 +113,8 @@ no-range-fault ranges are rise MissingTailoring h = h
 
 -- ---- the machine
 
-either-true : (b c : Bool) → (b || c) ≡ true → (b ≡ true) ⊎ (c ≡ true)
-either-true true c h = inl refl
-either-true false c h = inr h
-
 next-state : (count next : ℕ) → is_next count next ≡ true → next ≢ 255 → count ≤ next → ⊥
-next-state count next is other past = elim (either-true (next == 255) (nat_lt next count) is) [
+next-state count next is other past = elim (either (next == 255) (nat_lt next count) is) [
   | inl same ↦ other (eqb-true next 255 same)
   | inr below ↦ let low = ltb-true next count below in omega arith
 ]

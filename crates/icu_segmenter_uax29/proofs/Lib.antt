@@ -1,3 +1,4 @@
+mod Tests
 mod Lists
 mod Entries
 mod RangeSymbols

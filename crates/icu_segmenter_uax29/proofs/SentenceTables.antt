@@ -14,6 +14,7 @@ use Rattle.icu_segmenter_uax29.specs.Sentences.{sentence_machine}
 use Rattle.icu_segmenter_uax29.specs.SentenceValues.{value_of_symbol}
 use Rattle.icu_segmenter_uax29.proofs.Entries.{accepts}
 use Rattle.icu_segmenter_uax29.proofs.SentenceKnowledge.{Known, group_at, group_of, known_after, known_at, verdict}
+use Rattle.icu_segmenter_uax29.proofs.Tests.{both, implied, implies}
 
 -- the state accepts; one that doesn't waits
 abbrev pub accepting : ℕ → Bool
@@ -32,9 +33,6 @@ breaks_before q last symbol ahead =
 -- what the machine makes of it: in a state that accepts it breaks where there is no step, and where it leads to a wait that is in vain
 abbrev pub expected : ℕ → Option ℕ → Bool → Bool
 expected q next ahead = accepting q && option_map_or (λ t. not (accepting t) && not ahead) next true
-
-abbrev implies : Bool → Bool → Bool
-implies b c = cond b c true
 
 -- both are the same, where the last value is of the state's group
 abbrev decides_for : ℕ → SentenceBreak → ℕ → Bool → Bool
@@ -96,13 +94,6 @@ unfolding all_below step sentence_machine
 ended = refl
 
 -- ---- the same for each state and symbol
-
-implied : (b c : Bool) → implies b c ≡ true → b ≡ true → c ≡ true
-implied true c h is = h
-implied false c h is = cc
-
-both : (b c : Bool) → b ≡ true → c ≡ true → (b && c) ≡ true
-both b c h k = ap (λ x. x && c) h ∙ k
 
 pub ends : (q : ℕ) → q < 12 → not (is_some (step sentence_machine q 0)) ≡ true
 ends q below = all_below-at (λ q. not (is_some (step sentence_machine q 0))) 12 q ended below

@@ -1,5 +1,5 @@
 -- The boundaries of the machine are the sentence boundaries of UAX #29.
-use Rattle.std.proofs.Common.{◌≡◌, ℕ, Bool, true, false, not, ◌&&◌, List, [], ◌∷◌, Some, None, refl, ap, ◌∙◌, arith}
+use Rattle.std.proofs.Common.{◌≡◌, ℕ, true, not, ◌&&◌, List, [], ◌∷◌, Some, None, refl, ap, ◌∙◌, arith}
 use Rattle.unicode_segmentation.specs.Sentence.{is_sentence_break, reaches_lower}
 use Rattle.seg_machine.specs.Machine.{step}
 use Rattle.icu_segmenter_uax29.specs.Sentences.{sentence_machine}
@@ -11,6 +11,7 @@ use Rattle.icu_segmenter_uax29.proofs.SentenceSymbols.{symbol, symbol-says}
 use Rattle.icu_segmenter_uax29.proofs.SentenceTables.{Starts, accepting, ends, expected, finds-lower, goes-on, in-vain, starts, starts-again, starts-beside, waits-on}
 use Rattle.icu_segmenter_uax29.proofs.Waits.{Fitting, Follows, Goes, Meeting, Stops, boundaries-follow}
 use Rattle.icu_segmenter_uax29.proofs.Walks.{Knowledge}
+use Rattle.icu_segmenter_uax29.proofs.Tests.{and-false}
 
 pub sentence-plain : IsPlain sentence_machine 12
 unfolding sentence_machine
@@ -45,10 +46,6 @@ fits t c before cs = FitsAfter t c before
 -- the one wait is for what SB8 asks for
 abbrev pub meets : Meeting
 meets t cs = lower_ahead cs
-
-and-false : (b : Bool) → (b && false) ≡ false
-and-false true = refl
-and-false false = refl
 
 stops : (t c d : ℕ) (before ds : List ℕ) → FitsAfter t c before → step sentence_machine t (symbol d) ≡ None
     → Stops is_sentence_break sentence_machine known meets t c d before ds

@@ -20,6 +20,7 @@ use Rattle.icu_segmenter_uax29.proofs.Boundaries.{boundaries-break}
 use Rattle.icu_segmenter_uax29.proofs.Clusters.{rule-ends, clusters-are}
 use Rattle.icu_segmenter_uax29.proofs.Lists.{every, passes}
 use Rattle.icu_segmenter_uax29.proofs.Properties.{symbol, symbol-says}
+use Rattle.icu_segmenter_uax29.proofs.Tests.{implied, or-true}
 
 not-both : {b : Bool} → b ≡ false → b ≡ true → ⊥
 not-both is other = let clash : true ≡ false = sym other ∙ is in cc
@@ -98,10 +99,6 @@ flag-joined before after one other whole is_one is_other =
 
 -- ---- emoji
 
-implied : (b c : Bool) → cond b c true ≡ true → b ≡ true → c ≡ true
-implied true c h is = h
-implied false c h is = cc
-
 abbrev is_other : GraphemeClusterBreak → Bool
 is_other Other = true
 is_other _ = false
@@ -135,15 +132,11 @@ pictograph-other c is =
     let says = symbol-says c in
     says.breaks ∙ plain-symbol (symbol c) says.below (ap (λ p. p || is_consonant (incb_of (symbol c))) (sym says.pictographs ∙ is))
 
-either : (b : Bool) → (b || true) ≡ true
-either true = refl
-either false = refl
-
 consonant-other : (c : ℕ) → indic_conjunct_break c ≡ InCb.Consonant → grapheme_cluster_break c ≡ Other
 consonant-other c is =
     let says = symbol-says c in
     says.breaks ∙ plain-symbol (symbol c) says.below
-    (ap (λ v. pict_of (symbol c) || is_consonant v) (sym says.conjuncts ∙ is) ∙ either (pict_of (symbol c)))
+    (ap (λ v. pict_of (symbol c) || is_consonant v) (sym says.conjuncts ∙ is) ∙ or-true (pict_of (symbol c)))
 
 turned : (c : ℕ) (cs past : List ℕ) → reverse (c ∷ cs) ++ past ≡ reverse cs ++ (c ∷ past)
 turned c cs past = ap (λ turned. turned ++ past) (reverse-append (c ∷ []) cs) ∙ append_assoc (reverse cs) (c ∷ []) past
@@ -156,7 +149,7 @@ unfolding ends_in_pictograph
 still-pictograph [] past all is = is
 still-pictograph (c ∷ cs) past all is =
     let here : ends_in_pictograph (c ∷ past) ≡ true =
-    ap₂ (λ v b. is_extended_pictographic c || (is_extend v && b)) (All-head Extends c cs all) is ∙ either (is_extended_pictographic c) in
+    ap₂ (λ v b. is_extended_pictographic c || (is_extend v && b)) (All-head Extends c cs all) is ∙ or-true (is_extended_pictographic c) in
     ap ends_in_pictograph (turned c cs past) ∙ still-pictograph cs (c ∷ past) (All-tail Extends c cs all) here
 
 ends-emoji : (before extends : List ℕ) (one : ℕ) → is_extended_pictographic one ≡ true → AllExtend extends → ends_in_pictograph (reverse (before ++ one ∷ extends)) ≡ true

@@ -1,5 +1,5 @@
 -- Each stretch of a machine ends at the first break of a rule, where its states know what came before, and some wait for what comes.
-use Rattle.std.proofs.Common.{◌≡◌, ℕ, suc, ◌<◌, Bool, true, false, List, [], ◌∷◌, Some, None, sym, ◌∙◌, inl, inr}
+use Rattle.std.proofs.Common.{◌≡◌, ℕ, suc, ◌<◌, Bool, true, false, List, [], ◌∷◌, Some, None, ◌∙◌, inl, inr}
 use Rattle.unicode_segmentation.specs.Segments.{Rule}
 use Rattle.seg_machine.specs.Machine.{Machine, state_at, step}
 use Rattle.icu_segmenter_uax29.proofs.Boundaries.{EndsAre, HasEnds}
@@ -8,6 +8,7 @@ use Rattle.icu_segmenter_uax29.proofs.Lists.{bool-cases, option-cases}
 use Rattle.icu_segmenter_uax29.proofs.Picks.{IsPlain, reach, reach-end, reach-none, reach-accepts, reach-waits, reach-waits-none, stretch-reach}
 use Rattle.icu_segmenter_uax29.proofs.RangeSymbols.{symbol_in}
 use Rattle.icu_segmenter_uax29.proofs.Walks.{Knowledge, IsFirst, StretchesAre, first-here, first-later, ends-are}
+use Rattle.icu_segmenter_uax29.proofs.Tests.{clash}
 
 -- a state knows what came before a place, nearest first, the nearest apart, and it has to do with what comes after
 abbrev pub Fitting : Type 1
@@ -44,9 +45,6 @@ pub record Follows (rule : Rule) (m : Machine) (count : ℕ) (known : Knowledge)
   pub alone : (t c : ℕ) (before : List ℕ) → fits t c before [] → accepts (state_at m t) ≡ false → meets t [] ≡ false
   pub stops : (t c d : ℕ) (before ds : List ℕ) → fits t c before (d ∷ ds) → step m t (symbol_in m d) ≡ None → Stops rule m known meets t c d before ds
   pub goes : (t u c d : ℕ) (before ds : List ℕ) → fits t c before (d ∷ ds) → step m t (symbol_in m d) ≡ Some u → Goes rule m known fits meets t u c d before ds
-
-clash : {X : Type 0} {b : Bool} → b ≡ true → b ≡ false → X
-clash is other = let no : true ≡ false = sym is ∙ other in cc
 
 module _ (rule : Rule) (m : Machine) (count : ℕ) (known : Knowledge) (fits : Fitting) (meets : Meeting)
     (follows : Follows rule m count known fits meets) where

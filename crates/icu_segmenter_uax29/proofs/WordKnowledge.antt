@@ -4,6 +4,7 @@ use Rattle.std.specs.Prelude.{slice_index_or}
 use Rattle.ucd_breaks.specs.declared.WordBreak.{WordBreak}
 use Rattle.ucd_breaks.specs.declared.WordBreak.TheVariants.{Cr, ExtendNumLet, Extend, Format, HebrewLetter, Katakana, ALetter, Lf, Newline, Numeric, WSegSpace, Other, Zwj}
 use Rattle.unicode_segmentation.specs.Word.{is_ah_letter, is_double_quote, is_extend_num_let, is_hebrew_letter, is_ignored, is_katakana, is_mid_letter, is_mid_num, is_numeric, is_single_quote, joins, value_at}
+use Rattle.icu_segmenter_uax29.proofs.Tests.{and-false}
 
 -- values that the rules from WB5 on tell apart far on their left, on their left, and far on their right
 abbrev pub kind_of : WordBreak → WordBreak
@@ -153,21 +154,22 @@ far-cons _ values right = refl
 
 -- ---- what WB4 passes over is joined by none of them
 
-and-false : (b : Bool) → (b && false) ≡ false
-and-false true = refl
-and-false false = refl
+passed : (value : WordBreak) → is_ignored value ≡ true → (is_ah_letter value ≡ false) × (is_hebrew_letter value ≡ false) × (is_numeric value ≡ false)
+passed Extend is = (refl, refl, refl)
+passed Format is = (refl, refl, refl)
+passed Zwj is = (refl, refl, refl)
+passed _ is = cc
 
 far-passed : (far_left left value : WordBreak) → is_ignored value ≡ true → joins_far far_left left value ≡ no_far
-far-passed far_left left Extend is = λ i. (and-false (is_ah_letter far_left && is_mid_letter left) i, and-false (is_hebrew_letter far_left && is_double_quote left) i, and-false (is_numeric far_left && is_mid_num left) i)
-far-passed far_left left Format is = λ i. (and-false (is_ah_letter far_left && is_mid_letter left) i, and-false (is_hebrew_letter far_left && is_double_quote left) i, and-false (is_numeric far_left && is_mid_num left) i)
-far-passed far_left left Zwj is = λ i. (and-false (is_ah_letter far_left && is_mid_letter left) i, and-false (is_hebrew_letter far_left && is_double_quote left) i, and-false (is_numeric far_left && is_mid_num left) i)
-far-passed far_left left _ is = cc
+far-passed far_left left value is =
+    let (letter, hebrew, number) = passed value is in
+    (λ i. (is_ah_letter far_left && is_mid_letter left && letter i, is_hebrew_letter far_left && is_double_quote left && hebrew i, is_numeric far_left && is_mid_num left && number i))
+    ∙ (λ i. (and-false (is_ah_letter far_left && is_mid_letter left) i, and-false (is_hebrew_letter far_left && is_double_quote left) i, and-false (is_numeric far_left && is_mid_num left) i))
 
 from-passed : (far : Far) (value : WordBreak) → is_ignored value ≡ true → far_from far value ≡ no_far
-from-passed far Extend is = λ i. (and-false far.0 i, and-false far.1 i, and-false far.2 i)
-from-passed far Format is = λ i. (and-false far.0 i, and-false far.1 i, and-false far.2 i)
-from-passed far Zwj is = λ i. (and-false far.0 i, and-false far.1 i, and-false far.2 i)
-from-passed far _ is = cc
+from-passed far value is =
+    let (letter, hebrew, number) = passed value is in
+    (λ i. (far.0 && letter i, far.1 && hebrew i, far.2 && number i)) ∙ (λ i. (and-false far.0 i, and-false far.1 i, and-false far.2 i))
 
 pub both-passed : (far_left left : WordBreak) (state : ℕ) (value : WordBreak) → is_ignored value ≡ true → joins_far far_left left value ≡ far_at state value
 both-passed far_left left state value is = far-passed far_left left value is ∙ sym (from-passed (known_at state).3 value is)

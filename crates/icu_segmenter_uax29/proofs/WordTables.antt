@@ -1,5 +1,5 @@
 -- What the table of the machine of words says of each state and symbol: computations.
-use Rattle.std.proofs.Common.{◌≡◌, ℕ, ◌<◌, ◌⊎◌, Bool, true, false, not, ◌&&◌, ◌||◌, ◌==◌, cond, nat_lt, Option, Some, None, refl, sym, ap, subst, ◌∙◌, eqb-true, lt-ltb, unwrap_or, inl, inr}
+use Rattle.std.proofs.Common.{◌≡◌, ℕ, ◌<◌, Bool, true, false, not, ◌&&◌, ◌||◌, ◌==◌, cond, nat_lt, Option, Some, None, refl, sym, ap, subst, ◌∙◌, eqb-true, lt-ltb, unwrap_or, inl, inr}
 use Rattle.std.specs.Bool.{beq}
 use Rattle.std.specs.Option.{is_some, option_map_or}
 use Rattle.std.proofs.lemmas.Bool.{and_parts, ltb-true}
@@ -15,6 +15,7 @@ use Rattle.icu_segmenter_uax29.specs.Words.{word_machine}
 use Rattle.icu_segmenter_uax29.specs.WordValues.{is_pictograph_of, word_break_of}
 use Rattle.icu_segmenter_uax29.proofs.Entries.{accepts}
 use Rattle.icu_segmenter_uax29.proofs.WordKnowledge.{Far, far_at, group_at, group_of, half_at, joins_by, joins_far, kind_of, left_at}
+use Rattle.icu_segmenter_uax29.proofs.Tests.{both, either, implied, implies, not-true}
 
 -- the state accepts; one that doesn't waits
 abbrev pub accepting : ℕ → Bool
@@ -33,9 +34,6 @@ breaks_before q last symbol ahead =
 -- what the machine makes of it: in a state that accepts it breaks where there is no step, and where it leads to a wait that is in vain
 abbrev pub expected : ℕ → Option ℕ → WordBreak → Bool
 expected q next ahead = accepting q && option_map_or (λ t. not (accepting t) && not (meets_kind t ahead)) next true
-
-abbrev implies : Bool → Bool → Bool
-implies b c = cond b c true
 
 -- each kind of value passes
 abbrev for_kinds : (WordBreak → Bool) → Bool
@@ -140,21 +138,6 @@ unfolding all_below state_at word_machine
 unmet = refl
 
 -- ---- the same for each state, symbol and kind
-
-implied : (b c : Bool) → implies b c ≡ true → b ≡ true → c ≡ true
-implied true c h is = h
-implied false c h is = cc
-
-both : (b c : Bool) → b ≡ true → c ≡ true → (b && c) ≡ true
-both b c h k = ap (λ x. x && c) h ∙ k
-
-either : (b c : Bool) → (b || c) ≡ true → (b ≡ true) ⊎ (c ≡ true)
-either true c h = inl refl
-either false c h = inr h
-
-not-true : (b : Bool) → not b ≡ true → b ≡ false
-not-true true h = cc
-not-true false h = refl
 
 for-kinds : (passes : WordBreak → Bool) → for_kinds passes ≡ true → (value : WordBreak) → passes (kind_of value) ≡ true
 for-kinds passes h value =

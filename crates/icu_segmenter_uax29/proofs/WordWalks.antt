@@ -1,5 +1,5 @@
 -- The boundaries of the machine are the word boundaries of UAX #29.
-use Rattle.std.proofs.Common.{◌≡◌, ℕ, Bool, true, false, not, ◌&&◌, ◌||◌, List, [], ◌∷◌, Some, None, refl, ap, ◌∙◌, arith}
+use Rattle.std.proofs.Common.{◌≡◌, ℕ, true, not, ◌&&◌, ◌||◌, List, [], ◌∷◌, Some, None, refl, ap, ◌∙◌, arith}
 use Rattle.std.specs.Option.{is_some}
 use Rattle.ucd_breaks.specs.WordBreak.{word_break}
 use Rattle.unicode_segmentation.specs.Word.{is_word_break, significant, value_at}
@@ -13,6 +13,7 @@ use Rattle.icu_segmenter_uax29.proofs.Walks.{Knowledge}
 use Rattle.icu_segmenter_uax29.proofs.WordContexts.{Fits, FitsAfter, ahead-cons, breaks, fits-after, fits-start, first_kind}
 use Rattle.icu_segmenter_uax29.proofs.WordSymbols.{symbol, symbol-says}
 use Rattle.icu_segmenter_uax29.proofs.WordTables.{Starts, accepting, decision, ends, expected, in-vain, meets_kind, starts, starts-again, stepping, unmet-end}
+use Rattle.icu_segmenter_uax29.proofs.Tests.{and-false, or-true}
 
 pub word-plain : IsPlain word_machine 23
 unfolding word_machine significant
@@ -46,14 +47,6 @@ fits = FitsAfter
 
 abbrev pub meets : Meeting
 meets t cs = meets_kind t (first_kind cs)
-
-and-false : (b : Bool) → (b && false) ≡ false
-and-false true = refl
-and-false false = refl
-
-or-true : (b : Bool) → (b || true) ≡ true
-or-true true = refl
-or-true false = refl
 
 stops : (t c d : ℕ) (before ds : List ℕ) → FitsAfter t c before (d ∷ ds) → step word_machine t (symbol d) ≡ None
     → Stops is_word_break word_machine known meets t c d before ds
