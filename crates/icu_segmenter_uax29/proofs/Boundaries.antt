@@ -1,36 +1,15 @@
--- Boundaries stand just where the rules break.
-use Rattle.std.proofs.Common.{◌≡◌, ℕ, suc, ◌+◌, ◌<◌, ◌⊎◌, true, List, [], ◌∷◌, ◌++◌, length, reverse, refl, sym, ap, subst, ◌∙◌, arith, inl, inr, append_assoc, append-nil, zero-add}
+-- Boundaries stand just where a rule breaks.
+use Rattle.std.proofs.Common.{◌≡◌, ℕ, suc, ◌+◌, ◌<◌, true, List, [], ◌∷◌, ◌++◌, length, reverse, sym, ap, subst, ◌∙◌, arith, inl, inr, append_assoc, append-nil, zero-add}
 use Rattle.std.specs.List.{Contains}
 use Rattle.std.proofs.lemmas.Bool.{cond_both, cond-true}
 use Rattle.std.proofs.lemmas.List.{reverse-append}
-use Rattle.std.proofs.lemmas.List.Elements.{Contains-append_left, Contains-append_right, Contains-append_cases, Contains-push, Contains-push_cases}
-use Rattle.unicode_segmentation.specs.Grapheme.{is_grapheme_break}
-use Rattle.unicode_segmentation.specs.Segments.{Rule}
+use Rattle.unicode_segmentation.specs.Segments.{Rule, cut}
 use Rattle.seg_text.specs.Boundaries.{offsets}
+use Rattle.seg_machine.specs.Machine.{Machine}
 use Rattle.seg_machine.specs.Segments.{machine_boundaries}
-use Rattle.icu_segmenter_uax29.specs.Clusters.{cluster_machine}
-use Rattle.icu_segmenter_uax29.specs.Neighbours.{IsBoundary}
+use Rattle.icu_segmenter_uax29.specs.Pieces.{piece_ends}
 use Rattle.icu_segmenter_uax29.proofs.Ends.{break_places, ends-cut}
-use Rattle.icu_segmenter_uax29.proofs.Clusters.{rule-end, clusters-are}
-
-pub has-none : {X : Type 0} (x : X) → Contains [] x → ⊥
-has-none x (k, below, is) = omega arith
-
-pub has-cases : {X : Type 0} (y : X) (ys : List X) (x : X) → Contains (y ∷ ys) x → (y ≡ x) ⊎ Contains ys x
-has-cases y ys x has =
-    elim (Contains-append_cases (y ∷ []) ys x has) [
-      | inl here ↦ elim (Contains-push_cases [] y x here) [
-        | inl none ↦ absurd (has-none x none)
-        | inr is ↦ inl is
-      ]
-      | inr later ↦ inr later
-    ]
-
-has-here : {X : Type 0} (x : X) (xs : List X) → Contains (x ∷ xs) x
-has-here x xs = Contains-append_left (x ∷ []) xs x (Contains-push [] x)
-
-has-later : {X : Type 0} (y : X) (ys : List X) (x : X) → Contains ys x → Contains (y ∷ ys) x
-has-later y ys x has = Contains-append_right (y ∷ []) ys x has
+use Rattle.icu_segmenter_uax29.proofs.Lists.{has-none, has-cases, has-here, has-later}
 
 -- breaks come after what they are counted from
 above : (rule : Rule) (before : List ℕ) (from : ℕ) (cs : List ℕ) (n : ℕ) → Contains (break_places rule before from cs) n → from < n
@@ -86,23 +65,26 @@ has-break rule c (d ∷ ds) ys before from is =
     (λ _. has-later (suc from) rest _ there)
     (λ _. there)
 
-abbrev rule : Rule
-rule = is_grapheme_break true
+-- a machine whose boundaries are where the pieces of a rule end
+abbrev pub EndsAre : Rule → Machine → Type 0
+EndsAre rule m = (cs : List ℕ) → offsets (machine_boundaries m cs) ≡ 0 ∷ piece_ends 0 (cut rule [] cs [])
 
-boundary_places : (cs : List ℕ) → offsets (machine_boundaries cluster_machine cs) ≡ 0 ∷ break_places rule [] 0 cs
-boundary_places cs = clusters-are cs ∙ ap (λ places. 0 ∷ places) (ends-cut rule rule-end cs [] 0)
+-- a rule that breaks at the start and at the end of every text
+pub record HasEnds (rule : Rule) : Type 0 where
+  pub start : (after : List ℕ) → rule [] after ≡ true
+  pub end : (c : ℕ) (before : List ℕ) → rule (c ∷ before) [] ≡ true
 
-rule-start : (after : List ℕ) → rule [] after ≡ true
-unfolding is_grapheme_break
-rule-start after = refl
+boundary_places : (rule : Rule) (m : Machine) → HasEnds rule → EndsAre rule m → (cs : List ℕ) → offsets (machine_boundaries m cs) ≡ 0 ∷ break_places rule [] 0 cs
+boundary_places rule m has are cs = are cs ∙ ap (λ places. 0 ∷ places) (ends-cut rule has.end cs [] 0)
 
--- Law: a boundary stands between two parts of a text just where the rules of UAX #29 have one
-pub boundaries-break : (before after : List ℕ) → IsBoundary before after → is_grapheme_break true (reverse before) after ≡ true
-boundaries-break [] after has = rule-start after
-boundaries-break (c ∷ cs) after has =
+-- Law: a boundary stands between two parts of a text just where the rule has one
+pub boundaries-break : (rule : Rule) (m : Machine) → HasEnds rule → EndsAre rule m → (before after : List ℕ)
+    → Contains (offsets (machine_boundaries m (before ++ after))) (length before) → rule (reverse before) after ≡ true
+boundaries-break rule m ends are [] after has = ends.start after
+boundaries-break rule m ends are (c ∷ cs) after has =
     let n = length (c ∷ cs) in
     let places = break_places rule [] 0 ((c ∷ cs) ++ after) in
-    let found : Contains (0 ∷ places) n = subst (λ places. Contains places n) (boundary_places ((c ∷ cs) ++ after)) has in
+    let found : Contains (0 ∷ places) n = subst (λ places. Contains places n) (boundary_places rule m ends are ((c ∷ cs) ++ after)) has in
     let later : Contains places n = elim (has-cases 0 places n found) [
       | inl is ↦ absurd (omega (arith, is))
       | inr later ↦ later
@@ -110,11 +92,12 @@ boundaries-break (c ∷ cs) after has =
     ap (λ past. rule past after) (sym (append-nil (reverse (c ∷ cs))))
     ∙ says-break rule c cs after [] 0 (subst (Contains places) (sym (zero-add n)) later)
 
-pub breaks-bound : (before after : List ℕ) → is_grapheme_break true (reverse before) after ≡ true → IsBoundary before after
-breaks-bound [] after is = subst (λ places. Contains places 0) (sym (boundary_places after)) (has-here 0 _)
-breaks-bound (c ∷ cs) after is =
+pub breaks-bound : (rule : Rule) (m : Machine) → HasEnds rule → EndsAre rule m → (before after : List ℕ)
+    → rule (reverse before) after ≡ true → Contains (offsets (machine_boundaries m (before ++ after))) (length before)
+breaks-bound rule m ends are [] after is = subst (λ places. Contains places 0) (sym (boundary_places rule m ends are after)) (has-here 0 _)
+breaks-bound rule m ends are (c ∷ cs) after is =
     let n = length (c ∷ cs) in
     let places = break_places rule [] 0 ((c ∷ cs) ++ after) in
     let later = has-break rule c cs after [] 0 (ap (λ past. rule past after) (append-nil (reverse (c ∷ cs))) ∙ is) in
-    subst (λ places. Contains places n) (sym (boundary_places ((c ∷ cs) ++ after)))
+    subst (λ places. Contains places n) (sym (boundary_places rule m ends are ((c ∷ cs) ++ after)))
     (has-later 0 places n (subst (Contains places) (zero-add n) later))

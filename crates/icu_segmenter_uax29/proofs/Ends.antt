@@ -2,7 +2,7 @@
 use Rattle.std.proofs.Common.{◌≡◌, ℕ, suc, ◌+◌, ◌<◌, true, cond, if◌then◌else◌, List, [], ◌∷◌, ◌++◌, length, refl, sym, ap, ◌∙◌, append-nil, arith}
 use Rattle.std.proofs.lemmas.Bool.{cond_both, cond-true, cond-false}
 use Rattle.unicode_segmentation.specs.Segments.{Rule, cut, prepend}
-use Rattle.icu_segmenter_uax29.specs.Clusters.{piece_ends}
+use Rattle.icu_segmenter_uax29.specs.Pieces.{piece_ends}
 
 -- the places after which a rule breaks, in code points
 unfoldable pub break_places : Rule → List ℕ → ℕ → List ℕ → List ℕ

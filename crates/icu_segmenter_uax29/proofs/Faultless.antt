@@ -1,55 +1,71 @@
--- The parts of the machine have no fault.
-use Rattle.std.proofs.Common.{◌≡◌, ◌≢◌, ℕ, zero, suc, ◌+◌, ◌<◌, ◌≤◌, ◌⊎◌, Bool, true, false, ◌&&◌, ◌||◌, ◌==◌, nat_lt, List, [], ◌∷◌, length, map, Some, None, get_or, refl, sym, ap, ap₂, ◌∙◌, arith, inl, inr, eqb-true}
-use Rattle.std.specs.List.{All, Any}
+-- Parts that pass computed tests make a machine without a fault.
+use Rattle.std.proofs.Common.{◌≡◌, ◌≢◌, ℕ, zero, suc, ◌+◌, ◌*◌, ◌<◌, ◌≤◌, ◌⊎◌, Bool, true, false, ◌&&◌, ◌||◌, ◌==◌, nat_lt, List, [], ◌∷◌, length, map, Some, None, get_or, refl, sym, ap, ap₂, subst, ◌∙◌, arith, inl, inr, eqb-true}
+use Rattle.std.specs.List.{All}
 use Rattle.std.specs.Prelude.{Result, Ok, Err, IfErr}
 use Rattle.std.specs.Option.{option_and_then}
 use Rattle.std.proofs.lemmas.Bool.{and_parts, ltb-true}
 use Rattle.std.proofs.lemmas.List.Elements.{All-head, All-tail}
 use Rattle.std.proofs.lemmas.Option.{slice_get_within, get_or_from_slice_get}
-use Rattle.ucd_table.proofs.TrieCheck.{all_below, all_below-at}
 use Rattle.seg_data.specs.declared.provider.DataError.{DataError}
 use Rattle.seg_data.specs.declared.provider.DataError.TheVariants.{Memory, RangeOrder, RangePast10FFFF, TableSize, ClassOutOfRange, StateOutOfRange, StartRowKeeps, ComplexItems, ComplexBelow0100, ComplexClassNamed, StateCount, TransitionSize, TransitionOutOfRange, SymbolOutOfRange, TooManyLookaheads, LookaheadOutOfRange, EndCycle, Stalls, MissingTailoring}
 use Rattle.seg_data.specs.Faults.{HasRangeFault, HasOverlap}
-use Rattle.seg_data.specs.Table.{named_values, table, value_of}
+use Rattle.seg_data.specs.Table.{named_values, table}
 use Rattle.seg_text.specs.declared.boundary.Boundary.{Boundary}
 use Rattle.seg_machine.specs.declared.provider.Acceptance.TheVariants.{Continue, Accept, Conditional}
-use Rattle.seg_machine.specs.Machine.{IsTextSymbol, machine, replaced, state_after_ends, symbol_and_script, symbol_count}
+use Rattle.seg_machine.specs.Machine.{IsSymbolOf, Machine, machine, state_after_ends, step, symbol_count}
 use Rattle.seg_machine.specs.MachineFaults.{HasMachineFault, HasEndCycle, IsStray, NamesPast}
 use Rattle.seg_machine.specs.Pick.{pick}
-use Rattle.icu_segmenter_uax29.specs.Clusters.{cluster_machine}
-use Rattle.icu_segmenter_uax29.specs.declared.ranges.TheConstants.{RANGES}
-use Rattle.icu_segmenter_uax29.specs.declared.states.TheConstants.{STATES}
-use Rattle.icu_segmenter_uax29.specs.declared.transitions.TheConstants.{TRANSITIONS}
-use Rattle.icu_segmenter_uax29.proofs.Picks.{Entry, none-from, pick-reach}
-use Rattle.icu_segmenter_uax29.proofs.Properties.{symbol, symbol-says}
-use Rattle.icu_segmenter_uax29.proofs.Sequences.{every, passes}
-use Rattle.icu_segmenter_uax29.proofs.Tables.{ends, starts}
+use Rattle.seg_text.specs.Boundaries.{boundary}
+use Rattle.icu_segmenter_uax29.proofs.Entries.{Entry, is_plain}
+use Rattle.icu_segmenter_uax29.proofs.Lists.{every, any-passes}
+use Rattle.icu_segmenter_uax29.proofs.Picks.{IsPlain, pick-reach, reach}
+use Rattle.icu_segmenter_uax29.proofs.RangeSymbols.{symbol_in}
+use Rattle.icu_segmenter_uax29.proofs.Tests.{either}
 
 abbrev Range : Type 0
 Range = ℕ × ℕ × ℕ
 
--- some element has the property, and it passes what all pass
-any-passes : {X : Type 0} {P : X → Type 0} (test : X → Bool) (xs : List X) → every test xs ≡ true → Any P xs → (x : X) × (test x ≡ true) × P x
-any-passes test xs all (k, x, below, is, p) = (x, passes test xs x all (k, below, is), p)
-
--- ---- ranges
-
-abbrev is_range : Range → Bool
+abbrev pub is_range : Range → Bool
 is_range range = nat_lt range.0 (suc range.1) && nat_lt range.1 0x110000
-
-are_ranges : every is_range RANGES ≡ true
-are_ranges = refl
 
 abbrev begins_after : Range → List Range → Bool
 begins_after range [] = true
 begins_after range (next ∷ ranges) = nat_lt range.1 next.0
 
-abbrev rises : List Range → Bool
+abbrev pub rises : List Range → Bool
 rises [] = true
 rises (range ∷ ranges) = begins_after range ranges && rises ranges
 
-ranges_rise : rises RANGES ≡ true
-ranges_rise = refl
+-- a transition of so many states, and a symbol of so many
+abbrev pub is_next : ℕ → ℕ → Bool
+is_next count next = next == 255 || nat_lt next count
+
+abbrev pub is_symbol : ℕ → ℕ → Bool
+is_symbol count symbol = nat_lt 0 symbol && nat_lt symbol count
+
+-- the machine of these parts
+abbrev pub of_parts : List Range → List Entry → List ℕ → Machine
+of_parts ranges states transitions = machine (table ranges 1) states transitions 0 255 []
+
+-- what is computed of the parts of a machine with so many states and symbols; each symbol has a code point, and START reaches
+-- somewhere by whatever begins with a code point
+pub record AreSound (ranges : List Range) (states : List Entry) (transitions : List ℕ) (count symbols : ℕ) : Type 0 where
+  pub ranges_are : every is_range ranges ≡ true
+  pub ranges_rise : rises ranges ≡ true
+  pub values_are : every (is_symbol symbols) (named_values (table ranges 1)) ≡ true
+  pub nexts_are : every (is_next count) transitions ≡ true
+  pub state_count : length states ≡ count
+  pub few_states : count ≤ 255
+  pub size : length transitions ≡ length states * symbols
+  pub some_symbols : 0 < symbols
+  pub few_symbols : symbols ≤ 255
+  pub symbols_are : symbol_count (of_parts ranges states transitions) ≡ symbols
+  pub plain : IsPlain (of_parts ranges states transitions) count
+  pub sample : ℕ → ℕ
+  pub sampled : (s : ℕ) → IsSymbolOf symbols s → symbol_in (of_parts ranges states transitions) (sample s) ≡ s
+  pub reaches : (c : ℕ) (cs : List ℕ) → (n : ℕ) × (reach (of_parts ranges states transitions) 0 (c ∷ cs) ≡ suc n)
+
+-- ---- ranges
 
 abbrev none : Range
 none = (0, 0, 0)
@@ -69,66 +85,41 @@ no-overlap ranges is (k, before, after, at_before, at_after, reaches) =
     let two : (get_or ranges (suc k) none).0 ≡ after.0 = ap (λ n. (get_or ranges n none).0) (sym next) ∙ ap (λ (range : Range). range.0) (get_or_from_slice_get ranges (k + 1) after none at_after) in
     omega arith
 
-pub no-range-fault : (fault : DataError) → HasRangeFault RANGES fault → ⊥
-no-range-fault RangeOrder (inl any) =
-    let (range, is, turned) = any-passes is_range RANGES are_ranges any in
+no-range-fault : (ranges : List Range) → every is_range ranges ≡ true → rises ranges ≡ true → (fault : DataError) → HasRangeFault ranges fault → ⊥
+no-range-fault ranges are rise RangeOrder (inl any) =
+    let (range, is, turned) = any-passes is_range ranges are any in
     let low = ltb-true _ _ (and_parts (nat_lt range.0 (suc range.1)) (nat_lt range.1 0x110000) is).0 in omega arith
-no-range-fault RangeOrder (inr overlap) = no-overlap RANGES ranges_rise overlap
-no-range-fault RangePast10FFFF any =
-    let (range, is, past) = any-passes is_range RANGES are_ranges any in
+no-range-fault ranges are rise RangeOrder (inr overlap) = no-overlap ranges rise overlap
+no-range-fault ranges are rise RangePast10FFFF any =
+    let (range, is, past) = any-passes is_range ranges are any in
     let high = ltb-true _ _ (and_parts (nat_lt range.0 (suc range.1)) (nat_lt range.1 0x110000) is).1 in omega arith
-no-range-fault Memory h = h
-no-range-fault TableSize h = h
-no-range-fault ClassOutOfRange h = h
-no-range-fault StateOutOfRange h = h
-no-range-fault StartRowKeeps h = h
-no-range-fault ComplexItems h = h
-no-range-fault ComplexBelow0100 h = h
-no-range-fault ComplexClassNamed h = h
-no-range-fault StateCount h = h
-no-range-fault TransitionSize h = h
-no-range-fault TransitionOutOfRange h = h
-no-range-fault SymbolOutOfRange h = h
-no-range-fault TooManyLookaheads h = h
-no-range-fault LookaheadOutOfRange h = h
-no-range-fault EndCycle h = h
-no-range-fault Stalls h = h
-no-range-fault MissingTailoring h = h
+no-range-fault ranges are rise Memory h = h
+no-range-fault ranges are rise TableSize h = h
+no-range-fault ranges are rise ClassOutOfRange h = h
+no-range-fault ranges are rise StateOutOfRange h = h
+no-range-fault ranges are rise StartRowKeeps h = h
+no-range-fault ranges are rise ComplexItems h = h
+no-range-fault ranges are rise ComplexBelow0100 h = h
+no-range-fault ranges are rise ComplexClassNamed h = h
+no-range-fault ranges are rise StateCount h = h
+no-range-fault ranges are rise TransitionSize h = h
+no-range-fault ranges are rise TransitionOutOfRange h = h
+no-range-fault ranges are rise SymbolOutOfRange h = h
+no-range-fault ranges are rise TooManyLookaheads h = h
+no-range-fault ranges are rise LookaheadOutOfRange h = h
+no-range-fault ranges are rise EndCycle h = h
+no-range-fault ranges are rise Stalls h = h
+no-range-fault ranges are rise MissingTailoring h = h
 
 -- ---- the machine
 
-abbrev is_next : ℕ → Bool
-is_next next = next == 255 || nat_lt next 14
-
-are_nexts : every is_next TRANSITIONS ≡ true
-are_nexts = refl
-
-next-state : (next : ℕ) → is_next next ≡ true → next ≢ 255 → 14 ≤ next → ⊥
-next-state next is other past = elim (either-true (next == 255) (nat_lt next 14) is) [
+next-state : (count next : ℕ) → is_next count next ≡ true → next ≢ 255 → count ≤ next → ⊥
+next-state count next is other past = elim (either (next == 255) (nat_lt next count) is) [
   | inl same ↦ other (eqb-true next 255 same)
-  | inr below ↦ let low = ltb-true next 14 below in omega arith
+  | inr below ↦ let low = ltb-true next count below in omega arith
 ]
-  where
-    either-true : (b c : Bool) → (b || c) ≡ true → (b ≡ true) ⊎ (c ≡ true)
-    either-true true c h = inl refl
-    either-true false c h = inr h
 
-abbrev is_symbol : ℕ → Bool
-is_symbol value = nat_lt 0 value && nat_lt value 20
-
-are_symbols : every is_symbol (named_values cluster_machine.symbols) ≡ true
-unfolding cluster_machine
-are_symbols = refl
-
-abbrev names_none : Entry → Bool
-names_none (Continue, None) = true
-names_none (Accept status, None) = true
-names_none _ = false
-
-name_none : every names_none STATES ≡ true
-name_none = refl
-
-names-no-lookahead : (state : Entry) → names_none state ≡ true → NamesPast 0 state → ⊥
+names-no-lookahead : (state : Entry) → is_plain state ≡ true → NamesPast 0 state → ⊥
 names-no-lookahead (Continue, None) is (inl past) = past
 names-no-lookahead (Continue, None) is (inr past) = past
 names-no-lookahead (Accept status, None) is (inl past) = past
@@ -137,104 +128,82 @@ names-no-lookahead (Continue, Some name) is past = let no : false ≡ true = is 
 names-no-lookahead (Accept status, Some name) is past = let no : false ≡ true = is in cc
 names-no-lookahead (Conditional lookahead status, name) is past = let no : false ≡ true = is in cc
 
-few-states : (state : ℕ) → state < length cluster_machine.states → state < 14
-unfolding cluster_machine
-few-states state below = below
+stray-none : (count value : ℕ) → IsSymbolOf count value → count ≤ 255 → IsStray count 255 0 value → ⊥
+stray-none count value is few (inl (low, none)) = none is
+stray-none count value (some, below) few (inr high) = omega (arith, high)
 
-no-cycle : HasEndCycle cluster_machine → ⊥
+none-back : (m : Machine) (state steps : ℕ) → step m state 0 ≡ None → state_after_ends m state (suc steps) ≡ Some state → ⊥
 unfolding state_after_ends
-no-cycle (state, steps, below, back) =
-    let none = none-from _ (ends state (few-states state below)) in
-    let no : None ≡ Some state = sym (ap (λ next. option_and_then (λ next. state_after_ends cluster_machine next steps) next) none) ∙ back in cc
+none-back m state steps none back =
+    let no : None ≡ Some state = sym (ap (λ next. option_and_then (λ next. state_after_ends m next steps) next) none) ∙ back in cc
 
--- a code point of each symbol
-abbrev sample : ℕ → ℕ
-sample n = get_or (0 ∷ 0x61 ∷ 0x0D ∷ 0x0A ∷ 0 ∷ 0x300 ∷ 0x94D ∷ 0x200C ∷ 0x200D ∷ 0x1F1E6 ∷ 0x600 ∷ 0x903 ∷ 0x1100 ∷ 0x1160 ∷ 0x11A8 ∷ 0xAC00 ∷ 0xAC01 ∷ 0x915 ∷ 0x1CF5 ∷ 0xA9 ∷ []) n 0
+some-none : (b : Boundary) → Some b ≡ None → ⊥
+some-none b h = cc
 
-abbrev sampled : ℕ → Bool
-sampled n = symbol (sample (suc n)) == suc n
+module _ (ranges : List Range) (states : List Entry) (transitions : List ℕ) (count symbols : ℕ)
+    (are : AreSound ranges states transitions count symbols) where
+  abbrev m : Machine
+  m = of_parts ranges states transitions
 
-all_sampled : all_below sampled 19 ≡ true
-unfolding all_below symbol_and_script cluster_machine value_of replaced
-all_sampled = refl
+  no-cycle : HasEndCycle m → ⊥
+  no-cycle (state, steps, below, back) =
+      let size = are.state_count in
+      none-back m state steps (are.plain.ends state (omega (arith, below))) back
 
-abbrev IsSymbol : ℕ → Type 0
-IsSymbol s = (0 < s) × (s < 20)
+  of-samples : (list : List ℕ) → All (IsSymbolOf symbols) list → map (symbol_in m) (map are.sample list) ≡ list
+  of-samples [] all = refl
+  of-samples (s ∷ list) all =
+      ap₂ (λ s list. s ∷ list) (are.sampled s (All-head (IsSymbolOf symbols) s list all)) (of-samples list (All-tail (IsSymbolOf symbols) s list all))
 
-sample-symbol : (s : ℕ) → IsSymbol s → symbol (sample s) ≡ s
-sample-symbol zero (some, below) = absurd (omega arith)
-sample-symbol (suc n) (some, below) = eqb-true _ _ (all_below-at sampled 19 n all_sampled (omega arith))
+  some-pick : (list : List ℕ) → list ≢ [] → All (IsSymbolOf symbols) list → pick m list ≡ None → ⊥
+  some-pick [] some all is = some refl
+  some-pick (s ∷ list) some all is =
+      let (n, far) = are.reaches (are.sample s) (map are.sample list) in
+      some-none (boundary (suc n) 0) (sym (pick-reach m count (are.sample s ∷ map are.sample list) n are.plain far) ∙ ap (pick m) (of-samples (s ∷ list) all) ∙ is)
 
-of-samples : (symbols : List ℕ) → All IsSymbol symbols → map symbol (map sample symbols) ≡ symbols
-of-samples [] all = refl
-of-samples (s ∷ symbols) all = ap₂ (λ s symbols. s ∷ symbols) (sample-symbol s (All-head IsSymbol s symbols all)) (of-samples symbols (All-tail IsSymbol s symbols all))
+  no-stray : HasMachineFault m SymbolOutOfRange → ⊥
+  no-stray (inl (inl any)) =
+      let (value, is, stray) = any-passes (is_symbol symbols) (named_values (table ranges 1)) are.values_are any in
+      let parts = and_parts (nat_lt 0 value) (nat_lt value symbols) is in
+      let below = ltb-true value symbols parts.1 in
+      stray-none symbols value (ltb-true 0 value parts.0, below) are.few_symbols (subst (λ count. IsStray count 255 0 value) are.symbols_are stray)
+  no-stray (inl (inr (k, entry, below, is, p))) = omega (arith, below)
+  no-stray (inr (k, entry, below, is, p)) = omega (arith, below)
 
-some-pick : (symbols : List ℕ) → symbols ≢ [] → All IsSymbol symbols → pick cluster_machine symbols ≡ None → ⊥
-some-pick [] some all is = some refl
-some-pick (s ∷ symbols) some all is =
-    let c = sample s in
-    let says = symbol-says c in
-    let (t, leads, knows) = starts (symbol c) says.some says.below in
-    let picked = pick-reach c (map sample symbols) t leads in
-    let no = sym picked ∙ ap (pick cluster_machine) (of-samples (s ∷ symbols) all) ∙ is in
-    some-none _ no
-  where
-    some-none : (b : Boundary) → Some b ≡ None → ⊥
-    some-none b h = cc
+  no-machine-fault : (fault : DataError) → HasMachineFault m fault → ⊥
+  no-machine-fault StateCount (inl empty) = let size = are.state_count in let some = are.plain.some in omega (arith, empty)
+  no-machine-fault StateCount (inr many) = let size = are.state_count in let few = are.few_states in omega (arith, many)
+  no-machine-fault TransitionSize unequal = let few = are.few_symbols in unequal symbols are.some_symbols (omega arith) are.size
+  no-machine-fault TransitionOutOfRange any =
+      let (next, is, (other, past)) = any-passes (is_next count) transitions are.nexts_are any in
+      let size = are.state_count in
+      next-state count next is other (omega (arith, past))
+  no-machine-fault SymbolOutOfRange stray = no-stray stray
+  no-machine-fault TooManyLookaheads many = omega (arith, many)
+  no-machine-fault LookaheadOutOfRange any =
+      let (state, is, past) = any-passes is_plain states are.plain.states any in names-no-lookahead state is past
+  no-machine-fault EndCycle cycle = no-cycle cycle
+  no-machine-fault Stalls (list, some, all, is) = some-pick list some (subst (λ count. All (IsSymbolOf count) list) are.symbols_are all) is
+  no-machine-fault Memory h = h
+  no-machine-fault RangeOrder h = h
+  no-machine-fault RangePast10FFFF h = h
+  no-machine-fault TableSize h = h
+  no-machine-fault ClassOutOfRange h = h
+  no-machine-fault StateOutOfRange h = h
+  no-machine-fault StartRowKeeps h = h
+  no-machine-fault ComplexItems h = h
+  no-machine-fault ComplexBelow0100 h = h
+  no-machine-fault ComplexClassNamed h = h
+  no-machine-fault MissingTailoring h = h
 
-text-symbols : (symbols : List ℕ) → All (IsTextSymbol cluster_machine) symbols → All IsSymbol symbols
-unfolding symbol_count cluster_machine
-text-symbols symbols all = all
+  memory-from : (fault : DataError) → (fault ≡ Memory) ⊎ HasRangeFault ranges fault ⊎ HasMachineFault m fault → fault ≡ Memory
+  memory-from fault (inl is) = is
+  memory-from fault (inr (inl range)) = absurd (no-range-fault ranges are.ranges_are are.ranges_rise fault range)
+  memory-from fault (inr (inr other)) = absurd (no-machine-fault fault other)
 
-no-stray : HasMachineFault cluster_machine SymbolOutOfRange → ⊥
-unfolding symbol_count cluster_machine
-no-stray (inl (inl any)) =
-    let (value, is, stray) = any-passes is_symbol (named_values cluster_machine.symbols) are_symbols any in
-    let parts = and_parts (nat_lt 0 value) (nat_lt value 20) is in
-    let some = ltb-true 0 value parts.0 in
-    let below = ltb-true value 20 parts.1 in
-    stray-none value some below stray
-  where
-    stray-none : (value : ℕ) → 0 < value → value < 20 → IsStray 20 255 0 value → ⊥
-    stray-none value some below (inl (low, none)) = none (some, below)
-    stray-none value some below (inr high) = omega (arith, high)
-no-stray (inl (inr (k, entry, below, is, p))) = omega (arith, below)
-no-stray (inr (k, entry, below, is, p)) = omega (arith, below)
-
-pub no-machine-fault : (fault : DataError) → HasMachineFault cluster_machine fault → ⊥
-unfolding cluster_machine
-no-machine-fault StateCount (inl empty) = omega (arith, empty)
-no-machine-fault StateCount (inr many) = omega (arith, many)
-no-machine-fault TransitionSize unequal = unequal 20 (omega arith) (omega arith) refl
-no-machine-fault TransitionOutOfRange any =
-    let (next, is, fault) = any-passes is_next TRANSITIONS are_nexts any in next-state next is fault.0 fault.1
-no-machine-fault SymbolOutOfRange stray = no-stray stray
-no-machine-fault TooManyLookaheads many = omega (arith, many)
-no-machine-fault LookaheadOutOfRange any =
-    let (state, is, past) = any-passes names_none STATES name_none any in names-no-lookahead state is past
-no-machine-fault EndCycle cycle = no-cycle cycle
-no-machine-fault Stalls (symbols, some, all, is) = some-pick symbols some (text-symbols symbols all) is
-no-machine-fault Memory h = h
-no-machine-fault RangeOrder h = h
-no-machine-fault RangePast10FFFF h = h
-no-machine-fault TableSize h = h
-no-machine-fault ClassOutOfRange h = h
-no-machine-fault StateOutOfRange h = h
-no-machine-fault StartRowKeeps h = h
-no-machine-fault ComplexItems h = h
-no-machine-fault ComplexBelow0100 h = h
-no-machine-fault ComplexClassNamed h = h
-no-machine-fault MissingTailoring h = h
-
-memory-from : (fault : DataError) → (fault ≡ Memory) ⊎ HasRangeFault RANGES fault ⊎ HasMachineFault (machine (table RANGES 1) STATES TRANSITIONS 0 255 []) fault → fault ≡ Memory
-unfolding cluster_machine
-memory-from fault (inl is) = is
-memory-from fault (inr (inl range)) = absurd (no-range-fault fault range)
-memory-from fault (inr (inr other)) = absurd (no-machine-fault fault other)
-
--- so nothing but memory can be missing
-pub memory-alone : {X : Type 0} (made : Result X DataError)
-    → IfErr made (λ fault. (fault ≡ Memory) ⊎ HasRangeFault RANGES fault ⊎ HasMachineFault (machine (table RANGES 1) STATES TRANSITIONS 0 255 []) fault)
-    → IfErr made (λ fault. fault ≡ Memory)
-memory-alone (Ok x) h = h
-memory-alone (Err fault) h = memory-from fault h
+  -- Law: so nothing but memory can be missing
+  pub memory-alone : {X : Type 0} (made : Result X DataError)
+      → IfErr made (λ fault. (fault ≡ Memory) ⊎ HasRangeFault ranges fault ⊎ HasMachineFault m fault)
+      → IfErr made (λ fault. fault ≡ Memory)
+  memory-alone (Ok x) h = h
+  memory-alone (Err fault) h = memory-from fault h

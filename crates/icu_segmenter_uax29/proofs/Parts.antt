@@ -1,10 +1,10 @@
--- The parts of a str between the boundaries of its clusters are the clusters.
-use Rattle.std.proofs.Common.{◌≡◌, ℕ, ◌+◌, ◌-◌, true, List, [], ◌∷◌, ◌++◌, length, take, refl, sym, ap, ap₂, ◌∙◌, arith, append_assoc, length-append, take_at, drop_at}
+-- The parts of a str between the bounds of its segments are the segments.
+use Rattle.std.proofs.Common.{◌≡◌, ℕ, ◌+◌, ◌-◌, List, [], ◌∷◌, ◌++◌, length, take, refl, sym, ap, ap₂, ◌∙◌, arith, append_assoc, length-append, take_at, drop_at}
 use Rattle.std.specs.List.{concat, slice_range}
 use Rattle.std.specs.Str.{IsUtf8}
-use Rattle.unicode_segmentation.specs.Grapheme.{graphemes, is_grapheme_break}
+use Rattle.unicode_segmentation.specs.Segments.{Rule, segments}
 use Rattle.unicode_segmentation.proofs.SegmentsLemmas.{concat-segments}
-use Rattle.icu_segmenter_uax29.specs.Clusters.{parts_at, piece_ends, piece_bounds}
+use Rattle.icu_segmenter_uax29.specs.Pieces.{parts_at, piece_ends, piece_bounds}
 
 slice-middle : (front piece rest : List ℕ) → slice_range (front ++ (piece ++ rest)) (length front) (length front + length piece) ≡ piece
 slice-middle front piece rest =
@@ -23,5 +23,5 @@ parts-from units front (piece ∷ pieces) is =
     ap₂ (λ first rest. first ∷ rest) first
     (ap (λ n. parts_at (n ∷ piece_ends n pieces) units) (sym count) ∙ parts-from units (front ++ piece) pieces whole)
 
-pub parts-are : (text : List ℕ) → IsUtf8 text → parts_at (piece_bounds (graphemes true text)) text ≡ graphemes true text
-parts-are text well = parts-from text [] (graphemes true text) (sym (concat-segments (is_grapheme_break true) text well))
+pub parts-are : (rule : Rule) (text : List ℕ) → IsUtf8 text → parts_at (piece_bounds (segments rule text)) text ≡ segments rule text
+parts-are rule text well = parts-from text [] (segments rule text) (sym (concat-segments rule text well))

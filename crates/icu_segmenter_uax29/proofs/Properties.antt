@@ -1,8 +1,7 @@
 -- The symbol of a code point says its three properties: a computation over the kit's rows.
-use Rattle.std.proofs.Common.{◌≡◌, ℕ, ◌<◌, Bool, true, ◌&&◌, ◌==◌, cond, nat_lt, List, [], ◌∷◌, find, Some, refl, sym, ap, ◌∙◌, eqb-true, lt-ltb, arith}
+use Rattle.std.proofs.Common.{◌≡◌, ℕ, Bool, true, ◌&&◌, ◌==◌, nat_lt, refl, eqb-true, arith}
 use Rattle.std.specs.Bool.{beq}
-use Rattle.std.specs.Option.{option_map_or}
-use Rattle.std.proofs.lemmas.Bool.{and_parts, ltb-true, cond_both, cond-true, cond-false}
+use Rattle.std.proofs.lemmas.Bool.{and_parts, ltb-true}
 use Rattle.ucd_table.specs.Rows.{value_in}
 use Rattle.ucd_table.proofs.Computing.{tables}
 use Rattle.ucd_table.proofs.Facts.{same_from_beq, Stepped-everywhere}
@@ -16,16 +15,15 @@ use Rattle.ucd_derived.specs.IndicConjunctBreak.{indic_conjunct_break, indic_con
 use Rattle.ucd_derived.proofs.IndicConjunctBreakLemmas.{indic_conjunct_break_stepped, indic_conjunct_break_number_injective}
 use Rattle.ucd_emoji.specs.Binary.{is_extended_pictographic}
 use Rattle.ucd_emoji.proofs.BinaryLemmas.{is_extended_pictographic_stepped}
-use Rattle.seg_data.specs.declared.provider.ComplexScript.{ComplexScript}
-use Rattle.seg_data.specs.declared.provider.ComplexScript.TheVariants.{None as NoScript}
-use Rattle.seg_data.specs.Table.{holds, value_of}
-use Rattle.seg_machine.specs.Machine.{replaced, symbol_and_script}
 use Rattle.icu_segmenter_uax29.specs.Clusters.{cluster_machine}
 use Rattle.icu_segmenter_uax29.specs.declared.ranges.TheConstants.{RANGES}
+use Rattle.icu_segmenter_uax29.specs.declared.states.TheConstants.{STATES}
+use Rattle.icu_segmenter_uax29.specs.declared.transitions.TheConstants.{TRANSITIONS}
 use Rattle.icu_segmenter_uax29.specs.Properties.{HasProperties, gcb_of, incb_of, pict_of}
+use Rattle.icu_segmenter_uax29.proofs.RangeSymbols.{symbol_in, range-symbol}
 
 abbrev pub symbol : ℕ → ℕ
-symbol c = (symbol_and_script cluster_machine c).0
+symbol = symbol_in cluster_machine
 
 abbrev value : ℕ → ℕ
 value = value_in 1 RANGES
@@ -65,25 +63,11 @@ value-says c =
       below = ltb-true _ _ four.1;
     }
 
-find-value_in : (ranges : List (ℕ × ℕ × ℕ)) (default c : ℕ) → option_map_or (λ range. range.2) (find (holds c) ranges) default ≡ value_in default ranges c
-unfolding value_in
-find-value_in [] default c = refl
-find-value_in (range ∷ ranges) default c =
-    cond_both (holds c range) (Some range) (find (holds c) ranges)
-    (λ found. option_map_or (λ range. range.2) found default ≡ cond (holds c range) range.2 (value_in default ranges c))
-    (λ here. sym (cond-true _ _ _ here))
-    (λ other. find-value_in ranges default c ∙ sym (cond-false _ _ _ other))
-
-abbrev symbol_from : ℕ → Bool → ℕ
-symbol_from v below = (cond {A = ℕ × ComplexScript} below (v, NoScript) (0, NoScript)).0
-
 symbol-value : (c : ℕ) → symbol c ≡ value c
-unfolding symbol_and_script cluster_machine value_of replaced
+unfolding cluster_machine
 symbol-value c =
     let below = (value-says c).below in
-    let small : value c < 255 = omega arith in
-    ap (λ v. symbol_from v (nat_lt v 255)) (find-value_in RANGES 1 c)
-    ∙ ap (symbol_from (value c)) (lt-ltb (value c) 255 small)
+    range-symbol RANGES STATES TRANSITIONS c (omega arith)
 
 pub symbol-says : (c : ℕ) → HasProperties c (symbol c)
 symbol-says c = rw (symbol-value c) (value-says c)

@@ -1,7 +1,5 @@
 -- Sequences that stay together.
-use Rattle.std.proofs.Common.{◌≡◌, ℕ, ◌<◌, ◌⊎◌, Bool, true, false, not, ◌&&◌, ◌||◌, cond, List, [], ◌∷◌, ◌++◌, map, reverse, Option, Some, None, unwrap_or, refl, sym, ap, ap₂, subst, ◌∙◌, inl, inr, append_assoc}
-use Rattle.std.specs.List.{Contains}
-use Rattle.std.proofs.lemmas.Bool.{and_parts}
+use Rattle.std.proofs.Common.{◌≡◌, ℕ, ◌<◌, ◌⊎◌, Bool, true, false, not, ◌&&◌, ◌||◌, cond, List, [], ◌∷◌, ◌++◌, map, reverse, Option, Some, None, unwrap_or, refl, sym, ap, ap₂, ◌∙◌, inl, inr, append_assoc}
 use Rattle.std.proofs.lemmas.List.{reverse-append}
 use Rattle.std.proofs.lemmas.List.Elements.{All-head, All-tail}
 use Rattle.ucd_table.proofs.TrieCheck.{all_below, all_below-at}
@@ -16,18 +14,25 @@ use Rattle.unicode_segmentation.specs.Grapheme.{break_by_pair, ends_in_linker, e
 use Rattle.seg_data.specs.Table.{value_of}
 use Rattle.seg_machine.specs.Machine.{replaced, symbol_and_script}
 use Rattle.icu_segmenter_uax29.specs.Clusters.{cluster_machine}
-use Rattle.icu_segmenter_uax29.specs.Neighbours.{IsJoined, StayTogether, EndsInWholeFlags, AllExtend, AllInConjunct}
+use Rattle.icu_segmenter_uax29.specs.Neighbours.{IsBoundary, IsJoined, StayTogether, EndsInWholeFlags, AllExtend, AllInConjunct}
 use Rattle.icu_segmenter_uax29.specs.Properties.{gcb_of, incb_of, pict_of}
-use Rattle.icu_segmenter_uax29.proofs.Boundaries.{has-none, has-cases, boundaries-break}
+use Rattle.icu_segmenter_uax29.proofs.Boundaries.{boundaries-break}
+use Rattle.icu_segmenter_uax29.proofs.Clusters.{rule-ends, clusters-are}
+use Rattle.icu_segmenter_uax29.proofs.Lists.{every, passes}
 use Rattle.icu_segmenter_uax29.proofs.Properties.{symbol, symbol-says}
+use Rattle.icu_segmenter_uax29.proofs.Tests.{implied, or-true}
 
 not-both : {b : Bool} → b ≡ false → b ≡ true → ⊥
 not-both is other = let clash : true ≡ false = sym other ∙ is in cc
 
+-- where there is a boundary the rules break
+ruled : (before after : List ℕ) → IsBoundary before after → is_grapheme_break true (reverse before) after ≡ true
+ruled = boundaries-break (is_grapheme_break true) cluster_machine rule-ends clusters-are
+
 -- where the rules don't break there is no boundary
 joined : (before after : List ℕ) (last next : ℕ) → is_grapheme_break true (last ∷ reverse before) (next ∷ after) ≡ false → IsJoined (before ++ last ∷ []) (next ∷ after)
 joined before after last next is has =
-    not-both is (ap (λ past. is_grapheme_break true past (next ∷ after)) (sym (reverse-append before (last ∷ []))) ∙ boundaries-break (before ++ last ∷ []) (next ∷ after) has)
+    not-both is (ap (λ past. is_grapheme_break true past (next ∷ after)) (sym (reverse-append before (last ∷ []))) ∙ ruled (before ++ last ∷ []) (next ∷ after) has)
 
 -- ---- pairs
 
@@ -40,22 +45,8 @@ kept-from (Some false) h = refl
 kept-from (Some true) h = cc
 kept-from None h = cc
 
--- all elements pass the test
-abbrev pub every : {X : Type 0} → (X → Bool) → List X → Bool
-every test [] = true
-every test (x ∷ xs) = test x && every test xs
-
 abbrev pub are_kept : List GraphemeClusterBreak → List GraphemeClusterBreak → Bool
 are_kept lasts nexts = every (λ last. every (λ next. is_kept (break_by_pair true last next)) nexts) lasts
-
-pub passes : {X : Type 0} (test : X → Bool) (xs : List X) (x : X) → every test xs ≡ true → Contains xs x → test x ≡ true
-passes test [] x all has = absurd (has-none x has)
-passes test (y ∷ ys) x all has =
-    let parts = and_parts (test y) (every test ys) all in
-    elim (has-cases y ys x has) [
-      | inl is ↦ subst (λ z. test z ≡ true) is parts.0
-      | inr later ↦ passes test ys x parts.1 later
-    ]
 
 pair-joined : (before after : List ℕ) (last next : ℕ) → break_by_pair true (grapheme_cluster_break last) (grapheme_cluster_break next) ≡ Some false → IsJoined (before ++ last ∷ []) (next ∷ after)
 unfolding is_grapheme_break
@@ -108,10 +99,6 @@ flag-joined before after one other whole is_one is_other =
 
 -- ---- emoji
 
-implied : (b c : Bool) → cond b c true ≡ true → b ≡ true → c ≡ true
-implied true c h is = h
-implied false c h is = cc
-
 abbrev is_other : GraphemeClusterBreak → Bool
 is_other Other = true
 is_other _ = false
@@ -145,15 +132,11 @@ pictograph-other c is =
     let says = symbol-says c in
     says.breaks ∙ plain-symbol (symbol c) says.below (ap (λ p. p || is_consonant (incb_of (symbol c))) (sym says.pictographs ∙ is))
 
-either : (b : Bool) → (b || true) ≡ true
-either true = refl
-either false = refl
-
 consonant-other : (c : ℕ) → indic_conjunct_break c ≡ InCb.Consonant → grapheme_cluster_break c ≡ Other
 consonant-other c is =
     let says = symbol-says c in
     says.breaks ∙ plain-symbol (symbol c) says.below
-    (ap (λ v. pict_of (symbol c) || is_consonant v) (sym says.conjuncts ∙ is) ∙ either (pict_of (symbol c)))
+    (ap (λ v. pict_of (symbol c) || is_consonant v) (sym says.conjuncts ∙ is) ∙ or-true (pict_of (symbol c)))
 
 turned : (c : ℕ) (cs past : List ℕ) → reverse (c ∷ cs) ++ past ≡ reverse cs ++ (c ∷ past)
 turned c cs past = ap (λ turned. turned ++ past) (reverse-append (c ∷ []) cs) ∙ append_assoc (reverse cs) (c ∷ []) past
@@ -166,7 +149,7 @@ unfolding ends_in_pictograph
 still-pictograph [] past all is = is
 still-pictograph (c ∷ cs) past all is =
     let here : ends_in_pictograph (c ∷ past) ≡ true =
-    ap₂ (λ v b. is_extended_pictographic c || (is_extend v && b)) (All-head Extends c cs all) is ∙ either (is_extended_pictographic c) in
+    ap₂ (λ v b. is_extended_pictographic c || (is_extend v && b)) (All-head Extends c cs all) is ∙ or-true (is_extended_pictographic c) in
     ap ends_in_pictograph (turned c cs past) ∙ still-pictograph cs (c ∷ past) (All-tail Extends c cs all) here
 
 ends-emoji : (before extends : List ℕ) (one : ℕ) → is_extended_pictographic one ≡ true → AllExtend extends → ends_in_pictograph (reverse (before ++ one ∷ extends)) ≡ true
@@ -244,4 +227,4 @@ conjunct-joined before marks after linker next is_linker all is has =
     not-both
     (ap (λ past. is_grapheme_break true past (next ∷ after)) (reverse-append before (linker ∷ marks) ∙ turned linker marks (reverse before))
     ∙ walk marks after (reverse before) linker next (ap is_within is_linker) (ap (λ v. ends_in_linker (v ∷ map indic_conjunct_break (reverse before))) is_linker) all is)
-    (boundaries-break (before ++ linker ∷ marks) (next ∷ after) has)
+    (ruled (before ++ linker ∷ marks) (next ∷ after) has)

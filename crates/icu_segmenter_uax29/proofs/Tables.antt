@@ -1,5 +1,5 @@
 -- What the machine's table says of each state and symbol: computations.
-use Rattle.std.proofs.Common.{◌≡◌, ℕ, ◌<◌, Bool, true, false, not, ◌&&◌, ◌||◌, ◌==◌, cond, nat_lt, Option, Some, None, refl, sym, ap, ◌∙◌, eqb-true, lt-ltb, unwrap_or, arith}
+use Rattle.std.proofs.Common.{◌≡◌, ℕ, ◌<◌, Bool, true, false, not, ◌&&◌, ◌||◌, ◌==◌, nat_lt, Option, Some, None, refl, sym, ap, ◌∙◌, eqb-true, lt-ltb, unwrap_or, arith}
 use Rattle.std.specs.Bool.{beq}
 use Rattle.std.specs.Option.{is_some, option_map_or}
 use Rattle.std.proofs.lemmas.Bool.{and_parts, ltb-true, eq-eqb}
@@ -15,15 +15,13 @@ use Rattle.seg_machine.specs.Machine.{step}
 use Rattle.icu_segmenter_uax29.specs.Clusters.{cluster_machine}
 use Rattle.icu_segmenter_uax29.specs.Properties.{gcb_of, incb_of, pict_of}
 use Rattle.icu_segmenter_uax29.proofs.Knowledge.{group_of, group_at, linker_at, pict_at, zwj_at, half_at}
+use Rattle.icu_segmenter_uax29.proofs.Tests.{both, implied, implies}
 
 -- whether a text in a state breaks before a symbol, where its last value is this one
 abbrev pub breaks_before : ℕ → GraphemeClusterBreak → ℕ → Bool
 breaks_before q last symbol =
     unwrap_or (break_by_pair true last (gcb_of symbol))
     (not ((linker_at q && is_consonant (incb_of symbol)) || (zwj_at q && pict_of symbol) || (half_at q && is_regional (gcb_of symbol))))
-
-abbrev implies : Bool → Bool → Bool
-implies b c = cond b c true
 
 -- the machine breaks there, where the last value is of the state's group
 abbrev decides : ℕ → ℕ → ℕ → Bool
@@ -68,13 +66,6 @@ unfolding all_below step cluster_machine
 ended = refl
 
 -- ---- the same for each state and symbol
-
-implied : (b c : Bool) → implies b c ≡ true → b ≡ true → c ≡ true
-implied true c h is = h
-implied false c h is = cc
-
-both : (b c : Bool) → b ≡ true → c ≡ true → (b && c) ≡ true
-both b c h k = ap (λ x. x && c) h ∙ k
 
 pub ends : (q : ℕ) → q < 14 → not (is_some (step cluster_machine q 0)) ≡ true
 ends q below = all_below-at (λ q. not (is_some (step cluster_machine q 0))) 14 q ended below

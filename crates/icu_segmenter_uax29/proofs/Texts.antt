@@ -13,7 +13,7 @@ use Rattle.seg_text.specs.Lemmas.Readers.{items_by-nil, items_by-cons}
 use Rattle.seg_text.specs.Lemmas.Rising.{read_utf8-reader}
 use Rattle.seg_text.specs.Utf8.{utf8, utf8_items, read_utf8}
 use Rattle.seg_text.proofs.Str.{read_utf8-encode, utf8_items-characters}
-use Rattle.icu_segmenter_uax29.specs.Clusters.{piece_ends}
+use Rattle.icu_segmenter_uax29.specs.Pieces.{piece_ends}
 
 -- the items of characters, from a place on
 items_at : ℕ → List ℕ → List Item

@@ -1,4 +1,4 @@
--- Between which code points boundaries stand.
+-- Between which code points boundaries stand: of clusters, of words and of sentences.
 use Rattle.std.specs.Prelude.{◌≡◌, ℕ, ◌⊎◌, false, List, [], ◌∷◌, ◌++◌, length, reverse, All, Contains}
 use Rattle.ucd_breaks.specs.GraphemeClusterBreak.{grapheme_cluster_break}
 use Rattle.ucd_breaks.specs.declared.GraphemeClusterBreak.{GraphemeClusterBreak}
@@ -9,8 +9,10 @@ use Rattle.unicode_segmentation.specs.Grapheme.{ends_in_half_flag}
 use Rattle.seg_text.specs.Boundaries.{offsets}
 use Rattle.seg_machine.specs.Segments.{machine_boundaries}
 use Rattle.icu_segmenter_uax29.specs.Clusters.{cluster_machine}
+use Rattle.icu_segmenter_uax29.specs.Sentences.{sentence_machine}
+use Rattle.icu_segmenter_uax29.specs.Words.{word_machine}
 
--- a boundary stands between two parts of a text
+-- a boundary of clusters stands between two parts of a text
 abbrev pub IsBoundary : List ℕ → List ℕ → Type 0
 IsBoundary before after = Contains (offsets (machine_boundaries cluster_machine (before ++ after))) (length before)
 
@@ -40,3 +42,11 @@ AllExtend code_points = All (λ c. grapheme_cluster_break c ≡ Extend) code_poi
 abbrev pub AllInConjunct : List ℕ → Type 0
 AllInConjunct code_points =
     All (λ c. (indic_conjunct_break c ≡ InCb.Extend) ⊎ (indic_conjunct_break c ≡ InCb.Linker)) code_points
+
+-- a boundary of sentences stands between two parts of a text
+abbrev pub IsSentenceBoundary : List ℕ → List ℕ → Type 0
+IsSentenceBoundary before after = Contains (offsets (machine_boundaries sentence_machine (before ++ after))) (length before)
+
+-- a boundary of words stands between two parts of a text
+abbrev pub IsWordBoundary : List ℕ → List ℕ → Type 0
+IsWordBoundary before after = Contains (offsets (machine_boundaries word_machine (before ++ after))) (length before)

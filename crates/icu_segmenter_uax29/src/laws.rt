@@ -1,4 +1,4 @@
-//! Laws of the machine's boundaries, of every list of code points. So they hold of texts in every encoding, in code points.
+//! Laws of the machines' boundaries, of every list of code points. So they hold of texts in every encoding, in code points.
 ghost use Rattle.std.specs.Prelude.{◌≡◌, ◌↔◌, ℕ, true, List, [], ◌∷◌, ◌++◌, reverse};
 ghost use Rattle.ucd_breaks.specs.GraphemeClusterBreak.{grapheme_cluster_break};
 ghost use Rattle.ucd_breaks.specs.declared.GraphemeClusterBreak.TheVariants.{Cr, Extend, L, Lf, Lv, Lvt, Prepend, RegionalIndicator, SpacingMark, T, V, Zwj};
@@ -6,14 +6,21 @@ ghost use Rattle.ucd_derived.specs.IndicConjunctBreak.{indic_conjunct_break};
 ghost use Rattle.ucd_derived.specs.declared.IndicConjunctBreak.TheVariants as InCb;
 ghost use Rattle.ucd_emoji.specs.Binary.{is_extended_pictographic};
 ghost use Rattle.unicode_segmentation.specs.Grapheme.{is_grapheme_break};
+ghost use Rattle.unicode_segmentation.specs.Sentence.{is_sentence_break};
+ghost use Rattle.unicode_segmentation.specs.Word.{is_word_break};
 ghost use Rattle.seg_text.specs.Boundaries.{offsets};
 ghost use Rattle.seg_machine.specs.Machine.{symbol_and_script};
 ghost use Rattle.seg_machine.specs.Segments.{machine_boundaries};
-ghost use Rattle.icu_segmenter_uax29.specs.Clusters.{cluster_machine, clusters, piece_bounds};
-ghost use Rattle.icu_segmenter_uax29.specs.Neighbours.{IsBoundary, IsJoined, StayTogether, all_but_controls, EndsInWholeFlags, AllExtend, AllInConjunct};
+ghost use Rattle.icu_segmenter_uax29.specs.Clusters.{cluster_machine, clusters};
+ghost use Rattle.icu_segmenter_uax29.specs.Neighbours.{IsBoundary, IsJoined, IsSentenceBoundary, IsWordBoundary, StayTogether, all_but_controls, EndsInWholeFlags, AllExtend, AllInConjunct};
+ghost use Rattle.icu_segmenter_uax29.specs.Pieces.{piece_bounds};
 ghost use Rattle.icu_segmenter_uax29.specs.Properties.{HasProperties};
+ghost use Rattle.icu_segmenter_uax29.specs.SentenceValues.{HasSentenceBreak};
+ghost use Rattle.icu_segmenter_uax29.specs.Sentences.{sentence_machine, sentences};
+ghost use Rattle.icu_segmenter_uax29.specs.WordValues.{HasWordBreak};
+ghost use Rattle.icu_segmenter_uax29.specs.Words.{word_machine, words};
 
-/// Law: the symbol of every code point stands for its Grapheme_Cluster_Break, Indic_Conjunct_Break and Extended_Pictographic.
+/// Law: the symbol of every code point in the machine of clusters stands for its Grapheme_Cluster_Break, Indic_Conjunct_Break and Extended_Pictographic.
 pub fn symbols_are_properties()
     ensures { (code_point : ℕ) → HasProperties code_point (symbol_and_script cluster_machine code_point).0 }
 {}
@@ -63,4 +70,28 @@ pub fn emoji_sequences_stay()
 pub fn conjuncts_stay()
     ensures { (before marks after : List ℕ) (linker consonant : ℕ) → indic_conjunct_break linker ≡ InCb.Linker → AllInConjunct marks
         → indic_conjunct_break consonant ≡ InCb.Consonant → IsJoined (before ++ linker ∷ marks) (consonant ∷ after) }
+{}
+
+/// Law: the symbol of every code point in the machine of sentences stands for its Sentence_Break.
+pub fn sentence_symbols_are_values()
+    ensures { (code_point : ℕ) → HasSentenceBreak code_point (symbol_and_script sentence_machine code_point).0 }
+{}
+
+/// Law: the boundaries of the machine of sentences are the start and the ends of the sentences of UAX #29, and no others: one
+/// stands between two parts of a text just where the rules SB1 to SB998 have one.
+pub fn sentences_are_uax29()
+    ensures sentences { (code_points : List ℕ) → offsets (machine_boundaries sentence_machine code_points) ≡ piece_bounds (sentences code_points) }
+    ensures places { (before after : List ℕ) → IsSentenceBoundary before after ↔ (is_sentence_break (reverse before) after ≡ true) }
+{}
+
+/// Law: the symbol of every code point in the machine of words stands for its Word_Break and Extended_Pictographic.
+pub fn word_symbols_are_properties()
+    ensures { (code_point : ℕ) → HasWordBreak code_point (symbol_and_script word_machine code_point).0 }
+{}
+
+/// Law: the boundaries of the machine of words are the start and the ends of the words of UAX #29, and no others: one stands
+/// between two parts of a text just where the rules WB1 to WB999 have one.
+pub fn words_are_uax29()
+    ensures words { (code_points : List ℕ) → offsets (machine_boundaries word_machine code_points) ≡ piece_bounds (words code_points) }
+    ensures places { (before after : List ℕ) → IsWordBoundary before after ↔ (is_word_break (reverse before) after ≡ true) }
 {}

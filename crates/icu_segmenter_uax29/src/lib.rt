@@ -10,9 +10,13 @@ pub mod laws;
 mod machine;
 mod ranges;
 mod segmenter;
+pub mod sentences;
 mod states;
 mod symbols;
 mod transitions;
+pub mod words;
 
 pub use machine::cluster_machine;
 pub use segmenter::ClusterSegmenter;
+pub use sentences::{SentenceSegmenter, sentence_machine};
+pub use words::{WordSegmenter, word_machine};

@@ -25,7 +25,7 @@ pub fn cluster_machine(alloc: Global) -> Result<SegmenterStateMachine, DataError
 }
 
 // The machine of these parts. The errors are want of memory, and what is wrong with the parts.
-fn machine_of(
+pub(crate) fn machine_of(
     alloc: Global,
     ranges: &[(u32, u32, Symbol)],
     states: &[Entry],

@@ -28,7 +28,8 @@ impl ClusterSegmenter {
     ghost use Rattle.seg_text.specs.Utf8.{utf8};
     ghost use Rattle.seg_text.specs.Utf16.{utf16};
     ghost use Rattle.seg_clusters.specs.Clusters.{cluster_rules, clusters_places};
-    ghost use Rattle.icu_segmenter_uax29.specs.Clusters.{cluster_places, parts_at, piece_bounds};
+    ghost use Rattle.icu_segmenter_uax29.specs.Clusters.{cluster_places};
+    ghost use Rattle.icu_segmenter_uax29.specs.Pieces.{parts_at, piece_bounds};
 
     /// The segmenter, with data of its own. The only error is want of memory.
     pub fn try_new(alloc: Global) -> Result<Self, DataError>

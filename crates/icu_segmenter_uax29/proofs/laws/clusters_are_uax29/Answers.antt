@@ -1,9 +1,15 @@
+use Rattle.std.proofs.Common.{true}
+use Rattle.unicode_segmentation.specs.Grapheme.{is_grapheme_break}
+use Rattle.icu_segmenter_uax29.specs.Clusters.{cluster_machine}
 use Rattle.icu_segmenter_uax29.proofs.Boundaries.{boundaries-break, breaks-bound}
-use Rattle.icu_segmenter_uax29.proofs.Clusters.{clusters-are}
+use Rattle.icu_segmenter_uax29.proofs.Clusters.{clusters-are, rule-ends}
 use Rattle.icu_segmenter_uax29.proofs.laws.clusters_are_uax29.Goals as goal
 
 pub returns-clause-clusters : goal.returns-clause-clusters
 returns-clause-clusters c = clusters-are
 
 pub returns-clause-places : goal.returns-clause-places
-returns-clause-places c before after = (boundaries-break before after, breaks-bound before after)
+returns-clause-places c before after = (
+  boundaries-break (is_grapheme_break true) cluster_machine rule-ends clusters-are before after,
+  breaks-bound (is_grapheme_break true) cluster_machine rule-ends clusters-are before after,
+)

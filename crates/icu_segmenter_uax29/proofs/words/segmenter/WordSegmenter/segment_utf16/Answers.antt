@@ -1,0 +1,13 @@
+use Rattle.std.proofs.Common.{ap, ◌∙◌}
+use Rattle.unicode_segmentation.specs.Word.{is_word_break}
+use Rattle.seg_text.specs.Boundaries.{offsets}
+use Rattle.seg_text.specs.Utf16.{utf16}
+use Rattle.icu_segmenter_uax29.specs.Words.{word_machine}
+use Rattle.icu_segmenter_uax29.proofs.Segments.{text-places}
+use Rattle.icu_segmenter_uax29.proofs.WordWalks.{words-are}
+use Rattle.icu_segmenter_uax29.proofs.words.segmenter.WordSegmenter.segment_utf16.Goals as goal
+
+pub returns : goal.returns
+returns c =
+    ap offsets c.utf16_boundaries.ensures
+    ∙ text-places is_word_break word_machine words-are _ (utf16 c.args.input.now) c.as_borrowed.ensures
