@@ -5,8 +5,8 @@ use anyhow::Result;
 use icu_segmenter::options::{LineBreakOptions, SentenceBreakOptions, WordBreakOptions};
 use icu_segmenter::{GraphemeClusterSegmenter, LineSegmenter, SentenceSegmenter, WordSegmenter};
 use icu_segmenter_data::{
-    cluster_table, grapheme_segmenter, line_segmenter, line_table, sentence_segmenter,
-    sentence_table, word_segmenter, word_table,
+    cluster_machine, cluster_table, line_segmenter, line_table, sentence_machine, sentence_table,
+    word_segmenter, word_table,
 };
 use std::alloc::Global;
 
@@ -71,11 +71,11 @@ impl Engine {
     /// The segmenter with its data. The errors are want of memory, and data that are refused.
     pub fn segmenter(self, alloc: Global) -> Result<Segmenter> {
         match self {
-            Engine::ClusterMachine => Ok(Segmenter::Clusters(grapheme_segmenter(alloc)?)),
+            Engine::ClusterMachine => cluster_machine_segmenter(alloc),
             Engine::ClusterTable => cluster_table_segmenter(alloc),
             Engine::WordMachine => Ok(Segmenter::Words(word_segmenter(alloc)?)),
             Engine::WordTable => word_table_segmenter(alloc),
-            Engine::SentenceMachine => Ok(Segmenter::Sentences(sentence_segmenter(alloc)?)),
+            Engine::SentenceMachine => sentence_machine_segmenter(alloc),
             Engine::SentenceTable => sentence_table_segmenter(alloc),
             Engine::LineMachine => {
                 let options = LineBreakOptions::default();
@@ -84,6 +84,11 @@ impl Engine {
             Engine::LineTable => line_table_segmenter(alloc),
         }
     }
+}
+
+fn cluster_machine_segmenter(alloc: Global) -> Result<Segmenter> {
+    let segmenter = GraphemeClusterSegmenter::try_new_neo(cluster_machine(alloc)?)?;
+    Ok(Segmenter::Clusters(segmenter))
 }
 
 fn cluster_table_segmenter(alloc: Global) -> Result<Segmenter> {
@@ -96,6 +101,11 @@ fn word_table_segmenter(alloc: Global) -> Result<Segmenter> {
     let options = WordBreakOptions::default();
     let segmenter = WordSegmenter::try_new_for_non_complex_scripts(table, None, clusters, options)?;
     Ok(Segmenter::Words(segmenter))
+}
+
+fn sentence_machine_segmenter(alloc: Global) -> Result<Segmenter> {
+    let (machine, options) = (sentence_machine(alloc)?, SentenceBreakOptions::default());
+    Ok(Segmenter::Sentences(SentenceSegmenter::try_new_neo(machine, None, options)?))
 }
 
 fn sentence_table_segmenter(alloc: Global) -> Result<Segmenter> {

@@ -1,4 +1,4 @@
-//! Segmenters by Unicode's machines, each in one call.
+//! Segmenters by Unicode's machines, each in one call: of clusters and of sentences by those that are proved to follow UAX #29.
 ghost use Rattle.std.specs.Prelude.{◌≡◌, IfOk};
 ghost use Rattle.icu_segmenter.specs.Clusters.{owned_cluster_rules};
 ghost use Rattle.icu_segmenter.specs.Lines.{chosen_rules, owned_line_rules};
@@ -8,26 +8,28 @@ ghost use Rattle.icu_segmenter.specs.ScriptWords.{no_words};
 ghost use Rattle.icu_segmenter.specs.Sentences.{owned_sentence_rules};
 ghost use Rattle.icu_segmenter.specs.WordRules.{machine_words};
 ghost use Rattle.icu_segmenter.specs.Words.{owned_word_rules};
-ghost use Rattle.icu_segmenter_data.specs.Unicode.{cluster_machine, cluster_table, line_machine, line_tailorings, sentence_machine, word_machine};
+ghost use Rattle.icu_segmenter_data.specs.Unicode.{cluster_machine, cluster_table, line_machine, line_tailorings, word_machine};
+ghost use Rattle.icu_segmenter_uax29.specs.Clusters.{cluster_machine as proved_clusters};
+ghost use Rattle.icu_segmenter_uax29.specs.Sentences.{sentence_machine as proved_sentences};
 
 use crate::clusters::{cluster_machine, cluster_table};
 use crate::lines::{line_machine, line_tailorings};
-use crate::sentences::sentence_machine;
 use crate::words::word_machine;
 use icu_segmenter::options::{LineBreakOptions, SentenceBreakOptions, WordBreakOptions};
 use icu_segmenter::provider::DataError;
 use icu_segmenter::{GraphemeClusterSegmenter, LineSegmenter, SentenceSegmenter, WordSegmenter};
 use std::alloc::Global;
 
-/// A segmenter of extended grapheme clusters, by the machine of UAX #29. The only error that is met is want of memory.
+/// A segmenter of extended grapheme clusters, by the machine of which it is proved that they are those of UAX #29 as it is in Unicode
+/// 18.0 (`icu_segmenter_uax29::laws::clusters_are_uax29`). The only error that is met is want of memory.
 pub fn grapheme_segmenter(alloc: Global) -> Result<GraphemeClusterSegmenter, DataError>
-    ensures { IfOk result (λ clusters. owned_cluster_rules clusters ≡ ByMachine cluster_machine) }
+    ensures { IfOk result (λ clusters. owned_cluster_rules clusters ≡ ByMachine proved_clusters) }
 {
-    GraphemeClusterSegmenter::try_new_neo(cluster_machine(alloc)?)
+    GraphemeClusterSegmenter::try_new_neo(icu_segmenter_uax29::cluster_machine(alloc)?)
 }
 
-/// A segmenter of words, by the machine of UAX #29, without dictionaries: `load_dictionary` takes them. The only error that is met is
-/// want of memory.
+/// A segmenter of words, by the machine of UAX #29 of Unicode 15.0, which knows their types, without dictionaries: `load_dictionary`
+/// takes them. The only error that is met is want of memory.
 pub fn word_segmenter(alloc: Global) -> Result<WordSegmenter, DataError>
     ensures { IfOk result (λ words. owned_word_rules words ≡ machine_words word_machine cluster_table no_words) }
 {
@@ -38,12 +40,13 @@ pub fn word_segmenter(alloc: Global) -> Result<WordSegmenter, DataError>
     )
 }
 
-/// A segmenter of sentences, by the machine of UAX #29. The only error that is met is want of memory.
+/// A segmenter of sentences, by the machine of which it is proved that they are those of UAX #29 as it is in Unicode 18.0
+/// (`icu_segmenter_uax29::laws::sentences_are_uax29`). The only error that is met is want of memory.
 pub fn sentence_segmenter(alloc: Global) -> Result<SentenceSegmenter, DataError>
-    ensures { IfOk result (λ sentences. owned_sentence_rules sentences ≡ ByMachine sentence_machine) }
+    ensures { IfOk result (λ sentences. owned_sentence_rules sentences ≡ ByMachine proved_sentences) }
 {
-    let options = SentenceBreakOptions::default();
-    SentenceSegmenter::try_new_neo(sentence_machine(alloc)?, None, options)
+    let machine = icu_segmenter_uax29::sentence_machine(alloc)?;
+    SentenceSegmenter::try_new_neo(machine, None, SentenceBreakOptions::default())
 }
 
 /// A segmenter of lines, by the machine of UAX #14 with the tailoring of CSS Text 3 that these options choose, or by the machine of clusters
