@@ -1,7 +1,7 @@
 -- Where texts are cut.
 use Rattle.std.proofs.Common.{◌≡◌, ℕ, ◌≤◌, List, [], ◌∷◌, length, map, drop, refl, sym, ap, ◌∙◌, arith}
-use Rattle.std.specs.Iterator.{MakesProgress, YieldsFirst, item_count}
-use Rattle.std.specs.Prelude.{Option, Some, None, ⊤}
+use Rattle.std.specs.Iterator.{YieldsFirst}
+use Rattle.std.specs.Prelude.{Option, Some, None}
 use Rattle.std.specs.Str.{IsCharBoundary, IsUtf8}
 use Rattle.seg_text.specs.declared.boundary.Boundary.{Boundary}
 use Rattle.seg_text.specs.Boundaries.{GivesNext, IsCover, Remainder, RisesTo, boundaries_in, boundary_in, offsets}
@@ -9,7 +9,7 @@ use Rattle.seg_text.specs.Items.{Text, code_points}
 use Rattle.seg_text.specs.Utf8.{utf8, utf8_items}
 use Rattle.seg_text.proofs.Str.{seek-boundary}
 use Rattle.seg_wrap.specs.Wrapping.{between}
-use Rattle.icu_segmenter.specs.TextSegments.{AreCuts, IsPlace, Segment, marked, segments_from}
+use Rattle.icu_segmenter.specs.TextSegments.{AreCuts, IsPlace, Segment, marked, nothing, segments_from}
 
 pub place-boundary : (bytes : List ℕ) (place : ℕ) → IsUtf8 bytes → IsPlace (utf8 bytes) place → IsCharBoundary bytes place
 unfolding utf8_items
@@ -48,12 +48,6 @@ pub first-left : {S M : Type 0} (left : S → List (ℕ × M)) (units part : Lis
 unfolding segments_from
 first-left left units part from to mark before after owed is gives cut = sym is ∙ rw (gives, cut) refl
 
--- with each segment fewer are left
-pub fewer : {S A B : Type 0} (left : S → List B) (s t : S) (item : A) (first : B) → left s ≡ first ∷ left t
-    → MakesProgress (λ _. ⊤) (item_count left) s (Some item) t
-fewer left s t item first gave =
-    record { on = λ _. (tt, tt, omega (arith, ap length gave)); keeps = tt; rests = λ _. tt }
-
 -- ---- all segments
 
 -- boundaries that a text has are places of it
@@ -85,9 +79,6 @@ after-start {S} {M} MayCut mark text find left end before after given may found 
 -- ---- what is said of boundaries
 
 -- places alone, where statuses say nothing
-abbrev nothing : ℕ → Unit {0}
-nothing status = tt {0}
-
 abbrev with_nothing : List ℕ → List (ℕ × Unit {0})
 with_nothing places = map (λ (place : ℕ). (place, tt {0})) places
 

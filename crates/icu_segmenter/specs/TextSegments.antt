@@ -17,6 +17,10 @@ pub record Segment (M : Type 0) : Type 0 where
 abbrev pub marked : {M : Type 0} → (ℕ → M) → List Boundary → List (ℕ × M)
 marked mark boundaries = map (λ (boundary : Boundary). (boundary.offset, mark boundary.status)) boundaries
 
+-- of clusters and sentences they say nothing
+abbrev pub nothing : ℕ → Unit {0}
+nothing status = tt {0}
+
 -- the segments from one place on, each of which ends at the next boundary
 unfoldable pub segments_from : {M : Type 0} → List ℕ → ℕ → List (ℕ × M) → List (Segment M)
 segments_from units from [] = []

@@ -30,7 +30,8 @@ pub use units::Units;
 
 /// An iterator over the boundaries of a text, which gives the segments between them.
 ///
-/// The calls below take the text that the boundaries are of, before any of them was given.
+/// `segments` and its kin take the text in which the boundaries were found, as long as none was given: that these are its boundaries is what
+/// `segment_str` and its kin promise.
 pub trait BreakIterator: Drop + Sized {
     /// What the text stands in.
     type Units: Units;

@@ -1,21 +1,33 @@
 //! The boundaries of clusters.
 
+ghost use Rattle.std.specs.Iterator.{YieldsFirst};
 ghost use Rattle.seg_text.specs.Latin1.{latin1};
 ghost use Rattle.seg_text.specs.Utf8.{utf8};
 ghost use Rattle.seg_text.specs.Utf16.{utf16};
 ghost use Rattle.seg_engine.specs.Rules.{boundaries_by};
 ghost use Rattle.seg_clusters.specs.Clusters.{cluster_finder, clusters_left};
+ghost use Rattle.icu_segmenter.specs.TextSegments.{marked, nothing};
 
 use crate::segments::BreakIterator;
 use seg_clusters::grapheme::GraphemeClusterBreakIterator;
-use seg_text::scaffold::{Latin1, PotentiallyIllFormedUtf8, Utf8, Utf16};
+use seg_text::scaffold::{Latin1, PotentiallyIllFormedUtf8, RuleBreakType, Utf8, Utf16};
+
+// The next boundary of clusters, of which nothing is said.
+fn next_cluster<'s, Y: RuleBreakType<'s>>(
+    clusters: &mut GraphemeClusterBreakIterator<'_, 's, Y>,
+) -> Option<(usize, ())>
+    ensures { YieldsFirst (λ s. marked nothing (clusters_left s)) clusters.old result clusters.new }
+{
+    let place = clusters.next()?;
+    Some((place, ()))
+}
 
 impl<'data, 's> BreakIterator for GraphemeClusterBreakIterator<'data, 's, Utf8> {
     type Units = &'s str;
 
     type Mark = ();
 
-    ghost mark = { λ _. tt };
+    ghost mark = { nothing };
 
     ghost left = { λ clusters. clusters_left clusters };
 
@@ -26,8 +38,7 @@ impl<'data, 's> BreakIterator for GraphemeClusterBreakIterator<'data, 's, Utf8> 
     ghost places = { λ _ _ place. place };
 
     fn next_break(&mut self) -> Option<(usize, ())> {
-        let place = self.next()?;
-        Some((place, ()))
+        next_cluster(self)
     }
 }
 
@@ -37,7 +48,7 @@ impl<'data, 's> BreakIterator
 
     type Mark = ();
 
-    ghost mark = { λ _. tt };
+    ghost mark = { nothing };
 
     ghost left = { λ clusters. clusters_left clusters };
 
@@ -48,8 +59,7 @@ impl<'data, 's> BreakIterator
     ghost places = { λ _ _ _. tt };
 
     fn next_break(&mut self) -> Option<(usize, ())> {
-        let place = self.next()?;
-        Some((place, ()))
+        next_cluster(self)
     }
 }
 
@@ -58,7 +68,7 @@ impl<'data, 's> BreakIterator for GraphemeClusterBreakIterator<'data, 's, Latin1
 
     type Mark = ();
 
-    ghost mark = { λ _. tt };
+    ghost mark = { nothing };
 
     ghost left = { λ clusters. clusters_left clusters };
 
@@ -69,8 +79,7 @@ impl<'data, 's> BreakIterator for GraphemeClusterBreakIterator<'data, 's, Latin1
     ghost places = { λ _ _ _. tt };
 
     fn next_break(&mut self) -> Option<(usize, ())> {
-        let place = self.next()?;
-        Some((place, ()))
+        next_cluster(self)
     }
 }
 
@@ -79,7 +88,7 @@ impl<'data, 's> BreakIterator for GraphemeClusterBreakIterator<'data, 's, Utf16>
 
     type Mark = ();
 
-    ghost mark = { λ _. tt };
+    ghost mark = { nothing };
 
     ghost left = { λ clusters. clusters_left clusters };
 
@@ -90,7 +99,6 @@ impl<'data, 's> BreakIterator for GraphemeClusterBreakIterator<'data, 's, Utf16>
     ghost places = { λ _ _ _. tt };
 
     fn next_break(&mut self) -> Option<(usize, ())> {
-        let place = self.next()?;
-        Some((place, ()))
+        next_cluster(self)
     }
 }

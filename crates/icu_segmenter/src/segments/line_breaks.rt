@@ -1,15 +1,27 @@
 //! The boundaries of lines, each with whether a line must end there.
 
 ghost use Rattle.std.specs.Prelude.{◌==◌};
+ghost use Rattle.std.specs.Iterator.{YieldsFirst};
 ghost use Rattle.seg_text.specs.Latin1.{latin1};
 ghost use Rattle.seg_text.specs.Utf8.{utf8};
 ghost use Rattle.seg_text.specs.Utf16.{utf16};
 ghost use Rattle.seg_lines.specs.LineBreaks.{line_boundaries_by};
 ghost use Rattle.seg_lines.specs.Lines.{line_finder, lines_left};
+ghost use Rattle.icu_segmenter.specs.TextSegments.{marked};
 
 use crate::segments::BreakIterator;
 use seg_lines::line::LineBreakIterator;
-use seg_text::scaffold::{Latin1, PotentiallyIllFormedUtf8, Utf8, Utf16};
+use seg_text::scaffold::{Latin1, PotentiallyIllFormedUtf8, RuleBreakType, Utf8, Utf16};
+
+// The next boundary of lines, and whether a line must end there.
+fn next_line<'s, Y: RuleBreakType<'s>>(
+    lines: &mut LineBreakIterator<'_, 's, Y>,
+) -> Option<(usize, bool)>
+    ensures { YieldsFirst (λ s. marked (λ status. status == 1) (lines_left s)) lines.old result lines.new }
+{
+    let place = lines.next()?;
+    Some((place, lines.is_mandatory()))
+}
 
 impl<'data, 's> BreakIterator for LineBreakIterator<'data, 's, Utf8> {
     type Units = &'s str;
@@ -27,8 +39,7 @@ impl<'data, 's> BreakIterator for LineBreakIterator<'data, 's, Utf8> {
     ghost places = { λ _ _ place. place };
 
     fn next_break(&mut self) -> Option<(usize, bool)> {
-        let place = self.next()?;
-        Some((place, self.is_mandatory()))
+        next_line(self)
     }
 }
 
@@ -48,8 +59,7 @@ impl<'data, 's> BreakIterator for LineBreakIterator<'data, 's, PotentiallyIllFor
     ghost places = { λ _ _ _. tt };
 
     fn next_break(&mut self) -> Option<(usize, bool)> {
-        let place = self.next()?;
-        Some((place, self.is_mandatory()))
+        next_line(self)
     }
 }
 
@@ -69,8 +79,7 @@ impl<'data, 's> BreakIterator for LineBreakIterator<'data, 's, Latin1> {
     ghost places = { λ _ _ _. tt };
 
     fn next_break(&mut self) -> Option<(usize, bool)> {
-        let place = self.next()?;
-        Some((place, self.is_mandatory()))
+        next_line(self)
     }
 }
 
@@ -90,7 +99,6 @@ impl<'data, 's> BreakIterator for LineBreakIterator<'data, 's, Utf16> {
     ghost places = { λ _ _ _. tt };
 
     fn next_break(&mut self) -> Option<(usize, bool)> {
-        let place = self.next()?;
-        Some((place, self.is_mandatory()))
+        next_line(self)
     }
 }

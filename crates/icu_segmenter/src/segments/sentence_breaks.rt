@@ -1,21 +1,33 @@
 //! The boundaries of sentences.
 
+ghost use Rattle.std.specs.Iterator.{YieldsFirst};
 ghost use Rattle.seg_text.specs.Latin1.{latin1};
 ghost use Rattle.seg_text.specs.Utf8.{utf8};
 ghost use Rattle.seg_text.specs.Utf16.{utf16};
 ghost use Rattle.seg_engine.specs.Rules.{boundaries_by};
 ghost use Rattle.seg_clusters.specs.Sentences.{sentence_finder, sentences_left};
+ghost use Rattle.icu_segmenter.specs.TextSegments.{marked, nothing};
 
 use crate::segments::BreakIterator;
 use seg_clusters::sentence::SentenceBreakIterator;
-use seg_text::scaffold::{Latin1, PotentiallyIllFormedUtf8, Utf8, Utf16};
+use seg_text::scaffold::{Latin1, PotentiallyIllFormedUtf8, RuleBreakType, Utf8, Utf16};
+
+// The next boundary of sentences, of which nothing is said.
+fn next_sentence<'s, Y: RuleBreakType<'s>>(
+    sentences: &mut SentenceBreakIterator<'_, 's, Y>,
+) -> Option<(usize, ())>
+    ensures { YieldsFirst (λ s. marked nothing (sentences_left s)) sentences.old result sentences.new }
+{
+    let place = sentences.next()?;
+    Some((place, ()))
+}
 
 impl<'data, 's> BreakIterator for SentenceBreakIterator<'data, 's, Utf8> {
     type Units = &'s str;
 
     type Mark = ();
 
-    ghost mark = { λ _. tt };
+    ghost mark = { nothing };
 
     ghost left = { λ sentences. sentences_left sentences };
 
@@ -26,8 +38,7 @@ impl<'data, 's> BreakIterator for SentenceBreakIterator<'data, 's, Utf8> {
     ghost places = { λ _ _ place. place };
 
     fn next_break(&mut self) -> Option<(usize, ())> {
-        let place = self.next()?;
-        Some((place, ()))
+        next_sentence(self)
     }
 }
 
@@ -36,7 +47,7 @@ impl<'data, 's> BreakIterator for SentenceBreakIterator<'data, 's, PotentiallyIl
 
     type Mark = ();
 
-    ghost mark = { λ _. tt };
+    ghost mark = { nothing };
 
     ghost left = { λ sentences. sentences_left sentences };
 
@@ -47,8 +58,7 @@ impl<'data, 's> BreakIterator for SentenceBreakIterator<'data, 's, PotentiallyIl
     ghost places = { λ _ _ _. tt };
 
     fn next_break(&mut self) -> Option<(usize, ())> {
-        let place = self.next()?;
-        Some((place, ()))
+        next_sentence(self)
     }
 }
 
@@ -57,7 +67,7 @@ impl<'data, 's> BreakIterator for SentenceBreakIterator<'data, 's, Latin1> {
 
     type Mark = ();
 
-    ghost mark = { λ _. tt };
+    ghost mark = { nothing };
 
     ghost left = { λ sentences. sentences_left sentences };
 
@@ -68,8 +78,7 @@ impl<'data, 's> BreakIterator for SentenceBreakIterator<'data, 's, Latin1> {
     ghost places = { λ _ _ _. tt };
 
     fn next_break(&mut self) -> Option<(usize, ())> {
-        let place = self.next()?;
-        Some((place, ()))
+        next_sentence(self)
     }
 }
 
@@ -78,7 +87,7 @@ impl<'data, 's> BreakIterator for SentenceBreakIterator<'data, 's, Utf16> {
 
     type Mark = ();
 
-    ghost mark = { λ _. tt };
+    ghost mark = { nothing };
 
     ghost left = { λ sentences. sentences_left sentences };
 
@@ -89,7 +98,6 @@ impl<'data, 's> BreakIterator for SentenceBreakIterator<'data, 's, Utf16> {
     ghost places = { λ _ _ _. tt };
 
     fn next_break(&mut self) -> Option<(usize, ())> {
-        let place = self.next()?;
-        Some((place, ()))
+        next_sentence(self)
     }
 }

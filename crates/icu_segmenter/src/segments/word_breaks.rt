@@ -1,14 +1,26 @@
 //! The boundaries of words, each with the type of what ends there.
 
+ghost use Rattle.std.specs.Iterator.{YieldsFirst};
 ghost use Rattle.seg_text.specs.Latin1.{latin1};
 ghost use Rattle.seg_text.specs.Utf8.{utf8};
 ghost use Rattle.seg_text.specs.Utf16.{utf16};
 ghost use Rattle.seg_words.specs.WordRules.{type_of, word_boundaries_by};
 ghost use Rattle.seg_words.specs.Words.{word_finder, words_left};
+ghost use Rattle.icu_segmenter.specs.TextSegments.{marked};
 
 use crate::segments::{BreakIterator, WordBreaks};
-use seg_text::scaffold::{Latin1, PotentiallyIllFormedUtf8, Utf8, Utf16};
+use seg_text::scaffold::{Latin1, PotentiallyIllFormedUtf8, RuleBreakType, Utf8, Utf16};
 use seg_words::word::{WordBreakIterator, WordType};
+
+// The next boundary of words, with the type of what ends there.
+fn next_word<'s, Y: RuleBreakType<'s>>(
+    words: &mut WordBreakIterator<'_, 's, Y>,
+) -> Option<(usize, WordType)>
+    ensures { YieldsFirst (λ s. marked type_of (words_left s)) words.old result words.new }
+{
+    let place = words.next()?;
+    Some((place, words.word_type()))
+}
 
 impl<'data, 's> BreakIterator for WordBreakIterator<'data, 's, Utf8> {
     type Units = &'s str;
@@ -26,8 +38,7 @@ impl<'data, 's> BreakIterator for WordBreakIterator<'data, 's, Utf8> {
     ghost places = { λ _ _ place. place };
 
     fn next_break(&mut self) -> Option<(usize, WordType)> {
-        let place = self.next()?;
-        Some((place, self.word_type()))
+        next_word(self)
     }
 }
 
@@ -47,8 +58,7 @@ impl<'data, 's> BreakIterator for WordBreakIterator<'data, 's, PotentiallyIllFor
     ghost places = { λ _ _ _. tt };
 
     fn next_break(&mut self) -> Option<(usize, WordType)> {
-        let place = self.next()?;
-        Some((place, self.word_type()))
+        next_word(self)
     }
 }
 
@@ -68,8 +78,7 @@ impl<'data, 's> BreakIterator for WordBreakIterator<'data, 's, Latin1> {
     ghost places = { λ _ _ _. tt };
 
     fn next_break(&mut self) -> Option<(usize, WordType)> {
-        let place = self.next()?;
-        Some((place, self.word_type()))
+        next_word(self)
     }
 }
 
@@ -89,8 +98,7 @@ impl<'data, 's> BreakIterator for WordBreakIterator<'data, 's, Utf16> {
     ghost places = { λ _ _ _. tt };
 
     fn next_break(&mut self) -> Option<(usize, WordType)> {
-        let place = self.next()?;
-        Some((place, self.word_type()))
+        next_word(self)
     }
 }
 

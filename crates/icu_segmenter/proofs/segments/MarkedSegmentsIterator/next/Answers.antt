@@ -1,5 +1,6 @@
 use Rattle.icu_segmenter.specs.TextSegments.{marked}
-use Rattle.icu_segmenter.proofs.Cutting.{fewer, first-left, next-end, none-left}
+use Rattle.seg_wrap.proofs.Given.{fewer}
+use Rattle.icu_segmenter.proofs.Cutting.{first-left, next-end, none-left}
 use Rattle.icu_segmenter.proofs.segments.MarkedSegmentsIterator.next.Goals as goal
 
 pub returns-in_err-to-clause-steps : goal.returns-in_err-to-clause-steps
