@@ -1,1 +1,3 @@
 pub mod Callers
+mod Cutting
+mod Whole

@@ -73,3 +73,5 @@ pub use Rattle.seg_words.specs.Words
 pub use Rattle.seg_wrap.specs.Wrapping
 pub use Rattle.seg_wrap.specs.WrapLaw
 pub use Rattle.seg_wrap.specs.WrappedLines
+pub mod TextSegments
+pub mod SegmentsLeft

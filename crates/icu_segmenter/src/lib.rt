@@ -5,6 +5,8 @@
 //! encoding of `scaffold`, with no further refusal.
 #![tactic(auto)]
 
+pub mod segments;
+
 pub use seg_clusters::grapheme::{GraphemeClusterSegmenter, GraphemeClusterSegmenterBorrowed};
 pub use seg_clusters::sentence::{SentenceSegmenter, SentenceSegmenterBorrowed};
 pub use seg_lines::line::{LineSegmenter, LineSegmenterBorrowed};

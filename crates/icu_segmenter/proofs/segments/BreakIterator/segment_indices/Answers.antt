@@ -1,0 +1,7 @@
+use Rattle.std.proofs.Common.{ℕ, List}
+use Rattle.std.proofs.lemmas.List.Elements.{All-map}
+use Rattle.icu_segmenter.specs.TextSegments.{IsPlace}
+use Rattle.icu_segmenter.proofs.segments.BreakIterator.segment_indices.Goals as goal
+
+pub returns-clause-places : goal.returns-clause-places
+returns-clause-places g c = All-map (λ (segment : ℕ × List ℕ). IsPlace (g.Self.BreakIterator.decode c.args.text) segment.0) _ _ c.marked_segments.ensures.whole.places

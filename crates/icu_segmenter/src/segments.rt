@@ -1,0 +1,213 @@
+//! The segments of a text, as parts of it: what stands between neighbouring boundaries.
+//!
+//! An iterator over the boundaries of a text (`BreakIterator`) takes the text once more, and gives its segments. With the sample data
+//! (`bench::words`), where letters and digits are words:
+//!
+//! ```text
+//! words.segment_str("one 42.").segments("one 42.")             "one" " " "42" "."
+//! words.segment_str("one 42.").segment_indices("one 42.")      (0, "one") (3, " ") (4, "42") (6, ".")
+//! words.segment_str("one 42.").words("one 42.")                (0, "one", Letter) (4, "42", Number)
+//! ```
+
+ghost use Rattle.std.specs.Prelude.{◌≡◌, ℕ, ◌<◌, ◌≤◌, List, All, length};
+ghost use Rattle.std.specs.List.{flat_map};
+ghost use Rattle.std.specs.Iterator.{YieldsFirst, YieldsFirstBy, item_count};
+ghost use Rattle.seg_text.specs.declared.boundary.Boundary.{Boundary};
+ghost use Rattle.seg_text.specs.Boundaries.{boundaries_in, IsCover};
+ghost use Rattle.seg_text.specs.Items.{Text};
+ghost use Rattle.icu_segmenter.specs.TextSegments.{indices_of, marked, segments_of, units_of, words_of, AreSegments, IsPlace};
+ghost use Rattle.icu_segmenter.specs.SegmentsLeft.{indices_left, segments_left, words_left};
+
+mod cluster_breaks;
+mod line_breaks;
+mod sentence_breaks;
+mod units;
+mod word_breaks;
+
+use seg_words::word::WordType;
+use std::marker::Model;
+pub use units::Units;
+
+/// An iterator over the boundaries of a text, which gives the segments between them.
+///
+/// `segments` and its kin take the text in which the boundaries were found, as long as none was given: that these are its boundaries is what
+/// `segment_str` and its kin promise.
+pub trait BreakIterator: Drop + Sized {
+    /// What the text stands in.
+    type Units: Units;
+
+    /// What the status of a boundary says of the segment that ends there: of words their type, and of lines whether
+    /// a line must end there.
+    type Mark: Copy;
+
+    /// The same in clauses.
+    ghost mark: { ℕ → Self.Mark };
+
+    /// The boundaries that are still to come.
+    ghost left: { Self → List Boundary };
+
+    /// How they are found in a list of code points.
+    ghost find: { Self → List ℕ → List Boundary };
+
+    /// The text that stands in some units.
+    ghost decode: { Self.Units → Text };
+
+    /// The next boundary, as its place and what its status says. None at the end, and from then on.
+    fn next_break(&mut self) -> Option<(usize, Self::Mark)>
+        ensures { YieldsFirst (λ s. marked mark (left s)) self.old result self.new };
+
+    /// Law: a text may be cut at the places of its items.
+    ghost places: { (text : Self.Units) (place : ℕ) → IsPlace (decode text) place → Self.Units.MayCut text place };
+
+    /// The segments of the text. Takes no memory.
+    final fn segments(self, text: Self::Units) -> Segments<Self>
+        requires found { left self ≡ boundaries_in (find self) (decode text) }
+        requires cover { IsCover 0 (length (Self.Units.units text)) (left self) }
+        ensures segments { segments_left result ≡ units_of (segments_of mark (Self.Units.units text) (left self)) }
+        ensures joined { flat_map (λ segment. segment) (segments_left result) ≡ Self.Units.units text }
+        ensures some { All (λ segment. 0 < length segment) (segments_left result) }
+    {
+        Segments {
+            segments: self.marked_segments(text),
+        }
+    }
+
+    /// The segments of the text, each with the place where it begins. Takes no memory.
+    final fn segment_indices(self, text: Self::Units) -> SegmentIndices<Self>
+        requires found { left self ≡ boundaries_in (find self) (decode text) }
+        requires cover { IsCover 0 (length (Self.Units.units text)) (left self) }
+        ensures segments { indices_left result ≡ indices_of (segments_of mark (Self.Units.units text) (left self)) }
+        ensures places { All (λ segment. IsPlace (decode text) segment.0) (indices_left result) }
+    {
+        SegmentIndices {
+            segments: self.marked_segments(text),
+        }
+    }
+
+    /// The segments of the text, each with the place where it begins, and with what the status of the boundary says at which it
+    /// ends. Takes no memory.
+    final fn marked_segments(self, text: Self::Units) -> MarkedSegments<Self>
+        requires found { left self ≡ boundaries_in (find self) (decode text) }
+        requires cover { IsCover 0 (length (Self.Units.units text)) (left self) }
+        ensures segments { result ≡ segments_of mark (Self.Units.units text) (left self) }
+        ensures whole { AreSegments (decode text) (Self.Units.units text) result }
+    {
+        let mut breaks = self;
+        let _start = breaks.next_break();
+        MarkedSegments {
+            breaks,
+            text,
+            from: 0,
+        }
+    }
+}
+
+/// An iterator over the boundaries of words.
+pub trait WordBreaks: BreakIterator<Mark = WordType> {
+    /// The words of a text, each with the place where it begins and its type: those segments whose type isn't `None`. Takes no memory.
+    final fn words(self, text: Self::Units) -> Words<Self>
+        requires found { Self.left self ≡ boundaries_in (Self.find self) (Self.decode text) }
+        requires cover { IsCover 0 (length (Self.Units.units text)) (Self.left self) }
+        ensures { words_left result ≡ words_of (segments_of Self.mark (Self.Units.units text) (Self.left self)) }
+    {
+        Words {
+            segments: self.marked_segments(text),
+        }
+    }
+}
+
+/// The segments of a text, each with the place where it begins and with what the status says of the boundary at which it ends. After
+/// None it is None for ever.
+#[derive(Drop)]
+pub struct MarkedSegments<B: BreakIterator> {
+    breaks: B,
+    text: B::Units,
+    from: usize,
+}
+
+impl<B: BreakIterator> Model for MarkedSegments<B> {
+    ghost use Rattle.std.specs.Prelude.{List, length};
+    ghost use Rattle.icu_segmenter.specs.TextSegments.{Segment, AreCuts, marked, segments_from};
+
+    ghost Value = { List (Segment B.Mark) };
+
+    ghost view = { λ s. segments_from (B.Units.units s.text) s.from (marked B.mark (B.left s.breaks)) };
+
+    ghost invariant = { λ s. AreCuts (B.Units.MayCut s.text) s.from (marked B.mark (B.left s.breaks)) (length (B.Units.units s.text)) };
+}
+
+impl<B: BreakIterator> Iterator for MarkedSegments<B> {
+    type Item = (usize, B::Units, B::Mark);
+
+    ghost next_gives = { YieldsFirstBy (λ item. record { offset = item.0; units = B.Units.units item.1; mark = item.2 }) (λ s. s) };
+
+    ghost remaining = { item_count (λ s. s) };
+
+    fn next(&mut self) -> Option<(usize, B::Units, B::Mark)> {
+        let (to, mark) = self.breaks.next_break()?;
+        let from = self.from;
+        self.from = to;
+        Some((from, self.text.part(from, to), mark))
+    }
+}
+
+/// The segments of a text. After None it is None for ever.
+#[derive(Drop)]
+pub struct Segments<B: BreakIterator> {
+    segments: MarkedSegments<B>,
+}
+
+impl<B: BreakIterator> Iterator for Segments<B> {
+    type Item = B::Units;
+
+    ghost next_gives = { YieldsFirstBy B.Units.units segments_left };
+
+    ghost remaining = { item_count segments_left };
+
+    fn next(&mut self) -> Option<B::Units> {
+        let (_, segment, _) = self.segments.next()?;
+        Some(segment)
+    }
+}
+
+/// The segments of a text, each with the place where it begins. After None it is None for ever.
+#[derive(Drop)]
+pub struct SegmentIndices<B: BreakIterator> {
+    segments: MarkedSegments<B>,
+}
+
+impl<B: BreakIterator> Iterator for SegmentIndices<B> {
+    type Item = (usize, B::Units);
+
+    ghost next_gives = { YieldsFirstBy (λ item. (item.0, B.Units.units item.1)) indices_left };
+
+    ghost remaining = { item_count indices_left };
+
+    fn next(&mut self) -> Option<(usize, B::Units)> {
+        let (offset, segment, _) = self.segments.next()?;
+        Some((offset, segment))
+    }
+}
+
+/// The words of a text, each with the place where it begins and its type. After None it is None for ever.
+#[derive(Drop)]
+pub struct Words<B: BreakIterator<Mark = WordType>> {
+    segments: MarkedSegments<B>,
+}
+
+impl<B: BreakIterator<Mark = WordType>> Iterator for Words<B> {
+    type Item = (usize, B::Units, WordType);
+
+    ghost next_gives = { YieldsFirstBy (λ item. record { offset = item.0; units = B.Units.units item.1; mark = item.2 }) words_left };
+
+    ghost remaining = { item_count words_left };
+
+    fn next(&mut self) -> Option<(usize, B::Units, WordType)> {
+        'segments: while let Some((offset, word, word_type)) = self.segments.next() {
+            if word_type.is_word_like() {
+                return Some((offset, word, word_type));
+            }
+        }
+        None
+    }
+}

@@ -1,0 +1,104 @@
+//! The boundaries of clusters.
+
+ghost use Rattle.std.specs.Iterator.{YieldsFirst};
+ghost use Rattle.seg_text.specs.Latin1.{latin1};
+ghost use Rattle.seg_text.specs.Utf8.{utf8};
+ghost use Rattle.seg_text.specs.Utf16.{utf16};
+ghost use Rattle.seg_engine.specs.Rules.{boundaries_by};
+ghost use Rattle.seg_clusters.specs.Clusters.{cluster_finder, clusters_left};
+ghost use Rattle.icu_segmenter.specs.TextSegments.{marked, nothing};
+
+use crate::segments::BreakIterator;
+use seg_clusters::grapheme::GraphemeClusterBreakIterator;
+use seg_text::scaffold::{Latin1, PotentiallyIllFormedUtf8, RuleBreakType, Utf8, Utf16};
+
+// The next boundary of clusters, of which nothing is said.
+fn next_cluster<'s, Y: RuleBreakType<'s>>(
+    clusters: &mut GraphemeClusterBreakIterator<'_, 's, Y>,
+) -> Option<(usize, ())>
+    ensures { YieldsFirst (λ s. marked nothing (clusters_left s)) clusters.old result clusters.new }
+{
+    let place = clusters.next()?;
+    Some((place, ()))
+}
+
+impl<'data, 's> BreakIterator for GraphemeClusterBreakIterator<'data, 's, Utf8> {
+    type Units = &'s str;
+
+    type Mark = ();
+
+    ghost mark = { nothing };
+
+    ghost left = { λ clusters. clusters_left clusters };
+
+    ghost find = { λ clusters. boundaries_by (cluster_finder clusters) };
+
+    ghost decode = { λ text. utf8 text.now };
+
+    ghost places = { λ _ _ place. place };
+
+    fn next_break(&mut self) -> Option<(usize, ())> {
+        next_cluster(self)
+    }
+}
+
+impl<'data, 's> BreakIterator
+    for GraphemeClusterBreakIterator<'data, 's, PotentiallyIllFormedUtf8> {
+    type Units = &'s [u8];
+
+    type Mark = ();
+
+    ghost mark = { nothing };
+
+    ghost left = { λ clusters. clusters_left clusters };
+
+    ghost find = { λ clusters. boundaries_by (cluster_finder clusters) };
+
+    ghost decode = { λ bytes. utf8 bytes.now };
+
+    ghost places = { λ _ _ _. tt };
+
+    fn next_break(&mut self) -> Option<(usize, ())> {
+        next_cluster(self)
+    }
+}
+
+impl<'data, 's> BreakIterator for GraphemeClusterBreakIterator<'data, 's, Latin1> {
+    type Units = &'s [u8];
+
+    type Mark = ();
+
+    ghost mark = { nothing };
+
+    ghost left = { λ clusters. clusters_left clusters };
+
+    ghost find = { λ clusters. boundaries_by (cluster_finder clusters) };
+
+    ghost decode = { λ bytes. latin1 bytes.now };
+
+    ghost places = { λ _ _ _. tt };
+
+    fn next_break(&mut self) -> Option<(usize, ())> {
+        next_cluster(self)
+    }
+}
+
+impl<'data, 's> BreakIterator for GraphemeClusterBreakIterator<'data, 's, Utf16> {
+    type Units = &'s [u16];
+
+    type Mark = ();
+
+    ghost mark = { nothing };
+
+    ghost left = { λ clusters. clusters_left clusters };
+
+    ghost find = { λ clusters. boundaries_by (cluster_finder clusters) };
+
+    ghost decode = { λ units. utf16 units.now };
+
+    ghost places = { λ _ _ _. tt };
+
+    fn next_break(&mut self) -> Option<(usize, ())> {
+        next_cluster(self)
+    }
+}

@@ -1,0 +1,103 @@
+//! The boundaries of sentences.
+
+ghost use Rattle.std.specs.Iterator.{YieldsFirst};
+ghost use Rattle.seg_text.specs.Latin1.{latin1};
+ghost use Rattle.seg_text.specs.Utf8.{utf8};
+ghost use Rattle.seg_text.specs.Utf16.{utf16};
+ghost use Rattle.seg_engine.specs.Rules.{boundaries_by};
+ghost use Rattle.seg_clusters.specs.Sentences.{sentence_finder, sentences_left};
+ghost use Rattle.icu_segmenter.specs.TextSegments.{marked, nothing};
+
+use crate::segments::BreakIterator;
+use seg_clusters::sentence::SentenceBreakIterator;
+use seg_text::scaffold::{Latin1, PotentiallyIllFormedUtf8, RuleBreakType, Utf8, Utf16};
+
+// The next boundary of sentences, of which nothing is said.
+fn next_sentence<'s, Y: RuleBreakType<'s>>(
+    sentences: &mut SentenceBreakIterator<'_, 's, Y>,
+) -> Option<(usize, ())>
+    ensures { YieldsFirst (λ s. marked nothing (sentences_left s)) sentences.old result sentences.new }
+{
+    let place = sentences.next()?;
+    Some((place, ()))
+}
+
+impl<'data, 's> BreakIterator for SentenceBreakIterator<'data, 's, Utf8> {
+    type Units = &'s str;
+
+    type Mark = ();
+
+    ghost mark = { nothing };
+
+    ghost left = { λ sentences. sentences_left sentences };
+
+    ghost find = { λ sentences. boundaries_by (sentence_finder sentences) };
+
+    ghost decode = { λ text. utf8 text.now };
+
+    ghost places = { λ _ _ place. place };
+
+    fn next_break(&mut self) -> Option<(usize, ())> {
+        next_sentence(self)
+    }
+}
+
+impl<'data, 's> BreakIterator for SentenceBreakIterator<'data, 's, PotentiallyIllFormedUtf8> {
+    type Units = &'s [u8];
+
+    type Mark = ();
+
+    ghost mark = { nothing };
+
+    ghost left = { λ sentences. sentences_left sentences };
+
+    ghost find = { λ sentences. boundaries_by (sentence_finder sentences) };
+
+    ghost decode = { λ bytes. utf8 bytes.now };
+
+    ghost places = { λ _ _ _. tt };
+
+    fn next_break(&mut self) -> Option<(usize, ())> {
+        next_sentence(self)
+    }
+}
+
+impl<'data, 's> BreakIterator for SentenceBreakIterator<'data, 's, Latin1> {
+    type Units = &'s [u8];
+
+    type Mark = ();
+
+    ghost mark = { nothing };
+
+    ghost left = { λ sentences. sentences_left sentences };
+
+    ghost find = { λ sentences. boundaries_by (sentence_finder sentences) };
+
+    ghost decode = { λ bytes. latin1 bytes.now };
+
+    ghost places = { λ _ _ _. tt };
+
+    fn next_break(&mut self) -> Option<(usize, ())> {
+        next_sentence(self)
+    }
+}
+
+impl<'data, 's> BreakIterator for SentenceBreakIterator<'data, 's, Utf16> {
+    type Units = &'s [u16];
+
+    type Mark = ();
+
+    ghost mark = { nothing };
+
+    ghost left = { λ sentences. sentences_left sentences };
+
+    ghost find = { λ sentences. boundaries_by (sentence_finder sentences) };
+
+    ghost decode = { λ units. utf16 units.now };
+
+    ghost places = { λ _ _ _. tt };
+
+    fn next_break(&mut self) -> Option<(usize, ())> {
+        next_sentence(self)
+    }
+}

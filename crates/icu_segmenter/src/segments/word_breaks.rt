@@ -1,0 +1,111 @@
+//! The boundaries of words, each with the type of what ends there.
+
+ghost use Rattle.std.specs.Iterator.{YieldsFirst};
+ghost use Rattle.seg_text.specs.Latin1.{latin1};
+ghost use Rattle.seg_text.specs.Utf8.{utf8};
+ghost use Rattle.seg_text.specs.Utf16.{utf16};
+ghost use Rattle.seg_words.specs.WordRules.{type_of, word_boundaries_by};
+ghost use Rattle.seg_words.specs.Words.{word_finder, words_left};
+ghost use Rattle.icu_segmenter.specs.TextSegments.{marked};
+
+use crate::segments::{BreakIterator, WordBreaks};
+use seg_text::scaffold::{Latin1, PotentiallyIllFormedUtf8, RuleBreakType, Utf8, Utf16};
+use seg_words::word::{WordBreakIterator, WordType};
+
+// The next boundary of words, with the type of what ends there.
+fn next_word<'s, Y: RuleBreakType<'s>>(
+    words: &mut WordBreakIterator<'_, 's, Y>,
+) -> Option<(usize, WordType)>
+    ensures { YieldsFirst (λ s. marked type_of (words_left s)) words.old result words.new }
+{
+    let place = words.next()?;
+    Some((place, words.word_type()))
+}
+
+impl<'data, 's> BreakIterator for WordBreakIterator<'data, 's, Utf8> {
+    type Units = &'s str;
+
+    type Mark = WordType;
+
+    ghost mark = { type_of };
+
+    ghost left = { λ words. words_left words };
+
+    ghost find = { λ words. word_boundaries_by (word_finder words) };
+
+    ghost decode = { λ text. utf8 text.now };
+
+    ghost places = { λ _ _ place. place };
+
+    fn next_break(&mut self) -> Option<(usize, WordType)> {
+        next_word(self)
+    }
+}
+
+impl<'data, 's> BreakIterator for WordBreakIterator<'data, 's, PotentiallyIllFormedUtf8> {
+    type Units = &'s [u8];
+
+    type Mark = WordType;
+
+    ghost mark = { type_of };
+
+    ghost left = { λ words. words_left words };
+
+    ghost find = { λ words. word_boundaries_by (word_finder words) };
+
+    ghost decode = { λ bytes. utf8 bytes.now };
+
+    ghost places = { λ _ _ _. tt };
+
+    fn next_break(&mut self) -> Option<(usize, WordType)> {
+        next_word(self)
+    }
+}
+
+impl<'data, 's> BreakIterator for WordBreakIterator<'data, 's, Latin1> {
+    type Units = &'s [u8];
+
+    type Mark = WordType;
+
+    ghost mark = { type_of };
+
+    ghost left = { λ words. words_left words };
+
+    ghost find = { λ words. word_boundaries_by (word_finder words) };
+
+    ghost decode = { λ bytes. latin1 bytes.now };
+
+    ghost places = { λ _ _ _. tt };
+
+    fn next_break(&mut self) -> Option<(usize, WordType)> {
+        next_word(self)
+    }
+}
+
+impl<'data, 's> BreakIterator for WordBreakIterator<'data, 's, Utf16> {
+    type Units = &'s [u16];
+
+    type Mark = WordType;
+
+    ghost mark = { type_of };
+
+    ghost left = { λ words. words_left words };
+
+    ghost find = { λ words. word_boundaries_by (word_finder words) };
+
+    ghost decode = { λ units. utf16 units.now };
+
+    ghost places = { λ _ _ _. tt };
+
+    fn next_break(&mut self) -> Option<(usize, WordType)> {
+        next_word(self)
+    }
+}
+
+impl<'data, 's> WordBreaks for WordBreakIterator<'data, 's, Utf8> {}
+
+impl<'data, 's> WordBreaks for WordBreakIterator<'data, 's, PotentiallyIllFormedUtf8> {}
+
+impl<'data, 's> WordBreaks for WordBreakIterator<'data, 's, Latin1> {}
+
+impl<'data, 's> WordBreaks for WordBreakIterator<'data, 's, Utf16> {}
