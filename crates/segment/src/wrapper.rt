@@ -77,7 +77,6 @@ impl Wrapper {
 }
 
 // Adds a line, broken between clusters where it is wider than the columns.
-#[tactic(none)]
 fn push_broken(
     line: WrappedUtf8Line<'_>,
     clusters: &MachineLines,
