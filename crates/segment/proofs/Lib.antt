@@ -2,3 +2,6 @@ pub mod Segments
 pub mod Gathered
 pub mod Escaping
 pub mod Printed
+pub mod ShownLines
+pub mod ShownWide
+pub mod ByMachine

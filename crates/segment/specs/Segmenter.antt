@@ -3,7 +3,7 @@ use Rattle.std.specs.Prelude.{◌≡◌, ℕ, List}
 use Rattle.std.specs.Option.{option_map}
 use Rattle.icu_segmenter.specs.Boundaries.{offsets}
 use Rattle.icu_segmenter.specs.Clusters.{owned_cluster_rules}
-use Rattle.icu_segmenter.specs.LineBreaks.{line_boundaries_of, with_words as lines_with_words}
+use Rattle.icu_segmenter.specs.LineBreaks.{LineRules, line_boundaries_of, with_words as lines_with_words}
 use Rattle.icu_segmenter.specs.Lines.{chosen_rules, owned_line_rules, without_ja}
 use Rattle.icu_segmenter.specs.Options.{machine_choice}
 use Rattle.icu_segmenter.specs.Rules.{boundaries_of}
@@ -16,6 +16,7 @@ use Rattle.icu_segmenter.specs.Words.{owned_word_rules, with_types}
 use Rattle.icu_segmenter.specs.declared.options.LineBreakOptions.{LineBreakOptions}
 use Rattle.icu_segmenter_data.specs.Unicode.{cluster_machine, cluster_table, line_machine, line_tailorings, sentence_machine, word_machine}
 use Rattle.segment.specs.Output.{segments, words_alone}
+use Rattle.segment.specs.declared.command.Kind.{Kind}
 use Rattle.segment.specs.declared.command.Kind.TheVariants as kind
 use Rattle.segment.specs.declared.command.Request.{Request}
 use Rattle.segment.specs.declared.segmenter.Segmenter.{Segmenter}
@@ -35,12 +36,16 @@ AreOptions request options =
     (options.strictness ≡ request.strictness) × (options.word_option ≡ request.word_option)
     × (option_map (λ language. language.now) options.content_locale ≡ request.language)
 
--- a segmenter is the one that a request asks for: over Unicode's data, with the words of scripts
-abbrev pub IsAsked : Request → ScriptWords → Segmenter → Type 0
-IsAsked request words (Clusters clusters) = (request.kind ≡ kind.Clusters) × (owned_cluster_rules clusters ≡ ByMachine cluster_machine)
-IsAsked request words (Words segmenter) = (request.kind ≡ kind.Words) × (owned_word_rules segmenter ≡ machine_words word_machine cluster_table words)
-IsAsked request words (WordsAlone segmenter) = (request.kind ≡ kind.WordsAlone) × (owned_word_rules segmenter ≡ machine_words word_machine cluster_table words)
-IsAsked request words (Sentences sentences) = (request.kind ≡ kind.Sentences) × (owned_sentence_rules sentences ≡ ByMachine sentence_machine)
-IsAsked request words (Lines lines) =
-    (request.kind ≡ kind.Lines) × ((options : LineBreakOptions) × AreOptions request options
-    × (owned_line_rules lines ≡ lines_with_words (chosen_rules line_machine line_tailorings cluster_machine (machine_choice options)) (without_ja words)))
+-- the rules of lines that these options choose over Unicode's data, with the words of scripts
+abbrev pub rules_with : LineBreakOptions → ScriptWords → LineRules
+rules_with options words =
+    lines_with_words (chosen_rules line_machine line_tailorings cluster_machine (machine_choice options)) (without_ja words)
+
+-- a segmenter is the one of a kind that a request asks for: over Unicode's data, with the words of scripts
+abbrev pub IsAskedOf : Kind → Request → ScriptWords → Segmenter → Type 0
+IsAskedOf asked request words (Clusters clusters) = (asked ≡ kind.Clusters) × (owned_cluster_rules clusters ≡ ByMachine cluster_machine)
+IsAskedOf asked request words (Words segmenter) = (asked ≡ kind.Words) × (owned_word_rules segmenter ≡ machine_words word_machine cluster_table words)
+IsAskedOf asked request words (WordsAlone segmenter) = (asked ≡ kind.WordsAlone) × (owned_word_rules segmenter ≡ machine_words word_machine cluster_table words)
+IsAskedOf asked request words (Sentences sentences) = (asked ≡ kind.Sentences) × (owned_sentence_rules sentences ≡ ByMachine sentence_machine)
+IsAskedOf asked request words (Lines lines) =
+    (asked ≡ kind.Lines) × ((options : LineBreakOptions) × AreOptions request options × (owned_line_rules lines ≡ rules_with options words))

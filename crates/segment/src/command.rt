@@ -2,7 +2,7 @@
 
 use crate::output::Style;
 use anyhow::{Context, Result, bail, ensure};
-use clap::{Arg, ArgAction, ArgMatches, Command};
+use clap::{Arg, ArgAction, ArgMatches, Command, value_parser};
 use icu_segmenter::options::{LanguageIdentifier, LineBreakStrictness, LineBreakWordOption};
 use icu_segmenter::provider::ComplexScript;
 use std::alloc::{AllocError, Global};
@@ -31,15 +31,29 @@ pub enum Engine {
     Memoised,
 }
 
+/// How lines are wrapped.
+#[derive(Clone, Copy, Debug, PartialEq, Eq)]
+pub struct Width {
+    /// The columns that a line has at most, unless no line may end in it.
+    pub columns: usize,
+    /// Whether what is wider, and no line may end in it, is broken between clusters.
+    pub breaks_words: bool,
+}
+
+/// What is done to a text.
+#[derive(Clone, Copy)]
+pub enum Task {
+    /// It is cut into segments: what is found, how it is written, and what finds the boundaries.
+    Cut(Kind, Style, Engine),
+    /// Its lines are wrapped.
+    Wrap(Width),
+}
+
 /// What the command line asks for.
 #[derive(Drop)]
 pub struct Request<'a> {
-    /// What is found.
-    pub kind: Kind,
-    /// How segments are written.
-    pub style: Style,
-    /// What finds the boundaries.
-    pub engine: Engine,
+    /// What is done.
+    pub task: Task,
     /// Of lines, how strict they are.
     pub strictness: Option<LineBreakStrictness>,
     /// Of lines, whether they break within words.
@@ -50,7 +64,10 @@ pub struct Request<'a> {
     pub dictionary: Option<(&'a str, ComplexScript)>,
 }
 
-const KINDS: [&str; 4] = ["grapheme", "word", "sentence", "line"];
+const KINDS: [&str; 5] = ["grapheme", "word", "sentence", "line", "wrap"];
+
+// Of lines that are wrapped, where the command line says nothing.
+const DEFAULT_COLUMNS: usize = 80;
 
 const STRICTNESSES: [&str; 4] = ["loose", "normal", "strict", "anywhere"];
 
@@ -61,10 +78,11 @@ const SCRIPTS: [&str; 5] = ["thai", "lao", "khmer", "myanmar", "cj"];
 /// The arguments that there are. The only error is want of memory.
 pub fn command_line<'a>(alloc: Global) -> Result<Command<'a>, AllocError> {
     let command = Command::new(alloc, "segment").about(
-        "Cuts standard input (UTF-8) into segments, and writes each on a line of its own",
+        "Cuts standard input (UTF-8) into segments, and writes each on a line of its own, or wraps its lines",
     );
     let command = command
         .arg(kind_argument(alloc))?
+        .arg(columns_argument(alloc))?
         .arg(flag(
             alloc,
             "offsets",
@@ -80,7 +98,12 @@ pub fn command_line<'a>(alloc: Global) -> Result<Command<'a>, AllocError> {
             "words",
             "Of words: leave out what stands between them",
         ))?
-        .arg(memo_argument(alloc)?)?;
+        .arg(memo_argument(alloc)?)?
+        .arg(flag(
+            alloc,
+            "break-words",
+            "Of wrap: break what is wider than the columns between clusters",
+        ))?;
     let strictness = "Of lines: the property line-break of CSS";
     let word_break = "Of lines: the property word-break of CSS";
     let script = "The script of that dictionary";
@@ -97,6 +120,13 @@ fn kind_argument<'a>(alloc: Global) -> Arg<'a> {
         .required(true)
         .action(ArgAction::Set)
         .value_parser(KINDS.as_slice())
+}
+
+fn columns_argument<'a>(alloc: Global) -> Arg<'a> {
+    Arg::new(alloc, "columns")
+        .action(ArgAction::Set)
+        .value_parser(value_parser!(usize))
+        .help("Of wrap: the columns that a line has at most [default: 80]")
 }
 
 fn flag<'a>(alloc: Global, name: &'a str, help: &'a str) -> Arg<'a> {
@@ -141,9 +171,7 @@ pub fn request_of<'a>(matches: &ArgMatches<'a>) -> Result<Request<'a>> {
         _ => None,
     };
     let request = Request {
-        kind: kind_of(matches.get_str("kind"), matches.get_flag("words"))?,
-        style: style_of(matches.get_flag("offsets"), matches.get_flag("raw")),
-        engine: engine_of(matches.get_flag("memo")),
+        task: task_of(matches)?,
         strictness: matches.get_str("strictness").and_then(strictness_of),
         word_option: matches.get_str("word-break").and_then(word_option_of),
         language: language_of(matches.get_str("lang"))?,
@@ -153,10 +181,13 @@ pub fn request_of<'a>(matches: &ArgMatches<'a>) -> Result<Request<'a>> {
     Ok(request)
 }
 
-// The error is an option that its kind of segments doesn't have.
+// The error is an option that its task doesn't have.
 fn check(request: &Request<'_>) -> Result<()> {
-    let has_words = matches!(request.kind, Kind::Words | Kind::WordsAlone);
-    let has_lines = matches!(request.kind, Kind::Lines);
+    let (has_lines, has_words) = match request.task {
+        Task::Cut(Kind::Lines, ..) | Task::Wrap(_) => (true, true),
+        Task::Cut(Kind::Words | Kind::WordsAlone, ..) => (false, true),
+        Task::Cut(Kind::Clusters | Kind::Sentences, ..) => (false, false),
+    };
     let asks_lines = request.strictness.is_some()
         || request.word_option.is_some()
         || request.language.is_some();
@@ -165,10 +196,41 @@ fn check(request: &Request<'_>) -> Result<()> {
         "--strictness, --word-break and --lang are options of lines"
     );
     ensure!(
-        has_words || has_lines || request.dictionary.is_none(),
+        has_words || request.dictionary.is_none(),
         "--dictionary is an option of words and lines"
     );
     Ok(())
+}
+
+fn task_of(matches: &ArgMatches<'_>) -> Result<Task> {
+    match matches.get_str("kind") {
+        Some("wrap") => Ok(Task::Wrap(width_of(matches)?)),
+        kind => {
+            let columns = matches.get_one::<usize>("columns");
+            ensure!(
+                columns.is_none() && !matches.get_flag("break-words"),
+                "COLUMNS and --break-words are options of wrap"
+            );
+            Ok(Task::Cut(
+                kind_of(kind, matches.get_flag("words"))?,
+                style_of(matches.get_flag("offsets"), matches.get_flag("raw")),
+                engine_of(matches.get_flag("memo")),
+            ))
+        }
+    }
+}
+
+fn width_of(matches: &ArgMatches<'_>) -> Result<Width> {
+    for name in ["offsets", "raw", "words", "memo"] {
+        ensure!(
+            !matches.get_flag(name),
+            "--offsets, --raw, --words and --memo aren't options of wrap"
+        );
+    }
+    Ok(Width {
+        columns: matches.get_one("columns").unwrap_or(DEFAULT_COLUMNS),
+        breaks_words: matches.get_flag("break-words"),
+    })
 }
 
 fn kind_of(word: Option<&str>, is_alone: bool) -> Result<Kind> {

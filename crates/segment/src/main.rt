@@ -1,24 +1,28 @@
 //! Cuts standard input into grapheme clusters, words, sentences or lines, by the data of Unicode 15.0, and writes each segment on a
-//! line of its own.
+//! line of its own, or wraps its lines to columns.
 #![tactic(auto)]
 
 mod command;
-mod cut;
 mod dictionary;
 mod escapes;
 mod fault;
+mod job;
+mod machine_lines;
 mod memo;
 mod output;
+mod run;
 mod segmenter;
 #[cfg(test)]
 mod tests;
+mod wrapped;
+mod wrapper;
 
 use anyhow::{Context, Result};
 use command::{command_line, request_of};
-use cut::cut;
 use dictionary::dictionaries_of;
 use fault::Fault;
-use segmenter::segmenter_of;
+use job::job_of;
+use run::run;
 use std::env;
 use std::io::ErrorKind;
 use std::process::ExitCode;
@@ -35,16 +39,8 @@ fn main(rt: HostRuntime) -> Result<ExitCode> {
     };
     let request = request_of(&matches)?;
     let dictionaries = dictionaries_of(&rt, request.dictionary)?;
-    let segmenter = segmenter_of(alloc, &request, dictionaries)?;
-    let (style, engine) = (request.style, request.engine);
-    match cut(
-        alloc,
-        &segmenter,
-        style,
-        engine,
-        &mut rt.stdin(),
-        &mut rt.stdout(),
-    ) {
+    let job = job_of(alloc, &request, dictionaries)?;
+    match run(alloc, &job, &mut rt.stdin(), &mut rt.stdout()) {
         Ok(()) => Ok(ExitCode::SUCCESS),
         // Nobody reads on, so there is nothing more to do.
         Err(Fault::Write(error)) if error.kind() == ErrorKind::BrokenPipe => Ok(ExitCode::SUCCESS),

@@ -26,11 +26,11 @@ pub enum Style {
 // The longest number has 20 digits, and one byte stands after them.
 const NUMBER_LEN: usize = 21;
 
-// Lines are gathered until they have so many bytes, and then written, so that few writes reach the system.
-const LINES_LEN: usize = 65536;
+/// Lines are gathered until they have so many bytes, and then written, so that few writes reach the system.
+pub const LINES_LEN: usize = 65536;
 
-// Room for such lines and one more, unless that is a long one.
-const LINES_CAPACITY: usize = 69632;
+/// Room for such lines and one more, unless that is a long one.
+pub const LINES_CAPACITY: usize = 69632;
 
 /// Writes the segments between each two places that come, and flushes. The errors are the writer's, and want of memory.
 pub fn print_segments<N: Iterator<Item = usize> + Drop, O: Write>(
@@ -87,10 +87,11 @@ pub fn print_words<N: Iterator<Item = (usize, WordType)> + Drop, O: Write>(
     out.flush()
 }
 
-// Writes the lines that were gathered, and empties their vector. Apart, since an `io::Result` is wide.
+/// Writes the lines that were gathered, and empties their vector. The errors are the writer's.
+// Apart, since an `io::Result` is wide.
 #[cold]
 #[inline(never)]
-fn write_lines<O: Write>(lines: &mut Vec<u8>, out: &mut O) -> io::Result<()>
+pub fn write_lines<O: Write>(lines: &mut Vec<u8>, out: &mut O) -> io::Result<()>
     ensures { OnOk result ((lines.new.items ≡ []) × Appends (O.contents out.old) (O.contents out.new) lines.old.items) }
 {
     out.write_all(lines.as_slice())?;

@@ -2,15 +2,12 @@
 ghost use Rattle.std.specs.Prelude.{◌≡◌, IfOk, OnOk};
 ghost use Rattle.std.specs.Io.KnownBytes.{Appends};
 ghost use Rattle.segment.specs.Output.{lines_of};
-ghost use Rattle.icu_segmenter.specs.LineBreaks.{with_words};
-ghost use Rattle.icu_segmenter.specs.Lines.{chosen_rules, owned_line_rules, without_ja};
-ghost use Rattle.icu_segmenter.specs.Options.{machine_choice};
+ghost use Rattle.icu_segmenter.specs.Lines.{owned_line_rules};
 ghost use Rattle.icu_segmenter.specs.ScriptWords.{script_words};
 ghost use Rattle.icu_segmenter.specs.WordRules.{machine_words};
 ghost use Rattle.icu_segmenter.specs.Words.{owned_word_rules};
-ghost use Rattle.icu_segmenter.specs.declared.options.LineBreakOptions.{LineBreakOptions};
-ghost use Rattle.icu_segmenter_data.specs.Unicode.{cluster_machine, cluster_table, line_machine, line_tailorings, word_machine};
-ghost use Rattle.segment.specs.Segmenter.{segments_by, AreOptions, IsAsked};
+ghost use Rattle.icu_segmenter_data.specs.Unicode.{cluster_table, word_machine};
+ghost use Rattle.segment.specs.Segmenter.{segments_by, rules_with, AreOptions, IsAskedOf};
 
 use crate::command::{Kind, Request};
 use crate::output::{Style, print_segments, print_words};
@@ -76,15 +73,16 @@ impl Segmenter {
     }
 }
 
-/// The segmenter that is asked for, with these dictionaries where its kind has some. The error is want of memory.
+/// The segmenter of a kind that a request asks for, with these dictionaries where its kind has some. The error is want of memory.
 pub fn segmenter_of(
     alloc: Global,
+    kind: Kind,
     request: &Request<'_>,
     dictionaries: Dictionaries,
 ) -> Result<Segmenter>
-    ensures { IfOk result (λ segmenter. IsAsked request.now (script_words dictionaries) segmenter) }
+    ensures { IfOk result (λ segmenter. IsAskedOf kind request.now (script_words dictionaries) segmenter) }
 {
-    match request.kind {
+    match kind {
         Kind::Clusters => {
             let clusters = GraphemeClusterSegmenter::try_new_neo(cluster_machine(alloc)?)?;
             Ok(Segmenter::Clusters(clusters))
@@ -97,7 +95,10 @@ pub fn segmenter_of(
             let sentences = SentenceSegmenter::try_new_neo(machine, None, options)?;
             Ok(Segmenter::Sentences(sentences))
         }
-        Kind::Lines => Ok(Segmenter::Lines(line_segmenter(alloc, request, dictionaries)?)),
+        Kind::Lines => {
+            let lines = line_segmenter(alloc, options_of(request), dictionaries)?;
+            Ok(Segmenter::Lines(lines))
+        }
     }
 }
 
@@ -113,15 +114,14 @@ fn word_segmenter(alloc: Global, dictionaries: Dictionaries) -> Result<WordSegme
     Ok(words)
 }
 
-fn line_segmenter(
+/// A segmenter of lines by a machine, with these options and dictionaries. The error is want of memory.
+pub fn line_segmenter(
     alloc: Global,
-    request: &Request<'_>,
+    options: LineBreakOptions<'_>,
     dictionaries: Dictionaries,
 ) -> Result<LineSegmenter>
-    ensures { IfOk result (λ lines. (options : LineBreakOptions) × AreOptions request.now options
-        × (owned_line_rules lines ≡ with_words (chosen_rules line_machine line_tailorings cluster_machine (machine_choice options)) (without_ja (script_words dictionaries)))) }
+    ensures { IfOk result (λ lines. owned_line_rules lines ≡ rules_with options.entry (script_words dictionaries)) }
 {
-    let options = options_of(request);
     let mut lines = LineSegmenter::try_new_neo_for_non_complex_scripts(
         line_machine(alloc)?,
         line_tailorings(alloc)?,
@@ -132,8 +132,8 @@ fn line_segmenter(
     Ok(lines)
 }
 
-// The options of lines that are asked for.
-fn options_of<'r>(request: &'r Request<'_>) -> LineBreakOptions<'r>
+/// The options of lines that are asked for.
+pub fn options_of<'r>(request: &'r Request<'_>) -> LineBreakOptions<'r>
     ensures { AreOptions request.now result }
 {
     LineBreakOptions {

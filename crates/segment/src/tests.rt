@@ -1,10 +1,11 @@
 // Whole runs over texts in memory, by Unicode's data.
 use crate::command::{Engine, command_line, request_of};
-use crate::cut::cut;
 use crate::dictionary::{dictionary_of, with_dictionary};
 use crate::fault::Fault;
+use crate::job::{Job, job_of};
 use crate::output::Style;
-use crate::segmenter::{Segmenter, segmenter_of};
+use crate::run::run;
+use crate::segmenter::Segmenter;
 use anyhow::{Result, bail};
 use failing_io::{FailingReader, FailingWriter};
 use icu_segmenter::GraphemeClusterSegmenter;
@@ -24,10 +25,9 @@ fn output(
         bail!("usage")
     };
     let request = request_of(&matches)?;
-    let segmenter = segmenter_of(alloc, &request, dictionaries)?;
+    let job = job_of(alloc, &request, dictionaries)?;
     let (mut input, mut out) = (text, Vec::new(alloc));
-    let (style, engine) = (request.style, request.engine);
-    match cut(alloc, &segmenter, style, engine, &mut input, &mut out) {
+    match run(alloc, &job, &mut input, &mut out) {
         Ok(()) => Ok(out),
         Err(_) => bail!("a fault"),
     }
@@ -99,11 +99,75 @@ fn cuts_by_a_dictionary(rt: HostRuntime) {
 }
 
 #[test]
+fn wraps_lines(rt: HostRuntime) {
+    for (words, text, lines) in [
+        (
+            ["segment", "wrap", "19"].as_slice(),
+            "The quick brown fox jumps over the lazy dog.\r\n\nA  cat  ".as_bytes(),
+            "The quick brown fox\njumps over the lazy\ndog.\n\nA  cat\n".as_bytes(),
+        ),
+        // 80 columns, and then 81.
+        (
+            &["segment", "wrap"],
+            b"aaaaaaaaa bbbbbbbbb ccccccccc ddddddddd eeeeeeeee fffffffff ggggggggg hhhhhhhhhh \
+aaaaaaaaa bbbbbbbbb ccccccccc ddddddddd eeeeeeeee fffffffff ggggggggg hhhhhhhhhhh",
+            b"aaaaaaaaa bbbbbbbbb ccccccccc ddddddddd eeeeeeeee fffffffff ggggggggg hhhhhhhhhh\n\
+aaaaaaaaa bbbbbbbbb ccccccccc ddddddddd eeeeeeeee fffffffff ggggggggg\nhhhhhhhhhhh\n",
+        ),
+        (
+            &["segment", "wrap", "7"],
+            "ภาษาไทยภาษาไทย".as_bytes(),
+            "ภาษาไทย\nภาษาไทย\n".as_bytes(),
+        ),
+        (
+            &["segment", "wrap", "2", "--strictness=strict"],
+            "我们去北京。".as_bytes(),
+            "我\n们\n去\n北\n京。\n".as_bytes(),
+        ),
+        (
+            &["segment", "wrap", "6"],
+            "👨‍👩‍👧 🇻🇳 🇹🇭".as_bytes(),
+            "👨‍👩‍👧\n🇻🇳 🇹🇭\n".as_bytes(),
+        ),
+        (
+            &["segment", "wrap", "12"],
+            "Xin cha\u{300}o the\u{302}\u{301} gio\u{31b}\u{301}i".as_bytes(),
+            "Xin cha\u{300}o the\u{302}\u{301}\ngio\u{31b}\u{301}i\n".as_bytes(),
+        ),
+        (
+            &["segment", "wrap", "3"],
+            b"a\xFFb \xC2 c",
+            b"a\xFFb\n\xC2 c\n",
+        ),
+        (&["segment", "wrap", "2"], b"fluent a b", b"fluent\na\nb\n"),
+        (
+            &["segment", "wrap", "2", "--break-words"],
+            "fluent e\u{301}e\u{301}e\u{301}👨‍👩‍👧".as_bytes(),
+            "fl\nue\nnt\ne\u{301}e\u{301}\ne\u{301}\n👨‍👩‍👧\n".as_bytes(),
+        ),
+        (
+            &["segment", "wrap", "--break-words", "0"],
+            "flux \ne\u{301}".as_bytes(),
+            "f\nl\nu\nx\ne\u{301}\n".as_bytes(),
+        ),
+    ] {
+        let dictionary = dictionary_of(rt.alloc(), "ภาษา\nไทย").expect(&rt, "memory");
+        let dictionaries = with_dictionary(ComplexScript::Thai, dictionary);
+        let out = output(rt.alloc(), words, dictionaries, text);
+        assert!(rt; out.is_ok_and(|out| out.as_slice() == lines), "{words:?}");
+    }
+}
+
+#[test]
 fn refuses_options_of_another_kind(rt: HostRuntime) {
     for (kind, option) in [
         ("grapheme", "--words"),
         ("word", "--lang=ja"),
         ("none", "--raw"),
+        ("line", "--break-words"),
+        ("line", "80"),
+        ("wrap", "--raw"),
+        ("wrap", "-1"),
     ] {
         let out = output(
             rt.alloc(),
@@ -125,15 +189,15 @@ fn refuses_options_of_another_kind(rt: HostRuntime) {
     assert!(rt; dictionary_of(rt.alloc(), " \n").is_err());
 }
 
-// A segmenter of clusters.
-fn clusters(alloc: Global) -> Result<Segmenter> {
+// Clusters as they are.
+fn clusters(alloc: Global, engine: Engine) -> Result<Job> {
     let clusters = GraphemeClusterSegmenter::try_new_neo(cluster_machine(alloc)?)?;
-    Ok(Segmenter::Clusters(clusters))
+    Ok(Job::Cut(Segmenter::Clusters(clusters), Style::Raw, engine))
 }
 
 #[test]
 fn says_that_a_writer_fails(rt: HostRuntime) {
-    let segmenter = clusters(rt.alloc()).expect(&rt, "memory");
+    let job = clusters(rt.alloc(), Engine::Plain).expect(&rt, "memory");
     // Its lines have 80,000 bytes, which are written in two pieces.
     let text = [b'a'; 40_000];
     for (room, can_flush, fails) in [
@@ -143,15 +207,7 @@ fn says_that_a_writer_fails(rt: HostRuntime) {
         (3, true, true),
     ] {
         let mut out = FailingWriter { room, can_flush };
-        let (mut input, engine) = (text.as_slice(), Engine::Plain);
-        let ended = cut(
-            rt.alloc(),
-            &segmenter,
-            Style::Raw,
-            engine,
-            &mut input,
-            &mut out,
-        );
+        let ended = run(rt.alloc(), &job, &mut text.as_slice(), &mut out);
         assert_eq!(rt; matches!(ended, Err(Fault::Write(_))), fails);
         assert_eq!(rt; ended.is_ok(), !fails);
     }
@@ -159,21 +215,13 @@ fn says_that_a_writer_fails(rt: HostRuntime) {
 
 #[test]
 fn says_that_a_reader_fails(rt: HostRuntime) {
-    let segmenter = clusters(rt.alloc()).expect(&rt, "memory");
+    let job = clusters(rt.alloc(), Engine::Memoised).expect(&rt, "memory");
     let mut input = FailingReader {
         left: 3,
         kind: ErrorKind::TimedOut,
     };
     let mut out = Vec::new(rt.alloc());
-    let engine = Engine::Memoised;
-    let ended = cut(
-        rt.alloc(),
-        &segmenter,
-        Style::Raw,
-        engine,
-        &mut input,
-        &mut out,
-    );
+    let ended = run(rt.alloc(), &job, &mut input, &mut out);
     assert!(rt; matches!(ended, Err(Fault::Read(_))));
     assert!(rt; out.is_empty());
 }

@@ -11,15 +11,11 @@ use Rattle.segment.proofs.segmenter.line_segmenter.Goals as goal
 
 pub returns : goal.returns
 returns c =
-    let options = c.options_of-options.result in
-    let choice = machine_choice options in
+    let choice = machine_choice c.args.options in
     let made : owned_line_rules c.in_ok-lines.lines ≡ chosen_rules line_machine line_tailorings cluster_machine choice =
     c.in_ok-lines.ensures.accepted.0
     ∙ ap (λ (m : Machine). chosen_rules m c.in_ok-line_tailorings.field-0 c.in_ok-cluster_machine.field-0 choice) c.in_ok-line_machine.ensures
     ∙ ap (λ (maps : MachineTailorings). chosen_rules line_machine maps c.in_ok-cluster_machine.field-0 choice) c.in_ok-line_tailorings.ensures
-    ∙ ap (λ (m : Machine). chosen_rules line_machine line_tailorings m choice) c.in_ok-cluster_machine.ensures in (
-      options,
-      c.options_of-options.ensures,
-      c.load_dictionary.ensures
-          ∙ ap (λ (rules : LineRules). with_words rules (filled rules.payloads.words (without_ja (script_words c.args.dictionaries)))) made,
-    )
+    ∙ ap (λ (m : Machine). chosen_rules line_machine line_tailorings m choice) c.in_ok-cluster_machine.ensures in
+    c.load_dictionary.ensures
+    ∙ ap (λ (rules : LineRules). with_words rules (filled rules.payloads.words (without_ja (script_words c.args.dictionaries)))) made

@@ -2,39 +2,39 @@
 ghost use Rattle.std.specs.Prelude.{◌≡◌, IfErr, IfOk, IfSome, OnOk};
 ghost use Rattle.std.specs.Io.KnownBytes.{Appends, IsAtEnd};
 ghost use Rattle.segment.specs.Fault.{IsBeforeWriting};
-ghost use Rattle.segment.specs.Output.{lines_of};
-ghost use Rattle.segment.specs.Segmenter.{segments_by};
+ghost use Rattle.segment.specs.Job.{output_of};
 
 use crate::command::Engine;
 use crate::fault::Fault;
+use crate::job::Job;
 use crate::memo::print_by_memo;
-use crate::output::Style;
-use crate::segmenter::Segmenter;
 use std::alloc::Global;
 use std::io::{Read, Write};
 
-/// Writes each segment of what a reader has on a line of its own; what is written doesn't depend on the engine. The errors are those
-/// of the reader and of the memoised engine, which are met before anything is written, and of the writer.
-pub fn cut<I: Read, O: Write>(
+/// Does to what a reader has what a job says, and writes it: each segment on a line of its own, or the wrapped lines. What is written
+/// doesn't depend on the engine. The errors are those of the reader and of the memoised engine, which are met before anything is
+/// written, and of the writer.
+pub fn run<I: Read, O: Write>(
     alloc: Global,
-    segmenter: &Segmenter,
-    style: Style,
-    engine: Engine,
+    job: &Job,
     input: &mut I,
     out: &mut O,
 ) -> Result<(), Fault>
     ensures read_all { OnOk result (IsAtEnd (I.remaining input.new)) }
     ensures written { OnOk result (IfSome (I.remaining input.old) (λ bytes.
-        Appends (O.contents out.old) (O.contents out.new) (lines_of style bytes (segments_by segmenter.now bytes)))) }
+        Appends (O.contents out.old) (O.contents out.new) (output_of job.now bytes))) }
     ensures unwritten { IfErr result (λ fault. IsBeforeWriting fault → out.new ≡ out.old) }
 {
     let text = read_text(alloc, input)?;
     let text = text.as_slice();
-    match engine {
-        Engine::Plain => segmenter
-            .print(alloc, text, style, out)
+    match job {
+        Job::Cut(segmenter, style, Engine::Plain) => segmenter
+            .print(alloc, text, *style, out)
             .map_err(Fault::Write),
-        Engine::Memoised => print_by_memo(alloc, segmenter, text, style, out),
+        Job::Cut(segmenter, style, Engine::Memoised) => {
+            print_by_memo(alloc, segmenter, text, *style, out)
+        }
+        Job::Wrap(wrapper) => wrapper.print(alloc, text, out).map_err(Fault::Write),
     }
 }
 

@@ -1,0 +1,46 @@
+-- What is written of a text whose lines are wrapped.
+use Rattle.std.specs.Prelude.{ℕ, ◌-◌, nat_lt, Option, None, Some, List, [], ◌∷◌, ◌++◌, length, take, if◌then◌else◌}
+use Rattle.std.specs.List.{flat_map, suffix_len}
+use Rattle.icu_segmenter.specs.LineBreaks.{LineRules}
+use Rattle.icu_segmenter.specs.LineBreaks.LineFinder.{ByClusters}
+use Rattle.icu_segmenter.specs.Rules.Rules.{ByMachine}
+use Rattle.icu_segmenter.specs.ScriptWords.{no_words}
+use Rattle.icu_segmenter.specs.Wrapping.{TextLine, hangs}
+use Rattle.icu_segmenter.specs.WrappedLines.{wrapped_text}
+use Rattle.icu_segmenter_data.specs.Unicode.{cluster_machine}
+
+-- the bytes of a line without those of the characters that hang at its end, which have one byte each
+abbrev pub without_hanging : List ℕ → List ℕ
+without_hanging bytes = take (length bytes - suffix_len hangs bytes) bytes
+
+-- a line, and a line feed
+abbrev pub printed_line : List ℕ → List ℕ
+printed_line bytes = without_hanging bytes ++ 10 ∷ []
+
+abbrev pub printed_lines : List TextLine → List ℕ
+printed_lines lines = flat_map (λ line. printed_line line.units) lines
+
+-- how lines are wrapped: to so many columns, at the breaks of some rules, and by which rules those that are wider are broken, if they are
+pub record Wrapping : Type 0 where
+  pub columns : ℕ
+  pub lines : LineRules
+  pub broken : Option LineRules
+
+-- lines that may end at each boundary of a cluster
+abbrev pub cluster_lines : LineRules
+cluster_lines = record { finder = ByClusters; payloads = record { words = no_words; clusters = ByMachine cluster_machine } }
+
+-- the lines that a wrapped line is shown as: where it is wider than the columns, without what hangs at its end, wrapped once more, if such lines are broken
+abbrev pub shown_as : Option LineRules → ℕ → TextLine → List TextLine
+shown_as None columns line = line ∷ []
+shown_as (Some rules) columns line = if nat_lt columns line.columns then wrapped_text rules columns (without_hanging line.units) else line ∷ []
+
+abbrev pub shown_line : Wrapping → TextLine → List ℕ
+shown_line wrapping line = printed_lines (shown_as wrapping.broken wrapping.columns line)
+
+abbrev pub shown_lines : Wrapping → List TextLine → List ℕ
+shown_lines wrapping lines = flat_map (shown_line wrapping) lines
+
+-- what is written of some bytes: their wrapped lines, each as it is shown
+abbrev pub wrapped_output : Wrapping → List ℕ → List ℕ
+wrapped_output wrapping bytes = shown_lines wrapping (wrapped_text wrapping.lines wrapping.columns bytes)
