@@ -14,7 +14,9 @@ use Rattle.icu_segmenter.specs.Utf8.{utf8}
 use Rattle.icu_segmenter.specs.WordRules.{machine_words, word_boundaries_of}
 use Rattle.icu_segmenter.specs.Words.{owned_word_rules, with_types}
 use Rattle.icu_segmenter.specs.declared.options.LineBreakOptions.{LineBreakOptions}
-use Rattle.icu_segmenter_data.specs.Unicode.{cluster_machine, cluster_table, line_machine, line_tailorings, sentence_machine, word_machine}
+use Rattle.icu_segmenter_data.specs.Unicode.{cluster_machine, cluster_table, line_machine, line_tailorings, word_machine}
+use Rattle.icu_segmenter_uax29.specs.Clusters.{cluster_machine as proved_clusters}
+use Rattle.icu_segmenter_uax29.specs.Sentences.{sentence_machine as proved_sentences}
 use Rattle.segment.specs.Output.{segments, words_alone}
 use Rattle.segment.specs.declared.command.Kind.{Kind}
 use Rattle.segment.specs.declared.command.Kind.TheVariants as kind
@@ -43,9 +45,9 @@ rules_with options words =
 
 -- a segmenter is the one of a kind that a request asks for: over Unicode's data, with the words of scripts
 abbrev pub IsAskedOf : Kind → Request → ScriptWords → Segmenter → Type 0
-IsAskedOf asked request words (Clusters clusters) = (asked ≡ kind.Clusters) × (owned_cluster_rules clusters ≡ ByMachine cluster_machine)
+IsAskedOf asked request words (Clusters clusters) = (asked ≡ kind.Clusters) × (owned_cluster_rules clusters ≡ ByMachine proved_clusters)
 IsAskedOf asked request words (Words segmenter) = (asked ≡ kind.Words) × (owned_word_rules segmenter ≡ machine_words word_machine cluster_table words)
 IsAskedOf asked request words (WordsAlone segmenter) = (asked ≡ kind.WordsAlone) × (owned_word_rules segmenter ≡ machine_words word_machine cluster_table words)
-IsAskedOf asked request words (Sentences sentences) = (asked ≡ kind.Sentences) × (owned_sentence_rules sentences ≡ ByMachine sentence_machine)
+IsAskedOf asked request words (Sentences sentences) = (asked ≡ kind.Sentences) × (owned_sentence_rules sentences ≡ ByMachine proved_sentences)
 IsAskedOf asked request words (Lines lines) =
     (asked ≡ kind.Lines) × ((options : LineBreakOptions) × AreOptions request options × (owned_line_rules lines ≡ rules_with options words))

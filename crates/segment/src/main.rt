@@ -12,8 +12,6 @@ mod memo;
 mod output;
 mod run;
 mod segmenter;
-#[cfg(test)]
-mod tests;
 mod wrapped;
 mod wrapper;
 

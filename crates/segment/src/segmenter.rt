@@ -12,12 +12,10 @@ ghost use Rattle.segment.specs.Segmenter.{segments_by, rules_with, AreOptions, I
 use crate::command::{Kind, Request};
 use crate::output::{Style, print_segments, print_words};
 use anyhow::Result;
-use icu_segmenter::options::{LineBreakOptions, SentenceBreakOptions, WordBreakOptions};
+use icu_segmenter::options::LineBreakOptions;
 use icu_segmenter::provider::Dictionaries;
 use icu_segmenter::{GraphemeClusterSegmenter, LineSegmenter, SentenceSegmenter, WordSegmenter};
-use icu_segmenter_data::{
-    cluster_machine, cluster_table, line_machine, line_tailorings, sentence_machine, word_machine,
-};
+use icu_segmenter_data::{grapheme_segmenter, sentence_segmenter};
 use std::alloc::Global;
 use std::io;
 use std::io::Write;
@@ -83,18 +81,10 @@ pub fn segmenter_of(
     ensures { IfOk result (λ segmenter. IsAskedOf kind request.now (script_words dictionaries) segmenter) }
 {
     match kind {
-        Kind::Clusters => {
-            let clusters = GraphemeClusterSegmenter::try_new_neo(cluster_machine(alloc)?)?;
-            Ok(Segmenter::Clusters(clusters))
-        }
+        Kind::Clusters => Ok(Segmenter::Clusters(grapheme_segmenter(alloc)?)),
         Kind::Words => Ok(Segmenter::Words(word_segmenter(alloc, dictionaries)?)),
         Kind::WordsAlone => Ok(Segmenter::WordsAlone(word_segmenter(alloc, dictionaries)?)),
-        Kind::Sentences => {
-            let options = SentenceBreakOptions::default();
-            let machine = sentence_machine(alloc)?;
-            let sentences = SentenceSegmenter::try_new_neo(machine, None, options)?;
-            Ok(Segmenter::Sentences(sentences))
-        }
+        Kind::Sentences => Ok(Segmenter::Sentences(sentence_segmenter(alloc)?)),
         Kind::Lines => {
             let lines = line_segmenter(alloc, options_of(request), dictionaries)?;
             Ok(Segmenter::Lines(lines))
@@ -105,11 +95,7 @@ pub fn segmenter_of(
 fn word_segmenter(alloc: Global, dictionaries: Dictionaries) -> Result<WordSegmenter>
     ensures { IfOk result (λ words. owned_word_rules words ≡ machine_words word_machine cluster_table (script_words dictionaries)) }
 {
-    let mut words = WordSegmenter::try_new_neo_for_non_complex_scripts(
-        word_machine(alloc)?,
-        cluster_table(alloc)?,
-        WordBreakOptions::default(),
-    )?;
+    let mut words = icu_segmenter_data::word_segmenter(alloc)?;
     words.load_dictionary(dictionaries);
     Ok(words)
 }
@@ -122,12 +108,7 @@ pub fn line_segmenter(
 ) -> Result<LineSegmenter>
     ensures { IfOk result (λ lines. owned_line_rules lines ≡ rules_with options.entry (script_words dictionaries)) }
 {
-    let mut lines = LineSegmenter::try_new_neo_for_non_complex_scripts(
-        line_machine(alloc)?,
-        line_tailorings(alloc)?,
-        cluster_machine(alloc)?,
-        options,
-    )?;
+    let mut lines = icu_segmenter_data::line_segmenter(alloc, options)?;
     lines.load_dictionary(dictionaries);
     Ok(lines)
 }
