@@ -1,9 +1,10 @@
-//! Extended grapheme clusters, of which it is proved that they are those of UAX #29, as it is in Unicode 18.0.
+//! Extended grapheme clusters, words and sentences, of which it is proved that they are those of UAX #29, as it is in Unicode 18.0.
 //!
-//! The rules are those of the crate `unicode_segmentation`, which states GB1 to GB999 as a relation between what stands before a
-//! place and what stands after it. Here they are a state machine: arrays that `generate/generate.py` writes, and that the
-//! segmenters of `icu_segmenter` read, in the time of any machine. Nothing of the arrays is trusted: it is proved of
-//! every code point that its symbol stands for its properties, and of the machine that its boundaries are those of the rules.
+//! The rules are those of the crate `unicode_segmentation`, which states GB1 to GB999, WB1 to WB999 and SB1 to SB998 as relations
+//! between what stands before a place and what stands after it. Here they are state machines: arrays that `generate/generate.py`
+//! writes, and that the segmenters of `icu_segmenter` read, in the time of any machine. Nothing of the arrays is trusted: it is
+//! proved of every code point that its symbol stands for its properties, and of each machine that its boundaries are those of the
+//! rules.
 #![tactic(auto)]
 
 pub mod laws;
