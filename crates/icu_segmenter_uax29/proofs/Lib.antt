@@ -30,3 +30,5 @@ mod WordTables
 mod WordContexts
 mod WordWalks
 mod WordFaults
+mod WordSequences
+mod SentenceSequences

@@ -117,7 +117,7 @@ joins-left : (far : Far) (left right far_right : WordBreak) → joins_by far lef
 joins-left far ALetter right far_right = refl
 joins-left far _ right far_right = refl
 
-joins-ahead : (far : Far) (left right far_right : WordBreak) → joins_by far left right far_right ≡ joins_by far left right (kind_of far_right)
+pub joins-ahead : (far : Far) (left right far_right : WordBreak) → joins_by far left right far_right ≡ joins_by far left right (kind_of far_right)
 joins-ahead far left right ALetter = refl
 joins-ahead far left right _ = refl
 

@@ -36,7 +36,7 @@ abbrev pub expected : ℕ → Option ℕ → WordBreak → Bool
 expected q next ahead = accepting q && option_map_or (λ t. not (accepting t) && not (meets_kind t ahead)) next true
 
 -- each kind of value passes
-abbrev for_kinds : (WordBreak → Bool) → Bool
+abbrev pub for_kinds : (WordBreak → Bool) → Bool
 for_kinds passes = passes Other && (passes ALetter && (passes HebrewLetter && (passes Numeric && (passes Katakana && passes ExtendNumLet))))
 
 -- each group passes that may stand last in a state: that of the state, and in a wait ZWJ
@@ -139,7 +139,7 @@ unmet = refl
 
 -- ---- the same for each state, symbol and kind
 
-for-kinds : (passes : WordBreak → Bool) → for_kinds passes ≡ true → (value : WordBreak) → passes (kind_of value) ≡ true
+pub for-kinds : (passes : WordBreak → Bool) → for_kinds passes ≡ true → (value : WordBreak) → passes (kind_of value) ≡ true
 for-kinds passes h value =
     let one = and_parts (passes Other) _ h in
     let two = and_parts (passes ALetter) _ one.1 in

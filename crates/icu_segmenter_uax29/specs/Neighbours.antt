@@ -3,6 +3,9 @@ use Rattle.std.specs.Prelude.{◌≡◌, ℕ, ◌⊎◌, false, List, [], ◌∷
 use Rattle.ucd_breaks.specs.GraphemeClusterBreak.{grapheme_cluster_break}
 use Rattle.ucd_breaks.specs.declared.GraphemeClusterBreak.{GraphemeClusterBreak}
 use Rattle.ucd_breaks.specs.declared.GraphemeClusterBreak.TheVariants.{Extend, L, Lv, Lvt, Prepend, RegionalIndicator, SpacingMark, T, V, Other, Zwj}
+use Rattle.ucd_breaks.specs.WordBreak.{word_break}
+use Rattle.ucd_breaks.specs.declared.WordBreak.{WordBreak}
+use Rattle.ucd_breaks.specs.declared.WordBreak.TheVariants as Wb
 use Rattle.ucd_derived.specs.IndicConjunctBreak.{indic_conjunct_break}
 use Rattle.ucd_derived.specs.declared.IndicConjunctBreak.TheVariants as InCb
 use Rattle.unicode_segmentation.specs.Grapheme.{ends_in_half_flag}
@@ -50,3 +53,30 @@ IsSentenceBoundary before after = Contains (offsets (machine_boundaries sentence
 -- a boundary of words stands between two parts of a text
 abbrev pub IsWordBoundary : List ℕ → List ℕ → Type 0
 IsWordBoundary before after = Contains (offsets (machine_boundaries word_machine (before ++ after))) (length before)
+
+-- no boundary of words does, and none of sentences
+abbrev pub IsWordJoined : List ℕ → List ℕ → Type 0
+IsWordJoined before after = IsWordBoundary before after → ⊥
+
+abbrev pub IsSentenceJoined : List ℕ → List ℕ → Type 0
+IsSentenceJoined before after = IsSentenceBoundary before after → ⊥
+
+-- whatever text they stand in, no boundary of words stands between a code point with one of these values and a next one with one of those
+abbrev pub WordsStayTogether : (lasts nexts : List WordBreak) → Type 0
+WordsStayTogether lasts nexts =
+    (before after : List ℕ) (last next : ℕ) → Contains lasts (word_break last) → Contains nexts (word_break next)
+    → IsWordJoined (before ++ last ∷ []) (next ∷ after)
+
+-- nor between three code points with one of these values, one of those in the middle, and one of these again
+abbrev pub WordsHoldTogether : (ends middles : List WordBreak) → Type 0
+WordsHoldTogether ends middles =
+    (before after : List ℕ) (first middle last : ℕ)
+    → Contains ends (word_break first) → Contains middles (word_break middle) → Contains ends (word_break last)
+    → IsWordJoined (before ++ first ∷ []) (middle ∷ last ∷ after)
+    × IsWordJoined ((before ++ first ∷ []) ++ middle ∷ []) (last ∷ after)
+
+-- all values but those of ends of lines
+abbrev pub all_but_line_ends : List WordBreak
+all_but_line_ends =
+    Wb.DoubleQuote ∷ Wb.ExtendNumLet ∷ Wb.Extend ∷ Wb.Format ∷ Wb.HebrewLetter ∷ Wb.Katakana ∷ Wb.ALetter ∷ Wb.MidNumLet ∷ Wb.MidLetter ∷ Wb.MidNum ∷ Wb.Numeric
+    ∷ Wb.RegionalIndicator ∷ Wb.SingleQuote ∷ Wb.WSegSpace ∷ Wb.Other ∷ Wb.Zwj ∷ []

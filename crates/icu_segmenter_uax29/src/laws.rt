@@ -1,18 +1,21 @@
 //! Laws of the machines' boundaries, of every list of code points. So they hold of texts in every encoding, in code points.
-ghost use Rattle.std.specs.Prelude.{◌≡◌, ◌↔◌, ℕ, true, List, [], ◌∷◌, ◌++◌, reverse};
+ghost use Rattle.std.specs.Prelude.{◌≡◌, ◌⊎◌, ◌↔◌, ℕ, true, List, [], ◌∷◌, ◌++◌, reverse};
 ghost use Rattle.ucd_breaks.specs.GraphemeClusterBreak.{grapheme_cluster_break};
 ghost use Rattle.ucd_breaks.specs.declared.GraphemeClusterBreak.TheVariants.{Cr, Extend, L, Lf, Lv, Lvt, Prepend, RegionalIndicator, SpacingMark, T, V, Zwj};
+ghost use Rattle.ucd_breaks.specs.SentenceBreak.{sentence_break};
+ghost use Rattle.ucd_breaks.specs.declared.SentenceBreak.TheVariants as Sb;
+ghost use Rattle.ucd_breaks.specs.declared.WordBreak.TheVariants as Wb;
 ghost use Rattle.ucd_derived.specs.IndicConjunctBreak.{indic_conjunct_break};
 ghost use Rattle.ucd_derived.specs.declared.IndicConjunctBreak.TheVariants as InCb;
 ghost use Rattle.ucd_emoji.specs.Binary.{is_extended_pictographic};
 ghost use Rattle.unicode_segmentation.specs.Grapheme.{is_grapheme_break};
-ghost use Rattle.unicode_segmentation.specs.Sentence.{is_sentence_break};
+ghost use Rattle.unicode_segmentation.specs.Sentence.{before_close_sp, is_para_sep, is_sa_term, is_sentence_break, significant};
 ghost use Rattle.unicode_segmentation.specs.Word.{is_word_break};
 ghost use Rattle.seg_text.specs.Boundaries.{offsets};
 ghost use Rattle.seg_machine.specs.Machine.{symbol_and_script};
 ghost use Rattle.seg_machine.specs.Segments.{machine_boundaries};
 ghost use Rattle.icu_segmenter_uax29.specs.Clusters.{cluster_machine, clusters};
-ghost use Rattle.icu_segmenter_uax29.specs.Neighbours.{IsBoundary, IsJoined, IsSentenceBoundary, IsWordBoundary, StayTogether, all_but_controls, EndsInWholeFlags, AllExtend, AllInConjunct};
+ghost use Rattle.icu_segmenter_uax29.specs.Neighbours.{IsBoundary, IsJoined, IsSentenceBoundary, IsSentenceJoined, IsWordBoundary, WordsHoldTogether, WordsStayTogether, all_but_line_ends, StayTogether, all_but_controls, EndsInWholeFlags, AllExtend, AllInConjunct};
 ghost use Rattle.icu_segmenter_uax29.specs.Pieces.{piece_bounds};
 ghost use Rattle.icu_segmenter_uax29.specs.Properties.{HasProperties};
 ghost use Rattle.icu_segmenter_uax29.specs.SentenceValues.{HasSentenceBreak};
@@ -94,4 +97,48 @@ pub fn word_symbols_are_properties()
 pub fn words_are_uax29()
     ensures words { (code_points : List ℕ) → offsets (machine_boundaries word_machine code_points) ≡ piece_bounds (words code_points) }
     ensures places { (before after : List ℕ) → IsWordBoundary before after ↔ (is_word_break (reverse before) after ≡ true) }
+{}
+
+/// Law: no boundary of words parts CR LF, nor spaces from one another.
+pub fn line_ends_and_spaces_stay()
+    ensures line_ends { WordsStayTogether (Wb.Cr ∷ []) (Wb.Lf ∷ []) }
+    ensures spaces { WordsStayTogether (Wb.WSegSpace ∷ []) (Wb.WSegSpace ∷ []) }
+{}
+
+/// Law: what extends or formats a character stays in its word.
+pub fn marks_stay_in_words()
+    ensures { WordsStayTogether all_but_line_ends (Wb.Extend ∷ Wb.Format ∷ Wb.Zwj ∷ []) }
+{}
+
+/// Law: no boundary of words stands between letters, digits and what joins them, as the low line.
+pub fn letters_and_digits_stay()
+    ensures { WordsStayTogether (Wb.ALetter ∷ Wb.HebrewLetter ∷ Wb.Numeric ∷ Wb.ExtendNumLet ∷ [])
+        (Wb.ALetter ∷ Wb.HebrewLetter ∷ Wb.Numeric ∷ Wb.ExtendNumLet ∷ []) }
+{}
+
+/// Law: no boundary of words stands beside a mark between two letters, as in `can't`, or between two digits, as in `3.14`.
+pub fn marks_between_stay()
+    ensures letters { WordsHoldTogether (Wb.ALetter ∷ Wb.HebrewLetter ∷ []) (Wb.MidLetter ∷ Wb.MidNumLet ∷ Wb.SingleQuote ∷ []) }
+    ensures digits { WordsHoldTogether (Wb.Numeric ∷ []) (Wb.MidNum ∷ Wb.MidNumLet ∷ Wb.SingleQuote ∷ []) }
+{}
+
+/// Law: no boundary of sentences parts CR LF.
+pub fn line_ends_stay_in_sentences()
+    ensures { (before after : List ℕ) (last next : ℕ) → sentence_break last ≡ Sb.Cr → sentence_break next ≡ Sb.Lf
+        → IsSentenceJoined (before ++ last ∷ []) (next ∷ after) }
+{}
+
+/// Law: a sentence ends after what separates paragraphs.
+pub fn paragraphs_end_sentences()
+    ensures separators { (before after : List ℕ) (last : ℕ) → (sentence_break last ≡ Sb.Sep) ⊎ (sentence_break last ≡ Sb.Lf)
+        → IsSentenceBoundary (before ++ last ∷ []) after }
+    ensures returns { (before after : List ℕ) (last next : ℕ) → sentence_break last ≡ Sb.Cr → (sentence_break next ≡ Sb.Lf → ⊥)
+        → IsSentenceBoundary (before ++ last ∷ []) (next ∷ after) }
+{}
+
+/// Law: within a text a sentence ends nowhere but after what separates paragraphs, and after what ends sentences, with brackets
+/// and then spaces after it (ParaSep, SATerm Close* Sp*).
+pub fn sentences_end_after_terms()
+    ensures { (before after : List ℕ) (last next : ℕ) → IsSentenceBoundary (before ++ last ∷ []) (next ∷ after)
+        → (is_para_sep (sentence_break last) ≡ true) ⊎ (is_sa_term (before_close_sp (significant (last ∷ reverse before))) ≡ true) }
 {}

@@ -1,0 +1,7 @@
+use Rattle.std.proofs.Common.{[], ◌∷◌, refl}
+use Rattle.ucd_breaks.specs.declared.WordBreak.TheVariants.{ALetter, ExtendNumLet, HebrewLetter, Numeric}
+use Rattle.icu_segmenter_uax29.proofs.WordSequences.{join-together}
+use Rattle.icu_segmenter_uax29.proofs.laws.letters_and_digits_stay.Goals as goal
+
+pub returns : goal.returns
+returns c = join-together (ALetter ∷ HebrewLetter ∷ Numeric ∷ ExtendNumLet ∷ []) (ALetter ∷ HebrewLetter ∷ Numeric ∷ ExtendNumLet ∷ []) refl
