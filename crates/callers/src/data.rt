@@ -1,10 +1,12 @@
 //! Data that a caller hands in: here both kinds cut a text into runs of spaces and runs of other characters.
 ghost use Rattle.std.specs.Prelude.{◌≡◌, None, IfOk};
+ghost use Rattle.icu_segmenter.specs.Checked.{IsChecked};
 ghost use Rattle.icu_segmenter.specs.Clusters.{owned_cluster_rules};
 ghost use Rattle.icu_segmenter.specs.Rules.Rules.{ByMachine, ByTable};
 ghost use Rattle.callers.specs.Spaces.{spaces_machine, spaces_table};
 
 use icu_segmenter::GraphemeClusterSegmenter;
+use icu_segmenter::memo::MemoError;
 use icu_segmenter::provider::{
     Acceptance, BreakState, ClassTable, DataError, Lookahead, RuleBreakData, SegmenterStateMachine,
     State,
@@ -12,7 +14,7 @@ use icu_segmenter::provider::{
 use std::alloc::{AllocError, Global};
 use thiserror::Error;
 
-/// Why there is no segmenter.
+/// Why there is no segmenter, or no memo.
 #[derive(Debug, Drop, Error)]
 pub enum Failure {
     /// The data are refused.
@@ -21,6 +23,9 @@ pub enum Failure {
     /// No memory is left for them.
     #[error("no memory")]
     NoMemory(#[from] AllocError),
+    /// There is no memo.
+    #[error("{0}")]
+    NoMemo(#[from] MemoError),
 }
 
 /// What START, the state after other characters and that after spaces accept; none names a lookahead.
@@ -31,15 +36,16 @@ const STATES: [(Acceptance, Option<Lookahead>); 3] = [
 ];
 
 /// What state q leads to on symbol s is at `q + s * 3`, since there are 3 states; 255 stands for none.
-const TRANSITIONS: [State; 9] = [
+pub const TRANSITIONS: [State; 9] = [
     255, 255, 255, // symbol 0, the end of the text
     1, 1, 255, // symbol 1, another character
     2, 255, 2, // symbol 2, the space
 ];
 
-/// A segmenter by a state machine.
-pub fn runs_by_machine(alloc: Global) -> Result<GraphemeClusterSegmenter, Failure>
-    ensures { IfOk result (λ segmenter. owned_cluster_rules segmenter ≡ ByMachine spaces_machine) }
+/// A state machine, which is checked where it is made.
+pub fn runs_machine(alloc: Global) -> Result<SegmenterStateMachine, Failure>
+    ensures machine { IfOk result (λ machine. machine ≡ spaces_machine) }
+    ensures checked { IfOk result IsChecked }
 {
     let symbols = ClassTable::try_from_ranges(Vec::from_slice(alloc, &[(0x20, 0x20, 2)])?, 1)?;
     let states = Vec::from_slice(alloc, &STATES)?;
@@ -47,7 +53,14 @@ pub fn runs_by_machine(alloc: Global) -> Result<GraphemeClusterSegmenter, Failur
     let map = Vec::new(alloc);
     // No lookaheads; values from 3 on would be pseudo symbols.
     let machine = SegmenterStateMachine::try_from_parts(symbols, states, transitions, 0, 3, map)?;
-    Ok(GraphemeClusterSegmenter::try_new_neo(machine)?)
+    Ok(machine)
+}
+
+/// A segmenter by a state machine.
+pub fn runs_by_machine(alloc: Global) -> Result<GraphemeClusterSegmenter, Failure>
+    ensures { IfOk result (λ segmenter. owned_cluster_rules segmenter ≡ ByMachine spaces_machine) }
+{
+    Ok(GraphemeClusterSegmenter::try_new_neo(runs_machine(alloc)?)?)
 }
 
 const KEEP: BreakState = BreakState::Keep;

@@ -14,8 +14,8 @@ mod wrapped;
 use crate::clusters::cluster_places;
 use crate::data::{runs_by_machine, runs_by_table};
 use crate::lines::{breakall_segmenter, filled_lines, mandatory_breaks};
-use crate::memo::cluster_look_ups;
-use crate::sentences::sentence_boundary_count;
+use crate::memo::{cluster_look_ups, read_count};
+use crate::sentences::{sentence_boundary_count, sentence_texts};
 use crate::words::{tokens, word_count};
 use crate::wrapped::paragraph_height;
 use anyhow::Result;
@@ -86,6 +86,8 @@ fn find_sentences(rt: &HostRuntime) -> Result<()> {
 fn print_sentences(rt: &HostRuntime, sentences: SentenceSegmenterBorrowed<'_>) -> Result<()> {
     let places: Vec<usize> = sentences.segment_str("Hi. Bye.").collect(rt.alloc())?;
     print(rt, "sentences of Hi. Bye.", places.as_slice())?;
+    let texts = sentence_texts(rt.alloc(), sentences, "Hi. Bye.")?;
+    println!(rt; "as text: {:?}", texts.as_slice())?;
     let count = sentence_boundary_count(sentences, b"Hi. Bye.");
     print_count(rt, "boundaries of sentences there", count)
 }
@@ -138,7 +140,9 @@ fn find_runs(rt: &HostRuntime) -> Result<()> {
     let by_machine = runs_by_machine(rt.alloc())?;
     print_runs(rt, "runs by a machine", by_machine.as_borrowed())?;
     let by_table = runs_by_table(rt.alloc())?;
-    print_runs(rt, "runs by a pair table", by_table.as_borrowed())
+    print_runs(rt, "runs by a pair table", by_table.as_borrowed())?;
+    let reads = read_count(rt.alloc(), "two  words")?;
+    print_count(rt, "transitions that are read there", reads as u64)
 }
 
 fn print_runs(

@@ -1,12 +1,26 @@
 //! Sentences.
-ghost use Rattle.std.specs.Prelude.{◌≡◌, ℕ, List, OnOk, ◌-◌, ◌%◌, ◌^◌, length};
+ghost use Rattle.std.specs.Prelude.{◌≡◌, ℕ, List, IfOk, OnOk, ◌-◌, ◌%◌, ◌^◌, length, map};
 ghost use Rattle.std.specs.Iterator.{IsFinite, Drains};
 ghost use Rattle.icu_segmenter.specs.Boundaries.{offsets};
 ghost use Rattle.icu_segmenter.specs.Sentences.{sentence_rules};
 ghost use Rattle.icu_segmenter.specs.Rules.{boundaries_of};
+ghost use Rattle.icu_segmenter.specs.TextSegments.{nothing, segments_of, units_of};
 ghost use Rattle.icu_segmenter.specs.Utf8.{utf8};
 
 use icu_segmenter::SentenceSegmenterBorrowed;
+use icu_segmenter::segments::BreakIterator;
+use std::alloc::{AllocError, Global};
+
+/// The sentences of a text. The only error is want of memory.
+pub fn sentence_texts<'s>(
+    alloc: Global,
+    segmenter: SentenceSegmenterBorrowed<'_>,
+    text: &'s str,
+) -> Result<Vec<&'s str>, AllocError>
+    ensures { IfOk result (λ found. map (λ sentence. sentence.now) found.items ≡ units_of (segments_of nothing text.now (boundaries_of (sentence_rules segmenter.entry) (utf8 text.now)))) }
+{
+    segmenter.segment_str(text).segments(text).collect(alloc)
+}
 
 /// How many boundaries the sentences of possibly ill-formed UTF-8 have, modulo 2^64: one more than sentences.
 pub fn sentence_boundary_count(segmenter: SentenceSegmenterBorrowed<'_>, text: &[u8]) -> u64
