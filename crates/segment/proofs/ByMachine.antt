@@ -1,10 +1,8 @@
 -- Whatever the options, a machine finds the breaks of lines.
-use Rattle.std.proofs.Common.{◌≡◌, Bool, true, false, ap, subst, sym}
+use Rattle.std.proofs.Common.{◌≡◌, Bool, true, false, subst}
 use Rattle.icu_segmenter.specs.LineBreaks.{LineRules}
 use Rattle.icu_segmenter.specs.LineStyles.{style_of}
-use Rattle.icu_segmenter.specs.LineTailorings.{MachineTailorings}
 use Rattle.icu_segmenter.specs.Lines.{chosen_finder}
-use Rattle.icu_segmenter.specs.Machine.{Machine}
 use Rattle.icu_segmenter.specs.Options.{machine_for}
 use Rattle.icu_segmenter.specs.ScriptWords.{ScriptWords}
 use Rattle.icu_segmenter.specs.Unmarked.{IsByPairTable}
