@@ -33,5 +33,9 @@ fn characters(alloc: Global, words: &[&str]) -> Result<Vec<Vec<char>>, AllocErro
 fn characters_of(alloc: Global, word: &str) -> Result<Vec<char>, AllocError>
     ensures { IfOk result (λ characters. characters.items ≡ chars word.now) }
 {
-    word.chars().collect(alloc)
+    let mut characters = Vec::new(alloc);
+    for character in word.chars() {
+        characters.push(character)?;
+    }
+    Ok(characters)
 }
