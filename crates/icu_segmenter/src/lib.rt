@@ -28,7 +28,9 @@ pub mod provider {
 
 /// The cuts of pieces of one script by dictionaries.
 pub mod complex {
-    pub use seg_complex::complex::{ComplexIterator, ComplexPayloadBorrowed};
+    pub use seg_complex::complex::{
+        ComplexIterator, ComplexPayloadBorrowed, ComplexPayloadsBorrowed,
+    };
 }
 
 /// The iterators that the `segment_` calls give.
@@ -51,8 +53,14 @@ pub mod wrap {
     };
 }
 
-/// Readers of a machine's transitions, which count what they read.
+/// The engine of pair tables.
+pub mod rule_segmenter_v1 {
+    pub use seg_pairs::rule_segmenter_v1::RuleBreakIterator;
+}
+
+/// The engine of machines, and readers of a machine's transitions, which count what they read.
 pub mod rule_segmenter_v2 {
+    pub use seg_machine::rule_segmenter_v2::RuleBreakIterator;
     pub use seg_memo::reader::{CountedTransitions, ReadTransitions};
 }
 
