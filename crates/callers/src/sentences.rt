@@ -19,7 +19,7 @@ pub fn sentence_texts<'s>(
 ) -> Result<Vec<&'s str>, AllocError>
     ensures { IfOk result (λ found. map (λ sentence. sentence.now) found.items ≡ units_of (segments_of nothing text.now (boundaries_of (sentence_rules segmenter.entry) (utf8 text.now)))) }
 {
-    segmenter.segment_str(text).segments(text).collect(alloc)
+    segmenter.segment_str(text).segments().collect(alloc)
 }
 
 /// How many boundaries the sentences of possibly ill-formed UTF-8 have, modulo 2^64: one more than sentences.

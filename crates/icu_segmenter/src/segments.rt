@@ -1,12 +1,12 @@
 //! The segments of a text, as parts of it: what stands between neighbouring boundaries.
 //!
-//! An iterator over the boundaries of a text (`BreakIterator`) takes the text once more, and gives its segments. With the sample data
-//! (`bench::words`), where letters and digits are words:
+//! An iterator over the boundaries of a text (`BreakIterator`) gives its segments. With the sample data (`bench::words`), where letters
+//! and digits are words:
 //!
 //! ```text
-//! words.segment_str("one 42.").segments("one 42.")             "one" " " "42" "."
-//! words.segment_str("one 42.").segment_indices("one 42.")      (0, "one") (3, " ") (4, "42") (6, ".")
-//! words.segment_str("one 42.").words("one 42.")                (0, "one", Letter) (4, "42", Number)
+//! words.segment_str("one 42.").segments()             "one" " " "42" "."
+//! words.segment_str("one 42.").segment_indices()      (0, "one") (3, " ") (4, "42") (6, ".")
+//! words.segment_str("one 42.").words()                (0, "one", Letter) (4, "42", Number)
 //! ```
 
 ghost use Rattle.std.specs.Prelude.{◌≡◌, ℕ, ◌<◌, ◌≤◌, List, All, length};
@@ -30,8 +30,7 @@ pub use units::Units;
 
 /// An iterator over the boundaries of a text, which gives the segments between them.
 ///
-/// `segments` and its kin take the text in which the boundaries were found, as long as none was given: that these are its boundaries is what
-/// `segment_str` and its kin promise.
+/// `segments` and its kin may be asked as long as no boundary was given: that all are left is what `segment_str` and its kin promise.
 pub trait BreakIterator: Drop + Sized {
     /// What the text stands in.
     type Units: Units;
@@ -49,49 +48,57 @@ pub trait BreakIterator: Drop + Sized {
     /// How they are found in a list of code points.
     ghost find: { Self → List ℕ → List Boundary };
 
+    /// The units in which the whole text stands.
+    ghost whole: { Self → List ℕ };
+
     /// The text that stands in some units.
-    ghost decode: { Self.Units → Text };
+    ghost decode: { List ℕ → Text };
+
+    /// The whole text, whatever was given of its boundaries. Takes no memory.
+    fn text(&self) -> Self::Units
+        ensures { Self.Units.units result ≡ whole self.now };
 
     /// The next boundary, as its place and what its status says. None at the end, and from then on.
     fn next_break(&mut self) -> Option<(usize, Self::Mark)>
         ensures { YieldsFirst (λ s. marked mark (left s)) self.old result self.new };
 
     /// Law: a text may be cut at the places of its items.
-    ghost places: { (text : Self.Units) (place : ℕ) → IsPlace (decode text) place → Self.Units.MayCut text place };
+    ghost places: { (text : Self.Units) (place : ℕ) → IsPlace (decode (Self.Units.units text)) place → Self.Units.MayCut text place };
 
     /// The segments of the text. Takes no memory.
-    final fn segments(self, text: Self::Units) -> Segments<Self>
-        requires found { left self ≡ boundaries_in (find self) (decode text) }
-        requires cover { IsCover 0 (length (Self.Units.units text)) (left self) }
-        ensures segments { segments_left result ≡ units_of (segments_of mark (Self.Units.units text) (left self)) }
-        ensures joined { flat_map (λ segment. segment) (segments_left result) ≡ Self.Units.units text }
+    final fn segments(self) -> Segments<Self>
+        requires found { left self ≡ boundaries_in (find self) (decode (whole self)) }
+        requires cover { IsCover 0 (length (whole self)) (left self) }
+        ensures segments { segments_left result ≡ units_of (segments_of mark (whole self) (left self)) }
+        ensures joined { flat_map (λ segment. segment) (segments_left result) ≡ whole self }
         ensures some { All (λ segment. 0 < length segment) (segments_left result) }
     {
         Segments {
-            segments: self.marked_segments(text),
+            segments: self.marked_segments(),
         }
     }
 
     /// The segments of the text, each with the place where it begins. Takes no memory.
-    final fn segment_indices(self, text: Self::Units) -> SegmentIndices<Self>
-        requires found { left self ≡ boundaries_in (find self) (decode text) }
-        requires cover { IsCover 0 (length (Self.Units.units text)) (left self) }
-        ensures segments { indices_left result ≡ indices_of (segments_of mark (Self.Units.units text) (left self)) }
-        ensures places { All (λ segment. IsPlace (decode text) segment.0) (indices_left result) }
+    final fn segment_indices(self) -> SegmentIndices<Self>
+        requires found { left self ≡ boundaries_in (find self) (decode (whole self)) }
+        requires cover { IsCover 0 (length (whole self)) (left self) }
+        ensures segments { indices_left result ≡ indices_of (segments_of mark (whole self) (left self)) }
+        ensures places { All (λ segment. IsPlace (decode (whole self)) segment.0) (indices_left result) }
     {
         SegmentIndices {
-            segments: self.marked_segments(text),
+            segments: self.marked_segments(),
         }
     }
 
     /// The segments of the text, each with the place where it begins, and with what the status of the boundary says at which it
     /// ends. Takes no memory.
-    final fn marked_segments(self, text: Self::Units) -> MarkedSegments<Self>
-        requires found { left self ≡ boundaries_in (find self) (decode text) }
-        requires cover { IsCover 0 (length (Self.Units.units text)) (left self) }
-        ensures segments { result ≡ segments_of mark (Self.Units.units text) (left self) }
-        ensures whole { AreSegments (decode text) (Self.Units.units text) result }
+    final fn marked_segments(self) -> MarkedSegments<Self>
+        requires found { left self ≡ boundaries_in (find self) (decode (whole self)) }
+        requires cover { IsCover 0 (length (whole self)) (left self) }
+        ensures segments { result ≡ segments_of mark (whole self) (left self) }
+        ensures whole { AreSegments (decode (whole self)) (whole self) result }
     {
+        let text = self.text();
         let mut breaks = self;
         let _start = breaks.next_break();
         MarkedSegments {
@@ -105,13 +112,13 @@ pub trait BreakIterator: Drop + Sized {
 /// An iterator over the boundaries of words.
 pub trait WordBreaks: BreakIterator<Mark = WordType> {
     /// The words of a text, each with the place where it begins and its type: those segments whose type isn't `None`. Takes no memory.
-    final fn words(self, text: Self::Units) -> Words<Self>
-        requires found { Self.left self ≡ boundaries_in (Self.find self) (Self.decode text) }
-        requires cover { IsCover 0 (length (Self.Units.units text)) (Self.left self) }
-        ensures { words_left result ≡ words_of (segments_of Self.mark (Self.Units.units text) (Self.left self)) }
+    final fn words(self) -> Words<Self>
+        requires found { Self.left self ≡ boundaries_in (Self.find self) (Self.decode (Self.whole self)) }
+        requires cover { IsCover 0 (length (Self.whole self)) (Self.left self) }
+        ensures { words_left result ≡ words_of (segments_of Self.mark (Self.whole self) (Self.left self)) }
     {
         Words {
-            segments: self.marked_segments(text),
+            segments: self.marked_segments(),
         }
     }
 }

@@ -55,6 +55,13 @@ impl<'data, 's, Y: RuleBreakType<'s>> Drop for GraphemeClusterBreakIterator<'dat
 impl<'data, 's, Y: RuleBreakType<'s>> GraphemeClusterBreakIterator<'data, 's, Y> {
     ghost use Rattle.seg_clusters.specs.Clusters.{cluster_finder, clusters_source};
 
+    /// A cursor at the start of the whole text, whatever was given of its boundaries. Takes no memory.
+    pub fn source(&self) -> Y::IterAttr
+        ensures { result ≡ clusters_source self.now }
+    {
+        Y::fork(&self.whole)
+    }
+
     /// The boundaries of the whole text, whatever was given of them, where no configuration of the machine is looked up
     /// twice. `NotNeo` by a pair table, and otherwise `TooLarge` where there are more configurations than the greatest
     /// `usize`: both without asking for memory. `Memory` where the one growth was refused.

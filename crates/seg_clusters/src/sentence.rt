@@ -73,6 +73,13 @@ impl<'data, 's, Y: RuleBreakType<'s>> Drop for SentenceBreakIterator<'data, 's, 
 impl<'data, 's, Y: RuleBreakType<'s>> SentenceBreakIterator<'data, 's, Y> {
     ghost use Rattle.seg_clusters.specs.Sentences.{sentence_finder, sentences_source};
 
+    /// A cursor at the start of the whole text, whatever was given of its boundaries. Takes no memory.
+    pub fn source(&self) -> Y::IterAttr
+        ensures { result ≡ sentences_source self.now }
+    {
+        Y::fork(&self.whole)
+    }
+
     /// The boundaries of the whole text, whatever was given of them, where no configuration of the machine is looked up
     /// twice. `NotNeo` by a pair table, and otherwise `TooLarge` where there are more configurations than the greatest
     /// `usize`: both without asking for memory. `Memory` where the one growth was refused.

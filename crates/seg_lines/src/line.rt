@@ -81,6 +81,13 @@ impl<'data, 's, Y: RuleBreakType<'s>> LineBreakIterator<'data, 's, Y> {
         self.boundaries.status() == 1
     }
 
+    /// A cursor at the start of the whole text, whatever was given of its boundaries. Takes no memory.
+    pub fn source(&self) -> Y::IterAttr
+        ensures { result ≡ lines_source self.now }
+    {
+        Y::fork(&self.whole)
+    }
+
     /// The boundaries of the whole text, whatever was given of them, where no configuration of the machine is looked up
     /// twice: that of lines, or, by `Anywhere`, that of clusters. Of several refusals that with the lowest number: `NotNeo` by a
     /// pair table, `HasDictionary` where some script has one, by `Anywhere` too, `TooLarge` where there are more

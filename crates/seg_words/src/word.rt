@@ -133,6 +133,13 @@ impl<'data, 's, Y: RuleBreakType<'s>> WordBreakIterator<'data, 's, Y> {
         WordBreakIteratorWithWordType { words: self }
     }
 
+    /// A cursor at the start of the whole text, whatever was given of its boundaries. Takes no memory.
+    pub fn source(&self) -> Y::IterAttr
+        ensures { result ≡ words_source self.now }
+    {
+        Y::fork(&self.whole)
+    }
+
     /// The boundaries of the whole text, whatever was given of them, where no configuration of the machine is looked up
     /// twice. Of several refusals that with the lowest number: `NotNeo` by a pair table, `HasDictionary` where some script has
     /// one, `TooLarge` where there are more configurations than the greatest `usize`, all without asking for memory. `Memory`

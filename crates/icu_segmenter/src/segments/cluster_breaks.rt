@@ -5,7 +5,7 @@ ghost use Rattle.seg_text.specs.Latin1.{latin1};
 ghost use Rattle.seg_text.specs.Utf8.{utf8};
 ghost use Rattle.seg_text.specs.Utf16.{utf16};
 ghost use Rattle.seg_engine.specs.Rules.{boundaries_by};
-ghost use Rattle.seg_clusters.specs.Clusters.{cluster_finder, clusters_left};
+ghost use Rattle.seg_clusters.specs.Clusters.{cluster_finder, clusters_left, clusters_source};
 ghost use Rattle.icu_segmenter.specs.TextSegments.{marked, nothing};
 
 use crate::segments::BreakIterator;
@@ -33,9 +33,15 @@ impl<'data, 's> BreakIterator for GraphemeClusterBreakIterator<'data, 's, Utf8> 
 
     ghost find = { λ clusters. boundaries_by (cluster_finder clusters) };
 
-    ghost decode = { λ text. utf8 text.now };
+    ghost whole = { λ clusters. (clusters_source clusters).units };
+
+    ghost decode = { utf8 };
 
     ghost places = { λ _ _ place. place };
+
+    fn text(&self) -> &'s str {
+        self.source().as_str()
+    }
 
     fn next_break(&mut self) -> Option<(usize, ())> {
         next_cluster(self)
@@ -54,9 +60,15 @@ impl<'data, 's> BreakIterator
 
     ghost find = { λ clusters. boundaries_by (cluster_finder clusters) };
 
-    ghost decode = { λ bytes. utf8 bytes.now };
+    ghost whole = { λ clusters. (clusters_source clusters).units };
+
+    ghost decode = { utf8 };
 
     ghost places = { λ _ _ _. tt };
+
+    fn text(&self) -> &'s [u8] {
+        self.source().as_slice()
+    }
 
     fn next_break(&mut self) -> Option<(usize, ())> {
         next_cluster(self)
@@ -74,9 +86,15 @@ impl<'data, 's> BreakIterator for GraphemeClusterBreakIterator<'data, 's, Latin1
 
     ghost find = { λ clusters. boundaries_by (cluster_finder clusters) };
 
-    ghost decode = { λ bytes. latin1 bytes.now };
+    ghost whole = { λ clusters. (clusters_source clusters).units };
+
+    ghost decode = { latin1 };
 
     ghost places = { λ _ _ _. tt };
+
+    fn text(&self) -> &'s [u8] {
+        self.source().as_slice()
+    }
 
     fn next_break(&mut self) -> Option<(usize, ())> {
         next_cluster(self)
@@ -94,9 +112,15 @@ impl<'data, 's> BreakIterator for GraphemeClusterBreakIterator<'data, 's, Utf16>
 
     ghost find = { λ clusters. boundaries_by (cluster_finder clusters) };
 
-    ghost decode = { λ units. utf16 units.now };
+    ghost whole = { λ clusters. (clusters_source clusters).units };
+
+    ghost decode = { utf16 };
 
     ghost places = { λ _ _ _. tt };
+
+    fn text(&self) -> &'s [u16] {
+        self.source().as_slice()
+    }
 
     fn next_break(&mut self) -> Option<(usize, ())> {
         next_cluster(self)

@@ -6,7 +6,7 @@ ghost use Rattle.seg_text.specs.Latin1.{latin1};
 ghost use Rattle.seg_text.specs.Utf8.{utf8};
 ghost use Rattle.seg_text.specs.Utf16.{utf16};
 ghost use Rattle.seg_lines.specs.LineBreaks.{line_boundaries_by};
-ghost use Rattle.seg_lines.specs.Lines.{line_finder, lines_left};
+ghost use Rattle.seg_lines.specs.Lines.{line_finder, lines_left, lines_source};
 ghost use Rattle.icu_segmenter.specs.TextSegments.{marked};
 
 use crate::segments::BreakIterator;
@@ -34,9 +34,15 @@ impl<'data, 's> BreakIterator for LineBreakIterator<'data, 's, Utf8> {
 
     ghost find = { λ lines. line_boundaries_by (line_finder lines) };
 
-    ghost decode = { λ text. utf8 text.now };
+    ghost whole = { λ lines. (lines_source lines).units };
+
+    ghost decode = { utf8 };
 
     ghost places = { λ _ _ place. place };
+
+    fn text(&self) -> &'s str {
+        self.source().as_str()
+    }
 
     fn next_break(&mut self) -> Option<(usize, bool)> {
         next_line(self)
@@ -54,9 +60,15 @@ impl<'data, 's> BreakIterator for LineBreakIterator<'data, 's, PotentiallyIllFor
 
     ghost find = { λ lines. line_boundaries_by (line_finder lines) };
 
-    ghost decode = { λ bytes. utf8 bytes.now };
+    ghost whole = { λ lines. (lines_source lines).units };
+
+    ghost decode = { utf8 };
 
     ghost places = { λ _ _ _. tt };
+
+    fn text(&self) -> &'s [u8] {
+        self.source().as_slice()
+    }
 
     fn next_break(&mut self) -> Option<(usize, bool)> {
         next_line(self)
@@ -74,9 +86,15 @@ impl<'data, 's> BreakIterator for LineBreakIterator<'data, 's, Latin1> {
 
     ghost find = { λ lines. line_boundaries_by (line_finder lines) };
 
-    ghost decode = { λ bytes. latin1 bytes.now };
+    ghost whole = { λ lines. (lines_source lines).units };
+
+    ghost decode = { latin1 };
 
     ghost places = { λ _ _ _. tt };
+
+    fn text(&self) -> &'s [u8] {
+        self.source().as_slice()
+    }
 
     fn next_break(&mut self) -> Option<(usize, bool)> {
         next_line(self)
@@ -94,9 +112,15 @@ impl<'data, 's> BreakIterator for LineBreakIterator<'data, 's, Utf16> {
 
     ghost find = { λ lines. line_boundaries_by (line_finder lines) };
 
-    ghost decode = { λ units. utf16 units.now };
+    ghost whole = { λ lines. (lines_source lines).units };
+
+    ghost decode = { utf16 };
 
     ghost places = { λ _ _ _. tt };
+
+    fn text(&self) -> &'s [u16] {
+        self.source().as_slice()
+    }
 
     fn next_break(&mut self) -> Option<(usize, bool)> {
         next_line(self)

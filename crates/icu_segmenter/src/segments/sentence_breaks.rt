@@ -5,7 +5,7 @@ ghost use Rattle.seg_text.specs.Latin1.{latin1};
 ghost use Rattle.seg_text.specs.Utf8.{utf8};
 ghost use Rattle.seg_text.specs.Utf16.{utf16};
 ghost use Rattle.seg_engine.specs.Rules.{boundaries_by};
-ghost use Rattle.seg_clusters.specs.Sentences.{sentence_finder, sentences_left};
+ghost use Rattle.seg_clusters.specs.Sentences.{sentence_finder, sentences_left, sentences_source};
 ghost use Rattle.icu_segmenter.specs.TextSegments.{marked, nothing};
 
 use crate::segments::BreakIterator;
@@ -33,9 +33,15 @@ impl<'data, 's> BreakIterator for SentenceBreakIterator<'data, 's, Utf8> {
 
     ghost find = { λ sentences. boundaries_by (sentence_finder sentences) };
 
-    ghost decode = { λ text. utf8 text.now };
+    ghost whole = { λ sentences. (sentences_source sentences).units };
+
+    ghost decode = { utf8 };
 
     ghost places = { λ _ _ place. place };
+
+    fn text(&self) -> &'s str {
+        self.source().as_str()
+    }
 
     fn next_break(&mut self) -> Option<(usize, ())> {
         next_sentence(self)
@@ -53,9 +59,15 @@ impl<'data, 's> BreakIterator for SentenceBreakIterator<'data, 's, PotentiallyIl
 
     ghost find = { λ sentences. boundaries_by (sentence_finder sentences) };
 
-    ghost decode = { λ bytes. utf8 bytes.now };
+    ghost whole = { λ sentences. (sentences_source sentences).units };
+
+    ghost decode = { utf8 };
 
     ghost places = { λ _ _ _. tt };
+
+    fn text(&self) -> &'s [u8] {
+        self.source().as_slice()
+    }
 
     fn next_break(&mut self) -> Option<(usize, ())> {
         next_sentence(self)
@@ -73,9 +85,15 @@ impl<'data, 's> BreakIterator for SentenceBreakIterator<'data, 's, Latin1> {
 
     ghost find = { λ sentences. boundaries_by (sentence_finder sentences) };
 
-    ghost decode = { λ bytes. latin1 bytes.now };
+    ghost whole = { λ sentences. (sentences_source sentences).units };
+
+    ghost decode = { latin1 };
 
     ghost places = { λ _ _ _. tt };
+
+    fn text(&self) -> &'s [u8] {
+        self.source().as_slice()
+    }
 
     fn next_break(&mut self) -> Option<(usize, ())> {
         next_sentence(self)
@@ -93,9 +111,15 @@ impl<'data, 's> BreakIterator for SentenceBreakIterator<'data, 's, Utf16> {
 
     ghost find = { λ sentences. boundaries_by (sentence_finder sentences) };
 
-    ghost decode = { λ units. utf16 units.now };
+    ghost whole = { λ sentences. (sentences_source sentences).units };
+
+    ghost decode = { utf16 };
 
     ghost places = { λ _ _ _. tt };
+
+    fn text(&self) -> &'s [u16] {
+        self.source().as_slice()
+    }
 
     fn next_break(&mut self) -> Option<(usize, ())> {
         next_sentence(self)

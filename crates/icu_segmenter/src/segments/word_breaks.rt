@@ -5,7 +5,7 @@ ghost use Rattle.seg_text.specs.Latin1.{latin1};
 ghost use Rattle.seg_text.specs.Utf8.{utf8};
 ghost use Rattle.seg_text.specs.Utf16.{utf16};
 ghost use Rattle.seg_words.specs.WordRules.{type_of, word_boundaries_by};
-ghost use Rattle.seg_words.specs.Words.{word_finder, words_left};
+ghost use Rattle.seg_words.specs.Words.{word_finder, words_left, words_source};
 ghost use Rattle.icu_segmenter.specs.TextSegments.{marked};
 
 use crate::segments::{BreakIterator, WordBreaks};
@@ -33,9 +33,15 @@ impl<'data, 's> BreakIterator for WordBreakIterator<'data, 's, Utf8> {
 
     ghost find = { λ words. word_boundaries_by (word_finder words) };
 
-    ghost decode = { λ text. utf8 text.now };
+    ghost whole = { λ words. (words_source words).units };
+
+    ghost decode = { utf8 };
 
     ghost places = { λ _ _ place. place };
+
+    fn text(&self) -> &'s str {
+        self.source().as_str()
+    }
 
     fn next_break(&mut self) -> Option<(usize, WordType)> {
         next_word(self)
@@ -53,9 +59,15 @@ impl<'data, 's> BreakIterator for WordBreakIterator<'data, 's, PotentiallyIllFor
 
     ghost find = { λ words. word_boundaries_by (word_finder words) };
 
-    ghost decode = { λ bytes. utf8 bytes.now };
+    ghost whole = { λ words. (words_source words).units };
+
+    ghost decode = { utf8 };
 
     ghost places = { λ _ _ _. tt };
+
+    fn text(&self) -> &'s [u8] {
+        self.source().as_slice()
+    }
 
     fn next_break(&mut self) -> Option<(usize, WordType)> {
         next_word(self)
@@ -73,9 +85,15 @@ impl<'data, 's> BreakIterator for WordBreakIterator<'data, 's, Latin1> {
 
     ghost find = { λ words. word_boundaries_by (word_finder words) };
 
-    ghost decode = { λ bytes. latin1 bytes.now };
+    ghost whole = { λ words. (words_source words).units };
+
+    ghost decode = { latin1 };
 
     ghost places = { λ _ _ _. tt };
+
+    fn text(&self) -> &'s [u8] {
+        self.source().as_slice()
+    }
 
     fn next_break(&mut self) -> Option<(usize, WordType)> {
         next_word(self)
@@ -93,9 +111,15 @@ impl<'data, 's> BreakIterator for WordBreakIterator<'data, 's, Utf16> {
 
     ghost find = { λ words. word_boundaries_by (word_finder words) };
 
-    ghost decode = { λ units. utf16 units.now };
+    ghost whole = { λ words. (words_source words).units };
+
+    ghost decode = { utf16 };
 
     ghost places = { λ _ _ _. tt };
+
+    fn text(&self) -> &'s [u16] {
+        self.source().as_slice()
+    }
 
     fn next_break(&mut self) -> Option<(usize, WordType)> {
         next_word(self)

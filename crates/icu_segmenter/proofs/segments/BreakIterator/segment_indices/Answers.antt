@@ -4,4 +4,4 @@ use Rattle.icu_segmenter.specs.TextSegments.{IsPlace}
 use Rattle.icu_segmenter.proofs.segments.BreakIterator.segment_indices.Goals as goal
 
 pub returns-clause-places : goal.returns-clause-places
-returns-clause-places g c = All-map (λ (segment : ℕ × List ℕ). IsPlace (g.Self.BreakIterator.decode c.args.text) segment.0) _ _ c.marked_segments.ensures.whole.places
+returns-clause-places g c = All-map (λ (segment : ℕ × List ℕ). IsPlace (g.Self.BreakIterator.decode (g.Self.BreakIterator.whole c.args.self)) segment.0) _ _ c.marked_segments.ensures.whole.places
