@@ -7,8 +7,9 @@ ghost use Rattle.icu_segmenter.specs.Utf8.{utf8};
 ghost use Rattle.icu_segmenter.specs.WordRules.{type_of, word_boundaries_of};
 ghost use Rattle.icu_segmenter.specs.Words.{word_rules};
 
+use icu_segmenter::WordSegmenterBorrowed;
+use icu_segmenter::options::WordType;
 use icu_segmenter::segments::{BreakIterator, WordBreaks};
-use icu_segmenter::{WordSegmenterBorrowed, WordType};
 use std::alloc::{AllocError, Global};
 
 /// How many words a text has, of letters or numbers.
