@@ -24,7 +24,7 @@ pub fn sentence_texts<'s>(
 
 /// How many sentences possibly ill-formed UTF-8 has.
 pub fn sentence_count(segmenter: SentenceSegmenterBorrowed<'_>, text: &[u8]) -> usize
-    ensures { result ≡ length (segments_of nothing text.now (boundaries_of (sentence_rules segmenter.entry) (utf8 text.now))) }
+    ensures { result ≡ length (units_of (segments_of nothing text.now (boundaries_of (sentence_rules segmenter.entry) (utf8 text.now)))) }
 {
     segmenter.segment_utf8(text).segments().count()
 }

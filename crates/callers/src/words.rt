@@ -1,5 +1,5 @@
 //! Words.
-ghost use Rattle.std.specs.Prelude.{◌≡◌, IfOk, length, map};
+ghost use Rattle.std.specs.Prelude.{◌≡◌, ◌++◌, IfOk, OnOk, length, map, string_bytes};
 ghost use Rattle.std.specs.List.{flat_map};
 ghost use Rattle.callers.specs.Highlights.{shown};
 ghost use Rattle.icu_segmenter.specs.TextSegments.{segments_of, units_of, words_of};

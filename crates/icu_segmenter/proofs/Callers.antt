@@ -3,7 +3,7 @@ use Rattle.std.proofs.Common.{◌≡◌, ℕ, zero, suc, ◌≤◌, List, [], �
 use Rattle.std.proofs.lemmas.List.{length-map}
 use Rattle.std.proofs.lemmas.Option.{get_or_from_slice_get, slice_get_within}
 use Rattle.std.specs.Prelude.{Option, None, Some, All, MatchOption, slice_get}
-use Rattle.std.specs.Iterator.{YieldsFirst, YieldsFirstBy, Yields, SkipsThenYields, Drains}
+use Rattle.std.specs.Iterator.{YieldsFirst, YieldsFirstBy, Yields, SkipsThenYields, Drains, DrainsIf}
 use Rattle.std.specs.List.{last_or}
 use Rattle.std.specs.Option.{option_map}
 use Rattle.std.specs.Str.{IsCharBoundary, IsUtf8}
@@ -34,7 +34,11 @@ module _ {S A B : Type 0} (view : A → B) (left : S → List B) where
   read-is_left s (x ∷ xs) (end, (last, (next, gives, more), stops)) =
       ap (λ (rest : List B). view x ∷ rest) (read-is_left next xs (end, (last, more, stops))) ∙ sym gives
 
-  -- so `count` counts that list
+  -- so `collect` collects it
+  pub collect-is_left : (s : S) (items given : List A) → DrainsIf (YieldsFirstBy view left) (Unit {0}) s given → items ≡ given → map view items ≡ left s
+  collect-is_left s items given all same = ap (map view) same ∙ read-is_left s given ((all.2 tt).0, (all.0, all.1, (all.2 tt).1))
+
+  -- `count` counts it
   pub count-is_left : (s : S) (given : List A) → Drains (YieldsFirstBy view left) s given → length given ≡ length (left s)
   count-is_left s given all = sym (length-map given view) ∙ ap length (read-is_left s given all)
 

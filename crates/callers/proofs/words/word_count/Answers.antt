@@ -7,4 +7,5 @@ use Rattle.callers.proofs.words.word_count.Goals as goal
 pub returns : goal.returns
 returns c =
     let given = c.count.ensures.ran in
-    given.2 ∙ count-is_left _ words_left _ given.0 given.1 ∙ ap length c.words.ensures.words
+    let all = rw (c.segment_str.ensures.source.1, c.segment_str.ensures.boundaries) at c.words.ensures.words in
+    given.2 ∙ count-is_left _ words_left _ given.0 given.1 ∙ ap length all
