@@ -11,7 +11,7 @@ mod sentences;
 mod words;
 mod wrapped;
 
-use crate::clusters::{cluster_places, first_clusters};
+use crate::clusters::{caret_moves, cluster_places, first_clusters};
 use crate::data::{runs_by_machine, runs_by_table};
 use crate::lines::{breakall_segmenter, filled_lines, mandatory_breaks};
 use crate::memo::{cluster_look_ups, read_count};
@@ -72,8 +72,15 @@ fn print_clusters(rt: &HostRuntime, clusters: GraphemeClusterSegmenterBorrowed<'
     print(rt, "the same in UTF-16", units.as_slice())?;
     let first = first_clusters(clusters, "ae\u{301}bc", 2);
     println!(rt; "the first two clusters of a, e, an accent and bc: {first:?}")?;
+    print_moves(rt, clusters)?;
     let look_ups = cluster_look_ups(alloc, clusters, "ab")?;
     print_count(rt, "look-ups in ab", look_ups as u64)
+}
+
+fn print_moves(rt: &HostRuntime, clusters: GraphemeClusterSegmenterBorrowed<'_>) -> Result<()> {
+    let (left, right) = caret_moves(clusters, "ab\ne\u{301}a", 6);
+    println!(rt; "a caret before the last a of two lines moves to {left:?} and {right:?}")?;
+    Ok(())
 }
 
 fn find_sentences(rt: &HostRuntime) -> Result<()> {

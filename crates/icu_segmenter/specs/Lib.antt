@@ -75,3 +75,4 @@ pub use Rattle.seg_wrap.specs.WrapLaw
 pub use Rattle.seg_wrap.specs.WrappedLines
 pub mod TextSegments
 pub mod SegmentsLeft
+pub mod NearBoundaries

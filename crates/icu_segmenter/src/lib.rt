@@ -5,6 +5,7 @@
 //! encoding of `scaffold`, with no further refusal.
 #![tactic(auto)]
 
+pub mod cursor;
 pub mod segments;
 
 pub use seg_clusters::grapheme::{GraphemeClusterSegmenter, GraphemeClusterSegmenterBorrowed};
