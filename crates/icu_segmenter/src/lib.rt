@@ -65,6 +65,13 @@ pub mod rule_segmenter_v2 {
     pub use seg_memo::reader::{CountedTransitions, ReadTransitions};
 }
 
+/// Laws of the boundaries, for callers' proofs: a caller calls one where its proof needs what the law ensures. They do nothing.
+pub mod laws {
+    pub use seg_clusters::laws::{grapheme, sentence};
+    pub use seg_lines::laws as line;
+    pub use seg_words::laws as word;
+}
+
 /// The options of segmenters, the language of a text, which is one of them, and the types of words.
 pub mod options {
     pub use seg_clusters::sentence::{SentenceBreakInvariantOptions, SentenceBreakOptions};
