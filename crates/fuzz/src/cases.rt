@@ -23,7 +23,7 @@ use icu_segmenter::{
 use std::alloc::Global;
 
 /// What is tried.
-#[derive(Clone, Copy, Debug, PartialEq, Eq)]
+#[derive(Clone, Copy, Debug)]
 pub enum Kind {
     /// Clusters by a machine.
     ClustersNeo,
@@ -35,10 +35,8 @@ pub enum Kind {
     SentencesClassic,
     /// Words by a machine.
     WordsNeo,
-    /// Words by a pair table without words yet.
+    /// Words by a pair table.
     WordsClassic,
-    /// Words by a pair table and dictionaries.
-    WordsDictionary,
     /// Lines by a machine, and lines wrapped.
     LinesNeo,
     /// Lines by a pair table.
@@ -51,14 +49,13 @@ pub enum Kind {
 
 impl Kind {
     /// All of them.
-    pub const ALL: [Kind; 11] = [
+    pub const ALL: [Kind; 10] = [
         Kind::ClustersNeo,
         Kind::ClustersClassic,
         Kind::SentencesNeo,
         Kind::SentencesClassic,
         Kind::WordsNeo,
         Kind::WordsClassic,
-        Kind::WordsDictionary,
         Kind::LinesNeo,
         Kind::LinesClassic,
         Kind::Lines17,
@@ -74,8 +71,7 @@ impl Kind {
             Kind::SentencesNeo => sentences_by_machine(alloc, dice),
             Kind::SentencesClassic => sentences_by_table(alloc, dice),
             Kind::WordsNeo => words_by_machine(alloc, dice),
-            Kind::WordsClassic => words_by_table_alone(alloc, dice),
-            Kind::WordsDictionary => words_by_table(alloc, dice),
+            Kind::WordsClassic => words_by_table(alloc, dice),
             Kind::LinesNeo => lines_by_machine(alloc, dice),
             Kind::LinesClassic => lines_by_table(alloc, dice),
             Kind::Lines17 => lines_by_turns(alloc, dice),
@@ -157,31 +153,9 @@ fn words_by_table(alloc: Global, dice: &mut Dice) -> Result<bool, Failure> {
         return examine_given_words(alloc, dice, words);
     }
     let options = WordBreakInvariantOptions::default();
-    let (overriding, words) = (overriding.as_ref(), words.as_borrowed());
-    let words = WordSegmenterBorrowed::new_dictionary(
-        &table, overriding, &clusters, words, options,
-    );
-    examine_words(alloc, dice, words)
-}
-
-// The same with no words yet.
-fn words_by_table_alone(alloc: Global, dice: &mut Dice) -> Result<bool, Failure> {
-    let table = Numbers::few(dice, true).table(alloc, dice);
-    let tables = both(table, overriding(alloc, dice));
-    let ((table, overriding), clusters) = both(tables, cluster_table(alloc, dice))?;
-    if dice.comes(128) {
-        let options = WordBreakOptions::default();
-        let words = WordSegmenter::try_new_for_non_complex_scripts(
-            table, overriding, clusters, options,
-        );
-        return examine_given_words(alloc, dice, words);
-    }
-    let options = WordBreakInvariantOptions::default();
+    let overriding = overriding.as_ref();
     let words = WordSegmenterBorrowed::new_for_non_complex_scripts(
-        &table,
-        overriding.as_ref(),
-        &clusters,
-        options,
+        &table, overriding, &clusters, options,
     );
     examine_words(alloc, dice, words)
 }
@@ -275,27 +249,13 @@ fn lines_by_table(alloc: Global, dice: &mut Dice) -> Result<bool, Failure> {
     let table = Numbers::of_lines(dice, LINE_CLASSES, UNNAMED_CLASS).table(alloc, dice);
     let tables = both(table, cluster_table(alloc, dice));
     let ((table, clusters), words) = both(tables, dictionaries(alloc, dice))?;
-    match dice.below(4) {
-        0 => {
-            let lines = LineSegmenter::try_new_dictionary(table, clusters, words, options);
-            examine_given_lines(alloc, dice, lines)
-        }
-        1 => {
-            let lines = LineSegmenter::try_new_for_non_complex_scripts(table, clusters, options);
-            examine_given_lines(alloc, dice, lines)
-        }
-        2 => {
-            let words = words.as_borrowed();
-            let lines = LineSegmenterBorrowed::new_dictionary(&table, &clusters, words, options);
-            examine_lines(alloc, dice, lines)
-        }
-        _ => {
-            let lines = LineSegmenterBorrowed::new_for_non_complex_scripts(
-                &table, &clusters, options,
-            );
-            examine_lines(alloc, dice, lines)
-        }
+    if dice.comes(128) {
+        let lines = LineSegmenter::try_new_for_non_complex_scripts(table, clusters, options);
+        return examine_given_lines(alloc, dice, lines);
     }
+    let words = words.as_borrowed();
+    let lines = LineSegmenterBorrowed::new_dictionary(&table, &clusters, words, options);
+    examine_lines(alloc, dice, lines)
 }
 
 fn lines_by_turns(alloc: Global, dice: &mut Dice) -> Result<bool, Failure> {

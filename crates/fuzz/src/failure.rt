@@ -5,7 +5,7 @@ use std::alloc::AllocError;
 use thiserror::Error;
 
 /// Why a case has no answer.
-#[derive(Clone, Copy, Debug, PartialEq, Eq, Error)]
+#[derive(Clone, Copy, Debug, Error)]
 pub enum Failure {
     /// The data are refused, as data may be.
     #[error("refused: {0}")]

@@ -20,24 +20,33 @@ pub fn examine_owned(
     examine(alloc, dice, Ok(segmenter.as_borrowed()))
 }
 
-/// Segments random texts, and says whether there was a memo. The errors are what the data were refused for, want of memory, and
-/// what is wrong.
+// How many texts a segmenter is asked for.
+const TEXTS: u8 = 8;
+
+/// Segments random texts, and says whether they have memos. The errors are what the data were refused for, want of memory, and what
+/// is wrong.
 pub fn examine(
     alloc: Global,
     dice: &mut Dice,
     made: Result<Segmenter<'_>, DataError>,
 ) -> Result<bool, Failure> {
     let segmenter = made?;
+    let mut has_memo = false;
+    for _ in 0..TEXTS {
+        has_memo = examine_text(alloc, dice, segmenter)?;
+    }
+    Ok(has_memo)
+}
+
+fn examine_text(alloc: Global, dice: &mut Dice, segmenter: Segmenter<'_>) -> Result<bool, Failure> {
     let units = random_units(alloc, dice)?;
     let _boundaries = counted(alloc, segmenter, Text::Utf16(units.as_slice()))?;
     let bytes = random_bytes(alloc, dice)?;
     check_bytes(alloc, segmenter, bytes.as_slice())?;
-    let text = decoded(alloc, Utf8CharIndices::new(bytes.as_slice()))?;
     if let Some(wrapper) = segmenter.wrapper() {
-        let columns = usize::from(dice.below(12));
-        check_wrapped(wrapper, text.as_str(), columns)?;
-        check_wrapped_bytes(wrapper, bytes.as_slice(), columns)?;
+        check_wrapped(wrapper, bytes.as_slice(), usize::from(dice.below(12)))?;
     }
+    let text = decoded(alloc, Utf8CharIndices::new(bytes.as_slice()))?;
     has_memo(alloc, segmenter, text.as_str())
 }
 
@@ -133,21 +142,8 @@ fn rest_after<'s>(part: &[u8], bytes: &'s [u8]) -> Result<&'s [u8], Failure> {
     }
 }
 
-// Wrapped lines are to be the text, one after the other.
-fn check_wrapped(wrapper: LineWrapper<'_>, text: &str, columns: usize) -> Result<(), Failure> {
-    let mut rest = text.as_bytes();
-    for line in wrapper.wrap_str(text, columns) {
-        rest = rest_after(line.text().as_bytes(), rest)?;
-    }
-    check(rest.is_empty(), "parts that end before the text")
-}
-
-// So are those of bytes.
-fn check_wrapped_bytes(
-    wrapper: LineWrapper<'_>,
-    bytes: &[u8],
-    columns: usize,
-) -> Result<(), Failure> {
+// So are wrapped lines.
+fn check_wrapped(wrapper: LineWrapper<'_>, bytes: &[u8], columns: usize) -> Result<(), Failure> {
     let mut rest = bytes;
     for line in wrapper.wrap_utf8(bytes, columns) {
         rest = rest_after(line.bytes(), rest)?;
