@@ -5,8 +5,8 @@ use anyhow::Result;
 use icu_segmenter::options::{LineBreakOptions, SentenceBreakOptions, WordBreakOptions};
 use icu_segmenter::{GraphemeClusterSegmenter, LineSegmenter, SentenceSegmenter, WordSegmenter};
 use icu_segmenter_data::{
-    cluster_machine, cluster_table, line_segmenter, line_table, sentence_machine, sentence_table,
-    word_segmenter, word_table,
+    cluster_machine, cluster_table, line_17_table, line_segmenter, line_table, sentence_machine,
+    sentence_table, word_segmenter, word_table,
 };
 use std::alloc::Global;
 
@@ -29,10 +29,12 @@ pub enum Engine {
     LineMachine,
     /// Lines, by the pair table.
     LineTable,
+    /// Lines, by the engine 17.
+    LineTurns,
 }
 
 /// All engines, in the order in which they are tested.
-pub const ENGINES: [Engine; 8] = [
+pub const ENGINES: [Engine; 9] = [
     Engine::ClusterMachine,
     Engine::ClusterTable,
     Engine::WordMachine,
@@ -41,6 +43,7 @@ pub const ENGINES: [Engine; 8] = [
     Engine::SentenceTable,
     Engine::LineMachine,
     Engine::LineTable,
+    Engine::LineTurns,
 ];
 
 impl Engine {
@@ -50,7 +53,7 @@ impl Engine {
             Engine::ClusterMachine | Engine::ClusterTable => "GraphemeBreakTest.txt",
             Engine::WordMachine | Engine::WordTable => "WordBreakTest.txt",
             Engine::SentenceMachine | Engine::SentenceTable => "SentenceBreakTest.txt",
-            Engine::LineMachine | Engine::LineTable => "LineBreakTest.txt",
+            Engine::LineMachine | Engine::LineTable | Engine::LineTurns => "LineBreakTest.txt",
         }
     }
 
@@ -65,6 +68,16 @@ impl Engine {
             Engine::SentenceTable => "sentences by pair table",
             Engine::LineMachine => "lines by machine",
             Engine::LineTable => "lines by pair table",
+            Engine::LineTurns => "lines by the engine 17",
+        }
+    }
+
+    /// How many tests of its file are of rules that have changed since: the engine 17 has a break between a space and `.35`, as UAX #14
+    /// has since version 16.0 (LB15c), and 15.0 has none.
+    pub fn changed_since(self) -> u32 {
+        match self {
+            Engine::LineTurns => 1,
+            _ => 0,
         }
     }
 
@@ -82,6 +95,7 @@ impl Engine {
                 Ok(Segmenter::Lines(line_segmenter(alloc, options)?))
             }
             Engine::LineTable => line_table_segmenter(alloc),
+            Engine::LineTurns => line_17_segmenter(alloc),
         }
     }
 }
@@ -118,5 +132,12 @@ fn line_table_segmenter(alloc: Global) -> Result<Segmenter> {
     let (table, clusters) = (line_table(alloc)?, cluster_table(alloc)?);
     let options = LineBreakOptions::default();
     let segmenter = LineSegmenter::try_new_for_non_complex_scripts(table, clusters, options)?;
+    Ok(Segmenter::LinesByTable(segmenter))
+}
+
+fn line_17_segmenter(alloc: Global) -> Result<Segmenter> {
+    let (table, clusters) = (line_17_table(alloc)?, cluster_table(alloc)?);
+    let options = LineBreakOptions::default();
+    let segmenter = LineSegmenter::try_new_17_for_non_complex_scripts(table, clusters, options)?;
     Ok(Segmenter::LinesByTable(segmenter))
 }

@@ -1,3 +1,2 @@
-pub mod Counted
 pub mod Filled
 mod Reached

@@ -1,5 +1,5 @@
 pub mod Spaces
-pub mod Tokens
-pub mod Counts
+pub mod Highlights
+pub mod Fields
 pub mod LineEnds
 pub mod LookUps

@@ -11,12 +11,12 @@ mod sentences;
 mod words;
 mod wrapped;
 
-use crate::clusters::cluster_places;
+use crate::clusters::{caret_moves, cluster_places, first_clusters};
 use crate::data::{runs_by_machine, runs_by_table};
 use crate::lines::{breakall_segmenter, filled_lines, mandatory_breaks};
 use crate::memo::{cluster_look_ups, read_count};
-use crate::sentences::{sentence_boundary_count, sentence_texts};
-use crate::words::{tokens, word_count};
+use crate::sentences::{last_sentence, sentence_count, sentence_texts};
+use crate::words::{highlighted, word_count, words as words_of};
 use crate::wrapped::paragraph_height;
 use anyhow::Result;
 use bench::clusters::cluster_machine;
@@ -70,8 +70,17 @@ fn print_clusters(rt: &HostRuntime, clusters: GraphemeClusterSegmenterBorrowed<'
     print(rt, "clusters of e, an accent and a", places.as_slice())?;
     let units: Vec<usize> = clusters.segment_utf16(&[0x65, 0x301, 0x61]).collect(alloc)?;
     print(rt, "the same in UTF-16", units.as_slice())?;
+    let first = first_clusters(clusters, "ae\u{301}bc", 2);
+    println!(rt; "the first two clusters of a, e, an accent and bc: {first:?}")?;
+    print_moves(rt, clusters)?;
     let look_ups = cluster_look_ups(alloc, clusters, "ab")?;
     print_count(rt, "look-ups in ab", look_ups as u64)
+}
+
+fn print_moves(rt: &HostRuntime, clusters: GraphemeClusterSegmenterBorrowed<'_>) -> Result<()> {
+    let (left, right) = caret_moves(clusters, "ab\ne\u{301}a", 6);
+    println!(rt; "a caret before the last a of two lines moves to {left:?} and {right:?}")?;
+    Ok(())
 }
 
 fn find_sentences(rt: &HostRuntime) -> Result<()> {
@@ -88,8 +97,10 @@ fn print_sentences(rt: &HostRuntime, sentences: SentenceSegmenterBorrowed<'_>) -
     print(rt, "sentences of Hi. Bye.", places.as_slice())?;
     let texts = sentence_texts(rt.alloc(), sentences, "Hi. Bye.")?;
     println!(rt; "as text: {:?}", texts.as_slice())?;
-    let count = sentence_boundary_count(sentences, b"Hi. Bye.");
-    print_count(rt, "boundaries of sentences there", count)
+    let last = last_sentence(sentences, "Hi. Bye.");
+    println!(rt; "the last of them: {last:?}")?;
+    let count = sentence_count(sentences, b"Hi. Bye.");
+    print_count(rt, "sentences there", count as u64)
 }
 
 fn find_lines(rt: &HostRuntime) -> Result<()> {
@@ -166,8 +177,11 @@ fn find_words(rt: &HostRuntime) -> Result<()> {
 }
 
 fn print_words(rt: &HostRuntime, words: WordSegmenterBorrowed<'_>) -> Result<()> {
-    for (begin, end) in tokens(rt.alloc(), words, "ภาษาไทย 42.")? {
-        print(rt, "a token of ภาษาไทย 42.", &[begin, end])?;
+    let alloc = rt.alloc();
+    for (place, word, word_type) in words_of(alloc, words, "ภาษาไทย 42.")? {
+        println!(rt; "a word of ภาษาไทย 42.: {place} {word} {word_type:?}")?;
     }
+    let shown = highlighted(alloc, words, "ภาษาไทย 42.", "ไทย")?;
+    println!(rt; "found there: {}", shown.as_str())?;
     print_count(rt, "words there", word_count(words, "ภาษาไทย 42.") as u64)
 }

@@ -1,7 +1,7 @@
 //! Sentences.
-ghost use Rattle.std.specs.Prelude.{◌≡◌, ℕ, List, IfOk, OnOk, ◌-◌, ◌%◌, ◌^◌, length, map};
-ghost use Rattle.std.specs.Iterator.{IsFinite, Drains};
-ghost use Rattle.icu_segmenter.specs.Boundaries.{offsets};
+ghost use Rattle.std.specs.Prelude.{◌≡◌, None, IfOk, length, map};
+ghost use Rattle.std.specs.List.{last_or};
+ghost use Rattle.std.specs.Option.{option_map};
 ghost use Rattle.icu_segmenter.specs.Sentences.{sentence_rules};
 ghost use Rattle.icu_segmenter.specs.Rules.{boundaries_of};
 ghost use Rattle.icu_segmenter.specs.TextSegments.{nothing, segments_of, units_of};
@@ -22,22 +22,16 @@ pub fn sentence_texts<'s>(
     segmenter.segment_str(text).segments().collect(alloc)
 }
 
-/// How many boundaries the sentences of possibly ill-formed UTF-8 have, modulo 2^64: one more than sentences.
-pub fn sentence_boundary_count(segmenter: SentenceSegmenterBorrowed<'_>, text: &[u8]) -> u64
-    ensures { result ≡ length (offsets (boundaries_of (sentence_rules segmenter.entry) (utf8 text.now))) % 2 ^ 64 }
+/// How many sentences possibly ill-formed UTF-8 has.
+pub fn sentence_count(segmenter: SentenceSegmenterBorrowed<'_>, text: &[u8]) -> usize
+    ensures { result ≡ length (units_of (segments_of nothing text.now (boundaries_of (sentence_rules segmenter.entry) (utf8 text.now)))) }
 {
-    count(segmenter.segment_utf8(text))
+    segmenter.segment_utf8(text).segments().count()
 }
 
-/// How many numbers come, modulo 2^64.
-fn count<N: Iterator<Item = usize> + Drop>(numbers: N) -> u64
-    requires can { N.can_next numbers }
-    requires ends { IsFinite (N.remaining numbers) }
-    ensures { (given : List ℕ) × Drains N.next_gives numbers given × (result ≡ length given % 2 ^ 64) }
+/// The last sentence of a text, and none of the empty one.
+pub fn last_sentence<'s>(segmenter: SentenceSegmenterBorrowed<'_>, text: &'s str) -> Option<&'s str>
+    ensures { option_map (λ sentence. sentence.now) result ≡ last_or None (units_of (segments_of nothing text.now (boundaries_of (sentence_rules segmenter.entry) (utf8 text.now)))) }
 {
-    let mut count = 0u64;
-    for _number in numbers {
-        count = count.wrapping_add(1);
-    }
-    count
+    segmenter.segment_str(text).segments().last()
 }

@@ -1,44 +1,59 @@
 //! Words.
-ghost use Rattle.std.specs.Prelude.{◌≡◌, IfOk, filter, length};
-ghost use Rattle.callers.specs.Tokens.{tokens as tokens_in};
+ghost use Rattle.std.specs.Prelude.{◌≡◌, ◌++◌, IfOk, OnOk, length, map, string_bytes};
+ghost use Rattle.std.specs.List.{flat_map};
+ghost use Rattle.callers.specs.Highlights.{shown};
+ghost use Rattle.icu_segmenter.specs.TextSegments.{segments_of, units_of, words_of};
 ghost use Rattle.icu_segmenter.specs.Utf8.{utf8};
-ghost use Rattle.icu_segmenter.specs.WordRules.{ends_word, word_boundaries_of};
+ghost use Rattle.icu_segmenter.specs.WordRules.{type_of, word_boundaries_of};
 ghost use Rattle.icu_segmenter.specs.Words.{word_rules};
 
 use icu_segmenter::WordSegmenterBorrowed;
+use icu_segmenter::options::WordType;
+use icu_segmenter::segments::{BreakIterator, WordBreaks};
 use std::alloc::{AllocError, Global};
-
-/// The tokens of a text for a search: its words, of letters or numbers, each as where it begins and ends, in bytes.
-/// The only error is want of memory.
-pub fn tokens(
-    alloc: Global,
-    segmenter: WordSegmenterBorrowed<'_>,
-    text: &str,
-) -> Result<Vec<(usize, usize)>, AllocError>
-    ensures { IfOk result (λ tokens. tokens.items ≡ tokens_in (word_boundaries_of (word_rules segmenter.entry) (utf8 text.now))) }
-{
-    let mut words = segmenter.segment_str(text);
-    let mut tokens = Vec::new(alloc);
-    let mut begin = 0;
-    while let Some(end) = words.next() {
-        if words.is_word_like() {
-            tokens.push((begin, end))?;
-        }
-        begin = end;
-    }
-    Ok(tokens)
-}
 
 /// How many words a text has, of letters or numbers.
 pub fn word_count(segmenter: WordSegmenterBorrowed<'_>, text: &str) -> usize
-    ensures { result ≡ length (filter ends_word (word_boundaries_of (word_rules segmenter.entry) (utf8 text.now))) }
+    ensures { result ≡ length (words_of (segments_of type_of text.now (word_boundaries_of (word_rules segmenter.entry) (utf8 text.now)))) }
 {
-    let mut boundaries = segmenter.segment_str(text);
-    let mut count = 0;
-    while let Some(_end) = boundaries.next() {
-        if boundaries.is_word_like() {
-            count += 1;
-        }
+    segmenter.segment_str(text).words().count()
+}
+
+/// The words of a text, of letters or numbers, each with the place where it begins, in bytes, and its type. The only error is want of memory.
+pub fn words<'s>(
+    alloc: Global,
+    segmenter: WordSegmenterBorrowed<'_>,
+    text: &'s str,
+) -> Result<Vec<(usize, &'s str, WordType)>, AllocError>
+    ensures { IfOk result (λ found. map (λ word. record { offset = word.0; units = word.1.now; mark = word.2 }) found.items ≡ words_of (segments_of type_of text.now (word_boundaries_of (word_rules segmenter.entry) (utf8 text.now)))) }
+{
+    segmenter.segment_str(text).words().collect(alloc)
+}
+
+/// A text as it is shown to one who looked for `query`: with each segment that equals it in brackets. The only error is want of memory.
+pub fn highlighted(
+    alloc: Global,
+    segmenter: WordSegmenterBorrowed<'_>,
+    text: &str,
+    query: &str,
+) -> Result<String, AllocError>
+    ensures { IfOk result (λ found. string_bytes found ≡ flat_map (shown query.now) (units_of (segments_of type_of text.now (word_boundaries_of (word_rules segmenter.entry) (utf8 text.now))))) }
+{
+    let mut found = String::new(alloc);
+    for segment in segmenter.segment_str(text).segments() {
+        push_shown(&mut found, query, segment)?;
     }
-    count
+    Ok(found)
+}
+
+// Adds a segment as it is shown.
+fn push_shown(found: &mut String, query: &str, segment: &str) -> Result<(), AllocError>
+    ensures { OnOk result (string_bytes found.new ≡ string_bytes found.old ++ shown query.now segment.now) }
+{
+    if segment != query {
+        return found.push_str(segment);
+    }
+    found.push('[')?;
+    found.push_str(segment)?;
+    found.push(']')
 }

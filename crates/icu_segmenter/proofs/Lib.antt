@@ -1,3 +1,5 @@
 pub mod Callers
 mod Cutting
 mod Whole
+mod Nearest
+mod Parts

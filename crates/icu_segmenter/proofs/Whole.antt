@@ -1,12 +1,15 @@
 -- The segments of a text, all together.
-use Rattle.std.proofs.Common.{◌≡◌, ℕ, ◌-◌, ◌<◌, ◌≤◌, List, [], ◌∷◌, ◌++◌, length, drop, refl, sym, ap, ◌∙◌, arith}
+use Rattle.std.proofs.Common.{◌≡◌, ℕ, ◌-◌, ◌<◌, ◌≤◌, Bool, List, [], ◌∷◌, ◌++◌, length, length-append, drop, refl, sym, ap, ◌∙◌, arith}
 use Rattle.std.specs.Prelude.{All}
 use Rattle.std.specs.List.{flat_map}
-use Rattle.std.proofs.lemmas.List.{drop-drop, drop_all, length-drop, length-take-le, take-append-drop}
-use Rattle.std.proofs.lemmas.List.Elements.{All-cons, All-nil}
+use Rattle.std.proofs.lemmas.List.{drop-drop, drop_all, length-drop, length-map, length-take-le, take-append-drop}
+use Rattle.std.proofs.lemmas.List.Elements.{All-cons, All-head, All-nil, All-tail}
+use Rattle.std.proofs.lemmas.List.Sums.{count_by-le-length, length-filter}
 use Rattle.seg_text.specs.Items.{Text}
+use Rattle.seg_words.specs.declared.word.WordType.{WordType}
+use Rattle.seg_words.specs.WordRules.{is_word_like}
 use Rattle.seg_wrap.specs.Wrapping.{between}
-use Rattle.icu_segmenter.specs.TextSegments.{AreCuts, AreSegments, IsPlace, Segment, segments_from, units_of}
+use Rattle.icu_segmenter.specs.TextSegments.{AreCuts, AreSegments, IsPlace, Segment, indices_of, segments_from, units_of, words_of}
 use Rattle.icu_segmenter.proofs.Cutting.{cuts-within}
 
 -- the segment from one place up to the next boundary
@@ -59,3 +62,27 @@ pub joined-units : {M : Type 0} (segments : List (Segment M))
     → flat_map (λ (units : List ℕ). units) (units_of segments) ≡ flat_map (λ (segment : Segment M). segment.units) segments
 joined-units [] = refl
 joined-units (segment ∷ segments) = ap (λ (later : List ℕ). segment.units ++ later) (joined-units segments)
+
+-- each has some units, so there are no more of them than units
+pub few : {M : Type 0} (segments : List (Segment M)) → All (λ (segment : Segment M). 0 < length segment.units) segments
+    → length segments ≤ length (flat_map (λ (segment : Segment M). segment.units) segments)
+few [] some = omega arith
+few (segment ∷ segments) some =
+    omega (
+      arith,
+      All-head (λ (one : Segment _). 0 < length one.units) segment segments some,
+      length-append segment.units (flat_map (λ (one : Segment _). one.units) segments),
+      few segments (All-tail (λ (one : Segment _). 0 < length one.units) segment segments some),
+    )
+
+-- .. and so of those that are words
+pub few-words : (segments : List (Segment WordType)) → length (words_of segments) ≤ length segments
+few-words segments =
+    let is_word : Segment WordType → Bool = λ segment. is_word_like segment.mark in
+    omega (arith, length-filter is_word segments, count_by-le-length is_word segments)
+
+pub few-units : {M : Type 0} (segments : List (Segment M)) → length (units_of segments) ≡ length segments
+few-units segments = length-map segments _
+
+pub few-indices : {M : Type 0} (segments : List (Segment M)) → length (indices_of segments) ≡ length segments
+few-indices segments = length-map segments _

@@ -28,6 +28,8 @@ pub use Rattle.seg_pairs.specs.Breaks
 pub use Rattle.seg_pairs.specs.Chains
 pub use Rattle.seg_engine.specs.Rules
 pub use Rattle.seg_engine.specs.Engine
+pub use Rattle.seg_engine.specs.Resets
+pub use Rattle.seg_engine.specs.Parted
 pub use Rattle.seg_clusters.specs.Clusters
 pub use Rattle.seg_clusters.specs.Sentences
 pub use Rattle.seg_line_rules.specs.LineClasses
@@ -52,6 +54,7 @@ pub use Rattle.seg_lines.specs.LineTailorings
 pub use Rattle.seg_lines.specs.Lines
 pub use Rattle.seg_lines.specs.Joined
 pub use Rattle.seg_lines.specs.LineBreaks
+pub use Rattle.seg_lines.specs.LineResets
 pub use Rattle.seg_lines.specs.Unmarked
 pub use Rattle.seg_text.specs.Cuts
 pub use Rattle.seg_pairs.specs.Runs
@@ -67,11 +70,14 @@ pub use Rattle.seg_complex.specs.DictionaryCuts
 pub use Rattle.seg_complex.specs.LaterPlaces
 pub use Rattle.seg_complex.specs.Payloads
 pub use Rattle.seg_complex.specs.InnerCuts
+pub use Rattle.seg_complex.specs.Outside
 pub use Rattle.seg_words.specs.WordRules
 pub use Rattle.seg_words.specs.WordFaults
+pub use Rattle.seg_words.specs.WordResets
 pub use Rattle.seg_words.specs.Words
 pub use Rattle.seg_wrap.specs.Wrapping
 pub use Rattle.seg_wrap.specs.WrapLaw
 pub use Rattle.seg_wrap.specs.WrappedLines
 pub mod TextSegments
 pub mod SegmentsLeft
+pub mod NearBoundaries

@@ -5,6 +5,7 @@
 //! encoding of `scaffold`, with no further refusal.
 #![tactic(auto)]
 
+pub mod cursor;
 pub mod segments;
 
 pub use seg_clusters::grapheme::{GraphemeClusterSegmenter, GraphemeClusterSegmenterBorrowed};
@@ -62,6 +63,13 @@ pub mod rule_segmenter_v1 {
 pub mod rule_segmenter_v2 {
     pub use seg_machine::rule_segmenter_v2::RuleBreakIterator;
     pub use seg_memo::reader::{CountedTransitions, ReadTransitions};
+}
+
+/// Laws of the boundaries, for callers' proofs: a caller calls one where its proof needs what the law ensures. They do nothing.
+pub mod laws {
+    pub use seg_clusters::laws::{grapheme, sentence};
+    pub use seg_lines::laws as line;
+    pub use seg_words::laws as word;
 }
 
 /// The options of segmenters, the language of a text, which is one of them, and the types of words.

@@ -72,6 +72,7 @@ pub trait BreakIterator: Drop + Sized {
         ensures segments { segments_left result ≡ units_of (segments_of mark (whole self) (left self)) }
         ensures joined { flat_map (λ segment. segment) (segments_left result) ≡ whole self }
         ensures some { All (λ segment. 0 < length segment) (segments_left result) }
+        ensures few { length (segments_left result) ≤ length (whole self) }
     {
         Segments {
             segments: self.marked_segments(),
@@ -84,6 +85,7 @@ pub trait BreakIterator: Drop + Sized {
         requires cover { IsCover 0 (length (whole self)) (left self) }
         ensures segments { indices_left result ≡ indices_of (segments_of mark (whole self) (left self)) }
         ensures places { All (λ segment. IsPlace (decode (whole self)) segment.0) (indices_left result) }
+        ensures few { length (indices_left result) ≤ length (whole self) }
     {
         SegmentIndices {
             segments: self.marked_segments(),
@@ -97,6 +99,7 @@ pub trait BreakIterator: Drop + Sized {
         requires cover { IsCover 0 (length (whole self)) (left self) }
         ensures segments { result ≡ segments_of mark (whole self) (left self) }
         ensures whole { AreSegments (decode (whole self)) (whole self) result }
+        ensures few { length result ≤ length (whole self) }
     {
         let text = self.text();
         let mut breaks = self;
@@ -115,7 +118,8 @@ pub trait WordBreaks: BreakIterator<Mark = WordType> {
     final fn words(self) -> Words<Self>
         requires found { Self.left self ≡ boundaries_in (Self.find self) (Self.decode (Self.whole self)) }
         requires cover { IsCover 0 (length (Self.whole self)) (Self.left self) }
-        ensures { words_left result ≡ words_of (segments_of Self.mark (Self.whole self) (Self.left self)) }
+        ensures words { words_left result ≡ words_of (segments_of Self.mark (Self.whole self) (Self.left self)) }
+        ensures few { length (words_left result) ≤ length (Self.whole self) }
     {
         Words {
             segments: self.marked_segments(),

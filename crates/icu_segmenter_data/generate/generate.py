@@ -163,8 +163,9 @@ def classes(machine):
 
 def table_uses(machine, table):
     entries = [e if isinstance(e, str) else e[0] for row in table.entries for e in row]
-    names = {"CONTINUE" if status is None else f"ACCEPT_{status}" for status in machine.accepted}
-    names |= {"Entry", "Numbers"} | {e for e in entries if e.isupper()}
+    names = {"Numbers"} | {e for e in entries if e.isupper()}
+    if machine:
+        names |= {"Entry"} | {"CONTINUE" if status is None else f"ACCEPT_{status}" for status in machine.accepted}
     variants = ", ".join(["self"] + sorted({e for e in entries if not e.isupper()}))
     return [f"use crate::parts::{{{', '.join(sorted(names))}}};", f"use icu_segmenter::provider::BreakState::{{{variants}}};"]
 
@@ -272,12 +273,27 @@ def lines(database, version):
         *entries_array(table, class_names), *numbers_of(table, class_numbers["SA"])])
 
 
+def lines_17(database, version):
+    # Its rules are those of lines, over the classes that the engine 17 names; it glues marks itself.
+    machine = machines.Rules(rules.LINES, rules.LINE_SYMBOLS, rules.LINE_GROUPS, rules.LINE_STATUS,
+                             rules.LINE_STATUS_AT_END).machine()
+    names = {k: name for k, name in enumerate(properties.LINE_17_CLASSES) if name}
+    numbers = {name: k for k, name in names.items()}
+    alike = [k for k, name in names.items() if properties.LINE_17_CLASS_SYMBOLS[name] == name]
+    table = pair_tables.pair_table(machine, {k: properties.LINE_17_CLASS_SYMBOLS[name] for k, name in names.items()}, alike)
+    class_of = {c: numbers[name] for c, name in properties.line_17_classes(database).items()}
+    return file("lines_17/data.rt", version, "Lines by the engine 17: the parts of the pair table, by UAX #14.", table_uses(None, table), [
+        *ranges_array("The code points of each class; others have OTHER_CLASS.", "CLASSES", "u8", properties.ranges(class_of, numbers["XX"])),
+        *constant("The class of the code points that no range of CLASSES holds.", "OTHER_CLASS", "u8", numbers["XX"]),
+        *entries_array(table, names), *numbers_of(table, numbers["SA"])])
+
+
 def main():
     folder = sys.argv[1] if len(sys.argv) > 1 else os.path.join(os.sep, "usr", "share", "unicode")
     database = properties.Database(folder)
     version = database.version()
     dotted = ".".join(map(str, version))
-    files = [kind(database, dotted) for kind in (clusters, words, sentences, lines)]
+    files = [kind(database, dotted) for kind in (clusters, words, sentences, lines, lines_17)]
     files.append(file("version.rt", dotted, "The version of the Unicode Standard.", [], [
         "/// The version of the Unicode Standard whose data these are: major, minor and update.",
         f"pub const UNICODE_VERSION: (u8, u8, u8) = {version};"]))

@@ -178,7 +178,8 @@ class Rules:
             return None
         if state[4] is not None and self.status_at_end is None:
             raise SystemExit("an undecided place is none at the end of the text, which has no status")
-        return None if self.status_at_end is None else ENDED
+        # Where the segment has that status anyway, the step would change nothing, and without it the machine is reset there.
+        return None if self.status_at_end in (None, self.accepted(state)) else ENDED
 
     def is_glued(self, state, symbol):
         return symbol in self.marks and state[3]

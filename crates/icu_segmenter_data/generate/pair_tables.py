@@ -21,13 +21,16 @@ def status_of(machine, state):
     return before.pop()
 
 
-def pair_table(machine, symbol_of_class):
-    """The table over these classes, numbers from 1 on with the symbol that each stands for; class 0 is nothing's."""
+def pair_table(machine, symbol_of_class, named_alike=()):
+    """The table over these classes, numbers from 1 on with the symbol that each stands for; class 0 is nothing's.
+
+    A walk that comes to the state after a symbol goes on in the row of a class that stands for it: one of `named_alike` where there
+    is one, and otherwise the lowest."""
     last = max(symbol_of_class)
     start_of_text, end_of_text = last + 1, last + 2
     alone = {c: machine.next_state(0, machine.symbols.index(s) + 1) for c, s in symbol_of_class.items()}
     rows, states, named = {}, [], {}
-    for c in sorted(symbol_of_class):
+    for c in sorted(symbol_of_class, key=lambda c: (c not in named_alike, c)):
         named.setdefault(alone[c], c)
 
     def row_of(state):

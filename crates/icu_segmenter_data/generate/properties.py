@@ -198,3 +198,39 @@ def line_classes(database):
     split("PO", "PO_EAW", full | wide["A"])
     split("PR", "PR_EAW", full | wide["A"])
     return one_each(found)
+
+
+# The classes of lines by the engine 17, by their numbers.
+LINE_17_CLASSES = (" AI AI_EASTASIAN AK AL AL_DOTTED_CIRCLE AL_EASTASIAN AP AS B2 BA BA_EASTASIAN BB BK CB CJ CL CL_EASTASIAN CM CM_EASTASIAN CP CR "
+                   "EB EB_EASTASIAN EM EX EX_EASTASIAN GL GL_EASTASIAN H2 H3 HH HL HY ID ID_CN ID_EASTASIAN IN IN_EASTASIAN IS JL JT JV LF NL NS "
+                   "NS_EASTASIAN NU OP OP_EASTASIAN PO PO_EASTASIAN PR PR_EASTASIAN QU QU_PF QU_PI RI SA SA_MC_MN SP SY VF VI WJ XX XX_EXTPICT "
+                   "ZW ZWJ").split(" ")
+
+# What the rules read for each: the class without what the engine alone tells apart.
+LINE_17_CLASS_SYMBOLS = {
+    name: {**LINE_CLASS_SYMBOLS, "HH": "BA", "OP": "OP_NARROW", "OP_EASTASIAN": "OP_WIDE", "SA_MC_MN": "AL", "XX_EXTPICT": "ID_UNASSIGNED"}.get(
+        name, LINE_CLASS_SYMBOLS.get(name.removesuffix("_EASTASIAN"), name.removesuffix("_EASTASIAN")))
+    for name in LINE_17_CLASSES if name}
+
+
+def line_17_classes(database):
+    """The class of each code point by the engine 17; others have XX. All of SA is complex, marks too."""
+    found = database.values("LineBreak.txt")
+    wide, categories = database.values("EastAsianWidth.txt"), database.categories()
+    for name in ["XX", "SG"]:
+        found.pop(name, None)
+
+    def split(name, part, chosen):
+        found[part] = found[name] & chosen
+        found[name] -= chosen
+
+    split("ID", "ID_CN", database.pictographs() & categories["Cn"])
+    split("SA", "SA_MC_MN", categories["Mn"] | categories["Mc"])
+    split("BA", "HH", {0x2010})
+    split("AL", "AL_DOTTED_CIRCLE", {0x25CC})
+    split("QU", "QU_PI", categories["Pi"])
+    split("QU", "QU_PF", categories["Pf"])
+    for name in LINE_17_CLASSES:
+        if name.endswith("_EASTASIAN"):
+            split(name.removesuffix("_EASTASIAN"), name, wide["F"] | wide["W"] | wide["H"])
+    return one_each(found)

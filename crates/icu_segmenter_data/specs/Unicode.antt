@@ -7,6 +7,7 @@ use Rattle.icu_segmenter.specs.Table.{table}
 use Rattle.icu_segmenter_data.specs.Tailorings.{tailoring_maps}
 use Rattle.icu_segmenter_data.specs.declared.clusters.data.TheConstants as clusters
 use Rattle.icu_segmenter_data.specs.declared.lines.data.TheConstants as lines
+use Rattle.icu_segmenter_data.specs.declared.lines_17.data.TheConstants as lines_17
 use Rattle.icu_segmenter_data.specs.declared.sentences.data.TheConstants as sentences
 use Rattle.icu_segmenter_data.specs.declared.words.data.TheConstants as words
 
@@ -44,3 +45,8 @@ abbrev pub line_table : PairTable
 line_table =
     let numbers = lines.NUMBERS in
     pair_table (table lines.CLASSES lines.OTHER_CLASS) lines.ENTRIES [] numbers.count numbers.last numbers.start_of_text numbers.end_of_text numbers.complex
+
+abbrev pub line_17_table : PairTable
+line_17_table =
+    let numbers = lines_17.NUMBERS in
+    pair_table (table lines_17.CLASSES lines_17.OTHER_CLASS) lines_17.ENTRIES [] numbers.count numbers.last numbers.start_of_text numbers.end_of_text numbers.complex

@@ -8,6 +8,7 @@
 
 mod clusters;
 mod lines;
+mod lines_17;
 mod parts;
 mod segmenters;
 mod sentences;
@@ -16,6 +17,7 @@ mod words;
 
 pub use clusters::{cluster_machine, cluster_table};
 pub use lines::{line_machine, line_table, line_tailorings};
+pub use lines_17::line_17_table;
 pub use segmenters::{grapheme_segmenter, line_segmenter, sentence_segmenter, word_segmenter};
 pub use sentences::{sentence_machine, sentence_table};
 pub use version::UNICODE_VERSION;

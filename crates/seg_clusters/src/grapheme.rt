@@ -1,6 +1,6 @@
 //! Grapheme clusters: what a reader takes for one character.
 
-ghost use Rattle.std.specs.Prelude.{◌≡◌, ℕ, None, List, length, IfOk, IfErr, IsOkAnd};
+ghost use Rattle.std.specs.Prelude.{◌≡◌, ◌↔◌, ℕ, None, List, length, IfOk, IfErr, IsOkAnd, IsTrue};
 ghost use Rattle.std.specs.Iterator.{YieldsFirst, item_count};
 ghost use Rattle.seg_text.specs.Items.{start_of};
 ghost use Rattle.seg_text.specs.Latin1.{latin1};
@@ -10,6 +10,7 @@ ghost use Rattle.seg_text.specs.Boundaries.{IsCover};
 ghost use Rattle.seg_data.specs.Faults.{IsFaultless, IsLowestFault};
 ghost use Rattle.seg_pair_data.specs.PairFaults.{HasPairDataFault};
 ghost use Rattle.seg_engine.specs.Engine.{rules_of};
+ghost use Rattle.seg_engine.specs.Resets.{ResetsAfter};
 ghost use Rattle.seg_engine.specs.Rules.{boundaries_of, machine_in};
 ghost use Rattle.seg_engine.specs.Rules.Rules.{ByTable, ByMachine};
 ghost use Rattle.seg_memo.specs.Memos.{IsMemoRefusal, IsNewMemo};
@@ -192,6 +193,16 @@ impl<'data> GraphemeClusterSegmenterBorrowed<'data> {
         ensures status { result.status ≡ 0 }
     {
         self.engine.boundaries(text)
+    }
+
+    /// Whether a text may be parted behind the code point, so that each part has the boundaries that it has alone
+    /// (`laws::grapheme::parts_behind_resets`): a scan of the machine that reads the code point's symbol is over there, from
+    /// whatever state. By a pair table it is `false`. Takes no memory; asks the machine for at most as many steps as it has
+    /// transitions.
+    pub fn resets_after(self, code_point: char) -> bool
+        ensures { IsTrue result ↔ ResetsAfter (cluster_rules self.entry) code_point }
+    {
+        self.engine.resets_after(code_point)
     }
 
     /// The boundaries of the clusters of a `str`, in bytes: those of its bytes as UTF-8. Takes no memory.

@@ -1,6 +1,6 @@
 //! Sentences.
 
-ghost use Rattle.std.specs.Prelude.{◌≡◌, ℕ, List, length, IfOk, IfErr};
+ghost use Rattle.std.specs.Prelude.{◌≡◌, ◌↔◌, ℕ, List, length, IfOk, IfErr, IsTrue};
 ghost use Rattle.std.specs.Iterator.{YieldsFirst, item_count};
 ghost use Rattle.std.specs.Option.{option_map};
 ghost use Rattle.seg_text.specs.Items.{start_of};
@@ -14,6 +14,7 @@ ghost use Rattle.seg_machine.specs.Machine.{with_tailoring};
 ghost use Rattle.seg_pair_data.specs.Overriding.{table_in};
 ghost use Rattle.seg_pair_data.specs.PairFaults.{HasPairDataFault};
 ghost use Rattle.seg_engine.specs.Engine.{rules_of};
+ghost use Rattle.seg_engine.specs.Resets.{ResetsAfter};
 ghost use Rattle.seg_engine.specs.Rules.{boundaries_of, machine_in};
 ghost use Rattle.seg_engine.specs.Rules.Rules.{ByTable, ByMachine};
 ghost use Rattle.seg_memo.specs.Memos.{IsMemoRefusal, IsNewMemo};
@@ -221,6 +222,16 @@ impl<'data> SentenceSegmenterBorrowed<'data> {
         Ok(SentenceSegmenterBorrowed {
             engine: Engine::Neo(TailoredMachineBorrowed::try_new(machine, tailoring)?),
         })
+    }
+
+    /// Whether a text may be parted behind the code point, so that each part has the boundaries that it has alone
+    /// (`laws::sentence::parts_behind_resets`): a scan of the machine that reads the code point's symbol is over there, from
+    /// whatever state. By a pair table it is `false`. Takes no memory; asks the machine for at most as many steps as it has
+    /// transitions.
+    pub fn resets_after(self, code_point: char) -> bool
+        ensures { IsTrue result ↔ ResetsAfter (sentence_rules self.entry) code_point }
+    {
+        self.engine.resets_after(code_point)
     }
 
     /// The boundaries of the sentences of a `str`, in bytes: those of its bytes as UTF-8. Takes no memory.

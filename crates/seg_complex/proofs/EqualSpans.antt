@@ -5,7 +5,7 @@ use Rattle.std.specs.Prelude.{Option, None, Some}
 use Rattle.std.specs.List.{prefix_len}
 use Rattle.seg_text.specs.declared.boundary.Boundary.{Boundary}
 use Rattle.seg_text.specs.Boundaries.{offsets}
-use Rattle.seg_text.specs.Cuts.{Cuts, with_status}
+use Rattle.seg_text.specs.Cuts.{with_status}
 use Rattle.seg_text.specs.Stretches.{Stretch, later_boundaries}
 use Rattle.seg_data.specs.declared.provider.ComplexScript.{ComplexScript}
 use Rattle.seg_dictionary.specs.ScriptWords.{ScriptWords, AreSameWords, IsSameChoice, words_in}

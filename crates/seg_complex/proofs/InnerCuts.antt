@@ -3,8 +3,7 @@ use Rattle.std.proofs.Common.{◌≡◌, ℕ, zero, suc, ◌<◌, ◌≤◌, Lis
 use Rattle.std.specs.Prelude.{Option, None, Some}
 use Rattle.std.specs.Option.{option_map, option_to_list}
 use Rattle.std.specs.Iterator.{YieldsFirst}
-use Rattle.seg_text.specs.declared.boundary.Boundary.{Boundary}
-use Rattle.seg_text.specs.Items.{Item, Text, start_of, rest_after, text_before, code_points}
+use Rattle.seg_text.specs.Items.{Item, Text, rest_after, text_before, code_points}
 use Rattle.seg_text.specs.Boundaries.{boundary_in, boundaries_in, offsets, RisesTo}
 use Rattle.seg_text.specs.Cuts.{AreCutsOf, cut_places, with_status}
 use Rattle.seg_text.specs.Stretches.{later_boundaries}
@@ -35,7 +34,7 @@ inside-cuts n [] are = tt
 inside-cuts n (cut ∷ []) are = tt
 inside-cuts n (cut ∷ next ∷ cuts) are = (are.0, inside-cuts n (next ∷ cuts) are.1)
 
-abbrev in-span : Clusters → InSpan
+abbrev pub in-span : Clusters → InSpan
 in-span clusters found span = with_status 0 (inside (span_cuts clusters found span))
 
 -- what was given and what is left are what was there

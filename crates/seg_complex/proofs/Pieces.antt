@@ -13,7 +13,7 @@ use Rattle.seg_complex.specs.Scripts.{script_of, script_number, has_script}
 use Rattle.seg_complex.specs.Pieces.{HaveScript, IsPiece, Differ, joined, ArePieces, piece_length, pieces_within, pieces}
 
 -- a script is told by its number
-same-number : (a b : ComplexScript) → script_number a ≡ script_number b → a ≡ b
+pub same-number : (a b : ComplexScript) → script_number a ≡ script_number b → a ≡ b
 same-number None None same = refl
 same-number None b same = absurd (omega arith)
 same-number Myanmar Myanmar same = refl

@@ -7,3 +7,4 @@ pub mod Payloads
 pub mod LaterPlaces
 pub mod Spans
 pub mod InnerCuts
+pub mod Outside

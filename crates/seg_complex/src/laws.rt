@@ -7,8 +7,11 @@ ghost use Rattle.seg_data.specs.declared.provider.ComplexScript.{ComplexScript};
 ghost use Rattle.seg_dictionary.specs.ScriptWords.{ScriptWords, AreSameWords};
 ghost use Rattle.seg_dictionary.specs.WordSets.{IsSameSet, Words};
 ghost use Rattle.seg_engine.specs.Rules.{boundaries_by};
+ghost use Rattle.seg_machine.specs.Machine.{Machine};
 ghost use Rattle.seg_clusters.specs.Clusters.{cluster_rules};
 ghost use Rattle.seg_complex.specs.DictionaryCuts.{AreDictionaryCuts, Clusters, dictionary_cuts, by_dictionaries};
+ghost use Rattle.seg_complex.specs.InnerCuts.{inner_cuts};
+ghost use Rattle.seg_complex.specs.Outside.{IsOutsideRuns, PartsCuts};
 ghost use Rattle.seg_complex.specs.Payloads.{Payloads, run_cuts_by};
 ghost use Rattle.seg_complex.specs.Pieces.{ArePieces, pieces};
 ghost use Rattle.seg_complex.specs.RunCuts.{PieceCuts, CoverPieces, CoverRuns, at_end, run_cuts};
@@ -62,6 +65,14 @@ pub fn equal_words()
     ensures pieces { (words others : Words) → IsSameSet words others → (clusters : Clusters) → dictionary_cuts words clusters ≡ dictionary_cuts others clusters }
     ensures runs { (payloads : Payloads) (others : ScriptWords) → AreSameWords payloads.words others
         → run_cuts_by (record { words = others; clusters = payloads.clusters }) ≡ run_cuts_by payloads }
+{}
+
+/// Law: the cuts strictly inside runs, where a machine tells the runs, may be parted behind each code point that stands in no
+/// run: where the first of two lists of code points ends with it, the cuts of both, joined, are those of the first, and then
+/// those of the second, so much later.
+pub fn cuts_part_outside_runs()
+    ensures { (m : Machine) (payloads : Payloads) (code_point : ℕ) → IsOutsideRuns m payloads.words code_point
+        → PartsCuts (inner_cuts m payloads) code_point }
 {}
 
 /// Law: where small sets of words cut, where U+0301 and U+0E34 belong to the cluster before them and each other code point

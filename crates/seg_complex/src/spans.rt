@@ -1,8 +1,9 @@
 //! Spans of a text by a machine: the runs of one script that has words, and the pieces between them.
 
-ghost use Rattle.std.specs.Prelude.{◌≡◌};
+ghost use Rattle.std.specs.Prelude.{◌≡◌, ◌↔◌, IsTrue};
 ghost use Rattle.seg_dictionary.specs.ScriptWords.{lent_words};
 ghost use Rattle.seg_machine.specs.Tailored.{machine_of};
+ghost use Rattle.seg_complex.specs.Outside.{IsOutsideRuns};
 ghost use Rattle.seg_complex.specs.Spans.{GivesSpan, worded_script};
 
 use seg_data::provider::ComplexScript;
@@ -45,6 +46,17 @@ fn worded_script(
         Some(_) => script,
         None => ComplexScript::None,
     }
+}
+
+/// Whether a code point stands in no run: by the machine it has no script that has words.
+pub fn is_outside_runs(
+    machine: TailoredMachineBorrowed<'_>,
+    dictionaries: DictionariesBorrowed<'_>,
+    code_point: u32,
+) -> bool
+    ensures { IsTrue result ↔ IsOutsideRuns (machine_of machine.entry) (lent_words dictionaries.entry) code_point }
+{
+    worded_script(machine, dictionaries, code_point) == ComplexScript::None
 }
 
 /// The next span of a text, as a text whose places, in units, are those of the whole, and the words of its script, if it is a

@@ -1,3 +1,5 @@
 pub mod Rules
 pub mod Engine
 pub mod Remainders
+pub mod Resets
+pub mod Parted

@@ -1,13 +1,15 @@
 //! The engine of a segmenter: that of a pair table, or that of a state machine.
 
-ghost use Rattle.std.specs.Prelude.{◌≡◌, ⊤, IfOk, IfErr};
+ghost use Rattle.std.specs.Prelude.{◌≡◌, ◌↔◌, ⊤, IsTrue, IfOk, IfErr};
 ghost use Rattle.std.specs.Iterator.{YieldsFirst, MakesProgress, item_count};
 ghost use Rattle.seg_text.specs.Items.{start_of};
 ghost use Rattle.seg_text.specs.Boundaries.{GivesNext, IsCover, offsets_left};
 ghost use Rattle.seg_engine.specs.Engine.{rules_of, owned_rules};
+ghost use Rattle.seg_engine.specs.Resets.{ResetsAfter};
 ghost use Rattle.seg_engine.specs.Rules.{boundaries_of, machine_in};
 ghost use Rattle.seg_memo.specs.Memos.{IsMemoRefusal, IsNewMemo};
 
+use crate::resets::is_reset;
 use seg_machine::rule_segmenter_v2;
 use seg_machine::tailored_machine::{TailoredMachine, TailoredMachineBorrowed};
 use seg_memo::memo::{MemoBreakIterator, MemoError};
@@ -62,6 +64,18 @@ impl<'data> Engine<'data> {
             Engine::Neo(machine) => Boundaries {
                 by: BoundariesBy::Neo(rule_segmenter_v2::RuleBreakIterator::new(machine, text)),
             },
+        }
+    }
+
+    /// Whether a text may be parted behind the code point, so that each part has the boundaries that it has alone
+    /// (`laws::parts_behind_resets`): a scan of the machine that reads the code point's symbol is over there, from whatever state.
+    /// By a pair table it is `false`. Takes no memory; asks the machine for at most as many steps as it has transitions.
+    pub fn resets_after(self, code_point: char) -> bool
+        ensures { IsTrue result ↔ ResetsAfter (rules_of self.entry) code_point }
+    {
+        match self {
+            Engine::Classic(_) => false,
+            Engine::Neo(machine) => is_reset(machine, machine.symbol(code_point as u32)),
         }
     }
 

@@ -4,6 +4,8 @@ ghost use Rattle.std.specs.Prelude.{ℕ, List, length};
 ghost use Rattle.seg_text.specs.Boundaries.{HasEqualOrdinals, HasRestart, IsCover};
 ghost use Rattle.seg_text.specs.Stretches.{HasOneAnswer};
 ghost use Rattle.seg_engine.specs.Engine.{rules_of};
+ghost use Rattle.seg_engine.specs.Parted.{PartsTexts};
+ghost use Rattle.seg_engine.specs.Resets.{ResetsAfter};
 ghost use Rattle.seg_engine.specs.Rules.{boundaries_by, first_stretch};
 
 use crate::engine::Engine;
@@ -37,6 +39,19 @@ pub fn restart(engine: Engine<'_>)
 pub fn cover(engine: Engine<'_>)
     ensures { (code_points : List ℕ) → IsCover 0 (length code_points) (boundaries_by (rules_of engine.entry) code_points) }
 {
+    if let Engine::Neo(machine) = engine {
+        machine.facts();
+    }
+}
+
+/// Law: a text may be parted behind each code point that `resets_after` names: where the first of two texts ends with it, the
+/// boundaries of both, joined, are those of the first, and then those of the second but for its start, so much later, with the
+/// same statuses. So it is counted in code points, and as places in possibly ill-formed UTF-8, a `str` too, in Latin-1 and in
+/// possibly ill-formed UTF-16.
+pub fn parts_behind_resets(engine: Engine<'_>, code_point: char)
+    ensures { ResetsAfter (rules_of engine.entry) code_point → PartsTexts (boundaries_by (rules_of engine.entry)) code_point }
+{
+    let _ = code_point;
     if let Engine::Neo(machine) = engine {
         machine.facts();
     }

@@ -52,11 +52,11 @@ pub between-rising : (low high : ℕ) (numbers : List ℕ) → AreBetween low nu
 between-rising low high [] between = tt
 between-rising low high (n ∷ numbers) between = (between-above n high numbers between.2, between-rising n high numbers between.2)
 
-between-at-most : (low high : ℕ) (numbers : List ℕ) → AreBetween low numbers high → AreAtMost high numbers
+pub between-at-most : (low high : ℕ) (numbers : List ℕ) → AreBetween low numbers high → AreAtMost high numbers
 between-at-most low high [] between = tt
 between-at-most low high (n ∷ numbers) between = (omega (arith, between.1), between-at-most n high numbers between.2)
 
-rises-at-most : (boundaries : List Boundary) (from end : ℕ) → RisesTo from boundaries end → AreAtMost end (offsets boundaries)
+pub rises-at-most : (boundaries : List Boundary) (from end : ℕ) → RisesTo from boundaries end → AreAtMost end (offsets boundaries)
 rises-at-most [] from end rises = tt
 rises-at-most (found ∷ boundaries) from end rises =
     (rises-le boundaries found.offset end rises.1, rises-at-most boundaries found.offset end rises.1)
@@ -90,7 +90,7 @@ module _ (m : Machine) (payloads : Payloads) (checked : IsChecked m) (cover : Co
   pub cuts-rising : (code_points : List ℕ) → AreRising (inner_cuts m payloads code_points)
   cuts-rising code_points = between-rising 0 (length code_points) (inner_cuts m payloads code_points) (inner-between m payloads cover code_points)
 
-  counted-cover : (code_points : List ℕ) → IsCover 0 (length code_points) (boundaries_with (ByMachine m) payloads code_points)
+  pub counted-cover : (code_points : List ℕ) → IsCover 0 (length code_points) (boundaries_with (ByMachine m) payloads code_points)
   counted-cover code_points =
       joined-covers (length code_points) (later_boundaries (machine_stretch m) code_points) (inner_cuts m payloads code_points)
       (plain-rises code_points) (inner-between m payloads cover code_points)

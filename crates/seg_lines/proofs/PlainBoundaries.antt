@@ -7,15 +7,15 @@ use Rattle.seg_text.specs.Items.{Text}
 use Rattle.seg_text.specs.Boundaries.{IsCover, RestartsIn, RisesTo, boundary, boundary_in, offsets, shift_all}
 use Rattle.seg_text.specs.Cuts.{with_status}
 
-abbrev plain : List Boundary → List Boundary
+abbrev pub plain : List Boundary → List Boundary
 plain found = with_status 0 (offsets found)
 
-plain-drop : (k : ℕ) (found : List Boundary) → drop k (plain found) ≡ plain (drop k found)
+pub plain-drop : (k : ℕ) (found : List Boundary) → drop k (plain found) ≡ plain (drop k found)
 plain-drop zero found = refl
 plain-drop (suc k) [] = refl
 plain-drop (suc k) (one ∷ found) = plain-drop k found
 
-plain-shift : (before : ℕ) (found : List Boundary) → plain (shift_all before found) ≡ shift_all before (plain found)
+pub plain-shift : (before : ℕ) (found : List Boundary) → plain (shift_all before found) ≡ shift_all before (plain found)
 plain-shift before [] = refl
 plain-shift before (one ∷ found) = ap (λ (rest : List Boundary). boundary (before + one.offset) 0 ∷ rest) (plain-shift before found)
 

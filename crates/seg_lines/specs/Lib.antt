@@ -6,5 +6,6 @@ pub mod Joined
 pub mod First
 pub mod JoinedLeft
 pub mod LineBreaks
+pub mod LineResets
 pub mod LineRemainders
 pub mod Unmarked

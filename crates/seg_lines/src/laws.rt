@@ -3,6 +3,7 @@
 ghost use Rattle.std.specs.Prelude.{◌≡◌, ℕ, List};
 ghost use Rattle.seg_text.specs.Boundaries.{HasEqualOrdinals, RestartsIn};
 ghost use Rattle.seg_dictionary.specs.ScriptWords.{ScriptWords, AreSameWords};
+ghost use Rattle.seg_engine.specs.Parted.{PartsTexts};
 ghost use Rattle.seg_complex.specs.Payloads.{run_cuts_by};
 ghost use Rattle.seg_line_rules.specs.LineBoundaries.{inside};
 ghost use Rattle.seg_line_rules.specs.LineRules.{LineRules as TableRules};
@@ -11,11 +12,13 @@ ghost use Rattle.seg_line_turns.specs.PlainTexts.{ArePlain, HasNoOpening, plain_
 ghost use Rattle.seg_line_turns.specs.TurnMarks.{KeepsTurnMarks, StartsBear};
 ghost use Rattle.seg_lines.specs.LineBreaks.LineFinder.{ByTable, ByTurns};
 ghost use Rattle.seg_lines.specs.LineBreaks.{HasOneList, LineRules, MayRestart, line_boundaries_by, with_words};
+ghost use Rattle.seg_lines.specs.LineResets.{LinesResetAfter};
 ghost use Rattle.seg_lines.specs.Lines.{line_rules};
 ghost use Rattle.seg_lines.specs.Unmarked.{HasNoMandatoryBreak, IsByPairTable};
 
 use crate::finder::Finder;
 use crate::line::LineSegmenterBorrowed;
+use seg_clusters::laws::grapheme;
 use seg_line_rules::laws;
 use seg_line_turns::laws as turn_laws;
 
@@ -55,6 +58,21 @@ pub fn restart(segmenter: LineSegmenterBorrowed<'_>)
         → RestartsIn (line_boundaries_by (line_rules segmenter.entry)) code_points }
 {
     let _ = segmenter;
+}
+
+/// Law: a text may be parted behind each code point that `resets_after` names: where the first of two texts ends with it, the
+/// boundaries of both, joined, are those of the first, and then those of the second but for its start, so much later, with the
+/// same statuses, whatever runs stand in either. So it is counted in code points, and as places in possibly ill-formed UTF-8, a
+/// `str` too, in Latin-1 and in possibly ill-formed UTF-16.
+pub fn parts_behind_resets(segmenter: LineSegmenterBorrowed<'_>, code_point: char)
+    ensures { LinesResetAfter (line_rules segmenter.entry) code_point → PartsTexts (line_boundaries_by (line_rules segmenter.entry)) code_point }
+{
+    grapheme::cover(segmenter.payloads.clusters);
+    grapheme::parts_behind_resets(segmenter.payloads.clusters, code_point);
+    segmenter.payloads.facts();
+    if let Finder::Machine(machine) = segmenter.finder {
+        machine.facts();
+    }
 }
 
 /// Law: by a pair table, by the engine 17 too, no break is mandatory: the status of each boundary of every list of code points is 0.

@@ -1,5 +1,5 @@
 //! Lines: where a text may be broken into lines, and where it must be.
-ghost use Rattle.std.specs.Prelude.{◌≡◌, ◌≢◌, false, length, IfOk, IfErr};
+ghost use Rattle.std.specs.Prelude.{◌≡◌, ◌≢◌, ◌↔◌, false, length, IfOk, IfErr, IsTrue};
 ghost use Rattle.std.specs.Iterator.{YieldsFirst, item_count};
 ghost use Rattle.seg_text.specs.Items.{start_of};
 ghost use Rattle.seg_text.specs.Boundaries.{IsCover};
@@ -13,6 +13,7 @@ ghost use Rattle.seg_line_rules.specs.LineFaults.{HasLineTableFault};
 ghost use Rattle.seg_line_rules.specs.LineStyles.{style_of};
 ghost use Rattle.seg_line_turns.specs.TurnFaults.{HasTurnTableFault};
 ghost use Rattle.seg_lines.specs.LineBreaks.{line_boundaries_of, machine_of_lines, table_lines, turn_lines, with_words};
+ghost use Rattle.seg_lines.specs.LineResets.{LinesResetAfter};
 ghost use Rattle.seg_lines.specs.Lines.{line_rules};
 ghost use Rattle.seg_lines.specs.Options.{machine_choice};
 
@@ -31,8 +32,10 @@ pub use options::{LineBreakOptions, LineBreakStrictness, LineBreakWordOption};
 use options::{MachineChoice, choice_of};
 use seg_clusters::grapheme::{GraphemeClusterSegmenter, GraphemeClusterSegmenterBorrowed};
 use seg_complex::complex::ComplexPayloadsBorrowed;
+use seg_complex::spans::is_outside_runs;
 use seg_data::provider::DataError;
 use seg_dictionary::dictionaries::{Dictionaries, DictionariesBorrowed};
+use seg_engine::engine::Engine;
 use seg_line_rules::line_pairs::{LinePairs, OwnedLinePairs};
 use seg_line_rules::options::LineStyle;
 use seg_line_turns::turn_pairs::{OwnedTurnPairs, TurnPairs};
@@ -383,6 +386,24 @@ impl<'data> LineSegmenterBorrowed<'data> {
         ensures { line_rules self.new ≡ with_words (line_rules self.old) (filled (line_rules self.old).payloads.words (without_ja (lent_words dictionaries.entry))) }
     {
         self.payloads.load(lent_without_ja(dictionaries));
+    }
+
+    /// Whether a text may be parted behind the code point, so that each part has the boundaries that it has alone, with
+    /// whether they are mandatory (`laws::parts_behind_resets`): a scan of the machine that reads the code point's symbol is
+    /// over there, from whatever state, and the code point has no script that has a dictionary here, so that no run goes over
+    /// it. Where clusters are found, it is so where it is of clusters. By a pair table of lines it is `false`. Takes no
+    /// memory; asks the machine for at most as many steps as it has transitions.
+    pub fn resets_after(self, code_point: char) -> bool
+        ensures { IsTrue result ↔ LinesResetAfter (line_rules self.entry) code_point }
+    {
+        match self.finder {
+            Finder::Clusters | Finder::Places => self.payloads.clusters.resets_after(code_point),
+            Finder::Table(_) | Finder::Turns(_) => false,
+            Finder::Machine(machine) => {
+                Engine::Neo(machine).resets_after(code_point)
+                    && is_outside_runs(machine, self.payloads.dictionaries, code_point as u32)
+            }
+        }
     }
 
     /// The boundaries of the lines of a `str`, in bytes: those of its bytes as UTF-8, each with whether it is mandatory. Takes no memory.

@@ -67,7 +67,7 @@ module _ (m : Machine) (payloads : Payloads) (checked : IsChecked m) (cover : Co
       taken-rises (worded_script m payloads.words first) (span_length m payloads.words (first ∷ rest)) first rest
       (span-some m payloads.words first rest) (span-inside m payloads.words (first ∷ rest))
 
-  spans-within : (first : ℕ) (rest : List ℕ) → IsWithin (length (first ∷ rest)) (span_stretch m payloads (first ∷ rest))
+  pub spans-within : (first : ℕ) (rest : List ℕ) → IsWithin (length (first ∷ rest)) (span_stretch m payloads (first ∷ rest))
   spans-within first rest =
       let rises = span-rises first rest in
       record {

@@ -5,10 +5,13 @@ ghost use Rattle.std.specs.Prelude.{◌≡◌, ℕ, List};
 ghost use Rattle.seg_text.specs.Boundaries.{HasEqualOrdinals, RestartsIn};
 ghost use Rattle.seg_text.specs.Stretches.{HasOneAnswer};
 ghost use Rattle.seg_dictionary.specs.ScriptWords.{ScriptWords, AreSameWords};
+ghost use Rattle.seg_engine.specs.Parted.{PartsTexts};
+ghost use Rattle.seg_words.specs.WordResets.{WordsResetAfter};
 ghost use Rattle.seg_words.specs.WordRules.{HasNoRun, WordRules, first_word_stretch, with_words, word_boundaries_by};
 ghost use Rattle.seg_words.specs.Words.{word_rules};
 
 use crate::word::WordSegmenterBorrowed;
+use seg_engine::engine::Engine;
 
 /// Law: a list of code points has exactly one list of boundaries, in code points: the first is at its start, and the
 /// others come from the first stretch of what is left, again and again. Such a stretch is the machine's pick, what the verdict
@@ -41,4 +44,18 @@ pub fn restart(segmenter: WordSegmenterBorrowed<'_>)
         → RestartsIn (word_boundaries_by (word_rules segmenter.entry)) code_points }
 {
     let _ = segmenter;
+}
+
+/// Law: a text may be parted behind each code point that `resets_after` names: where the first of two texts ends with it, the
+/// boundaries of both, joined, are those of the first, and then those of the second but for its start, so much later, with the
+/// same statuses, whatever runs stand in either. So it is counted in code points, and as places in possibly ill-formed UTF-8, a
+/// `str` too, in Latin-1 and in possibly ill-formed UTF-16.
+pub fn parts_behind_resets(segmenter: WordSegmenterBorrowed<'_>, code_point: char)
+    ensures { WordsResetAfter (word_rules segmenter.entry) code_point → PartsTexts (word_boundaries_by (word_rules segmenter.entry)) code_point }
+{
+    let _ = code_point;
+    segmenter.payloads.facts();
+    if let Engine::Neo(machine) = segmenter.engine {
+        machine.facts();
+    }
 }

@@ -1,6 +1,6 @@
 //! Words: the places between which a text's words stand, and which of what stands between two is a word (UAX #29).
 
-ghost use Rattle.std.specs.Prelude.{◌≡◌, ◌≢◌, length, None, IfOk, IfErr};
+ghost use Rattle.std.specs.Prelude.{◌≡◌, ◌≢◌, ◌↔◌, length, None, IfOk, IfErr, IsTrue};
 ghost use Rattle.std.specs.Iterator.{YieldsFirst, item_count};
 ghost use Rattle.seg_text.specs.Items.{start_of};
 ghost use Rattle.seg_text.specs.Latin1.{latin1};
@@ -12,6 +12,7 @@ ghost use Rattle.seg_pair_data.specs.Overriding.{table_in};
 ghost use Rattle.seg_engine.specs.Rules.{machine_in};
 ghost use Rattle.seg_memo.specs.Memos.{IsMemoRefusal, IsNewMemo};
 ghost use Rattle.seg_dictionary.specs.ScriptWords.{filled, lent_words, no_words, script_words};
+ghost use Rattle.seg_words.specs.WordResets.{WordsResetAfter};
 ghost use Rattle.seg_words.specs.WordRules.{is_word_like, machine_words, table_words, type_of, with_words, word_boundaries_of};
 ghost use Rattle.seg_words.specs.Words.{word_rules};
 ghost use Rattle.seg_words.specs.declared.word.WordType.TheVariants.{None as NoWord};
@@ -20,6 +21,7 @@ use crate::boundaries::Boundaries;
 use crate::data::{check_machine, word_pairs};
 use seg_clusters::grapheme::{GraphemeClusterSegmenter, GraphemeClusterSegmenterBorrowed};
 use seg_complex::complex::ComplexPayloadsBorrowed;
+use seg_complex::spans::is_outside_runs;
 use seg_data::provider::{DataError, LanguageIdentifier};
 use seg_dictionary::dictionaries::{Dictionaries, DictionariesBorrowed};
 use seg_engine::engine::{Engine, OwnedEngine};
@@ -404,6 +406,22 @@ impl<'data> WordSegmenterBorrowed<'data> {
                 GraphemeClusterSegmenterBorrowed::new(clusters)?,
             ),
         })
+    }
+
+    /// Whether a text may be parted behind the code point, so that each part has the boundaries that it has alone, with their
+    /// types (`laws::parts_behind_resets`): a scan of the machine that reads the code point's symbol is over there, from
+    /// whatever state, and the code point has no script that has a dictionary here, so that no run goes over it. By a pair
+    /// table it is `false`. Takes no memory; asks the machine for at most as many steps as it has transitions.
+    pub fn resets_after(self, code_point: char) -> bool
+        ensures { IsTrue result ↔ WordsResetAfter (word_rules self.entry) code_point }
+    {
+        match self.engine {
+            Engine::Classic(_) => false,
+            Engine::Neo(machine) => {
+                self.engine.resets_after(code_point)
+                    && is_outside_runs(machine, self.payloads.dictionaries, code_point as u32)
+            }
+        }
     }
 
     /// The boundaries of the words of a `str`, in bytes: those of its bytes as UTF-8, each with its type. Takes no memory.

@@ -2,7 +2,7 @@
 use Rattle.std.specs.Prelude.{◌≡◌, ℕ, ◌-◌, ◌<◌, List, length, take, codes, All}
 use Rattle.std.specs.Borrow.{Bor}
 use Rattle.speed.specs.declared.engine.Engine.{Engine}
-use Rattle.speed.specs.declared.engine.Engine.TheVariants.{GraphemeClassic, GraphemeNeo, GraphemeMemo, SentenceClassic, SentenceNeo, SentenceMemo, WordClassic, WordNeo, WordMemo, LineClassic, LineNeo, LineMemo}
+use Rattle.speed.specs.declared.engine.Engine.TheVariants.{GraphemeClassic, GraphemeNeo, GraphemeMemo, SentenceClassic, SentenceNeo, SentenceMemo, WordClassic, WordNeo, WordMemo, LineClassic, Line17, LineNeo, LineMemo}
 
 -- the word of an engine
 abbrev pub word_of : Engine → List ℕ
@@ -16,6 +16,7 @@ word_of WordClassic = codes "word-classic"
 word_of WordNeo = codes "word-neo"
 word_of WordMemo = codes "word-memo"
 word_of LineClassic = codes "line-classic"
+word_of Line17 = codes "line-17"
 word_of LineNeo = codes "line-neo"
 word_of LineMemo = codes "line-memo"
 

@@ -6,6 +6,7 @@ use Rattle.bench.specs.Lines.{line_machine as small_line_machine}
 use Rattle.bench.specs.LineTables.{line_table as small_line_table}
 use Rattle.bench.specs.PairTables.{cluster_table as small_cluster_table, sentence_table as small_sentence_table, word_table as small_word_table}
 use Rattle.bench.specs.Sentences.{sentence_machine as small_sentence_machine}
+use Rattle.bench.specs.TurnTables.{turn_table as small_line_17_table}
 use Rattle.bench.specs.Words.{word_machine as small_word_machine}
 use Rattle.icu_segmenter_data.specs.Unicode as unicode
 use Rattle.speed.specs.declared.engine.Data.{Data}
@@ -38,6 +39,10 @@ word_machine Real = unicode.word_machine
 abbrev pub line_table : Data → PairTable
 line_table Small = small_line_table
 line_table Real = unicode.line_table
+
+abbrev pub line_17_table : Data → PairTable
+line_17_table Small = small_line_17_table
+line_17_table Real = unicode.line_17_table
 
 abbrev pub line_machine : Data → Machine
 line_machine Small = small_line_machine

@@ -3,7 +3,7 @@ use Rattle.std.specs.Prelude.{ℕ, None, List}
 use Rattle.icu_segmenter.specs.Boundaries.{offsets}
 use Rattle.icu_segmenter.specs.Clusters.{owned_cluster_rules}
 use Rattle.icu_segmenter.specs.Items.{Text}
-use Rattle.icu_segmenter.specs.LineBreaks.{LineRules, line_boundaries_of, machine_lines, table_lines}
+use Rattle.icu_segmenter.specs.LineBreaks.{LineRules, line_boundaries_of, machine_lines, table_lines, turn_lines}
 use Rattle.icu_segmenter.specs.LineRules.{default_rules}
 use Rattle.icu_segmenter.specs.Lines.{owned_line_rules}
 use Rattle.icu_segmenter.specs.Rules.{Rules, boundaries_of}
@@ -13,10 +13,10 @@ use Rattle.icu_segmenter.specs.Sentences.{owned_sentence_rules}
 use Rattle.icu_segmenter.specs.Utf8.{utf8}
 use Rattle.icu_segmenter.specs.WordRules.{WordRules, machine_words, table_words, word_boundaries_of}
 use Rattle.icu_segmenter.specs.Words.{owned_word_rules}
-use Rattle.speed.specs.Data.{cluster_machine, cluster_table, line_machine, line_table, sentence_machine, sentence_table, word_machine, word_table}
+use Rattle.speed.specs.Data.{cluster_machine, cluster_table, line_17_table, line_machine, line_table, sentence_machine, sentence_table, word_machine, word_table}
 use Rattle.speed.specs.declared.engine.Data.{Data}
 use Rattle.speed.specs.declared.engine.Engine.{Engine}
-use Rattle.speed.specs.declared.engine.Engine.TheVariants.{GraphemeClassic, GraphemeNeo, GraphemeMemo, SentenceClassic, SentenceNeo, SentenceMemo, WordClassic, WordNeo, WordMemo, LineClassic, LineNeo, LineMemo}
+use Rattle.speed.specs.declared.engine.Engine.TheVariants.{GraphemeClassic, GraphemeNeo, GraphemeMemo, SentenceClassic, SentenceNeo, SentenceMemo, WordClassic, WordNeo, WordMemo, LineClassic, Line17, LineNeo, LineMemo}
 use Rattle.speed.specs.declared.segmenter.Segmenter.{Segmenter}
 use Rattle.speed.specs.declared.segmenter.Segmenter.TheVariants.{Clusters, Sentences, Words, Lines}
 use Rattle.speed.specs.declared.tally.Tally.{Tally}
@@ -44,6 +44,7 @@ segmentation_by WordClassic source = word_places_by (table_words (word_table sou
 segmentation_by WordNeo source = word_places_by (machine_words (word_machine source) (cluster_table source) no_words)
 segmentation_by WordMemo source = word_places_by (machine_words (word_machine source) (cluster_table source) no_words)
 segmentation_by LineClassic source = line_places_by (table_lines (default_rules (line_table source)) (cluster_table source) no_words)
+segmentation_by Line17 source = line_places_by (turn_lines (default_rules (line_17_table source)) (cluster_table source) no_words)
 segmentation_by LineNeo source = line_places_by (machine_lines (line_machine source) (cluster_machine source) no_words)
 segmentation_by LineMemo source = line_places_by (machine_lines (line_machine source) (cluster_machine source) no_words)
 

@@ -1,10 +1,10 @@
 //! The data of each kind, small and real.
 ghost use Rattle.std.specs.Prelude.{◌≡◌, IfOk};
-ghost use Rattle.speed.specs.Data.{cluster_machine, cluster_table, line_machine, line_table, sentence_machine, sentence_table, word_machine, word_table};
+ghost use Rattle.speed.specs.Data.{cluster_machine, cluster_table, line_17_table, line_machine, line_table, sentence_machine, sentence_table, word_machine, word_table};
 
 use crate::engine::Data;
 use anyhow::Result;
-use bench::{clusters, line_tables, lines, pair_tables, sentences, words};
+use bench::{clusters, line_tables, lines, pair_tables, sentences, turn_tables, words};
 use icu_segmenter::provider::{LineTailorings, RuleBreakData, SegmenterStateMachine};
 use icu_segmenter_data as unicode;
 use std::alloc::Global;
@@ -76,6 +76,16 @@ pub fn line_table(alloc: Global, source: Data) -> Result<RuleBreakData>
     match source {
         Data::Small => Ok(line_tables::line_table(alloc)?),
         Data::Real => Ok(unicode::line_table(alloc)?),
+    }
+}
+
+/// The pair table of lines for the engine 17.
+pub fn line_17_table(alloc: Global, source: Data) -> Result<RuleBreakData>
+    ensures { IfOk result (λ table. table ≡ line_17_table source) }
+{
+    match source {
+        Data::Small => Ok(turn_tables::turn_table(alloc)?),
+        Data::Real => Ok(unicode::line_17_table(alloc)?),
     }
 }
 

@@ -26,6 +26,8 @@ pub enum Engine {
     WordMemo,
     /// The lines, by a pair table.
     LineClassic,
+    /// The lines, by the rules of the engine 17 over a pair table.
+    Line17,
     /// The lines, by a machine.
     LineNeo,
     /// The lines, by the memoised engine of that machine.
@@ -33,7 +35,7 @@ pub enum Engine {
 }
 
 /// All engines, in the order in which they are measured.
-pub const ENGINES: [Engine; 12] = [
+pub const ENGINES: [Engine; 13] = [
     Engine::GraphemeClassic,
     Engine::GraphemeNeo,
     Engine::GraphemeMemo,
@@ -44,6 +46,7 @@ pub const ENGINES: [Engine; 12] = [
     Engine::WordNeo,
     Engine::WordMemo,
     Engine::LineClassic,
+    Engine::Line17,
     Engine::LineNeo,
     Engine::LineMemo,
 ];
@@ -73,6 +76,7 @@ impl Engine {
             Engine::WordNeo => "word-neo",
             Engine::WordMemo => "word-memo",
             Engine::LineClassic => "line-classic",
+            Engine::Line17 => "line-17",
             Engine::LineNeo => "line-neo",
             Engine::LineMemo => "line-memo",
         }
@@ -112,6 +116,7 @@ pub fn engine_of(word: &str) -> Option<Engine>
         "word-neo" => Some(Engine::WordNeo),
         "word-memo" => Some(Engine::WordMemo),
         "line-classic" => Some(Engine::LineClassic),
+        "line-17" => Some(Engine::Line17),
         "line-neo" => Some(Engine::LineNeo),
         "line-memo" => Some(Engine::LineMemo),
         _ => None,

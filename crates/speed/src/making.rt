@@ -1,6 +1,6 @@
 //! How the segmenter of each engine is made.
 ghost use Rattle.std.specs.Prelude.{◌≡◌, None, IfOk};
-ghost use Rattle.icu_segmenter.specs.LineBreaks.{machine_lines, table_lines};
+ghost use Rattle.icu_segmenter.specs.LineBreaks.{machine_lines, table_lines, turn_lines};
 ghost use Rattle.icu_segmenter.specs.LineRules.{default_rules};
 ghost use Rattle.icu_segmenter.specs.Rules.Rules.{ByTable, ByMachine};
 ghost use Rattle.icu_segmenter.specs.ScriptWords.{no_words};
@@ -8,8 +8,8 @@ ghost use Rattle.icu_segmenter.specs.WordRules.{machine_words, table_words};
 ghost use Rattle.speed.specs.Segmenter.{line_places_by, places_by, segmentation_by, segmentation_of, word_places_by};
 
 use crate::data::{
-    cluster_machine, cluster_table, line_machine, line_table, line_tailorings, sentence_machine,
-    sentence_table, word_machine, word_table,
+    cluster_machine, cluster_table, line_17_table, line_machine, line_table, line_tailorings,
+    sentence_machine, sentence_table, word_machine, word_table,
 };
 use crate::engine::{Data, Engine};
 use crate::segmenter::Segmenter;
@@ -40,6 +40,9 @@ pub fn segmenter_of(alloc: Global, engine: Engine, source: Data) -> Result<Segme
         }
         Engine::LineClassic => {
             lines_by_table(line_table(alloc, source)?, cluster_table(alloc, source)?)
+        }
+        Engine::Line17 => {
+            lines_by_turns(line_17_table(alloc, source)?, cluster_table(alloc, source)?)
         }
         Engine::LineNeo | Engine::LineMemo => lines_by_machine(
             line_machine(alloc, source)?,
@@ -96,6 +99,14 @@ fn lines_by_table(table: RuleBreakData, clusters: RuleBreakData) -> Result<Segme
 {
     let options = LineBreakOptions::default();
     let segmenter = LineSegmenter::try_new_for_non_complex_scripts(table, clusters, options)?;
+    Ok(Segmenter::Lines(segmenter))
+}
+
+fn lines_by_turns(table: RuleBreakData, clusters: RuleBreakData) -> Result<Segmenter>
+    ensures { IfOk result (λ segmenter. segmentation_of segmenter ≡ line_places_by (turn_lines (default_rules table) clusters no_words)) }
+{
+    let options = LineBreakOptions::default();
+    let segmenter = LineSegmenter::try_new_17_for_non_complex_scripts(table, clusters, options)?;
     Ok(Segmenter::Lines(segmenter))
 }
 

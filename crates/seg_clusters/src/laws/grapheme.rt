@@ -4,6 +4,8 @@ ghost use Rattle.std.specs.Prelude.{◌≡◌, ℕ, List, length};
 ghost use Rattle.seg_text.specs.Boundaries.{HasEqualOrdinals, HasRestart, IsCover};
 ghost use Rattle.seg_text.specs.Stretches.{HasOneAnswer};
 ghost use Rattle.seg_text.specs.Utf8.{utf8};
+ghost use Rattle.seg_engine.specs.Parted.{PartsTexts};
+ghost use Rattle.seg_engine.specs.Resets.{ResetsAfter};
 ghost use Rattle.seg_engine.specs.Rules.{boundaries_by, boundaries_of, first_stretch};
 ghost use Rattle.seg_clusters.specs.Clusters.{cluster_rules, clusters_left};
 
@@ -41,6 +43,16 @@ pub fn cover(segmenter: GraphemeClusterSegmenterBorrowed<'_>)
     ensures { (code_points : List ℕ) → IsCover 0 (length code_points) (boundaries_by (cluster_rules segmenter.entry) code_points) }
 {
     laws::cover(segmenter.engine);
+}
+
+/// Law: a text may be parted behind each code point that `resets_after` names: where the first of two texts ends with it, the
+/// boundaries of both, joined, are those of the first, and then those of the second but for its start, so much later, with the
+/// same statuses. So it is counted in code points, and as places in possibly ill-formed UTF-8, a `str` too, in Latin-1 and in
+/// possibly ill-formed UTF-16.
+pub fn parts_behind_resets(segmenter: GraphemeClusterSegmenterBorrowed<'_>, code_point: char)
+    ensures { ResetsAfter (cluster_rules segmenter.entry) code_point → PartsTexts (boundaries_by (cluster_rules segmenter.entry)) code_point }
+{
+    laws::parts_behind_resets(segmenter.engine, code_point);
 }
 
 /// Law: the clusters of a `str` are those of its bytes as UTF-8, since a `str` is the special case of UTF-8 in which no

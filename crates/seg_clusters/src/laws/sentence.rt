@@ -2,6 +2,8 @@
 
 ghost use Rattle.seg_text.specs.Boundaries.{HasEqualOrdinals, HasRestart};
 ghost use Rattle.seg_text.specs.Stretches.{HasOneAnswer};
+ghost use Rattle.seg_engine.specs.Parted.{PartsTexts};
+ghost use Rattle.seg_engine.specs.Resets.{ResetsAfter};
 ghost use Rattle.seg_engine.specs.Rules.{boundaries_by, first_stretch};
 ghost use Rattle.seg_clusters.specs.Sentences.{sentence_rules};
 
@@ -31,4 +33,14 @@ pub fn restart(segmenter: SentenceSegmenterBorrowed<'_>)
     ensures { HasRestart (boundaries_by (sentence_rules segmenter.entry)) }
 {
     laws::restart(segmenter.engine);
+}
+
+/// Law: a text may be parted behind each code point that `resets_after` names: where the first of two texts ends with it, the
+/// boundaries of both, joined, are those of the first, and then those of the second but for its start, so much later, with the
+/// same statuses. So it is counted in code points, and as places in possibly ill-formed UTF-8, a `str` too, in Latin-1 and in
+/// possibly ill-formed UTF-16.
+pub fn parts_behind_resets(segmenter: SentenceSegmenterBorrowed<'_>, code_point: char)
+    ensures { ResetsAfter (sentence_rules segmenter.entry) code_point → PartsTexts (boundaries_by (sentence_rules segmenter.entry)) code_point }
+{
+    laws::parts_behind_resets(segmenter.engine, code_point);
 }

@@ -1,12 +1,11 @@
--- At first all are left.
-use Rattle.std.proofs.Common.{zero-add}
-use Rattle.icu_segmenter.specs.Utf8.{utf8}
-use Rattle.icu_segmenter.specs.Words.{word_rules, words_left}
-use Rattle.callers.proofs.Counted.{all-further}
+-- What the iterator gives up to its end are the words that it had left, and those are all.
+use Rattle.std.proofs.Common.{length, ◌∙◌, ap}
+use Rattle.icu_segmenter.specs.SegmentsLeft.{words_left}
+use Rattle.icu_segmenter.proofs.Callers.{count-is_left}
 use Rattle.callers.proofs.words.word_count.Goals as goal
 
-pub loop-end-init : goal.loop-end-init
-loop-end-init c = record {
-  sum = zero-add _;
-  further = all-further (word_rules c.args.segmenter) (utf8 c.args.text.now) _ (words_left c.segment_str-boundaries.result) c.segment_str-boundaries.ensures.boundaries c.segment_str-boundaries.ensures.cover;
-}
+pub returns : goal.returns
+returns c =
+    let given = c.count.ensures.ran in
+    let all = rw (c.segment_str.ensures.source.1, c.segment_str.ensures.boundaries) at c.words.ensures.words in
+    given.2 ∙ count-is_left _ words_left _ given.0 given.1 ∙ ap length all

@@ -1,6 +1,7 @@
-use Rattle.icu_segmenter.specs.TextSegments.{IsPlace}
+use Rattle.std.proofs.Common.{length, ap, arith}
+use Rattle.icu_segmenter.specs.TextSegments.{AreSegments, IsPlace}
 use Rattle.icu_segmenter.proofs.Cutting.{after-start}
-use Rattle.icu_segmenter.proofs.Whole.{whole}
+use Rattle.icu_segmenter.proofs.Whole.{few, whole}
 use Rattle.icu_segmenter.proofs.segments.BreakIterator.marked_segments.Goals as goal
 
 pub invariant_of-result : goal.invariant_of-result
@@ -12,3 +13,8 @@ pub returns-clause-whole : goal.returns-clause-whole
 returns-clause-whole g c =
     rw c.text-text.ensures (whole _ _ _ (after-start (IsPlace (g.Self.BreakIterator.decode (g.Self.BreakIterator.whole c.args.self))) g.Self.BreakIterator.mark _
     (g.Self.BreakIterator.find c.args.self) g.Self.BreakIterator.left _ _ _ _ (λ _ place. place) c.requires.found c.requires.cover c.next_break-start.ensures).1)
+
+pub returns-clause-few : goal.returns-clause-few
+returns-clause-few g c =
+    let all : AreSegments _ (g.Self.BreakIterator.whole c.args.self) _ = returns-clause-whole g c in
+    omega (arith, few _ all.some, ap length all.joined)

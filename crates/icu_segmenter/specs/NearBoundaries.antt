@@ -1,0 +1,38 @@
+-- Boundaries near a place of a text.
+use Rattle.std.specs.Prelude.{◌≡◌, ℕ, ◌+◌, ◌<◌, ◌≤◌, ◌⊎◌, Option, List, [], ◌∷◌, ◌++◌, Contains, MatchOption, length}
+use Rattle.seg_text.specs.declared.boundary.Boundary.{Boundary}
+use Rattle.seg_text.specs.Boundaries.{boundaries_in, offsets}
+use Rattle.seg_text.specs.Utf8.{utf8}
+
+-- the boundaries of a text of bytes, where this finds those of a list of code points; and their places
+abbrev pub boundaries_of_bytes : (List ℕ → List Boundary) → List ℕ → List Boundary
+boundaries_of_bytes find bytes = boundaries_in find (utf8 bytes)
+
+abbrev pub boundary_places : (List ℕ → List Boundary) → List ℕ → List ℕ
+boundary_places find bytes = offsets (boundaries_of_bytes find bytes)
+
+-- the nearest of some places above another one, if there is one
+abbrev pub IsNearestAbove : List ℕ → ℕ → Option ℕ → Type 0
+IsNearestAbove places place nearest =
+    MatchOption nearest ((other : ℕ) → Contains places other → other ≤ place)
+    (λ found. Contains places found × (place < found) × ((other : ℕ) → Contains places other → place < other → found ≤ other))
+
+-- .. and below it
+abbrev pub IsNearestBelow : List ℕ → ℕ → Option ℕ → Type 0
+IsNearestBelow places place nearest =
+    MatchOption nearest ((other : ℕ) → Contains places other → place ≤ other)
+    (λ found. Contains places found × (found < place) × ((other : ℕ) → Contains places other → other < place → other ≤ found))
+
+-- a line feed, in bytes
+abbrev pub line_feed : List ℕ
+line_feed = 0x0A ∷ []
+
+-- a line of bytes begins at the place: the start, or right behind a line feed
+abbrev pub BeginsLine : List ℕ → ℕ → Type 0
+BeginsLine bytes place = (place ≡ 0) ⊎ ((before second : List ℕ) × (bytes ≡ (before ++ line_feed) ++ second) × (place ≡ length (before ++ line_feed)))
+
+-- the part of a text from one place on: its places, so much later, are places of the whole text, and all of those above its start
+pub record IsPart (places : List ℕ) (start : ℕ) (part : List ℕ) : Type 0 where
+  pub starts : Contains part 0
+  pub among : (place : ℕ) → Contains part place → Contains places (start + place)
+  pub all : (place : ℕ) → Contains places place → (place ≤ start) ⊎ ((inner : ℕ) × Contains part inner × (place ≡ start + inner))

@@ -1,0 +1,149 @@
+//! The boundaries near a place of a text, in both directions, as editors ask for them.
+//!
+//! With the sample data (`bench::clusters`), where U+0301 extends a cluster, `e\u{301}a` has the boundaries 0, 3 and 4:
+//!
+//! ```text
+//! let cursor = BoundaryCursor::new(segmenter, "e\u{301}a");
+//! cursor.next_boundary(0)         Some(3)
+//! cursor.previous_boundary(2)     Some(0)
+//! cursor.is_boundary(1)           false
+//! ```
+
+ghost use Rattle.std.specs.Prelude.{◌≡◌, ◌↔◌, ◌≤◌, ◌+◌, ℕ, IsTrue, IfSome, List, Contains, length};
+ghost use Rattle.seg_text.specs.declared.boundary.Boundary.{Boundary};
+ghost use Rattle.seg_text.specs.Boundaries.{IsCover};
+ghost use Rattle.seg_engine.specs.Parted.{PartsBehind};
+ghost use Rattle.icu_segmenter.specs.NearBoundaries.{IsNearestAbove, IsNearestBelow, IsPart, boundaries_of_bytes, boundary_places, line_feed};
+
+mod clusters;
+mod line_starts;
+mod lines;
+mod nearest;
+mod sentences;
+mod words;
+
+use line_starts::line_start;
+use std::marker::Model;
+
+/// A segmenter, as cursors ask it.
+pub trait Segmenter: Drop {
+    /// How the boundaries of a list of code points are found.
+    ghost find: { Self → List ℕ → List Boundary };
+
+    /// Whether each text may be parted behind its line feeds, so that each part has the boundaries that it has alone. If `false`,
+    /// nothing is said.
+    fn parts_behind_line_feeds(&self) -> bool
+        ensures { IsTrue result → PartsBehind (boundaries_of_bytes (find self.now)) line_feed };
+
+    /// The first boundary of possibly ill-formed UTF-8 is at its start, and the last at its end. Takes no memory.
+    fn cover(&self, text: &[u8])
+        ensures { IsCover 0 (length text.now) (boundaries_of_bytes (find self.now) text.now) };
+
+    /// The nearest boundary of possibly ill-formed UTF-8 above a place, if there is one. Takes no memory.
+    fn nearest_above(&self, text: &[u8], place: usize) -> Option<usize>
+        ensures nearest { IsNearestAbove (boundary_places (find self.now) text.now) place result }
+        ensures within { IfSome result (λ found. found ≤ length text.now) };
+
+    /// The nearest boundary below it, if there is one.
+    fn nearest_below(&self, text: &[u8], place: usize) -> Option<usize>
+        ensures nearest { IsNearestBelow (boundary_places (find self.now) text.now) place result }
+        ensures within { IfSome result (λ found. found ≤ length text.now) };
+}
+
+/// A text with the segmenter that finds its boundaries: it answers which are near a place. Places are bytes from the start.
+///
+/// An answer takes no memory, and as long as finding the boundaries from the start of a line on, where the rules part texts behind
+/// line feeds: to what comes after the place. Other rules find them from the start of the text.
+#[derive(Drop)]
+pub struct BoundaryCursor<'s, S: Segmenter> {
+    segmenter: S,
+    text: &'s [u8],
+    has_parts: bool,
+}
+
+impl<'s, S: Segmenter> Model for BoundaryCursor<'s, S> {
+    ghost use Rattle.std.specs.Prelude.{ℕ, List, IsTrue, length};
+    ghost use Rattle.seg_text.specs.Boundaries.{IsCover};
+    ghost use Rattle.seg_engine.specs.Parted.{PartsBehind};
+    ghost use Rattle.icu_segmenter.specs.NearBoundaries.{boundaries_of_bytes, boundary_places, line_feed};
+
+    ghost Value = { List ℕ };
+
+    ghost view = { λ s. boundary_places (S.find s.segmenter) s.text.now };
+
+    ghost invariant = { λ s. IsCover 0 (length s.text.now) (boundaries_of_bytes (S.find s.segmenter) s.text.now)
+        × (IsTrue s.has_parts → PartsBehind (boundaries_of_bytes (S.find s.segmenter)) line_feed) };
+}
+
+impl<'s, S: Segmenter> BoundaryCursor<'s, S> {
+    /// A cursor over a `str`. Takes no memory.
+    pub fn new(segmenter: S, text: &'s str) -> Self
+        ensures { result ≡ boundary_places (S.find segmenter) text.now }
+    {
+        BoundaryCursor::of_utf8(segmenter, text.as_bytes())
+    }
+
+    /// A cursor over possibly ill-formed UTF-8. Takes no memory.
+    pub fn of_utf8(segmenter: S, text: &'s [u8]) -> Self
+        ensures { result ≡ boundary_places (S.find segmenter) text.now }
+    {
+        segmenter.cover(text);
+        BoundaryCursor {
+            has_parts: segmenter.parts_behind_line_feeds(),
+            segmenter,
+            text,
+        }
+    }
+
+    /// Whether a boundary is at the place. There is none inside a character, nor past the end.
+    pub fn is_boundary(&self, place: usize) -> bool
+        ensures { IsTrue result ↔ Contains self.now place }
+    {
+        let _ = &self.text;
+        place == 0 || self.next_boundary(place - 1) == Some(place)
+    }
+
+    /// The nearest boundary above the place, which may be inside a character. None from the end on.
+    pub fn next_boundary(&self, place: usize) -> Option<usize>
+        ensures { IsNearestAbove self.now place result }
+    {
+        let (start, part) = part_at(&self.segmenter, self.text, self.has_parts, place);
+        let found = self.segmenter.nearest_above(part, place - start)?;
+        Some(start + found)
+    }
+
+    /// The nearest boundary below the place, which may be inside a character, or past the end. None at 0.
+    pub fn previous_boundary(&self, place: usize) -> Option<usize>
+        ensures { IsNearestBelow self.now place result }
+    {
+        if place == 0 {
+            return None;
+        }
+        let (start, part) = part_at(&self.segmenter, self.text, self.has_parts, place - 1);
+        let found = self.segmenter.nearest_below(part, place - start)?;
+        Some(start + found)
+    }
+}
+
+/// The part of a text from the last start of a line up to a place on, or the whole text: where it begins, and its bytes.
+fn part_at<'s, S: Segmenter>(
+    segmenter: &S,
+    text: &'s [u8],
+    has_parts: bool,
+    place: usize,
+) -> (usize, &'s [u8])
+    requires cover { IsCover 0 (length text.now) (boundaries_of_bytes (S.find segmenter.now) text.now) }
+    requires parts { IsTrue has_parts → PartsBehind (boundaries_of_bytes (S.find segmenter.now)) line_feed }
+    ensures order { result.0 ≤ place }
+    ensures within { result.0 + length result.1.now ≤ length text.now }
+    ensures part { IsPart (boundary_places (S.find segmenter.now) text.now) result.0 (boundary_places (S.find segmenter.now) result.1.now) }
+{
+    if !has_parts {
+        return (0, text);
+    }
+    let start = line_start(text, place);
+    let (before, part) = text.split_at(start);
+    segmenter.cover(before);
+    segmenter.cover(part);
+    (start, part)
+}

@@ -1,0 +1,30 @@
+//! Cursors over the sentences of a text.
+
+ghost use Rattle.seg_clusters.specs.Sentences.{sentence_rules};
+ghost use Rattle.seg_engine.specs.Rules.{boundaries_by};
+
+use crate::cursor::Segmenter;
+use crate::cursor::nearest::{nearest_above, nearest_below};
+use seg_clusters::laws::sentence::parts_behind_resets;
+use seg_clusters::sentence::SentenceSegmenterBorrowed;
+
+impl<'data> Segmenter for SentenceSegmenterBorrowed<'data> {
+    ghost find = { λ segmenter. boundaries_by (sentence_rules segmenter) };
+
+    fn parts_behind_line_feeds(&self) -> bool {
+        parts_behind_resets(*self, '\n');
+        self.resets_after('\n')
+    }
+
+    fn cover(&self, text: &[u8]) {
+        let _ = self.segment_utf8(text);
+    }
+
+    fn nearest_above(&self, text: &[u8], place: usize) -> Option<usize> {
+        nearest_above(self.segment_utf8(text), place)
+    }
+
+    fn nearest_below(&self, text: &[u8], place: usize) -> Option<usize> {
+        nearest_below(self.segment_utf8(text), place)
+    }
+}

@@ -1,0 +1,30 @@
+//! Cursors over the words of a text.
+
+ghost use Rattle.seg_words.specs.Words.{word_rules};
+ghost use Rattle.seg_words.specs.WordRules.{word_boundaries_by};
+
+use crate::cursor::Segmenter;
+use crate::cursor::nearest::{nearest_above, nearest_below};
+use seg_words::laws::parts_behind_resets;
+use seg_words::word::WordSegmenterBorrowed;
+
+impl<'data> Segmenter for WordSegmenterBorrowed<'data> {
+    ghost find = { λ segmenter. word_boundaries_by (word_rules segmenter) };
+
+    fn parts_behind_line_feeds(&self) -> bool {
+        parts_behind_resets(*self, '\n');
+        self.resets_after('\n')
+    }
+
+    fn cover(&self, text: &[u8]) {
+        let _ = self.segment_utf8(text);
+    }
+
+    fn nearest_above(&self, text: &[u8], place: usize) -> Option<usize> {
+        nearest_above(self.segment_utf8(text), place)
+    }
+
+    fn nearest_below(&self, text: &[u8], place: usize) -> Option<usize> {
+        nearest_below(self.segment_utf8(text), place)
+    }
+}

@@ -1,0 +1,35 @@
+-- Words by a machine may be parted behind a code point outside runs that resets the machine.
+use Rattle.std.proofs.Common.{◌≡◌, ℕ, List, [], ◌∷◌, ◌++◌, length, ap}
+use Rattle.std.specs.Char.{IsScalar}
+use Rattle.seg_text.specs.declared.boundary.Boundary.{Boundary}
+use Rattle.seg_text.specs.Boundaries.{IsCover, start}
+use Rattle.seg_text.specs.Stretches.{list_boundaries}
+use Rattle.seg_text.proofs.Covers.{covers-list}
+use Rattle.seg_text.proofs.Stretches.{later-nil}
+use Rattle.seg_engine.specs.Parted.{PartsBehind, PartsTexts}
+use Rattle.seg_engine.specs.Rules.{boundaries_by}
+use Rattle.seg_engine.specs.Rules.Rules.{ByMachine}
+use Rattle.seg_engine.proofs.Joined.{later-joined}
+use Rattle.seg_engine.proofs.PartedTexts.{texts-parted}
+use Rattle.seg_engine.proofs.ResetScans.{ends-within}
+use Rattle.seg_machine.specs.Checked.{IsChecked}
+use Rattle.seg_machine.specs.Machine.{Machine}
+use Rattle.seg_machine.specs.Segments.{machine_stretch}
+use Rattle.seg_machine.proofs.Segmentations.{machine-going}
+use Rattle.seg_complex.specs.Payloads.{Payloads, piece_cuts_by}
+use Rattle.seg_complex.specs.RunCuts.{CoverPieces}
+use Rattle.seg_complex.proofs.PartedSpans.{spans-parted}
+use Rattle.seg_words.specs.WordResets.{WordsResetWith}
+use Rattle.seg_words.specs.WordRules.{span_boundaries, span_stretch, stretch_by}
+use Rattle.seg_words.proofs.Spans.{spans-within}
+
+module _ (m : Machine) (payloads : Payloads) (checked : IsChecked m) (c : ℕ) (resets : WordsResetWith (ByMachine m) payloads.words c) where
+  lists : PartsBehind (list_boundaries (span_stretch m payloads)) (c ∷ [])
+  lists before second =
+      ap (λ (later : List Boundary). start ∷ later)
+      (spans-parted m payloads.words (span_boundaries m (boundaries_by payloads.clusters)) (later-nil (machine_stretch m)) c resets.1
+      (λ before zs. later-joined (machine_stretch m) (machine-going m) zs (before ++ c ∷ []) (ends-within m checked c resets.0 before zs)) before second)
+
+  pub words-parted : IsScalar c → CoverPieces (piece_cuts_by payloads) → PartsTexts (list_boundaries (stretch_by (ByMachine m) payloads)) c
+  words-parted scalar cover =
+      texts-parted (list_boundaries (span_stretch m payloads)) (covers-list (span_stretch m payloads) (spans-within m payloads checked cover)) c lists scalar
