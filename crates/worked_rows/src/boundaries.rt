@@ -26,16 +26,32 @@ pub fn of_clusters<'s, Y: RuleBreakType<'s>>(
     mut clusters: GraphemeClusterBreakIterator<'_, 's, Y>,
 ) -> Result<Boundaries, AllocError> {
     let mut found = Vec::new(alloc);
+    push_clusters(&mut found, &mut clusters)?;
+    Ok(found)
+}
+
+fn push_clusters<'s, Y: RuleBreakType<'s>>(
+    found: &mut Boundaries,
+    clusters: &mut GraphemeClusterBreakIterator<'_, 's, Y>,
+) -> Result<(), AllocError> {
     for _ in 0..u64::MAX {
         let Some(place) = clusters.next() else {
             break;
         };
         found.push((place, PLAIN))?;
     }
-    if clusters.next().is_some() || clusters.next().is_some() {
+    push_wrong_if(
+        found,
+        clusters.next().is_some() || clusters.next().is_some(),
+    )
+}
+
+// Marks that something is wrong.
+fn push_wrong_if(found: &mut Boundaries, is_wrong: bool) -> Result<(), AllocError> {
+    if is_wrong {
         found.push((0, WRONG))?;
     }
-    Ok(found)
+    Ok(())
 }
 
 /// The boundaries of sentences.
@@ -44,16 +60,24 @@ pub fn of_sentences<'s, Y: RuleBreakType<'s>>(
     mut sentences: SentenceBreakIterator<'_, 's, Y>,
 ) -> Result<Boundaries, AllocError> {
     let mut found = Vec::new(alloc);
+    push_sentences(&mut found, &mut sentences)?;
+    Ok(found)
+}
+
+fn push_sentences<'s, Y: RuleBreakType<'s>>(
+    found: &mut Boundaries,
+    sentences: &mut SentenceBreakIterator<'_, 's, Y>,
+) -> Result<(), AllocError> {
     for _ in 0..u64::MAX {
         let Some(place) = sentences.next() else {
             break;
         };
         found.push((place, PLAIN))?;
     }
-    if sentences.next().is_some() || sentences.next().is_some() {
-        found.push((0, WRONG))?;
-    }
-    Ok(found)
+    push_wrong_if(
+        found,
+        sentences.next().is_some() || sentences.next().is_some(),
+    )
 }
 
 /// The boundaries of words.
@@ -62,22 +86,35 @@ pub fn of_words<'s, Y: RuleBreakType<'s>>(
     mut words: WordBreakIterator<'_, 's, Y>,
 ) -> Result<Boundaries, AllocError> {
     let mut found = Vec::new(alloc);
-    if mark_of(words.word_type(), words.is_word_like()) != PLAIN {
-        found.push((0, WRONG))?;
-    }
+    push_words(&mut found, &mut words)?;
+    Ok(found)
+}
+
+fn push_words<'s, Y: RuleBreakType<'s>>(
+    found: &mut Boundaries,
+    words: &mut WordBreakIterator<'_, 's, Y>,
+) -> Result<(), AllocError> {
+    push_wrong_if(found, has_type(words))?;
+    push_word_ends(found, words)?;
+    push_wrong_if(found, words.is_word_like() || words.next().is_some())?;
+    push_wrong_if(found, words.next().is_some() || has_type(words))
+}
+
+fn push_word_ends<'s, Y: RuleBreakType<'s>>(
+    found: &mut Boundaries,
+    words: &mut WordBreakIterator<'_, 's, Y>,
+) -> Result<(), AllocError> {
     for _ in 0..u64::MAX {
         let Some(place) = words.next() else {
             break;
         };
         found.push((place, mark_of(words.word_type(), words.is_word_like())))?;
     }
-    if words.is_word_like() || words.next().is_some() || words.next().is_some() {
-        found.push((0, WRONG))?;
-    }
-    if mark_of(words.word_type(), words.is_word_like()) != PLAIN {
-        found.push((0, WRONG))?;
-    }
-    Ok(found)
+    Ok(())
+}
+
+fn has_type<'s, Y: RuleBreakType<'s>>(words: &WordBreakIterator<'_, 's, Y>) -> bool {
+    mark_of(words.word_type(), words.is_word_like()) != PLAIN
 }
 
 /// The same, by the iterator that gives each with its type.
@@ -86,13 +123,18 @@ pub fn of_typed_words<'s, Y: RuleBreakType<'s>>(
     mut words: WordBreakIteratorWithWordType<'_, 's, Y>,
 ) -> Result<Boundaries, AllocError> {
     let mut found = Vec::new(alloc);
+    push_typed_words(&mut found, &mut words)?;
+    Ok(found)
+}
+
+fn push_typed_words<'s, Y: RuleBreakType<'s>>(
+    found: &mut Boundaries,
+    words: &mut WordBreakIteratorWithWordType<'_, 's, Y>,
+) -> Result<(), AllocError> {
     while let Some((place, word_type)) = words.next() {
         found.push((place, mark_of(word_type, word_type.is_word_like())))?;
     }
-    if words.next().is_some() || words.next().is_some() {
-        found.push((0, WRONG))?;
-    }
-    Ok(found)
+    push_wrong_if(found, words.next().is_some() || words.next().is_some())
 }
 
 fn mark_of(word_type: WordType, is_word_like: bool) -> char {
@@ -110,22 +152,31 @@ pub fn of_lines<'s, Y: RuleBreakType<'s>>(
     mut lines: LineBreakIterator<'_, 's, Y>,
 ) -> Result<Boundaries, AllocError> {
     let mut found = Vec::new(alloc);
-    if lines.is_mandatory() {
-        found.push((0, WRONG))?;
-    }
+    push_lines(&mut found, &mut lines)?;
+    Ok(found)
+}
+
+fn push_lines<'s, Y: RuleBreakType<'s>>(
+    found: &mut Boundaries,
+    lines: &mut LineBreakIterator<'_, 's, Y>,
+) -> Result<(), AllocError> {
+    push_wrong_if(found, lines.is_mandatory())?;
+    push_line_ends(found, lines)?;
+    push_wrong_if(found, lines.is_mandatory() || lines.next().is_some())?;
+    push_wrong_if(found, lines.next().is_some() || lines.is_mandatory())
+}
+
+fn push_line_ends<'s, Y: RuleBreakType<'s>>(
+    found: &mut Boundaries,
+    lines: &mut LineBreakIterator<'_, 's, Y>,
+) -> Result<(), AllocError> {
     for _ in 0..u64::MAX {
         let Some(place) = lines.next() else {
             break;
         };
         found.push((place, if lines.is_mandatory() { '!' } else { PLAIN }))?;
     }
-    if lines.is_mandatory() || lines.next().is_some() || lines.next().is_some() {
-        found.push((0, WRONG))?;
-    }
-    if lines.is_mandatory() {
-        found.push((0, WRONG))?;
-    }
-    Ok(found)
+    Ok(())
 }
 
 /// Boundaries as rows have them: each place with its mark, and a space between two.

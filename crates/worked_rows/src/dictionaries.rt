@@ -1,5 +1,6 @@
 //! The words of scripts.
 
+use crate::data::both;
 use crate::samples::unescaped;
 use anyhow::{Result, bail};
 use bench::dictionaries::dictionaries;
@@ -26,8 +27,8 @@ impl WordLists {
         }
     }
 
-    /// Whether no script has a list of words.
-    pub fn is_none(&self) -> bool {
+    // Whether no script has a list of words.
+    fn is_none(&self) -> bool {
         !self.is_bench && self.thai.is_none() && self.myanmar.is_none() && self.ideographs.is_none()
     }
 
@@ -35,15 +36,22 @@ impl WordLists {
     /// words that can't be read.
     pub fn read(&mut self, alloc: Global, words: &str) -> Result<()> {
         let (script, words) = words.split_once(' ').unwrap_or((words, ""));
-        let words = words_of(alloc, words)?;
-        match script {
-            "bench" => self.is_bench = true,
-            "th" => self.thai = Some(words),
-            "my" => self.myanmar = Some(words),
-            "ja" => self.ideographs = Some(words),
-            _ => bail!("no script with words"),
+        if script == "bench" {
+            self.is_bench = true;
+        } else {
+            *self.list_of(script)? = Some(words_of(alloc, words)?);
         }
         Ok(())
+    }
+
+    // The list of a script's words.
+    fn list_of(&mut self, script: &str) -> Result<&mut Option<Vec<String>>> {
+        Ok(match script {
+            "th" => &mut self.thai,
+            "my" => &mut self.myanmar,
+            "ja" => &mut self.ideographs,
+            _ => bail!("no script with words"),
+        })
     }
 
     /// The dictionaries.
@@ -51,9 +59,10 @@ impl WordLists {
         if self.is_bench {
             return Ok(dictionaries(alloc)?);
         }
-        let th = dictionary_of(alloc, &self.thai)?;
-        let my = dictionary_of(alloc, &self.myanmar)?;
-        let ja = dictionary_of(alloc, &self.ideographs)?;
+        let th = dictionary_of(alloc, &self.thai);
+        let my = dictionary_of(alloc, &self.myanmar);
+        let ja = dictionary_of(alloc, &self.ideographs);
+        let ((th, my), ja) = both(both(th, my), ja)?;
         Ok(Dictionaries {
             th,
             my,
@@ -61,6 +70,14 @@ impl WordLists {
             km: None,
             lo: None,
         })
+    }
+
+    /// The same, if there are words.
+    pub fn some_dictionaries(&self, alloc: Global) -> Result<Option<Dictionaries>, DataError> {
+        if self.is_none() {
+            return Ok(None);
+        }
+        Ok(Some(self.dictionaries(alloc)?))
     }
 
     /// The dictionary of Thai, which has no words where there is no list.

@@ -1,5 +1,6 @@
 //! Answers by segmenters over lent data.
 
+use crate::data::{Machines, Tables, Words, both};
 use crate::memo::memo_answer;
 use crate::question::{Engine, Kind, Manner};
 use crate::samples::Sample;
@@ -11,7 +12,8 @@ use icu_segmenter::options::{
     LineBreakOptions, SentenceBreakInvariantOptions, WordBreakInvariantOptions,
 };
 use icu_segmenter::provider::{
-    DataError, DictionariesBorrowed, RuleBreakData, RuleBreakDataOverride,
+    DataError, Dictionaries, RuleBreakData, RuleBreakDataOverride, SegmenterStateMachine,
+    SegmenterStateMachineOverride,
 };
 use icu_segmenter::{
     GraphemeClusterSegmenterBorrowed, LineSegmenterBorrowed, SentenceSegmenterBorrowed,
@@ -35,18 +37,18 @@ pub fn lent_answer(
         (Kind::Words, Engine::Machine) => word_machine(alloc, settings, manner, sample),
         (Kind::Words, _) => word_table(alloc, settings, manner, sample),
         (Kind::Lines, Engine::Machine) => line_machine(alloc, settings, manner, sample),
-        (Kind::Lines, Engine::Table) => line_table(alloc, settings, manner, sample),
-        (Kind::Lines, Engine::Turns) => turn_table(alloc, settings, manner, sample),
+        (Kind::Lines, engine) => line_table(alloc, settings, engine, manner, sample),
     }
 }
 
-/// What a segmenter answers.
+/// What a segmenter answers, or what its data are refused for.
 pub fn answer(
     alloc: Global,
-    segmenter: Lent<'_>,
+    segmenter: Result<Lent<'_>, DataError>,
     manner: Manner,
     sample: &Sample,
 ) -> Result<String, DataError> {
+    let segmenter = segmenter?;
     match manner {
         Manner::Boundaries => Ok(boundaries_answer(alloc, segmenter, sample)?),
         Manner::Memo => memo_answer(alloc, segmenter, sample),
@@ -61,8 +63,11 @@ fn cluster_machine(
     sample: &Sample,
 ) -> Result<String, DataError> {
     let machine = settings.machine.machine(alloc)?;
-    let clusters = GraphemeClusterSegmenterBorrowed::new_neo(&machine)?;
-    answer(alloc, Lent::Clusters(clusters), manner, sample)
+    answer(alloc, clusters_by_machine(&machine), manner, sample)
+}
+
+fn clusters_by_machine(machine: &SegmenterStateMachine) -> Result<Lent<'_>, DataError> {
+    Ok(Lent::Clusters(GraphemeClusterSegmenterBorrowed::new_neo(machine)?))
 }
 
 fn cluster_table(
@@ -72,8 +77,11 @@ fn cluster_table(
     sample: &Sample,
 ) -> Result<String, DataError> {
     let table = settings.table.table(alloc)?;
-    let clusters = GraphemeClusterSegmenterBorrowed::new(&table)?;
-    answer(alloc, Lent::Clusters(clusters), manner, sample)
+    answer(alloc, clusters_by_table(&table), manner, sample)
+}
+
+fn clusters_by_table(table: &RuleBreakData) -> Result<Lent<'_>, DataError> {
+    Ok(Lent::Clusters(GraphemeClusterSegmenterBorrowed::new(table)?))
 }
 
 fn sentence_machine(
@@ -82,11 +90,23 @@ fn sentence_machine(
     manner: Manner,
     sample: &Sample,
 ) -> Result<String, DataError> {
-    let machine = settings.machine.machine(alloc)?;
-    let tailoring = settings.tailoring(alloc)?;
+    let machine = settings.machine.machine(alloc);
+    let (machine, tailoring) = both(machine, settings.tailoring(alloc))?;
+    answer(
+        alloc,
+        sentences_by_machine(&machine, tailoring.as_ref()),
+        manner,
+        sample,
+    )
+}
+
+fn sentences_by_machine<'a>(
+    machine: &'a SegmenterStateMachine,
+    tailoring: Option<&'a SegmenterStateMachineOverride>,
+) -> Result<Lent<'a>, DataError> {
     let options = SentenceBreakInvariantOptions::default();
-    let sentences = SentenceSegmenterBorrowed::new_neo(&machine, tailoring.as_ref(), options)?;
-    answer(alloc, Lent::Sentences(sentences), manner, sample)
+    let sentences = SentenceSegmenterBorrowed::new_neo(machine, tailoring, options)?;
+    Ok(Lent::Sentences(sentences))
 }
 
 fn sentence_table(
@@ -95,11 +115,23 @@ fn sentence_table(
     manner: Manner,
     sample: &Sample,
 ) -> Result<String, DataError> {
-    let table = settings.table.table(alloc)?;
-    let overriding = settings.overriding(alloc)?;
+    let table = settings.table.table(alloc);
+    let (table, overriding) = both(table, settings.overriding(alloc))?;
+    answer(
+        alloc,
+        sentences_by_table(&table, overriding.as_ref()),
+        manner,
+        sample,
+    )
+}
+
+fn sentences_by_table<'a>(
+    table: &'a RuleBreakData,
+    overriding: Option<&'a RuleBreakDataOverride>,
+) -> Result<Lent<'a>, DataError> {
     let options = SentenceBreakInvariantOptions::default();
-    let sentences = SentenceSegmenterBorrowed::new(&table, overriding.as_ref(), options)?;
-    answer(alloc, Lent::Sentences(sentences), manner, sample)
+    let sentences = SentenceSegmenterBorrowed::new(table, overriding, options)?;
+    Ok(Lent::Sentences(sentences))
 }
 
 fn word_machine(
@@ -108,15 +140,28 @@ fn word_machine(
     manner: Manner,
     sample: &Sample,
 ) -> Result<String, DataError> {
-    let machine = settings.machine.machine(alloc)?;
-    let clusters = settings.cluster_table.table(alloc)?;
-    let later = settings.later.dictionaries(alloc)?;
+    let machine = settings.machine.machine(alloc);
+    let rules = both(machine, settings.cluster_table.table(alloc));
+    let ((machine, clusters), later) = both(rules, settings.later.dictionaries(alloc))?;
+    answer(
+        alloc,
+        words_by_machine(&machine, &clusters, &later),
+        manner,
+        sample,
+    )
+}
+
+fn words_by_machine<'a>(
+    machine: &'a SegmenterStateMachine,
+    clusters: &'a RuleBreakData,
+    later: &'a Dictionaries,
+) -> Result<Lent<'a>, DataError> {
     let options = WordBreakInvariantOptions::default();
     let mut words = WordSegmenterBorrowed::new_neo_for_non_complex_scripts(
-        &machine, &clusters, options,
+        machine, clusters, options,
     )?;
     words.load_dictionary(later.as_borrowed());
-    answer(alloc, Lent::Words(words), manner, sample)
+    Ok(Lent::Words(words))
 }
 
 fn word_table(
@@ -125,35 +170,30 @@ fn word_table(
     manner: Manner,
     sample: &Sample,
 ) -> Result<String, DataError> {
-    let table = settings.table.table(alloc)?;
-    let overriding = settings.overriding(alloc)?;
-    let clusters = settings.cluster_table.table(alloc)?;
-    let first = settings.words.dictionaries(alloc)?;
-    let later = settings.later.dictionaries(alloc)?;
-    let first = if settings.words.is_none() {
-        None
-    } else {
-        Some(first.as_borrowed())
-    };
-    let mut words = words_by_table(&table, overriding.as_ref(), &clusters, first)?;
-    words.load_dictionary(later.as_borrowed());
-    answer(alloc, Lent::Words(words), manner, sample)
+    let (tables, words) = both(Tables::of(alloc, settings), Words::of(alloc, settings))?;
+    answer(alloc, words_by_table(&tables, &words), manner, sample)
 }
 
-// Words by a pair table, with these dictionaries or by the constructor that takes none.
-fn words_by_table<'a>(
-    table: &'a RuleBreakData,
-    overriding: Option<&'a RuleBreakDataOverride>,
-    clusters: &'a RuleBreakData,
-    dictionaries: Option<DictionariesBorrowed<'a>>,
+fn words_by_table<'a>(tables: &'a Tables, words: &'a Words) -> Result<Lent<'a>, DataError> {
+    let mut segmenter = first_words_by_table(tables, words)?;
+    segmenter.load_dictionary(words.later.as_borrowed());
+    Ok(Lent::Words(segmenter))
+}
+
+// Words by a pair table, with dictionaries or by the constructor that takes none.
+fn first_words_by_table<'a>(
+    tables: &'a Tables,
+    words: &'a Words,
 ) -> Result<WordSegmenterBorrowed<'a>, DataError> {
+    let (table, clusters) = (&tables.table, &tables.clusters);
+    let overriding = tables.overriding.as_ref();
     let options = WordBreakInvariantOptions::default();
-    match dictionaries {
-        Some(dictionaries) => WordSegmenterBorrowed::new_dictionary(
+    match &words.first {
+        Some(first) => WordSegmenterBorrowed::new_dictionary(
             table,
             overriding,
             clusters,
-            dictionaries,
+            first.as_borrowed(),
             options,
         ),
         None => WordSegmenterBorrowed::new_for_non_complex_scripts(
@@ -168,71 +208,85 @@ fn line_machine(
     manner: Manner,
     sample: &Sample,
 ) -> Result<String, DataError> {
-    let machine = settings.machine.machine(alloc)?;
-    let clusters = settings.cluster_machine.machine(alloc)?;
-    let later = settings.later.dictionaries(alloc)?;
-    let tailorings = settings.tailorings(alloc)?;
+    let later = settings.later.dictionaries(alloc);
+    let (machines, later) = both(Machines::of(alloc, settings), later)?;
+    let options = settings.options.of_lines();
+    answer(
+        alloc,
+        lines_by_machine(&machines, &later, options),
+        manner,
+        sample,
+    )
+}
+
+fn lines_by_machine<'a>(
+    machines: &'a Machines,
+    later: &'a Dictionaries,
+    options: LineBreakOptions<'_>,
+) -> Result<Lent<'a>, DataError> {
     let mut lines = LineSegmenterBorrowed::new_neo_for_non_complex_scripts(
-        &machine,
-        tailorings.as_borrowed(),
-        &clusters,
-        settings.options.of_lines(),
+        &machines.machine,
+        machines.tailorings.as_borrowed(),
+        &machines.clusters,
+        options,
     )?;
     lines.load_dictionary(later.as_borrowed());
-    answer(alloc, Lent::Lines(lines), manner, sample)
+    Ok(Lent::Lines(lines))
 }
 
 fn line_table(
     alloc: Global,
     settings: &Settings,
+    engine: Engine,
     manner: Manner,
     sample: &Sample,
 ) -> Result<String, DataError> {
-    let table = settings.table.table(alloc)?;
-    let clusters = settings.cluster_table.table(alloc)?;
-    let first = settings.words.dictionaries(alloc)?;
-    let later = settings.later.dictionaries(alloc)?;
-    let first = if settings.words.is_none() {
-        None
-    } else {
-        Some(first.as_borrowed())
-    };
+    let (tables, words) = both(Tables::of(alloc, settings), Words::of(alloc, settings))?;
     let options = settings.options.of_lines();
-    let mut lines = lines_by_table(&table, &clusters, first, options)?;
-    lines.load_dictionary(later.as_borrowed());
-    answer(alloc, Lent::Lines(lines), manner, sample)
+    let lines = match engine {
+        Engine::Turns => lines_by_turns(&tables, &words, options),
+        _ => lines_by_table(&tables, &words, options),
+    };
+    answer(alloc, lines, manner, sample)
 }
 
-// Lines by a pair table, with these dictionaries or by the constructor that takes none.
 fn lines_by_table<'a>(
-    table: &'a RuleBreakData,
-    clusters: &'a RuleBreakData,
-    dictionaries: Option<DictionariesBorrowed<'a>>,
+    tables: &'a Tables,
+    words: &'a Words,
+    options: LineBreakOptions<'_>,
+) -> Result<Lent<'a>, DataError> {
+    let mut lines = first_lines_by_table(tables, words, options)?;
+    lines.load_dictionary(words.later.as_borrowed());
+    Ok(Lent::Lines(lines))
+}
+
+// Lines by a pair table, with dictionaries or by the constructor that takes none.
+fn first_lines_by_table<'a>(
+    tables: &'a Tables,
+    words: &'a Words,
     options: LineBreakOptions<'_>,
 ) -> Result<LineSegmenterBorrowed<'a>, DataError> {
-    match dictionaries {
-        Some(dictionaries) => {
-            LineSegmenterBorrowed::new_dictionary(table, clusters, dictionaries, options)
+    let (table, clusters) = (&tables.table, &tables.clusters);
+    match &words.first {
+        Some(first) => {
+            LineSegmenterBorrowed::new_dictionary(table, clusters, first.as_borrowed(), options)
         }
-        None => { LineSegmenterBorrowed::new_for_non_complex_scripts(table, clusters, options) }
+        None => LineSegmenterBorrowed::new_for_non_complex_scripts(table, clusters, options),
     }
 }
 
-fn turn_table(
-    alloc: Global,
-    settings: &Settings,
-    manner: Manner,
-    sample: &Sample,
-) -> Result<String, DataError> {
-    let table = settings.table.table(alloc)?;
-    let clusters = settings.cluster_table.table(alloc)?;
-    let first = settings.words.dictionaries(alloc)?;
-    let later = settings.later.dictionaries(alloc)?;
-    let options = settings.options.of_lines();
+fn lines_by_turns<'a>(
+    tables: &'a Tables,
+    words: &'a Words,
+    options: LineBreakOptions<'_>,
+) -> Result<Lent<'a>, DataError> {
+    let (table, clusters) = (&tables.table, &tables.clusters);
     let mut lines = LineSegmenterBorrowed::new_17_for_non_complex_scripts(
-        &table, &clusters, options,
+        table, clusters, options,
     )?;
-    lines.load_dictionary(first.as_borrowed());
-    lines.load_dictionary(later.as_borrowed());
-    answer(alloc, Lent::Lines(lines), manner, sample)
+    if let Some(first) = &words.first {
+        lines.load_dictionary(first.as_borrowed());
+    }
+    lines.load_dictionary(words.later.as_borrowed());
+    Ok(Lent::Lines(lines))
 }

@@ -9,6 +9,7 @@
 mod bench_data;
 mod boundaries;
 mod counts;
+mod data;
 mod dictionaries;
 mod lent;
 mod line_classes;

@@ -1,12 +1,13 @@
 //! Answers by segmenters with data of their own.
 
+use crate::data::{Machines, Tables, Words, both};
 use crate::lent::answer;
 use crate::question::{Engine, Kind, Manner};
 use crate::samples::Sample;
 use crate::segmenter::Owned;
 use crate::settings::Settings;
-use icu_segmenter::options::{SentenceBreakOptions, WordBreakOptions};
-use icu_segmenter::provider::DataError;
+use icu_segmenter::options::{LineBreakOptions, SentenceBreakOptions, WordBreakOptions};
+use icu_segmenter::provider::{DataError, Dictionaries};
 use icu_segmenter::{GraphemeClusterSegmenter, LineSegmenter, SentenceSegmenter, WordSegmenter};
 use std::alloc::Global;
 
@@ -19,7 +20,7 @@ pub fn owned_answer(
     sample: &Sample,
 ) -> Result<String, DataError> {
     let segmenter = segmenter_of(alloc, settings, kind)?;
-    answer(alloc, segmenter.as_borrowed(), manner, sample)
+    answer(alloc, Ok(segmenter.as_borrowed()), manner, sample)
 }
 
 fn segmenter_of(alloc: Global, settings: &Settings, kind: Kind) -> Result<Owned, DataError> {
@@ -47,8 +48,8 @@ fn cluster_table(alloc: Global, settings: &Settings) -> Result<Owned, DataError>
 }
 
 fn sentence_machine(alloc: Global, settings: &Settings) -> Result<Owned, DataError> {
-    let machine = settings.machine.machine(alloc)?;
-    let tailoring = settings.tailoring(alloc)?;
+    let machine = settings.machine.machine(alloc);
+    let (machine, tailoring) = both(machine, settings.tailoring(alloc))?;
     let options = SentenceBreakOptions {
         content_locale: settings.options.language(),
         ..SentenceBreakOptions::default()
@@ -57,74 +58,146 @@ fn sentence_machine(alloc: Global, settings: &Settings) -> Result<Owned, DataErr
 }
 
 fn sentence_table(alloc: Global, settings: &Settings) -> Result<Owned, DataError> {
-    let table = settings.table.table(alloc)?;
-    let overriding = settings.overriding(alloc)?;
+    let table = settings.table.table(alloc);
+    let (table, overriding) = both(table, settings.overriding(alloc))?;
     let options = SentenceBreakOptions::default();
     Ok(Owned::Sentences(SentenceSegmenter::try_new(table, overriding, options)?))
 }
 
 fn word_machine(alloc: Global, settings: &Settings) -> Result<Owned, DataError> {
-    let machine = settings.machine.machine(alloc)?;
-    let clusters = settings.cluster_table.table(alloc)?;
-    let later = settings.later.dictionaries(alloc)?;
+    let machine = settings.machine.machine(alloc);
+    let rules = both(machine, settings.cluster_table.table(alloc));
+    let ((machine, clusters), later) = both(rules, settings.later.dictionaries(alloc))?;
     let options = WordBreakOptions::default();
-    let mut words = WordSegmenter::try_new_neo_for_non_complex_scripts(machine, clusters, options)?;
-    words.load_dictionary(later);
-    Ok(Owned::Words(words))
+    let words = WordSegmenter::try_new_neo_for_non_complex_scripts(machine, clusters, options);
+    loaded_words(words, later)
 }
 
 fn word_table(alloc: Global, settings: &Settings) -> Result<Owned, DataError> {
-    let table = settings.table.table(alloc)?;
-    let overriding = settings.overriding(alloc)?;
-    let clusters = settings.cluster_table.table(alloc)?;
-    let first = settings.words.dictionaries(alloc)?;
-    let later = settings.later.dictionaries(alloc)?;
+    let (tables, words) = both(Tables::of(alloc, settings), Words::of(alloc, settings))?;
+    let Words { first, later } = words;
+    loaded_words(words_by_table(tables, first), later)
+}
+
+// Words by a pair table, with these dictionaries or by the constructor that takes none.
+fn words_by_table(
+    tables: Tables,
+    dictionaries: Option<Dictionaries>,
+) -> Result<WordSegmenter, DataError> {
+    let Tables {
+        table,
+        overriding,
+        clusters,
+    } = tables;
     let options = WordBreakOptions::default();
-    let mut words = if settings.words.is_none() {
-        WordSegmenter::try_new_for_non_complex_scripts(table, overriding, clusters, options)?
-    } else {
-        WordSegmenter::try_new_dictionary(table, overriding, clusters, first, options)?
-    };
+    match dictionaries {
+        Some(dictionaries) => {
+            WordSegmenter::try_new_dictionary(table, overriding, clusters, dictionaries, options)
+        }
+        None => {
+            WordSegmenter::try_new_for_non_complex_scripts(table, overriding, clusters, options)
+        }
+    }
+}
+
+// Words, once these dictionaries are loaded.
+fn loaded_words(
+    words: Result<WordSegmenter, DataError>,
+    later: Dictionaries,
+) -> Result<Owned, DataError> {
+    let mut words = words?;
     words.load_dictionary(later);
     Ok(Owned::Words(words))
 }
 
 fn line_machine(alloc: Global, settings: &Settings) -> Result<Owned, DataError> {
-    let machine = settings.machine.machine(alloc)?;
-    let clusters = settings.cluster_machine.machine(alloc)?;
-    let later = settings.later.dictionaries(alloc)?;
-    let tailorings = settings.tailorings(alloc)?;
-    let options = settings.options.of_lines();
-    let mut lines = LineSegmenter::try_new_neo_for_non_complex_scripts(
-        machine, tailorings, clusters, options,
-    )?;
-    lines.load_dictionary(later);
-    Ok(Owned::Lines(lines))
+    let later = settings.later.dictionaries(alloc);
+    let (machines, later) = both(Machines::of(alloc, settings), later)?;
+    loaded_lines(
+        lines_by_machine(machines, settings.options.of_lines()),
+        later,
+    )
+}
+
+fn lines_by_machine(
+    machines: Machines,
+    options: LineBreakOptions<'_>,
+) -> Result<LineSegmenter, DataError> {
+    let Machines {
+        machine,
+        tailorings,
+        clusters,
+    } = machines;
+    LineSegmenter::try_new_neo_for_non_complex_scripts(machine, tailorings, clusters, options)
 }
 
 fn line_table(alloc: Global, settings: &Settings) -> Result<Owned, DataError> {
-    let table = settings.table.table(alloc)?;
-    let clusters = settings.cluster_table.table(alloc)?;
-    let first = settings.words.dictionaries(alloc)?;
-    let later = settings.later.dictionaries(alloc)?;
-    let options = settings.options.of_lines();
-    let mut lines = if settings.words.is_none() {
-        LineSegmenter::try_new_for_non_complex_scripts(table, clusters, options)?
-    } else {
-        LineSegmenter::try_new_dictionary(table, clusters, first, options)?
-    };
-    lines.load_dictionary(later);
-    Ok(Owned::Lines(lines))
+    let (tables, words) = both(Tables::of(alloc, settings), Words::of(alloc, settings))?;
+    let Words { first, later } = words;
+    loaded_lines(
+        lines_by_table(tables, first, settings.options.of_lines()),
+        later,
+    )
+}
+
+// Lines by a pair table, with these dictionaries or by the constructor that takes none.
+fn lines_by_table(
+    tables: Tables,
+    dictionaries: Option<Dictionaries>,
+    options: LineBreakOptions<'_>,
+) -> Result<LineSegmenter, DataError> {
+    let Tables {
+        table,
+        clusters,
+        ..
+    } = tables;
+    match dictionaries {
+        Some(dictionaries) => {
+            LineSegmenter::try_new_dictionary(table, clusters, dictionaries, options)
+        }
+        None => LineSegmenter::try_new_for_non_complex_scripts(table, clusters, options),
+    }
+}
+
+// Lines, once these dictionaries are loaded.
+fn loaded_lines(
+    lines: Result<LineSegmenter, DataError>,
+    later: Dictionaries,
+) -> Result<Owned, DataError> {
+    Ok(Owned::Lines(lines_with(lines, later)?))
 }
 
 fn turn_table(alloc: Global, settings: &Settings) -> Result<Owned, DataError> {
-    let table = settings.table.table(alloc)?;
-    let clusters = settings.cluster_table.table(alloc)?;
-    let first = settings.words.dictionaries(alloc)?;
-    let later = settings.later.dictionaries(alloc)?;
-    let options = settings.options.of_lines();
-    let mut lines = LineSegmenter::try_new_17_for_non_complex_scripts(table, clusters, options)?;
-    lines.load_dictionary(first);
-    lines.load_dictionary(later);
-    Ok(Owned::Lines(lines))
+    let (tables, words) = both(Tables::of(alloc, settings), Words::of(alloc, settings))?;
+    let Words { first, later } = words;
+    loaded_lines(
+        lines_by_turns(tables, first, settings.options.of_lines()),
+        later,
+    )
+}
+
+fn lines_by_turns(
+    tables: Tables,
+    first: Option<Dictionaries>,
+    options: LineBreakOptions<'_>,
+) -> Result<LineSegmenter, DataError> {
+    let Tables {
+        table,
+        clusters,
+        ..
+    } = tables;
+    let lines = LineSegmenter::try_new_17_for_non_complex_scripts(table, clusters, options);
+    match first {
+        Some(first) => lines_with(lines, first),
+        None => lines,
+    }
+}
+
+fn lines_with(
+    lines: Result<LineSegmenter, DataError>,
+    dictionaries: Dictionaries,
+) -> Result<LineSegmenter, DataError> {
+    let mut lines = lines?;
+    lines.load_dictionary(dictionaries);
+    Ok(lines)
 }

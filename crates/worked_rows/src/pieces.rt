@@ -1,12 +1,13 @@
 //! Pieces of one script, and the cuts of pieces and of runs.
 
 use crate::boundaries::push_word;
+use crate::data::both;
 use crate::samples::Sample;
 use crate::settings::Settings;
 use icu_segmenter::GraphemeClusterSegmenter;
 use icu_segmenter::complex::ComplexPayloadBorrowed;
 use icu_segmenter::indices::{StrCharIndices, Utf16Indices};
-use icu_segmenter::provider::{DataError, DictionaryBreakData};
+use icu_segmenter::provider::{DataError, Dictionaries, DictionaryBreakData};
 use seg_complex::complex::ComplexPayloadsBorrowed;
 use seg_complex::runs::RunCuts;
 use seg_complex::script_iter::ScriptIterator;
@@ -20,10 +21,14 @@ pub fn cuts_answer(
     settings: &Settings,
     sample: &Sample,
 ) -> Result<String, DataError> {
-    let dictionary = settings.words.thai(alloc)?;
-    let clusters = GraphemeClusterSegmenter::try_new_neo(settings.machine.machine(alloc)?)?;
-    let cuts = cuts_of(alloc, &dictionary, &clusters, settings.offset, sample)?;
-    Ok(shown_places(alloc, cuts.as_slice())?)
+    let dictionary = settings.words.thai(alloc);
+    let (dictionary, clusters) = both(dictionary, clusters_of(alloc, settings))?;
+    let cuts = cuts_of(alloc, &dictionary, &clusters, settings.offset, sample);
+    Ok(shown_cuts(alloc, cuts)?)
+}
+
+fn clusters_of(alloc: Global, settings: &Settings) -> Result<GraphemeClusterSegmenter, DataError> {
+    GraphemeClusterSegmenter::try_new_neo(settings.machine.machine(alloc)?)
 }
 
 fn cuts_of(
@@ -62,22 +67,34 @@ pub fn run_cuts_answer(
     settings: &Settings,
     sample: &Sample,
 ) -> Result<String, DataError> {
-    let clusters = GraphemeClusterSegmenter::try_new_neo(settings.machine.machine(alloc)?)?;
-    let first = settings.words.dictionaries(alloc)?;
-    let later = settings.later.dictionaries(alloc)?;
+    let clusters = clusters_of(alloc, settings);
+    let clusters_and_first = both(clusters, settings.words.dictionaries(alloc));
+    let later = settings.later.dictionaries(alloc);
+    let ((clusters, first), later) = both(clusters_and_first, later)?;
+    let cuts = run_cuts_of(alloc, &clusters, &first, &later, sample);
+    Ok(shown_cuts(alloc, cuts)?)
+}
+
+fn run_cuts_of(
+    alloc: Global,
+    clusters: &GraphemeClusterSegmenter,
+    first: &Dictionaries,
+    later: &Dictionaries,
+    sample: &Sample,
+) -> Result<Vec<usize>, AllocError> {
     let mut payloads = ComplexPayloadsBorrowed::new(first.as_borrowed(), clusters.as_borrowed());
     payloads.load(later.as_borrowed());
     let text = match sample {
         Sample::Text(text) => text.as_str(),
         _ => "",
     };
-    let cuts: Vec<usize> = RunCuts::new(payloads, StrCharIndices::new(text)).collect(alloc)?;
-    Ok(shown_places(alloc, cuts.as_slice())?)
+    RunCuts::new(payloads, StrCharIndices::new(text)).collect(alloc)
 }
 
-fn shown_places(alloc: Global, places: &[usize]) -> Result<String, AllocError> {
+fn shown_cuts(alloc: Global, cuts: Result<Vec<usize>, AllocError>) -> Result<String, AllocError> {
+    let cuts = cuts?;
     let mut out = String::new(alloc);
-    for place in places {
+    for place in &cuts {
         let word = format!(in alloc; "{place}")?;
         push_word(&mut out, word.as_str())?;
     }

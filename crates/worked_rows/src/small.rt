@@ -51,14 +51,15 @@ pub fn word_type_answer(alloc: Global, asked: &str) -> Result<String> {
 
 /// The text of an error of this name.
 pub fn error_answer(alloc: Global, asked: &str) -> Result<String> {
-    Ok(match asked {
-        "MemoError Memory" => format!(in alloc; "{}", MemoError::Memory)?,
-        "MemoError NotNeo" => format!(in alloc; "{}", MemoError::NotNeo)?,
-        "MemoError HasDictionary" => format!(in alloc; "{}", MemoError::HasDictionary)?,
-        "MemoError TooLarge" => format!(in alloc; "{}", MemoError::TooLarge)?,
-        "WrapError NotNeo" => format!(in alloc; "{}", WrapError::NotNeo)?,
+    let text = match asked {
+        "MemoError Memory" => format!(in alloc; "{}", MemoError::Memory),
+        "MemoError NotNeo" => format!(in alloc; "{}", MemoError::NotNeo),
+        "MemoError HasDictionary" => format!(in alloc; "{}", MemoError::HasDictionary),
+        "MemoError TooLarge" => format!(in alloc; "{}", MemoError::TooLarge),
+        "WrapError NotNeo" => format!(in alloc; "{}", WrapError::NotNeo),
         _ => bail!("no error"),
-    })
+    };
+    Ok(text?)
 }
 
 /// Whether the pair table is the sample's of clusters.
@@ -69,14 +70,19 @@ pub fn equality_answer(alloc: Global, settings: &Settings) -> Result<String, Dat
 
 /// How an iterator is shown: the name before its fields. The only error is want of memory.
 pub fn shown_answer(alloc: Global, segmenter: Lent<'_>) -> Result<String, AllocError> {
-    let shown = match segmenter {
-        Lent::Words(words) => format!(in alloc; "{:?}", words.segment_latin1(b"a"))?,
-        Lent::Lines(lines) => format!(in alloc; "{:?}", lines.segment_latin1(b"a"))?,
-        _ => String::new(alloc),
-    };
+    let shown = shown_iterator(alloc, segmenter)?;
     match shown.as_str().split_once(" { ") {
         Some((name, _)) => name.to_owned(alloc),
         None => Ok(shown),
+    }
+}
+
+// An iterator of words or lines, as it is shown.
+fn shown_iterator(alloc: Global, segmenter: Lent<'_>) -> Result<String, AllocError> {
+    match segmenter {
+        Lent::Words(words) => format!(in alloc; "{:?}", words.segment_latin1(b"a")),
+        Lent::Lines(lines) => format!(in alloc; "{:?}", lines.segment_latin1(b"a")),
+        _ => Ok(String::new(alloc)),
     }
 }
 

@@ -1,7 +1,7 @@
 //! Tailorings, as the files write them.
 
-use crate::numbers::{number_of, script_named, symbol_and_script};
-use anyhow::{Context, Result, bail};
+use crate::numbers::{number_of, symbol_and_script};
+use anyhow::{Result, bail};
 use bench::lines::breakall;
 use icu_segmenter::provider::{
     ComplexScript, DataError, LineTailorings, SegmenterStateMachineOverride, Symbol,
@@ -36,15 +36,13 @@ impl Tailoring {
     fn push(&mut self, word: &str) -> Result<()> {
         match word.split_once('>') {
             Some((from, rest)) => {
-                let (to, script) = rest.split_once('=').context("a symbol without a script")?;
-                self.replaced
-                    .push((number_of(from)?, number_of(to)?, script_named(script)?))
-                    .map_err(AllocError::from)?;
+                let replaced = replacement_of(from, rest)?;
+                self.replaced.push(replaced).map_err(AllocError::from)?;
             }
-            None => self
-                .map
-                .push(symbol_and_script(word)?)
-                .map_err(AllocError::from)?,
+            None => {
+                let pseudo_symbol = symbol_and_script(word)?;
+                self.map.push(pseudo_symbol).map_err(AllocError::from)?;
+            }
         }
         Ok(())
     }
@@ -55,6 +53,13 @@ impl Tailoring {
         let replaced = Vec::from_slice(alloc, self.replaced.as_slice())?;
         SegmenterStateMachineOverride::try_from_parts(map, replaced)
     }
+}
+
+// What replaces a symbol, as `4` and `1=None`.
+fn replacement_of(from: &str, rest: &str) -> Result<(Symbol, Symbol, ComplexScript)> {
+    let from = number_of(from)?;
+    let (to, script) = symbol_and_script(rest)?;
+    Ok((from, to, script))
 }
 
 /// The place of a tailoring of lines, which options choose.

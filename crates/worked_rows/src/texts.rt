@@ -1,12 +1,13 @@
 //! Texts in each encoding, and boundaries counted in code points.
 
 use crate::boundaries::{Boundaries, shown};
+use crate::data::both;
 use crate::samples::Sample;
 use crate::segmenter::{Lent, Text, cluster_boundaries};
 use crate::settings::Settings;
 use icu_segmenter::GraphemeClusterSegmenterBorrowed;
 use icu_segmenter::indices::{Utf8CharIndices, Utf16Indices};
-use icu_segmenter::provider::DataError;
+use icu_segmenter::provider::{DataError, RuleBreakData, SegmenterStateMachine};
 use std::alloc::{AllocError, Global};
 
 /// The boundaries of a sample as rows have them. The only error is want of memory.
@@ -55,21 +56,36 @@ fn short_texts_answer(alloc: Global, segmenter: Lent<'_>) -> Result<String, Allo
 
 /// Whether the clusters of all short texts are the same by the table and by the machine.
 pub fn same_clusters(alloc: Global, settings: &Settings) -> Result<String, DataError> {
-    let (table, machine) = (
-        settings.table.table(alloc)?,
-        settings.machine.machine(alloc)?,
-    );
-    let classic = GraphemeClusterSegmenterBorrowed::new(&table)?;
-    let neo = GraphemeClusterSegmenterBorrowed::new_neo(&machine)?;
+    let table = settings.table.table(alloc);
+    let (table, machine) = both(table, settings.machine.machine(alloc))?;
+    same_clusters_by(alloc, &table, &machine)
+}
+
+fn same_clusters_by(
+    alloc: Global,
+    table: &RuleBreakData,
+    machine: &SegmenterStateMachine,
+) -> Result<String, DataError> {
+    let classic = GraphemeClusterSegmenterBorrowed::new(table)?;
+    let neo = GraphemeClusterSegmenterBorrowed::new_neo(machine)?;
     for number in 0..TEXTS {
         let text = text_of(alloc, number)?;
-        let by_table = cluster_boundaries(alloc, classic, Text::Str(text.as_str()))?;
-        let by_machine = cluster_boundaries(alloc, neo, Text::Str(text.as_str()))?;
-        if by_table.as_slice() != by_machine.as_slice() {
+        if !has_same_clusters(alloc, classic, neo, Text::Str(text.as_str()))? {
             return Ok(text);
         }
     }
     Ok("agree".to_owned(alloc)?)
+}
+
+fn has_same_clusters(
+    alloc: Global,
+    one: GraphemeClusterSegmenterBorrowed<'_>,
+    other: GraphemeClusterSegmenterBorrowed<'_>,
+    text: Text<'_>,
+) -> Result<bool, AllocError> {
+    let found = cluster_boundaries(alloc, one, text)?;
+    let expected = cluster_boundaries(alloc, other, text)?;
+    Ok(found.as_slice() == expected.as_slice())
 }
 
 // Whether boundaries of a text, which are those in `str`, are at equal ordinals in the encodings that have it.
