@@ -1,4 +1,11 @@
 //! The command line.
+ghost use Rattle.std.specs.Prelude.{◌≡◌, ◌≢◌, Some, IfOk, MatchResult};
+ghost use Rattle.std.specs.Option.{option_map};
+ghost use Rattle.std.specs.Str.{str_to_ascii_lowercase};
+ghost use Rattle.icu_segmenter.specs.declared.provider.ComplexScript.{ComplexScript as AnyScript};
+ghost use Rattle.clap.specs.Matches.{found_of};
+ghost use Rattle.segment.specs.declared.command.Kind.{Kind as AnyKind};
+ghost use Rattle.segment.specs.Command.{engine_by, is_alone, kind_word, strictness_word, style_by, word_break_word, HasScriptWord, IsChoice, IsRequest, IsTask, IsWidth};
 
 use crate::output::Style;
 use anyhow::{Context, Result, bail, ensure};
@@ -165,15 +172,17 @@ fn dictionary_argument<'a>(alloc: Global) -> Result<Arg<'a>, AllocError> {
 }
 
 /// What the arguments ask for. The error is an argument that its kind of segments doesn't have, or a language that isn't one.
-pub fn request_of<'a>(matches: &ArgMatches<'a>) -> Result<Request<'a>> {
+pub fn request_of<'a>(matches: &ArgMatches<'a>) -> Result<Request<'a>>
+    ensures { IfOk result (λ request. IsRequest (found_of matches.now) request) }
+{
     let dictionary = match (matches.get_str("dictionary"), matches.get_str("script")) {
         (Some(file), Some(script)) => Some((file, script_of(script)?)),
         _ => None,
     };
     let request = Request {
         task: task_of(matches)?,
-        strictness: matches.get_str("strictness").and_then(strictness_of),
-        word_option: matches.get_str("word-break").and_then(word_option_of),
+        strictness: strictness_of(matches.get_str("strictness")),
+        word_option: word_option_of(matches.get_str("word-break")),
         language: language_of(matches.get_str("lang"))?,
         dictionary,
     };
@@ -202,7 +211,9 @@ fn check(request: &Request<'_>) -> Result<()> {
     Ok(())
 }
 
-fn task_of(matches: &ArgMatches<'_>) -> Result<Task> {
+fn task_of(matches: &ArgMatches<'_>) -> Result<Task>
+    ensures { IfOk result (λ task. IsTask (found_of matches.now) task) }
+{
     match matches.get_str("kind") {
         Some("wrap") => Ok(Task::Wrap(width_of(matches)?)),
         kind => {
@@ -220,7 +231,9 @@ fn task_of(matches: &ArgMatches<'_>) -> Result<Task> {
     }
 }
 
-fn width_of(matches: &ArgMatches<'_>) -> Result<Width> {
+fn width_of(matches: &ArgMatches<'_>) -> Result<Width>
+    ensures { IfOk result (λ width. IsWidth (found_of matches.now) width) }
+{
     for name in ["offsets", "raw", "words", "memo"] {
         ensure!(
             !matches.get_flag(name),
@@ -233,8 +246,12 @@ fn width_of(matches: &ArgMatches<'_>) -> Result<Width> {
     })
 }
 
-fn kind_of(word: Option<&str>, is_alone: bool) -> Result<Kind> {
-    match (word, is_alone) {
+fn kind_of(word: Option<&str>, alone: bool) -> Result<Kind>
+    ensures { MatchResult result
+        (λ kind. (option_map (λ text. text.now) word.entry ≡ Some (kind_word kind)) × (alone ≡ is_alone kind))
+        (λ _. (kind : AnyKind) → option_map (λ text. text.now) word.entry ≡ Some (kind_word kind) → alone ≢ is_alone kind) }
+{
+    match (word, alone) {
         (Some("word"), true) => Ok(Kind::WordsAlone),
         (_, true) => bail!("--words is an option of words"),
         (Some("grapheme"), _) => Ok(Kind::Clusters),
@@ -245,7 +262,9 @@ fn kind_of(word: Option<&str>, is_alone: bool) -> Result<Kind> {
     }
 }
 
-fn style_of(offsets: bool, raw: bool) -> Style {
+fn style_of(offsets: bool, raw: bool) -> Style
+    ensures { result ≡ style_by offsets raw }
+{
     match (offsets, raw) {
         (true, _) => Style::Offsets,
         (false, true) => Style::Raw,
@@ -253,7 +272,9 @@ fn style_of(offsets: bool, raw: bool) -> Style {
     }
 }
 
-fn engine_of(memo: bool) -> Engine {
+fn engine_of(memo: bool) -> Engine
+    ensures { result ≡ engine_by memo }
+{
     if memo {
         Engine::Memoised
     } else {
@@ -261,26 +282,32 @@ fn engine_of(memo: bool) -> Engine {
     }
 }
 
-fn strictness_of(word: &str) -> Option<LineBreakStrictness> {
+fn strictness_of(word: Option<&str>) -> Option<LineBreakStrictness>
+    ensures { IsChoice strictness_word (option_map (λ text. text.now) word.entry) result }
+{
     match word {
-        "loose" => Some(LineBreakStrictness::Loose),
-        "normal" => Some(LineBreakStrictness::Normal),
-        "strict" => Some(LineBreakStrictness::Strict),
-        "anywhere" => Some(LineBreakStrictness::Anywhere),
+        Some("loose") => Some(LineBreakStrictness::Loose),
+        Some("normal") => Some(LineBreakStrictness::Normal),
+        Some("strict") => Some(LineBreakStrictness::Strict),
+        Some("anywhere") => Some(LineBreakStrictness::Anywhere),
         _ => None,
     }
 }
 
-fn word_option_of(word: &str) -> Option<LineBreakWordOption> {
+fn word_option_of(word: Option<&str>) -> Option<LineBreakWordOption>
+    ensures { IsChoice word_break_word (option_map (λ text. text.now) word.entry) result }
+{
     match word {
-        "normal" => Some(LineBreakWordOption::Normal),
-        "break-all" => Some(LineBreakWordOption::BreakAll),
-        "keep-all" => Some(LineBreakWordOption::KeepAll),
+        Some("normal") => Some(LineBreakWordOption::Normal),
+        Some("break-all") => Some(LineBreakWordOption::BreakAll),
+        Some("keep-all") => Some(LineBreakWordOption::KeepAll),
         _ => None,
     }
 }
 
-fn language_of(word: Option<&str>) -> Result<Option<LanguageIdentifier>> {
+fn language_of(word: Option<&str>) -> Result<Option<LanguageIdentifier>>
+    ensures { IfOk result (λ language. language ≡ option_map (λ text. str_to_ascii_lowercase text.now) word) }
+{
     let Some(word) = word else {
         return Ok(None);
     };
@@ -288,7 +315,9 @@ fn language_of(word: Option<&str>) -> Result<Option<LanguageIdentifier>> {
     Ok(Some(language.context("a language has 2 to 8 letters")?))
 }
 
-fn script_of(word: &str) -> Result<ComplexScript> {
+fn script_of(word: &str) -> Result<ComplexScript>
+    ensures { MatchResult result (λ script. HasScriptWord script word.now) (λ _. (script : AnyScript) → HasScriptWord script word.now → ⊥) }
+{
     match word {
         "thai" => Ok(ComplexScript::Thai),
         "lao" => Ok(ComplexScript::Lao),

@@ -1,4 +1,8 @@
 //! Dictionaries from files.
+ghost use Rattle.std.specs.Prelude.{◌≡◌};
+ghost use Rattle.icu_segmenter.specs.Dictionary.{words_of};
+ghost use Rattle.icu_segmenter.specs.ScriptWords.{script_words};
+ghost use Rattle.segment.specs.Dictionaries.{words_for};
 
 use anyhow::{Context, Result, ensure};
 use icu_segmenter::provider::{ComplexScript, Dictionaries, DictionaryBreakData};
@@ -32,7 +36,9 @@ pub fn dictionary_of(alloc: Global, text: &str) -> Result<DictionaryBreakData> {
 }
 
 /// A dictionary in its script's place.
-pub fn with_dictionary(script: ComplexScript, dictionary: DictionaryBreakData) -> Dictionaries {
+pub fn with_dictionary(script: ComplexScript, dictionary: DictionaryBreakData) -> Dictionaries
+    ensures { script_words result ≡ words_for script (words_of dictionary) }
+{
     let mut dictionaries = Dictionaries::none();
     match script {
         ComplexScript::Myanmar => dictionaries.my = Some(dictionary),
