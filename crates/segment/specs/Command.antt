@@ -1,10 +1,10 @@
 -- What the words of the command line ask for.
-use Rattle.std.specs.Prelude.{◌≡◌, ◌≢◌, ℕ, ◌<◌, ◌^◌, Bool, true, false, Option, None, Some, List, codes, MatchOption}
-use Rattle.std.specs.Borrow.{Bor}
-use Rattle.std.specs.Option.{option_map}
+use Rattle.std.specs.Prelude.{◌≡◌, ◌≢◌, ℕ, ◌<◌, ◌^◌, ◌==◌, Bool, true, false, Option, None, Some, List, [], length, codes, MatchOption}
+use Rattle.std.specs.List.{before_first}
+use Rattle.std.specs.Option.{option_map, option_map_or}
 use Rattle.std.specs.Str.{str_to_ascii_lowercase}
 use Rattle.std.specs.Str.Parse.{IsNumeral, digits_value}
-use Rattle.clap.specs.Matches.{first_value, one_text}
+use Rattle.clap.specs.Matches.{first_value, matched_of, one_text, raw_values}
 use Rattle.clap.specs.declared.parser.matches.Found.{Found}
 use Rattle.icu_segmenter.specs.declared.options.LineBreakStrictness.{LineBreakStrictness}
 use Rattle.icu_segmenter.specs.declared.options.LineBreakStrictness.TheVariants as strictness
@@ -21,7 +21,7 @@ use Rattle.segment.specs.declared.command.Task.{Task}
 use Rattle.segment.specs.declared.command.Task.TheVariants.{Cut, Wrap}
 use Rattle.segment.specs.declared.command.Width.{Width}
 use Rattle.segment.specs.declared.output.Style.{Style}
-use Rattle.segment.specs.declared.output.Style.TheVariants as style
+use Rattle.segment.specs.declared.output.Style.TheVariants.{Escaped, Raw, ZeroEnded, Offsets, Counted}
 
 -- ---- the words
 
@@ -60,16 +60,15 @@ is_alone kind.WordsAlone = true
 is_alone kind.Sentences = false
 is_alone kind.Lines = false
 
--- by `--offsets` and `--raw`
-abbrev pub style_by : Bool → Bool → Style
-style_by true raw = style.Offsets
-style_by false true = style.Raw
-style_by false false = style.Escaped
-
 -- by `--memo`
 abbrev pub engine_by : Bool → Engine
 engine_by true = engine.Memoised
 engine_by false = engine.Plain
+
+-- the language of a tag, in lower case: what stands before its first hyphen, low line and full stop, as ja of ja-JP and of ja_JP.UTF-8
+abbrev pub language_part : List ℕ → List ℕ
+language_part tag =
+    str_to_ascii_lowercase (before_first (λ byte. byte == 0x2E) (before_first (λ byte. byte == 0x5F) (before_first (λ byte. byte == 0x2D) tag)))
 
 -- what is chosen by a word, if one is given: none where no choice has it
 abbrev pub IsChoice : {X : Type 0} → (X → List ℕ) → Option (List ℕ) → Option X → Type 0
@@ -89,32 +88,39 @@ abbrev pub IsWidth : Found → Width → Type 0
 IsWidth found width =
     (one_text found (codes "columns") ≡ None → width.columns ≡ 80)
     × ((digits : List ℕ) → one_text found (codes "columns") ≡ Some digits → IsNumeral 10 digits → digits_value 10 digits < 2 ^ 64
-        → width.columns ≡ digits_value 10 digits)
+    → width.columns ≡ digits_value 10 digits)
     × IsFlag found (codes "break-words") width.breaks_words
 
+-- segments are written in the style that is named
+abbrev pub IsStyle : Found → Style → Type 0
+IsStyle found Counted = IsFlag found (codes "count") true
+IsStyle found Offsets = IsFlag found (codes "count") false × IsFlag found (codes "offsets") true
+IsStyle found ZeroEnded = IsFlag found (codes "count") false × IsFlag found (codes "offsets") false × IsFlag found (codes "null") true
+IsStyle found Raw = IsFlag found (codes "count") false × IsFlag found (codes "offsets") false × IsFlag found (codes "null") false × IsFlag found (codes "raw") true
+IsStyle found Escaped = IsFlag found (codes "count") false × IsFlag found (codes "offsets") false × IsFlag found (codes "null") false × IsFlag found (codes "raw") false
+
 -- a task is the one that is named
-abbrev pub IsTask : Found → Task → Type 0
-IsTask found (Cut kind style engine) =
-    (first_value found (codes "kind") ≡ Some (kind_word kind))
+abbrev pub IsTask : List ℕ → Found → Task → Type 0
+IsTask word found (Cut kind style engine) =
+    (word ≡ kind_word kind)
     × IsFlag found (codes "words") (is_alone kind)
-    × ((offsets raw : Bool) × IsFlag found (codes "offsets") offsets × IsFlag found (codes "raw") raw × (style ≡ style_by offsets raw))
+    × IsStyle found style
     × ((memo : Bool) × IsFlag found (codes "memo") memo × (engine ≡ engine_by memo))
-IsTask found (Wrap width) =
-    (first_value found (codes "kind") ≡ Some (codes "wrap")) × IsWidth found width
+IsTask word found (Wrap width) = (word ≡ codes "wrap") × IsWidth found width
 
--- a dictionary is the one that is named, and its script is: both or neither
-abbrev pub IsDictionary : Found → Option (Bor (List ℕ) × ComplexScript) → Type 0
-IsDictionary found None =
-    (file word : List ℕ) → first_value found (codes "dictionary") ≡ Some file → first_value found (codes "script") ≡ Some word → ⊥
-IsDictionary found (Some (file, script)) =
-    (first_value found (codes "dictionary") ≡ Some file.now)
-    × ((word : List ℕ) × (first_value found (codes "script") ≡ Some word) × HasScriptWord script word)
+-- all values of an argument
+abbrev pub values_of : Found → List ℕ → List (List ℕ)
+values_of found id = option_map_or raw_values (matched_of found id) []
 
--- a request is what the command line asks for
-abbrev pub IsRequest : Found → Request → Type 0
-IsRequest found request =
-    IsTask found request.task
+-- each dictionary has a script of its own
+abbrev pub ArePaired : Found → Type 0
+ArePaired found = length (values_of found (codes "dictionary")) ≡ length (values_of found (codes "script"))
+
+-- a request is what the word of a kind and its arguments ask for
+abbrev pub IsRequest : List ℕ → Found → Request → Type 0
+IsRequest word found request =
+    ArePaired found
+    × IsTask word found request.task
     × IsChoice strictness_word (first_value found (codes "strictness")) request.strictness
     × IsChoice word_break_word (first_value found (codes "word-break")) request.word_option
-    × (request.language ≡ option_map str_to_ascii_lowercase (first_value found (codes "lang")))
-    × IsDictionary found request.dictionary
+    × (request.language ≡ option_map language_part (first_value found (codes "lang")))

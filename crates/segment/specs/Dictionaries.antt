@@ -1,15 +1,15 @@
--- The words of one script.
+-- The words of the scripts.
 use Rattle.std.specs.Prelude.{Some}
-use Rattle.icu_segmenter.specs.ScriptWords.{ScriptWords, no_words}
+use Rattle.icu_segmenter.specs.ScriptWords.{ScriptWords}
 use Rattle.icu_segmenter.specs.WordSets.{Words}
 use Rattle.icu_segmenter.specs.declared.provider.ComplexScript.{ComplexScript}
 use Rattle.icu_segmenter.specs.declared.provider.ComplexScript.TheVariants.{None, Myanmar, ChineseOrJapanese, Khmer, Lao, Thai}
 
--- a script has these words, and the others have none
-abbrev pub words_for : ComplexScript → Words → ScriptWords
-words_for None words = no_words
-words_for Myanmar words = record no_words { my = Some words }
-words_for ChineseOrJapanese words = record no_words { ja = Some words }
-words_for Khmer words = record no_words { km = Some words }
-words_for Lao words = record no_words { lo = Some words }
-words_for Thai words = record no_words { th = Some words }
+-- a script has these words, and the others have those that they had
+abbrev pub words_with : ComplexScript → Words → ScriptWords → ScriptWords
+words_with None words others = others
+words_with Myanmar words others = record others { my = Some words }
+words_with ChineseOrJapanese words others = record others { ja = Some words }
+words_with Khmer words others = record others { km = Some words }
+words_with Lao words others = record others { lo = Some words }
+words_with Thai words others = record others { th = Some words }
