@@ -2,6 +2,7 @@
 ghost use Rattle.std.specs.Prelude.{◌≡◌, ◌≢◌, ◌<◌, ◌==◌, length, IfOk, MatchResult, OnOk};
 ghost use Rattle.std.specs.List.{before_first};
 ghost use Rattle.std.specs.Option.{option_map, option_map_or};
+ghost use Rattle.std.specs.Str.{str_to_ascii_lowercase};
 ghost use Rattle.icu_segmenter.specs.declared.provider.ComplexScript.{ComplexScript as AnyScript};
 ghost use Rattle.clap.specs.Matches.{found_of};
 ghost use Rattle.segment.specs.declared.command.Kind.{Kind as AnyKind};
@@ -372,8 +373,15 @@ fn language_of(tag: Option<&str>) -> Result<Option<LanguageIdentifier>>
         return Ok(None);
     };
     let language = before(before(before(tag, '-'), '_'), '.');
-    let language = LanguageIdentifier::try_from_language(language);
-    Ok(Some(language.context("the language of '--lang <LANGUAGE>' has 2 to 8 letters")?))
+    let identifier = identifier_of(language)?;
+    Ok(Some(identifier))
+}
+
+fn identifier_of(language: &str) -> Result<LanguageIdentifier>
+    ensures { IfOk result (λ identifier. identifier ≡ str_to_ascii_lowercase language.now) }
+{
+    let identifier = LanguageIdentifier::try_from_language(language);
+    identifier.context("the language of '--lang <LANGUAGE>' has 2 to 8 letters")
 }
 
 // What stands before the first such character of a text, or all of it where there is none.
