@@ -1,5 +1,6 @@
 -- Lines that are gathered, and then written.
-use Rattle.std.proofs.Common.{◌≡◌, ℕ, Option, List, [], ◌∷◌, ◌++◌, refl, sym, ap, ◌∙◌, append_assoc, append-nil}
+use Rattle.std.proofs.Common.{◌≡◌, ℕ, Option, List, [], ◌∷◌, ◌++◌, refl, sym, ap, ◌∙◌, ◌+◌, length, append_assoc, append-nil}
+use Rattle.std.proofs.lemmas.List.{length-append}
 use Rattle.std.proofs.KnownBytes.{Appends-nil, Appends-trans}
 use Rattle.std.specs.Io.KnownBytes.{Appends}
 use Rattle.segment.specs.Output.{line_of, lines_of}
@@ -40,3 +41,9 @@ gathered-written lines left all old mid new (written, before, whole) (none, afte
 
 pub gathered-all : (lines all : List ℕ) (old mid new : Option (List ℕ)) → AreGathered old mid lines all → Appends mid new lines → Appends old new all
 gathered-all lines all old mid new (written, before, whole) after = rw (← whole) (Appends-trans old mid new written lines before after)
+
+-- more are counted
+pub count-more : {X : Type 0} (done more : List X) (all : List X) (before after : ℕ) → all ≡ done ++ more → before ≡ length done → after ≡ before + length more
+    → after ≡ length all
+count-more done more all before after is counted added =
+    added ∙ ap (λ (n : ℕ). n + length more) counted ∙ sym (length-append done more) ∙ ap (λ xs. length xs) (sym is)

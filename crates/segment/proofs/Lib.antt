@@ -2,6 +2,8 @@ pub mod Segments
 pub mod Gathered
 pub mod Escaping
 pub mod Printed
+pub mod FoundByMemo
+pub mod Counted
 pub mod ShownLines
 pub mod ShownWide
 pub mod ByMachine

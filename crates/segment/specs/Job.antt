@@ -1,21 +1,45 @@
 -- What a job writes of a text, and which one is asked for.
-use Rattle.std.specs.Prelude.{◌≡◌, ℕ, List}
+use Rattle.std.specs.Prelude.{◌≡◌, ℕ, Bool, true, false, Option, List, [], ◌++◌, length, if◌then◌else◌}
 use Rattle.icu_segmenter.specs.ScriptWords.{ScriptWords}
-use Rattle.segment.specs.Output.{lines_of}
+use Rattle.segment.specs.Memo.{IsFoundBy}
+use Rattle.segment.specs.Output.{count_line, lines_of}
 use Rattle.segment.specs.Segmenter.{segments_by, IsAskedOf}
 use Rattle.segment.specs.Wrapped.{wrapped_output}
 use Rattle.segment.specs.Wrapper.{wrapping_of, IsAskedWrapper}
+use Rattle.segment.specs.declared.command.Engine.TheVariants.{Plain, Memoised}
 use Rattle.segment.specs.declared.command.Kind.{Kind}
 use Rattle.segment.specs.declared.command.Request.{Request}
 use Rattle.segment.specs.declared.command.Task.TheVariants as task
 use Rattle.segment.specs.declared.command.Width.{Width}
+use Rattle.segment.specs.declared.found.Found.{Found}
 use Rattle.segment.specs.declared.job.Job.{Job}
 use Rattle.segment.specs.declared.job.Job.TheVariants.{Cut, Wrap}
+use Rattle.segment.specs.declared.output.Style.TheVariants.{Counted}
 
 -- what is written of some bytes; the engine changes nothing
-abbrev pub output_of : Job → List ℕ → List ℕ
-output_of (Cut segmenter style engine) bytes = lines_of style bytes (segments_by segmenter bytes)
-output_of (Wrap wrapper) bytes = wrapped_output (wrapping_of wrapper) bytes
+abbrev pub printed_by : Job → List ℕ → List ℕ
+printed_by (Cut segmenter style engine) bytes = lines_of style bytes (segments_by segmenter bytes)
+printed_by (Wrap wrapper) bytes = wrapped_output (wrapping_of wrapper) bytes
+
+-- are segments only counted
+abbrev pub is_counted : Job → Bool
+is_counted (Cut segmenter Counted engine) = true
+is_counted job = false
+
+-- how many segments there are
+abbrev pub count_by : Job → List ℕ → ℕ
+count_by (Cut segmenter style engine) bytes = length (segments_by segmenter bytes)
+count_by (Wrap wrapper) bytes = 0
+
+-- all that is written of some bytes that have a name or none: the segments or the lines, or how many segments there are
+abbrev pub output_of : Job → Option (List ℕ) → List ℕ → List ℕ
+output_of job name bytes = printed_by job bytes ++ (if is_counted job then count_line (count_by job bytes) name else [])
+
+-- what is found of some bytes
+abbrev pub IsFound : Job → List ℕ → Found → Type 0
+IsFound (Cut segmenter style Plain) bytes found = (found.segments ≡ length (segments_by segmenter bytes)) × (found.lookups ≡ 0)
+IsFound (Cut segmenter style Memoised) bytes found = IsFoundBy segmenter bytes found
+IsFound (Wrap wrapper) bytes found = (found.segments ≡ 0) × (found.lookups ≡ 0)
 
 -- a job is the one that a request asks for
 abbrev pub IsAsked : Request → ScriptWords → Job → Type 0

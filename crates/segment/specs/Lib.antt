@@ -1,3 +1,5 @@
+pub mod Command
+pub mod Dictionaries
 pub mod Escapes
 pub mod Fault
 pub mod Job

@@ -1,11 +1,11 @@
--- What is written of a text: each of its segments on a line of its own.
+-- What is written of a text: each of its segments on a line of its own, or how many there are.
 use Rattle.std.specs.Prelude.{ℕ, Option, None, Some, List, [], ◌∷◌, ◌++◌, drop, map, filter, decimal}
 use Rattle.std.specs.List.{flat_map, slice_range, zip}
 use Rattle.icu_segmenter.specs.WordRules.{is_word_like}
 use Rattle.icu_segmenter.specs.declared.options.WordType.{WordType}
 use Rattle.segment.specs.Escapes.{escaped}
 use Rattle.segment.specs.declared.output.Style.{Style}
-use Rattle.segment.specs.declared.output.Style.TheVariants.{Escaped, Raw, Offsets}
+use Rattle.segment.specs.declared.output.Style.TheVariants.{Escaped, Raw, ZeroEnded, Offsets, Counted}
 
 -- the segments between the boundaries of a text, which are neighbours: where each begins, and where it ends
 abbrev pub segments : List ℕ → List (ℕ × ℕ)
@@ -16,11 +16,13 @@ abbrev pub words_alone : List (ℕ × WordType) → List (ℕ × ℕ)
 words_alone boundaries =
     map (λ pair. (pair.0.0, pair.1.0)) (filter (λ pair. is_word_like pair.1.1) (zip boundaries (drop 1 boundaries)))
 
--- the line of a segment
+-- the line of a segment; where they are only counted, it has none
 abbrev pub line_of : Style → List ℕ → ℕ × ℕ → List ℕ
 line_of Escaped text segment = escaped (slice_range text segment.0 segment.1) ++ 10 ∷ []
 line_of Raw text segment = slice_range text segment.0 segment.1 ++ 10 ∷ []
+line_of ZeroEnded text segment = slice_range text segment.0 segment.1 ++ 0 ∷ []
 line_of Offsets text segment = decimal segment.0 ++ 32 ∷ decimal segment.1 ++ 10 ∷ []
+line_of Counted text segment = []
 
 abbrev pub lines_of : Style → List ℕ → List (ℕ × ℕ) → List ℕ
 lines_of style text segments = flat_map (line_of style text) segments
@@ -29,3 +31,8 @@ lines_of style text segments = flat_map (line_of style text) segments
 abbrev pub ended : Option ℕ → ℕ → List (ℕ × ℕ)
 ended None end = []
 ended (Some start) end = (start, end) ∷ []
+
+-- the line of a count: how many there are, and the name of what they were counted in, if it has one
+abbrev pub count_line : ℕ → Option (List ℕ) → List ℕ
+count_line count None = decimal count ++ 10 ∷ []
+count_line count (Some name) = decimal count ++ 32 ∷ name ++ 10 ∷ []

@@ -1,4 +1,12 @@
 //! The command line.
+ghost use Rattle.std.specs.Prelude.{◌≡◌, ◌≢◌, ◌<◌, ◌==◌, length, IfOk, MatchResult, OnOk};
+ghost use Rattle.std.specs.List.{before_first};
+ghost use Rattle.std.specs.Option.{option_map, option_map_or};
+ghost use Rattle.std.specs.Str.{str_to_ascii_lowercase};
+ghost use Rattle.icu_segmenter.specs.declared.provider.ComplexScript.{ComplexScript as AnyScript};
+ghost use Rattle.clap.specs.Matches.{found_of};
+ghost use Rattle.segment.specs.declared.command.Kind.{Kind as AnyKind};
+ghost use Rattle.segment.specs.Command.{engine_by, is_alone, kind_word, language_part, strictness_word, word_break_word, ArePaired, HasScriptWord, IsChoice, IsRequest, IsStyle, IsTask, IsWidth};
 
 use crate::output::Style;
 use anyhow::{Context, Result, bail, ensure};
@@ -51,7 +59,7 @@ pub enum Task {
 
 /// What the command line asks for.
 #[derive(Drop)]
-pub struct Request<'a> {
+pub struct Request {
     /// What is done.
     pub task: Task,
     /// Of lines, how strict they are.
@@ -60,11 +68,7 @@ pub struct Request<'a> {
     pub word_option: Option<LineBreakWordOption>,
     /// Of lines, the language of the text.
     pub language: Option<LanguageIdentifier>,
-    /// Of words and lines, the file of a dictionary, and its script.
-    pub dictionary: Option<(&'a str, ComplexScript)>,
 }
-
-const KINDS: [&str; 5] = ["grapheme", "word", "sentence", "line", "wrap"];
 
 // Of lines that are wrapped, where the command line says nothing.
 const DEFAULT_COLUMNS: usize = 80;
@@ -75,58 +79,138 @@ const WORD_OPTIONS: [&str; 3] = ["normal", "break-all", "keep-all"];
 
 const SCRIPTS: [&str; 5] = ["thai", "lao", "khmer", "myanmar", "cj"];
 
-/// The arguments that there are. The only error is want of memory.
+const OFFSETS_HELP: &str = "Write where each segment begins and ends, in bytes";
+
+const RAW_HELP: &str = "Write control characters and backslashes as they are, and not as escapes";
+
+const NULL_HELP: &str =
+    "Write segments as they are, each with a zero byte after it and no line feed";
+
+const COUNT_HELP: &str = "Write how many segments there are, and no segment";
+
+const MEMO_HELP: &str =
+    "Look up no configuration twice: takes time in step with the text's length, and memory";
+
+/// The arguments that there are: each kind of segments is a subcommand. The only error is want of memory.
 pub fn command_line<'a>(alloc: Global) -> Result<Command<'a>, AllocError> {
-    let command = Command::new(alloc, "segment").about(
-        "Cuts standard input (UTF-8) into segments, and writes each on a line of its own, or wraps its lines",
-    );
-    let command = command
-        .arg(kind_argument(alloc))?
-        .arg(columns_argument(alloc))?
-        .arg(flag(
-            alloc,
-            "offsets",
-            "Write where each segment begins and ends, in bytes",
-        ))?
-        .arg(flag(
-            alloc,
-            "raw",
-            "Write control characters as they are, and not as escapes",
-        ))?
-        .arg(flag(
-            alloc,
-            "words",
-            "Of words: leave out what stands between them",
-        ))?
-        .arg(memo_argument(alloc)?)?
-        .arg(flag(
-            alloc,
-            "break-words",
-            "Of wrap: break what is wider than the columns between clusters",
-        ))?;
-    let strictness = "Of lines: the property line-break of CSS";
-    let word_break = "Of lines: the property word-break of CSS";
-    let script = "The script of that dictionary";
-    command
-        .arg(choice(alloc, "strictness", &STRICTNESSES, strictness))?
-        .arg(choice(alloc, "word-break", &WORD_OPTIONS, word_break))?
-        .arg(option(alloc, "lang", "Of lines: the language of the text, as ja"))?
-        .arg(dictionary_argument(alloc)?)?
-        .arg(choice(alloc, "script", &SCRIPTS, script).requires_arg("dictionary")?)
+    let kinds = kind_commands(alloc)?;
+    let command = Command::new(alloc, "segment")
+        .version("1.0.0")
+        .about(
+            "Cuts text (UTF-8) into segments by Unicode's data, and writes each on a line of its own, or wraps its lines",
+        )
+        .subcommand_required(true);
+    command.subcommands(kinds)
 }
 
-fn kind_argument<'a>(alloc: Global) -> Arg<'a> {
-    Arg::new(alloc, "kind")
-        .required(true)
-        .action(ArgAction::Set)
-        .value_parser(KINDS.as_slice())
+fn kind_commands<'a>(alloc: Global) -> Result<Vec<Command<'a>>, AllocError> {
+    let mut kinds = Vec::new(alloc);
+    kinds.push(grapheme_command(alloc)?)?;
+    kinds.push(word_command(alloc)?)?;
+    kinds.push(sentence_command(alloc)?)?;
+    kinds.push(line_command(alloc)?)?;
+    kinds.push(wrap_command(alloc)?)?;
+    Ok(kinds)
+}
+
+fn grapheme_command<'a>(alloc: Global) -> Result<Command<'a>, AllocError> {
+    let command = Command::new(alloc, "grapheme").about("Writes extended grapheme clusters");
+    with_files(alloc, with_styles(alloc, command)?)
+}
+
+fn word_command<'a>(alloc: Global) -> Result<Command<'a>, AllocError> {
+    let command = Command::new(alloc, "word").about("Writes words, and what stands between them");
+    let words = flag(alloc, "words", "Leave out what stands between words");
+    let command = with_styles(alloc, command.arg(words)?)?;
+    with_files(alloc, with_dictionaries(alloc, command)?)
+}
+
+fn sentence_command<'a>(alloc: Global) -> Result<Command<'a>, AllocError> {
+    let command = Command::new(alloc, "sentence").about("Writes sentences");
+    with_files(alloc, with_styles(alloc, command)?)
+}
+
+fn line_command<'a>(alloc: Global) -> Result<Command<'a>, AllocError> {
+    let command = Command::new(alloc, "line").about(
+        "Writes what stands between places where a line may end",
+    );
+    let command = with_line_options(alloc, with_styles(alloc, command)?)?;
+    with_files(alloc, with_dictionaries(alloc, command)?)
+}
+
+fn wrap_command<'a>(alloc: Global) -> Result<Command<'a>, AllocError> {
+    let command = Command::new(alloc, "wrap")
+        .about("Wraps lines to columns")
+        .arg(columns_argument(alloc))?;
+    let help = "Break what is wider than the columns between clusters";
+    let command = with_line_options(alloc, command.arg(flag(alloc, "break-words", help))?)?;
+    with_files(alloc, with_dictionaries(alloc, command)?)
+}
+
+// How segments are written, and what finds them.
+fn with_styles<'a>(alloc: Global, command: Command<'a>) -> Result<Command<'a>, AllocError> {
+    let command = command.arg(flag(alloc, "offsets", OFFSETS_HELP))?;
+    let command = command.arg(flag(alloc, "raw", RAW_HELP))?;
+    let command = command.arg(null_argument(alloc)?)?;
+    let command = command.arg(count_argument(alloc)?)?;
+    command.arg(flag(alloc, "memo", MEMO_HELP))
+}
+
+fn null_argument<'a>(alloc: Global) -> Result<Arg<'a>, AllocError> {
+    flag(alloc, "null", NULL_HELP).conflicts_with("offsets")
+}
+
+fn count_argument<'a>(alloc: Global) -> Result<Arg<'a>, AllocError> {
+    let count = flag(alloc, "count", COUNT_HELP).conflicts_with("offsets")?;
+    let count = count.conflicts_with("raw")?;
+    count.conflicts_with("null")
+}
+
+fn with_line_options<'a>(alloc: Global, command: Command<'a>) -> Result<Command<'a>, AllocError> {
+    let strictness = "The property line-break of CSS";
+    let word_break = "The property word-break of CSS";
+    let lang = "The language of the text, as ja or ja-JP";
+    let command = command.arg(choice(alloc, "strictness", &STRICTNESSES, strictness))?;
+    let command = command.arg(choice(alloc, "word-break", &WORD_OPTIONS, word_break))?;
+    command.arg(option(alloc, "lang", lang).value_name("LANGUAGE"))
+}
+
+fn with_dictionaries<'a>(alloc: Global, command: Command<'a>) -> Result<Command<'a>, AllocError> {
+    let command = command.arg(dictionary_argument(alloc)?)?;
+    command.arg(script_argument(alloc)?)
+}
+
+// Dictionaries go with the plain engine alone.
+fn dictionary_argument<'a>(alloc: Global) -> Result<Arg<'a>, AllocError> {
+    let help = "A file of words, one a line, that cut its script; may be given for each script";
+    let dictionary = option(alloc, "dictionary", help).action(ArgAction::Append);
+    let dictionary = dictionary.value_name("FILE").requires_arg("script")?;
+    dictionary.conflicts_with("memo")
+}
+
+fn script_argument<'a>(alloc: Global) -> Result<Arg<'a>, AllocError> {
+    let script = choice(alloc, "script", &SCRIPTS, "The script of that dictionary");
+    script.action(ArgAction::Append).requires_arg("dictionary")
+}
+
+fn with_files<'a>(alloc: Global, command: Command<'a>) -> Result<Command<'a>, AllocError> {
+    command.arg(files_argument(alloc))
+}
+
+fn files_argument<'a>(alloc: Global) -> Arg<'a> {
+    Arg::new(alloc, "file")
+        .action(ArgAction::Append)
+        .num_args(0..)
+        .value_name("FILE")
+        .help("The files, one after another; - is standard input, and so is none")
 }
 
 fn columns_argument<'a>(alloc: Global) -> Arg<'a> {
     Arg::new(alloc, "columns")
         .action(ArgAction::Set)
         .value_parser(value_parser!(usize))
-        .help("Of wrap: the columns that a line has at most [default: 80]")
+        .value_name("COLUMNS")
+        .help("The columns that a line has at most, which stand before files [default: 80]")
 }
 
 fn flag<'a>(alloc: Global, name: &'a str, help: &'a str) -> Arg<'a> {
@@ -134,13 +218,6 @@ fn flag<'a>(alloc: Global, name: &'a str, help: &'a str) -> Arg<'a> {
         .long(name)
         .action(ArgAction::SetTrue)
         .help(help)
-}
-
-// Dictionaries go with the plain engine alone.
-fn memo_argument<'a>(alloc: Global) -> Result<Arg<'a>, AllocError> {
-    let help =
-        "Look up no configuration twice: takes time in step with the text's length, and memory";
-    flag(alloc, "memo", help).conflicts_with("dictionary")
 }
 
 fn option<'a>(alloc: Global, name: &'a str, help: &'a str) -> Arg<'a> {
@@ -154,106 +231,111 @@ fn choice<'a>(alloc: Global, name: &'a str, values: &'a [&'a str], help: &'a str
     option(alloc, name, help).value_parser(values)
 }
 
-fn dictionary_argument<'a>(alloc: Global) -> Result<Arg<'a>, AllocError> {
-    option(
-        alloc,
-        "dictionary",
-        "Of words and lines: a file of words, one a line, that cut its script",
-    )
-    .value_name("FILE")
-    .requires_arg("script")
-}
-
-/// What the arguments ask for. The error is an argument that its kind of segments doesn't have, or a language that isn't one.
-pub fn request_of<'a>(matches: &ArgMatches<'a>) -> Result<Request<'a>> {
-    let dictionary = match (matches.get_str("dictionary"), matches.get_str("script")) {
-        (Some(file), Some(script)) => Some((file, script_of(script)?)),
-        _ => None,
-    };
-    let request = Request {
-        task: task_of(matches)?,
-        strictness: matches.get_str("strictness").and_then(strictness_of),
-        word_option: matches.get_str("word-break").and_then(word_option_of),
+/// What the arguments of a kind of segments ask for. The errors are a word that isn't a kind, a language that isn't one, a dictionary
+/// without a script, and a script that is named twice.
+pub fn request_of(kind: &str, matches: &ArgMatches<'_>) -> Result<Request>
+    ensures { IfOk result (IsRequest kind.now (found_of matches.now)) }
+{
+    check_dictionaries(matches)?;
+    Ok(Request {
+        task: task_of(kind, matches)?,
+        strictness: strictness_of(matches.get_str("strictness")),
+        word_option: word_option_of(matches.get_str("word-break")),
         language: language_of(matches.get_str("lang"))?,
-        dictionary,
-    };
-    check(&request)?;
-    Ok(request)
-}
-
-// The error is an option that its task doesn't have.
-fn check(request: &Request<'_>) -> Result<()> {
-    let (has_lines, has_words) = match request.task {
-        Task::Cut(Kind::Lines, ..) | Task::Wrap(_) => (true, true),
-        Task::Cut(Kind::Words | Kind::WordsAlone, ..) => (false, true),
-        Task::Cut(Kind::Clusters | Kind::Sentences, ..) => (false, false),
-    };
-    let asks_lines = request.strictness.is_some()
-        || request.word_option.is_some()
-        || request.language.is_some();
-    ensure!(
-        has_lines || !asks_lines,
-        "--strictness, --word-break and --lang are options of lines"
-    );
-    ensure!(
-        has_words || request.dictionary.is_none(),
-        "--dictionary is an option of words and lines"
-    );
-    Ok(())
-}
-
-fn task_of(matches: &ArgMatches<'_>) -> Result<Task> {
-    match matches.get_str("kind") {
-        Some("wrap") => Ok(Task::Wrap(width_of(matches)?)),
-        kind => {
-            let columns = matches.get_one::<usize>("columns");
-            ensure!(
-                columns.is_none() && !matches.get_flag("break-words"),
-                "COLUMNS and --break-words are options of wrap"
-            );
-            Ok(Task::Cut(
-                kind_of(kind, matches.get_flag("words"))?,
-                style_of(matches.get_flag("offsets"), matches.get_flag("raw")),
-                engine_of(matches.get_flag("memo")),
-            ))
-        }
-    }
-}
-
-fn width_of(matches: &ArgMatches<'_>) -> Result<Width> {
-    for name in ["offsets", "raw", "words", "memo"] {
-        ensure!(
-            !matches.get_flag(name),
-            "--offsets, --raw, --words and --memo aren't options of wrap"
-        );
-    }
-    Ok(Width {
-        columns: matches.get_one("columns").unwrap_or(DEFAULT_COLUMNS),
-        breaks_words: matches.get_flag("break-words"),
     })
 }
 
-fn kind_of(word: Option<&str>, is_alone: bool) -> Result<Kind> {
-    match (word, is_alone) {
-        (Some("word"), true) => Ok(Kind::WordsAlone),
-        (_, true) => bail!("--words is an option of words"),
-        (Some("grapheme"), _) => Ok(Kind::Clusters),
-        (Some("word"), _) => Ok(Kind::Words),
-        (Some("sentence"), _) => Ok(Kind::Sentences),
-        (Some("line"), _) => Ok(Kind::Lines),
+// The error is a dictionary without a script, or a script that is named twice.
+fn check_dictionaries(matches: &ArgMatches<'_>) -> Result<()>
+    ensures { OnOk result (ArePaired (found_of matches.now)) }
+{
+    let scripts = matches.get_strs("script");
+    ensure!(
+        count_of(matches.get_strs("dictionary")) == count_of(scripts),
+        "each '--dictionary <FILE>' needs a '--script <script>' of its own"
+    );
+    match scripts {
+        Some(scripts) => check_scripts(scripts),
+        None => Ok(()),
+    }
+}
+
+fn count_of(values: Option<&[&str]>) -> usize
+    ensures { result ≡ option_map_or (λ values. length values.now) values.entry 0 }
+{
+    match values {
+        Some(values) => values.len(),
+        None => 0,
+    }
+}
+
+// The error is a script that is named twice.
+fn check_scripts(scripts: &[&str]) -> Result<()> {
+    for index in 0..scripts.len() {
+        let script = scripts[index];
+        ensure!(
+            !scripts[..index].contains(&script),
+            "the argument '--script {script}' cannot be used twice"
+        );
+    }
+    Ok(())
+}
+
+fn task_of(kind: &str, matches: &ArgMatches<'_>) -> Result<Task>
+    ensures { IfOk result (IsTask kind.now (found_of matches.now)) }
+{
+    if kind == "wrap" {
+        return Ok(Task::Wrap(width_of(matches)));
+    }
+    let kind = kind_of(kind, matches.get_flag("words"))?;
+    let engine = engine_of(matches.get_flag("memo"));
+    Ok(Task::Cut(kind, style_of(matches), engine))
+}
+
+fn width_of(matches: &ArgMatches<'_>) -> Width
+    ensures { IsWidth (found_of matches.now) result }
+{
+    Width {
+        columns: matches.get_one("columns").unwrap_or(DEFAULT_COLUMNS),
+        breaks_words: matches.get_flag("break-words"),
+    }
+}
+
+fn kind_of(word: &str, alone: bool) -> Result<Kind>
+    ensures { MatchResult result
+        (λ kind. (word.now ≡ kind_word kind) × (alone ≡ is_alone kind))
+        (λ _. (kind : AnyKind) → word.now ≡ kind_word kind → alone ≢ is_alone kind) }
+{
+    match (word, alone) {
+        ("word", true) => Ok(Kind::WordsAlone),
+        (_, true) => bail!("'--words' is an option of words"),
+        ("grapheme", _) => Ok(Kind::Clusters),
+        ("word", _) => Ok(Kind::Words),
+        ("sentence", _) => Ok(Kind::Sentences),
+        ("line", _) => Ok(Kind::Lines),
         _ => bail!("no such kind of segments"),
     }
 }
 
-fn style_of(offsets: bool, raw: bool) -> Style {
-    match (offsets, raw) {
-        (true, _) => Style::Offsets,
-        (false, true) => Style::Raw,
-        (false, false) => Style::Escaped,
+fn style_of(matches: &ArgMatches<'_>) -> Style
+    ensures { IsStyle (found_of matches.now) result }
+{
+    if matches.get_flag("count") {
+        Style::Counted
+    } else if matches.get_flag("offsets") {
+        Style::Offsets
+    } else if matches.get_flag("null") {
+        Style::ZeroEnded
+    } else if matches.get_flag("raw") {
+        Style::Raw
+    } else {
+        Style::Escaped
     }
 }
 
-fn engine_of(memo: bool) -> Engine {
+fn engine_of(memo: bool) -> Engine
+    ensures { result ≡ engine_by memo }
+{
     if memo {
         Engine::Memoised
     } else {
@@ -261,34 +343,62 @@ fn engine_of(memo: bool) -> Engine {
     }
 }
 
-fn strictness_of(word: &str) -> Option<LineBreakStrictness> {
+fn strictness_of(word: Option<&str>) -> Option<LineBreakStrictness>
+    ensures { IsChoice strictness_word (option_map (λ text. text.now) word.entry) result }
+{
     match word {
-        "loose" => Some(LineBreakStrictness::Loose),
-        "normal" => Some(LineBreakStrictness::Normal),
-        "strict" => Some(LineBreakStrictness::Strict),
-        "anywhere" => Some(LineBreakStrictness::Anywhere),
+        Some("loose") => Some(LineBreakStrictness::Loose),
+        Some("normal") => Some(LineBreakStrictness::Normal),
+        Some("strict") => Some(LineBreakStrictness::Strict),
+        Some("anywhere") => Some(LineBreakStrictness::Anywhere),
         _ => None,
     }
 }
 
-fn word_option_of(word: &str) -> Option<LineBreakWordOption> {
+fn word_option_of(word: Option<&str>) -> Option<LineBreakWordOption>
+    ensures { IsChoice word_break_word (option_map (λ text. text.now) word.entry) result }
+{
     match word {
-        "normal" => Some(LineBreakWordOption::Normal),
-        "break-all" => Some(LineBreakWordOption::BreakAll),
-        "keep-all" => Some(LineBreakWordOption::KeepAll),
+        Some("normal") => Some(LineBreakWordOption::Normal),
+        Some("break-all") => Some(LineBreakWordOption::BreakAll),
+        Some("keep-all") => Some(LineBreakWordOption::KeepAll),
         _ => None,
     }
 }
 
-fn language_of(word: Option<&str>) -> Result<Option<LanguageIdentifier>> {
-    let Some(word) = word else {
+fn language_of(tag: Option<&str>) -> Result<Option<LanguageIdentifier>>
+    ensures { IfOk result (λ language. language ≡ option_map (λ tag. language_part tag.now) tag.entry) }
+{
+    let Some(tag) = tag else {
         return Ok(None);
     };
-    let language = LanguageIdentifier::try_from_language(word);
-    Ok(Some(language.context("a language has 2 to 8 letters")?))
+    let language = before(before(before(tag, '-'), '_'), '.');
+    let identifier = identifier_of(language)?;
+    Ok(Some(identifier))
 }
 
-fn script_of(word: &str) -> Result<ComplexScript> {
+fn identifier_of(language: &str) -> Result<LanguageIdentifier>
+    ensures { IfOk result (λ identifier. identifier ≡ str_to_ascii_lowercase language.now) }
+{
+    let identifier = LanguageIdentifier::try_from_language(language);
+    identifier.context("the language of '--lang <LANGUAGE>' has 2 to 8 letters")
+}
+
+// What stands before the first such character of a text, or all of it where there is none.
+fn before(text: &str, mark: char) -> &str
+    requires { mark < 128 }
+    ensures { result.now ≡ before_first (λ byte. byte == mark) text.now }
+{
+    match text.split_once(mark) {
+        Some((front, _)) => front,
+        None => text,
+    }
+}
+
+/// The script that a word names. The error is a word that names none.
+pub fn script_of(word: &str) -> Result<ComplexScript>
+    ensures { MatchResult result (λ script. HasScriptWord script word.now) (λ _. (script : AnyScript) → HasScriptWord script word.now → ⊥) }
+{
     match word {
         "thai" => Ok(ComplexScript::Thai),
         "lao" => Ok(ComplexScript::Lao),

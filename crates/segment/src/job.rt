@@ -1,7 +1,7 @@
 //! What a request comes to.
-ghost use Rattle.std.specs.Prelude.{IfOk};
+ghost use Rattle.std.specs.Prelude.{◌≡◌, IfOk};
 ghost use Rattle.icu_segmenter.specs.ScriptWords.{script_words};
-ghost use Rattle.segment.specs.Job.{IsAsked};
+ghost use Rattle.segment.specs.Job.{is_counted, IsAsked};
 
 use crate::command::{Engine, Request, Task};
 use crate::output::Style;
@@ -20,8 +20,17 @@ pub enum Job {
     Wrap(Wrapper),
 }
 
+impl Job {
+    /// Whether segments are only counted.
+    pub fn is_counted(&self) -> bool
+        ensures { result ≡ is_counted self.now }
+    {
+        matches!(self, Job::Cut(_, Style::Counted, _))
+    }
+}
+
 /// What a request asks for, with these dictionaries where its kind of segments has some. The error is want of memory.
-pub fn job_of(alloc: Global, request: &Request<'_>, dictionaries: Dictionaries) -> Result<Job>
+pub fn job_of(alloc: Global, request: &Request, dictionaries: Dictionaries) -> Result<Job>
     ensures { IfOk result (λ job. IsAsked request.now (script_words dictionaries) job) }
 {
     match request.task {

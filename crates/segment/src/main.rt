@@ -1,11 +1,13 @@
-//! Cuts standard input into grapheme clusters, words, sentences or lines, by the data of Unicode 15.0, and writes each segment on a
-//! line of its own, or wraps its lines to columns.
+//! Cuts texts into grapheme clusters, words, sentences or lines, by the data of Unicode, and writes each segment on a line of its own,
+//! or how many there are, or wraps lines to columns.
 #![tactic(auto)]
 
 mod command;
 mod dictionary;
 mod escapes;
 mod fault;
+mod files;
+mod found;
 mod job;
 mod machine_lines;
 mod memo;
@@ -15,35 +17,71 @@ mod segmenter;
 mod wrapped;
 mod wrapper;
 
-use anyhow::{Context, Result};
-use command::{command_line, request_of};
+use anyhow::{Result, bail};
+use clap::ArgMatches;
+use clap::error::ErrorKind;
+use command::{Request, command_line, request_of};
 use dictionary::dictionaries_of;
-use fault::Fault;
+use files::run_all;
 use job::job_of;
-use run::run;
 use std::env;
-use std::io::ErrorKind;
 use std::process::ExitCode;
 
-fn main(rt: HostRuntime) -> Result<ExitCode> {
-    let alloc = rt.alloc();
-    let words: Vec<String> = env::args(&rt)?.collect(alloc)?;
-    let matches = match command_line(alloc)?.try_get_matches_from(words.as_slice()) {
-        Ok(matches) => matches,
+// What a command line that can't be followed ends with, as clap's do.
+const USAGE_STATUS: u8 = 2;
+
+fn main(rt: HostRuntime) -> ExitCode {
+    match start(&rt) {
+        Ok(status) => status,
         Err(error) => {
-            error.print(&rt)?;
-            return Ok(ExitCode::from(error.exit_code() as u8));
+            let _unheard = eprintln!(&rt; "segment: {error:#}");
+            ExitCode::FAILURE
         }
+    }
+}
+
+// Follows the command line. The errors are what a dictionary lacks, and want of memory.
+fn start(rt: &HostRuntime) -> Result<ExitCode> {
+    let alloc = rt.alloc();
+    let words: Vec<String> = env::args(rt)?.collect(alloc)?;
+    match command_line(alloc)?.try_get_matches_from(words.as_slice()) {
+        Ok(matches) => follow(rt, &matches),
+        Err(error) => answer(rt, &error),
+    }
+}
+
+// Prints what clap has to say, which is help or why the command line can't be followed. The error is want of memory.
+fn answer(rt: &HostRuntime, error: &clap::Error) -> Result<ExitCode> {
+    if error.kind() == ErrorKind::OutOfMemory {
+        bail!("no memory");
+    }
+    error.print(rt)?;
+    Ok(ExitCode::from(error.exit_code() as u8))
+}
+
+// Does what the subcommand asks for.
+fn follow(rt: &HostRuntime, matches: &ArgMatches<'_>) -> Result<ExitCode> {
+    let Some((kind, matches)) = matches.subcommand() else {
+        return refuse(rt, &"no kind of segments is named");
     };
-    let request = request_of(&matches)?;
-    let dictionaries = dictionaries_of(&rt, request.dictionary)?;
-    let job = job_of(alloc, &request, dictionaries)?;
-    match run(alloc, &job, &mut rt.stdin(), &mut rt.stdout()) {
-        Ok(()) => Ok(ExitCode::SUCCESS),
-        // Nobody reads on, so there is nothing more to do.
-        Err(Fault::Write(error)) if error.kind() == ErrorKind::BrokenPipe => Ok(ExitCode::SUCCESS),
-        Err(Fault::Write(error)) => Err(error).context("writing standard output"),
-        Err(Fault::Read(error)) => Err(error).context("reading standard input"),
-        Err(Fault::Memo(error)) => Err(error).context("making the memoised engine"),
+    match request_of(kind, matches) {
+        Ok(request) => run_request(rt, &request, matches),
+        Err(error) => refuse(rt, &error),
+    }
+}
+
+// Says why a command line can't be followed.
+fn refuse<E: std::fmt::Display>(rt: &HostRuntime, error: &E) -> Result<ExitCode> {
+    eprintln!(rt; "error: {error}\n\nFor more information, try '--help'.")?;
+    Ok(ExitCode::from(USAGE_STATUS))
+}
+
+// Does it to the files that are named.
+fn run_request(rt: &HostRuntime, request: &Request, matches: &ArgMatches<'_>) -> Result<ExitCode> {
+    let dictionaries = dictionaries_of(rt, matches)?;
+    let job = job_of(rt.alloc(), request, dictionaries)?;
+    match matches.get_strs("file") {
+        Some(names) => Ok(run_all(rt, &job, names)),
+        None => Ok(run_all(rt, &job, &[])),
     }
 }

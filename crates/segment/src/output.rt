@@ -1,10 +1,10 @@
 //! How segments are written.
-ghost use Rattle.std.specs.Prelude.{◌≡◌, ◌++◌, ◌∷◌, [], ℕ, List, decimal, OnOk};
+ghost use Rattle.std.specs.Prelude.{◌≡◌, ◌+◌, ◌++◌, ◌∷◌, [], ℕ, List, None, length, decimal, option_map, IfOk, OnOk};
 ghost use Rattle.std.specs.Io.KnownBytes.{Appends};
-ghost use Rattle.std.specs.Iterator.{IsFinite, Drains};
+ghost use Rattle.std.specs.Iterator.{IsFinite, YieldsThen};
 ghost use Rattle.std.specs.List.{slice_range};
 ghost use Rattle.icu_segmenter.specs.declared.options.WordType.{WordType};
-ghost use Rattle.segment.specs.Output.{ended, segments, words_alone, line_of, lines_of};
+ghost use Rattle.segment.specs.Output.{count_line, ended, segments, words_alone, line_of, lines_of};
 
 use crate::escapes::push_escaped;
 use icu_segmenter::options::WordType;
@@ -19,8 +19,12 @@ pub enum Style {
     Escaped,
     /// As text, as it is.
     Raw,
+    /// As text, as it is, and a zero byte in the place of the line feed.
+    ZeroEnded,
     /// As the places where they begin and end, in bytes.
     Offsets,
+    /// Not at all: they are only counted.
+    Counted,
 }
 
 // The longest number has 20 digits, and one byte stands after them.
@@ -32,59 +36,109 @@ pub const LINES_LEN: usize = 65536;
 /// Room for such lines and one more, unless that is a long one.
 pub const LINES_CAPACITY: usize = 69632;
 
-/// Writes the segments between each two places that come, and flushes. The errors are the writer's, and want of memory.
-pub fn print_segments<N: Iterator<Item = usize> + Drop, O: Write>(
+// The lines of segments, and how many segments there were.
+#[derive(Drop)]
+struct Lines {
+    // The lines that are to be written.
+    bytes: Vec<u8>,
+    // How many segments there were so far.
+    count: usize,
+}
+
+/// Writes the segments between each two places that come, flushes, and says how many there were. The errors are the writer's, and
+/// want of memory, also where there are more segments than a `usize` counts.
+pub fn print_segments<N: Iterator<Item = usize>, O: Write>(
     alloc: Global,
-    places: N,
+    places: &mut N,
     text: &[u8],
     style: Style,
     out: &mut O,
-) -> io::Result<()>
-    requires can { N.can_next places }
-    requires ends { IsFinite (N.remaining places) }
-    ensures { OnOk result ((given : List ℕ) × Drains N.next_gives places given
+) -> io::Result<usize>
+    requires can { N.can_next places.old }
+    requires ends { IsFinite (N.remaining places.old) }
+    ensures { IfOk result (λ count. (given : List ℕ) × YieldsThen N.next_gives places.old given None places.new
+        × (count ≡ length (segments given))
         × Appends (O.contents out.old) (O.contents out.new) (lines_of style text.now (segments given))) }
 {
-    let mut lines = Vec::with_capacity(alloc, LINES_CAPACITY)?;
+    let mut lines = no_lines(alloc)?;
     let mut start = None;
-    for end in places {
+    'places: while let Some(end) = places.next() {
         push_ended(text, start, end, style, &mut lines)?;
-        if lines.len() >= LINES_LEN {
-            write_lines(&mut lines, out)?;
+        if lines.bytes.len() >= LINES_LEN {
+            write_lines(&mut lines.bytes, out)?;
         }
         start = Some(end);
     }
-    out.write_all(lines.as_slice())?;
-    out.flush()
+    out.write_all(lines.bytes.as_slice())?;
+    out.flush()?;
+    Ok(lines.count)
 }
 
-/// Writes the words between each two places that come with the type of what ends there, and flushes. The errors are the writer's, and
-/// want of memory.
-pub fn print_words<N: Iterator<Item = (usize, WordType)> + Drop, O: Write>(
+/// Writes the words between each two places that come with the type of what ends there, flushes, and says how many there were. The
+/// errors are the writer's, and want of memory, also where there are more words than a `usize` counts.
+pub fn print_words<N: Iterator<Item = (usize, WordType)>, O: Write>(
     alloc: Global,
-    boundaries: N,
+    boundaries: &mut N,
     text: &[u8],
     style: Style,
     out: &mut O,
-) -> io::Result<()>
-    requires can { N.can_next boundaries }
-    requires ends { IsFinite (N.remaining boundaries) }
-    ensures { OnOk result ((given : List (ℕ × WordType)) × Drains N.next_gives boundaries given
+) -> io::Result<usize>
+    requires can { N.can_next boundaries.old }
+    requires ends { IsFinite (N.remaining boundaries.old) }
+    ensures { IfOk result (λ count. (given : List (ℕ × WordType)) × YieldsThen N.next_gives boundaries.old given None boundaries.new
+        × (count ≡ length (words_alone given))
         × Appends (O.contents out.old) (O.contents out.new) (lines_of style text.now (words_alone given))) }
 {
-    let mut lines = Vec::with_capacity(alloc, LINES_CAPACITY)?;
+    let mut lines = no_lines(alloc)?;
     let mut start = None;
-    for (end, kind) in boundaries {
+    'boundaries: while let Some((end, kind)) = boundaries.next() {
         if kind.is_word_like() {
             push_ended(text, start, end, style, &mut lines)?;
-            if lines.len() >= LINES_LEN {
-                write_lines(&mut lines, out)?;
+            if lines.bytes.len() >= LINES_LEN {
+                write_lines(&mut lines.bytes, out)?;
             }
         }
         start = Some(end);
     }
-    out.write_all(lines.as_slice())?;
+    out.write_all(lines.bytes.as_slice())?;
+    out.flush()?;
+    Ok(lines.count)
+}
+
+// No lines, and room for some.
+fn no_lines(alloc: Global) -> Result<Lines, AllocError>
+    ensures { IfOk result (λ lines. (lines.bytes.items ≡ []) × (lines.count ≡ 0)) }
+{
+    let bytes = Vec::with_capacity(alloc, LINES_CAPACITY)?;
+    Ok(Lines { bytes, count: 0 })
+}
+
+/// Writes how many segments there are, and after a space the name of what they were counted in, if it has one, on a line, and flushes.
+/// The errors are the writer's, and want of memory.
+pub fn write_count<O: Write>(
+    alloc: Global,
+    count: usize,
+    name: Option<&str>,
+    out: &mut O,
+) -> io::Result<()>
+    ensures { OnOk result (Appends (O.contents out.old) (O.contents out.new) (count_line count (option_map (λ name. name.now) name.entry))) }
+{
+    let mut line = Vec::new(alloc);
+    push_count(count, name, &mut line)?;
+    out.write_all(line.as_slice())?;
     out.flush()
+}
+
+// Adds the line of a count.
+fn push_count(count: usize, name: Option<&str>, line: &mut Vec<u8>) -> Result<(), AllocError>
+    ensures { OnOk result (line.new.items ≡ line.old.items ++ count_line count (option_map (λ name. name.now) name.entry)) }
+{
+    let Some(name) = name else {
+        return push_number(count, b'\n', line);
+    };
+    push_number(count, b' ', line)?;
+    line.extend_from_slice(name.as_bytes())?;
+    line.extend_from_slice(b"\n")
 }
 
 /// Writes the lines that were gathered, and empties their vector. The errors are the writer's.
@@ -99,21 +153,24 @@ pub fn write_lines<O: Write>(lines: &mut Vec<u8>, out: &mut O) -> io::Result<()>
     Ok(())
 }
 
-// Adds the line of the segment that ends at a place, if one begins before it.
+// Adds the line of the segment that ends at a place, if one begins before it, and counts it.
 #[inline(always)]
 fn push_ended(
     text: &[u8],
     start: Option<usize>,
     end: usize,
     style: Style,
-    lines: &mut Vec<u8>,
+    lines: &mut Lines,
 ) -> Result<(), AllocError>
-    ensures { OnOk result (lines.new.items ≡ lines.old.items ++ lines_of style text.now (ended start end)) }
+    ensures { OnOk result ((lines.new.bytes.items ≡ lines.old.bytes.items ++ lines_of style text.now (ended start end))
+        × (lines.new.count ≡ lines.old.count + length (ended start end))) }
 {
-    match start {
-        Some(start) => push_line(text, start, end, style, lines),
-        None => Ok(()),
-    }
+    let Some(start) = start else {
+        return Ok(());
+    };
+    push_line(text, start, end, style, &mut lines.bytes)?;
+    lines.count = lines.count.checked_add(1).ok_or(AllocError)?;
+    Ok(())
 }
 
 // Adds the line of a segment.
@@ -136,10 +193,15 @@ fn push_line(
             lines.extend_from_slice(segment_of(text, start, end))?;
             lines.extend_from_slice(b"\n")
         }
+        Style::ZeroEnded => {
+            lines.extend_from_slice(segment_of(text, start, end))?;
+            lines.extend_from_slice(b"\0")
+        }
         Style::Offsets => {
             push_number(start, b' ', lines)?;
             push_number(end, b'\n', lines)
         }
+        Style::Counted => Ok(()),
     }
 }
 

@@ -1,40 +1,41 @@
 //! The program, over any reader and writer.
-ghost use Rattle.std.specs.Prelude.{◌≡◌, IfErr, IfOk, IfSome, OnOk};
+ghost use Rattle.std.specs.Prelude.{◌≡◌, option_map, IfErr, IfOk, IfSome, OnOk};
 ghost use Rattle.std.specs.Io.KnownBytes.{Appends, IsAtEnd};
 ghost use Rattle.segment.specs.Fault.{IsBeforeWriting};
-ghost use Rattle.segment.specs.Job.{output_of};
+ghost use Rattle.segment.specs.Job.{output_of, printed_by, IsFound};
 
 use crate::command::Engine;
 use crate::fault::Fault;
+use crate::found::Found;
 use crate::job::Job;
 use crate::memo::print_by_memo;
+use crate::output::write_count;
 use std::alloc::Global;
 use std::io::{Read, Write};
 
-/// Does to what a reader has what a job says, and writes it: each segment on a line of its own, or the wrapped lines. What is written
-/// doesn't depend on the engine. The errors are those of the reader and of the memoised engine, which are met before anything is
-/// written, and of the writer.
+/// Does to what a reader has what a job says, and writes it: each segment on a line of its own, how many there are, with the reader's
+/// name if it has one, or the wrapped lines. What is written doesn't depend on the engine. The errors are those of the reader and of the
+/// memoised engine, which are met before anything is written, and of the writer.
 pub fn run<I: Read, O: Write>(
     alloc: Global,
     job: &Job,
+    name: Option<&str>,
     input: &mut I,
     out: &mut O,
-) -> Result<(), Fault>
+) -> Result<Found, Fault>
     ensures read_all { OnOk result (IsAtEnd (I.remaining input.new)) }
-    ensures written { OnOk result (IfSome (I.remaining input.old) (λ bytes.
-        Appends (O.contents out.old) (O.contents out.new) (output_of job.now bytes))) }
+    ensures written { IfOk result (λ found. IfSome (I.remaining input.old) (λ bytes. IsFound job.now bytes found
+        × Appends (O.contents out.old) (O.contents out.new) (output_of job.now (option_map (λ name. name.now) name.entry) bytes))) }
     ensures unwritten { IfErr result (λ fault. IsBeforeWriting fault → out.new ≡ out.old) }
 {
     let text = read_text(alloc, input)?;
-    let text = text.as_slice();
-    match job {
-        Job::Cut(segmenter, style, Engine::Plain) => segmenter
-            .print(alloc, text, *style, out)
-            .map_err(Fault::Write),
-        Job::Cut(segmenter, style, Engine::Memoised) => {
-            print_by_memo(alloc, segmenter, text, *style, out)
-        }
-        Job::Wrap(wrapper) => wrapper.print(alloc, text, out).map_err(Fault::Write),
+    let found = print_job(alloc, job, text.as_slice(), out)?;
+    if !job.is_counted() {
+        return Ok(found);
+    }
+    match write_count(alloc, found.segments, name, out) {
+        Ok(()) => Ok(found),
+        Err(error) => Err(Fault::Write(error)),
     }
 }
 
@@ -46,4 +47,33 @@ fn read_text<I: Read>(alloc: Global, input: &mut I) -> Result<Vec<u8>, Fault>
     let mut text = Vec::new(alloc);
     input.read_to_end(&mut text).map_err(Fault::Read)?;
     Ok(text)
+}
+
+// Writes the segments of a text, each on a line of its own, unless they are only counted, or its wrapped lines.
+fn print_job<O: Write>(alloc: Global, job: &Job, text: &[u8], out: &mut O) -> Result<Found, Fault>
+    ensures written { IfOk result (λ found. IsFound job.now text.now found
+        × Appends (O.contents out.old) (O.contents out.new) (printed_by job.now text.now)) }
+    ensures unwritten { IfErr result (λ fault. IsBeforeWriting fault → out.new ≡ out.old) }
+{
+    match job {
+        Job::Cut(segmenter, style, Engine::Plain) => {
+            match segmenter.print(alloc, text, *style, out) {
+                Ok(segments) => Ok(Found {
+                    segments,
+                    lookups: 0,
+                }),
+                Err(error) => Err(Fault::Write(error)),
+            }
+        }
+        Job::Cut(segmenter, style, Engine::Memoised) => {
+            print_by_memo(alloc, segmenter, text, *style, out)
+        }
+        Job::Wrap(wrapper) => match wrapper.print(alloc, text, out) {
+            Ok(()) => Ok(Found {
+                segments: 0,
+                lookups: 0,
+            }),
+            Err(error) => Err(Fault::Write(error)),
+        },
+    }
 }

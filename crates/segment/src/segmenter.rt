@@ -1,5 +1,5 @@
 //! Segmenters by Unicode's data.
-ghost use Rattle.std.specs.Prelude.{◌≡◌, IfOk, OnOk};
+ghost use Rattle.std.specs.Prelude.{◌≡◌, length, IfOk};
 ghost use Rattle.std.specs.Io.KnownBytes.{Appends};
 ghost use Rattle.segment.specs.Output.{lines_of};
 ghost use Rattle.icu_segmenter.specs.Lines.{owned_line_rules};
@@ -36,36 +36,38 @@ pub enum Segmenter {
 }
 
 impl Segmenter {
-    /// Writes the segments of a text, each on a line of its own, and flushes. The errors are the writer's, and want of memory.
+    /// Writes the segments of a text, each on a line of its own, flushes, and says how many there are. The errors are the writer's, and
+    /// want of memory.
     pub fn print<O: Write>(
         &self,
         alloc: Global,
         text: &[u8],
         style: Style,
         out: &mut O,
-    ) -> io::Result<()>
-        ensures { OnOk result (Appends (O.contents out.old) (O.contents out.new) (lines_of style text.now (segments_by self.now text.now))) }
+    ) -> io::Result<usize>
+        ensures { IfOk result (λ count. (count ≡ length (segments_by self.now text.now))
+            × Appends (O.contents out.old) (O.contents out.new) (lines_of style text.now (segments_by self.now text.now))) }
     {
         match self {
             Segmenter::Clusters(clusters) => {
-                let places = clusters.as_borrowed().segment_utf8(text);
-                print_segments(alloc, places, text, style, out)
+                let mut places = clusters.as_borrowed().segment_utf8(text);
+                print_segments(alloc, &mut places, text, style, out)
             }
             Segmenter::Words(words) => {
-                let places = words.as_borrowed().segment_utf8(text);
-                print_segments(alloc, places, text, style, out)
+                let mut places = words.as_borrowed().segment_utf8(text);
+                print_segments(alloc, &mut places, text, style, out)
             }
             Segmenter::WordsAlone(words) => {
                 let words = words.as_borrowed().segment_utf8(text);
-                print_words(alloc, words.iter_with_word_type(), text, style, out)
+                print_words(alloc, &mut words.iter_with_word_type(), text, style, out)
             }
             Segmenter::Sentences(sentences) => {
-                let places = sentences.as_borrowed().segment_utf8(text);
-                print_segments(alloc, places, text, style, out)
+                let mut places = sentences.as_borrowed().segment_utf8(text);
+                print_segments(alloc, &mut places, text, style, out)
             }
             Segmenter::Lines(lines) => {
-                let places = lines.as_borrowed().segment_utf8(text);
-                print_segments(alloc, places, text, style, out)
+                let mut places = lines.as_borrowed().segment_utf8(text);
+                print_segments(alloc, &mut places, text, style, out)
             }
         }
     }
@@ -75,7 +77,7 @@ impl Segmenter {
 pub fn segmenter_of(
     alloc: Global,
     kind: Kind,
-    request: &Request<'_>,
+    request: &Request,
     dictionaries: Dictionaries,
 ) -> Result<Segmenter>
     ensures { IfOk result (λ segmenter. IsAskedOf kind request.now (script_words dictionaries) segmenter) }
@@ -114,7 +116,7 @@ pub fn line_segmenter(
 }
 
 /// The options of lines that are asked for.
-pub fn options_of<'r>(request: &'r Request<'_>) -> LineBreakOptions<'r>
+pub fn options_of<'r>(request: &'r Request) -> LineBreakOptions<'r>
     ensures { AreOptions request.now result }
 {
     LineBreakOptions {

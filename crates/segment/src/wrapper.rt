@@ -99,7 +99,7 @@ fn push_broken(
 pub fn wrapper_of(
     alloc: Global,
     width: Width,
-    request: &Request<'_>,
+    request: &Request,
     dictionaries: Dictionaries,
 ) -> Result<Wrapper>
     ensures { IfOk result (λ wrapper. IsAskedWrapper width request.now (script_words dictionaries) wrapper) }

@@ -3,8 +3,8 @@ use Rattle.std.proofs.Common.{◌≡◌, ◌++◌, length}
 use Rattle.segment.specs.Escapes.{escaped}
 use Rattle.segment.proofs.escapes.push_escaped.Given as goal
 
-abbrev pub invariant-loop-control : goal.invariant-loop-control
-invariant-loop-control l = l.lines.items ++ escaped l.rest ≡ l.fn.lines.items ++ escaped l.bytes
+abbrev pub invariant-loop-found : goal.invariant-loop-found
+invariant-loop-found l = l.lines.items ++ escaped l.rest ≡ l.fn.lines.items ++ escaped l.bytes
 
-abbrev pub decreases-loop-control : goal.decreases-loop-control
-decreases-loop-control l = length l.rest
+abbrev pub decreases-loop-found : goal.decreases-loop-found
+decreases-loop-found l = length l.rest

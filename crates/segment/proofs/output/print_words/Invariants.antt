@@ -1,12 +1,13 @@
 -- What has been written so far, and then what is gathered, is the lines of the words between the boundaries so far.
-use Rattle.std.proofs.Common.{◌≡◌}
+use Rattle.std.proofs.Common.{◌≡◌, length}
 use Rattle.std.specs.Option.{option_map}
 use Rattle.segment.specs.Output.{words_alone, lines_of}
 use Rattle.segment.proofs.Gathered.{AreGathered}
 use Rattle.segment.proofs.Segments.{last}
 use Rattle.segment.proofs.output.print_words.Given as goal
 
-abbrev pub invariant-loop-end : goal.invariant-loop-end
-invariant-loop-end g l =
+abbrev pub invariant-boundaries : goal.invariant-boundaries
+invariant-boundaries g l =
     (l.start ≡ option_map (λ boundary. boundary.0) (last l.yielded))
-    × AreGathered (g.O.Write.contents l.fn.out) (g.O.Write.contents l.out) l.lines.items (lines_of l.style l.text (words_alone l.yielded))
+    × AreGathered (g.O.Write.contents l.fn.out) (g.O.Write.contents l.out) l.lines.bytes.items (lines_of l.style l.text (words_alone l.yielded))
+    × (l.lines.count ≡ length (words_alone l.yielded))

@@ -1,0 +1,126 @@
+-- What the words of the command line ask for.
+use Rattle.std.specs.Prelude.{◌≡◌, ◌≢◌, ℕ, ◌<◌, ◌^◌, ◌==◌, Bool, true, false, Option, None, Some, List, [], length, codes, MatchOption}
+use Rattle.std.specs.List.{before_first}
+use Rattle.std.specs.Option.{option_map, option_map_or}
+use Rattle.std.specs.Str.{str_to_ascii_lowercase}
+use Rattle.std.specs.Str.Parse.{IsNumeral, digits_value}
+use Rattle.clap.specs.Matches.{first_value, matched_of, one_text, raw_values}
+use Rattle.clap.specs.declared.parser.matches.Found.{Found}
+use Rattle.icu_segmenter.specs.declared.options.LineBreakStrictness.{LineBreakStrictness}
+use Rattle.icu_segmenter.specs.declared.options.LineBreakStrictness.TheVariants as strictness
+use Rattle.icu_segmenter.specs.declared.options.LineBreakWordOption.{LineBreakWordOption}
+use Rattle.icu_segmenter.specs.declared.options.LineBreakWordOption.TheVariants as word_option
+use Rattle.icu_segmenter.specs.declared.provider.ComplexScript.{ComplexScript}
+use Rattle.icu_segmenter.specs.declared.provider.ComplexScript.TheVariants as script
+use Rattle.segment.specs.declared.command.Engine.{Engine}
+use Rattle.segment.specs.declared.command.Engine.TheVariants as engine
+use Rattle.segment.specs.declared.command.Kind.{Kind}
+use Rattle.segment.specs.declared.command.Kind.TheVariants as kind
+use Rattle.segment.specs.declared.command.Request.{Request}
+use Rattle.segment.specs.declared.command.Task.{Task}
+use Rattle.segment.specs.declared.command.Task.TheVariants.{Cut, Wrap}
+use Rattle.segment.specs.declared.command.Width.{Width}
+use Rattle.segment.specs.declared.output.Style.{Style}
+use Rattle.segment.specs.declared.output.Style.TheVariants.{Escaped, Raw, ZeroEnded, Offsets, Counted}
+
+-- ---- the words
+
+abbrev pub strictness_word : LineBreakStrictness → List ℕ
+strictness_word strictness.Loose = codes "loose"
+strictness_word strictness.Normal = codes "normal"
+strictness_word strictness.Strict = codes "strict"
+strictness_word strictness.Anywhere = codes "anywhere"
+
+abbrev pub word_break_word : LineBreakWordOption → List ℕ
+word_break_word word_option.Normal = codes "normal"
+word_break_word word_option.BreakAll = codes "break-all"
+word_break_word word_option.KeepAll = codes "keep-all"
+
+-- a script has this word
+abbrev pub HasScriptWord : ComplexScript → List ℕ → Type 0
+HasScriptWord script.None word = ⊥
+HasScriptWord script.Myanmar word = word ≡ codes "myanmar"
+HasScriptWord script.ChineseOrJapanese word = word ≡ codes "cj"
+HasScriptWord script.Khmer word = word ≡ codes "khmer"
+HasScriptWord script.Lao word = word ≡ codes "lao"
+HasScriptWord script.Thai word = word ≡ codes "thai"
+
+-- the word of a kind of segments, and whether `--words` stands beside it
+abbrev pub kind_word : Kind → List ℕ
+kind_word kind.Clusters = codes "grapheme"
+kind_word kind.Words = codes "word"
+kind_word kind.WordsAlone = codes "word"
+kind_word kind.Sentences = codes "sentence"
+kind_word kind.Lines = codes "line"
+
+abbrev pub is_alone : Kind → Bool
+is_alone kind.Clusters = false
+is_alone kind.Words = false
+is_alone kind.WordsAlone = true
+is_alone kind.Sentences = false
+is_alone kind.Lines = false
+
+-- by `--memo`
+abbrev pub engine_by : Bool → Engine
+engine_by true = engine.Memoised
+engine_by false = engine.Plain
+
+-- the language of a tag, in lower case: what stands before its first hyphen, low line and full stop, as ja of ja-JP and of ja_JP.UTF-8
+abbrev pub language_part : List ℕ → List ℕ
+language_part tag =
+    str_to_ascii_lowercase (before_first (λ byte. byte == 0x2E) (before_first (λ byte. byte == 0x5F) (before_first (λ byte. byte == 0x2D) tag)))
+
+-- what is chosen by a word, if one is given: none where no choice has it
+abbrev pub IsChoice : {X : Type 0} → (X → List ℕ) → Option (List ℕ) → Option X → Type 0
+IsChoice word_of given chosen = MatchOption chosen ((x : _) → given ≢ Some (word_of x)) (λ x. given ≡ Some (word_of x))
+
+-- ---- what was found of the command line
+
+-- whether a flag is given
+abbrev pub IsFlag : Found → List ℕ → Bool → Type 0
+IsFlag found id is_given =
+    (one_text found id ≡ None → is_given ≡ false)
+    × (one_text found id ≡ Some (codes "true") → is_given ≡ true)
+    × (one_text found id ≡ Some (codes "false") → is_given ≡ false)
+
+-- a width is the one that is named: 80 columns where no others are
+abbrev pub IsWidth : Found → Width → Type 0
+IsWidth found width =
+    (one_text found (codes "columns") ≡ None → width.columns ≡ 80)
+    × ((digits : List ℕ) → one_text found (codes "columns") ≡ Some digits → IsNumeral 10 digits → digits_value 10 digits < 2 ^ 64
+    → width.columns ≡ digits_value 10 digits)
+    × IsFlag found (codes "break-words") width.breaks_words
+
+-- segments are written in the style that is named
+abbrev pub IsStyle : Found → Style → Type 0
+IsStyle found Counted = IsFlag found (codes "count") true
+IsStyle found Offsets = IsFlag found (codes "count") false × IsFlag found (codes "offsets") true
+IsStyle found ZeroEnded = IsFlag found (codes "count") false × IsFlag found (codes "offsets") false × IsFlag found (codes "null") true
+IsStyle found Raw = IsFlag found (codes "count") false × IsFlag found (codes "offsets") false × IsFlag found (codes "null") false × IsFlag found (codes "raw") true
+IsStyle found Escaped = IsFlag found (codes "count") false × IsFlag found (codes "offsets") false × IsFlag found (codes "null") false × IsFlag found (codes "raw") false
+
+-- a task is the one that is named
+abbrev pub IsTask : List ℕ → Found → Task → Type 0
+IsTask word found (Cut kind style engine) =
+    (word ≡ kind_word kind)
+    × IsFlag found (codes "words") (is_alone kind)
+    × IsStyle found style
+    × ((memo : Bool) × IsFlag found (codes "memo") memo × (engine ≡ engine_by memo))
+IsTask word found (Wrap width) = (word ≡ codes "wrap") × IsWidth found width
+
+-- all values of an argument
+abbrev pub values_of : Found → List ℕ → List (List ℕ)
+values_of found id = option_map_or raw_values (matched_of found id) []
+
+-- each dictionary has a script of its own
+abbrev pub ArePaired : Found → Type 0
+ArePaired found = length (values_of found (codes "dictionary")) ≡ length (values_of found (codes "script"))
+
+-- a request is what the word of a kind and its arguments ask for
+abbrev pub IsRequest : List ℕ → Found → Request → Type 0
+IsRequest word found request =
+    ArePaired found
+    × IsTask word found request.task
+    × IsChoice strictness_word (first_value found (codes "strictness")) request.strictness
+    × IsChoice word_break_word (first_value found (codes "word-break")) request.word_option
+    × (request.language ≡ option_map language_part (first_value found (codes "lang")))

@@ -1,0 +1,103 @@
+//! The files that are named, one after another.
+
+use crate::fault::Fault;
+use crate::found::Found;
+use crate::job::Job;
+use crate::output::write_count;
+use crate::run::run;
+use std::io::ErrorKind;
+use std::process::ExitCode;
+use std::{fs, io};
+
+// The name of standard input among operands.
+const STANDARD_INPUT: &str = "-";
+
+// What came of the files so far.
+#[derive(Clone, Copy)]
+struct Totals {
+    // How many segments there were.
+    segments: usize,
+    // Whether a file failed.
+    has_failed: bool,
+}
+
+/// Does a job to each file in turn, or to standard input where none is named, and where segments are counted in more than one file writes
+/// how many there were in all. What can't be read, and what has no memoised engine, is complained of, and the next file comes. The
+/// status is 1 where there was such a file or not all was written; a pipe that nobody reads ends all quietly.
+pub fn run_all(rt: &HostRuntime, job: &Job, names: &[&str]) -> ExitCode {
+    match try_run_all(rt, job, names) {
+        Ok(totals) if totals.has_failed => ExitCode::FAILURE,
+        Ok(_) => ExitCode::SUCCESS,
+        // Nobody reads on, so there is nothing more to do.
+        Err(error) if error.kind() == ErrorKind::BrokenPipe => ExitCode::SUCCESS,
+        Err(error) => {
+            complain(rt, "standard output", &error);
+            ExitCode::FAILURE
+        }
+    }
+}
+
+// The error is the output's.
+fn try_run_all(rt: &HostRuntime, job: &Job, names: &[&str]) -> io::Result<Totals> {
+    let mut totals = Totals {
+        segments: 0,
+        has_failed: false,
+    };
+    if names.is_empty() {
+        add_file(rt, job, None, &mut totals)?;
+    }
+    for name in names {
+        add_file(rt, job, Some(name), &mut totals)?;
+    }
+    if job.is_counted() && names.len() > 1 {
+        write_count(rt.alloc(), totals.segments, Some("total"), &mut rt.stdout())?;
+    }
+    Ok(totals)
+}
+
+// Does a job to a file, and adds what came of it. The error is the output's.
+fn add_file(
+    rt: &HostRuntime,
+    job: &Job,
+    name: Option<&str>,
+    totals: &mut Totals,
+) -> io::Result<()> {
+    match run_file(rt, job, name) {
+        Ok(found) => totals.segments = totals.segments.saturating_add(found.segments),
+        Err(Fault::Write(error)) => return Err(error),
+        Err(Fault::Read(error)) => {
+            totals.has_failed = true;
+            complain(rt, shown_name(name), &error);
+        }
+        Err(Fault::Memo(error)) => {
+            totals.has_failed = true;
+            complain(rt, shown_name(name), &error);
+        }
+    }
+    Ok(())
+}
+
+fn run_file(rt: &HostRuntime, job: &Job, name: Option<&str>) -> Result<Found, Fault> {
+    let alloc = rt.alloc();
+    match name {
+        None => run(alloc, job, name, &mut rt.stdin(), &mut rt.stdout()),
+        Some(STANDARD_INPUT) => run(alloc, job, name, &mut rt.stdin(), &mut rt.stdout()),
+        Some(path) => {
+            let mut file = fs::open(rt, path).map_err(Fault::Read)?;
+            run(alloc, job, name, &mut file, &mut rt.stdout())
+        }
+    }
+}
+
+// What complaints call a file.
+fn shown_name(name: Option<&str>) -> &str {
+    match name {
+        None | Some(STANDARD_INPUT) => "standard input",
+        Some(path) => path,
+    }
+}
+
+// Where there is no standard error, nobody hears it.
+fn complain<E: std::fmt::Display>(rt: &HostRuntime, name: &str, error: &E) {
+    let _unheard = eprintln!(rt; "segment: {name}: {error}");
+}
