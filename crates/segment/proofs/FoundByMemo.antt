@@ -1,6 +1,6 @@
 -- What is found by a memo, and by how many look-ups.
 use Rattle.std.proofs.Common.{◌≡◌, ◌≤◌, ℕ, Bool, true, false, Option, None, Some, Result, Ok, Err, IfOk, IsErr, MatchResult, List, [], ◌∷◌, length, map, refl, sym, ap, subst, ◌∙◌}
-use Rattle.std.specs.Iterator.{YieldsFirst, YieldsThen}
+use Rattle.std.specs.Iterator.{YieldsThen}
 use Rattle.std.specs.Io.KnownBytes.{Appends}
 use Rattle.icu_segmenter.specs.Boundary.{Boundary}
 use Rattle.icu_segmenter.specs.Configurations.{AreLookedUp, configurations}

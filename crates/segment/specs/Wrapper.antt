@@ -1,5 +1,5 @@
 -- How a wrapper wraps, and which one is asked for.
-use Rattle.std.specs.Prelude.{◌≡◌, Option, None, Some, if◌then◌else◌}
+use Rattle.std.specs.Prelude.{◌≡◌, None, Some, if◌then◌else◌}
 use Rattle.std.specs.Option.{option_map}
 use Rattle.icu_segmenter.specs.Lines.{owned_line_rules}
 use Rattle.icu_segmenter.specs.ScriptWords.{ScriptWords}

@@ -1,2 +1,0 @@
-use Rattle.segment.proofs.ByMachine.{by_machine}
-use Rattle.segment.proofs.machine_lines.MachineLines.try_new.Goals as goal
