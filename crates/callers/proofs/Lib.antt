@@ -1,2 +1,3 @@
 pub mod Filled
 mod Reached
+pub mod Blocks

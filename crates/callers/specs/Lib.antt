@@ -3,3 +3,4 @@ pub mod Highlights
 pub mod Fields
 pub mod LineEnds
 pub mod LookUps
+pub mod Blocks

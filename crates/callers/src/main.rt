@@ -15,7 +15,7 @@ use crate::clusters::{caret_moves, cluster_places, first_clusters};
 use crate::data::{runs_by_machine, runs_by_table};
 use crate::lines::{breakall_segmenter, filled_lines, mandatory_breaks};
 use crate::memo::{cluster_look_ups, read_count};
-use crate::sentences::{last_sentence, sentence_count, sentence_texts};
+use crate::sentences::{last_sentence, sentence_count, sentence_count_by_blocks, sentence_texts};
 use crate::words::{highlighted, word_count, words as words_of};
 use crate::wrapped::paragraph_height;
 use anyhow::Result;
@@ -100,7 +100,10 @@ fn print_sentences(rt: &HostRuntime, sentences: SentenceSegmenterBorrowed<'_>) -
     let last = last_sentence(sentences, "Hi. Bye.");
     println!(rt; "the last of them: {last:?}")?;
     let count = sentence_count(sentences, b"Hi. Bye.");
-    print_count(rt, "sentences there", count as u64)
+    print_count(rt, "sentences there", count as u64)?;
+    let by_blocks = sentence_count_by_blocks(sentences, b"Hi. Bye.\nHello.");
+    println!(rt; "sentences of two blocks: {by_blocks:?}")?;
+    Ok(())
 }
 
 fn find_lines(rt: &HostRuntime) -> Result<()> {
