@@ -10,7 +10,7 @@ ghost use Rattle.icu_segmenter.specs.Utf8.{utf8};
 
 use icu_segmenter::SentenceSegmenterBorrowed;
 use icu_segmenter::segments::BreakIterator;
-use seg_clusters::laws::sentence;
+use icu_segmenter::laws::sentence;
 use std::alloc::{AllocError, Global};
 
 /// The sentences of a text. The only error is want of memory.
