@@ -52,8 +52,8 @@ pub trait Segmenter: Drop {
 
 /// A text with the segmenter that finds its boundaries: it answers which are near a place. Places are bytes from the start.
 ///
-/// An answer takes no memory, and as long as finding the boundaries from the start of a line on, where the rules part texts behind
-/// line feeds: to what comes after the place. Other rules find them from the start of the text.
+/// An answer takes no memory. Where the segmenter's rules part texts behind line feeds, it takes as long as finding the boundaries
+/// from the start of the place's line up to the one above the place; by other rules, from the start of the text.
 #[derive(Drop)]
 pub struct BoundaryCursor<'s, S: Segmenter> {
     segmenter: S,

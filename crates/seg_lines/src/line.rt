@@ -143,9 +143,9 @@ pub struct LineSegmenter {
 impl LineSegmenter {
     ghost use Rattle.seg_lines.specs.Lines.{owned_line_rules, chosen_rules, without_ja, HasLineFault};
 
-    /// A segmenter by a pair table of lines, or, where the strictness is `Anywhere`, by that of clusters alone, and then no
-    /// break is mandatory; nor is any by the table. A run of complex characters (those of the class `complex_property`, as the options read it) may also be
-    /// broken strictly inside, after each of its pieces of one script, until dictionaries are loaded. Of several faults that
+    /// A segmenter by a pair table of lines, or, where the strictness is `Anywhere`, by that of clusters alone; by neither a
+    /// break is mandatory. A run of complex characters (those of the class `complex_property`, as the options read it) may also
+    /// be broken strictly inside, after each of its pieces of one script, until dictionaries are loaded. Of several faults that
     /// with the lowest number: `ClassOutOfRange` where the table has no class ID, `StartRowKeeps` where no boundary stands
     /// between the start of the text and some class of code points in clusters, `ComplexItems` where some code points are
     /// complex in clusters, `ComplexBelow0100` where one below U+0100 is in lines, `ComplexClassNamed` where the complex
@@ -185,13 +185,10 @@ impl LineSegmenter {
         Ok(segmenter)
     }
 
-    /// A segmenter by a pair table of lines of the engine 17, whose classes are those of `RuleBreakData::LINE_V3_PROPERTY_ID` and its kin, or, where the strictness
-    /// is `Anywhere`, by that of clusters alone; by neither a break is mandatory. A run of complex characters (those of class SA or SA_MC_MN, as the options read it) may also be
-    /// broken strictly inside, after each of its pieces of one script, until dictionaries are loaded. Of several faults that
-    /// with the lowest number: `ClassOutOfRange` where the table has no class ID, `StartRowKeeps` where no boundary stands
-    /// between the start of the text and some class of code points in clusters, `ComplexItems` where some code points are
-    /// complex in clusters, `ComplexBelow0100` where one below U+0100 has class SA or SA_MC_MN in lines, `ComplexClassNamed` where the complex
-    /// class isn't SA. Takes no memory.
+    /// What `try_new_for_non_complex_scripts` makes, but by the rules of the engine 17, over a pair table whose classes are those
+    /// of `RuleBreakData::LINE_V3_PROPERTY_ID` and its kin; complex are the characters of class SA or SA_MC_MN, as the options
+    /// read it. The faults are the same with these classes, but for `ComplexClassNamed`, which is there where the complex class
+    /// isn't SA. Takes no memory.
     pub fn try_new_17_for_non_complex_scripts(
         table: RuleBreakData,
         clusters: RuleBreakData,
@@ -280,13 +277,7 @@ impl<'data> LineSegmenterBorrowed<'data> {
     ghost use Rattle.seg_lines.specs.Lines.{line_finder, lines_left, lines_source, is_mandatory, chosen_rules, without_ja, HasLineFault};
     ghost use Rattle.seg_lines.specs.LineTailorings.{lent_tailorings};
 
-    /// A segmenter by a pair table of lines, or, where the strictness is `Anywhere`, by that of clusters alone, and then no
-    /// break is mandatory; nor is any by the table. A run of complex characters (those of the class `complex_property`, as the options read it) may also be
-    /// broken strictly inside, after each of its pieces of one script, until dictionaries are loaded. Of several faults that
-    /// with the lowest number: `ClassOutOfRange` where the table has no class ID, `StartRowKeeps` where no boundary stands
-    /// between the start of the text and some class of code points in clusters, `ComplexItems` where some code points are
-    /// complex in clusters, `ComplexBelow0100` where one below U+0100 is in lines, `ComplexClassNamed` where the complex
-    /// class is one that has a name. Takes no memory.
+    /// What `LineSegmenter::try_new_for_non_complex_scripts` makes, over lent data. The faults are the same. Takes no memory.
     pub fn new_for_non_complex_scripts(
         table: &'data RuleBreakData,
         clusters: &'data RuleBreakData,
@@ -322,13 +313,7 @@ impl<'data> LineSegmenterBorrowed<'data> {
         })
     }
 
-    /// A segmenter by a pair table of lines of the engine 17, whose classes are those of `RuleBreakData::LINE_V3_PROPERTY_ID` and its kin, or, where the strictness
-    /// is `Anywhere`, by that of clusters alone; by neither a break is mandatory. A run of complex characters (those of class SA or SA_MC_MN, as the options read it) may also be
-    /// broken strictly inside, after each of its pieces of one script, until dictionaries are loaded. Of several faults that
-    /// with the lowest number: `ClassOutOfRange` where the table has no class ID, `StartRowKeeps` where no boundary stands
-    /// between the start of the text and some class of code points in clusters, `ComplexItems` where some code points are
-    /// complex in clusters, `ComplexBelow0100` where one below U+0100 has class SA or SA_MC_MN in lines, `ComplexClassNamed` where the complex
-    /// class isn't SA. Takes no memory.
+    /// What `LineSegmenter::try_new_17_for_non_complex_scripts` makes, over lent data. The faults are the same. Takes no memory.
     pub fn new_17_for_non_complex_scripts(
         table: &'data RuleBreakData,
         clusters: &'data RuleBreakData,
@@ -349,12 +334,7 @@ impl<'data> LineSegmenterBorrowed<'data> {
         })
     }
 
-    /// A segmenter by the state machine of lines, or by that of clusters where the strictness is
-    /// `Anywhere` and the word option `Normal`, which refuses nothing. Otherwise
-    /// `ComplexBelow0100` where a code point below U+0100 has a script, with the tailoring that the
-    /// options choose, `SymbolOutOfRange` where that tailoring doesn't fit the machine, and
-    /// `MissingTailoring` where it isn't there. Takes no memory. Once dictionaries are loaded, a line may also be
-    /// broken inside a run of a script that has one, between its words, which end with the clusters of their machine.
+    /// What `LineSegmenter::try_new_neo_for_non_complex_scripts` makes, over lent data. The faults are the same. Takes no memory.
     pub fn new_neo_for_non_complex_scripts(
         machine: &'data SegmenterStateMachine,
         tailorings: LineTailoringsBorrowed<'data>,

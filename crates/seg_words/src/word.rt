@@ -335,12 +335,7 @@ impl<'data> WordSegmenterBorrowed<'data> {
     ghost use Rattle.seg_words.specs.Words.{word_finder, words_left, words_source, word_type};
     ghost use Rattle.seg_words.specs.WordFaults.{HasWordTableFault, HasWordMachineFault};
 
-    /// A segmenter by a pair table and its override, if there is one; a run of complex characters (those of the class
-    /// `complex_property`) is cut after each of its pieces of one script, until dictionaries are loaded. The pair table of
-    /// clusters says where the words of these may end. Of several faults that with the lowest number:
-    /// `ClassOutOfRange` where the override names a class that the table lacks, `StartRowKeeps` where no boundary stands
-    /// between the start of the text and some class of code points, in words or in clusters, `ComplexItems` where some
-    /// code points are complex in clusters, `ComplexBelow0100` where one below U+0100 is in words. Takes no memory.
+    /// What `WordSegmenter::try_new_for_non_complex_scripts` makes, over lent data. The faults are the same. Takes no memory.
     pub fn new_for_non_complex_scripts(
         table: &'data RuleBreakData,
         overriding: Option<&'data RuleBreakDataOverride>,
@@ -383,11 +378,7 @@ impl<'data> WordSegmenterBorrowed<'data> {
         self.payloads.load(dictionaries);
     }
 
-    /// A segmenter by a state machine. Once dictionaries are loaded, a run of a script that has one (by the machine's map) is cut
-    /// by its words, which end with the clusters of the pair table, and each piece between runs is segmented by the machine as a
-    /// text of its own. Of several faults that with the lowest number: `StartRowKeeps` where no boundary stands
-    /// between the start of the text and some class of code points in clusters, `ComplexItems` where some code points are
-    /// complex in clusters, `ComplexBelow0100` where one below U+0100 has a script by the machine. Takes no memory.
+    /// What `WordSegmenter::try_new_neo_for_non_complex_scripts` makes, over lent data. The faults are the same. Takes no memory.
     pub fn new_neo_for_non_complex_scripts(
         machine: &'data SegmenterStateMachine,
         clusters: &'data RuleBreakData,
