@@ -4,9 +4,9 @@ use crate::dice::Dice;
 use crate::failure::{Failure, both, check};
 use crate::machines::{dictionaries, dictionary, machine, tailoring, tailorings};
 use crate::samples::{decoded, random_bytes};
-use crate::segmenter::{Owned, Segmenter};
 use crate::tables::{Numbers, cluster_table, overriding};
 use crate::trial::{examine, examine_owned};
+use bench::segmenter::{Segmenter, SegmenterBorrowed};
 use icu_segmenter::complex::ComplexPayloadBorrowed;
 use icu_segmenter::indices::Utf8CharIndices;
 use icu_segmenter::options::{
@@ -14,7 +14,10 @@ use icu_segmenter::options::{
     SentenceBreakInvariantOptions, SentenceBreakOptions, WordBreakInvariantOptions,
     WordBreakOptions,
 };
-use icu_segmenter::provider::{DataError, DictionaryBreakData, RuleBreakData};
+use icu_segmenter::provider::{
+    DataError, Dictionaries, DictionariesBorrowed, DictionaryBreakData, RuleBreakData,
+    RuleBreakDataOverride,
+};
 use icu_segmenter::{
     GraphemeClusterSegmenter, GraphemeClusterSegmenterBorrowed, LineSegmenter,
     LineSegmenterBorrowed, SentenceSegmenter, SentenceSegmenterBorrowed, WordSegmenter,
@@ -84,20 +87,20 @@ fn clusters_by_machine(alloc: Global, dice: &mut Dice) -> Result<bool, Failure> 
     let machine = machine(alloc, dice)?;
     if dice.comes(128) {
         let clusters = GraphemeClusterSegmenter::try_new_neo(machine);
-        return examine_owned(alloc, dice, clusters.map(Owned::Clusters));
+        return examine_owned(alloc, dice, clusters.map(Segmenter::Clusters));
     }
     let clusters = GraphemeClusterSegmenterBorrowed::new_neo(&machine);
-    examine(alloc, dice, clusters.map(Segmenter::Clusters))
+    examine(alloc, dice, clusters.map(SegmenterBorrowed::Clusters))
 }
 
 fn clusters_by_table(alloc: Global, dice: &mut Dice) -> Result<bool, Failure> {
     let table = cluster_table(alloc, dice)?;
     if dice.comes(128) {
         let clusters = GraphemeClusterSegmenter::try_new(table);
-        return examine_owned(alloc, dice, clusters.map(Owned::Clusters));
+        return examine_owned(alloc, dice, clusters.map(Segmenter::Clusters));
     }
     let clusters = GraphemeClusterSegmenterBorrowed::new(&table);
-    examine(alloc, dice, clusters.map(Segmenter::Clusters))
+    examine(alloc, dice, clusters.map(SegmenterBorrowed::Clusters))
 }
 
 fn sentences_by_machine(alloc: Global, dice: &mut Dice) -> Result<bool, Failure> {
@@ -106,11 +109,11 @@ fn sentences_by_machine(alloc: Global, dice: &mut Dice) -> Result<bool, Failure>
     if dice.comes(128) {
         let options = SentenceBreakOptions::default();
         let sentences = SentenceSegmenter::try_new_neo(machine, tailoring, options);
-        return examine_owned(alloc, dice, sentences.map(Owned::Sentences));
+        return examine_owned(alloc, dice, sentences.map(Segmenter::Sentences));
     }
     let options = SentenceBreakInvariantOptions::default();
     let sentences = SentenceSegmenterBorrowed::new_neo(&machine, tailoring.as_ref(), options);
-    examine(alloc, dice, sentences.map(Segmenter::Sentences))
+    examine(alloc, dice, sentences.map(SegmenterBorrowed::Sentences))
 }
 
 fn sentences_by_table(alloc: Global, dice: &mut Dice) -> Result<bool, Failure> {
@@ -119,11 +122,11 @@ fn sentences_by_table(alloc: Global, dice: &mut Dice) -> Result<bool, Failure> {
     if dice.comes(128) {
         let options = SentenceBreakOptions::default();
         let sentences = SentenceSegmenter::try_new(table, overriding, options);
-        return examine_owned(alloc, dice, sentences.map(Owned::Sentences));
+        return examine_owned(alloc, dice, sentences.map(Segmenter::Sentences));
     }
     let options = SentenceBreakInvariantOptions::default();
     let sentences = SentenceSegmenterBorrowed::new(&table, overriding.as_ref(), options);
-    examine(alloc, dice, sentences.map(Segmenter::Sentences))
+    examine(alloc, dice, sentences.map(SegmenterBorrowed::Sentences))
 }
 
 fn words_by_machine(alloc: Global, dice: &mut Dice) -> Result<bool, Failure> {
@@ -141,23 +144,79 @@ fn words_by_machine(alloc: Global, dice: &mut Dice) -> Result<bool, Failure> {
     examine_words(alloc, dice, words)
 }
 
-fn words_by_table(alloc: Global, dice: &mut Dice) -> Result<bool, Failure> {
+// What words by a pair table take.
+#[derive(Drop)]
+struct WordTables {
+    table: RuleBreakData,
+    overriding: Option<RuleBreakDataOverride>,
+    clusters: RuleBreakData,
+}
+
+fn word_tables(alloc: Global, dice: &mut Dice) -> Result<WordTables, Failure> {
     let table = Numbers::few(dice, true).table(alloc, dice);
     let tables = both(table, overriding(alloc, dice));
-    let clusters = cluster_table(alloc, dice);
-    let others = both(clusters, dictionaries(alloc, dice));
-    let ((table, overriding), (clusters, words)) = both(tables, others)?;
-    if dice.comes(128) {
-        let options = WordBreakOptions::default();
-        let words = WordSegmenter::try_new_dictionary(table, overriding, clusters, words, options);
-        return examine_given_words(alloc, dice, words);
+    let ((table, overriding), clusters) = both(tables, cluster_table(alloc, dice))?;
+    Ok(WordTables {
+        table,
+        overriding,
+        clusters,
+    })
+}
+
+fn words_by_table(alloc: Global, dice: &mut Dice) -> Result<bool, Failure> {
+    let (tables, words) = both(word_tables(alloc, dice), dictionaries(alloc, dice))?;
+    match dice.below(4) {
+        0 => examine_given_words(alloc, dice, given_words(tables)),
+        1 => examine_given_words(alloc, dice, given_words_with(tables, words)),
+        2 => examine_words(alloc, dice, lent_words(&tables)),
+        _ => examine_words(alloc, dice, lent_words_with(&tables, words.as_borrowed())),
     }
+}
+
+fn given_words(tables: WordTables) -> Result<WordSegmenter, DataError> {
+    let WordTables {
+        table,
+        overriding,
+        clusters,
+    } = tables;
+    let options = WordBreakOptions::default();
+    WordSegmenter::try_new_for_non_complex_scripts(table, overriding, clusters, options)
+}
+
+fn given_words_with(tables: WordTables, words: Dictionaries) -> Result<WordSegmenter, DataError> {
+    let WordTables {
+        table,
+        overriding,
+        clusters,
+    } = tables;
+    let options = WordBreakOptions::default();
+    WordSegmenter::try_new_dictionary(table, overriding, clusters, words, options)
+}
+
+fn lent_words(tables: &WordTables) -> Result<WordSegmenterBorrowed<'_>, DataError> {
+    let overriding = tables.overriding.as_ref();
     let options = WordBreakInvariantOptions::default();
-    let overriding = overriding.as_ref();
-    let words = WordSegmenterBorrowed::new_for_non_complex_scripts(
-        &table, overriding, &clusters, options,
-    );
-    examine_words(alloc, dice, words)
+    WordSegmenterBorrowed::new_for_non_complex_scripts(
+        &tables.table,
+        overriding,
+        &tables.clusters,
+        options,
+    )
+}
+
+fn lent_words_with<'a>(
+    tables: &'a WordTables,
+    words: DictionariesBorrowed<'a>,
+) -> Result<WordSegmenterBorrowed<'a>, DataError> {
+    let overriding = tables.overriding.as_ref();
+    let options = WordBreakInvariantOptions::default();
+    WordSegmenterBorrowed::new_dictionary(
+        &tables.table,
+        overriding,
+        &tables.clusters,
+        words,
+        options,
+    )
 }
 
 // Loads dictionaries of words first.
@@ -169,7 +228,7 @@ fn examine_words(
     let mut segmenter = made?;
     let words = dictionaries(alloc, dice)?;
     segmenter.load_dictionary(words.as_borrowed());
-    examine(alloc, dice, Ok(Segmenter::Words(segmenter)))
+    examine(alloc, dice, Ok(SegmenterBorrowed::Words(segmenter)))
 }
 
 fn examine_given_words(
@@ -179,7 +238,7 @@ fn examine_given_words(
 ) -> Result<bool, Failure> {
     let mut segmenter = made?;
     segmenter.load_dictionary(dictionaries(alloc, dice)?);
-    examine_owned(alloc, dice, Ok(Owned::Words(segmenter)))
+    examine_owned(alloc, dice, Ok(Segmenter::Words(segmenter)))
 }
 
 // Options of lines. What names no language stands for none.
@@ -243,27 +302,80 @@ const TURN_CLASSES: u8 = 71;
 // The class of lines that has no name, which is that of complex code points.
 const UNNAMED_CLASS: u8 = 46;
 
+// What lines by a pair table take.
+#[derive(Drop)]
+struct LineTables {
+    table: RuleBreakData,
+    clusters: RuleBreakData,
+}
+
+fn line_tables(
+    alloc: Global,
+    dice: &mut Dice,
+    count: u8,
+    complex: u8,
+) -> Result<LineTables, Failure> {
+    let table = Numbers::of_lines(dice, count, complex).table(alloc, dice);
+    let (table, clusters) = both(table, cluster_table(alloc, dice))?;
+    Ok(LineTables { table, clusters })
+}
+
 fn lines_by_table(alloc: Global, dice: &mut Dice) -> Result<bool, Failure> {
     let language = language(dice);
     let options = line_options(dice, &language);
-    let table = Numbers::of_lines(dice, LINE_CLASSES, UNNAMED_CLASS).table(alloc, dice);
-    let tables = both(table, cluster_table(alloc, dice));
-    let ((table, clusters), words) = both(tables, dictionaries(alloc, dice))?;
-    if dice.comes(128) {
-        let lines = LineSegmenter::try_new_for_non_complex_scripts(table, clusters, options);
-        return examine_given_lines(alloc, dice, lines);
+    let tables = line_tables(alloc, dice, LINE_CLASSES, UNNAMED_CLASS);
+    let (tables, words) = both(tables, dictionaries(alloc, dice))?;
+    match dice.below(4) {
+        0 => examine_given_lines(alloc, dice, given_lines(tables, options)),
+        1 => examine_given_lines(alloc, dice, given_lines_with(tables, words, options)),
+        2 => examine_lines(alloc, dice, lent_lines(&tables, options)),
+        _ => examine_lines(
+            alloc,
+            dice,
+            lent_lines_with(&tables, words.as_borrowed(), options),
+        ),
     }
-    let words = words.as_borrowed();
-    let lines = LineSegmenterBorrowed::new_dictionary(&table, &clusters, words, options);
-    examine_lines(alloc, dice, lines)
+}
+
+fn given_lines(
+    tables: LineTables,
+    options: LineBreakOptions<'_>,
+) -> Result<LineSegmenter, DataError> {
+    let LineTables { table, clusters } = tables;
+    LineSegmenter::try_new_for_non_complex_scripts(table, clusters, options)
+}
+
+fn given_lines_with(
+    tables: LineTables,
+    words: Dictionaries,
+    options: LineBreakOptions<'_>,
+) -> Result<LineSegmenter, DataError> {
+    let LineTables { table, clusters } = tables;
+    LineSegmenter::try_new_dictionary(table, clusters, words, options)
+}
+
+fn lent_lines<'a>(
+    tables: &'a LineTables,
+    options: LineBreakOptions<'_>,
+) -> Result<LineSegmenterBorrowed<'a>, DataError> {
+    let LineTables { table, clusters } = tables;
+    LineSegmenterBorrowed::new_for_non_complex_scripts(table, clusters, options)
+}
+
+fn lent_lines_with<'a>(
+    tables: &'a LineTables,
+    words: DictionariesBorrowed<'a>,
+    options: LineBreakOptions<'_>,
+) -> Result<LineSegmenterBorrowed<'a>, DataError> {
+    let LineTables { table, clusters } = tables;
+    LineSegmenterBorrowed::new_dictionary(table, clusters, words, options)
 }
 
 fn lines_by_turns(alloc: Global, dice: &mut Dice) -> Result<bool, Failure> {
     let language = language(dice);
     let options = line_options(dice, &language);
     let complex = RuleBreakData::LINE_V3_PROPERTY_SA;
-    let table = Numbers::of_lines(dice, TURN_CLASSES, complex).table(alloc, dice);
-    let (table, clusters) = both(table, cluster_table(alloc, dice))?;
+    let LineTables { table, clusters } = line_tables(alloc, dice, TURN_CLASSES, complex)?;
     if dice.comes(128) {
         let lines = LineSegmenter::try_new_17_for_non_complex_scripts(table, clusters, options);
         return examine_given_lines(alloc, dice, lines);
@@ -281,7 +393,7 @@ fn examine_lines(
     let mut segmenter = made?;
     let words = dictionaries(alloc, dice)?;
     segmenter.load_dictionary(words.as_borrowed());
-    examine(alloc, dice, Ok(Segmenter::Lines(segmenter)))
+    examine(alloc, dice, Ok(SegmenterBorrowed::Lines(segmenter)))
 }
 
 fn examine_given_lines(
@@ -291,7 +403,7 @@ fn examine_given_lines(
 ) -> Result<bool, Failure> {
     let mut segmenter = made?;
     segmenter.load_dictionary(dictionaries(alloc, dice)?);
-    examine_owned(alloc, dice, Ok(Owned::Lines(segmenter)))
+    examine_owned(alloc, dice, Ok(Segmenter::Lines(segmenter)))
 }
 
 // The cuts of a text as one piece are to rise strictly to its end.

@@ -1,53 +1,39 @@
 //! Random texts, and how texts are read.
 
 use crate::dice::Dice;
+use bench::segmenter::Text;
 use icu_segmenter::indices::{Latin1Indices, StrCharIndices, Utf8CharIndices, Utf16Indices};
 use seg_text::cursor::Cursor;
 use std::alloc::{AllocError, Global};
 
-/// A text in an encoding.
-#[derive(Clone, Copy)]
-pub enum Text<'s> {
-    /// A `str`.
-    Str(&'s str),
-    /// Bytes in UTF-8, possibly ill-formed.
-    Utf8(&'s [u8]),
-    /// Bytes in Latin-1.
-    Latin1(&'s [u8]),
-    /// Units in UTF-16, possibly ill-formed.
-    Utf16(&'s [u16]),
-}
-
-impl Text<'_> {
-    /// How many bytes or units it has.
-    pub fn len(self) -> usize {
-        match self {
-            Text::Str(text) => text.len(),
-            Text::Utf8(text) | Text::Latin1(text) => text.len(),
-            Text::Utf16(text) => text.len(),
-        }
-    }
-
-    /// Where each of its items begins, and at last its end. The error is want of memory.
-    pub fn starts(self, alloc: Global) -> Result<Vec<usize>, AllocError> {
-        match self {
-            Text::Str(text) => starts(alloc, StrCharIndices::new(text)),
-            Text::Utf8(text) => starts(alloc, Utf8CharIndices::new(text)),
-            Text::Latin1(text) => starts(alloc, Latin1Indices::new(text)),
-            Text::Utf16(text) => starts(alloc, Utf16Indices::new(text)),
-        }
+/// How many bytes or units a text has.
+pub fn size(text: Text<'_>) -> usize {
+    match text {
+        Text::Str(text) => text.len(),
+        Text::Utf8(text) | Text::Latin1(text) => text.len(),
+        Text::Utf16(text) => text.len(),
     }
 }
 
-fn starts<I: Cursor>(alloc: Global, mut text: I) -> Result<Vec<usize>, AllocError> {
-    let mut starts = Vec::new(alloc);
+/// Where each item of a text begins, and at last its end. The error is want of memory.
+pub fn starts(alloc: Global, text: Text<'_>) -> Result<Vec<usize>, AllocError> {
+    match text {
+        Text::Str(text) => places(alloc, StrCharIndices::new(text)),
+        Text::Utf8(text) => places(alloc, Utf8CharIndices::new(text)),
+        Text::Latin1(text) => places(alloc, Latin1Indices::new(text)),
+        Text::Utf16(text) => places(alloc, Utf16Indices::new(text)),
+    }
+}
+
+fn places<I: Cursor>(alloc: Global, mut text: I) -> Result<Vec<usize>, AllocError> {
+    let mut places = Vec::new(alloc);
     for _turn in 0..u64::MAX {
-        starts.push(text.place())?;
+        places.push(text.place())?;
         if text.next_item().is_none() {
             break;
         }
     }
-    Ok(starts)
+    Ok(places)
 }
 
 /// The characters of a text. The error is want of memory.

@@ -2,72 +2,113 @@
 
 use crate::dice::Dice;
 use crate::failure::{Failure, check};
-use crate::samples::{Text, decoded, random_bytes, random_units};
-use crate::segmenter::{Boundaries, Owned, Segmenter};
-use icu_segmenter::indices::Utf8CharIndices;
-use icu_segmenter::memo::MemoError;
+use crate::near::{check_near, check_words};
+use crate::parts::{check_segments, check_wrapped};
+use crate::samples::{decoded, random_bytes, random_units, size, starts};
+use bench::found::Found;
+use bench::segmenter::{Segmenter, SegmenterBorrowed, Text};
+use icu_segmenter::indices::{StrCharIndices, Utf8CharIndices};
+use icu_segmenter::memo::{MemoBreakIterator, MemoError};
 use icu_segmenter::provider::DataError;
-use icu_segmenter::wrap::LineWrapper;
+use icu_segmenter::rule_segmenter_v2::CountedTransitions;
 use std::alloc::Global;
 
 /// Asks a segmenter with data of its own what `examine` asks of one over lent data.
 pub fn examine_owned(
     alloc: Global,
     dice: &mut Dice,
-    made: Result<Owned, DataError>,
+    made: Result<Segmenter, DataError>,
 ) -> Result<bool, Failure> {
     let segmenter = made?;
     examine(alloc, dice, Ok(segmenter.as_borrowed()))
 }
 
-// How many texts a segmenter is asked for.
-const TEXTS: u8 = 8;
+// How many times a segmenter is asked for two texts.
+const TIMES: u8 = 8;
 
 /// Segments random texts, and says whether they have memos. The errors are what the data were refused for, want of memory, and what
 /// is wrong.
 pub fn examine(
     alloc: Global,
     dice: &mut Dice,
-    made: Result<Segmenter<'_>, DataError>,
+    made: Result<SegmenterBorrowed<'_>, DataError>,
 ) -> Result<bool, Failure> {
     let segmenter = made?;
     let mut has_memo = false;
-    for _ in 0..TEXTS {
-        has_memo = examine_text(alloc, dice, segmenter)?;
+    for _ in 0..TIMES {
+        let manner = dice.below(3);
+        let columns = usize::from(dice.below(12));
+        let units = random_units(alloc, dice)?;
+        check_units(alloc, segmenter, manner, units.as_slice())?;
+        let bytes = random_bytes(alloc, dice)?;
+        has_memo = check_bytes(alloc, segmenter, manner, columns, bytes.as_slice())?;
     }
     Ok(has_memo)
 }
 
-fn examine_text(alloc: Global, dice: &mut Dice, segmenter: Segmenter<'_>) -> Result<bool, Failure> {
-    let units = random_units(alloc, dice)?;
-    let _boundaries = counted(alloc, segmenter, Text::Utf16(units.as_slice()))?;
-    let bytes = random_bytes(alloc, dice)?;
-    check_bytes(alloc, segmenter, bytes.as_slice())?;
-    if let Some(wrapper) = segmenter.wrapper() {
-        check_wrapped(wrapper, bytes.as_slice(), usize::from(dice.below(12)))?;
-    }
-    let text = decoded(alloc, Utf8CharIndices::new(bytes.as_slice()))?;
-    has_memo(alloc, segmenter, text.as_str())
+fn check_units(
+    alloc: Global,
+    segmenter: SegmenterBorrowed<'_>,
+    manner: u8,
+    units: &[u16],
+) -> Result<(), Failure> {
+    let _found = counted(alloc, segmenter, Text::Utf16(units))?;
+    check_segments(manner, segmenter, Text::Utf16(units))
 }
 
-// Bytes have the boundaries of their characters, in each encoding that has them; and segments are the bytes, one after the other.
-fn check_bytes(alloc: Global, segmenter: Segmenter<'_>, bytes: &[u8]) -> Result<(), Failure> {
+// Bytes have the boundaries of their characters. Says whether there is a memo.
+fn check_bytes(
+    alloc: Global,
+    segmenter: SegmenterBorrowed<'_>,
+    manner: u8,
+    columns: usize,
+    bytes: &[u8],
+) -> Result<bool, Failure> {
+    let found = counted(alloc, segmenter, Text::Utf8(bytes))?;
+    check_segments(manner, segmenter, Text::Utf8(bytes))?;
+    check_wrapped(segmenter, Text::Utf8(bytes), columns)?;
     let text = decoded(alloc, Utf8CharIndices::new(bytes))?;
-    let found = counted(alloc, segmenter, Text::Str(text.as_str()))?;
-    check_same(alloc, segmenter, Text::Utf8(bytes), &found)?;
-    let units: Vec<u16> = text.as_str().encode_utf16().collect(alloc)?;
-    check_same(alloc, segmenter, Text::Utf16(units.as_slice()), &found)?;
-    check_latin1(alloc, segmenter, text.as_str(), &found)?;
-    let segments = segmenter.segments(alloc, bytes)?;
-    check_parts(segments.as_slice(), bytes)
+    check_text(alloc, segmenter, manner, columns, text.as_str(), &found)
+}
+
+// A text is to have these boundaries in each encoding that has it, its segments, its wrapped lines and its memo are to agree with
+// them, and what a cursor says next to the place that `columns` numbers. Says whether there is a memo.
+fn check_text(
+    alloc: Global,
+    segmenter: SegmenterBorrowed<'_>,
+    manner: u8,
+    columns: usize,
+    text: &str,
+    expected: &Found,
+) -> Result<bool, Failure> {
+    check_same(alloc, segmenter, Text::Str(text), expected)?;
+    check_segments(manner, segmenter, Text::Str(text))?;
+    check_wrapped(segmenter, Text::Str(text), columns)?;
+    check_words(segmenter, text)?;
+    check_utf16(alloc, segmenter, text, expected)?;
+    check_latin1(alloc, segmenter, manner, text, expected)?;
+    let found = segmenter.boundaries(alloc, Text::Str(text))?;
+    check_near(segmenter, text, columns, &found)?;
+    has_memo(alloc, segmenter, text, &found)
+}
+
+fn check_utf16(
+    alloc: Global,
+    segmenter: SegmenterBorrowed<'_>,
+    text: &str,
+    expected: &Found,
+) -> Result<(), Failure> {
+    let units: Vec<u16> = text.encode_utf16().collect(alloc)?;
+    check_same(alloc, segmenter, Text::Utf16(units.as_slice()), expected)
 }
 
 // So does a text in Latin-1, if it has all its characters.
 fn check_latin1(
     alloc: Global,
-    segmenter: Segmenter<'_>,
+    segmenter: SegmenterBorrowed<'_>,
+    manner: u8,
     text: &str,
-    found: &Boundaries,
+    expected: &Found,
 ) -> Result<(), Failure> {
     let mut bytes = Vec::new(alloc);
     for character in text.chars() {
@@ -76,27 +117,33 @@ fn check_latin1(
         };
         bytes.extend_from_slice(&[byte])?;
     }
-    check_same(alloc, segmenter, Text::Latin1(bytes.as_slice()), found)
+    let text = Text::Latin1(bytes.as_slice());
+    check_segments(manner, segmenter, text)?;
+    check_same(alloc, segmenter, text, expected)
 }
 
 fn check_same(
     alloc: Global,
-    segmenter: Segmenter<'_>,
+    segmenter: SegmenterBorrowed<'_>,
     text: Text<'_>,
-    found: &Boundaries,
+    expected: &Found,
 ) -> Result<(), Failure> {
-    let others = counted(alloc, segmenter, text)?;
+    let found = counted(alloc, segmenter, text)?;
     check(
-        others.as_slice() == found.as_slice(),
+        found.as_slice() == expected.as_slice(),
         "encodings that don't agree",
     )
 }
 
 // The boundaries of a text, each with how many items stand before it in the place of its place. They are to cover the text.
-fn counted(alloc: Global, segmenter: Segmenter<'_>, text: Text<'_>) -> Result<Boundaries, Failure> {
-    let starts = text.starts(alloc)?;
+fn counted(
+    alloc: Global,
+    segmenter: SegmenterBorrowed<'_>,
+    text: Text<'_>,
+) -> Result<Found, Failure> {
+    let starts = starts(alloc, text)?;
     check(
-        starts.last() == Some(&text.len()),
+        starts.last() == Some(&size(text)),
         "items that don't end at the end",
     )?;
     let mut found = segmenter.boundaries(alloc, text)?;
@@ -105,7 +152,7 @@ fn counted(alloc: Global, segmenter: Segmenter<'_>, text: Text<'_>) -> Result<Bo
 }
 
 // Boundaries are to rise strictly from 0 to the last of these places, which rise, and to be among them.
-fn count(found: &mut [(usize, u8)], starts: &[usize]) -> Result<(), Failure> {
+fn count(found: &mut [(usize, char)], starts: &[usize]) -> Result<(), Failure> {
     let mut least = 0;
     for boundary in found.iter_mut() {
         let Ok(count) = starts.binary_search(&boundary.0) else {
@@ -125,41 +172,39 @@ fn count(found: &mut [(usize, u8)], starts: &[usize]) -> Result<(), Failure> {
     )
 }
 
-// Parts are to be the whole, one after the other.
-fn check_parts(parts: &[&[u8]], whole: &[u8]) -> Result<(), Failure> {
-    let mut rest = whole;
-    for part in parts {
-        rest = rest_after(part, rest)?;
-    }
-    check(rest.is_empty(), "parts that end before the text")
-}
+// The memo of a `str`, or why there is none.
+type Memo<'data, 's> = Result<
+    MemoBreakIterator<'data, StrCharIndices<'s>, CountedTransitions<'data>>,
+    MemoError,
+>;
 
-// What a part, which isn't to be empty, leaves of the bytes that it is to begin.
-fn rest_after<'s>(part: &[u8], bytes: &'s [u8]) -> Result<&'s [u8], Failure> {
-    match bytes.strip_prefix(part) {
-        Some(rest) if !part.is_empty() => Ok(rest),
-        _ => Err(Failure::Wrong("parts that aren't the text")),
+fn memo<'data, 's>(
+    alloc: Global,
+    segmenter: SegmenterBorrowed<'data>,
+    text: &'s str,
+) -> Memo<'data, 's> {
+    match segmenter {
+        SegmenterBorrowed::Clusters(clusters) => clusters.segment_str(text).with_memo(alloc),
+        SegmenterBorrowed::Sentences(sentences) => sentences.segment_str(text).with_memo(alloc),
+        SegmenterBorrowed::Words(words) => words.segment_str(text).with_memo(alloc),
+        SegmenterBorrowed::Lines(lines) => lines.segment_str(text).with_memo(alloc),
     }
-}
-
-// So are wrapped lines.
-fn check_wrapped(wrapper: LineWrapper<'_>, bytes: &[u8], columns: usize) -> Result<(), Failure> {
-    let mut rest = bytes;
-    for line in wrapper.wrap_utf8(bytes, columns) {
-        rest = rest_after(line.bytes(), rest)?;
-    }
-    check(rest.is_empty(), "parts that end before the text")
 }
 
 // Whether there is a memo, which is to give the same boundaries.
-fn has_memo(alloc: Global, segmenter: Segmenter<'_>, text: &str) -> Result<bool, Failure> {
-    let mut memo = match segmenter.memo(alloc, text) {
+fn has_memo(
+    alloc: Global,
+    segmenter: SegmenterBorrowed<'_>,
+    text: &str,
+    found: &Found,
+) -> Result<bool, Failure> {
+    let mut memo = match memo(alloc, segmenter, text) {
         Ok(memo) => memo,
         Err(MemoError::Memory) => return Err(Failure::Memory),
         Err(_) => return Ok(false),
     };
-    for (place, _) in segmenter.boundaries(alloc, Text::Str(text))? {
-        check(memo.next() == Some(place), "a memo that doesn't agree")?;
+    for (place, _) in found {
+        check(memo.next() == Some(*place), "a memo that doesn't agree")?;
     }
     check(memo.next().is_none(), "a memo that goes on")?;
     Ok(true)

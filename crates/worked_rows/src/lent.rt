@@ -4,10 +4,10 @@ use crate::data::{Machines, Tables, Words, both};
 use crate::memo::memo_answer;
 use crate::question::{Engine, Kind, Manner};
 use crate::samples::Sample;
-use crate::segmenter::Lent;
 use crate::settings::Settings;
 use crate::small::shown_answer;
 use crate::texts::boundaries_answer;
+use bench::segmenter::SegmenterBorrowed;
 use icu_segmenter::options::{
     LineBreakOptions, SentenceBreakInvariantOptions, WordBreakInvariantOptions,
 };
@@ -44,7 +44,7 @@ pub fn lent_answer(
 /// What a segmenter answers, or what its data are refused for.
 pub fn answer(
     alloc: Global,
-    segmenter: Result<Lent<'_>, DataError>,
+    segmenter: Result<SegmenterBorrowed<'_>, DataError>,
     manner: Manner,
     sample: &Sample,
 ) -> Result<String, DataError> {
@@ -66,8 +66,10 @@ fn cluster_machine(
     answer(alloc, clusters_by_machine(&machine), manner, sample)
 }
 
-fn clusters_by_machine(machine: &SegmenterStateMachine) -> Result<Lent<'_>, DataError> {
-    Ok(Lent::Clusters(GraphemeClusterSegmenterBorrowed::new_neo(machine)?))
+fn clusters_by_machine(
+    machine: &SegmenterStateMachine,
+) -> Result<SegmenterBorrowed<'_>, DataError> {
+    Ok(SegmenterBorrowed::Clusters(GraphemeClusterSegmenterBorrowed::new_neo(machine)?))
 }
 
 fn cluster_table(
@@ -80,8 +82,8 @@ fn cluster_table(
     answer(alloc, clusters_by_table(&table), manner, sample)
 }
 
-fn clusters_by_table(table: &RuleBreakData) -> Result<Lent<'_>, DataError> {
-    Ok(Lent::Clusters(GraphemeClusterSegmenterBorrowed::new(table)?))
+fn clusters_by_table(table: &RuleBreakData) -> Result<SegmenterBorrowed<'_>, DataError> {
+    Ok(SegmenterBorrowed::Clusters(GraphemeClusterSegmenterBorrowed::new(table)?))
 }
 
 fn sentence_machine(
@@ -103,10 +105,10 @@ fn sentence_machine(
 fn sentences_by_machine<'a>(
     machine: &'a SegmenterStateMachine,
     tailoring: Option<&'a SegmenterStateMachineOverride>,
-) -> Result<Lent<'a>, DataError> {
+) -> Result<SegmenterBorrowed<'a>, DataError> {
     let options = SentenceBreakInvariantOptions::default();
     let sentences = SentenceSegmenterBorrowed::new_neo(machine, tailoring, options)?;
-    Ok(Lent::Sentences(sentences))
+    Ok(SegmenterBorrowed::Sentences(sentences))
 }
 
 fn sentence_table(
@@ -128,10 +130,10 @@ fn sentence_table(
 fn sentences_by_table<'a>(
     table: &'a RuleBreakData,
     overriding: Option<&'a RuleBreakDataOverride>,
-) -> Result<Lent<'a>, DataError> {
+) -> Result<SegmenterBorrowed<'a>, DataError> {
     let options = SentenceBreakInvariantOptions::default();
     let sentences = SentenceSegmenterBorrowed::new(table, overriding, options)?;
-    Ok(Lent::Sentences(sentences))
+    Ok(SegmenterBorrowed::Sentences(sentences))
 }
 
 fn word_machine(
@@ -155,13 +157,13 @@ fn words_by_machine<'a>(
     machine: &'a SegmenterStateMachine,
     clusters: &'a RuleBreakData,
     later: &'a Dictionaries,
-) -> Result<Lent<'a>, DataError> {
+) -> Result<SegmenterBorrowed<'a>, DataError> {
     let options = WordBreakInvariantOptions::default();
     let mut words = WordSegmenterBorrowed::new_neo_for_non_complex_scripts(
         machine, clusters, options,
     )?;
     words.load_dictionary(later.as_borrowed());
-    Ok(Lent::Words(words))
+    Ok(SegmenterBorrowed::Words(words))
 }
 
 fn word_table(
@@ -174,10 +176,13 @@ fn word_table(
     answer(alloc, words_by_table(&tables, &words), manner, sample)
 }
 
-fn words_by_table<'a>(tables: &'a Tables, words: &'a Words) -> Result<Lent<'a>, DataError> {
+fn words_by_table<'a>(
+    tables: &'a Tables,
+    words: &'a Words,
+) -> Result<SegmenterBorrowed<'a>, DataError> {
     let mut segmenter = first_words_by_table(tables, words)?;
     segmenter.load_dictionary(words.later.as_borrowed());
-    Ok(Lent::Words(segmenter))
+    Ok(SegmenterBorrowed::Words(segmenter))
 }
 
 // Words by a pair table, with dictionaries or by the constructor that takes none.
@@ -223,7 +228,7 @@ fn lines_by_machine<'a>(
     machines: &'a Machines,
     later: &'a Dictionaries,
     options: LineBreakOptions<'_>,
-) -> Result<Lent<'a>, DataError> {
+) -> Result<SegmenterBorrowed<'a>, DataError> {
     let mut lines = LineSegmenterBorrowed::new_neo_for_non_complex_scripts(
         &machines.machine,
         machines.tailorings.as_borrowed(),
@@ -231,7 +236,7 @@ fn lines_by_machine<'a>(
         options,
     )?;
     lines.load_dictionary(later.as_borrowed());
-    Ok(Lent::Lines(lines))
+    Ok(SegmenterBorrowed::Lines(lines))
 }
 
 fn line_table(
@@ -254,10 +259,10 @@ fn lines_by_table<'a>(
     tables: &'a Tables,
     words: &'a Words,
     options: LineBreakOptions<'_>,
-) -> Result<Lent<'a>, DataError> {
+) -> Result<SegmenterBorrowed<'a>, DataError> {
     let mut lines = first_lines_by_table(tables, words, options)?;
     lines.load_dictionary(words.later.as_borrowed());
-    Ok(Lent::Lines(lines))
+    Ok(SegmenterBorrowed::Lines(lines))
 }
 
 // Lines by a pair table, with dictionaries or by the constructor that takes none.
@@ -279,7 +284,7 @@ fn lines_by_turns<'a>(
     tables: &'a Tables,
     words: &'a Words,
     options: LineBreakOptions<'_>,
-) -> Result<Lent<'a>, DataError> {
+) -> Result<SegmenterBorrowed<'a>, DataError> {
     let (table, clusters) = (&tables.table, &tables.clusters);
     let mut lines = LineSegmenterBorrowed::new_17_for_non_complex_scripts(
         table, clusters, options,
@@ -288,5 +293,5 @@ fn lines_by_turns<'a>(
         lines.load_dictionary(first.as_borrowed());
     }
     lines.load_dictionary(words.later.as_borrowed());
-    Ok(Lent::Lines(lines))
+    Ok(SegmenterBorrowed::Lines(lines))
 }

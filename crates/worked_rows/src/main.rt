@@ -7,7 +7,6 @@
 #![tactic(auto)]
 
 mod bench_data;
-mod boundaries;
 mod counts;
 mod data;
 mod dictionaries;
@@ -22,7 +21,6 @@ mod pieces;
 mod question;
 mod rows;
 mod samples;
-mod segmenter;
 mod settings;
 mod small;
 mod tailoring;

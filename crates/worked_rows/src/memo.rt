@@ -1,8 +1,8 @@
 //! Answers by the memoised engine.
 
-use crate::boundaries::push_word;
 use crate::samples::Sample;
-use crate::segmenter::Lent;
+use bench::found::push_word;
+use bench::segmenter::SegmenterBorrowed;
 use icu_segmenter::indices::StrCharIndices;
 use icu_segmenter::memo::{MemoBreakIterator, MemoError};
 use icu_segmenter::provider::DataError;
@@ -18,7 +18,7 @@ pub type Memo<'data, 's> = Result<
 /// The boundaries of a text by the memo of its iterator, of which two were asked for before. The only error is want of memory.
 pub fn memo_answer(
     alloc: Global,
-    segmenter: Lent<'_>,
+    segmenter: SegmenterBorrowed<'_>,
     sample: &Sample,
 ) -> Result<String, DataError> {
     let text = match sample {
@@ -26,15 +26,15 @@ pub fn memo_answer(
         _ => "",
     };
     let memo = match segmenter {
-        Lent::Clusters(clusters) => {
+        SegmenterBorrowed::Clusters(clusters) => {
             let mut clusters = clusters.segment_str(text);
             let _ = clusters.next();
             let _ = clusters.next();
             clusters.with_memo(alloc)
         }
-        Lent::Sentences(sentences) => sentences.segment_str(text).with_memo(alloc),
-        Lent::Words(words) => words.segment_str(text).with_memo(alloc),
-        Lent::Lines(lines) => lines.segment_str(text).with_memo(alloc),
+        SegmenterBorrowed::Sentences(sentences) => sentences.segment_str(text).with_memo(alloc),
+        SegmenterBorrowed::Words(words) => words.segment_str(text).with_memo(alloc),
+        SegmenterBorrowed::Lines(lines) => lines.segment_str(text).with_memo(alloc),
     };
     Ok(shown_memo(alloc, memo)?)
 }

@@ -4,8 +4,8 @@ use crate::data::{Machines, Tables, Words, both};
 use crate::lent::answer;
 use crate::question::{Engine, Kind, Manner};
 use crate::samples::Sample;
-use crate::segmenter::Owned;
 use crate::settings::Settings;
+use bench::segmenter::Segmenter;
 use icu_segmenter::options::{LineBreakOptions, SentenceBreakOptions, WordBreakOptions};
 use icu_segmenter::provider::{DataError, Dictionaries};
 use icu_segmenter::{GraphemeClusterSegmenter, LineSegmenter, SentenceSegmenter, WordSegmenter};
@@ -23,7 +23,7 @@ pub fn owned_answer(
     answer(alloc, Ok(segmenter.as_borrowed()), manner, sample)
 }
 
-fn segmenter_of(alloc: Global, settings: &Settings, kind: Kind) -> Result<Owned, DataError> {
+fn segmenter_of(alloc: Global, settings: &Settings, kind: Kind) -> Result<Segmenter, DataError> {
     match (kind, settings.engine) {
         (Kind::Clusters, Engine::Machine) => cluster_machine(alloc, settings),
         (Kind::Clusters, _) => cluster_table(alloc, settings),
@@ -37,34 +37,34 @@ fn segmenter_of(alloc: Global, settings: &Settings, kind: Kind) -> Result<Owned,
     }
 }
 
-fn cluster_machine(alloc: Global, settings: &Settings) -> Result<Owned, DataError> {
+fn cluster_machine(alloc: Global, settings: &Settings) -> Result<Segmenter, DataError> {
     let machine = settings.machine.machine(alloc)?;
-    Ok(Owned::Clusters(GraphemeClusterSegmenter::try_new_neo(machine)?))
+    Ok(Segmenter::Clusters(GraphemeClusterSegmenter::try_new_neo(machine)?))
 }
 
-fn cluster_table(alloc: Global, settings: &Settings) -> Result<Owned, DataError> {
+fn cluster_table(alloc: Global, settings: &Settings) -> Result<Segmenter, DataError> {
     let table = settings.table.table(alloc)?;
-    Ok(Owned::Clusters(GraphemeClusterSegmenter::try_new(table)?))
+    Ok(Segmenter::Clusters(GraphemeClusterSegmenter::try_new(table)?))
 }
 
-fn sentence_machine(alloc: Global, settings: &Settings) -> Result<Owned, DataError> {
+fn sentence_machine(alloc: Global, settings: &Settings) -> Result<Segmenter, DataError> {
     let machine = settings.machine.machine(alloc);
     let (machine, tailoring) = both(machine, settings.tailoring(alloc))?;
     let options = SentenceBreakOptions {
         content_locale: settings.options.language(),
         ..SentenceBreakOptions::default()
     };
-    Ok(Owned::Sentences(SentenceSegmenter::try_new_neo(machine, tailoring, options)?))
+    Ok(Segmenter::Sentences(SentenceSegmenter::try_new_neo(machine, tailoring, options)?))
 }
 
-fn sentence_table(alloc: Global, settings: &Settings) -> Result<Owned, DataError> {
+fn sentence_table(alloc: Global, settings: &Settings) -> Result<Segmenter, DataError> {
     let table = settings.table.table(alloc);
     let (table, overriding) = both(table, settings.overriding(alloc))?;
     let options = SentenceBreakOptions::default();
-    Ok(Owned::Sentences(SentenceSegmenter::try_new(table, overriding, options)?))
+    Ok(Segmenter::Sentences(SentenceSegmenter::try_new(table, overriding, options)?))
 }
 
-fn word_machine(alloc: Global, settings: &Settings) -> Result<Owned, DataError> {
+fn word_machine(alloc: Global, settings: &Settings) -> Result<Segmenter, DataError> {
     let machine = settings.machine.machine(alloc);
     let rules = both(machine, settings.cluster_table.table(alloc));
     let ((machine, clusters), later) = both(rules, settings.later.dictionaries(alloc))?;
@@ -73,7 +73,7 @@ fn word_machine(alloc: Global, settings: &Settings) -> Result<Owned, DataError> 
     loaded_words(words, later)
 }
 
-fn word_table(alloc: Global, settings: &Settings) -> Result<Owned, DataError> {
+fn word_table(alloc: Global, settings: &Settings) -> Result<Segmenter, DataError> {
     let (tables, words) = both(Tables::of(alloc, settings), Words::of(alloc, settings))?;
     let Words { first, later } = words;
     loaded_words(words_by_table(tables, first), later)
@@ -104,13 +104,13 @@ fn words_by_table(
 fn loaded_words(
     words: Result<WordSegmenter, DataError>,
     later: Dictionaries,
-) -> Result<Owned, DataError> {
+) -> Result<Segmenter, DataError> {
     let mut words = words?;
     words.load_dictionary(later);
-    Ok(Owned::Words(words))
+    Ok(Segmenter::Words(words))
 }
 
-fn line_machine(alloc: Global, settings: &Settings) -> Result<Owned, DataError> {
+fn line_machine(alloc: Global, settings: &Settings) -> Result<Segmenter, DataError> {
     let later = settings.later.dictionaries(alloc);
     let (machines, later) = both(Machines::of(alloc, settings), later)?;
     loaded_lines(
@@ -131,7 +131,7 @@ fn lines_by_machine(
     LineSegmenter::try_new_neo_for_non_complex_scripts(machine, tailorings, clusters, options)
 }
 
-fn line_table(alloc: Global, settings: &Settings) -> Result<Owned, DataError> {
+fn line_table(alloc: Global, settings: &Settings) -> Result<Segmenter, DataError> {
     let (tables, words) = both(Tables::of(alloc, settings), Words::of(alloc, settings))?;
     let Words { first, later } = words;
     loaded_lines(
@@ -163,11 +163,11 @@ fn lines_by_table(
 fn loaded_lines(
     lines: Result<LineSegmenter, DataError>,
     later: Dictionaries,
-) -> Result<Owned, DataError> {
-    Ok(Owned::Lines(lines_with(lines, later)?))
+) -> Result<Segmenter, DataError> {
+    Ok(Segmenter::Lines(lines_with(lines, later)?))
 }
 
-fn turn_table(alloc: Global, settings: &Settings) -> Result<Owned, DataError> {
+fn turn_table(alloc: Global, settings: &Settings) -> Result<Segmenter, DataError> {
     let (tables, words) = both(Tables::of(alloc, settings), Words::of(alloc, settings))?;
     let Words { first, later } = words;
     loaded_lines(

@@ -1,9 +1,9 @@
 //! Pieces of one script, and the cuts of pieces and of runs.
 
-use crate::boundaries::push_word;
 use crate::data::both;
 use crate::samples::Sample;
 use crate::settings::Settings;
+use bench::found::push_word;
 use icu_segmenter::GraphemeClusterSegmenter;
 use icu_segmenter::complex::ComplexPayloadBorrowed;
 use icu_segmenter::indices::{StrCharIndices, Utf16Indices};

@@ -1,13 +1,13 @@
 //! Answers of the parts below the segmenters.
 
-use crate::boundaries::push_word;
 use crate::memo::shown_memo;
 use crate::numbers::{hex_of, number_of};
 use crate::samples::Sample;
-use crate::segmenter::Lent;
 use crate::settings::Settings;
 use anyhow::{Result, bail};
+use bench::found::push_word;
 use bench::pair_tables::cluster_table;
+use bench::segmenter::SegmenterBorrowed;
 use icu_segmenter::indices::{Latin1Indices, StrCharIndices};
 use icu_segmenter::memo::{MemoBreakIterator, MemoError};
 use icu_segmenter::options::WordType;
@@ -69,7 +69,7 @@ pub fn equality_answer(alloc: Global, settings: &Settings) -> Result<String, Dat
 }
 
 /// How an iterator is shown: the name before its fields. The only error is want of memory.
-pub fn shown_answer(alloc: Global, segmenter: Lent<'_>) -> Result<String, AllocError> {
+pub fn shown_answer(alloc: Global, segmenter: SegmenterBorrowed<'_>) -> Result<String, AllocError> {
     let shown = shown_iterator(alloc, segmenter)?;
     match shown.as_str().split_once(" { ") {
         Some((name, _)) => name.to_owned(alloc),
@@ -78,10 +78,10 @@ pub fn shown_answer(alloc: Global, segmenter: Lent<'_>) -> Result<String, AllocE
 }
 
 // An iterator of words or lines, as it is shown.
-fn shown_iterator(alloc: Global, segmenter: Lent<'_>) -> Result<String, AllocError> {
+fn shown_iterator(alloc: Global, segmenter: SegmenterBorrowed<'_>) -> Result<String, AllocError> {
     match segmenter {
-        Lent::Words(words) => format!(in alloc; "{:?}", words.segment_latin1(b"a")),
-        Lent::Lines(lines) => format!(in alloc; "{:?}", lines.segment_latin1(b"a")),
+        SegmenterBorrowed::Words(words) => format!(in alloc; "{:?}", words.segment_latin1(b"a")),
+        SegmenterBorrowed::Lines(lines) => format!(in alloc; "{:?}", lines.segment_latin1(b"a")),
         _ => Ok(String::new(alloc)),
     }
 }

@@ -1,10 +1,10 @@
 //! Texts in each encoding, and boundaries counted in code points.
 
-use crate::boundaries::{Boundaries, shown};
 use crate::data::both;
 use crate::samples::Sample;
-use crate::segmenter::{Lent, Text, cluster_boundaries};
 use crate::settings::Settings;
+use bench::found::{Found, shown};
+use bench::segmenter::{SegmenterBorrowed, Text, cluster_boundaries};
 use icu_segmenter::GraphemeClusterSegmenterBorrowed;
 use icu_segmenter::indices::{Utf8CharIndices, Utf16Indices};
 use icu_segmenter::provider::{DataError, RuleBreakData, SegmenterStateMachine};
@@ -13,7 +13,7 @@ use std::alloc::{AllocError, Global};
 /// The boundaries of a sample as rows have them. The only error is want of memory.
 pub fn boundaries_answer(
     alloc: Global,
-    segmenter: Lent<'_>,
+    segmenter: SegmenterBorrowed<'_>,
     sample: &Sample,
 ) -> Result<String, AllocError> {
     match sample {
@@ -27,13 +27,21 @@ pub fn boundaries_answer(
 }
 
 // The boundaries of a text in one encoding.
-fn in_one(alloc: Global, segmenter: Lent<'_>, text: Text<'_>) -> Result<String, AllocError> {
+fn in_one(
+    alloc: Global,
+    segmenter: SegmenterBorrowed<'_>,
+    text: Text<'_>,
+) -> Result<String, AllocError> {
     let found = segmenter.boundaries(alloc, text)?;
     shown(alloc, found.as_slice())
 }
 
 // The boundaries of a text in `str`, where those in the other encodings are at equal ordinals.
-fn text_answer(alloc: Global, segmenter: Lent<'_>, text: &str) -> Result<String, AllocError> {
+fn text_answer(
+    alloc: Global,
+    segmenter: SegmenterBorrowed<'_>,
+    text: &str,
+) -> Result<String, AllocError> {
     let found = segmenter.boundaries(alloc, Text::Str(text))?;
     if agrees(alloc, segmenter, text, &found)? {
         shown(alloc, found.as_slice())
@@ -43,7 +51,10 @@ fn text_answer(alloc: Global, segmenter: Lent<'_>, text: &str) -> Result<String,
 }
 
 // Whether the boundaries of all short texts are at equal ordinals in all encodings.
-fn short_texts_answer(alloc: Global, segmenter: Lent<'_>) -> Result<String, AllocError> {
+fn short_texts_answer(
+    alloc: Global,
+    segmenter: SegmenterBorrowed<'_>,
+) -> Result<String, AllocError> {
     for number in 0..TEXTS {
         let text = text_of(alloc, number)?;
         let found = segmenter.boundaries(alloc, Text::Str(text.as_str()))?;
@@ -91,9 +102,9 @@ fn has_same_clusters(
 // Whether boundaries of a text, which are those in `str`, are at equal ordinals in the encodings that have it.
 fn agrees(
     alloc: Global,
-    segmenter: Lent<'_>,
+    segmenter: SegmenterBorrowed<'_>,
     text: &str,
-    found: &Boundaries,
+    found: &Found,
 ) -> Result<bool, AllocError> {
     let bytes: Vec<usize> = Utf8CharIndices::new(text.as_bytes())
         .map(|item| item.0)
@@ -109,9 +120,9 @@ fn agrees(
 
 fn agrees_in_utf16(
     alloc: Global,
-    segmenter: Lent<'_>,
+    segmenter: SegmenterBorrowed<'_>,
     text: &str,
-    expected: &Boundaries,
+    expected: &Found,
 ) -> Result<bool, AllocError> {
     let units: Vec<u16> = text.encode_utf16().collect(alloc)?;
     let places: Vec<usize> = Utf16Indices::new(units.as_slice())
@@ -125,9 +136,9 @@ fn agrees_in_utf16(
 // True also where Latin-1 hasn't the text.
 fn agrees_in_latin1(
     alloc: Global,
-    segmenter: Lent<'_>,
+    segmenter: SegmenterBorrowed<'_>,
     text: &str,
-    expected: &Boundaries,
+    expected: &Found,
 ) -> Result<bool, AllocError> {
     let mut bytes = Vec::new(alloc);
     for character in text.chars() {
@@ -141,11 +152,7 @@ fn agrees_in_latin1(
 }
 
 // The ordinals of boundaries, in code points, where the items have these places.
-fn ordinals(
-    alloc: Global,
-    boundaries: &Boundaries,
-    items: &[usize],
-) -> Result<Boundaries, AllocError> {
+fn ordinals(alloc: Global, boundaries: &Found, items: &[usize]) -> Result<Found, AllocError> {
     let mut found = Vec::new(alloc);
     for (boundary, mark) in boundaries {
         let ordinal = items.iter().filter(|place| **place < *boundary).count();

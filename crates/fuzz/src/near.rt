@@ -1,0 +1,84 @@
+//! What stands next to a place, as boundaries say it: by a cursor, and among words.
+
+use crate::failure::{Failure, check};
+use bench::found::Found;
+use bench::segmenter::SegmenterBorrowed;
+use icu_segmenter::WordSegmenterBorrowed;
+use icu_segmenter::cursor::{BoundaryCursor, Segmenter};
+use icu_segmenter::segments::{BreakIterator, WordBreaks};
+
+/// A cursor over a text is to find the boundaries next to a place.
+pub fn check_near(
+    segmenter: SegmenterBorrowed<'_>,
+    text: &str,
+    place: usize,
+    found: &Found,
+) -> Result<(), Failure> {
+    match segmenter {
+        SegmenterBorrowed::Clusters(clusters) => check_cursor(clusters, text, place, found),
+        SegmenterBorrowed::Sentences(sentences) => check_cursor(sentences, text, place, found),
+        SegmenterBorrowed::Words(words) => check_cursor(words, text, place, found),
+        SegmenterBorrowed::Lines(lines) => check_cursor(lines, text, place, found),
+    }
+}
+
+fn check_cursor<S: Segmenter>(
+    segmenter: S,
+    text: &str,
+    place: usize,
+    found: &Found,
+) -> Result<(), Failure> {
+    let cursor = BoundaryCursor::new(segmenter, text);
+    let near = near(found.as_slice(), place);
+    check(
+        cursor.previous_boundary(place) == near.below
+            && cursor.is_boundary(place) == near.is_there
+            && cursor.next_boundary(place) == near.above,
+        "a cursor that doesn't agree",
+    )
+}
+
+// The boundaries next to a place.
+#[derive(Clone, Copy)]
+struct Near {
+    below: Option<usize>,
+    is_there: bool,
+    above: Option<usize>,
+}
+
+// Those among boundaries that rise.
+fn near(found: &[(usize, char)], place: usize) -> Near {
+    let mut near = Near {
+        below: None,
+        is_there: false,
+        above: None,
+    };
+    for (boundary, _) in found {
+        if *boundary < place {
+            near.below = Some(*boundary);
+        } else if *boundary == place {
+            near.is_there = true;
+        } else if near.above.is_none() {
+            near.above = Some(*boundary);
+        }
+    }
+    near
+}
+
+/// Words are to be those segments that have a type.
+pub fn check_words(segmenter: SegmenterBorrowed<'_>, text: &str) -> Result<(), Failure> {
+    match segmenter {
+        SegmenterBorrowed::Words(words) => check_same_words(words, text),
+        _ => Ok(()),
+    }
+}
+
+fn check_same_words(segmenter: WordSegmenterBorrowed<'_>, text: &str) -> Result<(), Failure> {
+    let mut words = segmenter.segment_str(text).words();
+    for segment in segmenter.segment_str(text).marked_segments() {
+        if segment.2.is_word_like() {
+            check(words.next() == Some(segment), "segments that are no words")?;
+        }
+    }
+    check(words.next().is_none(), "words that are no segments")
+}
