@@ -26,7 +26,7 @@ use seg_pair_data::provider::RuleBreakData;
 use seg_text::cursor::Cursor;
 use seg_text::indices::{Latin1Indices, StrCharIndices, Utf8CharIndices, Utf16Indices};
 use seg_text::scaffold::{Latin1, PotentiallyIllFormedUtf8, RuleBreakType, Utf8, Utf16};
-use std::alloc::Global;
+use std::alloc::{AllocError, Global};
 use std::fmt::Debug;
 use std::marker::PhantomData;
 
@@ -78,6 +78,23 @@ impl<'data, 's, Y: RuleBreakType<'s>> GraphemeClusterBreakIterator<'data, 's, Y>
     }
 }
 
+impl<'data, 's, Y: RuleBreakType<'s>> Clone for GraphemeClusterBreakIterator<'data, 's, Y> {
+    ghost use Rattle.std.specs.Prelude.{⊤};
+
+    ghost is_clone = { λ s r. r ≡ s };
+
+    ghost is_infallible = { λ _. ⊤ };
+
+    fn clone(&self) -> Result<Self, AllocError> {
+        Ok(GraphemeClusterBreakIterator {
+            boundaries: self.boundaries.fork(),
+            engine: self.engine,
+            whole: Y::fork(&self.whole),
+            text: PhantomData,
+        })
+    }
+}
+
 impl<'data, 's, Y: RuleBreakType<'s>> Iterator for GraphemeClusterBreakIterator<'data, 's, Y> {
     ghost use Rattle.std.specs.Prelude.{⊤};
     ghost use Rattle.std.specs.Iterator.{MakesProgress};
@@ -96,6 +113,11 @@ impl<'data, 's, Y: RuleBreakType<'s>> Iterator for GraphemeClusterBreakIterator<
         ensures goes { MakesProgress (λ _. ⊤) (item_count clusters_places) self.old result self.new }
     {
         self.boundaries.next()
+    }
+
+    #[inline(always)]
+    fn size_hint(&self) -> (usize, Option<usize>) {
+        self.boundaries.size_hint()
     }
 }
 

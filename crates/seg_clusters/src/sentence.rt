@@ -30,7 +30,7 @@ use seg_pair_data::provider::{RuleBreakData, RuleBreakDataOverride};
 use seg_text::cursor::Cursor;
 use seg_text::indices::{Latin1Indices, StrCharIndices, Utf8CharIndices, Utf16Indices};
 use seg_text::scaffold::{Latin1, PotentiallyIllFormedUtf8, RuleBreakType, Utf8, Utf16};
-use std::alloc::Global;
+use std::alloc::{AllocError, Global};
 use std::fmt::Debug;
 use std::marker::PhantomData;
 
@@ -96,6 +96,23 @@ impl<'data, 's, Y: RuleBreakType<'s>> SentenceBreakIterator<'data, 's, Y> {
     }
 }
 
+impl<'data, 's, Y: RuleBreakType<'s>> Clone for SentenceBreakIterator<'data, 's, Y> {
+    ghost use Rattle.std.specs.Prelude.{⊤};
+
+    ghost is_clone = { λ s r. r ≡ s };
+
+    ghost is_infallible = { λ _. ⊤ };
+
+    fn clone(&self) -> Result<Self, AllocError> {
+        Ok(SentenceBreakIterator {
+            boundaries: self.boundaries.fork(),
+            engine: self.engine,
+            whole: Y::fork(&self.whole),
+            text: PhantomData,
+        })
+    }
+}
+
 impl<'data, 's, Y: RuleBreakType<'s>> Iterator for SentenceBreakIterator<'data, 's, Y> {
     ghost use Rattle.std.specs.Prelude.{⊤};
     ghost use Rattle.std.specs.Iterator.{MakesProgress};
@@ -114,6 +131,11 @@ impl<'data, 's, Y: RuleBreakType<'s>> Iterator for SentenceBreakIterator<'data, 
         ensures goes { MakesProgress (λ _. ⊤) (item_count sentences_places) self.old result self.new }
     {
         self.boundaries.next()
+    }
+
+    #[inline(always)]
+    fn size_hint(&self) -> (usize, Option<usize>) {
+        self.boundaries.size_hint()
     }
 }
 

@@ -107,3 +107,18 @@ impl<'data, I: Cursor> Iterator for InnerCuts<'data, I> {
         }
     }
 }
+
+impl<'data, I: Cursor> InnerCuts<'data, I> {
+    /// The same cuts once more, from the same one on. Takes no memory.
+    pub fn fork(&self) -> Self
+        ensures { result ≡ self.now }
+    {
+        InnerCuts {
+            machine: self.machine,
+            payloads: self.payloads,
+            held: self.held,
+            run: self.run.fork(),
+            rest: self.rest.fork(),
+        }
+    }
+}

@@ -108,3 +108,28 @@ impl<'data, I: Cursor> Iterator for RunCuts<'data, I> {
         }
     }
 }
+
+impl<'data, I: Cursor> PieceIterator<'data, I> {
+    /// The same cuts once more, from the same one on. Takes no memory.
+    pub(crate) fn fork(&self) -> Self
+        ensures { result ≡ self.now }
+    {
+        match self {
+            PieceIterator::End(place) => PieceIterator::End(*place),
+            PieceIterator::Words(cuts) => PieceIterator::Words(cuts.fork()),
+        }
+    }
+}
+
+impl<'data, I: Cursor> RunCuts<'data, I> {
+    /// The same cuts once more, from the same one on. Takes no memory.
+    pub fn fork(&self) -> Self
+        ensures { result ≡ self.now }
+    {
+        RunCuts {
+            payloads: self.payloads,
+            piece: self.piece.fork(),
+            pieces: self.pieces.fork(),
+        }
+    }
+}

@@ -93,3 +93,14 @@ impl<I: Cursor> ScriptIterator<I> {
         self.rest.place()
     }
 }
+
+impl<I: Cursor> ScriptIterator<I> {
+    /// The same pieces once more, from the same one on. Takes no memory.
+    pub fn fork(&self) -> Self
+        ensures { result ≡ self.now }
+    {
+        ScriptIterator {
+            rest: self.rest.fork(),
+        }
+    }
+}

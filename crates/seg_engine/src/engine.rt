@@ -17,7 +17,7 @@ use seg_memo::reader::CountedTransitions;
 use seg_pair_data::pair_data::{PairData, PairDataBorrowed};
 use seg_pairs::rule_segmenter_v1;
 use seg_text::cursor::Cursor;
-use std::alloc::Global;
+use std::alloc::{AllocError, Global};
 use std::marker::Model;
 
 /// What the boundaries of a text are found by.
@@ -131,6 +131,30 @@ impl<'data, I: Cursor> Boundaries<'data, I> {
             BoundariesBy::Neo(engine) => engine.status(),
         }
     }
+
+    /// The same boundaries once more, from the same one on. Takes no memory.
+    pub fn fork(&self) -> Self
+        ensures { result ≡ self.now }
+    {
+        match &self.by {
+            BoundariesBy::Classic(engine) => Boundaries {
+                by: BoundariesBy::Classic(engine.fork()),
+            },
+            BoundariesBy::Neo(engine) => Boundaries {
+                by: BoundariesBy::Neo(engine.fork()),
+            },
+        }
+    }
+}
+
+impl<'data, I: Cursor> Clone for Boundaries<'data, I> {
+    ghost is_clone = { λ s r. r ≡ s };
+
+    ghost is_infallible = { λ _. ⊤ };
+
+    fn clone(&self) -> Result<Self, AllocError> {
+        Ok(self.fork())
+    }
 }
 
 impl<'data, I: Cursor> Iterator for Boundaries<'data, I> {
@@ -148,6 +172,13 @@ impl<'data, I: Cursor> Iterator for Boundaries<'data, I> {
         match &mut self.by {
             BoundariesBy::Classic(engine) => engine.next(),
             BoundariesBy::Neo(engine) => engine.next(),
+        }
+    }
+
+    fn size_hint(&self) -> (usize, Option<usize>) {
+        match &self.by {
+            BoundariesBy::Classic(engine) => engine.size_hint(),
+            BoundariesBy::Neo(engine) => engine.size_hint(),
         }
     }
 }

@@ -93,3 +93,17 @@ impl<'data, I: Cursor> Iterator for ClassicLines<'data, I> {
         }
     }
 }
+
+impl<'data, I: Cursor> ClassicLines<'data, I> {
+    /// The same boundaries once more, from the same one on. Takes no memory.
+    pub fn fork(&self) -> Self
+        ensures { result ≡ self.now }
+    {
+        ClassicLines {
+            events: self.events.fork(),
+            run: self.run.fork(),
+            payloads: self.payloads,
+            started: self.started,
+        }
+    }
+}

@@ -173,3 +173,17 @@ fn is_complex(pairs: LinePairs<'_>, code_point: u32) -> bool
 {
     pairs.class(code_point) == pairs.table().complex_property()
 }
+
+impl<'data, I: Cursor> LineEvents<'data, I> {
+    /// The same events once more, from the same place on. Takes no memory.
+    pub fn fork(&self) -> Self
+        ensures { result ≡ self.now }
+    {
+        LineEvents {
+            pairs: self.pairs,
+            here: self.here.fork(),
+            next: self.next,
+            rest: self.rest.fork(),
+        }
+    }
+}

@@ -57,3 +57,15 @@ impl<'data, I: Cursor> Iterator for InsideCuts<'data, I> {
         }
     }
 }
+
+impl<'data, I: Cursor> InsideCuts<'data, I> {
+    /// The same cuts once more, from the same one on. Takes no memory.
+    pub fn fork(&self) -> Self
+        ensures { result ≡ self.now }
+    {
+        InsideCuts {
+            cuts: self.cuts.fork(),
+            end: self.end,
+        }
+    }
+}

@@ -91,3 +91,17 @@ impl<'data, I: Cursor> Iterator for TurnLines<'data, I> {
         }
     }
 }
+
+impl<'data, I: Cursor> TurnLines<'data, I> {
+    /// The same boundaries once more, from the same one on. Takes no memory.
+    pub fn fork(&self) -> Self
+        ensures { result ≡ self.now }
+    {
+        TurnLines {
+            events: self.events.fork(),
+            run: self.run.fork(),
+            payloads: self.payloads,
+            started: self.started,
+        }
+    }
+}

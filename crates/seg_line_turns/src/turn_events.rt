@@ -130,3 +130,17 @@ impl<'data, I: Cursor> TurnEvents<'data, I> {
         }
     }
 }
+
+impl<'data, I: Cursor> TurnEvents<'data, I> {
+    /// The same events once more, from the same place on. Takes no memory.
+    pub fn fork(&self) -> Self
+        ensures { result ≡ self.now }
+    {
+        TurnEvents {
+            pairs: self.pairs,
+            here: self.here.fork(),
+            starts: self.starts,
+            opened: self.opened,
+        }
+    }
+}

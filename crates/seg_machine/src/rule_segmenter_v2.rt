@@ -17,6 +17,7 @@ use crate::provider::{Acceptance, Lookahead, SegmenterStateMachine, Symbol};
 use crate::tailored_machine::TailoredMachineBorrowed;
 use seg_text::boundary::Boundary;
 use seg_text::cursor::Cursor;
+use seg_text::reach::Reach;
 use std::marker::Model;
 
 /// The boundaries of a text by a state machine: its start, and then the end of each segment.
@@ -66,6 +67,18 @@ impl<'data, I: Cursor> RuleBreakIterator<'data, I> {
     {
         self.status
     }
+
+    /// The same boundaries once more, from the same one on. Takes no memory.
+    pub fn fork(&self) -> Self
+        ensures { result ≡ self.now }
+    {
+        RuleBreakIterator {
+            machine: self.machine,
+            rest: self.rest.fork(),
+            started: self.started,
+            status: self.status,
+        }
+    }
 }
 
 impl<'data, I: Cursor> Iterator for RuleBreakIterator<'data, I> {
@@ -90,6 +103,16 @@ impl<'data, I: Cursor> Iterator for RuleBreakIterator<'data, I> {
         }
         self.status = next_segment(&self.machine, &mut self.rest);
         Some(self.rest.place())
+    }
+
+    fn size_hint(&self) -> (usize, Option<usize>) {
+        self.machine.facts();
+        let reach = Reach {
+            started: self.started,
+            place: self.rest.place(),
+            end: self.rest.end(),
+        };
+        reach.size_hint()
     }
 }
 

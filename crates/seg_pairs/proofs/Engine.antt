@@ -9,7 +9,9 @@ use Rattle.seg_text.specs.Boundaries.{Remainder, GivesNext, IsCover, boundary, s
 use Rattle.seg_text.specs.Stretches.{Stretch, later_boundaries, list_boundaries, remainder, HasEndAlone, HasProgress, IsWithin}
 use Rattle.seg_text.proofs.Covers.{covers}
 use Rattle.seg_text.proofs.Cursors.{fewer-left}
-use Rattle.seg_text.proofs.Places.{in-shift}
+use Rattle.seg_text.specs.Reach.{AreLeft}
+use Rattle.seg_text.proofs.Hints.{stretches-left}
+use Rattle.seg_text.proofs.Places.{in-shift, IsRising-drop}
 use Rattle.seg_text.proofs.Stretches.{later-nil, later-map}
 use Rattle.seg_data.specs.Table.{Table}
 use Rattle.seg_pair_data.specs.declared.pair_data.PairDataBorrowed.{PairDataBorrowed}
@@ -235,3 +237,29 @@ pub new-empty : (whole : List Element) (first : Option Element) (pairs : PairDat
     → YieldsFirst (λ (elements : List Element). elements) whole first (elements_of pairs items) → first ≡ None → items ≡ []
 new-empty whole None pairs items gives none = none-left pairs items gives.1
 new-empty whole (Some first) pairs items gives none = cc
+
+-- elements rise as the items do that they are
+
+elements-rise : (pairs : PairDataBorrowed) (items : List Item) (end : ℕ) → IsRising items end → IsRising (class_text (elements_of pairs items) end).items end
+elements-rise pairs [] end rises = rises
+elements-rise pairs (item ∷ items) end rises = (subst (λ place. item.0 < place) (sym (items-place pairs items end 0)) rises.0, elements-rise pairs items end rises.1)
+
+pub new-rising : (pairs : PairDataBorrowed) (text : Text) (elements : List Element) (after : ℕ)
+    → after ≡ text.end → elements_of pairs text.items ≡ elements → IsRising text.items text.end → IsRising (class_text elements after).items after
+new-rising pairs text elements after same is rises = rw (same, ← is) (elements-rise pairs text.items text.end rises)
+
+pub next-rising : (found : ℕ × Verdict) (now : Option Element) (left : Element) (elements : List Element) (class : ℕ) (next : Option Element) (rest : List Element) (end after : ℕ)
+    → now ≡ Some left → EndsIn found (left ∷ elements) (BreakOut class next) rest → after ≡ end
+    → IsRising (class_text (onto now elements) end).items end → IsRising (class_text (onto next rest) after).items after
+next-rising (gone, BreakAfter n with_class) now left elements class next rest end after here (same, left_is) stays rises =
+    let there = rest-is next rest (drop (gone + n) (left ∷ elements)) left_is in
+    rw (stays, there, ← drop-map {Y = Item} (λ (element : Element). (element.place, element.class)) (gone + n) (left ∷ elements))
+    (IsRising-drop (class_text (left ∷ elements) end).items end (gone + n) (rw here at rises))
+next-rising (gone, GoAfter n) now left elements class next rest end after here ends stays rises = absurd ends
+next-rising (gone, RunBegins) now left elements class next rest end after here ends stays rises = absurd ends
+
+-- what is left of the boundaries of elements that rise
+pub engine-left : (t : PairTable) (elements : List Element) (end class : ℕ) (started : Bool) → IsRising (class_text elements end).items end
+    → AreLeft started (place_at elements end) end (Left started t elements end class).left
+engine-left t elements end class started rises =
+    rw (← class-start elements end) (stretches-left (class_stretch t) (class-within t) started (class_text elements end) (status_of t.rule_status_table class) rises)

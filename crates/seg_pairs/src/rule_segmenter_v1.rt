@@ -13,6 +13,7 @@ use crate::verdicts::{Outcome, TableVerdicts, next_break};
 use seg_pair_data::pair_data::PairDataBorrowed;
 use seg_pair_data::provider::RuleBreakData;
 use seg_text::cursor::Cursor;
+use seg_text::reach::Reach;
 use std::marker::Model;
 
 /// The boundaries of a text by a pair table: its start, and then each that the verdicts of the table
@@ -31,6 +32,7 @@ impl<'data, I: Cursor> Model for RuleBreakIterator<'data, I> {
     ghost use Rattle.std.specs.Prelude.{◌≡◌, ◌<◌, false, None, [], IfSome};
     ghost use Rattle.seg_pair_data.specs.PairData.{pair_table_of};
     ghost use Rattle.seg_text.specs.Boundaries.{Remainder};
+    ghost use Rattle.seg_text.specs.Items.{IsRising};
     ghost use Rattle.seg_text.specs.Stretches.{remainder};
     ghost use Rattle.seg_pairs.specs.Breaks.{class_stretch, status_of};
     ghost use Rattle.seg_pairs.specs.Elements.{onto, class_text};
@@ -44,7 +46,8 @@ impl<'data, I: Cursor> Model for RuleBreakIterator<'data, I> {
 
     ghost invariant = { λ s. (s.started ≡ false → s.class ≡ 0)
         × (s.next ≡ None → (I.text s.rest.cursor).items ≡ [])
-        × IfSome s.next (λ next. next.class < (pair_table_of s.rest.pairs).property_count) };
+        × IfSome s.next (λ next. next.class < (pair_table_of s.rest.pairs).property_count)
+        × IsRising (class_text (onto s.next (elements_of s.rest.pairs (I.text s.rest.cursor).items)) (I.text s.rest.cursor).end).items (I.text s.rest.cursor).end };
 }
 
 impl<'data, I: Cursor> RuleBreakIterator<'data, I> {
@@ -73,6 +76,18 @@ impl<'data, I: Cursor> RuleBreakIterator<'data, I> {
         ensures { result ≡ self.now.status }
     {
         rule_status(self.rest.pairs.table(), self.class)
+    }
+
+    /// The same boundaries once more, from the same one on. Takes no memory.
+    pub fn fork(&self) -> Self
+        ensures { result ≡ self.now }
+    {
+        RuleBreakIterator {
+            next: self.next,
+            rest: self.rest.fork(),
+            started: self.started,
+            class: self.class,
+        }
     }
 }
 
@@ -107,6 +122,15 @@ impl<'data, I: Cursor> Iterator for RuleBreakIterator<'data, I> {
             Outcome::Run(_first, _second) => unreachable!(),
         }
         Some(place_before(self.next, &self.rest))
+    }
+
+    fn size_hint(&self) -> (usize, Option<usize>) {
+        let reach = Reach {
+            started: self.started,
+            place: place_before(self.next, &self.rest),
+            end: self.rest.cursor.end(),
+        };
+        reach.size_hint()
     }
 }
 

@@ -103,6 +103,18 @@ impl<'data, I: Cursor> Events<'data, I> {
         self.here.up_to(self.here.place())
     }
 
+    /// The same events once more, from the same place on. Takes no memory.
+    pub fn fork(&self) -> Self
+        ensures { result ≡ self.now }
+    {
+        Events {
+            pairs: self.pairs,
+            here: self.here.fork(),
+            next: self.next,
+            rest: self.rest.fork(),
+        }
+    }
+
     /// What comes next. After the end it is the end for ever.
     pub fn next_event(&mut self) -> Event<I>
         ensures leads { LeadsTo I.text self.old result self.new }

@@ -12,5 +12,6 @@ pub mod Places
 pub mod Stretches
 pub mod Restarts
 pub mod Covers
+pub mod Hints
 pub mod Encodings
 pub mod Passing

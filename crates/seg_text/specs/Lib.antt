@@ -5,5 +5,6 @@ pub mod Utf16
 pub mod Cursor
 pub mod Boundaries
 pub mod Stretches
+pub mod Reach
 pub mod Cuts
 pub mod Lemmas

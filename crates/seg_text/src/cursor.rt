@@ -28,6 +28,10 @@ pub trait Cursor: Drop {
     fn place(&self) -> usize
         ensures { result ≡ start_of (text self.now) };
 
+    /// The place where the text ends.
+    fn end(&self) -> usize
+        ensures { result ≡ (text self.now).end };
+
     /// Goes on to the place of an item that isn't read yet, or to the text's end, in O(1).
     fn seek(&mut self, place: usize)
         requires { (k : ℕ) × (place ≡ start_of (rest_after k (text self.old))) }

@@ -6,6 +6,7 @@ pub mod cursor;
 pub mod indices;
 pub mod laws;
 pub mod prefixes;
+pub mod reach;
 pub mod scaffold;
 
 mod private {

@@ -18,12 +18,15 @@ use seg_engine::engine::Engine;
 use seg_machine::rule_segmenter_v2::RuleBreakIterator;
 use seg_machine::tailored_machine::TailoredMachineBorrowed;
 use seg_text::cursor::Cursor;
+use seg_text::reach::Reach;
 use std::marker::Model;
 
 /// The boundaries of words in a text, as places.
 #[derive(Debug, Drop)]
 pub(crate) struct Boundaries<'data, I: Cursor> {
     by: BoundariesBy<'data, I>,
+    // How far they were given.
+    reach: Reach,
 }
 
 /// Which engine gives them.
@@ -38,6 +41,20 @@ enum BoundariesBy<'data, I: Cursor> {
 }
 
 impl<'data, I: Cursor> BoundariesBy<'data, I> {
+    /// Those of what is left of a text. Takes no memory.
+    fn new(engine: Engine<'data>, payloads: ComplexPayloadsBorrowed<'data>, text: I) -> Self
+        ensures boundaries { (remainder_by result).left ≡ word_boundaries_of (record { rules = rules_of engine.entry; payloads = payloads_of payloads.entry }) (I.text text) }
+        ensures cover { IsCover (start_of (I.text text)) (I.text text).end (remainder_by result).left }
+        ensures status { (remainder_by result).status ≡ 0 }
+    {
+        match engine {
+            Engine::Classic(pairs) => {
+                BoundariesBy::Classic(ClassicBoundaries::new(pairs, payloads, text))
+            }
+            Engine::Neo(machine) => BoundariesBy::by_machine(machine, payloads, text),
+        }
+    }
+
     /// By a machine: without a dictionary of any script the whole text is one piece.
     fn by_machine(
         machine: TailoredMachineBorrowed<'data>,
@@ -53,15 +70,41 @@ impl<'data, I: Cursor> BoundariesBy<'data, I> {
         }
         BoundariesBy::NeoWithWords(NeoBoundaries::new(machine, payloads, text))
     }
+
+    /// The next boundary. None at the end, and from then on.
+    #[inline(always)]
+    fn next_boundary(&mut self) -> Option<usize>
+        ensures { GivesNext (remainder_by self.old) result (remainder_by self.new) }
+    {
+        match self {
+            BoundariesBy::Classic(engine) => engine.next(),
+            BoundariesBy::Neo(engine) => engine.next(),
+            BoundariesBy::NeoWithWords(engine) => engine.next(),
+        }
+    }
+
+    /// The same boundaries once more, from the same one on. Takes no memory.
+    fn fork(&self) -> Self
+        ensures { result ≡ self.now }
+    {
+        match self {
+            BoundariesBy::Classic(engine) => BoundariesBy::Classic(engine.fork()),
+            BoundariesBy::Neo(engine) => BoundariesBy::Neo(engine.fork()),
+            BoundariesBy::NeoWithWords(engine) => BoundariesBy::NeoWithWords(engine.fork()),
+        }
+    }
 }
 
 impl<'data, I: Cursor> Model for Boundaries<'data, I> {
     ghost use Rattle.seg_text.specs.Boundaries.{Remainder};
+    ghost use Rattle.seg_text.specs.Reach.{AreAhead};
     ghost use Rattle.seg_words.specs.Remainders.{remainder_by};
 
     ghost Value = { Remainder };
 
     ghost view = { λ s. remainder_by s.by };
+
+    ghost invariant = { λ s. AreAhead s.reach (remainder_by s.by).left };
 }
 
 impl<'data, I: Cursor> Boundaries<'data, I> {
@@ -75,13 +118,24 @@ impl<'data, I: Cursor> Boundaries<'data, I> {
         ensures cover { IsCover (start_of (I.text text)) (I.text text).end result.left }
         ensures status { result.status ≡ 0 }
     {
-        match engine {
-            Engine::Classic(pairs) => Boundaries {
-                by: BoundariesBy::Classic(ClassicBoundaries::new(pairs, payloads, text)),
-            },
-            Engine::Neo(machine) => Boundaries {
-                by: BoundariesBy::by_machine(machine, payloads, text),
-            },
+        let reach = Reach {
+            started: false,
+            place: text.place(),
+            end: text.end(),
+        };
+        Boundaries {
+            by: BoundariesBy::new(engine, payloads, text),
+            reach,
+        }
+    }
+
+    /// The same boundaries once more, from the same one on. Takes no memory.
+    pub(crate) fn fork(&self) -> Self
+        ensures { result ≡ self.now }
+    {
+        Boundaries {
+            by: self.by.fork(),
+            reach: self.reach,
         }
     }
 
@@ -109,10 +163,12 @@ impl<'data, I: Cursor> Iterator for Boundaries<'data, I> {
         ensures steps { YieldsFirst offsets_left self.old result self.new × GivesNext self.old result self.new }
         ensures goes { MakesProgress (λ _. ⊤) (item_count offsets_left) self.old result self.new }
     {
-        match &mut self.by {
-            BoundariesBy::Classic(engine) => engine.next(),
-            BoundariesBy::Neo(engine) => engine.next(),
-            BoundariesBy::NeoWithWords(engine) => engine.next(),
-        }
+        let place = self.by.next_boundary()?;
+        self.reach.go_to(place);
+        Some(place)
+    }
+
+    fn size_hint(&self) -> (usize, Option<usize>) {
+        self.reach.size_hint()
     }
 }

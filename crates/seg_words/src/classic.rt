@@ -108,3 +108,18 @@ impl<'data, I: Cursor> Iterator for ClassicBoundaries<'data, I> {
         }
     }
 }
+
+impl<'data, I: Cursor> ClassicBoundaries<'data, I> {
+    /// The same boundaries once more, from the same one on. Takes no memory.
+    pub(crate) fn fork(&self) -> Self
+        ensures { result ≡ self.now }
+    {
+        ClassicBoundaries {
+            events: self.events.fork(),
+            run: self.run.fork(),
+            payloads: self.payloads,
+            started: self.started,
+            class: self.class,
+        }
+    }
+}

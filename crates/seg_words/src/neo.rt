@@ -98,3 +98,18 @@ impl<'data, I: Cursor> Iterator for NeoBoundaries<'data, I> {
         }
     }
 }
+
+impl<'data, I: Cursor> NeoBoundaries<'data, I> {
+    /// The same boundaries once more, from the same one on. Takes no memory.
+    pub(crate) fn fork(&self) -> Self
+        ensures { result ≡ self.now }
+    {
+        NeoBoundaries {
+            machine: self.machine,
+            payloads: self.payloads,
+            span: self.span.fork(),
+            rest: self.rest.fork(),
+            status: self.status,
+        }
+    }
+}

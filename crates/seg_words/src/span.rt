@@ -72,3 +72,16 @@ impl<'data, I: Cursor> Iterator for Span<'data, I> {
         Some(Boundary { offset, status })
     }
 }
+
+impl<'data, I: Cursor> Span<'data, I> {
+    /// The same boundaries once more, from the same one on. Takes no memory.
+    pub(crate) fn fork(&self) -> Self
+        ensures { result ≡ self.now }
+    {
+        match self {
+            Span::Start(place) => Span::Start(*place),
+            Span::Piece(piece) => Span::Piece(piece.fork()),
+            Span::Run(cuts) => Span::Run(cuts.fork()),
+        }
+    }
+}

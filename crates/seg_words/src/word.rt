@@ -34,7 +34,7 @@ use seg_pair_data::provider::{RuleBreakData, RuleBreakDataOverride};
 use seg_text::cursor::Cursor;
 use seg_text::indices::{Latin1Indices, StrCharIndices, Utf8CharIndices, Utf16Indices};
 use seg_text::scaffold::{Latin1, PotentiallyIllFormedUtf8, RuleBreakType, Utf8, Utf16};
-use std::alloc::Global;
+use std::alloc::{AllocError, Global};
 use std::fmt::Debug;
 use std::marker::PhantomData;
 
@@ -160,6 +160,30 @@ impl<'data, 's, Y: RuleBreakType<'s>> WordBreakIterator<'data, 's, Y> {
             .payloads
             .memoised(alloc, self.segmenter.engine, text)
     }
+
+    // The same boundaries once more, from the same one on.
+    fn fork(&self) -> Self
+        ensures { result ≡ self.now }
+    {
+        WordBreakIterator {
+            boundaries: self.boundaries.fork(),
+            segmenter: self.segmenter,
+            whole: Y::fork(&self.whole),
+            text: PhantomData,
+        }
+    }
+}
+
+impl<'data, 's, Y: RuleBreakType<'s>> Clone for WordBreakIterator<'data, 's, Y> {
+    ghost use Rattle.std.specs.Prelude.{⊤};
+
+    ghost is_clone = { λ s r. r ≡ s };
+
+    ghost is_infallible = { λ _. ⊤ };
+
+    fn clone(&self) -> Result<Self, AllocError> {
+        Ok(self.fork())
+    }
 }
 
 impl<'data, 's, Y: RuleBreakType<'s>> Iterator for WordBreakIterator<'data, 's, Y> {
@@ -182,6 +206,11 @@ impl<'data, 's, Y: RuleBreakType<'s>> Iterator for WordBreakIterator<'data, 's, 
     {
         self.boundaries.next()
     }
+
+    #[inline(always)]
+    fn size_hint(&self) -> (usize, Option<usize>) {
+        self.boundaries.size_hint()
+    }
 }
 
 /// The boundaries of words in a text, each as its place and the type of what ends there.
@@ -193,6 +222,20 @@ pub struct WordBreakIteratorWithWordType<'data, 's, Y: RuleBreakType<'s>> {
 impl<'data, 's, Y: RuleBreakType<'s>> Drop for WordBreakIteratorWithWordType<'data, 's, Y> {
     fn drop(self) {
         let WordBreakIteratorWithWordType { words: _ } = self;
+    }
+}
+
+impl<'data, 's, Y: RuleBreakType<'s>> Clone for WordBreakIteratorWithWordType<'data, 's, Y> {
+    ghost use Rattle.std.specs.Prelude.{⊤};
+
+    ghost is_clone = { λ s r. r ≡ s };
+
+    ghost is_infallible = { λ _. ⊤ };
+
+    fn clone(&self) -> Result<Self, AllocError> {
+        Ok(WordBreakIteratorWithWordType {
+            words: self.words.fork(),
+        })
     }
 }
 
@@ -211,6 +254,11 @@ impl<'data, 's, Y: RuleBreakType<'s>> Iterator for WordBreakIteratorWithWordType
             Some(place) => Some((place, self.words.word_type())),
             None => None,
         }
+    }
+
+    #[inline(always)]
+    fn size_hint(&self) -> (usize, Option<usize>) {
+        self.words.size_hint()
     }
 }
 

@@ -93,6 +93,12 @@ impl<'a> Iterator for StrCharIndices<'a> {
             None
         }
     }
+
+    /// Each item takes one byte or more.
+    fn size_hint(&self) -> (usize, Option<usize>) {
+        let bytes = self.text.len() - self.front_offset;
+        (bytes.min(1), Some(bytes))
+    }
 }
 
 impl<'a> Cursor for StrCharIndices<'a> {
@@ -118,6 +124,10 @@ impl<'a> Cursor for StrCharIndices<'a> {
 
     fn place(&self) -> usize {
         self.offset()
+    }
+
+    fn end(&self) -> usize {
+        self.text.len()
     }
 
     fn seek(&mut self, place: usize) {

@@ -128,6 +128,12 @@ impl<'a, U: Copy, E: ReadsUnits<U>> Iterator for Indices<'a, U, E> {
             None
         }
     }
+
+    /// Each item takes one unit or more.
+    fn size_hint(&self) -> (usize, Option<usize>) {
+        let units = self.units.len() - self.front_offset;
+        (units.min(1), Some(units))
+    }
 }
 
 impl<'a, U: Copy, E: ReadsUnits<U>> Cursor for Indices<'a, U, E> {
@@ -154,6 +160,10 @@ impl<'a, U: Copy, E: ReadsUnits<U>> Cursor for Indices<'a, U, E> {
 
     fn place(&self) -> usize {
         self.offset()
+    }
+
+    fn end(&self) -> usize {
+        self.units.len()
     }
 
     fn seek(&mut self, place: usize) {

@@ -3,7 +3,7 @@ use Rattle.seg_pair_data.specs.PairData.{pair_table_of}
 use Rattle.seg_pairs.specs.declared.elements.Element.{Element}
 use Rattle.seg_pairs.specs.Elements.{onto}
 use Rattle.seg_pairs.specs.Items.{elements_of}
-use Rattle.seg_pairs.proofs.Engine.{read-onto, new-left, new-cover, new-empty, below-of}
+use Rattle.seg_pairs.proofs.Engine.{read-onto, new-left, new-cover, new-empty, new-rising, below-of}
 use Rattle.seg_pairs.proofs.rule_segmenter_v1.RuleBreakIterator.new.Goals as goal
 
 pub returns-clause-left : goal.returns-clause-left
@@ -23,4 +23,9 @@ invariant_of-result g c =
       λ on. refl,
       new-empty (elements_of c.args.pairs (g.I.Cursor.text c.args.text).items) c.next_element-next.result read.pairs (g.I.Cursor.text read.cursor).items c.next_element-next.ensures.gives,
       below-of (pair_table_of c.args.pairs) (pair_table_of c.args.pairs) (pair_table_of read.pairs) c.next_element-next.result refl c.next_element-next.ensures.table c.next_element-next.ensures.class,
+      new-rising c.args.pairs (g.I.Cursor.text c.args.text) (onto c.next_element-next.result (elements_of read.pairs (g.I.Cursor.text read.cursor).items)) (g.I.Cursor.text read.cursor).end
+          c.next_element-next.ensures.end
+          (read-onto (λ (elements : List Element). elements) (elements_of c.args.pairs (g.I.Cursor.text c.args.text).items) c.next_element-next.result
+          (elements_of read.pairs (g.I.Cursor.text read.cursor).items) c.next_element-next.ensures.gives)
+          (g.met.I.Cursor.rises c.args.text),
     )

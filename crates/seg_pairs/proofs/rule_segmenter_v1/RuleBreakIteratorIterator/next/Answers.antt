@@ -7,7 +7,7 @@ use Rattle.seg_pairs.specs.Chains.{chain}
 use Rattle.seg_pairs.specs.Items.{elements_of}
 use Rattle.seg_pairs.specs.Steps.{EndsIn}
 use Rattle.seg_pairs.specs.declared.verdicts.Outcome.TheVariants.{Break}
-use Rattle.seg_pairs.proofs.Engine.{element_verdict, gives-next, end-left, run-never, rest-empty, none-left, below-of}
+use Rattle.seg_pairs.proofs.Engine.{element_verdict, gives-next, end-left, run-never, rest-empty, none-left, next-rising, below-of}
 use Rattle.seg_pairs.proofs.rule_segmenter_v1.RuleBreakIteratorIterator.next.Goals as goal
 
 pub returns-in_default-clause-steps : goal.returns-in_default-clause-steps
@@ -35,6 +35,9 @@ invariant_of-self-2 g c =
       λ none. none-left after.pairs (g.I.Cursor.text after.cursor).items
           (rest-empty (chain (element_verdict c.table.result.now) whole) whole c.in-Break.class c.in-Break.next (elements_of after.pairs (g.I.Cursor.text after.cursor).items) c.in-Break.ensures.ends none),
       below-of c.table.result.now (pair_table_of s.rest.pairs) (pair_table_of after.pairs) c.in-Break.next c.table.ensures c.in-Break.ensures.table c.in-Break.ensures.class,
+      next-rising (chain (element_verdict c.table.result.now) whole) s.next c.in-Some.left (elements_of s.rest.pairs (g.I.Cursor.text s.rest.cursor).items) c.in-Break.class c.in-Break.next
+          (elements_of after.pairs (g.I.Cursor.text after.cursor).items) (g.I.Cursor.text s.rest.cursor).end (g.I.Cursor.text after.cursor).end
+          c.in-Some.is c.in-Break.ensures.ends c.in-Break.ensures.end c.self.invariant.3,
     )
 
 pub returns-clause-steps : goal.returns-clause-steps

@@ -1,0 +1,13 @@
+use Rattle.std.proofs.Common.{ap, ◌∙◌}
+use Rattle.seg_complex.specs.Payloads.{payloads_of, run_cuts_by}
+use Rattle.seg_line_rules.specs.LineBoundaries.{inside}
+use Rattle.seg_line_rules.specs.LinesLeft.{line_remainder}
+use Rattle.seg_line_rules.proofs.boundaries.ClassicLines.fork.Goals as goal
+
+pub returns : goal.returns
+returns g c =
+    let s = c.self.inside in
+    let cut = inside (run_cuts_by (payloads_of s.payloads)) in
+    ap (λ events. line_remainder cut s.started c.fork-2.result events) c.fork.ensures
+    ∙ ap (λ run. line_remainder cut s.started run s.events) c.fork-2.ensures
+    ∙ c.self.view_is
