@@ -21,6 +21,12 @@ use Rattle.seg_line_rules.proofs.LineStretches.{line-within}
 
 -- places before the end of a run are those of the cuts that stand inside
 
+pub none-before-zero : (places : List ℕ) → places_before 0 places ≡ []
+none-before-zero [] = refl
+none-before-zero (place ∷ places) =
+    let never : nat_lt place 0 ≡ false = false_from_ne_true (nat_lt place 0) (λ is. absurd (omega (arith, ltb-true place 0 is))) in
+    rw never (none-before-zero places)
+
 place-end : (items : List Item) (end cut : ℕ) → length items ≤ cut → place_of (drop cut items) end ≡ end
 place-end items end cut past = rw (drop_all cut items past) refl
 

@@ -41,6 +41,24 @@ impl<'data, I: Cursor> InsideCuts<'data, I> {
     }
 }
 
+impl<'data, I: Cursor> InsideCuts<'data, I> {
+    /// The next cut. Once there is none, the run counts as ended at 0.
+    #[inline(never)]
+    fn next_inside(&mut self) -> Option<usize>
+        ensures { YieldsFirst (λ left. left) self.old result self.new }
+    {
+        loop {
+            let Some(place) = self.cuts.next() else {
+                self.end = 0;
+                return None;
+            };
+            if place < self.end {
+                return Some(place);
+            }
+        }
+    }
+}
+
 impl<'data, I: Cursor> Iterator for InsideCuts<'data, I> {
     type Item = usize;
 
@@ -48,13 +66,12 @@ impl<'data, I: Cursor> Iterator for InsideCuts<'data, I> {
 
     ghost remaining = { item_count (λ left. left) };
 
+    #[inline(always)]
     fn next(&mut self) -> Option<usize> {
-        loop {
-            let place = self.cuts.next()?;
-            if place < self.end {
-                return Some(place);
-            }
+        if self.end == 0 {
+            return None;
         }
+        self.next_inside()
     }
 }
 

@@ -53,9 +53,21 @@ impl<'data, I: Cursor> Elements for Units<'data, I> {
 
     ghost table = { λ s. s.rules.table };
 
+    #[inline(always)]
     fn next_element(&mut self) -> Option<Element> {
-        let base = self.first?;
-        let (unit, first) = read_unit(self.pairs, base, &mut self.rest);
+        let Some(base) = self.first else {
+            return None;
+        };
+        let Some((place, code_point)) = self.rest.next_item() else {
+            self.first = None;
+            return Some(base);
+        };
+        let class = self.pairs.class(code_point);
+        if !is_glued(base.class, class) {
+            self.first = Some(base_element(place, code_point, class));
+            return Some(base);
+        }
+        let (unit, first) = read_unit(self.pairs, marked_element(base, class), &mut self.rest);
         self.first = first;
         Some(unit)
     }
@@ -77,6 +89,7 @@ impl<'data, I: Cursor> Elements for Units<'data, I> {
 }
 
 /// The unit that begins with this base, and the base after it. `rest` has the items after the one, and then those after the other.
+#[inline(never)]
 fn read_unit<I: Cursor>(
     pairs: LinePairs<'_>,
     base: Element,

@@ -65,6 +65,7 @@ impl<'data> Verdicts for LineVerdicts<'data> {
 
     ghost table = { λ s. (rules_by s.pairs).table };
 
+    #[inline(always)]
     fn step<E: Elements>(&self, left: Element, rest: &mut E) -> Step {
         let Some(right) = rest.next_element() else {
             return Step::End(0);

@@ -1,6 +1,6 @@
 use Rattle.std.proofs.Common.{◌≡◌, length}
 use Rattle.seg_line_rules.specs.LinesLeft.{places_before}
-use Rattle.seg_line_rules.proofs.inside_cuts.InsideCutsIterator.next.Given as goal
+use Rattle.seg_line_rules.proofs.inside_cuts.InsideCuts.next_inside.Given as goal
 
 abbrev pub invariant-loop-place : goal.invariant-loop-place
 invariant-loop-place g l = record { left : places_before l.self-inside.end l.self-inside.cuts ≡ l.fn.self }
