@@ -14,7 +14,7 @@ use sorting::sorted;
 use std::alloc::Global;
 
 /// A set of words, kept as a packed trie: a node for each beginning of a word.
-#[derive(Debug, Drop)]
+#[derive(Debug)]
 pub struct DictionaryBreakData {
     // For each node, whether it is a word.
     flags: Vec<bool>,
@@ -24,6 +24,17 @@ pub struct DictionaryBreakData {
     // For each edge, its code point and its target.
     edges: Vec<(u32, usize)>,
     ghost is_trie: { IsTrie (trie flags.items starts.items edges.items) },
+}
+
+// Written out, so that it is proved here and not in each program.
+impl Drop for DictionaryBreakData {
+    fn drop(self) {
+        let DictionaryBreakData {
+            flags: _,
+            starts: _,
+            edges: _,
+        } = self;
+    }
 }
 
 impl DictionaryBreakData {

@@ -110,11 +110,17 @@ impl<'s> WrappedLine<'s> {
 }
 
 /// The lines of a text, wrapped to columns. After None it is None for ever.
-#[derive(Debug, Drop)]
+#[derive(Debug)]
 pub struct WrapIterator<'data, 's> {
     text: &'s str,
     lines: Wrapping<StrCharIndices<'s>, LineBreakIterator<'data, 's, Utf8>>,
     ghost rest: { lines.text ≡ rest_from (start_of lines.text) (utf8 text.now) },
+}
+
+impl<'data, 's> Drop for WrapIterator<'data, 's> {
+    fn drop(self) {
+        let WrapIterator { text: _, lines: _ } = self;
+    }
 }
 
 impl<'data, 's> Iterator for WrapIterator<'data, 's> {
@@ -180,11 +186,17 @@ impl<'s> WrappedUtf8Line<'s> {
 }
 
 /// The lines of possibly ill-formed UTF-8, wrapped to columns. After None it is None for ever.
-#[derive(Debug, Drop)]
+#[derive(Debug)]
 pub struct WrapUtf8Iterator<'data, 's> {
     bytes: &'s [u8],
     lines: Wrapping<Utf8CharIndices<'s>, LineBreakIterator<'data, 's, PotentiallyIllFormedUtf8>>,
     ghost rest: { lines.text ≡ rest_from (start_of lines.text) (utf8 bytes.now) },
+}
+
+impl<'data, 's> Drop for WrapUtf8Iterator<'data, 's> {
+    fn drop(self) {
+        let WrapUtf8Iterator { bytes: _, lines: _ } = self;
+    }
 }
 
 impl<'data, 's> Iterator for WrapUtf8Iterator<'data, 's> {

@@ -31,7 +31,7 @@ struct Piece {
 }
 
 /// The lines of a text, wrapped to so many columns.
-#[derive(Debug, Drop)]
+#[derive(Debug)]
 pub(crate) struct Wrapping<I: Cursor, B: Breaks> {
     breaks: B,
     // The text from the next line on.
@@ -41,6 +41,19 @@ pub(crate) struct Wrapping<I: Cursor, B: Breaks> {
     // That segment.
     held: Option<Piece>,
     columns: u128,
+}
+
+// Written out, so that it is proved here and not in each program that wraps.
+impl<I: Cursor, B: Breaks> Drop for Wrapping<I, B> {
+    fn drop(self) {
+        let Wrapping {
+            breaks: _,
+            rest: _,
+            after: _,
+            held: _,
+            columns: _,
+        } = self;
+    }
 }
 
 impl<I: Cursor, B: Breaks> Model for Wrapping<I, B> {
