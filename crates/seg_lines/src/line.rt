@@ -46,7 +46,7 @@ use seg_pair_data::provider::RuleBreakData;
 use seg_text::cursor::Cursor;
 use seg_text::indices::{Latin1Indices, StrCharIndices, Utf8CharIndices, Utf16Indices};
 use seg_text::scaffold::{Latin1, PotentiallyIllFormedUtf8, RuleBreakType, Utf8, Utf16};
-use std::alloc::Global;
+use std::alloc::{AllocError, Global};
 use std::fmt::Debug;
 use std::marker::PhantomData;
 
@@ -110,6 +110,23 @@ impl<'data, 's, Y: RuleBreakType<'s>> LineBreakIterator<'data, 's, Y> {
     }
 }
 
+impl<'data, 's, Y: RuleBreakType<'s>> Clone for LineBreakIterator<'data, 's, Y> {
+    ghost use Rattle.std.specs.Prelude.{⊤};
+
+    ghost is_clone = { λ s r. r ≡ s };
+
+    ghost is_infallible = { λ _. ⊤ };
+
+    fn clone(&self) -> Result<Self, AllocError> {
+        Ok(LineBreakIterator {
+            boundaries: self.boundaries.fork(),
+            segmenter: self.segmenter,
+            whole: Y::fork(&self.whole),
+            text: PhantomData,
+        })
+    }
+}
+
 impl<'data, 's, Y: RuleBreakType<'s>> Iterator for LineBreakIterator<'data, 's, Y> {
     ghost use Rattle.std.specs.Prelude.{⊤};
     ghost use Rattle.std.specs.Iterator.{MakesProgress};
@@ -129,6 +146,11 @@ impl<'data, 's, Y: RuleBreakType<'s>> Iterator for LineBreakIterator<'data, 's, 
         ensures goes { MakesProgress (λ _. ⊤) (item_count line_places) self.old result self.new }
     {
         self.boundaries.next()
+    }
+
+    #[inline(always)]
+    fn size_hint(&self) -> (usize, Option<usize>) {
+        self.boundaries.size_hint()
     }
 }
 

@@ -126,3 +126,18 @@ impl<'data, I: Cursor> Iterator for JoinedBoundaries<'data, I> {
         }
     }
 }
+
+impl<'data, I: Cursor> JoinedBoundaries<'data, I> {
+    /// The same boundaries once more, from the same one on. Takes no memory.
+    pub(crate) fn fork(&self) -> Self
+        ensures { result ≡ self.now }
+    {
+        JoinedBoundaries {
+            machine: self.machine.fork(),
+            boundary: self.boundary,
+            cuts: self.cuts.fork(),
+            cut: self.cut,
+            status: self.status,
+        }
+    }
+}

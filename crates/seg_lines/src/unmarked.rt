@@ -56,3 +56,14 @@ impl<'data, I: Cursor> Iterator for UnmarkedBoundaries<'data, I> {
         self.boundaries.next()
     }
 }
+
+impl<'data, I: Cursor> UnmarkedBoundaries<'data, I> {
+    /// The same boundaries once more, from the same one on. Takes no memory.
+    pub(crate) fn fork(&self) -> Self
+        ensures { result ≡ self.now }
+    {
+        UnmarkedBoundaries {
+            boundaries: self.boundaries.fork(),
+        }
+    }
+}
