@@ -2,9 +2,9 @@
 use Rattle.std.proofs.Common.{◌≡◌, ℕ, ◌<◌, ◌≤◌, Bool, true, false, cond, nat_le, nat_lt, List, [], ◌∷◌, ◌++◌, map, take, drop, refl, sym, ap, ◌∙◌, inl, inr, arith}
 use Rattle.std.specs.Prelude.{◌&&◌, Option, None, Some, find}
 use Rattle.std.specs.Option.{option_map, option_map_or, option_or}
-use Rattle.std.proofs.lemmas.Bool.{cases_lt, lt-leb, ltb-true, leb-true, and_left, and_right, and_parts}
+use Rattle.std.proofs.lemmas.Bool.{cases_lt, lt-leb, le-leb, ltb-true, leb-true, and_from, and_left, and_right, and_parts}
 use Rattle.std.proofs.lemmas.List.Folds.{find-append}
-use Rattle.seg_data.specs.declared.provider.ComplexScript.TheVariants.{None as NoScript}
+use Rattle.seg_data.specs.declared.provider.ComplexScript.TheVariants.{ChineseOrJapanese, Thai, None as NoScript}
 use Rattle.seg_data.specs.Table as tables
 use Rattle.seg_complex.specs.declared.script_iter.ranges.TheConstants.{RANGES}
 use Rattle.seg_complex.specs.Scripts.{Row, script_rows, holds, script_of, script_number}
@@ -117,3 +117,73 @@ value-is-script code_point =
     ∙ number-of-found _
     ∙ ap (λ (found : Option Row). script_number (option_map_or (λ (row : Row). row.2) found NoScript))
     (swapped 0xA9E0 start high low end high-begins low-ends code_point ∙ ap (find (holds code_point)) (sym rows-are))
+
+-- a row that holds a code point, where none before it does
+
+at-row : (before : List Row) (row : Row) (after : List Row) (code_point : ℕ) → find (holds code_point) before ≡ None → row.0 ≤ code_point → code_point ≤ row.1
+    → find (holds code_point) (before ++ (row ∷ after)) ≡ Some row
+at-row before row after code_point none low high =
+    find-append (holds code_point) before (row ∷ after)
+    ∙ rw none (ap (λ b. cond b (Some row) (find (holds code_point) after)) (and_from (nat_le row.0 code_point) (nat_le code_point row.1) (le-leb _ _ low) (le-leb _ _ high)))
+
+script-at : (row : Row) (code_point : ℕ) → find (holds code_point) script_rows ≡ Some row → script_of code_point ≡ row.2
+unfolding script_of
+script-at row code_point found = rw found refl
+
+-- letters of Thai, its signs, and ideographs
+
+thai_letters : Row
+thai_letters = (0x0E01, 0x0E3A, Thai)
+
+thai_signs : Row
+thai_signs = (0x0E40, 0x0E4E, Thai)
+
+ideographs : Row
+ideographs = (0x4E00, 0x9FFF, ChineseOrJapanese)
+
+lower : List Row
+unfolding script_rows
+lower = take 14 (drop 19 script_rows)
+
+letters-are : script_rows ≡ thai_letters ∷ drop 1 script_rows
+unfolding script_rows thai_letters
+letters-are = refl
+
+signs-are : script_rows ≡ (thai_letters ∷ []) ++ (thai_signs ∷ drop 2 script_rows)
+unfolding script_rows thai_letters thai_signs
+signs-are = refl
+
+ideographs-are : script_rows ≡ (start ++ (high ++ lower)) ++ (ideographs ∷ end)
+unfolding script_rows start high lower ideographs end
+ideographs-are = refl
+
+start-ends : end_below 0x4E00 start ≡ true
+unfolding start script_rows
+start-ends = refl
+
+lower-ends : end_below 0x4E00 lower ≡ true
+unfolding lower script_rows
+lower-ends = refl
+
+pub letter-is-thai : (code_point : ℕ) → 0x0E01 ≤ code_point → code_point ≤ 0x0E3A → script_of code_point ≡ Thai
+unfolding thai_letters
+letter-is-thai code_point first last =
+    script-at thai_letters code_point (ap (find (holds code_point)) letters-are ∙ at-row [] thai_letters (drop 1 script_rows) code_point refl first last)
+
+pub sign-is-thai : (code_point : ℕ) → 0x0E40 ≤ code_point → code_point ≤ 0x0E4E → script_of code_point ≡ Thai
+unfolding thai_letters thai_signs
+sign-is-thai code_point first last =
+    script-at thai_signs code_point
+    (ap (find (holds code_point)) signs-are ∙ at-row (thai_letters ∷ []) thai_signs (drop 2 script_rows) code_point (past-none 0x0E40 code_point (thai_letters ∷ []) refl first) first last)
+
+pub ideograph-is-chinese : (code_point : ℕ) → 0x4E00 ≤ code_point → code_point ≤ 0x9FFF → script_of code_point ≡ ChineseOrJapanese
+unfolding ideographs
+ideograph-is-chinese code_point first last =
+    script-at ideographs code_point (ap (find (holds code_point)) ideographs-are ∙ at-row (start ++ (high ++ lower)) ideographs end code_point none first last)
+  where
+    none : find (holds code_point) (start ++ (high ++ lower)) ≡ None
+    none =
+        find-append (holds code_point) start (high ++ lower)
+        ∙ rw (past-none 0x4E00 code_point start start-ends first)
+        (find-append (holds code_point) high lower
+        ∙ rw (before-none 0xA9E0 code_point high high-begins (omega arith)) (past-none 0x4E00 code_point lower lower-ends first))

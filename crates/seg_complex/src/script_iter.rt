@@ -17,6 +17,24 @@ use std::marker::Model;
 pub fn script_of(code_point: u32) -> ComplexScript
     ensures { result ≡ script_of code_point }
 {
+    // The rows that running text has most are tried first.
+    if 0x4E00 <= code_point && code_point <= 0x9FFF {
+        return ComplexScript::ChineseOrJapanese;
+    }
+    if 0x0E01 <= code_point && code_point <= 0x0E3A {
+        return ComplexScript::Thai;
+    }
+    if 0x0E40 <= code_point && code_point <= 0x0E4E {
+        return ComplexScript::Thai;
+    }
+    script_by_halving(code_point)
+}
+
+// The script of a code point, by halving the ranges.
+#[inline(never)]
+fn script_by_halving(code_point: u32) -> ComplexScript
+    ensures { result ≡ script_of code_point }
+{
     script_numbered(value_by_halving(&RANGES, 0, code_point))
 }
 
