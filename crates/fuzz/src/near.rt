@@ -29,7 +29,7 @@ fn check_cursor<S: Segmenter>(
     found: &Found,
 ) -> Result<(), Failure> {
     let cursor = BoundaryCursor::new(segmenter, text);
-    let near = near(found.as_slice(), place);
+    let near = neighbours(found.as_slice(), place);
     check(
         cursor.previous_boundary(place) == near.below
             && cursor.is_boundary(place) == near.is_there
@@ -47,7 +47,7 @@ struct Near {
 }
 
 // Those among boundaries that rise.
-fn near(found: &[(usize, char)], place: usize) -> Near {
+fn neighbours(found: &[(usize, char)], place: usize) -> Near {
     let mut near = Near {
         below: None,
         is_there: false,

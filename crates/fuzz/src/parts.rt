@@ -51,41 +51,37 @@ impl<'s> Whole for &'s [u16] {
     }
 }
 
-// What a part, which isn't to be empty, leaves of what it is to begin.
-fn rest_behind<U: Whole>(part: U, rest: U) -> Result<U, Failure> {
-    match rest.behind(part) {
-        Some(rest) if part.size() > 0 => Ok(rest),
-        _ => Err(Failure::Wrong("parts that aren't the text")),
+// What a part leaves of what it begins, unless it is empty.
+fn rest_behind<U: Whole>(part: U, rest: U) -> Option<U> {
+    if part.size() == 0 {
+        return None;
     }
+    rest.behind(part)
 }
 
 // The same of a part that is to stand at a place of the whole.
-fn rest_from<U: Whole>(whole: U, place: usize, part: U, rest: U) -> Result<U, Failure> {
-    let before = whole.size().saturating_sub(rest.size());
-    check(before == place, "parts at other places")?;
+fn rest_from<U: Whole>(whole: U, place: usize, part: U, rest: U) -> Option<U> {
+    if whole.size().saturating_sub(rest.size()) != place {
+        return None;
+    }
     rest_behind(part, rest)
 }
 
-// Nothing is to be left.
-fn check_end<U: Whole>(rest: U) -> Result<(), Failure> {
-    check(rest.size() == 0, "parts that end before the text")
-}
-
-/// The segments are to be the text: alone, with their places, or with their marks too.
-fn check_parted<B: BreakIterator>(manner: u8, breaks: B) -> Result<(), Failure>
+// Whether the segments are the text: alone, with their places, or with their marks too.
+fn has_parts<B: BreakIterator>(manner: u8, breaks: B) -> bool
 where
     B::Units: Whole,
     requires found { B.left breaks ≡ boundaries_in (B.find breaks) (B.decode (B.whole breaks)) }
     requires cover { IsCover 0 (length (B.whole breaks)) (B.left breaks) }
 {
     match manner {
-        0 => check_alone(breaks),
-        1 => check_indices(breaks),
-        _ => check_marked(breaks),
+        0 => has_segments(breaks),
+        1 => has_indices(breaks),
+        _ => has_marked_segments(breaks),
     }
 }
 
-fn check_alone<B: BreakIterator>(breaks: B) -> Result<(), Failure>
+fn has_segments<B: BreakIterator>(breaks: B) -> bool
 where
     B::Units: Whole,
     requires found { B.left breaks ≡ boundaries_in (B.find breaks) (B.decode (B.whole breaks)) }
@@ -93,12 +89,15 @@ where
 {
     let mut rest = breaks.text();
     for segment in breaks.segments() {
-        rest = rest_behind(segment, rest)?;
+        let Some(after) = rest_behind(segment, rest) else {
+            return false;
+        };
+        rest = after;
     }
-    check_end(rest)
+    rest.size() == 0
 }
 
-fn check_indices<B: BreakIterator>(breaks: B) -> Result<(), Failure>
+fn has_indices<B: BreakIterator>(breaks: B) -> bool
 where
     B::Units: Whole,
     requires found { B.left breaks ≡ boundaries_in (B.find breaks) (B.decode (B.whole breaks)) }
@@ -107,12 +106,15 @@ where
     let whole = breaks.text();
     let mut rest = whole;
     for (place, segment) in breaks.segment_indices() {
-        rest = rest_from(whole, place, segment, rest)?;
+        let Some(after) = rest_from(whole, place, segment, rest) else {
+            return false;
+        };
+        rest = after;
     }
-    check_end(rest)
+    rest.size() == 0
 }
 
-fn check_marked<B: BreakIterator>(breaks: B) -> Result<(), Failure>
+fn has_marked_segments<B: BreakIterator>(breaks: B) -> bool
 where
     B::Units: Whole,
     requires found { B.left breaks ≡ boundaries_in (B.find breaks) (B.decode (B.whole breaks)) }
@@ -121,74 +123,66 @@ where
     let whole = breaks.text();
     let mut rest = whole;
     for (place, segment, _) in breaks.marked_segments() {
-        rest = rest_from(whole, place, segment, rest)?;
+        let Some(after) = rest_from(whole, place, segment, rest) else {
+            return false;
+        };
+        rest = after;
     }
-    check_end(rest)
+    rest.size() == 0
 }
 
-/// The segments of a text are to be its parts, as each iterator of segments gives them, by number. So are its wrapped lines.
+/// The segments of a text are to be its parts, as each iterator of segments gives them, by number.
 pub fn check_segments(
     manner: u8,
     segmenter: SegmenterBorrowed<'_>,
     text: Text<'_>,
 ) -> Result<(), Failure> {
-    match segmenter {
-        SegmenterBorrowed::Clusters(clusters) => check_clusters(manner, clusters, text),
-        SegmenterBorrowed::Sentences(sentences) => check_sentences(manner, sentences, text),
-        SegmenterBorrowed::Words(words) => check_words(manner, words, text),
-        SegmenterBorrowed::Lines(lines) => check_lines(manner, lines, text),
-    }
+    let has_parts = match segmenter {
+        SegmenterBorrowed::Clusters(clusters) => has_clusters(manner, clusters, text),
+        SegmenterBorrowed::Sentences(sentences) => has_sentences(manner, sentences, text),
+        SegmenterBorrowed::Words(words) => has_words(manner, words, text),
+        SegmenterBorrowed::Lines(lines) => has_lines(manner, lines, text),
+    };
+    check(has_parts, "segments that aren't the text")
 }
 
-fn check_clusters(
+fn has_clusters(
     manner: u8,
     clusters: GraphemeClusterSegmenterBorrowed<'_>,
     text: Text<'_>,
-) -> Result<(), Failure> {
+) -> bool {
     match text {
-        Text::Str(text) => check_parted(manner, clusters.segment_str(text)),
-        Text::Utf8(text) => check_parted(manner, clusters.segment_utf8(text)),
-        Text::Latin1(text) => check_parted(manner, clusters.segment_latin1(text)),
-        Text::Utf16(text) => check_parted(manner, clusters.segment_utf16(text)),
+        Text::Str(text) => has_parts(manner, clusters.segment_str(text)),
+        Text::Utf8(text) => has_parts(manner, clusters.segment_utf8(text)),
+        Text::Latin1(text) => has_parts(manner, clusters.segment_latin1(text)),
+        Text::Utf16(text) => has_parts(manner, clusters.segment_utf16(text)),
     }
 }
 
-fn check_sentences(
-    manner: u8,
-    sentences: SentenceSegmenterBorrowed<'_>,
-    text: Text<'_>,
-) -> Result<(), Failure> {
+fn has_sentences(manner: u8, sentences: SentenceSegmenterBorrowed<'_>, text: Text<'_>) -> bool {
     match text {
-        Text::Str(text) => check_parted(manner, sentences.segment_str(text)),
-        Text::Utf8(text) => check_parted(manner, sentences.segment_utf8(text)),
-        Text::Latin1(text) => check_parted(manner, sentences.segment_latin1(text)),
-        Text::Utf16(text) => check_parted(manner, sentences.segment_utf16(text)),
+        Text::Str(text) => has_parts(manner, sentences.segment_str(text)),
+        Text::Utf8(text) => has_parts(manner, sentences.segment_utf8(text)),
+        Text::Latin1(text) => has_parts(manner, sentences.segment_latin1(text)),
+        Text::Utf16(text) => has_parts(manner, sentences.segment_utf16(text)),
     }
 }
 
-fn check_words(
-    manner: u8,
-    words: WordSegmenterBorrowed<'_>,
-    text: Text<'_>,
-) -> Result<(), Failure> {
+fn has_words(manner: u8, words: WordSegmenterBorrowed<'_>, text: Text<'_>) -> bool {
     match text {
-        Text::Str(text) => check_parted(manner, words.segment_str(text)),
-        Text::Utf8(text) => check_parted(manner, words.segment_utf8(text)),
-        Text::Latin1(text) => check_parted(manner, words.segment_latin1(text)),
-        Text::Utf16(text) => check_parted(manner, words.segment_utf16(text)),
+        Text::Str(text) => has_parts(manner, words.segment_str(text)),
+        Text::Utf8(text) => has_parts(manner, words.segment_utf8(text)),
+        Text::Latin1(text) => has_parts(manner, words.segment_latin1(text)),
+        Text::Utf16(text) => has_parts(manner, words.segment_utf16(text)),
     }
 }
 
-fn check_lines(
-    manner: u8,
-    lines: LineSegmenterBorrowed<'_>,
-    text: Text<'_>,
-) -> Result<(), Failure> {
+fn has_lines(manner: u8, lines: LineSegmenterBorrowed<'_>, text: Text<'_>) -> bool {
     match text {
-        Text::Str(text) => check_parted(manner, lines.segment_str(text)),
-        Text::Utf8(text) => check_parted(manner, lines.segment_utf8(text)),
-        Text::Latin1(text) => check_parted(manner, lines.segment_latin1(text)),
-        Text::Utf16(text) => check_parted(manner, lines.segment_utf16(text)),
+        Text::Str(text) => has_parts(manner, lines.segment_str(text)),
+        Text::Utf8(text) => has_parts(manner, lines.segment_utf8(text)),
+        Text::Latin1(text) => has_parts(manner, lines.segment_latin1(text)),
+        Text::Utf16(text) => has_parts(manner, lines.segment_utf16(text)),
     }
 }
 
@@ -204,29 +198,32 @@ pub fn check_wrapped(
     let Ok(wrapper) = LineWrapper::new(lines) else {
         return Ok(());
     };
-    match text {
-        Text::Str(text) => check_wrapped_str(wrapper, text, columns),
-        Text::Utf8(bytes) => check_wrapped_utf8(wrapper, bytes, columns),
-        _ => Ok(()),
-    }
+    let has_lines = match text {
+        Text::Str(text) => has_wrapped_lines(wrapper, text, columns),
+        Text::Utf8(bytes) => has_wrapped_utf8(wrapper, bytes, columns),
+        _ => true,
+    };
+    check(has_lines, "wrapped lines that aren't the text")
 }
 
-fn check_wrapped_str(wrapper: LineWrapper<'_>, text: &str, columns: usize) -> Result<(), Failure> {
-    let mut rest = text;
+fn has_wrapped_lines(wrapper: LineWrapper<'_>, text: &str, columns: usize) -> bool {
+    let mut rest = text.as_bytes();
     for line in wrapper.wrap_str(text, columns) {
-        rest = rest_behind(line.text(), rest)?;
+        let Some(after) = rest_behind(line.text().as_bytes(), rest) else {
+            return false;
+        };
+        rest = after;
     }
-    check_end(rest)
+    rest.is_empty()
 }
 
-fn check_wrapped_utf8(
-    wrapper: LineWrapper<'_>,
-    bytes: &[u8],
-    columns: usize,
-) -> Result<(), Failure> {
+fn has_wrapped_utf8(wrapper: LineWrapper<'_>, bytes: &[u8], columns: usize) -> bool {
     let mut rest = bytes;
     for line in wrapper.wrap_utf8(bytes, columns) {
-        rest = rest_behind(line.bytes(), rest)?;
+        let Some(after) = rest_behind(line.bytes(), rest) else {
+            return false;
+        };
+        rest = after;
     }
-    check_end(rest)
+    rest.is_empty()
 }
