@@ -9,8 +9,8 @@ ghost use Rattle.icu_segmenter.specs.TextSegments.{nothing, segments_of, units_o
 ghost use Rattle.icu_segmenter.specs.Utf8.{utf8};
 
 use icu_segmenter::SentenceSegmenterBorrowed;
-use icu_segmenter::segments::BreakIterator;
 use icu_segmenter::laws::sentence;
+use icu_segmenter::segments::BreakIterator;
 use std::alloc::{AllocError, Global};
 
 /// The sentences of a text. The only error is want of memory.
