@@ -6,8 +6,8 @@
 //     rustc -O --edition 2021 -L /tmp --extern unicode_segmentation --out-dir /tmp tools/beside/unicode_segmentation.rs
 //     /tmp/unicode_segmentation FILE [PASSES]
 //
-// A row for each kind: how many boundaries there are, the sum of their places, and how many MB the best of 25 passes does
-// in a second. The crate has no lines.
+// A row for each kind: how many boundaries there are, the sum of their places, and how many MB the best of 25 passes
+// does in a second. The crate has no lines.
 use std::error::Error;
 use std::time::{Duration, Instant};
 use std::{env, fs};
