@@ -6,8 +6,9 @@
 tools/rows/PROGRAM.rows has a row a line: the words after the program's name, what it reads, what it must write, and where the status isn't 0 the status
 and what it must say on standard error, or how that begins where it has no line feed at its end. Texts are Python literals, bytes are written b"..". A line
 `file: NAME, TEXT` makes a file that words may name, and `devices: WORDS, READ, WRITE` has the program run with a standard input that can't be read and a
-standard output that takes nothing, and says what it must complain of; with `unread: WORDS, STATUS, COMPLAINT` it has the first, and mustn't see it. Other
-lines say nothing. Each row is asked of what either compiler built.
+standard output that takes nothing, and says what it must complain of; with `unread: WORDS, STATUS, COMPLAINT` it has the first, and mustn't see it.
+`comes: WORDS, TEXT, WANTED, REST, WANTED` has the first text written while the rest hasn't come. `repeated: WORDS, MORE, TEXT, COUNT, REST` has the text so
+often, and then the rest, and asks whether the same is written with more words. Other lines say nothing. Each row is asked of what either compiler built.
 
 It ends with 'N passed, M failed', and with status 1 where a row fails or a program isn't there.
 """
@@ -17,6 +18,7 @@ import shlex
 import subprocess
 import sys
 import tempfile
+import threading
 from dataclasses import dataclass, field
 
 BUILDS = ("", ".by-rattle")
@@ -47,6 +49,40 @@ class Row:
 
 
 @dataclass
+class Comes(Row):
+    """A run that must write something before all that it reads has come."""
+
+    later: bytes = b""
+    wanted_later: bytes = b""
+
+    def fault(self, program, folder):
+        with subprocess.Popen([program, *self.words], cwd=folder, stdin=subprocess.PIPE, stdout=subprocess.PIPE) as ran:
+            killer = threading.Timer(60, ran.kill)
+            killer.start()
+            ran.stdin.write(self.given)
+            ran.stdin.flush()
+            first = ran.stdout.read(len(self.wanted))
+            ran.stdin.write(self.later)
+            ran.stdin.close()
+            rest = ran.stdout.read()
+            killer.cancel()
+        if (ran.returncode, first, rest) == (0, self.wanted, self.wanted_later):
+            return None
+        return f"{shlex.join(self.words)}: status {ran.returncode}, written {first!r}, and then {rest!r}"
+
+
+@dataclass
+class Repeated(Row):
+    """A run that must write of much text what it writes with more words."""
+
+    more: list = field(default_factory=list)
+
+    def fault(self, program, folder):
+        one, other = (subprocess.run([program, *words], input=self.given, capture_output=True, cwd=folder, timeout=60, check=True).stdout for words in (self.words, self.words + self.more))
+        return None if one == other else f"{shlex.join(self.words)}: {len(one)} bytes, and with {shlex.join(self.more)} {len(other)}"
+
+
+@dataclass
 class Rows:
     """What a file of rows holds."""
 
@@ -72,7 +108,7 @@ def read(path, folder_as_input, full):
     with open(path, encoding="utf-8") as it:
         for number, line in enumerate(it, 1):
             kind, said = ("row", line) if line.startswith(('"', "'")) else line.partition(": ")[::2]
-            if kind not in ("row", "file", "devices", "unread"):
+            if kind not in ("row", "file", "devices", "unread", "comes", "repeated"):
                 continue
             place, fields = f"{os.path.basename(path)}:{number}", ast.literal_eval(f"({said.strip()},)")
             if kind == "file":
@@ -82,6 +118,12 @@ def read(path, folder_as_input, full):
             elif kind == "unread":
                 words, status, complaint = fields
                 found.rows.append(Row(place, shlex.split(words), folder_as_input, b"", status, as_bytes(complaint)))
+            elif kind == "comes":
+                words, given, wanted, later, wanted_later = map(as_bytes, fields)
+                found.rows.append(Comes(place, shlex.split(words.decode()), given, wanted, later=later, wanted_later=wanted_later))
+            elif kind == "repeated":
+                words, more, text, count, rest = fields
+                found.rows.append(Repeated(place, shlex.split(words), as_bytes(text) * count + as_bytes(rest), more=shlex.split(more)))
             else:
                 words, given, wanted, *rest = fields
                 status, complaint = rest or (0, "")

@@ -1,5 +1,5 @@
 -- How many segments there are is written after what is printed, where they are only counted.
-use Rattle.std.proofs.Common.{◌≡◌, ℕ, true, Option, None, Some, List, IfSome}
+use Rattle.std.proofs.Common.{◌≡◌, ℕ, true, false, Option, None, Some, List, IfSome, append-nil}
 use Rattle.std.proofs.KnownBytes.{Appends-trans}
 use Rattle.std.specs.Io.KnownBytes.{Appends}
 use Rattle.segment.specs.Job.{count_by, is_counted, output_of, printed_by, IsFound}
@@ -21,9 +21,20 @@ module _ (job : Job) (name : Option (List ℕ)) where
       rw is (Appends-trans old mid new (printed_by job bytes) (count_line (count_by job bytes) name) printed (rw (← count-is job bytes found are) after))
 
   -- where it is known what was read
-  pub counted-of : (read : Option (List ℕ)) (text shown : List ℕ) (old mid new : Option (List ℕ)) (found : Found) → IfSome read (λ bytes. text ≡ bytes) → shown ≡ text
-      → is_counted job ≡ true → IsFound job shown found × Appends old mid (printed_by job shown) → Appends mid new (count_line found.segments name)
+  pub counted-of : (read old mid new : Option (List ℕ)) (found : Found) → is_counted job ≡ true
+      → IfSome read (λ bytes. IsFound job bytes found × Appends old mid (printed_by job bytes)) → Appends mid new (count_line found.segments name)
       → IfSome read (λ bytes. IsFound job bytes found × Appends old new (output_of job name bytes))
-  counted-of None text shown old mid new found same is-shown is printed after = tt
-  counted-of (Some bytes) text shown old mid new found same is-shown is printed after =
-      rw (← same, ← is-shown) (printed.0, counted shown old mid new found is printed.0 printed.1 after)
+  counted-of None old mid new found is printed after = tt
+  counted-of (Some bytes) old mid new found is printed after = (printed.0, counted bytes old mid new found is printed.0 printed.1 after)
+
+  pub printed-of : (read old new : Option (List ℕ)) (found : Found) → is_counted job ≡ false
+      → IfSome read (λ bytes. IsFound job bytes found × Appends old new (printed_by job bytes))
+      → IfSome read (λ bytes. IsFound job bytes found × Appends old new (output_of job name bytes))
+  printed-of None old new found is printed = tt
+  printed-of (Some bytes) old new found is printed = (printed.0, rw (is, append-nil (printed_by job bytes)) printed.1)
+
+-- what is read is the whole text
+pub found-whole : (job : Job) (read : Option (List ℕ)) (text shown : List ℕ) (old new : Option (List ℕ)) (found : Found) → IfSome read (λ bytes. text ≡ bytes) → shown ≡ text
+    → IsFound job shown found × Appends old new (printed_by job shown) → IfSome read (λ bytes. IsFound job bytes found × Appends old new (printed_by job bytes))
+found-whole job None text shown old new found same is-shown printed = tt
+found-whole job (Some bytes) text shown old new found same is-shown printed = rw (← same, ← is-shown) printed
