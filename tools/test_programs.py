@@ -10,10 +10,11 @@ standard output that takes nothing, and says what it must complain of; with `unr
 `comes: WORDS, TEXT, WANTED, REST, WANTED` has the first text written while the rest hasn't come. `repeated: WORDS, MORE, TEXT, COUNT, REST` has the text so
 often, and then the rest, and asks whether the same is written with more words. Other lines say nothing. Each row is asked of what either compiler built.
 
-It ends with 'N passed, M failed', and with status 1 where a row fails or a program isn't there.
+The options of a manual page, crates/PROGRAM/PROGRAM.1, must be those of the program's help. It ends with 'N passed, M failed', and with status 1 where a row fails or a program isn't there.
 """
 import ast
 import os
+import re
 import shlex
 import subprocess
 import sys
@@ -145,6 +146,26 @@ def ask(program, found):
     return len(faults) - failed, failed
 
 
+def options_of(text):
+    """Returns the long options that a text names."""
+    return set(re.findall(r"--[a-z][a-z-]*", text))
+
+
+def ask_manual(program, path):
+    """Compares the options of a manual page with those of the program's help and of its kinds'."""
+    def help_of(*words):
+        return subprocess.run([program, *words, "--help"], capture_output=True, text=True, timeout=60, check=True).stdout
+
+    kinds = re.findall(r"(?m)^  ([a-z]+)  ", help_of())
+    with open(path, encoding="ascii") as it:
+        written = options_of(it.read().replace("\\-", "-"))
+    wanted = options_of("".join([help_of(), *map(help_of, kinds)]))
+    if kinds and written == wanted:
+        return 1, 0
+    print(f"{path} ({os.path.basename(program)}): {sorted(written ^ wanted)} not in both")
+    return 0, 1
+
+
 def main(names):
     passed = failed = 0
     folder_as_input, full = os.open("/", os.O_RDONLY), os.open("/dev/full", os.O_WRONLY)
@@ -158,8 +179,10 @@ def main(names):
             print(f"{name} isn't built: rt ci builds it")
             failed += 1
         for program in built:
-            well, badly = ask(program, found)
-            passed, failed = passed + well, failed + badly
+            asked = [ask(program, found)]
+            if os.path.isfile(manual := f"crates/{name}/{name}.1"):
+                asked.append(ask_manual(program, manual))
+            passed, failed = passed + sum(well for well, _ in asked), failed + sum(badly for _, badly in asked)
     print(f"{passed} passed, {failed} failed")
     return 1 if failed else 0
 

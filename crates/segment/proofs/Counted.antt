@@ -1,10 +1,13 @@
 -- How many segments there are is written after what is printed, where they are only counted.
-use Rattle.std.proofs.Common.{◌≡◌, ℕ, true, false, Option, None, Some, List, IfSome, append-nil}
+use Rattle.std.proofs.Common.{◌≡◌, ℕ, true, false, Option, None, Some, List, IfErr, IfOk, IfSome, Result, Ok, Err, ◌⊎◌, inl, append-nil}
 use Rattle.std.proofs.KnownBytes.{Appends-trans}
 use Rattle.std.specs.Io.KnownBytes.{Appends}
-use Rattle.segment.specs.Job.{count_by, is_counted, output_of, printed_by, IsFound}
+use Rattle.segment.specs.Fault.{IsBeforeWriting, IsReadFault}
+use Rattle.segment.specs.Job.{count_by, is_counted, is_parted, output_of, printed_by, IsFound}
 use Rattle.segment.specs.Output.{count_line}
 use Rattle.segment.specs.declared.command.Engine.TheVariants.{Plain, Memoised}
+use Rattle.segment.specs.declared.fault.Fault.{Fault}
+use Rattle.segment.specs.declared.fault.Fault.TheVariants.{Read, Memo, Write}
 use Rattle.segment.specs.declared.found.Found.{Found}
 use Rattle.segment.specs.declared.job.Job.{Job}
 use Rattle.segment.specs.declared.job.Job.TheVariants.{Cut, Wrap}
@@ -34,7 +37,28 @@ module _ (job : Job) (name : Option (List ℕ)) where
   printed-of (Some bytes) old new found is printed = (printed.0, rw (is, append-nil (printed_by job bytes)) printed.1)
 
 -- what is read is the whole text
-pub found-whole : (job : Job) (read : Option (List ℕ)) (text shown : List ℕ) (old new : Option (List ℕ)) (found : Found) → IfSome read (λ bytes. text ≡ bytes) → shown ≡ text
-    → IsFound job shown found × Appends old new (printed_by job shown) → IfSome read (λ bytes. IsFound job bytes found × Appends old new (printed_by job bytes))
-found-whole job None text shown old new found same is-shown printed = tt
-found-whole job (Some bytes) text shown old new found same is-shown printed = rw (← same, ← is-shown) printed
+pub whole-found : (job : Job) (read : Option (List ℕ)) (text shown : List ℕ) (old new : Option (List ℕ)) (r : Result Found Fault) → IfSome read (λ bytes. text ≡ bytes) → shown ≡ text
+    → IfOk r (λ found. IsFound job shown found × Appends old new (printed_by job shown))
+    → IfOk r (λ found. IfSome read (λ bytes. IsFound job bytes found × Appends old new (printed_by job bytes)))
+whole-found job read text shown old new (Err fault) same is-shown printed = tt
+whole-found job None text shown old new (Ok found) same is-shown printed = tt
+whole-found job (Some bytes) text shown old new (Ok found) same is-shown printed = rw (← same, ← is-shown) printed
+
+-- what is met before anything is written leaves nothing
+pub unwritten-whole : {P X : Type 0} (r : Result Found Fault) → IfErr r (λ fault. IsBeforeWriting fault → P) → IfErr r (λ fault. IsBeforeWriting fault → X → P)
+unwritten-whole (Ok found) is = tt
+unwritten-whole (Err fault) is = λ before all. is before
+
+of-reader : (fault : Fault) → IsReadFault fault → IsBeforeWriting fault
+of-reader (Read error) is = tt
+of-reader (Memo error) is = absurd is
+of-reader (Write error) is = absurd is
+
+pub begun-whole : {P Q : Type 0} (r : Result Found Fault) → IfErr r (λ fault. IsBeforeWriting fault → P) → IfErr r (λ fault. IsReadFault fault → P ⊎ Q)
+begun-whole (Ok found) is = tt
+begun-whole (Err fault) is = λ of_reader. inl (is (of-reader fault of_reader))
+
+-- a job that may be cut part by part
+pub unwritten-parted : {P : Type 0} (r : Result Found Fault) (job : Job) → is_parted job ≡ true → IfErr r (λ fault. IsBeforeWriting fault → is_parted job ≡ false → P)
+unwritten-parted (Ok found) job is = tt
+unwritten-parted (Err fault) job is = λ before all. cc

@@ -8,4 +8,4 @@ pub mod ShownLines
 pub mod ShownWide
 pub mod ByMachine
 pub mod JoinedCuts
-pub mod Parts
+pub mod PartedText

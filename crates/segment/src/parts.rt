@@ -1,7 +1,7 @@
 //! Texts that are cut part by part, as they come.
-ghost use Rattle.std.specs.Prelude.{◌≡◌, ◌+◌, ◌++◌, ◌⊎◌, ◌<◌, length, IfErr, IfOk, IfSome, OnErr, OnOk};
+ghost use Rattle.std.specs.Prelude.{◌≡◌, ◌+◌, ◌++◌, ◌⊎◌, ◌<◌, ◌≤◌, length, take, IfErr, IfOk, IfSome, OnErr, OnOk};
 ghost use Rattle.std.specs.Io.{ReadsAtMost};
-ghost use Rattle.std.specs.Io.KnownBytes.{Appends, IsAtEnd, ReadConsumes};
+ghost use Rattle.std.specs.Io.KnownBytes.{Appends, Consumes, IsAtEnd, Keeps, ReadConsumes};
 ghost use Rattle.icu_segmenter.specs.NearBoundaries.{line_feed};
 ghost use Rattle.icu_segmenter.specs.Parted.{PartsBehind};
 ghost use Rattle.segment.specs.Fault.{IsReadFault};
@@ -50,30 +50,23 @@ pub fn print_parts<I: Read, O: Write>(
     ensures begun { IfErr result (λ fault. IsReadFault fault → (out.new ≡ out.old)
         ⊎ IsBegun segmenter.now style (I.remaining input.old) (I.remaining input.new) (O.contents out.old) (O.contents out.new)) }
 {
-    let mut block = empty_block(alloc)?;
+    let mut block = [0u8; BLOCK_LEN];
     let mut progress = Progress {
         held: Vec::new(alloc),
         place: 0,
         segments: 0,
     };
-    'blocks: for _ in 0..u64::MAX {
-        let len = read_block(input, block.as_mut_slice()).map_err(Fault::Read)?;
+    'reads: for _ in 0..u64::MAX {
+        let len = read_block(input, &mut block)?;
         if len == 0 {
             return print_last(alloc, segmenter, style, &mut progress, out);
         }
-        add_block(alloc, segmenter, style, &block[..len], &mut progress, out)?;
+        let (bytes, _) = block.split_at(len);
+        if let Err(fault) = add_block(alloc, segmenter, style, bytes, &mut progress, out) {
+            return Err(fault);
+        }
     }
     Err(Fault::Read(io::Error::from(ErrorKind::Other)))
-}
-
-// Room for a block.
-fn empty_block(alloc: Global) -> Result<Vec<u8>, Fault>
-    ensures { IfOk result (λ block. 0 < length block.items) }
-{
-    match vec![in alloc; 0u8; BLOCK_LEN] {
-        Ok(block) => Ok(block),
-        Err(error) => Err(no_memory(error)),
-    }
 }
 
 fn no_memory(error: AllocError) -> Fault
@@ -82,12 +75,25 @@ fn no_memory(error: AllocError) -> Fault
     Fault::Read(io::Error::from(error))
 }
 
-// One read, again where a signal interrupts it.
-fn read_block<I: Read>(input: &mut I, block: &mut [u8]) -> io::Result<usize>
+// One read into a block: how many bytes it gave, and none at the end.
+fn read_block<I: Read>(input: &mut I, block: &mut [u8]) -> Result<usize, Fault>
+    requires { 0 < length block.old }
+    ensures read { IfOk result (λ len. (len ≤ length block.new) × Consumes (I.remaining input.old) (I.remaining input.new) (take len block.new)
+        × (len ≡ 0 → IsAtEnd (I.remaining input.new))) }
+    ensures kept { OnErr result (Keeps (I.remaining input.old) (I.remaining input.new)) }
+{
+    match read_again(input, block) {
+        Ok(len) => Ok(len),
+        Err(error) => Err(Fault::Read(error)),
+    }
+}
+
+// A read, again where a signal interrupts it.
+fn read_again<I: Read>(input: &mut I, block: &mut [u8]) -> io::Result<usize>
     ensures bound { ReadsAtMost result block.new }
     ensures bytes { ReadConsumes (I.remaining input.old) (I.remaining input.new) result block.new }
 {
-    for _ in 0..u64::MAX {
+    'tries: for _ in 0..u64::MAX {
         match input.read(block) {
             Ok(len) => return Ok(len),
             Err(error) => {
@@ -141,7 +147,7 @@ fn print_last<O: Write>(
 ) -> Result<Found, Fault>
     ensures written { IfOk result (λ found. (found.segments ≡ progress.new.segments) × (found.lookups ≡ 0)
         × IsPartWritten segmenter.now style progress.old.held.items progress.old progress.new (O.contents out.old) (O.contents out.new)) }
-    ensures only { IfErr result (λ fault. IsReadFault fault → out.new ≡ out.old) }
+    ensures only { IfErr result (λ fault. IsReadFault fault → ⊥) }
 {
     print_held(alloc, segmenter, style, progress, out)?;
     Ok(Found {
@@ -160,7 +166,7 @@ fn print_held<O: Write>(
 ) -> Result<(), Fault>
     ensures written { OnOk result (IsPartWritten segmenter.now style progress.old.held.items progress.old progress.new (O.contents out.old) (O.contents out.new)) }
     ensures held { progress.new.held ≡ progress.old.held }
-    ensures only { IfErr result (λ fault. IsReadFault fault → out.new ≡ out.old) }
+    ensures only { IfErr result (λ fault. IsReadFault fault → ⊥) }
 {
     let part = progress.held.as_slice();
     segmenter.cover(part);

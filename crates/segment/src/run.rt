@@ -66,15 +66,28 @@ fn print_job<I: Read, O: Write>(
     ensures begun { IfErr result (λ fault. IsReadFault fault → (out.new ≡ out.old)
         ⊎ IsBegunBy job.now (I.remaining input.old) (I.remaining input.new) (O.contents out.old) (O.contents out.new)) }
 {
-    match job {
-        Job::Cut(segmenter, style, Engine::Plain) if segmenter.has_parts() => {
-            print_parts(alloc, segmenter, *style, input, out)
-        }
-        _ => {
-            let text = read_text(alloc, input)?;
-            print_text(alloc, job, text.as_slice(), out)
+    if let Job::Cut(segmenter, style, Engine::Plain) = job {
+        if segmenter.has_parts() {
+            return print_parts(alloc, segmenter, *style, input, out);
         }
     }
+    print_whole(alloc, job, input, out)
+}
+
+// The same of all that a reader has at once.
+fn print_whole<I: Read, O: Write>(
+    alloc: Global,
+    job: &Job,
+    input: &mut I,
+    out: &mut O,
+) -> Result<Found, Fault>
+    ensures read_all { OnOk result (IsAtEnd (I.remaining input.new)) }
+    ensures written { IfOk result (λ found. IfSome (I.remaining input.old) (λ bytes. IsFound job.now bytes found
+        × Appends (O.contents out.old) (O.contents out.new) (printed_by job.now bytes))) }
+    ensures unwritten { IfErr result (λ fault. IsBeforeWriting fault → out.new ≡ out.old) }
+{
+    let text = read_text(alloc, input)?;
+    print_text(alloc, job, text.as_slice(), out)
 }
 
 // Writes the segments of a text, each on a line of its own, unless they are only counted, or its wrapped lines.

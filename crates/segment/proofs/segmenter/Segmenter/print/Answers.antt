@@ -29,7 +29,7 @@ pub returns-in-WordsAlone : goal.returns-in-WordsAlone
 returns-in-WordsAlone g c =
     rw c.in-WordsAlone.is
     (lines-are_left typed_places words_alone (λ found. lines_at c.args.style c.args.before c.args.text.now found) _ c.print_words.new.boundaries _ _ _ _ c.print_words.ensures
-    (c.iter_with_word_type.ensures
+    (c.iter_with_word_type-words.ensures
     ∙ ap with_types (c.segment_utf8-words.ensures.boundaries ∙ ap (λ (rules : WordRules). word_boundaries_of rules (utf8 c.args.text.now)) c.as_borrowed-in-WordsAlone.ensures)))
 
 pub returns-in-Sentences : goal.returns-in-Sentences
