@@ -1,15 +1,21 @@
 -- How many segments there are is written after what is printed, where they are only counted.
-use Rattle.std.proofs.Common.{◌≡◌, ℕ, true, false, Option, None, Some, List, IfErr, IfOk, IfSome, Result, Ok, Err, ◌⊎◌, inl, append-nil}
+use Rattle.std.proofs.Common.{◌≡◌, ℕ, true, false, Option, None, Some, List, IfErr, IfOk, IfSome, Result, Ok, Err, ◌⊎◌, inl, append-nil, length, refl, subst}
 use Rattle.std.proofs.KnownBytes.{Appends-trans}
 use Rattle.std.specs.Io.KnownBytes.{Appends}
 use Rattle.segment.specs.Fault.{IsBeforeWriting, IsReadFault}
-use Rattle.segment.specs.Job.{count_by, is_counted, is_parted, output_of, printed_by, IsFound}
-use Rattle.segment.specs.Output.{count_line}
+use Rattle.segment.specs.Job.{count_by, is_counted, is_parted, output_of, printed_by, IsBegunBy, IsFound}
+use Rattle.segment.specs.Output.{count_line, lines_at, lines_of}
+use Rattle.segment.specs.Parts.{IsBegun}
+use Rattle.segment.specs.Segmenter.{segments_by}
+use Rattle.segment.specs.declared.command.Engine.{Engine}
 use Rattle.segment.specs.declared.command.Engine.TheVariants.{Plain, Memoised}
 use Rattle.segment.specs.declared.fault.Fault.{Fault}
 use Rattle.segment.specs.declared.fault.Fault.TheVariants.{Read, Memo, Write}
 use Rattle.segment.specs.declared.found.Found.{Found}
 use Rattle.segment.specs.declared.job.Job.{Job}
+use Rattle.segment.specs.declared.output.Style.{Style}
+use Rattle.segment.specs.declared.segmenter.Segmenter.{Segmenter}
+use Rattle.segment.proofs.JoinedCuts.{lines-at_zero}
 use Rattle.segment.specs.declared.job.Job.TheVariants.{Cut, Wrap}
 
 count-is : (job : Job) (bytes : List ℕ) (found : Found) → IsFound job bytes found → found.segments ≡ count_by job bytes
@@ -45,20 +51,48 @@ whole-found job None text shown old new (Ok found) same is-shown printed = tt
 whole-found job (Some bytes) text shown old new (Ok found) same is-shown printed = rw (← same, ← is-shown) printed
 
 -- what is met before anything is written leaves nothing
-pub unwritten-whole : {P X : Type 0} (r : Result Found Fault) → IfErr r (λ fault. IsBeforeWriting fault → P) → IfErr r (λ fault. IsBeforeWriting fault → X → P)
-unwritten-whole (Ok found) is = tt
-unwritten-whole (Err fault) is = λ before all. is before
+pub unwritten-whole : (P X : Type 0) (r : Result Found Fault) → IfErr r (λ fault. IsBeforeWriting fault → P) → IfErr r (λ fault. IsBeforeWriting fault → X → P)
+unwritten-whole P X (Ok found) is = tt
+unwritten-whole P X (Err fault) is = λ before all. is before
 
 of-reader : (fault : Fault) → IsReadFault fault → IsBeforeWriting fault
 of-reader (Read error) is = tt
 of-reader (Memo error) is = absurd is
 of-reader (Write error) is = absurd is
 
-pub begun-whole : {P Q : Type 0} (r : Result Found Fault) → IfErr r (λ fault. IsBeforeWriting fault → P) → IfErr r (λ fault. IsReadFault fault → P ⊎ Q)
-begun-whole (Ok found) is = tt
-begun-whole (Err fault) is = λ of_reader. inl (is (of-reader fault of_reader))
+pub begun-whole : (P Q : Type 0) (r : Result Found Fault) → IfErr r (λ fault. IsBeforeWriting fault → P) → IfErr r (λ fault. IsReadFault fault → P ⊎ Q)
+begun-whole P Q (Ok found) is = tt
+begun-whole P Q (Err fault) is = λ of_reader. inl (is (of-reader fault of_reader))
 
 -- a job that may be cut part by part
-pub unwritten-parted : {P : Type 0} (r : Result Found Fault) (job : Job) → is_parted job ≡ true → IfErr r (λ fault. IsBeforeWriting fault → is_parted job ≡ false → P)
-unwritten-parted (Ok found) job is = tt
-unwritten-parted (Err fault) job is = λ before all. cc
+pub unwritten-parted : (P : Type 0) (r : Result Found Fault) (job : Job) → is_parted job ≡ true → IfErr r (λ fault. IsBeforeWriting fault → is_parted job ≡ false → P)
+unwritten-parted P (Ok found) job is = tt
+unwritten-parted P (Err fault) job is = λ before all. cc
+
+module _ (segmenter : Segmenter) (style : Style) (job : Job) (is : job ≡ Cut segmenter style Plain) (from : Option (List ℕ)) where
+  pub parted-found : (old new : Option (List ℕ)) (r : Result Found Fault)
+      → IfOk r (λ found. IfSome from (λ bytes. (found.segments ≡ length (segments_by segmenter bytes)) × (found.lookups ≡ 0)
+      × Appends old new (lines_of style bytes (segments_by segmenter bytes))))
+      → IfOk r (λ found. IfSome from (λ bytes. IsFound job bytes found × Appends old new (printed_by job bytes)))
+  parted-found old new (Err fault) printed = tt
+  parted-found old new (Ok found) printed = on from printed
+    where
+      on : (from : Option (List ℕ))
+          → IfSome from (λ bytes. (found.segments ≡ length (segments_by segmenter bytes)) × (found.lookups ≡ 0)
+          × Appends old new (lines_of style bytes (segments_by segmenter bytes)))
+          → IfSome from (λ bytes. IsFound job bytes found × Appends old new (printed_by job bytes))
+      on None printed = tt
+      on (Some bytes) printed = rw is ((printed.0, printed.1), printed.2)
+
+  pub parted-begun : (P : Type 0) (to old new : Option (List ℕ)) (r : Result Found Fault) → IfErr r (λ fault. IsReadFault fault → P ⊎ IsBegun segmenter style from to old new)
+      → IfErr r (λ fault. IsReadFault fault → P ⊎ IsBegunBy job from to old new)
+  parted-begun P to old new (Ok found) begun = tt
+  parted-begun P to old new (Err fault) begun = rw is begun
+
+-- a text that is cut at once
+pub whole-printed : (segmenter : Segmenter) (style : Style) (engine : Engine) (job : Job) → job ≡ Cut segmenter style engine → engine ≡ Plain
+    → (text : List ℕ) (count : ℕ) (old new : Option (List ℕ))
+    → (count ≡ length (segments_by segmenter text)) × Appends old new (lines_at style 0 text (segments_by segmenter text))
+    → IsFound job text (record { segments = count; lookups = 0 }) × Appends old new (printed_by job text)
+whole-printed segmenter style engine job is plain text count old new (counted, printed) =
+    rw (is, plain) ((counted, refl), subst (Appends old new) (lines-at_zero style text (segments_by segmenter text)) printed)
