@@ -6,17 +6,20 @@
 tools/rows/PROGRAM.rows has a row a line: the words after the program's name, what it reads, what it must write, and where the status isn't 0 the status
 and what it must say on standard error, or how that begins where it has no line feed at its end. Texts are Python literals, bytes are written b"..". A line
 `file: NAME, TEXT` makes a file that words may name, and `devices: WORDS, READ, WRITE` has the program run with a standard input that can't be read and a
-standard output that takes nothing, and says what it must complain of; with `unread: WORDS, STATUS, COMPLAINT` it has the first, and mustn't see it. Other
-lines say nothing. Each row is asked of what either compiler built.
+standard output that takes nothing, and says what it must complain of; with `unread: WORDS, STATUS, COMPLAINT` it has the first, and mustn't see it.
+`comes: WORDS, TEXT, WANTED, REST, WANTED` has the first text written while the rest hasn't come. `repeated: WORDS, MORE, TEXT, COUNT, REST` has the text so
+often, and then the rest, and asks whether the same is written with more words. Other lines say nothing. Each row is asked of what either compiler built.
 
-It ends with 'N passed, M failed', and with status 1 where a row fails or a program isn't there.
+The options of a manual page, crates/PROGRAM/PROGRAM.1, must be those of the program's help. It ends with 'N passed, M failed', and with status 1 where a row fails or a program isn't there.
 """
 import ast
 import os
+import re
 import shlex
 import subprocess
 import sys
 import tempfile
+import threading
 from dataclasses import dataclass, field
 
 BUILDS = ("", ".by-rattle")
@@ -47,6 +50,40 @@ class Row:
 
 
 @dataclass
+class Comes(Row):
+    """A run that must write something before all that it reads has come."""
+
+    later: bytes = b""
+    wanted_later: bytes = b""
+
+    def fault(self, program, folder):
+        with subprocess.Popen([program, *self.words], cwd=folder, stdin=subprocess.PIPE, stdout=subprocess.PIPE) as ran:
+            killer = threading.Timer(60, ran.kill)
+            killer.start()
+            ran.stdin.write(self.given)
+            ran.stdin.flush()
+            first = ran.stdout.read(len(self.wanted))
+            ran.stdin.write(self.later)
+            ran.stdin.close()
+            rest = ran.stdout.read()
+            killer.cancel()
+        if (ran.returncode, first, rest) == (0, self.wanted, self.wanted_later):
+            return None
+        return f"{shlex.join(self.words)}: status {ran.returncode}, written {first!r}, and then {rest!r}"
+
+
+@dataclass
+class Repeated(Row):
+    """A run that must write of much text what it writes with more words."""
+
+    more: list = field(default_factory=list)
+
+    def fault(self, program, folder):
+        one, other = (subprocess.run([program, *words], input=self.given, capture_output=True, cwd=folder, timeout=60, check=True).stdout for words in (self.words, self.words + self.more))
+        return None if one == other else f"{shlex.join(self.words)}: {len(one)} bytes, and with {shlex.join(self.more)} {len(other)}"
+
+
+@dataclass
 class Rows:
     """What a file of rows holds."""
 
@@ -72,7 +109,7 @@ def read(path, folder_as_input, full):
     with open(path, encoding="utf-8") as it:
         for number, line in enumerate(it, 1):
             kind, said = ("row", line) if line.startswith(('"', "'")) else line.partition(": ")[::2]
-            if kind not in ("row", "file", "devices", "unread"):
+            if kind not in ("row", "file", "devices", "unread", "comes", "repeated"):
                 continue
             place, fields = f"{os.path.basename(path)}:{number}", ast.literal_eval(f"({said.strip()},)")
             if kind == "file":
@@ -82,6 +119,12 @@ def read(path, folder_as_input, full):
             elif kind == "unread":
                 words, status, complaint = fields
                 found.rows.append(Row(place, shlex.split(words), folder_as_input, b"", status, as_bytes(complaint)))
+            elif kind == "comes":
+                words, given, wanted, later, wanted_later = map(as_bytes, fields)
+                found.rows.append(Comes(place, shlex.split(words.decode()), given, wanted, later=later, wanted_later=wanted_later))
+            elif kind == "repeated":
+                words, more, text, count, rest = fields
+                found.rows.append(Repeated(place, shlex.split(words), as_bytes(text) * count + as_bytes(rest), more=shlex.split(more)))
             else:
                 words, given, wanted, *rest = fields
                 status, complaint = rest or (0, "")
@@ -103,6 +146,26 @@ def ask(program, found):
     return len(faults) - failed, failed
 
 
+def options_of(text):
+    """Returns the long options that a text names."""
+    return set(re.findall(r"--[a-z][a-z-]*", text))
+
+
+def ask_manual(program, path):
+    """Compares the options of a manual page with those of the program's help and of its kinds'."""
+    def help_of(*words):
+        return subprocess.run([program, *words, "--help"], capture_output=True, text=True, timeout=60, check=True).stdout
+
+    kinds = re.findall(r"(?m)^  ([a-z]+)  ", help_of())
+    with open(path, encoding="ascii") as it:
+        written = options_of(it.read().replace("\\-", "-"))
+    wanted = options_of("".join([help_of(), *map(help_of, kinds)]))
+    if kinds and written == wanted:
+        return 1, 0
+    print(f"{path} ({os.path.basename(program)}): {sorted(written ^ wanted)} not in both")
+    return 0, 1
+
+
 def main(names):
     passed = failed = 0
     folder_as_input, full = os.open("/", os.O_RDONLY), os.open("/dev/full", os.O_WRONLY)
@@ -116,8 +179,10 @@ def main(names):
             print(f"{name} isn't built: rt ci builds it")
             failed += 1
         for program in built:
-            well, badly = ask(program, found)
-            passed, failed = passed + well, failed + badly
+            asked = [ask(program, found)]
+            if os.path.isfile(manual := f"crates/{name}/{name}.1"):
+                asked.append(ask_manual(program, manual))
+            passed, failed = passed + sum(well for well, _ in asked), failed + sum(badly for _, badly in asked)
     print(f"{passed} passed, {failed} failed")
     return 1 if failed else 0
 

@@ -1,12 +1,21 @@
 -- How many segments there are is written after what is printed, where they are only counted.
-use Rattle.std.proofs.Common.{◌≡◌, ℕ, true, Option, None, Some, List, IfSome}
+use Rattle.std.proofs.Common.{◌≡◌, ℕ, true, false, Option, None, Some, List, IfErr, IfOk, IfSome, Result, Ok, Err, ◌⊎◌, inl, append-nil, length, refl, subst}
 use Rattle.std.proofs.KnownBytes.{Appends-trans}
 use Rattle.std.specs.Io.KnownBytes.{Appends}
-use Rattle.segment.specs.Job.{count_by, is_counted, output_of, printed_by, IsFound}
-use Rattle.segment.specs.Output.{count_line}
+use Rattle.segment.specs.Fault.{IsBeforeWriting, IsReadFault}
+use Rattle.segment.specs.Job.{count_by, is_counted, is_parted, output_of, printed_by, IsBegunBy, IsFound}
+use Rattle.segment.specs.Output.{count_line, lines_at, lines_of}
+use Rattle.segment.specs.Parts.{IsBegun}
+use Rattle.segment.specs.Segmenter.{segments_by}
+use Rattle.segment.specs.declared.command.Engine.{Engine}
 use Rattle.segment.specs.declared.command.Engine.TheVariants.{Plain, Memoised}
+use Rattle.segment.specs.declared.fault.Fault.{Fault}
+use Rattle.segment.specs.declared.fault.Fault.TheVariants.{Read, Memo, Write}
 use Rattle.segment.specs.declared.found.Found.{Found}
 use Rattle.segment.specs.declared.job.Job.{Job}
+use Rattle.segment.specs.declared.output.Style.{Style}
+use Rattle.segment.specs.declared.segmenter.Segmenter.{Segmenter}
+use Rattle.segment.proofs.JoinedCuts.{lines-at_zero}
 use Rattle.segment.specs.declared.job.Job.TheVariants.{Cut, Wrap}
 
 count-is : (job : Job) (bytes : List ℕ) (found : Found) → IsFound job bytes found → found.segments ≡ count_by job bytes
@@ -21,9 +30,69 @@ module _ (job : Job) (name : Option (List ℕ)) where
       rw is (Appends-trans old mid new (printed_by job bytes) (count_line (count_by job bytes) name) printed (rw (← count-is job bytes found are) after))
 
   -- where it is known what was read
-  pub counted-of : (read : Option (List ℕ)) (text shown : List ℕ) (old mid new : Option (List ℕ)) (found : Found) → IfSome read (λ bytes. text ≡ bytes) → shown ≡ text
-      → is_counted job ≡ true → IsFound job shown found × Appends old mid (printed_by job shown) → Appends mid new (count_line found.segments name)
+  pub counted-of : (read old mid new : Option (List ℕ)) (found : Found) → is_counted job ≡ true
+      → IfSome read (λ bytes. IsFound job bytes found × Appends old mid (printed_by job bytes)) → Appends mid new (count_line found.segments name)
       → IfSome read (λ bytes. IsFound job bytes found × Appends old new (output_of job name bytes))
-  counted-of None text shown old mid new found same is-shown is printed after = tt
-  counted-of (Some bytes) text shown old mid new found same is-shown is printed after =
-      rw (← same, ← is-shown) (printed.0, counted shown old mid new found is printed.0 printed.1 after)
+  counted-of None old mid new found is printed after = tt
+  counted-of (Some bytes) old mid new found is printed after = (printed.0, counted bytes old mid new found is printed.0 printed.1 after)
+
+  pub printed-of : (read old new : Option (List ℕ)) (found : Found) → is_counted job ≡ false
+      → IfSome read (λ bytes. IsFound job bytes found × Appends old new (printed_by job bytes))
+      → IfSome read (λ bytes. IsFound job bytes found × Appends old new (output_of job name bytes))
+  printed-of None old new found is printed = tt
+  printed-of (Some bytes) old new found is printed = (printed.0, rw (is, append-nil (printed_by job bytes)) printed.1)
+
+-- what is read is the whole text
+pub whole-found : (job : Job) (read : Option (List ℕ)) (text shown : List ℕ) (old new : Option (List ℕ)) (r : Result Found Fault) → IfSome read (λ bytes. text ≡ bytes) → shown ≡ text
+    → IfOk r (λ found. IsFound job shown found × Appends old new (printed_by job shown))
+    → IfOk r (λ found. IfSome read (λ bytes. IsFound job bytes found × Appends old new (printed_by job bytes)))
+whole-found job read text shown old new (Err fault) same is-shown printed = tt
+whole-found job None text shown old new (Ok found) same is-shown printed = tt
+whole-found job (Some bytes) text shown old new (Ok found) same is-shown printed = rw (← same, ← is-shown) printed
+
+-- what is met before anything is written leaves nothing
+pub unwritten-whole : (P X : Type 0) (r : Result Found Fault) → IfErr r (λ fault. IsBeforeWriting fault → P) → IfErr r (λ fault. IsBeforeWriting fault → X → P)
+unwritten-whole P X (Ok found) is = tt
+unwritten-whole P X (Err fault) is = λ before all. is before
+
+of-reader : (fault : Fault) → IsReadFault fault → IsBeforeWriting fault
+of-reader (Read error) is = tt
+of-reader (Memo error) is = absurd is
+of-reader (Write error) is = absurd is
+
+pub begun-whole : (P Q : Type 0) (r : Result Found Fault) → IfErr r (λ fault. IsBeforeWriting fault → P) → IfErr r (λ fault. IsReadFault fault → P ⊎ Q)
+begun-whole P Q (Ok found) is = tt
+begun-whole P Q (Err fault) is = λ of_reader. inl (is (of-reader fault of_reader))
+
+-- a job that may be cut part by part
+pub unwritten-parted : (P : Type 0) (r : Result Found Fault) (job : Job) → is_parted job ≡ true → IfErr r (λ fault. IsBeforeWriting fault → is_parted job ≡ false → P)
+unwritten-parted P (Ok found) job is = tt
+unwritten-parted P (Err fault) job is = λ before all. cc
+
+module _ (segmenter : Segmenter) (style : Style) (job : Job) (is : job ≡ Cut segmenter style Plain) (from : Option (List ℕ)) where
+  pub parted-found : (old new : Option (List ℕ)) (r : Result Found Fault)
+      → IfOk r (λ found. IfSome from (λ bytes. (found.segments ≡ length (segments_by segmenter bytes)) × (found.lookups ≡ 0)
+      × Appends old new (lines_of style bytes (segments_by segmenter bytes))))
+      → IfOk r (λ found. IfSome from (λ bytes. IsFound job bytes found × Appends old new (printed_by job bytes)))
+  parted-found old new (Err fault) printed = tt
+  parted-found old new (Ok found) printed = on from printed
+    where
+      on : (from : Option (List ℕ))
+          → IfSome from (λ bytes. (found.segments ≡ length (segments_by segmenter bytes)) × (found.lookups ≡ 0)
+          × Appends old new (lines_of style bytes (segments_by segmenter bytes)))
+          → IfSome from (λ bytes. IsFound job bytes found × Appends old new (printed_by job bytes))
+      on None printed = tt
+      on (Some bytes) printed = rw is ((printed.0, printed.1), printed.2)
+
+  pub parted-begun : (P : Type 0) (to old new : Option (List ℕ)) (r : Result Found Fault) → IfErr r (λ fault. IsReadFault fault → P ⊎ IsBegun segmenter style from to old new)
+      → IfErr r (λ fault. IsReadFault fault → P ⊎ IsBegunBy job from to old new)
+  parted-begun P to old new (Ok found) begun = tt
+  parted-begun P to old new (Err fault) begun = rw is begun
+
+-- a text that is cut at once
+pub whole-printed : (segmenter : Segmenter) (style : Style) (engine : Engine) (job : Job) → job ≡ Cut segmenter style engine → engine ≡ Plain
+    → (text : List ℕ) (count : ℕ) (old new : Option (List ℕ))
+    → (count ≡ length (segments_by segmenter text)) × Appends old new (lines_at style 0 text (segments_by segmenter text))
+    → IsFound job text (record { segments = count; lookups = 0 }) × Appends old new (printed_by job text)
+whole-printed segmenter style engine job is plain text count old new (counted, printed) =
+    rw (is, plain) ((counted, refl), subst (Appends old new) (lines-at_zero style text (segments_by segmenter text)) printed)

@@ -7,3 +7,5 @@ pub mod Counted
 pub mod ShownLines
 pub mod ShownWide
 pub mod ByMachine
+pub mod JoinedCuts
+pub mod PartedText

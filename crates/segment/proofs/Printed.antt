@@ -1,8 +1,11 @@
 -- What is printed of an iterator that says what it has left.
-use Rattle.std.proofs.Common.{◌≡◌, ℕ, List, None, Option, Result, Ok, Err, IfOk, length}
+use Rattle.std.proofs.Common.{◌≡◌, ℕ, List, None, Option, Result, Ok, Err, IfOk, length, subst}
 use Rattle.std.specs.Iterator.{YieldsFirst, YieldsThen}
 use Rattle.std.specs.Io.KnownBytes.{Appends}
 use Rattle.icu_segmenter.proofs.Callers.{given-is_left}
+use Rattle.segment.specs.Output.{lines_at, lines_of}
+use Rattle.segment.specs.declared.output.Style.{Style}
+use Rattle.segment.proofs.JoinedCuts.{lines-at_zero}
 
 -- these are the segments between all that was left
 pub lines-are_left : {S A E : Type 0} (left : S → List A) (cut : List A → List (ℕ × ℕ)) (lines : List (ℕ × ℕ) → List ℕ)
@@ -12,3 +15,8 @@ pub lines-are_left : {S A E : Type 0} (left : S → List A) (cut : List A → Li
 lines-are_left left cut lines s t all old new (Err e) printed is_all = tt
 lines-are_left left cut lines s t all old new (Ok count) (given, drains, counted, appends) is_all =
     rw (← is_all, ← given-is_left left s given (t, drains)) (counted, appends)
+
+-- a whole text is a part before which nothing stands
+pub printed-whole : (style : Style) (text : List ℕ) (found : List (ℕ × ℕ)) (P : Type 0) (old new : Option (List ℕ)) → P × Appends old new (lines_at style 0 text found)
+    → P × Appends old new (lines_of style text found)
+printed-whole style text found P old new (p, printed) = (p, subst (Appends old new) (lines-at_zero style text found) printed)

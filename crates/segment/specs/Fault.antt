@@ -7,3 +7,9 @@ abbrev pub IsBeforeWriting : Fault → Type 0
 IsBeforeWriting (Read error) = Unit {0}
 IsBeforeWriting (Memo error) = Unit {0}
 IsBeforeWriting (Write error) = ⊥
+
+-- a fault of what reads
+abbrev pub IsReadFault : Fault → Type 0
+IsReadFault (Read error) = Unit {0}
+IsReadFault (Memo error) = ⊥
+IsReadFault (Write error) = ⊥

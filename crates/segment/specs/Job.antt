@@ -3,6 +3,7 @@ use Rattle.std.specs.Prelude.{◌≡◌, ℕ, Bool, true, false, Option, List, [
 use Rattle.icu_segmenter.specs.ScriptWords.{ScriptWords}
 use Rattle.segment.specs.Memo.{IsFoundBy}
 use Rattle.segment.specs.Output.{count_line, lines_of}
+use Rattle.segment.specs.Parts.{IsBegun}
 use Rattle.segment.specs.Segmenter.{segments_by, IsAskedOf}
 use Rattle.segment.specs.Wrapped.{wrapped_output}
 use Rattle.segment.specs.Wrapper.{wrapping_of, IsAskedWrapper}
@@ -25,6 +26,16 @@ printed_by (Wrap wrapper) bytes = wrapped_output (wrapping_of wrapper) bytes
 abbrev pub is_counted : Job → Bool
 is_counted (Cut segmenter Counted engine) = true
 is_counted job = false
+
+-- may a text be cut part by part as it comes
+abbrev pub is_parted : Job → Bool
+is_parted (Cut segmenter style Plain) = true
+is_parted job = false
+
+-- of what a reader gave before it failed, the lines are written
+abbrev pub IsBegunBy : Job → Option (List ℕ) → Option (List ℕ) → Option (List ℕ) → Option (List ℕ) → Type 0
+IsBegunBy (Cut segmenter style engine) from to old new = IsBegun segmenter style from to old new
+IsBegunBy (Wrap wrapper) from to old new = ⊥
 
 -- how many segments there are
 abbrev pub count_by : Job → List ℕ → ℕ

@@ -5,6 +5,7 @@ pub mod Fault
 pub mod Job
 pub mod Memo
 pub mod Output
+pub mod Parts
 pub mod Segmenter
 pub mod Wrapped
 pub mod Wrapper

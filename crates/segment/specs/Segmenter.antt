@@ -1,6 +1,7 @@
 -- The segments that each segmenter gives, and which one is asked for.
 use Rattle.std.specs.Prelude.{◌≡◌, ℕ, List}
 use Rattle.std.specs.Option.{option_map}
+use Rattle.icu_segmenter.specs.Boundary.{Boundary}
 use Rattle.icu_segmenter.specs.Boundaries.{offsets}
 use Rattle.icu_segmenter.specs.Clusters.{owned_cluster_rules}
 use Rattle.icu_segmenter.specs.LineBreaks.{LineRules, line_boundaries_of, with_words as lines_with_words}
@@ -24,7 +25,15 @@ use Rattle.segment.specs.declared.command.Request.{Request}
 use Rattle.segment.specs.declared.segmenter.Segmenter.{Segmenter}
 use Rattle.segment.specs.declared.segmenter.Segmenter.TheVariants.{Clusters, Words, WordsAlone, Sentences, Lines}
 
--- the segments of some bytes, which are seen as UTF-8
+-- the boundaries of some bytes, which are seen as UTF-8
+abbrev pub boundaries_by : Segmenter → List ℕ → List Boundary
+boundaries_by (Clusters clusters) bytes = boundaries_of (owned_cluster_rules clusters) (utf8 bytes)
+boundaries_by (Words words) bytes = word_boundaries_of (owned_word_rules words) (utf8 bytes)
+boundaries_by (WordsAlone words) bytes = word_boundaries_of (owned_word_rules words) (utf8 bytes)
+boundaries_by (Sentences sentences) bytes = boundaries_of (owned_sentence_rules sentences) (utf8 bytes)
+boundaries_by (Lines lines) bytes = line_boundaries_of (owned_line_rules lines) (utf8 bytes)
+
+-- the segments of such bytes
 abbrev pub segments_by : Segmenter → List ℕ → List (ℕ × ℕ)
 segments_by (Clusters clusters) bytes = segments (offsets (boundaries_of (owned_cluster_rules clusters) (utf8 bytes)))
 segments_by (Words words) bytes = segments (offsets (word_boundaries_of (owned_word_rules words) (utf8 bytes)))

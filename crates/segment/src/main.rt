@@ -12,6 +12,7 @@ mod job;
 mod machine_lines;
 mod memo;
 mod output;
+mod parts;
 mod run;
 mod segmenter;
 mod wrapped;

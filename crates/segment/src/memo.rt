@@ -79,7 +79,7 @@ fn print_places<O: Write>(
         Ok(memo) => MemoPlaces { memo },
         Err(error) => return Err(Fault::Memo(error)),
     };
-    match print_segments(alloc, &mut places, text, style, out) {
+    match print_segments(alloc, &mut places, text, 0, style, out) {
         Ok(segments) => {
             let lookups = places.memo.lookups();
             Ok(Found { segments, lookups })
@@ -105,7 +105,7 @@ fn print_typed<O: Write>(
         Ok(memo) => MemoWords { memo },
         Err(error) => return Err(Fault::Memo(error)),
     };
-    match print_words(alloc, &mut words, text, style, out) {
+    match print_words(alloc, &mut words, text, 0, style, out) {
         Ok(segments) => {
             let lookups = words.memo.lookups();
             Ok(Found { segments, lookups })

@@ -4,7 +4,7 @@ ghost use Rattle.std.specs.Io.KnownBytes.{Appends};
 ghost use Rattle.std.specs.Iterator.{IsFinite, YieldsThen};
 ghost use Rattle.std.specs.List.{slice_range};
 ghost use Rattle.icu_segmenter.specs.declared.options.WordType.{WordType};
-ghost use Rattle.segment.specs.Output.{count_line, ended, segments, words_alone, line_of, lines_of};
+ghost use Rattle.segment.specs.Output.{count_line, ended, segments, words_alone, line_at, lines_at};
 
 use crate::escapes::push_escaped;
 use icu_segmenter::options::WordType;
@@ -45,12 +45,14 @@ struct Lines {
     count: usize,
 }
 
-/// Writes the segments between each two places that come, flushes, and says how many there were. The errors are the writer's, and
-/// want of memory, also where there are more segments than a `usize` counts.
+/// Writes the segments between each two places that come, of a text or of a part of one before which so many bytes stand, flushes, and
+/// says how many there were. The errors are the writer's, and want of memory, also where there are more segments, or bytes in all, than
+/// a `usize` counts.
 pub fn print_segments<N: Iterator<Item = usize>, O: Write>(
     alloc: Global,
     places: &mut N,
     text: &[u8],
+    before: usize,
     style: Style,
     out: &mut O,
 ) -> io::Result<usize>
@@ -58,12 +60,12 @@ pub fn print_segments<N: Iterator<Item = usize>, O: Write>(
     requires ends { IsFinite (N.remaining places.old) }
     ensures { IfOk result (λ count. (given : List ℕ) × YieldsThen N.next_gives places.old given None places.new
         × (count ≡ length (segments given))
-        × Appends (O.contents out.old) (O.contents out.new) (lines_of style text.now (segments given))) }
+        × Appends (O.contents out.old) (O.contents out.new) (lines_at style before text.now (segments given))) }
 {
     let mut lines = no_lines(alloc)?;
     let mut start = None;
     'places: while let Some(end) = places.next() {
-        push_ended(text, start, end, style, &mut lines)?;
+        push_ended(text, before, start, end, style, &mut lines)?;
         if lines.bytes.len() >= LINES_LEN {
             write_lines(&mut lines.bytes, out)?;
         }
@@ -75,11 +77,12 @@ pub fn print_segments<N: Iterator<Item = usize>, O: Write>(
 }
 
 /// Writes the words between each two places that come with the type of what ends there, flushes, and says how many there were. The
-/// errors are the writer's, and want of memory, also where there are more words than a `usize` counts.
+/// errors are the writer's, and want of memory, as those of `print_segments`.
 pub fn print_words<N: Iterator<Item = (usize, WordType)>, O: Write>(
     alloc: Global,
     boundaries: &mut N,
     text: &[u8],
+    before: usize,
     style: Style,
     out: &mut O,
 ) -> io::Result<usize>
@@ -87,13 +90,13 @@ pub fn print_words<N: Iterator<Item = (usize, WordType)>, O: Write>(
     requires ends { IsFinite (N.remaining boundaries.old) }
     ensures { IfOk result (λ count. (given : List (ℕ × WordType)) × YieldsThen N.next_gives boundaries.old given None boundaries.new
         × (count ≡ length (words_alone given))
-        × Appends (O.contents out.old) (O.contents out.new) (lines_of style text.now (words_alone given))) }
+        × Appends (O.contents out.old) (O.contents out.new) (lines_at style before text.now (words_alone given))) }
 {
     let mut lines = no_lines(alloc)?;
     let mut start = None;
     'boundaries: while let Some((end, kind)) = boundaries.next() {
         if kind.is_word_like() {
-            push_ended(text, start, end, style, &mut lines)?;
+            push_ended(text, before, start, end, style, &mut lines)?;
             if lines.bytes.len() >= LINES_LEN {
                 write_lines(&mut lines.bytes, out)?;
             }
@@ -157,18 +160,19 @@ pub fn write_lines<O: Write>(lines: &mut Vec<u8>, out: &mut O) -> io::Result<()>
 #[inline(always)]
 fn push_ended(
     text: &[u8],
+    before: usize,
     start: Option<usize>,
     end: usize,
     style: Style,
     lines: &mut Lines,
 ) -> Result<(), AllocError>
-    ensures { OnOk result ((lines.new.bytes.items ≡ lines.old.bytes.items ++ lines_of style text.now (ended start end))
+    ensures { OnOk result ((lines.new.bytes.items ≡ lines.old.bytes.items ++ lines_at style before text.now (ended start end))
         × (lines.new.count ≡ lines.old.count + length (ended start end))) }
 {
     let Some(start) = start else {
         return Ok(());
     };
-    push_line(text, start, end, style, &mut lines.bytes)?;
+    push_line(text, before, start, end, style, &mut lines.bytes)?;
     lines.count = lines.count.checked_add(1).ok_or(AllocError)?;
     Ok(())
 }
@@ -177,12 +181,13 @@ fn push_ended(
 #[inline(always)]
 fn push_line(
     text: &[u8],
+    before: usize,
     start: usize,
     end: usize,
     style: Style,
     lines: &mut Vec<u8>,
 ) -> Result<(), AllocError>
-    ensures { OnOk result (lines.new.items ≡ lines.old.items ++ line_of style text.now (start, end)) }
+    ensures { OnOk result (lines.new.items ≡ lines.old.items ++ line_at style before text.now (start, end)) }
 {
     match style {
         Style::Escaped => {
@@ -198,8 +203,8 @@ fn push_line(
             lines.extend_from_slice(b"\0")
         }
         Style::Offsets => {
-            push_number(start, b' ', lines)?;
-            push_number(end, b'\n', lines)
+            push_number(before.checked_add(start).ok_or(AllocError)?, b' ', lines)?;
+            push_number(before.checked_add(end).ok_or(AllocError)?, b'\n', lines)
         }
         Style::Counted => Ok(()),
     }

@@ -1,8 +1,8 @@
 //! The program, over any reader and writer.
-ghost use Rattle.std.specs.Prelude.{◌≡◌, option_map, IfErr, IfOk, IfSome, OnOk};
+ghost use Rattle.std.specs.Prelude.{◌≡◌, ◌⊎◌, false, option_map, IfErr, IfOk, IfSome, OnOk};
 ghost use Rattle.std.specs.Io.KnownBytes.{Appends, IsAtEnd};
-ghost use Rattle.segment.specs.Fault.{IsBeforeWriting};
-ghost use Rattle.segment.specs.Job.{output_of, printed_by, IsFound};
+ghost use Rattle.segment.specs.Fault.{IsBeforeWriting, IsReadFault};
+ghost use Rattle.segment.specs.Job.{is_parted, output_of, printed_by, IsBegunBy, IsFound};
 
 use crate::command::Engine;
 use crate::fault::Fault;
@@ -10,12 +10,14 @@ use crate::found::Found;
 use crate::job::Job;
 use crate::memo::print_by_memo;
 use crate::output::write_count;
+use crate::parts::print_parts;
 use std::alloc::Global;
 use std::io::{Read, Write};
 
 /// Does to what a reader has what a job says, and writes it: each segment on a line of its own, how many there are, with the reader's
-/// name if it has one, or the wrapped lines. What is written doesn't depend on the engine. The errors are those of the reader and of the
-/// memoised engine, which are met before anything is written, and of the writer.
+/// name if it has one, or the wrapped lines. What is written doesn't depend on the engine. Where the plain engine cuts texts behind their
+/// line feeds, lines are written as they come. The errors are those of the reader and of the memoised engine, which are met before
+/// anything is written, but that of a reader after the lines that it gave, and of the writer.
 pub fn run<I: Read, O: Write>(
     alloc: Global,
     job: &Job,
@@ -26,10 +28,11 @@ pub fn run<I: Read, O: Write>(
     ensures read_all { OnOk result (IsAtEnd (I.remaining input.new)) }
     ensures written { IfOk result (λ found. IfSome (I.remaining input.old) (λ bytes. IsFound job.now bytes found
         × Appends (O.contents out.old) (O.contents out.new) (output_of job.now (option_map (λ name. name.now) name.entry) bytes))) }
-    ensures unwritten { IfErr result (λ fault. IsBeforeWriting fault → out.new ≡ out.old) }
+    ensures unwritten { IfErr result (λ fault. IsBeforeWriting fault → is_parted job.now ≡ false → out.new ≡ out.old) }
+    ensures begun { IfErr result (λ fault. IsReadFault fault → (out.new ≡ out.old)
+        ⊎ IsBegunBy job.now (I.remaining input.old) (I.remaining input.new) (O.contents out.old) (O.contents out.new)) }
 {
-    let text = read_text(alloc, input)?;
-    let found = print_job(alloc, job, text.as_slice(), out)?;
+    let found = print_job(alloc, job, input, out)?;
     if !job.is_counted() {
         return Ok(found);
     }
@@ -49,15 +52,53 @@ fn read_text<I: Read>(alloc: Global, input: &mut I) -> Result<Vec<u8>, Fault>
     Ok(text)
 }
 
+// Writes the segments of what a reader has, each on a line of its own, unless they are only counted, or its wrapped lines.
+fn print_job<I: Read, O: Write>(
+    alloc: Global,
+    job: &Job,
+    input: &mut I,
+    out: &mut O,
+) -> Result<Found, Fault>
+    ensures read_all { OnOk result (IsAtEnd (I.remaining input.new)) }
+    ensures written { IfOk result (λ found. IfSome (I.remaining input.old) (λ bytes. IsFound job.now bytes found
+        × Appends (O.contents out.old) (O.contents out.new) (printed_by job.now bytes))) }
+    ensures unwritten { IfErr result (λ fault. IsBeforeWriting fault → is_parted job.now ≡ false → out.new ≡ out.old) }
+    ensures begun { IfErr result (λ fault. IsReadFault fault → (out.new ≡ out.old)
+        ⊎ IsBegunBy job.now (I.remaining input.old) (I.remaining input.new) (O.contents out.old) (O.contents out.new)) }
+{
+    if let Job::Cut(segmenter, style, Engine::Plain) = job {
+        if segmenter.has_parts() {
+            return print_parts(alloc, segmenter, *style, input, out);
+        }
+    }
+    print_whole(alloc, job, input, out)
+}
+
+// The same of all that a reader has at once.
+fn print_whole<I: Read, O: Write>(
+    alloc: Global,
+    job: &Job,
+    input: &mut I,
+    out: &mut O,
+) -> Result<Found, Fault>
+    ensures read_all { OnOk result (IsAtEnd (I.remaining input.new)) }
+    ensures written { IfOk result (λ found. IfSome (I.remaining input.old) (λ bytes. IsFound job.now bytes found
+        × Appends (O.contents out.old) (O.contents out.new) (printed_by job.now bytes))) }
+    ensures unwritten { IfErr result (λ fault. IsBeforeWriting fault → out.new ≡ out.old) }
+{
+    let text = read_text(alloc, input)?;
+    print_text(alloc, job, text.as_slice(), out)
+}
+
 // Writes the segments of a text, each on a line of its own, unless they are only counted, or its wrapped lines.
-fn print_job<O: Write>(alloc: Global, job: &Job, text: &[u8], out: &mut O) -> Result<Found, Fault>
+fn print_text<O: Write>(alloc: Global, job: &Job, text: &[u8], out: &mut O) -> Result<Found, Fault>
     ensures written { IfOk result (λ found. IsFound job.now text.now found
         × Appends (O.contents out.old) (O.contents out.new) (printed_by job.now text.now)) }
     ensures unwritten { IfErr result (λ fault. IsBeforeWriting fault → out.new ≡ out.old) }
 {
     match job {
         Job::Cut(segmenter, style, Engine::Plain) => {
-            match segmenter.print(alloc, text, *style, out) {
+            match segmenter.print(alloc, text, 0, *style, out) {
                 Ok(segments) => Ok(Found {
                     segments,
                     lookups: 0,

@@ -1,17 +1,21 @@
 //! Segmenters by Unicode's data.
-ghost use Rattle.std.specs.Prelude.{◌≡◌, length, IfOk};
+ghost use Rattle.std.specs.Prelude.{◌≡◌, length, IfOk, IsTrue};
 ghost use Rattle.std.specs.Io.KnownBytes.{Appends};
-ghost use Rattle.segment.specs.Output.{lines_of};
+ghost use Rattle.segment.specs.Output.{lines_at};
+ghost use Rattle.icu_segmenter.specs.Boundaries.{IsCover};
 ghost use Rattle.icu_segmenter.specs.Lines.{owned_line_rules};
+ghost use Rattle.icu_segmenter.specs.NearBoundaries.{line_feed};
+ghost use Rattle.icu_segmenter.specs.Parted.{PartsBehind};
 ghost use Rattle.icu_segmenter.specs.ScriptWords.{script_words};
 ghost use Rattle.icu_segmenter.specs.WordRules.{machine_words};
 ghost use Rattle.icu_segmenter.specs.Words.{owned_word_rules};
 ghost use Rattle.icu_segmenter_data.specs.Unicode.{cluster_table, word_machine};
-ghost use Rattle.segment.specs.Segmenter.{segments_by, rules_with, AreOptions, IsAskedOf};
+ghost use Rattle.segment.specs.Segmenter.{boundaries_by, segments_by, rules_with, AreOptions, IsAskedOf};
 
 use crate::command::{Kind, Request};
 use crate::output::{Style, print_segments, print_words};
 use anyhow::Result;
+use icu_segmenter::cursor::Segmenter as Cursor;
 use icu_segmenter::options::LineBreakOptions;
 use icu_segmenter::provider::Dictionaries;
 use icu_segmenter::{GraphemeClusterSegmenter, LineSegmenter, SentenceSegmenter, WordSegmenter};
@@ -36,39 +40,70 @@ pub enum Segmenter {
 }
 
 impl Segmenter {
-    /// Writes the segments of a text, each on a line of its own, flushes, and says how many there are. The errors are the writer's, and
-    /// want of memory.
+    /// Writes the segments of a text, or of a part of one before which so many bytes stand, each on a line of its own, flushes, and says
+    /// how many there are. The errors are the writer's, and want of memory.
     pub fn print<O: Write>(
         &self,
         alloc: Global,
         text: &[u8],
+        before: usize,
         style: Style,
         out: &mut O,
     ) -> io::Result<usize>
         ensures { IfOk result (λ count. (count ≡ length (segments_by self.now text.now))
-            × Appends (O.contents out.old) (O.contents out.new) (lines_of style text.now (segments_by self.now text.now))) }
+            × Appends (O.contents out.old) (O.contents out.new) (lines_at style before text.now (segments_by self.now text.now))) }
     {
         match self {
             Segmenter::Clusters(clusters) => {
                 let mut places = clusters.as_borrowed().segment_utf8(text);
-                print_segments(alloc, &mut places, text, style, out)
+                print_segments(alloc, &mut places, text, before, style, out)
             }
             Segmenter::Words(words) => {
                 let mut places = words.as_borrowed().segment_utf8(text);
-                print_segments(alloc, &mut places, text, style, out)
+                print_segments(alloc, &mut places, text, before, style, out)
             }
             Segmenter::WordsAlone(words) => {
                 let words = words.as_borrowed().segment_utf8(text);
-                print_words(alloc, &mut words.iter_with_word_type(), text, style, out)
+                let mut words = words.iter_with_word_type();
+                print_words(alloc, &mut words, text, before, style, out)
             }
             Segmenter::Sentences(sentences) => {
                 let mut places = sentences.as_borrowed().segment_utf8(text);
-                print_segments(alloc, &mut places, text, style, out)
+                print_segments(alloc, &mut places, text, before, style, out)
             }
             Segmenter::Lines(lines) => {
                 let mut places = lines.as_borrowed().segment_utf8(text);
-                print_segments(alloc, &mut places, text, style, out)
+                print_segments(alloc, &mut places, text, before, style, out)
             }
+        }
+    }
+}
+
+impl Segmenter {
+    /// Whether a text may be cut part by part, each behind a line feed: each has the boundaries that it has in the whole text. It is so
+    /// by Unicode's machines. Takes no memory.
+    pub fn has_parts(&self) -> bool
+        ensures { IsTrue result → PartsBehind (boundaries_by self.now) line_feed }
+    {
+        match self {
+            Segmenter::Clusters(clusters) => clusters.as_borrowed().parts_behind_line_feeds(),
+            Segmenter::Words(words) => words.as_borrowed().parts_behind_line_feeds(),
+            Segmenter::WordsAlone(words) => words.as_borrowed().parts_behind_line_feeds(),
+            Segmenter::Sentences(sentences) => sentences.as_borrowed().parts_behind_line_feeds(),
+            Segmenter::Lines(lines) => lines.as_borrowed().parts_behind_line_feeds(),
+        }
+    }
+
+    /// The first boundary of a text is at its start, and the last at its end. Takes no memory.
+    pub fn cover(&self, text: &[u8])
+        ensures { IsCover 0 (length text.now) (boundaries_by self.now text.now) }
+    {
+        match self {
+            Segmenter::Clusters(clusters) => clusters.as_borrowed().cover(text),
+            Segmenter::Words(words) => words.as_borrowed().cover(text),
+            Segmenter::WordsAlone(words) => words.as_borrowed().cover(text),
+            Segmenter::Sentences(sentences) => sentences.as_borrowed().cover(text),
+            Segmenter::Lines(lines) => lines.as_borrowed().cover(text),
         }
     }
 }

@@ -1,6 +1,6 @@
 -- What has been written so far, and then what is gathered, is the lines of the segments between the places so far.
 use Rattle.std.proofs.Common.{◌≡◌, length}
-use Rattle.segment.specs.Output.{segments, lines_of}
+use Rattle.segment.specs.Output.{segments, lines_at}
 use Rattle.segment.proofs.Gathered.{AreGathered}
 use Rattle.segment.proofs.Segments.{last}
 use Rattle.segment.proofs.output.print_segments.Given as goal
@@ -8,5 +8,5 @@ use Rattle.segment.proofs.output.print_segments.Given as goal
 abbrev pub invariant-places : goal.invariant-places
 invariant-places g l =
     (l.start ≡ last l.yielded)
-    × AreGathered (g.O.Write.contents l.fn.out) (g.O.Write.contents l.out) l.lines.bytes.items (lines_of l.style l.text (segments l.yielded))
+    × AreGathered (g.O.Write.contents l.fn.out) (g.O.Write.contents l.out) l.lines.bytes.items (lines_at l.style l.before l.text (segments l.yielded))
     × (l.lines.count ≡ length (segments l.yielded))

@@ -1,0 +1,8 @@
+-- What is read is the whole text.
+use Rattle.segment.proofs.Counted.{whole-found}
+use Rattle.segment.proofs.run.print_whole.Goals as goal
+
+pub returns-clause-written : goal.returns-clause-written
+returns-clause-written g c =
+    whole-found c.args.job.now (g.I.Read.remaining c.args.input.now) c.in_ok-text.text.items c.as_slice.result.now _ _ c.print_text.result c.in_ok-text.ensures.bytes c.as_slice.ensures.value
+    c.print_text.ensures.written
