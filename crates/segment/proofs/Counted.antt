@@ -1,13 +1,12 @@
 -- How many segments there are is written after what is printed, where they are only counted.
-use Rattle.std.proofs.Common.{◌≡◌, ℕ, true, false, Option, None, Some, List, IfErr, IfOk, IfSome, Result, Ok, Err, ◌⊎◌, inl, append-nil, length, refl, subst}
+use Rattle.std.proofs.Common.{◌≡◌, ℕ, true, false, Option, None, Some, List, IfErr, IfOk, IfSome, Result, Ok, Err, ◌⊎◌, inl, append-nil, length}
 use Rattle.std.proofs.KnownBytes.{Appends-trans}
 use Rattle.std.specs.Io.KnownBytes.{Appends}
 use Rattle.segment.specs.Fault.{IsBeforeWriting, IsReadFault}
 use Rattle.segment.specs.Job.{count_by, is_counted, is_parted, output_of, printed_by, IsBegunBy, IsFound}
-use Rattle.segment.specs.Output.{count_line, lines_at, lines_of}
+use Rattle.segment.specs.Output.{count_line, lines_of}
 use Rattle.segment.specs.Parts.{IsBegun}
 use Rattle.segment.specs.Segmenter.{segments_by}
-use Rattle.segment.specs.declared.command.Engine.{Engine}
 use Rattle.segment.specs.declared.command.Engine.TheVariants.{Plain, Memoised}
 use Rattle.segment.specs.declared.fault.Fault.{Fault}
 use Rattle.segment.specs.declared.fault.Fault.TheVariants.{Read, Memo, Write}
@@ -15,7 +14,6 @@ use Rattle.segment.specs.declared.found.Found.{Found}
 use Rattle.segment.specs.declared.job.Job.{Job}
 use Rattle.segment.specs.declared.output.Style.{Style}
 use Rattle.segment.specs.declared.segmenter.Segmenter.{Segmenter}
-use Rattle.segment.proofs.JoinedCuts.{lines-at_zero}
 use Rattle.segment.specs.declared.job.Job.TheVariants.{Cut, Wrap}
 
 count-is : (job : Job) (bytes : List ℕ) (found : Found) → IsFound job bytes found → found.segments ≡ count_by job bytes
@@ -88,11 +86,3 @@ module _ (segmenter : Segmenter) (style : Style) (job : Job) (is : job ≡ Cut s
       → IfErr r (λ fault. IsReadFault fault → P ⊎ IsBegunBy job from to old new)
   parted-begun P to old new (Ok found) begun = tt
   parted-begun P to old new (Err fault) begun = rw is begun
-
--- a text that is cut at once
-pub whole-printed : (segmenter : Segmenter) (style : Style) (engine : Engine) (job : Job) → job ≡ Cut segmenter style engine → engine ≡ Plain
-    → (text : List ℕ) (count : ℕ) (old new : Option (List ℕ))
-    → (count ≡ length (segments_by segmenter text)) × Appends old new (lines_at style 0 text (segments_by segmenter text))
-    → IsFound job text (record { segments = count; lookups = 0 }) × Appends old new (printed_by job text)
-whole-printed segmenter style engine job is plain text count old new (counted, printed) =
-    rw (is, plain) ((counted, refl), subst (Appends old new) (lines-at_zero style text (segments_by segmenter text)) printed)

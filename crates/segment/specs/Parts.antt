@@ -1,5 +1,5 @@
 -- Texts that are cut part by part, as they come.
-use Rattle.std.specs.Prelude.{◌≡◌, ◌⊎◌, ℕ, ◌+◌, Option, List, [], ◌++◌, length}
+use Rattle.std.specs.Prelude.{◌≡◌, ◌⊎◌, ℕ, ◌+◌, Option, List, ◌++◌, length}
 use Rattle.std.specs.Io.KnownBytes.{Appends, Consumes}
 use Rattle.icu_segmenter.specs.Boundaries.{IsCover}
 use Rattle.icu_segmenter.specs.NearBoundaries.{line_feed}

@@ -98,7 +98,7 @@ fn print_text<O: Write>(alloc: Global, job: &Job, text: &[u8], out: &mut O) -> R
 {
     match job {
         Job::Cut(segmenter, style, Engine::Plain) => {
-            match segmenter.print(alloc, text, 0, *style, out) {
+            match segmenter.print_whole(alloc, text, *style, out) {
                 Ok(segments) => Ok(Found {
                     segments,
                     lookups: 0,

@@ -1,7 +1,7 @@
 //! Segmenters by Unicode's data.
 ghost use Rattle.std.specs.Prelude.{◌≡◌, length, IfOk, IsTrue};
 ghost use Rattle.std.specs.Io.KnownBytes.{Appends};
-ghost use Rattle.segment.specs.Output.{lines_at};
+ghost use Rattle.segment.specs.Output.{lines_at, lines_of};
 ghost use Rattle.icu_segmenter.specs.Boundaries.{IsCover};
 ghost use Rattle.icu_segmenter.specs.Lines.{owned_line_rules};
 ghost use Rattle.icu_segmenter.specs.NearBoundaries.{line_feed};
@@ -76,6 +76,20 @@ impl Segmenter {
                 print_segments(alloc, &mut places, text, before, style, out)
             }
         }
+    }
+
+    /// The same of a whole text.
+    pub fn print_whole<O: Write>(
+        &self,
+        alloc: Global,
+        text: &[u8],
+        style: Style,
+        out: &mut O,
+    ) -> io::Result<usize>
+        ensures { IfOk result (λ count. (count ≡ length (segments_by self.now text.now))
+            × Appends (O.contents out.old) (O.contents out.new) (lines_of style text.now (segments_by self.now text.now))) }
+    {
+        self.print(alloc, text, 0, style, out)
     }
 }
 

@@ -1,5 +1,5 @@
 -- Each read adds a block, and the last one gives nothing.
-use Rattle.std.proofs.Common.{ℕ, List, sym, ap, subst, take, refl}
+use Rattle.std.proofs.Common.{ℕ, sym, ap, subst, take, refl}
 use Rattle.std.proofs.KnownBytes.{Consumes-nil}
 use Rattle.std.specs.Io.KnownBytes.{Consumes}
 use Rattle.segment.proofs.PartedText.{all-found, begun, keeps-nothing, under-way, unless-ok}
