@@ -156,10 +156,11 @@ def ask_manual(program, path):
     def help_of(*words):
         return subprocess.run([program, *words, "--help"], capture_output=True, text=True, timeout=60, check=True).stdout
 
-    kinds = re.findall(r"(?m)^  ([a-z]+)  ", help_of())
+    kinds = [kind for kind in re.findall(r"(?m)^  ([a-z]+)  ", help_of()) if kind != "help"]
     with open(path, encoding="ascii") as it:
-        written = options_of(it.read().replace("\\-", "-"))
+        options = it.read().partition(".SH EXAMPLES")[0]
     wanted = options_of("".join([help_of(), *map(help_of, kinds)]))
+    written = options_of(options.replace("\\-", "-"))
     if kinds and written == wanted:
         return 1, 0
     print(f"{path} ({os.path.basename(program)}): {sorted(written ^ wanted)} not in both")
