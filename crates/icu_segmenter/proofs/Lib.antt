@@ -1,5 +1,6 @@
 pub mod Callers
 mod Cutting
 mod Whole
+mod Hints
 mod Nearest
 mod Parts

@@ -9,7 +9,7 @@
 //! words.segment_str("one 42.").words()                (0, "one", Letter) (4, "42", Number)
 //! ```
 
-ghost use Rattle.std.specs.Prelude.{◌≡◌, ℕ, ◌<◌, ◌≤◌, List, All, length};
+ghost use Rattle.std.specs.Prelude.{◌≡◌, ℕ, ◌<◌, ◌≤◌, ⊤, List, All, length};
 ghost use Rattle.std.specs.List.{flat_map};
 ghost use Rattle.std.specs.Iterator.{YieldsFirst, YieldsFirstBy, item_count};
 ghost use Rattle.seg_text.specs.declared.boundary.Boundary.{Boundary};
@@ -25,6 +25,7 @@ mod units;
 mod word_breaks;
 
 use seg_words::word::WordType;
+use std::alloc::AllocError;
 use std::marker::Model;
 pub use units::Units;
 
@@ -61,6 +62,10 @@ pub trait BreakIterator: Drop + Sized {
     /// The next boundary, as its place and what its status says. None at the end, and from then on.
     fn next_break(&mut self) -> Option<(usize, Self::Mark)>
         ensures { YieldsFirst (λ s. marked mark (left s)) self.old result self.new };
+
+    /// The same boundaries once more, from the same one on. Takes no memory and never fails.
+    fn fork(&self) -> Self
+        ensures { result ≡ self.now };
 
     /// Law: a text may be cut at the places of its items.
     ghost places: { (text : Self.Units) (place : ℕ) → IsPlace (decode (Self.Units.units text)) place → Self.Units.MayCut text place };
@@ -112,6 +117,17 @@ pub trait BreakIterator: Drop + Sized {
     }
 }
 
+// The clone of what can always be cloned.
+fn copy_of<T: Clone>(value: &T) -> T
+    requires { T.is_infallible value.now }
+    ensures { T.is_clone value.now result }
+{
+    let Ok(copy) = value.clone() else {
+        unreachable!()
+    };
+    copy
+}
+
 /// An iterator over the boundaries of words.
 pub trait WordBreaks: BreakIterator<Mark = WordType> {
     /// The words of a text, each with the place where it begins and its type: those segments whose type isn't `None`. Takes no memory.
@@ -147,6 +163,29 @@ impl<B: BreakIterator> Model for MarkedSegments<B> {
     ghost invariant = { λ s. AreCuts (B.Units.MayCut s.text) s.from (marked B.mark (B.left s.breaks)) (length (B.Units.units s.text)) };
 }
 
+impl<B: BreakIterator> MarkedSegments<B> {
+    // The same segments once more, from the same one on.
+    fn fork(&self) -> Self
+        ensures { result ≡ self.now }
+    {
+        MarkedSegments {
+            breaks: self.breaks.fork(),
+            text: self.text,
+            from: self.from,
+        }
+    }
+}
+
+impl<B: BreakIterator> Clone for MarkedSegments<B> {
+    ghost is_clone = { λ s r. r ≡ s };
+
+    ghost is_infallible = { λ _. ⊤ };
+
+    fn clone(&self) -> Result<Self, AllocError> {
+        Ok(self.fork())
+    }
+}
+
 impl<B: BreakIterator> Iterator for MarkedSegments<B> {
     type Item = (usize, B::Units, B::Mark);
 
@@ -160,12 +199,29 @@ impl<B: BreakIterator> Iterator for MarkedSegments<B> {
         self.from = to;
         Some((from, self.text.part(from, to), mark))
     }
+
+    // Each segment that is left has a unit or more, and the last ends with the text.
+    fn size_hint(&self) -> (usize, Option<usize>) {
+        let units = self.text.len() - self.from;
+        (units.min(1), Some(units))
+    }
 }
 
 /// The segments of a text. After None it is None for ever.
 #[derive(Drop)]
 pub struct Segments<B: BreakIterator> {
     segments: MarkedSegments<B>,
+}
+
+impl<B: BreakIterator> Clone for Segments<B> {
+    ghost is_clone = { λ s r. r ≡ s };
+
+    ghost is_infallible = { λ _. ⊤ };
+
+    fn clone(&self) -> Result<Self, AllocError> {
+        let segments = self.segments.fork();
+        Ok(Segments { segments })
+    }
 }
 
 impl<B: BreakIterator> Iterator for Segments<B> {
@@ -179,12 +235,27 @@ impl<B: BreakIterator> Iterator for Segments<B> {
         let (_, segment, _) = self.segments.next()?;
         Some(segment)
     }
+
+    fn size_hint(&self) -> (usize, Option<usize>) {
+        self.segments.size_hint()
+    }
 }
 
 /// The segments of a text, each with the place where it begins. After None it is None for ever.
 #[derive(Drop)]
 pub struct SegmentIndices<B: BreakIterator> {
     segments: MarkedSegments<B>,
+}
+
+impl<B: BreakIterator> Clone for SegmentIndices<B> {
+    ghost is_clone = { λ s r. r ≡ s };
+
+    ghost is_infallible = { λ _. ⊤ };
+
+    fn clone(&self) -> Result<Self, AllocError> {
+        let segments = self.segments.fork();
+        Ok(SegmentIndices { segments })
+    }
 }
 
 impl<B: BreakIterator> Iterator for SegmentIndices<B> {
@@ -198,12 +269,27 @@ impl<B: BreakIterator> Iterator for SegmentIndices<B> {
         let (offset, segment, _) = self.segments.next()?;
         Some((offset, segment))
     }
+
+    fn size_hint(&self) -> (usize, Option<usize>) {
+        self.segments.size_hint()
+    }
 }
 
 /// The words of a text, each with the place where it begins and its type. After None it is None for ever.
 #[derive(Drop)]
 pub struct Words<B: BreakIterator<Mark = WordType>> {
     segments: MarkedSegments<B>,
+}
+
+impl<B: BreakIterator<Mark = WordType>> Clone for Words<B> {
+    ghost is_clone = { λ s r. r ≡ s };
+
+    ghost is_infallible = { λ _. ⊤ };
+
+    fn clone(&self) -> Result<Self, AllocError> {
+        let segments = self.segments.fork();
+        Ok(Words { segments })
+    }
 }
 
 impl<B: BreakIterator<Mark = WordType>> Iterator for Words<B> {
@@ -220,5 +306,10 @@ impl<B: BreakIterator<Mark = WordType>> Iterator for Words<B> {
             }
         }
         None
+    }
+
+    // It may be that no segment is a word.
+    fn size_hint(&self) -> (usize, Option<usize>) {
+        (0, self.segments.size_hint().1)
     }
 }

@@ -6,6 +6,7 @@
 //! and isn't proved; nor is it proved that the checks refuse none of them.
 #![tactic(auto)]
 
+pub mod classic;
 mod clusters;
 mod lines;
 mod lines_17;

@@ -1,4 +1,3 @@
-pub mod LooseRows
 pub mod Marks
 pub mod UnitLists
 pub mod UnitVerdicts

@@ -1,5 +1,5 @@
--- What stands between two units, whatever the table says.
-use Rattle.std.specs.Prelude.{ℕ, ◌==◌, ◌&&◌, ◌||◌, not, Bool, true, false, if◌then◌else◌, Option, Some, None, List, [], ◌∷◌, find}
+-- What stands between two units, whatever the table says. Both engines of lines have these rows, each with classes of its own.
+use Rattle.std.specs.Prelude.{ℕ, ◌&&◌, ◌||◌, not, Bool, true, false, if◌then◌else◌, Option, Some, None, List, [], ◌∷◌}
 use Rattle.std.specs.Option.{option_map, option_map_or}
 use Rattle.seg_line_rules.specs.declared.options.LineBreakStrictness.{LineBreakStrictness}
 use Rattle.seg_line_rules.specs.declared.options.LineBreakStrictness.TheVariants as strictness
@@ -16,78 +16,95 @@ is_kept class = is_among (AI ∷ AL ∷ ID ∷ NU ∷ HY ∷ H2 ∷ H3 ∷ JL �
 abbrev pub keeps : LineStyle → LineUnit → LineUnit → Bool
 keeps style left right = is_keep_all style.word_option && is_kept left.class && is_kept right.class
 
--- the Normal list: code points before which a boundary stands in Japanese and Chinese
-abbrev pub is_normal_listed : LineStyle → LineUnit → Bool
-is_normal_listed style right = style.is_ja_or_zh && is_among (0x301C ∷ 0x30A0 ∷ []) right.code_point
-
--- a row of the Loose list: the class of the right unit and its code points, and the class of the left unit, where None is any;
--- a boundary stands between the two always, or else in Japanese and Chinese alone
+-- a row of the Loose list: the classes of the right unit and its code points, the classes of the left unit and its code points, where None is
+-- any; a boundary stands between the two always, or else in Japanese and Chinese alone
 pub record LooseRow : Type 0 where
-  pub right : Option ℕ
-  pub code_points : Option (List ℕ)
-  pub left : Option ℕ
+  pub right : Option (List ℕ)
+  pub right_code_points : Option (List ℕ)
+  pub left : Option (List ℕ)
+  pub left_code_points : Option (List ℕ)
   pub always : Bool
 
-abbrev pub loose_row : Option ℕ → Option (List ℕ) → Option ℕ → Bool → LooseRow
-loose_row right code_points left always = record { right = right; code_points = code_points; left = left; always = always }
+abbrev pub loose_row : Option (List ℕ) → Option (List ℕ) → Option (List ℕ) → Option (List ℕ) → Bool → LooseRow
+loose_row right right_code_points left left_code_points always = record {
+  right = right;
+  right_code_points = right_code_points;
+  left = left;
+  left_code_points = left_code_points;
+  always = always;
+}
 
--- the rows, in their order
+-- the rows by the classes that they speak of
 
-abbrev pub hyphen_row : LooseRow
-hyphen_row = loose_row (Some BA) (Some (0x2010 ∷ 0x2013 ∷ [])) (Some ID) true
+abbrev pub hyphen_row : Option (List ℕ) → List ℕ → LooseRow
+hyphen_row right ideographs = loose_row right (Some (0x2010 ∷ 0x2013 ∷ [])) (Some ideographs) None true
 
-abbrev pub wave_row : LooseRow
-wave_row = loose_row (Some NS) (Some (0x301C ∷ 0x30A0 ∷ [])) None false
+abbrev pub wave_row : List ℕ → LooseRow
+wave_row nonstarters = loose_row (Some nonstarters) (Some (0x301C ∷ 0x30A0 ∷ [])) None None false
 
-abbrev pub iteration_row : LooseRow
-iteration_row = loose_row (Some NS) (Some (0x3005 ∷ 0x303B ∷ 0x309D ∷ 0x309E ∷ 0x30FD ∷ 0x30FE ∷ [])) None true
+abbrev pub iteration_row : List ℕ → LooseRow
+iteration_row nonstarters =
+    loose_row (Some nonstarters) (Some (0x3005 ∷ 0x303B ∷ 0x309D ∷ 0x309E ∷ 0x30FD ∷ 0x30FE ∷ [])) None None true
 
-abbrev pub middle_dot_row : LooseRow
-middle_dot_row = loose_row (Some NS) (Some (0x30FB ∷ 0xFF1A ∷ 0xFF1B ∷ 0xFF65 ∷ 0x203C ∷ 0x2047 ∷ 0x2048 ∷ 0x2049 ∷ [])) None false
+abbrev pub middle_dot_row : List ℕ → LooseRow
+middle_dot_row nonstarters =
+    loose_row (Some nonstarters) (Some (0x30FB ∷ 0xFF1A ∷ 0xFF1B ∷ 0xFF65 ∷ 0x203C ∷ 0x2047 ∷ 0x2048 ∷ 0x2049 ∷ [])) None None false
 
-abbrev pub leader_row : LooseRow
-leader_row = loose_row (Some IN) None (Some IN) true
+abbrev pub leader_row : List ℕ → LooseRow
+leader_row leaders = loose_row (Some leaders) None (Some leaders) None true
 
-abbrev pub exclamation_row : LooseRow
-exclamation_row = loose_row (Some EX) (Some (0xFF01 ∷ 0xFF1F ∷ [])) None false
+abbrev pub exclamation_row : List ℕ → LooseRow
+exclamation_row exclamations = loose_row (Some exclamations) (Some (0xFF01 ∷ 0xFF1F ∷ [])) None None false
 
-abbrev pub postfix_row : LooseRow
-postfix_row = loose_row (Some PO_EAW) None None false
+abbrev pub postfix_row : ℕ → Option (List ℕ) → LooseRow
+postfix_row postfix code_points = loose_row (Some (postfix ∷ [])) code_points None None false
 
-abbrev pub prefix_row : LooseRow
-prefix_row = loose_row None None (Some PR_EAW) false
+abbrev pub prefix_row : ℕ → Option (List ℕ) → LooseRow
+prefix_row prefix code_points = loose_row None None (Some (prefix ∷ [])) code_points false
 
+-- those of pair tables, in their order
 unfoldable pub loose_rows : List LooseRow
 loose_rows =
-    hyphen_row
-    ∷ wave_row
-    ∷ iteration_row
-    ∷ middle_dot_row
-    ∷ leader_row
-    ∷ exclamation_row
-    ∷ postfix_row
-    ∷ prefix_row
+    hyphen_row (Some (BA ∷ [])) (ID ∷ [])
+    ∷ wave_row (NS ∷ [])
+    ∷ iteration_row (NS ∷ [])
+    ∷ middle_dot_row (NS ∷ [])
+    ∷ leader_row (IN ∷ [])
+    ∷ exclamation_row (EX ∷ [])
+    ∷ postfix_row PO_EAW None
+    ∷ prefix_row PR_EAW None
     ∷ []
 
-abbrev pub is_any_or : Option ℕ → ℕ → Bool
-is_any_or wanted class = option_map_or (λ one. class == one) wanted true
+abbrev pub is_any_of : Option (List ℕ) → ℕ → Bool
+is_any_of wanted number = option_map_or (λ (ones : List ℕ). is_among ones number) wanted true
 
-abbrev pub fits : ℕ → ℕ → ℕ → LooseRow → Bool
-fits left right code_point row =
-    is_any_or row.right right && option_map_or (λ (ones : List ℕ). is_among ones code_point) row.code_points true && is_any_or row.left left
+abbrev pub fits : (left left_code_point right right_code_point : ℕ) → LooseRow → Bool
+fits left left_code_point right right_code_point row =
+    is_any_of row.right right && is_any_of row.right_code_points right_code_point && is_any_of row.left left
+    && is_any_of row.left_code_points left_code_point
 
 -- what the first row that fits says, if one fits
-unfoldable pub loose_list : Bool → ℕ → ℕ → ℕ → Option Bool
-loose_list is_ja_or_zh left right code_point =
-    option_map (λ (row : LooseRow). row.always || is_ja_or_zh) (find (fits left right code_point) loose_rows)
+unfoldable pub loose_list : List LooseRow → Bool → (left left_code_point right right_code_point : ℕ) → Option Bool
+loose_list [] is_ja_or_zh left left_code_point right right_code_point = None
+loose_list (row ∷ rows) is_ja_or_zh left left_code_point right right_code_point =
+    if fits left left_code_point right right_code_point row then Some (row.always || is_ja_or_zh)
+    else loose_list rows is_ja_or_zh left left_code_point right right_code_point
 
--- whether a boundary stands between the two units by the list of the strictness, where it decides: none after ZWJ
-abbrev pub listed_by : LineBreakStrictness → LineStyle → LineUnit → LineUnit → Option Bool
-listed_by strictness.Normal style left right = if is_normal_listed style right && not left.is_joined then Some true else None
-listed_by strictness.Loose style left right =
-    option_map (λ breaks. breaks && not left.is_joined) (loose_list style.is_ja_or_zh left.class right.class right.code_point)
-listed_by strictness.Strict style left right = None
-listed_by strictness.Anywhere style left right = None
+-- the Normal list: code points before which a boundary stands in Japanese and Chinese
+abbrev pub is_normal_listed : LineStyle → ℕ → Bool
+is_normal_listed style code_point = style.is_ja_or_zh && is_among (0x301C ∷ 0x30A0 ∷ []) code_point
+
+-- whether a boundary stands between a left unit, which may end with ZWJ, and a right one by the list of the strictness, where it decides:
+-- none after ZWJ
+abbrev pub listed_by : LineBreakStrictness → List LooseRow → LineStyle → (is_joined : Bool) → (left left_code_point right right_code_point : ℕ)
+    → Option Bool
+listed_by strictness.Normal rows style is_joined left left_code_point right right_code_point =
+    if is_normal_listed style right_code_point && not is_joined then Some true else None
+listed_by strictness.Loose rows style is_joined left left_code_point right right_code_point =
+    option_map (λ breaks. breaks && not is_joined) (loose_list rows style.is_ja_or_zh left left_code_point right right_code_point)
+listed_by strictness.Strict rows style is_joined left left_code_point right right_code_point = None
+listed_by strictness.Anywhere rows style is_joined left left_code_point right right_code_point = None
 
 abbrev pub listed : LineStyle → LineUnit → LineUnit → Option Bool
-listed style left right = listed_by style.strictness style left right
+listed style left right =
+    listed_by style.strictness loose_rows style left.is_joined left.class left.code_point right.class right.code_point

@@ -6,7 +6,7 @@ pub mod events;
 pub mod inside_cuts;
 pub mod laws;
 pub mod line_pairs;
-mod lists;
+pub mod lists;
 pub mod options;
 pub mod units;
 pub mod verdicts;

@@ -2,7 +2,6 @@ pub mod TurnForward
 pub mod TurnStretches
 pub mod TurnSets
 pub mod TurnMarks
-pub mod TurnLists
 pub mod TurnPlaces
 pub mod TurnReads
 pub mod TurnEvents

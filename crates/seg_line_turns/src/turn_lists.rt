@@ -1,19 +1,16 @@
-//! What stands between a left unit and a right item, whatever the table says.
-ghost use Rattle.std.specs.Prelude.{◌≡◌, [], ◌∷◌, Some, if◌then◌else◌};
+//! What stands between a left unit and a right item, whatever the table says. The left code point is that of the unit's last item.
+ghost use Rattle.std.specs.Prelude.{◌≡◌, [], ◌∷◌, Some, None};
+ghost use Rattle.seg_line_rules.specs.LineLists.{fits, loose_list, hyphen_row, wave_row, iteration_row, middle_dot_row, leader_row, exclamation_row, postfix_row, prefix_row};
 ghost use Rattle.seg_line_rules.specs.LineRules.{is_among};
-ghost use Rattle.seg_line_turns.specs.TurnLists.{fits, is_kept, keeps, listed, loose_list, hyphens, waves, iterations, middle_dots, leaders, exclamations, wide_postfixes, postfixes, wide_prefixes, prefixes};
+ghost use Rattle.seg_line_turns.specs.TurnClasses.{EX, EX_EASTASIAN, ID, ID_EASTASIAN, IN, IN_EASTASIAN, NS, NS_EASTASIAN, PO, PO_EASTASIAN, PR, PR_EASTASIAN};
+ghost use Rattle.seg_line_turns.specs.TurnLists.{is_kept, keeps, listed, turn_rows};
 
+use seg_line_rules::lists::{
+    Neighbours, by_normal_list, by_row, is_exclamation, is_hyphen, is_iteration, is_middle_dot,
+    is_wave, unless_joined,
+};
 use seg_line_rules::options::{LineBreakStrictness, LineStyle};
 use seg_pair_data::provider::RuleBreakData;
-
-/// Two items side by side: the class of the left unit and the code point of its last item, and those of the right item.
-#[derive(Clone, Copy, Debug)]
-pub(crate) struct Neighbours {
-    pub(crate) left: u8,
-    pub(crate) left_code_point: u32,
-    pub(crate) right: u8,
-    pub(crate) right_code_point: u32,
-}
 
 /// Whether no boundary stands between two classes under `KeepAll`.
 #[tactic(auto, unfolding(crate::specs::TurnLists::keeps))]
@@ -51,24 +48,16 @@ pub(crate) fn listed(style: LineStyle, is_joined: bool, pair: Neighbours) -> Opt
     ensures { result ≡ listed style is_joined pair.left pair.left_code_point pair.right pair.right_code_point }
 {
     match style.strictness {
-        LineBreakStrictness::Normal => {
-            if style.is_ja_or_zh && is_wave(pair.right_code_point) && !is_joined {
-                Some(true)
-            } else {
-                None
-            }
-        }
-        LineBreakStrictness::Loose => match loose(style.is_ja_or_zh, pair) {
-            Some(breaks) => Some(breaks && !is_joined),
-            None => None,
-        },
+        LineBreakStrictness::Normal => by_normal_list(style, is_joined, pair.right_code_point),
+        LineBreakStrictness::Loose => unless_joined(is_joined, loose(style.is_ja_or_zh, pair)),
         _ => None,
     }
 }
 
 /// What the first row of the loose list says that fits, if one fits.
+#[tactic(auto, unfolding(seg_line_rules::specs::LineLists::loose_list, crate::specs::TurnLists::turn_rows))]
 fn loose(is_ja_or_zh: bool, pair: Neighbours) -> Option<bool>
-    ensures { result ≡ loose_list is_ja_or_zh pair.left pair.left_code_point pair.right pair.right_code_point }
+    ensures { result ≡ loose_list turn_rows is_ja_or_zh pair.left pair.left_code_point pair.right pair.right_code_point }
 {
     let from_prefixes = by_row(fits_prefixes(pair), is_ja_or_zh, None);
     let from_wide_prefixes = by_row(fits_wide_prefixes(pair), is_ja_or_zh, from_prefixes);
@@ -82,60 +71,39 @@ fn loose(is_ja_or_zh: bool, pair: Neighbours) -> Option<bool>
     by_row(fits_hyphens(pair), true, from_waves)
 }
 
-/// What a row says where it fits, or else what the rows after it say.
-fn by_row(fits: bool, breaks: bool, otherwise: Option<bool>) -> Option<bool>
-    ensures { result ≡ (if fits then Some breaks else otherwise) }
-{
-    if fits { Some(breaks) } else { otherwise }
-}
-
 /// Whether the row of hyphens fits.
 fn fits_hyphens(pair: Neighbours) -> bool
-    ensures { result ≡ fits pair.left pair.left_code_point pair.right pair.right_code_point hyphens }
+    ensures { result ≡ fits pair.left pair.left_code_point pair.right pair.right_code_point (hyphen_row None (ID ∷ ID_EASTASIAN ∷ [])) }
 {
-    (pair.right_code_point == 0x2010 || pair.right_code_point == 0x2013)
+    is_hyphen(pair.right_code_point)
         && (pair.left == RuleBreakData::LINE_V3_PROPERTY_ID
             || pair.left == RuleBreakData::LINE_V3_PROPERTY_ID_EASTASIAN)
 }
 
 /// Whether the row of wave dashes fits.
 fn fits_waves(pair: Neighbours) -> bool
-    ensures { result ≡ fits pair.left pair.left_code_point pair.right pair.right_code_point waves }
+    ensures { result ≡ fits pair.left pair.left_code_point pair.right pair.right_code_point (wave_row (NS ∷ NS_EASTASIAN ∷ [])) }
 {
     is_nonstarter(pair.right) && is_wave(pair.right_code_point)
 }
 
 /// Whether the row of iteration marks fits.
 fn fits_iterations(pair: Neighbours) -> bool
-    ensures { result ≡ fits pair.left pair.left_code_point pair.right pair.right_code_point iterations }
+    ensures { result ≡ fits pair.left pair.left_code_point pair.right pair.right_code_point (iteration_row (NS ∷ NS_EASTASIAN ∷ [])) }
 {
-    is_nonstarter(pair.right)
-        && (pair.right_code_point == 0x3005
-            || pair.right_code_point == 0x303B
-            || pair.right_code_point == 0x309D
-            || pair.right_code_point == 0x309E
-            || pair.right_code_point == 0x30FD
-            || pair.right_code_point == 0x30FE)
+    is_nonstarter(pair.right) && is_iteration(pair.right_code_point)
 }
 
 /// Whether the row of middle dots, colons and doubled signs fits.
 fn fits_middle_dots(pair: Neighbours) -> bool
-    ensures { result ≡ fits pair.left pair.left_code_point pair.right pair.right_code_point middle_dots }
+    ensures { result ≡ fits pair.left pair.left_code_point pair.right pair.right_code_point (middle_dot_row (NS ∷ NS_EASTASIAN ∷ [])) }
 {
-    is_nonstarter(pair.right)
-        && (pair.right_code_point == 0x30FB
-            || pair.right_code_point == 0xFF1A
-            || pair.right_code_point == 0xFF1B
-            || pair.right_code_point == 0xFF65
-            || pair.right_code_point == 0x203C
-            || pair.right_code_point == 0x2047
-            || pair.right_code_point == 0x2048
-            || pair.right_code_point == 0x2049)
+    is_nonstarter(pair.right) && is_middle_dot(pair.right_code_point)
 }
 
 /// Whether the row of leaders fits.
 fn fits_leaders(pair: Neighbours) -> bool
-    ensures { result ≡ fits pair.left pair.left_code_point pair.right pair.right_code_point leaders }
+    ensures { result ≡ fits pair.left pair.left_code_point pair.right pair.right_code_point (leader_row (IN ∷ IN_EASTASIAN ∷ [])) }
 {
     (pair.right == RuleBreakData::LINE_V3_PROPERTY_IN
         || pair.right == RuleBreakData::LINE_V3_PROPERTY_IN_EASTASIAN)
@@ -145,23 +113,23 @@ fn fits_leaders(pair: Neighbours) -> bool
 
 /// Whether the row of exclamation and question marks fits.
 fn fits_exclamations(pair: Neighbours) -> bool
-    ensures { result ≡ fits pair.left pair.left_code_point pair.right pair.right_code_point exclamations }
+    ensures { result ≡ fits pair.left pair.left_code_point pair.right pair.right_code_point (exclamation_row (EX ∷ EX_EASTASIAN ∷ [])) }
 {
     (pair.right == RuleBreakData::LINE_V3_PROPERTY_EX
         || pair.right == RuleBreakData::LINE_V3_PROPERTY_EX_EASTASIAN)
-        && (pair.right_code_point == 0xFF01 || pair.right_code_point == 0xFF1F)
+        && is_exclamation(pair.right_code_point)
 }
 
 /// Whether the row of wide signs after numbers fits.
 fn fits_wide_postfixes(pair: Neighbours) -> bool
-    ensures { result ≡ fits pair.left pair.left_code_point pair.right pair.right_code_point wide_postfixes }
+    ensures { result ≡ fits pair.left pair.left_code_point pair.right pair.right_code_point (postfix_row PO_EASTASIAN None) }
 {
     pair.right == RuleBreakData::LINE_V3_PROPERTY_PO_EASTASIAN
 }
 
 /// Whether the row of signs after numbers fits.
 fn fits_postfixes(pair: Neighbours) -> bool
-    ensures { result ≡ fits pair.left pair.left_code_point pair.right pair.right_code_point postfixes }
+    ensures { result ≡ fits pair.left pair.left_code_point pair.right pair.right_code_point (postfix_row PO (Some (0x00B0 ∷ 0x2030 ∷ 0x2032 ∷ 0x2033 ∷ 0x2035 ∷ 0x2103 ∷ 0x2109 ∷ []))) }
 {
     pair.right == RuleBreakData::LINE_V3_PROPERTY_PO
         && (pair.right_code_point == 0x00B0
@@ -175,14 +143,14 @@ fn fits_postfixes(pair: Neighbours) -> bool
 
 /// Whether the row of wide signs before numbers fits.
 fn fits_wide_prefixes(pair: Neighbours) -> bool
-    ensures { result ≡ fits pair.left pair.left_code_point pair.right pair.right_code_point wide_prefixes }
+    ensures { result ≡ fits pair.left pair.left_code_point pair.right pair.right_code_point (prefix_row PR_EASTASIAN None) }
 {
     pair.left == RuleBreakData::LINE_V3_PROPERTY_PR_EASTASIAN
 }
 
 /// Whether the row of signs before numbers fits.
 fn fits_prefixes(pair: Neighbours) -> bool
-    ensures { result ≡ fits pair.left pair.left_code_point pair.right pair.right_code_point prefixes }
+    ensures { result ≡ fits pair.left pair.left_code_point pair.right pair.right_code_point (prefix_row PR (Some (0x00A4 ∷ 0x00B1 ∷ 0x20AC ∷ 0x2116 ∷ []))) }
 {
     pair.left == RuleBreakData::LINE_V3_PROPERTY_PR
         && (pair.left_code_point == 0x00A4
@@ -193,15 +161,8 @@ fn fits_prefixes(pair: Neighbours) -> bool
 
 /// Whether the class is one of those that don't begin a line.
 fn is_nonstarter(class: u8) -> bool
-    ensures { result ≡ is_among (45 ∷ 46 ∷ []) class }
+    ensures { result ≡ is_among (NS ∷ NS_EASTASIAN ∷ []) class }
 {
     class == RuleBreakData::LINE_V3_PROPERTY_NS
         || class == RuleBreakData::LINE_V3_PROPERTY_NS_EASTASIAN
-}
-
-/// Whether the code point is a wave dash, or the double hyphen of katakana.
-fn is_wave(code_point: u32) -> bool
-    ensures { result ≡ is_among (0x301C ∷ 0x30A0 ∷ []) code_point }
-{
-    code_point == 0x301C || code_point == 0x30A0
 }

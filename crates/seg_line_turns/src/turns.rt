@@ -14,10 +14,11 @@ use crate::classes::{
     bears_none, is_before_hyphen, is_before_quote, is_complex, is_glue, is_hyphen, is_opening,
     is_start,
 };
-use crate::turn_lists::{Neighbours, keeps, listed};
+use crate::turn_lists::{keeps, listed};
 use crate::turn_pairs::TurnPairs;
 use crate::turn_units::{Left, Right, TurnOutcome, is_joiner, unless};
 use crate::turn_walk::{Walker, walk};
+use seg_line_rules::lists::Neighbours;
 use seg_pair_data::provider::{BreakState, RuleBreakData};
 use seg_pairs::walk::{entry_after, entry_at_start, is_class, state_named};
 use seg_text::cursor::Cursor;

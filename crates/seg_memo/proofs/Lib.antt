@@ -8,6 +8,7 @@ pub mod Windows
 pub mod Turns
 pub mod Picking
 pub mod Segments
+pub mod Moves
 pub mod Held
 pub mod Different
 pub mod Memoised

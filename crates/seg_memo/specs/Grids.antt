@@ -1,7 +1,7 @@
 -- The table of configurations.
 use Rattle.std.specs.Prelude.{◌≡◌, ℕ, zero, suc, ◌+◌, ◌-◌, ◌*◌, ◌^◌, ◌<◌, ◌≤◌, ◌⊎◌, ◌==◌, ◌||◌, Bool, true, false, if◌then◌else◌, Option, Some, None, List, [], ◌∷◌, drop, length, slice_index_or, slice_set}
 use Rattle.seg_text.specs.declared.boundary.Boundary.{Boundary}
-use Rattle.seg_text.specs.Items.{Item, code_points}
+use Rattle.seg_text.specs.Items.{Item, Text, code_points, rest_after, start_of}
 use Rattle.seg_machine.specs.Machine.{Machine, symbol_count, symbols_of}
 use Rattle.seg_machine.specs.Checked.{IsChecked}
 use Rattle.seg_memo.specs.declared.configuration.Configuration.{Configuration}
@@ -100,6 +100,14 @@ IsRight s c First = ⊥
 IsRight s c (Way state kept stays) = ⊥
 IsRight s c KnownNothing = Nothing ≡ outcome_at s c
 IsRight s c (KnownKept lookahead status) = Kept lookahead status ≡ outcome_at s c
+
+-- a cursor went on from a place over as many items of its text as its place did
+abbrev pub GoesOn : Text → ℕ → Text → ℕ → Type 0
+GoesOn before place after next = (count : ℕ) × (after ≡ rest_after count before) × (next ≡ place + count)
+
+-- where a cursor stands that went on to a place from one where this was left of the text
+abbrev pub StandsAt : Text → ℕ → ℕ → ℕ → Type 0
+StandsAt text place next offset = (after : Text) × GoesOn text place after next × (offset ≡ start_of after)
 
 abbrev pub IsOn : Configuration → List Configuration → Type 0
 IsOn c [] = ⊥

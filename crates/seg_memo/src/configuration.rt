@@ -58,6 +58,7 @@ pub enum Cell {
 }
 
 /// The lookahead and the status of a state's condition, where it holds: the lookahead is in the set.
+#[inline(always)]
 fn condition_held(entry: (Acceptance, Option<Lookahead>), kept: u8) -> Option<(Lookahead, u8)>
     requires { NamesPast 8 entry → ⊥ }
     ensures { result ≡ condition_held kept entry }
@@ -74,6 +75,7 @@ fn condition_held(entry: (Acceptance, Option<Lookahead>), kept: u8) -> Option<(L
 }
 
 /// The set with the lookahead that a state names.
+#[inline(always)]
 fn keep(name: Option<Lookahead>, kept: u8) -> u8
     requires { IfSome name (λ lookahead. lookahead < 8) }
     ensures { result ≡ keep kept name }
@@ -85,6 +87,7 @@ fn keep(name: Option<Lookahead>, kept: u8) -> u8
 }
 
 /// What comes of it that a scan enters a state at a place, where the lookaheads of a set were named before.
+#[inline(always)]
 pub(crate) fn arrive(
     entry: (Acceptance, Option<Lookahead>),
     state: State,
@@ -102,6 +105,7 @@ pub(crate) fn arrive(
 }
 
 /// The outcome before a state that is entered at a place, from that after it.
+#[inline(always)]
 pub(crate) fn entered(
     place: usize,
     entry: (Acceptance, Option<Lookahead>),
@@ -131,6 +135,7 @@ pub(crate) fn entered(
 }
 
 /// The pick that an outcome stands for, where no lookahead was named before.
+#[inline(always)]
 pub(crate) fn picked(outcome: Outcome) -> Option<Boundary>
     ensures { result ≡ picked outcome }
 {
@@ -141,6 +146,7 @@ pub(crate) fn picked(outcome: Outcome) -> Option<Boundary>
 }
 
 /// The outcome that a cell holds.
+#[inline(always)]
 pub(crate) fn known(cell: Cell) -> Option<Outcome>
     ensures { result ≡ known cell }
 {
@@ -152,6 +158,7 @@ pub(crate) fn known(cell: Cell) -> Option<Outcome>
 }
 
 /// The cell that holds an outcome. None holds a segment's end: no later scan comes to such a configuration.
+#[inline(always)]
 pub(crate) fn holding(outcome: Outcome) -> Option<Cell>
     ensures { result ≡ holding outcome }
 {
@@ -163,6 +170,7 @@ pub(crate) fn holding(outcome: Outcome) -> Option<Cell>
 }
 
 /// The cell of a configuration that a scan comes to from another.
+#[inline(always)]
 pub(crate) fn way(before: Configuration, here: Configuration) -> Cell
     ensures { result ≡ way_from before here }
 {
@@ -170,6 +178,7 @@ pub(crate) fn way(before: Configuration, here: Configuration) -> Cell
 }
 
 /// The configuration of a state and a set of lookaheads that a scan came from: at the same place, or at that before.
+#[inline(always)]
 pub(crate) fn before(here: Configuration, state: State, kept: u8, stays: bool) -> Configuration
     requires { stays ≡ false → 0 < here.place }
     ensures { result ≡ came_from here state kept stays }

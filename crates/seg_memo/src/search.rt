@@ -8,7 +8,7 @@ ghost use Rattle.seg_machine.specs.Pick.{pick};
 ghost use Rattle.seg_machine.specs.Tailored.{machine_of};
 ghost use Rattle.seg_memo.specs.Configurations.{Scan, Subject, start_at};
 ghost use Rattle.seg_memo.specs.Outcomes.{look_up, IfLeads};
-ghost use Rattle.seg_memo.specs.Grids.{IsAt, IsBegun, IsMemo, IsReadBy, IsScanned, IsSound, IsWithin, Went};
+ghost use Rattle.seg_memo.specs.Grids.{GoesOn, IsAt, IsBegun, IsMemo, IsReadBy, IsScanned, IsSound, IsWithin, StandsAt, Went};
 ghost use Rattle.seg_memo.specs.Windows.{Keeps};
 
 use crate::configuration::{
@@ -23,6 +23,7 @@ use seg_text::cursor::Cursor;
 
 /// The symbol of the item at a place, and the place after it; at the end of the text the symbol of the end, and the place
 /// stays.
+#[inline(always)]
 fn next_symbol<I: Cursor>(
     machine: &TailoredMachineBorrowed<'_>,
     rest: &mut I,
@@ -35,6 +36,7 @@ fn next_symbol<I: Cursor>(
     ensures symbol { result.0 ≡ slice_index_or subject.symbols place 0 }
     ensures place { result.1 ≡ min (suc place) (length subject.symbols) }
     ensures rest { IsAt subject (machine_of machine.now) result.1 (I.text rest.new).items }
+    ensures goes { GoesOn (I.text rest.old) place (I.text rest.new) result.1 }
 {
     match rest.next_item() {
         Some((_, code_point)) => (machine.symbol(code_point), place + 1),
@@ -43,6 +45,7 @@ fn next_symbol<I: Cursor>(
 }
 
 /// One look-up: what it comes to in a configuration that the text's next item reads the transition.
+#[inline(always)]
 fn look_up<I: Cursor, R: ReadTransitions>(
     machine: &TailoredMachineBorrowed<'_>,
     reader: &mut R,
@@ -58,6 +61,7 @@ fn look_up<I: Cursor, R: ReadTransitions>(
     ensures value { result ≡ look_up subject here }
     ensures within { IfLeads result (IsWithin subject) }
     ensures rest { IfLeads result (λ next. IsAt subject (machine_of machine.now) next.place (I.text rest.new).items) }
+    ensures goes { IfLeads result (λ next. GoesOn (I.text rest.old) here.place (I.text rest.new) next.place) }
     ensures read { IsReadBy subject (machine_of machine.now) (R.states reader.new) (R.transitions reader.new) }
     ensures count { R.counted reader.new ≡ R.counted reader.old + 1 }
 {
@@ -70,14 +74,15 @@ fn look_up<I: Cursor, R: ReadTransitions>(
 }
 
 /// Goes on from the beginning of a scan to a configuration that is known or to the scan's end. Each cell on the way leads
-/// back to the one before. Gives the configuration of the last look-up, and its outcome.
+/// back to the one before. Gives the configuration of the last look-up, its outcome, and where the cursor stood there.
+#[inline(always)]
 fn go_forward<I: Cursor, R: ReadTransitions>(
     machine: &TailoredMachineBorrowed<'_>,
     reader: &mut R,
     table: &mut Table,
     rest: &mut I,
     first: Configuration,
-) -> (Configuration, Outcome)
+) -> (Configuration, Outcome, usize)
     ghost scan: { Scan }
     requires read { IsReadBy scan.subject (machine_of machine.now) (R.states reader.old) (R.transitions reader.old) }
     requires memo { Keeps scan.subject table.old scan.start (R.counted reader.old) (IsBegun scan.subject scan.start) }
@@ -86,17 +91,19 @@ fn go_forward<I: Cursor, R: ReadTransitions>(
     requires some { scan.start < length scan.subject.symbols }
     ensures read { IsReadBy scan.subject (machine_of machine.now) (R.states reader.new) (R.transitions reader.new) }
     ensures went { Keeps scan.subject table.new scan.start (R.counted reader.new) (λ whole. Went scan.subject whole scan.start result.0 result.1) }
+    ensures stands { StandsAt (I.text rest.old) scan.start result.0.place result.2 }
 {
     let mut here = first;
     table.write(here, Cell::First);
     'scan: loop {
+        let stood = rest.place();
         let next = match look_up(machine, reader, rest, here) {
-            LookUp::Ends(outcome) => return (here, outcome),
+            LookUp::Ends(outcome) => return (here, outcome, stood),
             LookUp::Leads(next) => next,
         };
         if let Some(outcome) = known(table.cell(next)) {
             let entry = machine.entry(next.state);
-            return (here, entered(next.place, entry, outcome));
+            return (here, entered(next.place, entry, outcome), stood);
         }
         table.write(next, way(here, next));
         here = next;
@@ -105,6 +112,7 @@ fn go_forward<I: Cursor, R: ReadTransitions>(
 
 /// Goes back over the cells of a scan, and fills each with its outcome, as far as the segment's end. Gives the outcome of
 /// the first.
+#[inline(always)]
 fn go_back(
     machine: &TailoredMachineBorrowed<'_>,
     table: &mut Table,
@@ -132,14 +140,16 @@ fn go_back(
     }
 }
 
-/// The outcome of the configuration that a scan begins in.
+/// The outcome of the configuration that a scan begins in, and the place that it came to last: in items, and where a cursor
+/// stands there.
+#[inline(always)]
 fn outcome_from<I: Cursor, R: ReadTransitions>(
     machine: &TailoredMachineBorrowed<'_>,
     reader: &mut R,
     table: &mut Table,
     rest: &I,
     start: usize,
-) -> Outcome
+) -> (Outcome, usize, usize)
     ghost scan: { Scan }
     requires read { IsReadBy scan.subject (machine_of machine.now) (R.states reader.old) (R.transitions reader.old) }
     requires memo { Keeps scan.subject table.old scan.start (R.counted reader.old) (λ whole. IsMemo scan.subject whole scan.start) }
@@ -147,7 +157,8 @@ fn outcome_from<I: Cursor, R: ReadTransitions>(
     requires rest { IsAt scan.subject (machine_of machine.now) scan.start (I.text rest.now).items }
     requires some { scan.start < length scan.subject.symbols }
     ensures read { IsReadBy scan.subject (machine_of machine.now) (R.states reader.new) (R.transitions reader.new) }
-    ensures scanned { Keeps scan.subject table.new scan.start (R.counted reader.new) (λ whole. IsScanned scan.subject whole scan.start result) }
+    ensures scanned { Keeps scan.subject table.new scan.start (R.counted reader.new) (λ whole. IsScanned scan.subject whole scan.start result.0) }
+    ensures stands { StandsAt (I.text rest.now) scan.start result.1 result.2 }
 {
     let first = Configuration {
         state: SegmenterStateMachine::START_STATE,
@@ -155,14 +166,15 @@ fn outcome_from<I: Cursor, R: ReadTransitions>(
         kept: 0,
     };
     if let Some(outcome) = known(table.cell(first)) {
-        return outcome;
+        return (outcome, start, rest.place());
     }
     let mut iter = rest.fork();
-    let (last, outcome) = go_forward(machine, reader, table, &mut iter, first);
-    go_back(machine, table, last, outcome)
+    let (last, outcome, stood) = go_forward(machine, reader, table, &mut iter, first);
+    (go_back(machine, table, last, outcome), last.place, stood)
 }
 
 /// Goes on by an item.
+#[inline(always)]
 pub(crate) fn skip<I: Cursor>(rest: &mut I)
     ensures { I.text rest.new ≡ rest_after 1 (I.text rest.old) }
 {
@@ -193,10 +205,14 @@ pub(crate) fn next_segment<I: Cursor, R: ReadTransitions>(
         × (I.text rest.new ≡ rest_after p.offset (I.text rest.old)) }
 {
     table.leave(start);
-    let outcome = outcome_from(machine, reader, table, rest, start);
+    let (outcome, last, stood) = outcome_from(machine, reader, table, rest, start);
     let Some(found) = picked(outcome) else {
         unreachable!()
     };
+    if found.offset == last {
+        rest.seek(stood);
+        return found;
+    }
     for item in start..found.offset {
         skip(rest);
     }

@@ -27,6 +27,7 @@ pub(crate) struct Table {
 
 impl Table {
     /// Where the cell of a configuration is, counted from the first that is held.
+    #[inline(always)]
     fn index(&self, here: Configuration) -> usize
         ghost scan: { Scan }
         requires window { IsHeld scan.subject self.now scan.start }
@@ -41,6 +42,7 @@ impl Table {
     }
 
     /// The cell of a configuration.
+    #[inline(always)]
     pub(crate) fn cell(&self, here: Configuration) -> Cell
         ghost scan: { Scan }
         requires window { IsHeld scan.subject self.now scan.start }
@@ -57,6 +59,7 @@ impl Table {
     }
 
     /// Holds the cell at an index, for which there is room.
+    #[inline(always)]
     fn reach(&mut self, index: usize)
         requires { index < vec_capacity self.old.cells }
         ensures states { self.new.states ≡ self.old.states }
@@ -66,9 +69,23 @@ impl Table {
         ensures length { index < length self.new.cells.items }
         ensures held { (i : ℕ) → slice_index_or self.new.cells.items i Unknown ≡ slice_index_or self.old.cells.items i Unknown }
     {
-        if index < self.cells.len() {
-            return;
+        if index >= self.cells.len() {
+            self.extend(index);
         }
+    }
+
+    /// Makes cells as far as an index and some after it, for which there is room.
+    #[inline(never)]
+    fn extend(&mut self, index: usize)
+        requires room { index < vec_capacity self.old.cells }
+        requires past { length self.old.cells.items ≤ index }
+        ensures states { self.new.states ≡ self.old.states }
+        ensures sets { self.new.sets ≡ self.old.sets }
+        ensures first { self.new.first ≡ self.old.first }
+        ensures capacity { vec_capacity self.old.cells ≤ vec_capacity self.new.cells }
+        ensures length { index < length self.new.cells.items }
+        ensures held { (i : ℕ) → slice_index_or self.new.cells.items i Unknown ≡ slice_index_or self.old.cells.items i Unknown }
+    {
         let room = self.cells.capacity();
         let len = if AHEAD < room - index {
             index + AHEAD
@@ -81,6 +98,7 @@ impl Table {
     }
 
     /// Writes into the cell of a configuration.
+    #[inline(always)]
     pub(crate) fn write(&mut self, here: Configuration, cell: Cell)
         ghost scan: { Scan }
         requires window { IsHeld scan.subject self.old scan.start }
@@ -95,6 +113,7 @@ impl Table {
     }
 
     /// Lets go the cells before a place, where there are many of them, and no fewer than others.
+    #[inline(always)]
     pub(crate) fn leave(&mut self, start: usize)
         ghost scan: { Scan }
         requires window { IsHeld scan.subject self.old scan.start }
@@ -107,6 +126,9 @@ impl Table {
             place: start,
             kept: 0,
         });
+        if before < LET_GO {
+            return;
+        }
         let len = self.cells.len();
         let gone = if before < len { before } else { len };
         let left = len - gone;

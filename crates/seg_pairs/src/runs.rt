@@ -116,6 +116,7 @@ impl<'data, I: Cursor> Events<'data, I> {
     }
 
     /// What comes next. After the end it is the end for ever.
+    #[inline(always)]
     pub fn next_event(&mut self) -> Event<I>
         ensures leads { LeadsTo I.text self.old result self.new }
         ensures goes { GoesOn self.old self.new }

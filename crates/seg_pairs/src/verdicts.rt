@@ -95,6 +95,7 @@ impl<'data> Verdicts for ComplexVerdicts<'data> {
 
     ghost table = { λ s. s.table.now };
 
+    #[inline(always)]
     fn step<E: Elements>(&self, left: Element, rest: &mut E) -> Step {
         let complex = self.table.complex_property();
         let Some(right) = rest.next_element() else {

@@ -3,10 +3,11 @@
 ghost use Rattle.std.specs.Prelude.{◌≡◌, ⊤};
 ghost use Rattle.std.specs.Iterator.{YieldsFirst, MakesProgress, item_count};
 ghost use Rattle.seg_text.specs.Items.{start_of};
+ghost use Rattle.seg_text.specs.Cuts.{cut_places};
 ghost use Rattle.seg_text.specs.Boundaries.{GivesNext, IsCover, offsets_left};
 ghost use Rattle.seg_pair_data.specs.PairData.{pair_table_of, override_of};
 ghost use Rattle.seg_engine.specs.Rules.Rules.{ByTable};
-ghost use Rattle.seg_complex.specs.Payloads.{payloads_of};
+ghost use Rattle.seg_complex.specs.Payloads.{payloads_of, run_cuts_by};
 ghost use Rattle.seg_words.specs.WordRules.{word_boundaries_of};
 
 use seg_complex::complex::ComplexPayloadsBorrowed;
@@ -17,13 +18,71 @@ use seg_pairs::runs::{Event, Events};
 use seg_text::cursor::Cursor;
 use std::marker::Model;
 
+/// The cuts that are left of the run that came last. They aren't entered once they are over.
+#[derive(Debug, Drop)]
+struct CutsLeft<'data, I: Cursor> {
+    cuts: RunCuts<'data, I>,
+    // Whether some may be left.
+    in_run: bool,
+}
+
+impl<'data, I: Cursor> Model for CutsLeft<'data, I> {
+    ghost use Rattle.std.specs.Prelude.{◌≡◌, ℕ, List, [], false};
+
+    ghost Value = { List ℕ };
+
+    ghost view = { λ s. s.cuts };
+
+    ghost invariant = { λ s. s.in_run ≡ false → s.cuts ≡ [] };
+}
+
+impl<'data, I: Cursor> CutsLeft<'data, I> {
+    /// The cuts of what is left of a run. Takes no memory.
+    fn new(payloads: ComplexPayloadsBorrowed<'data>, run: I) -> Self
+        ensures { result ≡ cut_places (run_cuts_by (payloads_of payloads.entry)) (I.text run) }
+    {
+        CutsLeft {
+            cuts: RunCuts::new(payloads, run),
+            in_run: true,
+        }
+    }
+
+    /// The same cuts once more, from the same one on. Takes no memory.
+    fn fork(&self) -> Self
+        ensures { result ≡ self.now }
+    {
+        CutsLeft {
+            cuts: self.cuts.fork(),
+            in_run: self.in_run,
+        }
+    }
+}
+
+impl<'data, I: Cursor> Iterator for CutsLeft<'data, I> {
+    type Item = usize;
+
+    ghost next_gives = { YieldsFirst (λ left. left) };
+
+    ghost remaining = { item_count (λ left. left) };
+
+    #[inline(always)]
+    fn next(&mut self) -> Option<usize> {
+        if !self.in_run {
+            return None;
+        }
+        let place = self.cuts.next();
+        self.in_run = place.is_some();
+        place
+    }
+}
+
 /// The boundaries of words in a text, as places.
 #[derive(Debug, Drop)]
 pub(crate) struct ClassicBoundaries<'data, I: Cursor> {
     // What the table hasn't read yet.
     events: Events<'data, I>,
     // What is left of the run that came last.
-    run: RunCuts<'data, I>,
+    run: CutsLeft<'data, I>,
     payloads: ComplexPayloadsBorrowed<'data>,
     started: bool,
     // The class of the boundary that was given last.
@@ -57,7 +116,7 @@ impl<'data, I: Cursor> ClassicBoundaries<'data, I> {
         payloads.facts();
         let events = Events::new(pairs, text);
         ClassicBoundaries {
-            run: RunCuts::new(payloads, events.nothing()),
+            run: CutsLeft::new(payloads, events.nothing()),
             payloads,
             events,
             started: false,
@@ -103,7 +162,7 @@ impl<'data, I: Cursor> Iterator for ClassicBoundaries<'data, I> {
                     self.class = class;
                     return Some(place);
                 }
-                Event::Run(run) => self.run = RunCuts::new(self.payloads, run),
+                Event::Run(run) => self.run = CutsLeft::new(self.payloads, run),
             }
         }
     }

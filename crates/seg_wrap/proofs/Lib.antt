@@ -5,3 +5,4 @@ pub mod Walks
 pub mod Starts
 pub mod Joined
 pub mod Given
+pub mod Hints

@@ -1,6 +1,6 @@
 //! Where lines may end.
 
-ghost use Rattle.std.specs.Prelude.{List};
+ghost use Rattle.std.specs.Prelude.{◌≡◌, List};
 ghost use Rattle.seg_lines.specs.Lines.{lines_left};
 ghost use Rattle.seg_text.specs.declared.boundary.Boundary.{Boundary};
 ghost use Rattle.seg_wrap.specs.Walk.{ReadsBreak};
@@ -25,6 +25,10 @@ pub(crate) trait Breaks: Drop {
     /// The next break. None at the end, and from then on.
     fn next_break(&mut self) -> Option<Break>
         ensures { ReadsBreak (left self.old) result (left self.new) };
+
+    /// The same breaks once more, from the same one on. Takes no memory and never fails.
+    fn fork(&self) -> Self
+        ensures { left result ≡ left self.now };
 }
 
 impl<'data, 's> Breaks for LineBreakIterator<'data, 's, Utf8> {
@@ -35,6 +39,13 @@ impl<'data, 's> Breaks for LineBreakIterator<'data, 's, Utf8> {
         let is_mandatory = self.is_mandatory();
         Some(Break { end, is_mandatory })
     }
+
+    fn fork(&self) -> Self {
+        let Ok(lines) = self.clone() else {
+            unreachable!()
+        };
+        lines
+    }
 }
 
 impl<'data, 's> Breaks for LineBreakIterator<'data, 's, PotentiallyIllFormedUtf8> {
@@ -44,5 +55,12 @@ impl<'data, 's> Breaks for LineBreakIterator<'data, 's, PotentiallyIllFormedUtf8
         let end = self.next()?;
         let is_mandatory = self.is_mandatory();
         Some(Break { end, is_mandatory })
+    }
+
+    fn fork(&self) -> Self {
+        let Ok(lines) = self.clone() else {
+            unreachable!()
+        };
+        lines
     }
 }

@@ -13,6 +13,7 @@ use seg_lines::inner::is_neo;
 use seg_lines::line::{LineBreakIterator, LineSegmenterBorrowed};
 use seg_text::indices::{StrCharIndices, Utf8CharIndices};
 use seg_text::scaffold::{PotentiallyIllFormedUtf8, Utf8};
+use std::alloc::AllocError;
 use thiserror::Error;
 
 /// Why there is no wrapper. Each has a number.
@@ -123,6 +124,19 @@ impl<'data, 's> Drop for WrapIterator<'data, 's> {
     }
 }
 
+impl<'data, 's> Clone for WrapIterator<'data, 's> {
+    ghost is_clone = { λ s r. (r.text ≡ s.text) × (r.lines ≡ s.lines) };
+
+    ghost is_infallible = { λ _. ⊤ };
+
+    fn clone(&self) -> Result<Self, AllocError> {
+        Ok(WrapIterator {
+            text: self.text,
+            lines: self.lines.fork(),
+        })
+    }
+}
+
 impl<'data, 's> Iterator for WrapIterator<'data, 's> {
     ghost use Rattle.seg_wrap.specs.WrappedLines.{line_in, lines_to_come};
 
@@ -139,6 +153,10 @@ impl<'data, 's> Iterator for WrapIterator<'data, 's> {
             columns: line.columns,
             is_mandatory: line.is_mandatory,
         })
+    }
+
+    fn size_hint(&self) -> (usize, Option<usize>) {
+        self.lines.size_hint()
     }
 }
 
@@ -199,6 +217,19 @@ impl<'data, 's> Drop for WrapUtf8Iterator<'data, 's> {
     }
 }
 
+impl<'data, 's> Clone for WrapUtf8Iterator<'data, 's> {
+    ghost is_clone = { λ s r. (r.bytes ≡ s.bytes) × (r.lines ≡ s.lines) };
+
+    ghost is_infallible = { λ _. ⊤ };
+
+    fn clone(&self) -> Result<Self, AllocError> {
+        Ok(WrapUtf8Iterator {
+            bytes: self.bytes,
+            lines: self.lines.fork(),
+        })
+    }
+}
+
 impl<'data, 's> Iterator for WrapUtf8Iterator<'data, 's> {
     ghost use Rattle.seg_wrap.specs.WrappedLines.{utf8_line_in, utf8_lines_to_come};
 
@@ -215,5 +246,9 @@ impl<'data, 's> Iterator for WrapUtf8Iterator<'data, 's> {
             columns: line.columns,
             is_mandatory: line.is_mandatory,
         })
+    }
+
+    fn size_hint(&self) -> (usize, Option<usize>) {
+        self.lines.size_hint()
     }
 }

@@ -1,6 +1,6 @@
 //! Lines, wrapped to columns at any breaks.
 
-ghost use Rattle.std.specs.Prelude.{◌≡◌, ◌∷◌};
+ghost use Rattle.std.specs.Prelude.{◌≡◌, ◌≤◌, ◌∷◌, length, IfSome};
 ghost use Rattle.seg_wrap.specs.Walk.{AreCuts, GivesSpan, IsHeld, IsPiece, lines_held, rest_held, segment_at, segments_held};
 ghost use Rattle.seg_wrap.specs.Wrapping.{line_of, lines_from, rest_from, segments_from, wrapped_lines};
 
@@ -82,6 +82,30 @@ impl<I: Cursor, B: Breaks> Wrapping<I, B> {
             after,
             held,
             columns: columns as u128,
+        }
+    }
+
+    /// The same lines once more, from the same one on. Takes no memory.
+    pub(crate) fn fork(&self) -> Self
+        ensures { result ≡ self.now }
+    {
+        Wrapping {
+            breaks: self.breaks.fork(),
+            rest: self.rest.fork(),
+            after: self.after.fork(),
+            held: self.held,
+            columns: self.columns,
+        }
+    }
+
+    /// How many lines are left at least and at most: that of the segment that is held, and one for each unit behind it.
+    pub(crate) fn size_hint(&self) -> (usize, Option<usize>)
+        ensures lower { result.0 ≤ length self.now.lines }
+        ensures upper { IfSome result.1 (λ most. length self.now.lines ≤ most) }
+    {
+        match &self.held {
+            None => (0, Some(0)),
+            Some(piece) => (1, Some(1 + (self.rest.end() - piece.end))),
         }
     }
 

@@ -2,19 +2,19 @@
 use Rattle.std.proofs.Common.{◌≡◌, ℕ, true, false, Option, None, Some, List, IfErr, IfOk, IfSome, Result, Ok, Err, ◌⊎◌, inl, append-nil, length}
 use Rattle.std.proofs.KnownBytes.{Appends-trans}
 use Rattle.std.specs.Io.KnownBytes.{Appends}
-use Rattle.segment.specs.Fault.{IsBeforeWriting, IsReadFault}
+use Rattle.segment_output.specs.Fault.{IsBeforeWriting, IsReadFault}
 use Rattle.segment.specs.Job.{count_by, is_counted, is_parted, output_of, printed_by, IsBegunBy, IsFound}
-use Rattle.segment.specs.Output.{count_line, lines_of}
-use Rattle.segment.specs.Parts.{IsBegun}
-use Rattle.segment.specs.Segmenter.{segments_by}
-use Rattle.segment.specs.declared.command.Engine.TheVariants.{Plain, Memoised}
-use Rattle.segment.specs.declared.fault.Fault.{Fault}
-use Rattle.segment.specs.declared.fault.Fault.TheVariants.{Read, Memo, Write}
-use Rattle.segment.specs.declared.found.Found.{Found}
+use Rattle.segment_output.specs.Output.{count_line, lines_of}
+use Rattle.segment_output.specs.Parts.{IsBegun}
+use Rattle.segment_output.specs.Segmenter.{segments_by}
+use Rattle.segment_output.specs.declared.fault.Fault.{Fault}
+use Rattle.segment_output.specs.declared.fault.Fault.TheVariants.{Read, Memo, Write}
+use Rattle.segment_output.specs.declared.found.Found.{Found}
 use Rattle.segment.specs.declared.job.Job.{Job}
-use Rattle.segment.specs.declared.output.Style.{Style}
-use Rattle.segment.specs.declared.segmenter.Segmenter.{Segmenter}
+use Rattle.segment_output.specs.declared.output.Style.{Style}
+use Rattle.segment_output.specs.declared.segmenter.Segmenter.{Segmenter}
 use Rattle.segment.specs.declared.job.Job.TheVariants.{Cut, Wrap}
+use Rattle.segment.specs.declared.job.Search.TheVariants.{Plain, Memoised}
 
 count-is : (job : Job) (bytes : List ℕ) (found : Found) → IsFound job bytes found → found.segments ≡ count_by job bytes
 count-is (Cut segmenter style Plain) bytes found is = is.0

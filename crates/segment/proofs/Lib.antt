@@ -1,11 +1,1 @@
-pub mod Segments
-pub mod Gathered
-pub mod Escaping
-pub mod Printed
-pub mod FoundByMemo
 pub mod Counted
-pub mod ShownLines
-pub mod ShownWide
-pub mod ByMachine
-pub mod JoinedCuts
-pub mod PartedText

@@ -12,16 +12,16 @@ use Rattle.icu_segmenter.specs.declared.options.LineBreakWordOption.{LineBreakWo
 use Rattle.icu_segmenter.specs.declared.options.LineBreakWordOption.TheVariants as word_option
 use Rattle.icu_segmenter.specs.declared.provider.ComplexScript.{ComplexScript}
 use Rattle.icu_segmenter.specs.declared.provider.ComplexScript.TheVariants as script
-use Rattle.segment.specs.declared.command.Engine.{Engine}
-use Rattle.segment.specs.declared.command.Engine.TheVariants as engine
-use Rattle.segment.specs.declared.command.Kind.{Kind}
-use Rattle.segment.specs.declared.command.Kind.TheVariants as kind
+use Rattle.segment_output.specs.declared.segmenter.Engine.{Engine}
+use Rattle.segment_output.specs.declared.segmenter.Engine.TheVariants as engine
+use Rattle.segment_output.specs.declared.segmenter.Kind.{Kind}
+use Rattle.segment_output.specs.declared.segmenter.Kind.TheVariants as kind
 use Rattle.segment.specs.declared.command.Request.{Request}
 use Rattle.segment.specs.declared.command.Task.{Task}
 use Rattle.segment.specs.declared.command.Task.TheVariants.{Cut, Wrap}
-use Rattle.segment.specs.declared.command.Width.{Width}
-use Rattle.segment.specs.declared.output.Style.{Style}
-use Rattle.segment.specs.declared.output.Style.TheVariants.{Escaped, Raw, ZeroEnded, Offsets, Counted}
+use Rattle.segment_output.specs.declared.wrapper.Width.{Width}
+use Rattle.segment_output.specs.declared.output.Style.{Style}
+use Rattle.segment_output.specs.declared.output.Style.TheVariants.{Escaped, Raw, ZeroEnded, Json, Offsets, Counted}
 
 -- ---- the words
 
@@ -60,10 +60,15 @@ is_alone kind.WordsAlone = true
 is_alone kind.Sentences = false
 is_alone kind.Lines = false
 
--- by `--memo`
-abbrev pub engine_by : Bool → Engine
-engine_by true = engine.Memoised
-engine_by false = engine.Plain
+abbrev pub engine_word : Engine → List ℕ
+engine_word engine.Neo = codes "neo"
+engine_word engine.Classic = codes "classic"
+engine_word engine.Seventeen = codes "17"
+engine_word engine.Memo = codes "memo"
+
+-- an engine is the one with this word, and neo where there is none
+abbrev pub IsEngine : Option (List ℕ) → Engine → Type 0
+IsEngine given named = MatchOption given (named ≡ engine.Neo) (λ word. word ≡ engine_word named)
 
 -- the language of a tag, in lower case: what stands before its first hyphen, low line and full stop, as ja of ja-JP and of ja_JP.UTF-8
 abbrev pub language_part : List ℕ → List ℕ
@@ -96,8 +101,13 @@ abbrev pub IsStyle : Found → Style → Type 0
 IsStyle found Counted = IsFlag found (codes "count") true
 IsStyle found Offsets = IsFlag found (codes "count") false × IsFlag found (codes "offsets") true
 IsStyle found ZeroEnded = IsFlag found (codes "count") false × IsFlag found (codes "offsets") false × IsFlag found (codes "null") true
-IsStyle found Raw = IsFlag found (codes "count") false × IsFlag found (codes "offsets") false × IsFlag found (codes "null") false × IsFlag found (codes "raw") true
-IsStyle found Escaped = IsFlag found (codes "count") false × IsFlag found (codes "offsets") false × IsFlag found (codes "null") false × IsFlag found (codes "raw") false
+IsStyle found Json = IsFlag found (codes "count") false × IsFlag found (codes "offsets") false × IsFlag found (codes "null") false × IsFlag found (codes "json") true
+IsStyle found Raw =
+    IsFlag found (codes "count") false × IsFlag found (codes "offsets") false × IsFlag found (codes "null") false
+    × IsFlag found (codes "json") false × IsFlag found (codes "raw") true
+IsStyle found Escaped =
+    IsFlag found (codes "count") false × IsFlag found (codes "offsets") false × IsFlag found (codes "null") false
+    × IsFlag found (codes "json") false × IsFlag found (codes "raw") false
 
 -- a task is the one that is named
 abbrev pub IsTask : List ℕ → Found → Task → Type 0
@@ -105,7 +115,7 @@ IsTask word found (Cut kind style engine) =
     (word ≡ kind_word kind)
     × IsFlag found (codes "words") (is_alone kind)
     × IsStyle found style
-    × ((memo : Bool) × IsFlag found (codes "memo") memo × (engine ≡ engine_by memo))
+    × IsEngine (first_value found (codes "engine")) engine
 IsTask word found (Wrap width) = (word ≡ codes "wrap") × IsWidth found width
 
 -- all values of an argument
@@ -116,10 +126,15 @@ values_of found id = option_map_or raw_values (matched_of found id) []
 abbrev pub ArePaired : Found → Type 0
 ArePaired found = length (values_of found (codes "dictionary")) ≡ length (values_of found (codes "script"))
 
+-- a memo goes without dictionaries
+abbrev pub HasMemoAlone : Found → Type 0
+HasMemoAlone found = first_value found (codes "engine") ≡ Some (codes "memo") → matched_of found (codes "script") ≡ None
+
 -- a request is what the word of a kind and its arguments ask for
 abbrev pub IsRequest : List ℕ → Found → Request → Type 0
 IsRequest word found request =
     ArePaired found
+    × HasMemoAlone found
     × IsTask word found request.task
     × IsChoice strictness_word (first_value found (codes "strictness")) request.strictness
     × IsChoice word_break_word (first_value found (codes "word-break")) request.word_option

@@ -1,11 +1,3 @@
 pub mod Command
 pub mod Dictionaries
-pub mod Escapes
-pub mod Fault
 pub mod Job
-pub mod Memo
-pub mod Output
-pub mod Parts
-pub mod Segmenter
-pub mod Wrapped
-pub mod Wrapper

@@ -1,52 +1,21 @@
 //! The command line.
-ghost use Rattle.std.specs.Prelude.{◌≡◌, ◌≢◌, ◌<◌, ◌==◌, length, IfOk, MatchResult, OnOk};
+ghost use Rattle.std.specs.Prelude.{◌≡◌, ◌≢◌, ◌<◌, ◌==◌, false, Some, codes, length, IfOk, MatchResult, OnOk};
 ghost use Rattle.std.specs.List.{before_first};
 ghost use Rattle.std.specs.Option.{option_map, option_map_or};
 ghost use Rattle.std.specs.Str.{str_to_ascii_lowercase};
 ghost use Rattle.icu_segmenter.specs.declared.provider.ComplexScript.{ComplexScript as AnyScript};
 ghost use Rattle.clap.specs.Matches.{found_of};
-ghost use Rattle.segment.specs.declared.command.Kind.{Kind as AnyKind};
-ghost use Rattle.segment.specs.Command.{engine_by, is_alone, kind_word, language_part, strictness_word, word_break_word, ArePaired, HasScriptWord, IsChoice, IsRequest, IsStyle, IsTask, IsWidth};
+ghost use Rattle.segment_output.specs.declared.segmenter.Kind.{Kind as AnyKind};
+ghost use Rattle.segment.specs.Command.{is_alone, kind_word, language_part, strictness_word, word_break_word, ArePaired, HasMemoAlone, HasScriptWord, IsChoice, IsEngine, IsRequest, IsStyle, IsTask, IsWidth};
 
-use crate::output::Style;
 use anyhow::{Context, Result, bail, ensure};
 use clap::{Arg, ArgAction, ArgMatches, Command, value_parser};
 use icu_segmenter::options::{LanguageIdentifier, LineBreakStrictness, LineBreakWordOption};
 use icu_segmenter::provider::ComplexScript;
+use segment_output::output::Style;
+use segment_output::segmenter::{Engine, Kind};
+use segment_output::wrapper::Width;
 use std::alloc::{AllocError, Global};
-
-/// What is found.
-#[derive(Clone, Copy, Debug, PartialEq, Eq)]
-pub enum Kind {
-    /// Grapheme clusters.
-    Clusters,
-    /// Words, and what stands between them.
-    Words,
-    /// Words alone.
-    WordsAlone,
-    /// Sentences.
-    Sentences,
-    /// Lines.
-    Lines,
-}
-
-/// What finds the boundaries. Both find the same.
-#[derive(Clone, Copy, Debug, PartialEq, Eq)]
-pub enum Engine {
-    /// The engine that takes no memory.
-    Plain,
-    /// That which looks up no configuration of its machine twice.
-    Memoised,
-}
-
-/// How lines are wrapped.
-#[derive(Clone, Copy, Debug, PartialEq, Eq)]
-pub struct Width {
-    /// The columns that a line has at most, unless no line may end in it.
-    pub columns: usize,
-    /// Whether what is wider, and no line may end in it, is broken between clusters.
-    pub breaks_words: bool,
-}
 
 /// What is done to a text.
 #[derive(Clone, Copy)]
@@ -73,6 +42,10 @@ pub struct Request {
 // Of lines that are wrapped, where the command line says nothing.
 const DEFAULT_COLUMNS: usize = 80;
 
+const ENGINES: [&str; 3] = ["neo", "classic", "memo"];
+
+const LINE_ENGINES: [&str; 4] = ["neo", "classic", "17", "memo"];
+
 const STRICTNESSES: [&str; 4] = ["loose", "normal", "strict", "anywhere"];
 
 const WORD_OPTIONS: [&str; 3] = ["normal", "break-all", "keep-all"];
@@ -88,8 +61,10 @@ const NULL_HELP: &str =
 
 const COUNT_HELP: &str = "Write how many segments there are, and no segment";
 
-const MEMO_HELP: &str =
-    "Look up no configuration twice: takes time in step with the text's length, and memory";
+const JSON_HELP: &str = "Write a JSON object for each segment: text, begin, end, type or mandatory";
+
+const ENGINE_HELP: &str =
+    "A state machine, a pair table, or a machine of which nothing is looked up twice [default: neo]";
 
 /// The arguments that there are: each kind of segments is a subcommand. The only error is want of memory.
 pub fn command_line<'a>(alloc: Global) -> Result<Command<'a>, AllocError> {
@@ -115,6 +90,7 @@ fn kind_commands<'a>(alloc: Global) -> Result<Vec<Command<'a>>, AllocError> {
 
 fn grapheme_command<'a>(alloc: Global) -> Result<Command<'a>, AllocError> {
     let command = Command::new(alloc, "grapheme").about("Writes extended grapheme clusters");
+    let command = command.arg(engine_argument(alloc, &ENGINES))?;
     with_files(alloc, with_styles(alloc, command)?)
 }
 
@@ -122,11 +98,13 @@ fn word_command<'a>(alloc: Global) -> Result<Command<'a>, AllocError> {
     let command = Command::new(alloc, "word").about("Writes words, and what stands between them");
     let words = flag(alloc, "words", "Leave out what stands between words");
     let command = with_styles(alloc, command.arg(words)?)?;
+    let command = command.arg(engine_argument(alloc, &ENGINES))?;
     with_files(alloc, with_dictionaries(alloc, command)?)
 }
 
 fn sentence_command<'a>(alloc: Global) -> Result<Command<'a>, AllocError> {
     let command = Command::new(alloc, "sentence").about("Writes sentences");
+    let command = command.arg(engine_argument(alloc, &ENGINES))?;
     with_files(alloc, with_styles(alloc, command)?)
 }
 
@@ -134,6 +112,7 @@ fn line_command<'a>(alloc: Global) -> Result<Command<'a>, AllocError> {
     let command = Command::new(alloc, "line").about(
         "Writes what stands between places where a line may end",
     );
+    let command = command.arg(engine_argument(alloc, &LINE_ENGINES))?;
     let command = with_line_options(alloc, with_styles(alloc, command)?)?;
     with_files(alloc, with_dictionaries(alloc, command)?)
 }
@@ -147,23 +126,34 @@ fn wrap_command<'a>(alloc: Global) -> Result<Command<'a>, AllocError> {
     with_files(alloc, with_dictionaries(alloc, command)?)
 }
 
-// How segments are written, and what finds them.
+// How segments are written.
 fn with_styles<'a>(alloc: Global, command: Command<'a>) -> Result<Command<'a>, AllocError> {
     let command = command.arg(flag(alloc, "offsets", OFFSETS_HELP))?;
     let command = command.arg(flag(alloc, "raw", RAW_HELP))?;
     let command = command.arg(null_argument(alloc)?)?;
-    let command = command.arg(count_argument(alloc)?)?;
-    command.arg(flag(alloc, "memo", MEMO_HELP))
+    let command = command.arg(json_argument(alloc)?)?;
+    command.arg(count_argument(alloc)?)
 }
 
 fn null_argument<'a>(alloc: Global) -> Result<Arg<'a>, AllocError> {
     flag(alloc, "null", NULL_HELP).conflicts_with("offsets")
 }
 
+fn json_argument<'a>(alloc: Global) -> Result<Arg<'a>, AllocError> {
+    let json = flag(alloc, "json", JSON_HELP).conflicts_with("offsets")?;
+    let json = json.conflicts_with("raw")?;
+    json.conflicts_with("null")
+}
+
 fn count_argument<'a>(alloc: Global) -> Result<Arg<'a>, AllocError> {
     let count = flag(alloc, "count", COUNT_HELP).conflicts_with("offsets")?;
     let count = count.conflicts_with("raw")?;
-    count.conflicts_with("null")
+    let count = count.conflicts_with("null")?;
+    count.conflicts_with("json")
+}
+
+fn engine_argument<'a>(alloc: Global, engines: &'a [&'a str]) -> Arg<'a> {
+    choice(alloc, "engine", engines, ENGINE_HELP)
 }
 
 fn with_line_options<'a>(alloc: Global, command: Command<'a>) -> Result<Command<'a>, AllocError> {
@@ -180,12 +170,10 @@ fn with_dictionaries<'a>(alloc: Global, command: Command<'a>) -> Result<Command<
     command.arg(script_argument(alloc)?)
 }
 
-// Dictionaries go with the plain engine alone.
 fn dictionary_argument<'a>(alloc: Global) -> Result<Arg<'a>, AllocError> {
     let help = "A file of words, one a line, that cut its script; may be given for each script";
     let dictionary = option(alloc, "dictionary", help).action(ArgAction::Append);
-    let dictionary = dictionary.value_name("FILE").requires_arg("script")?;
-    dictionary.conflicts_with("memo")
+    dictionary.value_name("FILE").requires_arg("script")
 }
 
 fn script_argument<'a>(alloc: Global) -> Result<Arg<'a>, AllocError> {
@@ -232,7 +220,7 @@ fn choice<'a>(alloc: Global, name: &'a str, values: &'a [&'a str], help: &'a str
 }
 
 /// What the arguments of a kind of segments ask for. The errors are a word that isn't a kind, a language that isn't one, a dictionary
-/// without a script, and a script that is named twice.
+/// without a script or beside a memo, and a script that is named twice.
 pub fn request_of(kind: &str, matches: &ArgMatches<'_>) -> Result<Request>
     ensures { IfOk result (IsRequest kind.now (found_of matches.now)) }
 {
@@ -245,11 +233,12 @@ pub fn request_of(kind: &str, matches: &ArgMatches<'_>) -> Result<Request>
     })
 }
 
-// The error is a dictionary without a script, or a script that is named twice.
+// The error is a dictionary without a script or beside a memo, or a script that is named twice.
 fn check_dictionaries(matches: &ArgMatches<'_>) -> Result<()>
-    ensures { OnOk result (ArePaired (found_of matches.now)) }
+    ensures { OnOk result (ArePaired (found_of matches.now) × HasMemoAlone (found_of matches.now)) }
 {
     let scripts = matches.get_strs("script");
+    check_memo(matches.get_str("engine"), scripts.is_some())?;
     ensure!(
         count_of(matches.get_strs("dictionary")) == count_of(scripts),
         "each '--dictionary <FILE>' needs a '--script <script>' of its own"
@@ -257,6 +246,18 @@ fn check_dictionaries(matches: &ArgMatches<'_>) -> Result<()>
     match scripts {
         Some(scripts) => check_scripts(scripts),
         None => Ok(()),
+    }
+}
+
+// The error is a memo beside dictionaries.
+fn check_memo(engine: Option<&str>, has_dictionaries: bool) -> Result<()>
+    ensures { OnOk result (option_map (λ text. text.now) engine.entry ≡ Some (codes "memo") → has_dictionaries ≡ false) }
+{
+    match engine {
+        Some("memo") if has_dictionaries => {
+            bail!("the argument '--engine memo' cannot be used with '--dictionary <FILE>'")
+        }
+        _ => Ok(()),
     }
 }
 
@@ -288,7 +289,7 @@ fn task_of(kind: &str, matches: &ArgMatches<'_>) -> Result<Task>
         return Ok(Task::Wrap(width_of(matches)));
     }
     let kind = kind_of(kind, matches.get_flag("words"))?;
-    let engine = engine_of(matches.get_flag("memo"));
+    let engine = engine_of(matches.get_str("engine"))?;
     Ok(Task::Cut(kind, style_of(matches), engine))
 }
 
@@ -326,6 +327,8 @@ fn style_of(matches: &ArgMatches<'_>) -> Style
         Style::Offsets
     } else if matches.get_flag("null") {
         Style::ZeroEnded
+    } else if matches.get_flag("json") {
+        Style::Json
     } else if matches.get_flag("raw") {
         Style::Raw
     } else {
@@ -333,13 +336,15 @@ fn style_of(matches: &ArgMatches<'_>) -> Style
     }
 }
 
-fn engine_of(memo: bool) -> Engine
-    ensures { result ≡ engine_by memo }
+fn engine_of(word: Option<&str>) -> Result<Engine>
+    ensures { IfOk result (IsEngine (option_map (λ text. text.now) word.entry)) }
 {
-    if memo {
-        Engine::Memoised
-    } else {
-        Engine::Plain
+    match word {
+        None | Some("neo") => Ok(Engine::Neo),
+        Some("classic") => Ok(Engine::Classic),
+        Some("17") => Ok(Engine::Seventeen),
+        Some("memo") => Ok(Engine::Memo),
+        Some(_) => bail!("no such engine"),
     }
 }
 

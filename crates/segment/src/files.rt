@@ -1,10 +1,10 @@
 //! The files that are named, one after another.
 
-use crate::fault::Fault;
-use crate::found::Found;
 use crate::job::Job;
-use crate::output::write_count;
 use crate::run::run;
+use segment_output::fault::Fault;
+use segment_output::found::Found;
+use segment_output::output::write_count;
 use std::io::ErrorKind;
 use std::process::ExitCode;
 use std::{fs, io};

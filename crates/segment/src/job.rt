@@ -1,21 +1,31 @@
 //! What a request comes to.
 ghost use Rattle.std.specs.Prelude.{◌≡◌, IfOk};
 ghost use Rattle.icu_segmenter.specs.ScriptWords.{script_words};
-ghost use Rattle.segment.specs.Job.{is_counted, IsAsked};
+ghost use Rattle.segment.specs.Job.{is_counted, search_by, AreOptions, IsAsked};
 
-use crate::command::{Engine, Request, Task};
-use crate::output::Style;
-use crate::segmenter::{Segmenter, segmenter_of};
-use crate::wrapper::{Wrapper, wrapper_of};
+use crate::command::{Request, Task};
 use anyhow::Result;
+use icu_segmenter::options::LineBreakOptions;
 use icu_segmenter::provider::Dictionaries;
+use segment_output::output::Style;
+use segment_output::segmenter::{Engine, Segmenter, segmenter_of};
+use segment_output::wrapper::{Wrapper, wrapper_of};
 use std::alloc::Global;
+
+/// How the boundaries of a text are found.
+#[derive(Clone, Copy, Debug, PartialEq, Eq)]
+pub enum Search {
+    /// Without memory.
+    Plain,
+    /// With a memo, by which no configuration is looked up twice.
+    Memoised,
+}
 
 /// What is done to a text, with all that it takes.
 #[derive(Drop)]
 pub enum Job {
-    /// It is cut into segments: by what, how they are written, and what finds the boundaries.
-    Cut(Segmenter, Style, Engine),
+    /// It is cut into segments: by what, how they are written, and how the boundaries are found.
+    Cut(Segmenter, Style, Search),
     /// Its lines are wrapped.
     Wrap(Wrapper),
 }
@@ -35,9 +45,34 @@ pub fn job_of(alloc: Global, request: &Request, dictionaries: Dictionaries) -> R
 {
     match request.task {
         Task::Cut(kind, style, engine) => {
-            let segmenter = segmenter_of(alloc, kind, request, dictionaries)?;
-            Ok(Job::Cut(segmenter, style, engine))
+            let segmenter = segmenter_of(alloc, kind, engine, options_of(request), dictionaries)?;
+            Ok(Job::Cut(segmenter, style, search_by(engine)))
         }
-        Task::Wrap(width) => Ok(Job::Wrap(wrapper_of(alloc, width, request, dictionaries)?)),
+        Task::Wrap(width) => Ok(Job::Wrap(wrapper_of(
+            alloc,
+            width,
+            options_of(request),
+            dictionaries,
+        )?)),
+    }
+}
+
+fn search_by(engine: Engine) -> Search
+    ensures { result ≡ search_by engine }
+{
+    match engine {
+        Engine::Memo => Search::Memoised,
+        _ => Search::Plain,
+    }
+}
+
+// The options of lines that are asked for.
+fn options_of<'r>(request: &'r Request) -> LineBreakOptions<'r>
+    ensures { AreOptions request.now result }
+{
+    LineBreakOptions {
+        strictness: request.strictness,
+        word_option: request.word_option,
+        content_locale: request.language.as_ref(),
     }
 }

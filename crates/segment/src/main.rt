@@ -4,19 +4,9 @@
 
 mod command;
 mod dictionary;
-mod escapes;
-mod fault;
 mod files;
-mod found;
 mod job;
-mod machine_lines;
-mod memo;
-mod output;
-mod parts;
 mod run;
-mod segmenter;
-mod wrapped;
-mod wrapper;
 
 use anyhow::{Result, bail};
 use clap::ArgMatches;

@@ -1,16 +1,15 @@
 //! The program, over any reader and writer.
 ghost use Rattle.std.specs.Prelude.{◌≡◌, ◌⊎◌, false, option_map, IfErr, IfOk, IfSome, OnOk};
 ghost use Rattle.std.specs.Io.KnownBytes.{Appends, IsAtEnd};
-ghost use Rattle.segment.specs.Fault.{IsBeforeWriting, IsReadFault};
+ghost use Rattle.segment_output.specs.Fault.{IsBeforeWriting, IsReadFault};
 ghost use Rattle.segment.specs.Job.{is_parted, output_of, printed_by, IsBegunBy, IsFound};
 
-use crate::command::Engine;
-use crate::fault::Fault;
-use crate::found::Found;
-use crate::job::Job;
-use crate::memo::print_by_memo;
-use crate::output::write_count;
-use crate::parts::print_parts;
+use crate::job::{Job, Search};
+use segment_output::fault::Fault;
+use segment_output::found::Found;
+use segment_output::memo::print_by_memo;
+use segment_output::output::write_count;
+use segment_output::parts::print_parts;
 use std::alloc::Global;
 use std::io::{Read, Write};
 
@@ -66,7 +65,7 @@ fn print_job<I: Read, O: Write>(
     ensures begun { IfErr result (λ fault. IsReadFault fault → (out.new ≡ out.old)
         ⊎ IsBegunBy job.now (I.remaining input.old) (I.remaining input.new) (O.contents out.old) (O.contents out.new)) }
 {
-    if let Job::Cut(segmenter, style, Engine::Plain) = job {
+    if let Job::Cut(segmenter, style, Search::Plain) = job {
         if segmenter.has_parts() {
             return print_parts(alloc, segmenter, *style, input, out);
         }
@@ -97,8 +96,8 @@ fn print_text<O: Write>(alloc: Global, job: &Job, text: &[u8], out: &mut O) -> R
     ensures unwritten { IfErr result (λ fault. IsBeforeWriting fault → out.new ≡ out.old) }
 {
     match job {
-        Job::Cut(segmenter, style, Engine::Plain) => {
-            match segmenter.print_whole(alloc, text, *style, out) {
+        Job::Cut(segmenter, style, Search::Plain) => {
+            match segmenter.print(alloc, text, *style, out) {
                 Ok(segments) => Ok(Found {
                     segments,
                     lookups: 0,
@@ -106,7 +105,7 @@ fn print_text<O: Write>(alloc: Global, job: &Job, text: &[u8], out: &mut O) -> R
                 Err(error) => Err(Fault::Write(error)),
             }
         }
-        Job::Cut(segmenter, style, Engine::Memoised) => {
+        Job::Cut(segmenter, style, Search::Memoised) => {
             print_by_memo(alloc, segmenter, text, *style, out)
         }
         Job::Wrap(wrapper) => match wrapper.print(alloc, text, out) {

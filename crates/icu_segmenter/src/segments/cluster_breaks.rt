@@ -8,7 +8,7 @@ ghost use Rattle.seg_engine.specs.Rules.{boundaries_by};
 ghost use Rattle.seg_clusters.specs.Clusters.{cluster_finder, clusters_left, clusters_source};
 ghost use Rattle.icu_segmenter.specs.TextSegments.{marked, nothing};
 
-use crate::segments::BreakIterator;
+use crate::segments::{BreakIterator, copy_of};
 use seg_clusters::grapheme::GraphemeClusterBreakIterator;
 use seg_text::scaffold::{Latin1, PotentiallyIllFormedUtf8, RuleBreakType, Utf8, Utf16};
 
@@ -46,6 +46,10 @@ impl<'data, 's> BreakIterator for GraphemeClusterBreakIterator<'data, 's, Utf8> 
     fn next_break(&mut self) -> Option<(usize, ())> {
         next_cluster(self)
     }
+
+    fn fork(&self) -> Self {
+        copy_of(self)
+    }
 }
 
 impl<'data, 's> BreakIterator
@@ -73,6 +77,10 @@ impl<'data, 's> BreakIterator
     fn next_break(&mut self) -> Option<(usize, ())> {
         next_cluster(self)
     }
+
+    fn fork(&self) -> Self {
+        copy_of(self)
+    }
 }
 
 impl<'data, 's> BreakIterator for GraphemeClusterBreakIterator<'data, 's, Latin1> {
@@ -99,6 +107,10 @@ impl<'data, 's> BreakIterator for GraphemeClusterBreakIterator<'data, 's, Latin1
     fn next_break(&mut self) -> Option<(usize, ())> {
         next_cluster(self)
     }
+
+    fn fork(&self) -> Self {
+        copy_of(self)
+    }
 }
 
 impl<'data, 's> BreakIterator for GraphemeClusterBreakIterator<'data, 's, Utf16> {
@@ -124,5 +136,9 @@ impl<'data, 's> BreakIterator for GraphemeClusterBreakIterator<'data, 's, Utf16>
 
     fn next_break(&mut self) -> Option<(usize, ())> {
         next_cluster(self)
+    }
+
+    fn fork(&self) -> Self {
+        copy_of(self)
     }
 }

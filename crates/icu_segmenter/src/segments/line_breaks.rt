@@ -9,7 +9,7 @@ ghost use Rattle.seg_lines.specs.LineBreaks.{line_boundaries_by};
 ghost use Rattle.seg_lines.specs.Lines.{line_finder, lines_left, lines_source};
 ghost use Rattle.icu_segmenter.specs.TextSegments.{marked};
 
-use crate::segments::BreakIterator;
+use crate::segments::{BreakIterator, copy_of};
 use seg_lines::line::LineBreakIterator;
 use seg_text::scaffold::{Latin1, PotentiallyIllFormedUtf8, RuleBreakType, Utf8, Utf16};
 
@@ -47,6 +47,10 @@ impl<'data, 's> BreakIterator for LineBreakIterator<'data, 's, Utf8> {
     fn next_break(&mut self) -> Option<(usize, bool)> {
         next_line(self)
     }
+
+    fn fork(&self) -> Self {
+        copy_of(self)
+    }
 }
 
 impl<'data, 's> BreakIterator for LineBreakIterator<'data, 's, PotentiallyIllFormedUtf8> {
@@ -72,6 +76,10 @@ impl<'data, 's> BreakIterator for LineBreakIterator<'data, 's, PotentiallyIllFor
 
     fn next_break(&mut self) -> Option<(usize, bool)> {
         next_line(self)
+    }
+
+    fn fork(&self) -> Self {
+        copy_of(self)
     }
 }
 
@@ -99,6 +107,10 @@ impl<'data, 's> BreakIterator for LineBreakIterator<'data, 's, Latin1> {
     fn next_break(&mut self) -> Option<(usize, bool)> {
         next_line(self)
     }
+
+    fn fork(&self) -> Self {
+        copy_of(self)
+    }
 }
 
 impl<'data, 's> BreakIterator for LineBreakIterator<'data, 's, Utf16> {
@@ -124,5 +136,9 @@ impl<'data, 's> BreakIterator for LineBreakIterator<'data, 's, Utf16> {
 
     fn next_break(&mut self) -> Option<(usize, bool)> {
         next_line(self)
+    }
+
+    fn fork(&self) -> Self {
+        copy_of(self)
     }
 }

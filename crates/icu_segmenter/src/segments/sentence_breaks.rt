@@ -8,7 +8,7 @@ ghost use Rattle.seg_engine.specs.Rules.{boundaries_by};
 ghost use Rattle.seg_clusters.specs.Sentences.{sentence_finder, sentences_left, sentences_source};
 ghost use Rattle.icu_segmenter.specs.TextSegments.{marked, nothing};
 
-use crate::segments::BreakIterator;
+use crate::segments::{BreakIterator, copy_of};
 use seg_clusters::sentence::SentenceBreakIterator;
 use seg_text::scaffold::{Latin1, PotentiallyIllFormedUtf8, RuleBreakType, Utf8, Utf16};
 
@@ -46,6 +46,10 @@ impl<'data, 's> BreakIterator for SentenceBreakIterator<'data, 's, Utf8> {
     fn next_break(&mut self) -> Option<(usize, ())> {
         next_sentence(self)
     }
+
+    fn fork(&self) -> Self {
+        copy_of(self)
+    }
 }
 
 impl<'data, 's> BreakIterator for SentenceBreakIterator<'data, 's, PotentiallyIllFormedUtf8> {
@@ -71,6 +75,10 @@ impl<'data, 's> BreakIterator for SentenceBreakIterator<'data, 's, PotentiallyIl
 
     fn next_break(&mut self) -> Option<(usize, ())> {
         next_sentence(self)
+    }
+
+    fn fork(&self) -> Self {
+        copy_of(self)
     }
 }
 
@@ -98,6 +106,10 @@ impl<'data, 's> BreakIterator for SentenceBreakIterator<'data, 's, Latin1> {
     fn next_break(&mut self) -> Option<(usize, ())> {
         next_sentence(self)
     }
+
+    fn fork(&self) -> Self {
+        copy_of(self)
+    }
 }
 
 impl<'data, 's> BreakIterator for SentenceBreakIterator<'data, 's, Utf16> {
@@ -123,5 +135,9 @@ impl<'data, 's> BreakIterator for SentenceBreakIterator<'data, 's, Utf16> {
 
     fn next_break(&mut self) -> Option<(usize, ())> {
         next_sentence(self)
+    }
+
+    fn fork(&self) -> Self {
+        copy_of(self)
     }
 }

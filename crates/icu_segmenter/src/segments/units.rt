@@ -13,6 +13,10 @@ pub trait Units: Copy {
     /// It may be cut at this place, if it is as long.
     ghost MayCut: { Self → ℕ → Type 0 };
 
+    /// How many units it has.
+    fn len(self) -> usize
+        ensures { result ≡ length (units self) };
+
     /// What stands from one place up to another. O(1), takes no memory.
     fn part(self, from: usize, to: usize) -> Self
         requires order { from ≤ to }
@@ -26,6 +30,10 @@ impl<'s> Units for &'s str {
     ghost units = { λ text. text.now };
 
     ghost MayCut = { λ text place. IsPlace (utf8 text.now) place };
+
+    fn len(self) -> usize {
+        self.len()
+    }
 
     fn part(self, from: usize, to: usize) -> &'s str {
         part_of_str(self, from, to)
@@ -47,6 +55,10 @@ impl<'s> Units for &'s [u8] {
 
     ghost MayCut = { λ _ _. ⊤ };
 
+    fn len(self) -> usize {
+        self.len()
+    }
+
     fn part(self, from: usize, to: usize) -> &'s [u8] {
         &self[from..to]
     }
@@ -56,6 +68,10 @@ impl<'s> Units for &'s [u16] {
     ghost units = { λ units. units.now };
 
     ghost MayCut = { λ _ _. ⊤ };
+
+    fn len(self) -> usize {
+        self.len()
+    }
 
     fn part(self, from: usize, to: usize) -> &'s [u16] {
         &self[from..to]

@@ -8,7 +8,7 @@ ghost use Rattle.seg_words.specs.WordRules.{type_of, word_boundaries_by};
 ghost use Rattle.seg_words.specs.Words.{word_finder, words_left, words_source};
 ghost use Rattle.icu_segmenter.specs.TextSegments.{marked};
 
-use crate::segments::{BreakIterator, WordBreaks};
+use crate::segments::{BreakIterator, WordBreaks, copy_of};
 use seg_text::scaffold::{Latin1, PotentiallyIllFormedUtf8, RuleBreakType, Utf8, Utf16};
 use seg_words::word::{WordBreakIterator, WordType};
 
@@ -46,6 +46,10 @@ impl<'data, 's> BreakIterator for WordBreakIterator<'data, 's, Utf8> {
     fn next_break(&mut self) -> Option<(usize, WordType)> {
         next_word(self)
     }
+
+    fn fork(&self) -> Self {
+        copy_of(self)
+    }
 }
 
 impl<'data, 's> BreakIterator for WordBreakIterator<'data, 's, PotentiallyIllFormedUtf8> {
@@ -71,6 +75,10 @@ impl<'data, 's> BreakIterator for WordBreakIterator<'data, 's, PotentiallyIllFor
 
     fn next_break(&mut self) -> Option<(usize, WordType)> {
         next_word(self)
+    }
+
+    fn fork(&self) -> Self {
+        copy_of(self)
     }
 }
 
@@ -98,6 +106,10 @@ impl<'data, 's> BreakIterator for WordBreakIterator<'data, 's, Latin1> {
     fn next_break(&mut self) -> Option<(usize, WordType)> {
         next_word(self)
     }
+
+    fn fork(&self) -> Self {
+        copy_of(self)
+    }
 }
 
 impl<'data, 's> BreakIterator for WordBreakIterator<'data, 's, Utf16> {
@@ -123,6 +135,10 @@ impl<'data, 's> BreakIterator for WordBreakIterator<'data, 's, Utf16> {
 
     fn next_break(&mut self) -> Option<(usize, WordType)> {
         next_word(self)
+    }
+
+    fn fork(&self) -> Self {
+        copy_of(self)
     }
 }
 

@@ -1,5 +1,8 @@
 use Rattle.seg_memo.proofs.Ways.{count-room}
 use Rattle.seg_memo.proofs.Held.{first-there, keeps-ends, keeps-known, keeps-memo, keeps-next, keeps-start, next-there}
+use Rattle.std.proofs.Common.{ap}
+use Rattle.seg_memo.specs.declared.configuration.Configuration.{Configuration}
+use Rattle.seg_memo.proofs.Moves.{goes-on, stands, stays}
 use Rattle.seg_memo.proofs.Turns.{start-rest, turn-fewer, walk-inside}
 use Rattle.seg_memo.proofs.search.go_forward.Goals as goal
 
@@ -11,6 +14,7 @@ scan-init g c = record {
   read = c.requires.1.1.0;
   walking = keeps-start _ _ _ _ _ _ c.requires.1.1.1.0 c.requires.1.1.1.1.1.1 c.requires.1.1.1.1.0 c.write.ensures;
   rest = start-rest g.scan.subject _ _ _ _ c.requires.1.1.1.1.0 c.requires.1.1.1.1.1.0;
+  goes = stays _ _ _ (ap (λ (x : Configuration). x.place) c.requires.1.1.1.1.0);
 }
 
 pub look_up-requires : goal.look_up-requires
@@ -54,4 +58,11 @@ scan-preserved g c = record {
   walking = keeps-next _ _ _ _ _ _ _ _ _ _ _ _ c.scan.invariant.walking c.look_up.ensures.value c.in-Leads.is c.in-Leads.ensures.within c.cell.ensures c.known.ensures c.in_default.is c.way.ensures
       c.write-in-scan.ensures c.look_up.ensures.count;
   rest = c.in-Leads.ensures.rest;
+  goes = goes-on _ _ _ _ _ _ c.scan.invariant.goes c.in-Leads.ensures.goes;
 }
+
+pub returns-in-Ends-clause-stands : goal.returns-in-Ends-clause-stands
+returns-in-Ends-clause-stands g c = stands _ _ _ _ _ c.scan.invariant.goes c.place-stood.ensures
+
+pub returns-in-Some-clause-stands : goal.returns-in-Some-clause-stands
+returns-in-Some-clause-stands g c = stands _ _ _ _ _ c.scan.invariant.goes c.place-stood.ensures

@@ -1,5 +1,6 @@
 use Rattle.std.proofs.Common.{refl}
 use Rattle.seg_memo.proofs.Segments.{segment-found, segment-memo, segment-some, segment-rest, skip-next, some-left}
+use Rattle.seg_memo.proofs.Moves.{segment-sought}
 use Rattle.seg_memo.proofs.Held.{keeps-left, keeps-on, segment-on}
 use Rattle.seg_memo.proofs.search.next_segment.Goals as goal
 
@@ -38,3 +39,14 @@ pub returns-clause-segment : goal.returns-clause-segment
 returns-clause-segment g c =
     segment-rest g.subject _ _ c.args.start c.loop-item.item c.in-Some.found
     (segment-found _ _ _ _ _ _ c.outcome_from-outcome.ensures.scanned.is c.picked.ensures c.in-Some.is) c.loop-item-test.false c.loop-item.auto.item-end c.loop-item.invariant
+
+pub returns-then-found-last-clause-memo : goal.returns-then-found-last-clause-memo
+returns-then-found-last-clause-memo g c =
+    let k = c.outcome_from-outcome.ensures.scanned in
+    let segment = segment-found g.subject _ _ _ _ _ k.is c.picked.ensures c.in-Some.is in
+    keeps-on _ _ _ _ _ _ _ (segment-on _ _ _ segment) k (segment-memo _ _ _ _ _ _ _ _ _ k.is c.outcome_from-outcome.ensures.read c.requires.1.1.1.1.0 c.requires.1.1.1.1.1 segment)
+
+pub returns-then-found-last-clause-segment : goal.returns-then-found-last-clause-segment
+returns-then-found-last-clause-segment g c =
+    segment-sought g.subject _ _ c.args.start _ _ c.in-Some.found (segment-found _ _ _ _ _ _ c.outcome_from-outcome.ensures.scanned.is c.picked.ensures c.in-Some.is)
+    c.outcome_from-outcome.ensures.stands c.if-found-last.true c.seek.ensures

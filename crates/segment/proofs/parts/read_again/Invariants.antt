@@ -1,6 +1,0 @@
--- A read that a signal interrupts takes nothing.
-use Rattle.std.specs.Io.KnownBytes.{Keeps}
-use Rattle.segment.proofs.parts.read_again.Given as goal
-
-abbrev pub invariant-tries : goal.invariant-tries
-invariant-tries g l = Keeps (g.I.Read.remaining l.fn.input) (g.I.Read.remaining l.input)

@@ -1,0 +1,12 @@
+pub mod ByMachine
+pub mod Escaping
+pub mod FoundByMemo
+pub mod Gathered
+pub mod JoinedCuts
+pub mod MarkedPlaces
+pub mod PartedText
+pub mod Printed
+pub mod Segments
+pub mod ShownLines
+pub mod ShownWide
+pub mod WrittenTokens

@@ -1,0 +1,32 @@
+-- What is printed of an iterator that says what it has left.
+use Rattle.std.proofs.Common.{◌≡◌, ℕ, Bool, List, None, Option, Result, Ok, Err, IfOk, length, subst}
+use Rattle.std.specs.Iterator.{YieldsFirst, YieldsThen}
+use Rattle.std.specs.Io.KnownBytes.{Appends}
+use Rattle.icu_segmenter.specs.Boundary.{Boundary}
+use Rattle.icu_segmenter.specs.TextSegments.{marked}
+use Rattle.icu_segmenter.proofs.Callers.{given-is_left}
+use Rattle.segment_output.specs.Output.{Segment, lines_at, lines_of, segments}
+use Rattle.segment_output.specs.declared.marks.Mark.{Mark}
+use Rattle.segment_output.specs.declared.output.Style.{Style}
+use Rattle.segment_output.proofs.JoinedCuts.{lines-at_zero}
+
+-- these are the segments between all that was left
+pub lines-are_left : {S A E : Type 0} (left : S → List A) (cut : List A → List Segment) (lines : List Segment → List ℕ)
+    (s t : S) (all : List A) (old new : Option (List ℕ)) (r : Result ℕ E)
+    → IfOk r (λ count. (given : List A) × YieldsThen (YieldsFirst left) s given None t × (count ≡ length (cut given)) × Appends old new (lines (cut given)))
+    → left s ≡ all → IfOk r (λ count. (count ≡ length (cut all)) × Appends old new (lines (cut all)))
+lines-are_left left cut lines s t all old new (Err e) printed is_all = tt
+lines-are_left left cut lines s t all old new (Ok count) (given, drains, counted, appends) is_all =
+    rw (← is_all, ← given-is_left left s given (t, drains)) (counted, appends)
+
+-- boundaries that are these
+pub all-printed : {E : Type 0} (alone : Bool) (mark : ℕ → Mark) (lines : List Segment → List ℕ) (left all : List Boundary) (old new : Option (List ℕ)) (r : Result ℕ E) → left ≡ all
+    → IfOk r (λ count. (count ≡ length (segments alone (marked mark left))) × Appends old new (lines (segments alone (marked mark left))))
+    → IfOk r (λ count. (count ≡ length (segments alone (marked mark all))) × Appends old new (lines (segments alone (marked mark all))))
+all-printed alone mark lines left all old new r is printed =
+    subst (λ (all : List Boundary). IfOk r (λ count. (count ≡ length (segments alone (marked mark all))) × Appends old new (lines (segments alone (marked mark all))))) is printed
+
+-- a whole text is a part before which nothing stands
+pub printed-whole : (style : Style) (text : List ℕ) (found : List Segment) (P : Type 0) (old new : Option (List ℕ)) → P × Appends old new (lines_at style 0 text found)
+    → P × Appends old new (lines_of style text found)
+printed-whole style text found P old new (p, printed) = (p, subst (Appends old new) (lines-at_zero style text found) printed)

@@ -1,0 +1,62 @@
+-- One boundary more ends one segment more, if it is shown.
+use Rattle.std.proofs.Common.{◌≡◌, ℕ, Bool, true, false, Option, None, Some, List, [], ◌∷◌, ◌++◌, drop, map, filter, refl, ap, ◌∙◌, append-nil}
+use Rattle.std.proofs.lemmas.List.{map-append}
+use Rattle.std.proofs.lemmas.List.Elements.{filter-append}
+use Rattle.std.specs.List.{zip}
+use Rattle.std.specs.Option.{option_map}
+use Rattle.segment_output.specs.Output.{Segment, ended, is_shown, segment_between, segments}
+use Rattle.segment_output.specs.declared.marks.Mark.{Mark}
+
+-- the last of a list
+abbrev pub last : {X : Type 0} → List X → Option X
+last [] = None
+last (x ∷ []) = Some x
+last (x ∷ y ∷ xs) = last (y ∷ xs)
+
+pub last-more : {X : Type 0} (xs : List X) (x : X) → last (xs ++ x ∷ []) ≡ Some x
+last-more [] x = refl
+last-more (a ∷ []) x = refl
+last-more (a ∷ b ∷ xs) x = last-more (b ∷ xs) x
+
+-- the neighbours of a list
+abbrev neighbours : {X : Type 0} → List X → List (X × X)
+neighbours xs = zip xs (drop 1 xs)
+
+abbrev with_last : {X : Type 0} → Option X → X → List (X × X)
+with_last None x = []
+with_last (Some last) x = (last, x) ∷ []
+
+neighbours-more : {X : Type 0} (xs : List X) (x : X) → neighbours (xs ++ x ∷ []) ≡ neighbours xs ++ with_last (last xs) x
+neighbours-more [] x = refl
+neighbours-more (a ∷ []) x = refl
+neighbours-more (a ∷ b ∷ xs) x = ap (λ rest. (a, b) ∷ rest) (neighbours-more (b ∷ xs) x)
+
+module _ (alone : Bool) where
+  abbrev shown : List ((ℕ × Mark) × (ℕ × Mark)) → List Segment
+  shown pairs = map segment_between (filter (λ pair. is_shown alone pair.1.1) pairs)
+
+  shown-append : (pairs more : List ((ℕ × Mark) × (ℕ × Mark))) → shown (pairs ++ more) ≡ shown pairs ++ shown more
+  shown-append pairs more =
+      ap (λ found. map segment_between found) (filter-append (λ pair. is_shown alone pair.1.1) pairs more)
+      ∙ map-append segment_between (filter (λ pair. is_shown alone pair.1.1) pairs) (filter (λ pair. is_shown alone pair.1.1) more)
+
+  is-shown : (start : Option (ℕ × Mark)) (end : ℕ × Mark) → is_shown alone end.1 ≡ true
+      → shown (with_last start end) ≡ ended (option_map (λ boundary. boundary.0) start) end
+  is-shown None end is = refl
+  is-shown (Some start) end is = rw is refl
+
+  is-left_out : (start : Option (ℕ × Mark)) (end : ℕ × Mark) → is_shown alone end.1 ≡ false → shown (with_last start end) ≡ []
+  is-left_out None end is = refl
+  is-left_out (Some start) end is = rw is refl
+
+  module _ (boundaries : List (ℕ × Mark)) (end : ℕ × Mark) where
+    more-is : segments alone (boundaries ++ end ∷ []) ≡ segments alone boundaries ++ shown (with_last (last boundaries) end)
+    more-is = ap shown (neighbours-more boundaries end) ∙ shown-append (neighbours boundaries) (with_last (last boundaries) end)
+
+    pub segments-more : is_shown alone end.1 ≡ true
+        → segments alone (boundaries ++ end ∷ []) ≡ segments alone boundaries ++ ended (option_map (λ boundary. boundary.0) (last boundaries)) end
+    segments-more is = more-is ∙ ap (λ more. segments alone boundaries ++ more) (is-shown (last boundaries) end is)
+
+    pub segments-same : is_shown alone end.1 ≡ false → segments alone (boundaries ++ end ∷ []) ≡ segments alone boundaries
+    segments-same is =
+        more-is ∙ ap (λ more. segments alone boundaries ++ more) (is-left_out (last boundaries) end is) ∙ append-nil (segments alone boundaries)

@@ -1,0 +1,11 @@
+use Rattle.std.proofs.Common.{subst, ◌∙◌}
+use Rattle.icu_segmenter.specs.LineBreaks.{LineRules}
+use Rattle.icu_segmenter.specs.Unmarked.{IsByPairTable}
+use Rattle.segment_output.proofs.machine_lines.MachineLines.wrapper.Goals as goal
+
+pub unreachable-requires : goal.unreachable-requires
+unreachable-requires c =
+    c.args.self.now.by_machine (subst (λ (rules : LineRules). IsByPairTable rules.finder) c.as_borrowed.ensures c.in_default.ensures.refused)
+
+pub returns : goal.returns
+returns c = c.in-Ok.ensures.made.0 ∙ c.as_borrowed.ensures

@@ -1,0 +1,11 @@
+-- The first of them, or none.
+use Rattle.segment_output.proofs.MarkedPlaces.{first-marked, none-marked}
+use Rattle.segment_output.proofs.marks.MarkedIterator.next.Goals as goal
+
+pub returns-in-Some-clause-steps : goal.returns-in-Some-clause-steps
+returns-in-Some-clause-steps g c =
+    first-marked g.B.BreakIterator.mark g.M.HasMark.said g.B.BreakIterator.left _ _ _ c.in-Some.end c.marked_end.result c.next_break.ensures c.in-Some.is c.marked_end.ensures
+
+pub returns-in-None-clause-steps : goal.returns-in-None-clause-steps
+returns-in-None-clause-steps g c =
+    none-marked g.B.BreakIterator.mark g.M.HasMark.said g.B.BreakIterator.left _ _ _ c.next_break.ensures c.in-None.is

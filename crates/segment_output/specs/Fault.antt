@@ -1,0 +1,15 @@
+-- What ends a run early.
+use Rattle.segment_output.specs.declared.fault.Fault.{Fault}
+use Rattle.segment_output.specs.declared.fault.Fault.TheVariants.{Read, Memo, Write}
+
+-- a fault that is met before anything is written
+abbrev pub IsBeforeWriting : Fault → Type 0
+IsBeforeWriting (Read error) = Unit {0}
+IsBeforeWriting (Memo error) = Unit {0}
+IsBeforeWriting (Write error) = ⊥
+
+-- a fault of what reads
+abbrev pub IsReadFault : Fault → Type 0
+IsReadFault (Read error) = Unit {0}
+IsReadFault (Memo error) = ⊥
+IsReadFault (Write error) = ⊥

@@ -1,0 +1,10 @@
+pub mod Escapes
+pub mod Fault
+pub mod Marks
+pub mod Memo
+pub mod Objects
+pub mod Output
+pub mod Parts
+pub mod Segmenter
+pub mod Wrapped
+pub mod Wrapper

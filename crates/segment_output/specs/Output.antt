@@ -1,0 +1,102 @@
+-- What is written of a text: each of its segments on a line of its own, or how many there are.
+use Rattle.std.specs.Prelude.{ℕ, ◌+◌, Bool, false, not, ◌||◌, Option, None, Some, List, [], ◌∷◌, ◌++◌, codes, drop, map, filter, decimal}
+use Rattle.std.specs.List.{flat_map, slice_range, zip}
+use Rattle.std.specs.Str.Lossy.{utf8_lossy}
+use Rattle.json.specs.Print.{print}
+use Rattle.json.specs.Token.{Token, begin_object, end_object, key, string, number, boolean}
+use Rattle.icu_segmenter.specs.WordRules.{is_word_like}
+use Rattle.icu_segmenter.specs.declared.options.WordType.{WordType}
+use Rattle.icu_segmenter.specs.declared.options.WordType.TheVariants as word
+use Rattle.segment_output.specs.Escapes.{escaped}
+use Rattle.segment_output.specs.declared.marks.Mark.{Mark}
+use Rattle.segment_output.specs.declared.marks.Mark.TheVariants.{Unmarked, Word, Line}
+use Rattle.segment_output.specs.declared.output.Style.{Style}
+use Rattle.segment_output.specs.declared.output.Style.TheVariants.{Escaped, Raw, ZeroEnded, Json, Offsets, Counted}
+
+-- a segment: where it begins, where it ends, and what is said of it
+pub record Segment : Type 0 where
+  pub from : ℕ
+  pub to : ℕ
+  pub mark : Mark
+
+-- is it a word
+abbrev pub is_word : Mark → Bool
+is_word Unmarked = false
+is_word (Word kind) = is_word_like kind
+is_word (Line is_mandatory) = false
+
+-- is it shown: all are, or words alone
+abbrev pub is_shown : Bool → Mark → Bool
+is_shown alone mark = not alone || is_word mark
+
+-- what stands between two boundaries
+abbrev pub segment_between : (ℕ × Mark) × (ℕ × Mark) → Segment
+segment_between (start, end) = record { from = start.0; to = end.0; mark = end.1 }
+
+-- the segments between the boundaries of a text, which are neighbours, of which each says what ends there; all, or words alone
+abbrev pub segments : Bool → List (ℕ × Mark) → List Segment
+segments alone boundaries = map segment_between (filter (λ pair. is_shown alone pair.1.1) (zip boundaries (drop 1 boundaries)))
+
+-- ---- objects of JSON
+
+abbrev pub type_word : WordType → List ℕ
+type_word word.None = codes "none"
+type_word word.Number = codes "number"
+type_word word.Letter = codes "letter"
+
+-- what is said of a segment: of words their type, and of lines whether the line must end there
+abbrev pub mark_tokens : Mark → List Token
+mark_tokens Unmarked = []
+mark_tokens (Word kind) = key (codes "type") ∷ string (type_word kind) ∷ []
+mark_tokens (Line is_mandatory) = key (codes "mandatory") ∷ boolean is_mandatory ∷ []
+
+-- the object of a text, with U+FFFD for what is ill-formed, and of its places
+abbrev pub object_of : List ℕ → Segment → List Token
+object_of text segment =
+    begin_object
+    ∷ key (codes "text") ∷ string (utf8_lossy text)
+    ∷ key (codes "begin") ∷ number (decimal segment.from)
+    ∷ key (codes "end") ∷ number (decimal segment.to)
+    ∷ mark_tokens segment.mark ++ end_object ∷ []
+
+-- ---- lines
+
+-- what stands in a segment
+abbrev pub units_of : List ℕ → Segment → List ℕ
+units_of text segment = slice_range text segment.from segment.to
+
+-- the line of a segment, where the second is what is shown of its places; where segments are only counted, it has none
+abbrev pub line_with : Style → List ℕ → Segment → Segment → List ℕ
+line_with Escaped text segment shown = escaped (units_of text segment) ++ 10 ∷ []
+line_with Raw text segment shown = units_of text segment ++ 10 ∷ []
+line_with ZeroEnded text segment shown = units_of text segment ++ 0 ∷ []
+line_with Json text segment shown = print (object_of (units_of text segment) shown) ++ 10 ∷ []
+line_with Offsets text segment shown = decimal shown.from ++ 32 ∷ decimal shown.to ++ 10 ∷ []
+line_with Counted text segment shown = []
+
+abbrev pub line_of : Style → List ℕ → Segment → List ℕ
+line_of style text segment = line_with style text segment segment
+
+abbrev pub lines_of : Style → List ℕ → List Segment → List ℕ
+lines_of style text segments = flat_map (line_of style text) segments
+
+-- the segment so much later
+abbrev pub later : ℕ → Segment → Segment
+later before segment = record { from = before + segment.from; to = before + segment.to; mark = segment.mark }
+
+-- the line of a segment of a part of a text, before which so many bytes stand: its places are those in the whole text
+abbrev pub line_at : Style → ℕ → List ℕ → Segment → List ℕ
+line_at style before part segment = line_with style part segment (later before segment)
+
+abbrev pub lines_at : Style → ℕ → List ℕ → List Segment → List ℕ
+lines_at style before part segments = flat_map (line_at style before part) segments
+
+-- the segment that ends at a place, if one begins before it
+abbrev pub ended : Option ℕ → ℕ × Mark → List Segment
+ended None end = []
+ended (Some start) end = record { from = start; to = end.0; mark = end.1 } ∷ []
+
+-- the line of a count: how many there are, and the name of what they were counted in, if it has one
+abbrev pub count_line : ℕ → Option (List ℕ) → List ℕ
+count_line count None = decimal count ++ 10 ∷ []
+count_line count (Some name) = decimal count ++ 32 ∷ name ++ 10 ∷ []

@@ -1,0 +1,97 @@
+-- The segments that each segmenter gives, and which one is made.
+use Rattle.std.specs.Prelude.{◌≡◌, ℕ, Bool, true, false, None, List}
+use Rattle.icu_segmenter.specs.Boundary.{Boundary}
+use Rattle.icu_segmenter.specs.Clusters.{owned_cluster_rules}
+use Rattle.icu_segmenter.specs.LineBreaks.{LineRules, line_boundaries_of, table_lines, turn_lines, with_words as lines_with_words}
+use Rattle.icu_segmenter.specs.LineStyles.{style_of}
+use Rattle.icu_segmenter.specs.Lines.{chosen_rules, owned_line_rules, without_ja}
+use Rattle.icu_segmenter.specs.Options.{machine_choice}
+use Rattle.icu_segmenter.specs.Rules.{Rules, boundaries_of}
+use Rattle.icu_segmenter.specs.Rules.Rules.{ByTable, ByMachine}
+use Rattle.icu_segmenter.specs.ScriptWords.{ScriptWords, no_words}
+use Rattle.icu_segmenter.specs.Sentences.{owned_sentence_rules}
+use Rattle.icu_segmenter.specs.TextSegments.{marked}
+use Rattle.icu_segmenter.specs.Utf8.{utf8}
+use Rattle.icu_segmenter.specs.WordRules.{WordRules, machine_words, table_words, word_boundaries_of}
+use Rattle.icu_segmenter.specs.Words.{owned_word_rules}
+use Rattle.icu_segmenter.specs.declared.options.LineBreakOptions.{LineBreakOptions}
+use Rattle.icu_segmenter_data.specs.Unicode.{cluster_machine, cluster_table, line_machine, line_table, line_17_table, line_tailorings, sentence_table, word_machine, word_table}
+use Rattle.icu_segmenter_uax29.specs.Clusters.{cluster_machine as proved_clusters}
+use Rattle.icu_segmenter_uax29.specs.Sentences.{sentence_machine as proved_sentences}
+use Rattle.segment_output.specs.Marks.{mark_of}
+use Rattle.segment_output.specs.Output.{Segment, segments}
+use Rattle.segment_output.specs.declared.segmenter.Engine.{Engine}
+use Rattle.segment_output.specs.declared.segmenter.Engine.TheVariants as engine
+use Rattle.segment_output.specs.declared.segmenter.Kind.{Kind}
+use Rattle.segment_output.specs.declared.segmenter.Kind.TheVariants as kind
+use Rattle.segment_output.specs.declared.marks.Marking.{Marking}
+use Rattle.segment_output.specs.declared.marks.Marking.TheVariants as marking
+use Rattle.segment_output.specs.declared.segmenter.Segmenter.{Segmenter}
+use Rattle.segment_output.specs.declared.segmenter.Segmenter.TheVariants.{Clusters, Words, WordsAlone, Sentences, Lines}
+
+-- the boundaries of some bytes, which are seen as UTF-8
+abbrev pub boundaries_by : Segmenter → List ℕ → List Boundary
+boundaries_by (Clusters clusters) bytes = boundaries_of (owned_cluster_rules clusters) (utf8 bytes)
+boundaries_by (Words words) bytes = word_boundaries_of (owned_word_rules words) (utf8 bytes)
+boundaries_by (WordsAlone words) bytes = word_boundaries_of (owned_word_rules words) (utf8 bytes)
+boundaries_by (Sentences sentences) bytes = boundaries_of (owned_sentence_rules sentences) (utf8 bytes)
+boundaries_by (Lines lines) bytes = line_boundaries_of (owned_line_rules lines) (utf8 bytes)
+
+-- what they say of the segments that end there
+abbrev pub marking_by : Segmenter → Marking
+marking_by (Clusters clusters) = marking.Nothing
+marking_by (Words words) = marking.Types
+marking_by (WordsAlone words) = marking.Types
+marking_by (Sentences sentences) = marking.Nothing
+marking_by (Lines lines) = marking.Ends
+
+-- are words alone shown
+abbrev pub has_words_alone : Segmenter → Bool
+has_words_alone (Clusters clusters) = false
+has_words_alone (Words words) = false
+has_words_alone (WordsAlone words) = true
+has_words_alone (Sentences sentences) = false
+has_words_alone (Lines lines) = false
+
+-- the segments of such bytes
+abbrev pub segments_by : Segmenter → List ℕ → List Segment
+segments_by segmenter bytes = segments (has_words_alone segmenter) (marked (mark_of (marking_by segmenter)) (boundaries_by segmenter bytes))
+
+-- ---- the rules of each engine, over Unicode's data
+
+abbrev pub cluster_rules_by : Engine → Rules
+cluster_rules_by engine.Neo = ByMachine proved_clusters
+cluster_rules_by engine.Classic = ByTable cluster_table None
+cluster_rules_by engine.Seventeen = ByTable cluster_table None
+cluster_rules_by engine.Memo = ByMachine proved_clusters
+
+abbrev pub sentence_rules_by : Engine → Rules
+sentence_rules_by engine.Neo = ByMachine proved_sentences
+sentence_rules_by engine.Classic = ByTable sentence_table None
+sentence_rules_by engine.Seventeen = ByTable sentence_table None
+sentence_rules_by engine.Memo = ByMachine proved_sentences
+
+-- with the words of scripts
+abbrev pub word_rules_by : Engine → ScriptWords → WordRules
+word_rules_by engine.Neo words = machine_words word_machine cluster_table words
+word_rules_by engine.Classic words = table_words word_table None cluster_table words
+word_rules_by engine.Seventeen words = table_words word_table None cluster_table words
+word_rules_by engine.Memo words = machine_words word_machine cluster_table words
+
+-- as options choose them
+abbrev pub line_rules_of : Engine → LineBreakOptions → LineRules
+line_rules_of engine.Neo options = chosen_rules line_machine line_tailorings cluster_machine (machine_choice options)
+line_rules_of engine.Classic options = table_lines (record { table = line_table; style = style_of options }) cluster_table no_words
+line_rules_of engine.Seventeen options = turn_lines (record { table = line_17_table; style = style_of options }) cluster_table no_words
+line_rules_of engine.Memo options = chosen_rules line_machine line_tailorings cluster_machine (machine_choice options)
+
+abbrev pub line_rules_by : Engine → LineBreakOptions → ScriptWords → LineRules
+line_rules_by engine options words = lines_with_words (line_rules_of engine options) (without_ja words)
+
+-- a segmenter is that of a kind: by an engine over Unicode's data, with options of lines and the words of scripts
+abbrev pub IsAskedOf : Kind → Engine → LineBreakOptions → ScriptWords → Segmenter → Type 0
+IsAskedOf asked engine options words (Clusters clusters) = (asked ≡ kind.Clusters) × (owned_cluster_rules clusters ≡ cluster_rules_by engine)
+IsAskedOf asked engine options words (Words segmenter) = (asked ≡ kind.Words) × (owned_word_rules segmenter ≡ word_rules_by engine words)
+IsAskedOf asked engine options words (WordsAlone segmenter) = (asked ≡ kind.WordsAlone) × (owned_word_rules segmenter ≡ word_rules_by engine words)
+IsAskedOf asked engine options words (Sentences sentences) = (asked ≡ kind.Sentences) × (owned_sentence_rules sentences ≡ sentence_rules_by engine)
+IsAskedOf asked engine options words (Lines lines) = (asked ≡ kind.Lines) × (owned_line_rules lines ≡ line_rules_by engine options words)

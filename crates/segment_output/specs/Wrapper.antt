@@ -1,0 +1,28 @@
+-- How a wrapper wraps, and which one is asked for.
+use Rattle.std.specs.Prelude.{◌≡◌, None, Some, if◌then◌else◌}
+use Rattle.std.specs.Option.{option_map}
+use Rattle.icu_segmenter.specs.Lines.{owned_line_rules}
+use Rattle.icu_segmenter.specs.ScriptWords.{ScriptWords}
+use Rattle.icu_segmenter.specs.declared.options.LineBreakOptions.{LineBreakOptions}
+use Rattle.segment_output.specs.Segmenter.{line_rules_by}
+use Rattle.segment_output.specs.Wrapped.{Wrapping, cluster_lines}
+use Rattle.segment_output.specs.declared.segmenter.Engine.TheVariants as engine
+use Rattle.segment_output.specs.declared.wrapper.Width.{Width}
+use Rattle.segment_output.specs.declared.wrapper.Wrapper.{Wrapper}
+
+abbrev pub wrapping_of : Wrapper → Wrapping
+wrapping_of wrapper = record {
+  columns = wrapper.columns;
+  lines = owned_line_rules wrapper.lines.lines;
+  broken = option_map (λ clusters. owned_line_rules clusters.lines) wrapper.clusters;
+}
+
+-- a wrapper is that to a width: over Unicode's data, with options of lines and the words of scripts; where words are broken, they are
+-- between clusters
+abbrev pub IsAskedWrapper : Width → LineBreakOptions → ScriptWords → Wrapper → Type 0
+IsAskedWrapper width options words wrapper =
+    wrapping_of wrapper ≡ record {
+      columns = width.columns;
+      lines = line_rules_by engine.Neo options words;
+      broken = if width.breaks_words then Some cluster_lines else None;
+    }

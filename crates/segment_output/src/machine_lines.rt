@@ -1,0 +1,46 @@
+//! Segmenters of lines whose breaks a machine finds.
+ghost use Rattle.std.specs.Prelude.{◌≡◌, IfOk};
+ghost use Rattle.icu_segmenter.specs.Lines.{owned_line_rules};
+ghost use Rattle.icu_segmenter.specs.Unmarked.{IsByPairTable};
+
+use crate::segmenter::{Engine, line_segmenter};
+use icu_segmenter::LineSegmenter;
+use icu_segmenter::options::LineBreakOptions;
+use icu_segmenter::provider::{DataError, Dictionaries};
+use icu_segmenter::wrap::LineWrapper;
+use std::alloc::Global;
+
+/// A segmenter of lines whose breaks a machine finds.
+#[derive(Drop)]
+pub struct MachineLines {
+    lines: LineSegmenter,
+    ghost by_machine: { IsByPairTable (owned_line_rules lines).finder → ⊥ },
+}
+
+impl MachineLines {
+    ghost use Rattle.icu_segmenter.specs.ScriptWords.{script_words};
+    ghost use Rattle.icu_segmenter.specs.WrappedLines.{wrapper_rules};
+    ghost use Rattle.segment_output.specs.Segmenter.{line_rules_by};
+
+    /// That of Unicode's data, with these options and dictionaries. The error is want of memory.
+    pub fn try_new(
+        alloc: Global,
+        options: LineBreakOptions<'_>,
+        dictionaries: Dictionaries,
+    ) -> Result<Self, DataError>
+        ensures { IfOk result (λ lines. owned_line_rules lines.lines ≡ line_rules_by Engine.Neo options.entry (script_words dictionaries)) }
+    {
+        let lines = line_segmenter(alloc, Engine::Neo, options, dictionaries)?;
+        Ok(MachineLines { lines })
+    }
+
+    /// The wrapper of lines by the same breaks. Takes no memory.
+    pub fn wrapper(&self) -> LineWrapper<'_>
+        ensures { wrapper_rules result ≡ owned_line_rules self.now.lines }
+    {
+        let Ok(wrapper) = LineWrapper::new(self.lines.as_borrowed()) else {
+            unreachable!()
+        };
+        wrapper
+    }
+}

@@ -1,0 +1,151 @@
+//! The same segments by the memoised engine.
+ghost use Rattle.std.specs.Prelude.{◌≡◌, IfErr, IfOk, IsErr, MatchResult};
+ghost use Rattle.std.specs.Io.KnownBytes.{Appends};
+ghost use Rattle.std.specs.Iterator.{item_count};
+ghost use Rattle.icu_segmenter.specs.TextSegments.{marked};
+ghost use Rattle.segment_output.specs.Fault.{IsBeforeWriting};
+ghost use Rattle.segment_output.specs.Marks.{mark_of};
+ghost use Rattle.segment_output.specs.Memo.{IsFoundBy, IsPrinted, StepsMemo};
+ghost use Rattle.segment_output.specs.Output.{lines_of, segments};
+ghost use Rattle.segment_output.specs.Segmenter.{segments_by};
+
+use crate::fault::Fault;
+use crate::found::Found;
+use crate::marks::{Mark, Marking};
+use crate::output::{Style, print_segments};
+use crate::segmenter::Segmenter;
+use icu_segmenter::indices::Utf8CharIndices;
+use icu_segmenter::memo::{MemoBreakIterator, MemoError};
+use icu_segmenter::rule_segmenter_v2::CountedTransitions;
+use std::alloc::Global;
+use std::io::Write;
+
+type Memo<'data, 's> = MemoBreakIterator<'data, Utf8CharIndices<'s>, CountedTransitions<'data>>;
+
+/// Writes just what `Segmenter::print` writes, and flushes, but looks up no configuration of the machine twice: the look-ups are as
+/// many as there are different configurations that the scans of the segments look up. The errors are those of `with_memo`, which are met
+/// before anything is written, the writer's, and want of memory.
+pub fn print_by_memo<O: Write>(
+    alloc: Global,
+    segmenter: &Segmenter,
+    text: &[u8],
+    style: Style,
+    out: &mut O,
+) -> Result<Found, Fault>
+    ensures written { IfOk result (λ found. IsFoundBy segmenter.now text.now found
+        × Appends (O.contents out.old) (O.contents out.new) (lines_of style text.now (segments_by segmenter.now text.now))) }
+    ensures unwritten { IfErr result (λ fault. IsBeforeWriting fault → out.new ≡ out.old) }
+{
+    match segmenter {
+        Segmenter::Clusters(clusters) => {
+            let clusters = clusters.as_borrowed().segment_utf8(text);
+            print_memo(
+                alloc,
+                clusters.with_memo(alloc),
+                Marking::Nothing,
+                false,
+                text,
+                style,
+                out,
+            )
+        }
+        Segmenter::Words(words) => {
+            let words = words.as_borrowed().segment_utf8(text);
+            print_memo(
+                alloc,
+                words.with_memo(alloc),
+                Marking::Types,
+                false,
+                text,
+                style,
+                out,
+            )
+        }
+        Segmenter::WordsAlone(words) => {
+            let words = words.as_borrowed().segment_utf8(text);
+            print_memo(
+                alloc,
+                words.with_memo(alloc),
+                Marking::Types,
+                true,
+                text,
+                style,
+                out,
+            )
+        }
+        Segmenter::Sentences(sentences) => {
+            let sentences = sentences.as_borrowed().segment_utf8(text);
+            print_memo(
+                alloc,
+                sentences.with_memo(alloc),
+                Marking::Nothing,
+                false,
+                text,
+                style,
+                out,
+            )
+        }
+        Segmenter::Lines(lines) => {
+            let lines = lines.as_borrowed().segment_utf8(text);
+            print_memo(
+                alloc,
+                lines.with_memo(alloc),
+                Marking::Ends,
+                false,
+                text,
+                style,
+                out,
+            )
+        }
+    }
+}
+
+// Writes the segments between the boundaries that a memoised engine has still to give, if there is one, or words alone.
+fn print_memo<O: Write>(
+    alloc: Global,
+    memo: Result<Memo<'_, '_>, MemoError>,
+    marking: Marking,
+    alone: bool,
+    text: &[u8],
+    style: Style,
+    out: &mut O,
+) -> Result<Found, Fault>
+    ensures written { MatchResult memo.entry
+        (λ memo. IfOk result (λ found. IsPrinted memo (segments alone (marked (mark_of marking) memo.coming.left)) found
+        × Appends (O.contents out.old) (O.contents out.new) (lines_of style text.now (segments alone (marked (mark_of marking) memo.coming.left))))) (λ _. IsErr result) }
+    ensures unwritten { IfErr result (λ fault. IsBeforeWriting fault → out.new ≡ out.old) }
+{
+    let mut places = match memo {
+        Ok(memo) => MemoPlaces { memo, marking },
+        Err(error) => return Err(Fault::Memo(error)),
+    };
+    match print_segments(alloc, &mut places, alone, text, 0, style, out) {
+        Ok(segments) => {
+            let lookups = places.memo.lookups();
+            Ok(Found { segments, lookups })
+        }
+        Err(error) => Err(Fault::Write(error)),
+    }
+}
+
+/// The boundaries that a memoised engine has still to give, each with the mark of what ends there. Its machine and its text stay.
+#[derive(Drop)]
+pub struct MemoPlaces<'data, 's> {
+    memo: Memo<'data, 's>,
+    marking: Marking,
+}
+
+impl<'data, 's> Iterator for MemoPlaces<'data, 's> {
+    type Item = (usize, Mark);
+
+    ghost next_gives = { StepsMemo (λ s. s.memo) (λ s. marked (mark_of s.marking) s.memo.coming.left) };
+
+    ghost remaining = { item_count (λ s. marked (mark_of s.marking) s.memo.coming.left) };
+
+    fn next(&mut self) -> Option<(usize, Mark)> {
+        match self.memo.next() {
+            Some(place) => Some((place, self.marking.mark(self.memo.status()))),
+            None => None,
+        }
+    }
+}

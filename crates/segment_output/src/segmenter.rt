@@ -1,0 +1,256 @@
+//! Segmenters by Unicode's data.
+ghost use Rattle.std.specs.Prelude.{◌≡◌, length, IfOk, IsTrue};
+ghost use Rattle.std.specs.Io.KnownBytes.{Appends};
+ghost use Rattle.segment_output.specs.Output.{lines_at, lines_of, segments};
+ghost use Rattle.icu_segmenter.specs.Boundaries.{IsCover};
+ghost use Rattle.icu_segmenter.specs.Clusters.{owned_cluster_rules};
+ghost use Rattle.icu_segmenter.specs.Lines.{owned_line_rules};
+ghost use Rattle.icu_segmenter.specs.NearBoundaries.{line_feed};
+ghost use Rattle.icu_segmenter.specs.Parted.{PartsBehind};
+ghost use Rattle.icu_segmenter.specs.ScriptWords.{script_words};
+ghost use Rattle.icu_segmenter.specs.TextSegments.{marked};
+ghost use Rattle.icu_segmenter.specs.Sentences.{owned_sentence_rules};
+ghost use Rattle.icu_segmenter.specs.Words.{owned_word_rules};
+ghost use Rattle.segment_output.specs.Segmenter.{boundaries_by, cluster_rules_by, line_rules_by, line_rules_of, segments_by, sentence_rules_by, word_rules_by, IsAskedOf};
+
+use crate::marks::{HasMark, Marked};
+use crate::output::{Style, print_segments};
+use icu_segmenter::cursor::Segmenter as Cursor;
+use icu_segmenter::options::LineBreakOptions;
+use icu_segmenter::provider::{DataError, Dictionaries};
+use icu_segmenter::segments::BreakIterator;
+use icu_segmenter::{GraphemeClusterSegmenter, LineSegmenter, SentenceSegmenter, WordSegmenter};
+use icu_segmenter_data::classic;
+use std::alloc::Global;
+use std::io;
+use std::io::Write;
+
+/// What is found.
+#[derive(Clone, Copy, Debug, PartialEq, Eq)]
+pub enum Kind {
+    /// Grapheme clusters.
+    Clusters,
+    /// Words, and what stands between them.
+    Words,
+    /// Words alone.
+    WordsAlone,
+    /// Sentences.
+    Sentences,
+    /// Lines.
+    Lines,
+}
+
+/// What finds the boundaries, by Unicode's data.
+#[derive(Clone, Copy, Debug, PartialEq, Eq)]
+pub enum Engine {
+    /// A state machine.
+    Neo,
+    /// A pair table.
+    Classic,
+    /// A pair table, and of lines that of the rules of the engine 17.
+    Seventeen,
+    /// The state machine, of which no configuration is looked up twice.
+    Memo,
+}
+
+/// A segmenter with data of its own.
+#[derive(Drop)]
+pub enum Segmenter {
+    /// Of grapheme clusters.
+    Clusters(GraphemeClusterSegmenter),
+    /// Of words, and of what stands between them.
+    Words(WordSegmenter),
+    /// Of words alone.
+    WordsAlone(WordSegmenter),
+    /// Of sentences.
+    Sentences(SentenceSegmenter),
+    /// Of lines.
+    Lines(LineSegmenter),
+}
+
+impl Segmenter {
+    /// Writes the segments of a part of a text before which so many bytes stand, each on a line of its own, flushes, and says how many
+    /// there are. The errors are the writer's, and want of memory.
+    pub fn print_part<O: Write>(
+        &self,
+        alloc: Global,
+        part: &[u8],
+        before: usize,
+        style: Style,
+        out: &mut O,
+    ) -> io::Result<usize>
+        ensures { IfOk result (λ count. (count ≡ length (segments_by self.now part.now))
+            × Appends (O.contents out.old) (O.contents out.new) (lines_at style before part.now (segments_by self.now part.now))) }
+    {
+        match self {
+            Segmenter::Clusters(clusters) => {
+                let places = clusters.as_borrowed().segment_utf8(part);
+                print_breaks(alloc, places, false, part, before, style, out)
+            }
+            Segmenter::Words(words) => {
+                let places = words.as_borrowed().segment_utf8(part);
+                print_breaks(alloc, places, false, part, before, style, out)
+            }
+            Segmenter::WordsAlone(words) => {
+                let places = words.as_borrowed().segment_utf8(part);
+                print_breaks(alloc, places, true, part, before, style, out)
+            }
+            Segmenter::Sentences(sentences) => {
+                let places = sentences.as_borrowed().segment_utf8(part);
+                print_breaks(alloc, places, false, part, before, style, out)
+            }
+            Segmenter::Lines(lines) => {
+                let places = lines.as_borrowed().segment_utf8(part);
+                print_breaks(alloc, places, false, part, before, style, out)
+            }
+        }
+    }
+
+    /// The same of a whole text.
+    pub fn print<O: Write>(
+        &self,
+        alloc: Global,
+        text: &[u8],
+        style: Style,
+        out: &mut O,
+    ) -> io::Result<usize>
+        ensures { IfOk result (λ count. (count ≡ length (segments_by self.now text.now))
+            × Appends (O.contents out.old) (O.contents out.new) (lines_of style text.now (segments_by self.now text.now))) }
+    {
+        self.print_part(alloc, text, 0, style, out)
+    }
+}
+
+// Writes the segments between the boundaries that come, or words alone.
+fn print_breaks<M: HasMark, B: BreakIterator<Mark = M>, O: Write>(
+    alloc: Global,
+    breaks: B,
+    alone: bool,
+    part: &[u8],
+    before: usize,
+    style: Style,
+    out: &mut O,
+) -> io::Result<usize>
+    ensures { IfOk result (λ count.
+        let found = segments alone (marked (λ status. M.said (B.mark status)) (B.left breaks)) in
+        (count ≡ length found) × Appends (O.contents out.old) (O.contents out.new) (lines_at style before part.now found)) }
+{
+    let mut places = Marked { breaks };
+    print_segments(alloc, &mut places, alone, part, before, style, out)
+}
+
+impl Segmenter {
+    /// Whether a text may be cut part by part, each behind a line feed: each has the boundaries that it has in the whole text. It is so
+    /// by Unicode's machines. Takes no memory.
+    pub fn has_parts(&self) -> bool
+        ensures { IsTrue result → PartsBehind (boundaries_by self.now) line_feed }
+    {
+        match self {
+            Segmenter::Clusters(clusters) => clusters.as_borrowed().parts_behind_line_feeds(),
+            Segmenter::Words(words) => words.as_borrowed().parts_behind_line_feeds(),
+            Segmenter::WordsAlone(words) => words.as_borrowed().parts_behind_line_feeds(),
+            Segmenter::Sentences(sentences) => sentences.as_borrowed().parts_behind_line_feeds(),
+            Segmenter::Lines(lines) => lines.as_borrowed().parts_behind_line_feeds(),
+        }
+    }
+
+    /// The first boundary of a text is at its start, and the last at its end. Takes no memory.
+    pub fn cover(&self, text: &[u8])
+        ensures { IsCover 0 (length text.now) (boundaries_by self.now text.now) }
+    {
+        match self {
+            Segmenter::Clusters(clusters) => clusters.as_borrowed().cover(text),
+            Segmenter::Words(words) => words.as_borrowed().cover(text),
+            Segmenter::WordsAlone(words) => words.as_borrowed().cover(text),
+            Segmenter::Sentences(sentences) => sentences.as_borrowed().cover(text),
+            Segmenter::Lines(lines) => lines.as_borrowed().cover(text),
+        }
+    }
+}
+
+/// The segmenter of a kind by an engine, with these options of lines and these dictionaries where its kind has some. The error is want of memory.
+pub fn segmenter_of(
+    alloc: Global,
+    kind: Kind,
+    engine: Engine,
+    options: LineBreakOptions<'_>,
+    dictionaries: Dictionaries,
+) -> Result<Segmenter, DataError>
+    ensures { IfOk result (λ segmenter. IsAskedOf kind engine options.entry (script_words dictionaries) segmenter) }
+{
+    match kind {
+        Kind::Clusters => Ok(Segmenter::Clusters(cluster_segmenter(alloc, engine)?)),
+        Kind::Words => Ok(Segmenter::Words(word_segmenter(alloc, engine, dictionaries)?)),
+        Kind::WordsAlone => {
+            let words = word_segmenter(alloc, engine, dictionaries)?;
+            Ok(Segmenter::WordsAlone(words))
+        }
+        Kind::Sentences => Ok(Segmenter::Sentences(sentence_segmenter(alloc, engine)?)),
+        Kind::Lines => {
+            let lines = line_segmenter(alloc, engine, options, dictionaries)?;
+            Ok(Segmenter::Lines(lines))
+        }
+    }
+}
+
+fn cluster_segmenter(alloc: Global, engine: Engine) -> Result<GraphemeClusterSegmenter, DataError>
+    ensures { IfOk result (λ clusters. owned_cluster_rules clusters ≡ cluster_rules_by engine) }
+{
+    match engine {
+        Engine::Neo | Engine::Memo => icu_segmenter_data::grapheme_segmenter(alloc),
+        Engine::Classic | Engine::Seventeen => classic::grapheme_segmenter(alloc),
+    }
+}
+
+fn sentence_segmenter(alloc: Global, engine: Engine) -> Result<SentenceSegmenter, DataError>
+    ensures { IfOk result (λ sentences. owned_sentence_rules sentences ≡ sentence_rules_by engine) }
+{
+    match engine {
+        Engine::Neo | Engine::Memo => icu_segmenter_data::sentence_segmenter(alloc),
+        Engine::Classic | Engine::Seventeen => classic::sentence_segmenter(alloc),
+    }
+}
+
+fn word_segmenter(
+    alloc: Global,
+    engine: Engine,
+    dictionaries: Dictionaries,
+) -> Result<WordSegmenter, DataError>
+    ensures { IfOk result (λ words. owned_word_rules words ≡ word_rules_by engine (script_words dictionaries)) }
+{
+    let mut words = match engine {
+        Engine::Neo | Engine::Memo => icu_segmenter_data::word_segmenter(alloc)?,
+        Engine::Classic | Engine::Seventeen => classic::word_segmenter(alloc)?,
+    };
+    words.load_dictionary(dictionaries);
+    Ok(words)
+}
+
+/// A segmenter of lines by an engine, with these options and dictionaries. The error is want of memory.
+pub fn line_segmenter(
+    alloc: Global,
+    engine: Engine,
+    options: LineBreakOptions<'_>,
+    dictionaries: Dictionaries,
+) -> Result<LineSegmenter, DataError>
+    ensures { IfOk result (λ lines. owned_line_rules lines ≡ line_rules_by engine options.entry (script_words dictionaries)) }
+{
+    let mut lines = lines_without_words(alloc, engine, options)?;
+    lines.load_dictionary(dictionaries);
+    Ok(lines)
+}
+
+// The same without dictionaries.
+fn lines_without_words(
+    alloc: Global,
+    engine: Engine,
+    options: LineBreakOptions<'_>,
+) -> Result<LineSegmenter, DataError>
+    ensures { IfOk result (λ lines. (owned_line_rules lines ≡ line_rules_of engine options.entry)) }
+{
+    match engine {
+        Engine::Neo | Engine::Memo => icu_segmenter_data::line_segmenter(alloc, options),
+        Engine::Classic => classic::line_segmenter(alloc, options),
+        Engine::Seventeen => classic::line_17_segmenter(alloc, options),
+    }
+}

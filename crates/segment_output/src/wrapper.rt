@@ -1,0 +1,135 @@
+//! Lines, wrapped to columns.
+ghost use Rattle.std.specs.Prelude.{◌≡◌, ◌++◌, Some, IfOk, OnOk};
+ghost use Rattle.std.specs.Io.KnownBytes.{Appends};
+ghost use Rattle.icu_segmenter.specs.Lines.{owned_line_rules};
+ghost use Rattle.icu_segmenter.specs.ScriptWords.{script_words};
+ghost use Rattle.icu_segmenter.specs.WrappedLines.{utf8_line_in, utf8_lines_to_come};
+ghost use Rattle.segment_output.specs.Wrapped.{cluster_lines, printed_lines, shown_as, shown_line, shown_lines, wrapped_output};
+ghost use Rattle.segment_output.specs.Wrapper.{wrapping_of, IsAskedWrapper};
+
+use crate::machine_lines::MachineLines;
+use crate::output::{LINES_CAPACITY, LINES_LEN, write_lines};
+use crate::wrapped::{push_line, push_lines, without_hanging};
+use icu_segmenter::options::{LineBreakOptions, LineBreakStrictness};
+use icu_segmenter::provider::{DataError, Dictionaries};
+use icu_segmenter::wrap::{WrapUtf8Iterator, WrappedUtf8Line};
+use std::alloc::{AllocError, Global};
+use std::io;
+use std::io::Write;
+
+/// How lines are wrapped.
+#[derive(Clone, Copy, Debug, PartialEq, Eq)]
+pub struct Width {
+    /// The columns that a line has at most, unless no line may end in it.
+    pub columns: usize,
+    /// Whether what is wider, and no line may end in it, is broken between clusters.
+    pub breaks_words: bool,
+}
+
+/// Wraps lines, with data of its own.
+#[derive(Drop)]
+pub struct Wrapper {
+    /// The columns that a line has at most.
+    columns: usize,
+    /// What finds where a line may end.
+    lines: MachineLines,
+    /// What finds it in a line that is wider, where such lines are broken: at each cluster.
+    clusters: Option<MachineLines>,
+}
+
+impl Wrapper {
+    /// Writes the wrapped lines of a text, each without what hangs at its end and with a line feed, and flushes. What is ill-formed is
+    /// written as it is. The errors are the writer's, and want of memory.
+    pub fn print<O: Write>(&self, alloc: Global, text: &[u8], out: &mut O) -> io::Result<()>
+        ensures { OnOk result (Appends (O.contents out.old) (O.contents out.new) (wrapped_output (wrapping_of self.now) text.now)) }
+    {
+        let lines = self.lines.wrapper().wrap_utf8(text, self.columns);
+        self.print_all(alloc, lines, out)
+    }
+
+    // Writes each line that comes as it is shown, and flushes.
+    fn print_all<O: Write>(
+        &self,
+        alloc: Global,
+        lines: WrapUtf8Iterator<'_, '_>,
+        out: &mut O,
+    ) -> io::Result<()>
+        ensures { OnOk result (Appends (O.contents out.old) (O.contents out.new) (shown_lines (wrapping_of self.now) (utf8_lines_to_come lines.entry))) }
+    {
+        let mut gathered = Vec::with_capacity(alloc, LINES_CAPACITY)?;
+        for line in lines {
+            self.push_shown(line, &mut gathered)?;
+            if gathered.len() >= LINES_LEN {
+                write_lines(&mut gathered, out)?;
+            }
+        }
+        out.write_all(gathered.as_slice())?;
+        out.flush()
+    }
+
+    // Adds a line as it is shown.
+    fn push_shown(
+        &self,
+        line: WrappedUtf8Line<'_>,
+        gathered: &mut Vec<u8>,
+    ) -> Result<(), AllocError>
+        ensures { OnOk result (gathered.new.items ≡ gathered.old.items ++ shown_line (wrapping_of self.now) (utf8_line_in line.entry)) }
+    {
+        match &self.clusters {
+            Some(clusters) => push_broken(line, clusters, self.columns, gathered),
+            None => push_line(line.bytes(), gathered),
+        }
+    }
+}
+
+// Adds a line, broken between clusters where it is wider than the columns.
+fn push_broken(
+    line: WrappedUtf8Line<'_>,
+    clusters: &MachineLines,
+    columns: usize,
+    gathered: &mut Vec<u8>,
+) -> Result<(), AllocError>
+    ensures { OnOk result (gathered.new.items ≡ gathered.old.items ++ printed_lines (shown_as (Some (owned_line_rules clusters.now.lines)) columns (utf8_line_in line.entry))) }
+{
+    if line.columns() <= columns as u128 {
+        return push_line(line.bytes(), gathered);
+    }
+    let wrapper = clusters.wrapper();
+    push_lines(
+        wrapper.wrap_utf8(without_hanging(line.bytes()), columns),
+        gathered,
+    )
+}
+
+/// A wrapper to a width, with these options of lines and these dictionaries. The error is want of memory.
+pub fn wrapper_of(
+    alloc: Global,
+    width: Width,
+    options: LineBreakOptions<'_>,
+    dictionaries: Dictionaries,
+) -> Result<Wrapper, DataError>
+    ensures { IfOk result (λ wrapper. IsAskedWrapper width options.entry (script_words dictionaries) wrapper) }
+{
+    let clusters = if width.breaks_words {
+        Some(cluster_lines(alloc)?)
+    } else {
+        None
+    };
+    Ok(Wrapper {
+        columns: width.columns,
+        lines: MachineLines::try_new(alloc, options, dictionaries)?,
+        clusters,
+    })
+}
+
+// Lines that may end at each boundary of a cluster.
+fn cluster_lines(alloc: Global) -> Result<MachineLines, DataError>
+    ensures { IfOk result (λ lines. owned_line_rules lines.lines ≡ cluster_lines) }
+{
+    let options = LineBreakOptions {
+        strictness: Some(LineBreakStrictness::Anywhere),
+        word_option: None,
+        content_locale: None,
+    };
+    MachineLines::try_new(alloc, options, Dictionaries::none())
+}
