@@ -46,7 +46,11 @@ pub fn word_segmenter(alloc: Global) -> Result<WordSegmenter, DataError>
 pub fn sentence_segmenter(alloc: Global) -> Result<SentenceSegmenter, DataError>
     ensures { IfOk result (λ sentences. owned_sentence_rules sentences ≡ ByTable sentence_table None) }
 {
-    SentenceSegmenter::try_new(sentence_table(alloc)?, None, SentenceBreakOptions::default())
+    SentenceSegmenter::try_new(
+        sentence_table(alloc)?,
+        None,
+        SentenceBreakOptions::default(),
+    )
 }
 
 /// A segmenter of lines, by the pair table of UAX #14 as these options read it, or by that of clusters where they are `Anywhere`; without
