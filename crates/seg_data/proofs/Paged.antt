@@ -1,14 +1,27 @@
 -- Pages of values.
-use Rattle.std.proofs.Common.{◌≡◌, ℕ, ◌+◌, ◌*◌, ◌/◌, ◌%◌, ◌<◌, ◌++◌, Bool, true, false, cond, List, [], ◌∷◌, length, get_or, ap, ◌∙◌, inl, inr, arith}
+use Rattle.std.proofs.Common.{◌≡◌, ℕ, ◌+◌, ◌*◌, ◌/◌, ◌%◌, ◌<◌, ◌++◌, Bool, true, false, cond, List, [], ◌∷◌, length, get_or, set, ap, ◌∙◌, inl, inr, arith, get_or-set_same, get_or-set_other}
 use Rattle.std.specs.Prelude.{Option, None, Some}
 use Rattle.std.proofs.Math.Nat.{mod-lt}
 use Rattle.std.proofs.Math.Seq.{get_or-append_seam}
-use Rattle.std.proofs.lemmas.Bool.{cases_lt}
+use Rattle.std.proofs.lemmas.Bool.{cases_eq, cases_lt}
 use Rattle.std.proofs.lemmas.Grind.{get_or_default_zero}
 use Rattle.std.proofs.lemmas.List.{get_or_append_left, length-append}
 use Rattle.std.proofs.lemmas.Nat.{div-add-mod'}
 use Rattle.seg_data.specs.Pages.{ArePages, HasGrown, IsPageAt, IsPlain}
 use Rattle.seg_data.specs.Table.{Table, value_of}
+
+-- the values of the first code points stand each at its place
+abbrev pub AreFirst : Table → List ℕ → ℕ → Type 0
+AreFirst t values count = (code_point : ℕ) → code_point < count → get_or values code_point 0 ≡ value_of t code_point
+
+-- one more
+pub first-set : (t : Table) (values : List ℕ) (count value : ℕ) → AreFirst t values count → count < length values → value ≡ value_of t count
+    → AreFirst t (set values count value) (count + 1)
+first-set t values count value stand room same code_point below =
+    elim (cases_eq code_point count) [
+      | inl here ↦ rw here (get_or-set_same values count value 0 room ∙ same)
+      | inr other ↦ get_or-set_other values count code_point value 0 other ∙ stand code_point (omega arith)
+    ]
 
 -- the value of a code point is where its page's block has it
 pub paged-within : (t : Table) (pages values : List ℕ) (code_point block : ℕ) → ArePages t pages values → code_point / 128 < length pages

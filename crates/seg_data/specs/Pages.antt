@@ -12,6 +12,10 @@ pub record IsFirstReaching (ranges : List (ℕ × ℕ × ℕ)) (code_point place
   pub before : (k : ℕ) → k < place → (slice_index_or ranges k (0, 0, 0)).1 < code_point
   pub reaches : place < length ranges → code_point ≤ (slice_index_or ranges place (0, 0, 0)).1
 
+-- the values of ASCII stand each at its code point
+abbrev pub AreAscii : Table → List ℕ → Type 0
+AreAscii t values = (code_point : ℕ) → code_point < 128 → slice_index values code_point ≡ value_of t code_point
+
 -- the values of the page stand in this block
 abbrev pub IsPageAt : Table → List ℕ → ℕ → ℕ → Type 0
 IsPageAt t values page block =

@@ -135,6 +135,7 @@ fn next_segment<I: Cursor>(machine: &TailoredMachineBorrowed<'_>, rest: &mut I) 
 }
 
 /// The pick of what is left of a text: where the segment ends, and its status.
+#[inline(never)]
 fn scan<I: Cursor>(machine: &TailoredMachineBorrowed<'_>, rest: &I) -> Option<Boundary>
     ensures { result ≡ option_map (boundary_in (I.text rest.now))
         (pick (machine_of machine.now) (symbols_of (machine_of machine.now) (code_points (I.text rest.now).items))) }
@@ -183,6 +184,7 @@ fn scan_plain<I: Cursor>(machine: &TailoredMachineBorrowed<'_>, rest: &I) -> Opt
 }
 
 /// The symbol of the next item; after the last one that of the end, as often as it is asked for.
+#[inline(always)]
 fn next_symbol<I: Cursor>(machine: &TailoredMachineBorrowed<'_>, iter: &mut I) -> Symbol
     ensures symbol { result < symbol_count (machine_of machine.now) }
     ensures future { (state : ℕ) → state < length (machine_of machine.now).states

@@ -2,6 +2,7 @@
 ghost use Rattle.std.specs.Prelude.{◌≡◌, ℕ, ◌+◌, ◌*◌, ◌==◌, ◌<◌, ◌≤◌, ◌↔◌, IsTrue, IfOk, IfErr, OnOk, Any, length};
 ghost use Rattle.seg_data.specs.Faults.{HasOverlap, HasRangeFault, IsFaultless, IsLowestFault};
 ghost use Rattle.seg_data.specs.Lemmas.Same.{same_table, same_table-laws};
+ghost use Rattle.seg_data.specs.Pages.{AreAscii};
 ghost use Rattle.seg_data.specs.Table.{table, value_of};
 
 mod pages;
@@ -13,12 +14,16 @@ pub use runs::value_by_halving;
 use std::fmt::{self, Debug, Formatter};
 use std::marker::Model;
 
+// How many code points ASCII has.
+const ASCII_LEN: usize = 128;
+
 /// A table that gives each code point a value: that of the range that holds it, or a default.
 #[derive(Drop)]
 pub struct ClassTable {
     ranges: Vec<(u32, u32, u8)>,
     default: u8,
-    // The same values by pages: no part of the Model's value, nor of what `==` compares.
+    // The same values once more, of ASCII and by pages: no part of the Model's value, nor of what `==` compares.
+    ascii: [u8; ASCII_LEN],
     pages: Pages,
 }
 
@@ -31,10 +36,11 @@ impl Model for ClassTable {
 
     ghost view = { λ t. record { ranges = t.ranges.items; default = t.default } };
 
-    ghost use Rattle.seg_data.specs.Pages.{ArePages};
+    ghost use Rattle.seg_data.specs.Pages.{AreAscii, ArePages};
     ghost use Rattle.seg_data.specs.Table.{table};
 
     ghost invariant = { λ t. IsFaultless (HasRangeFault t.ranges.items)
+        × AreAscii (table t.ranges.items t.default) t.ascii
         × ArePages (table t.ranges.items t.default) t.pages.numbers.items t.pages.values.items };
 }
 
@@ -43,7 +49,7 @@ impl ClassTable {
     /// default. `RangeOrder` where a first is above its last or isn't above the last of the range
     /// before, and otherwise `RangePast10FFFF` where a last is above U+10FFFF.
     ///
-    /// Takes memory from the allocator of `ranges`, so that a look-up takes two reads: some 17 KB for
+    /// Takes memory from the allocator of `ranges`, so that a look-up takes two reads, and one in ASCII: some 17 KB for
     /// the 8,704 pages of 128 code points, and 128 bytes for each block of values, which pages of one
     /// value share (1.1 MB if none does). Refuses nothing for want of memory: where it is missing,
     /// look-ups are by halving the ranges.
@@ -52,12 +58,14 @@ impl ClassTable {
         ensures refused { IfErr result (IsLowestFault (HasRangeFault ranges.items)) }
     {
         check_ranges(ranges.as_slice())?;
+        let ascii = ascii_values(ranges.as_slice(), default);
         let mut pages = Pages::new(*ranges.allocator());
         // Where memory is missing, there are fewer pages.
         let _ = pages.add_all(ranges.as_slice(), default);
         Ok(ClassTable {
             ranges,
             default,
+            ascii,
             pages,
         })
     }
@@ -68,6 +76,9 @@ impl ClassTable {
     pub fn get32(&self, code_point: u32) -> u8
         ensures { result ≡ value_of self.now code_point }
     {
+        if code_point < ASCII_LEN as u32 {
+            return self.ascii[code_point as usize];
+        }
         match self.pages.get(code_point) {
             Some(value) => value,
             None => self.search(code_point),
@@ -125,6 +136,18 @@ impl PartialEq for ClassTable {
     {
         self.ranges == other.ranges && self.default == other.default
     }
+}
+
+// The values of ASCII.
+fn ascii_values(ranges: &[(u32, u32, u8)], default: u8) -> [u8; ASCII_LEN]
+    requires sorted { IsFaultless (HasRangeFault ranges.now) }
+    ensures { AreAscii (table ranges.now default) result }
+{
+    let mut values = [default; ASCII_LEN];
+    for code_point in 0..ASCII_LEN {
+        values[code_point] = value_by_halving(ranges, default, code_point as u32);
+    }
+    values
 }
 
 // Whether the ranges are in order, and end by U+10FFFF.
