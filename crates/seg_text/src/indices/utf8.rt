@@ -124,16 +124,35 @@ fn read_three(bytes: &[u8], low: u8, high: u8) -> (usize, char)
     ensures { (first : Range) → StandsAt bytes.now 0 first
         → result ≡ read_row (first ∷ (low, high) ∷ trail ∷ []) bytes.now }
 {
-    if !stands_at(bytes, 1, low, high) {
-        return (1, REPLACEMENT);
-    }
-    if !stands_at(bytes, 2, 0x80, 0xBF) {
-        return (2, REPLACEMENT);
+    if !has_two_trails(bytes, low, high) {
+        return read_part(bytes, low, high);
     }
     let code = (bytes[0] - 0xE0) as u32 * 0x1000
         + (bytes[1] - 0x80) as u32 * 0x40
         + (bytes[2] - 0x80) as u32;
     (3, character(code))
+}
+
+/// Whether two more bytes stand, the second from `low` to `high`, and the third a trail. It tests the length once.
+#[inline(always)]
+fn has_two_trails(bytes: &[u8], low: u8, high: u8) -> bool
+    ensures { IsTrue result ↔ (StandsAt bytes.now 1 (low, high) × StandsAt bytes.now 2 trail) }
+{
+    2 < bytes.len() && stands_at(bytes, 1, low, high) && stands_at(bytes, 2, 0x80, 0xBF)
+}
+
+/// Reads what begins a sequence of three bytes that isn't whole.
+#[inline(never)]
+fn read_part(bytes: &[u8], low: u8, high: u8) -> (usize, char)
+    requires { StandsAt bytes.now 1 (low, high) → StandsAt bytes.now 2 trail → ⊥ }
+    ensures { (first : Range) → StandsAt bytes.now 0 first
+        → result ≡ read_row (first ∷ (low, high) ∷ trail ∷ []) bytes.now }
+{
+    if stands_at(bytes, 1, low, high) {
+        (2, REPLACEMENT)
+    } else {
+        (1, REPLACEMENT)
+    }
 }
 
 /// Reads a sequence of four bytes, or what begins one, where the second byte is from `low` to `high`.
