@@ -9,7 +9,7 @@ use Rattle.seg_pairs.specs.declared.elements.Element.{Element}
 use Rattle.seg_pairs.specs.declared.verdicts.Step.{Step}
 use Rattle.seg_pairs.specs.declared.verdicts.Step.TheVariants.{End, Go}
 use Rattle.seg_pairs.specs.Elements.{classes_of, onto}
-use Rattle.seg_pairs.specs.Steps.{Lands, IsStepBelow}
+use Rattle.seg_pairs.specs.Steps.{Lands, LandsOrWalks, IsStepBelow}
 use Rattle.seg_pairs.specs.Stop.{IsStop, class_at, walk_of}
 use Rattle.seg_pairs.specs.Verdict.{Verdict, walk_from}
 use Rattle.seg_pairs.specs.Verdict.Verdict.{BreakAfter, GoAfter}
@@ -145,13 +145,10 @@ pub first-lands : (t : PairTable) (left right : Element) (after : List Element) 
 first-lands t left right after entry step rest is lands = subst (λ e. Lands (first-verdict t left right after e) (left ∷ right ∷ after) step rest) is lands
 
 -- where the entry names a state, the verdict is that of the walk from there
-pub first-named : (t : PairTable) (left right : Element) (after : List Element) (entry : BreakState) (state : ℕ) (step : Step) (rest : List Element)
+pub first-named : (t : PairTable) (left right : Element) (after : List Element) (entry : BreakState) (state : ℕ)
     → entry ≡ entry_of t left.class right.class → named_state entry ≡ Some state
-    → Lands (unit_named_verdict t state (unit_seen left) (units_seen (left ∷ right ∷ after))) (left ∷ right ∷ after) step rest
-    → Lands (first-verdict t left right after (entry_of t left.class right.class)) (left ∷ right ∷ after) step rest
-first-named t left right after entry state step rest is names lands =
-    first-lands t left right after entry step rest is
-    (subst (λ v. Lands v (left ∷ right ∷ after) step rest) (sym (by_walk entry names)) lands)
+    → first-verdict t left right after (entry_of t left.class right.class) ≡ unit_named_verdict t state (unit_seen left) (units_seen (left ∷ right ∷ after))
+first-named t left right after entry state is names = ap (first-verdict t left right after) (sym is) ∙ by_walk entry names
   where
     by_walk : (entry : BreakState) → named_state entry ≡ Some state
         → first-verdict t left right after entry ≡ unit_named_verdict t state (unit_seen left) (units_seen (left ∷ right ∷ after))
@@ -162,10 +159,11 @@ first-named t left right after entry state step rest is names lands =
     by_walk (Intermediate q) names = cc
 
 -- where it names none, and isn't `Keep`, a boundary stands between the two, unless it is taken away
-pub first-between : (t : PairTable) (left right : Element) (after : List Element) (entry : BreakState)
+pub first-between : (walk : ℕ → Verdict) (t : PairTable) (left right : Element) (after : List Element) (entry : BreakState)
     → entry ≡ entry_of t left.class right.class → named_state entry ≡ None → (entry ≡ Keep → ⊥)
-    → Lands (first-verdict t left right after (entry_of t left.class right.class)) (left ∷ right ∷ after) (step_unless left.is_joined right) after
-first-between t left right after entry is none other = first-lands t left right after entry (step_unless left.is_joined right) after is (by entry none other)
+    → LandsOrWalks walk (first-verdict t left right after (entry_of t left.class right.class)) (left ∷ right ∷ after) (step_unless left.is_joined right) after
+first-between walk t left right after entry is none other =
+    no-walk left.is_joined (first-lands t left right after entry (step_unless left.is_joined right) after is (by entry none other))
   where
     by : (entry : BreakState) → named_state entry ≡ None → (entry ≡ Keep → ⊥) → Lands (first-verdict t left right after entry) (left ∷ right ∷ after) (step_unless left.is_joined right) after
     by BreakEntry none other = lands-unless left.is_joined 1 (left ∷ right ∷ after) right after refl
@@ -173,6 +171,11 @@ first-between t left right after entry is none other = first-lands t left right 
     by NoMatch none other = lands-unless left.is_joined 1 (left ∷ right ∷ after) right after refl
     by (Index q) none other = cc
     by (Intermediate q) none other = cc
+
+    no-walk : (b : Bool) → Lands (first-verdict t left right after (entry_of t left.class right.class)) (left ∷ right ∷ after) (step_unless b right) after
+        → LandsOrWalks walk (first-verdict t left right after (entry_of t left.class right.class)) (left ∷ right ∷ after) (step_unless b right) after
+    no-walk true lands = lands
+    no-walk false lands = lands
 
 -- the step from a unit
 
@@ -190,14 +193,22 @@ unit-case rules left right after more case step rest is which lands =
     rw is
     (subst (λ c. Lands (case_verdict rules.table (unit_seen left) (unit_seen right) (units_seen (left ∷ right ∷ more)) c) (left ∷ right ∷ more) step rest) which lands)
 
+abbrev walk-of : PairTable → Element → List Element → ℕ → Verdict
+walk-of t left elements state = unit_named_verdict t state (unit_seen left) (units_seen elements)
+
+pub unit-table : (rules : LineRules) (t : PairTable) (left right : Element) (after more : List Element) (step : Step) (rest : List Element)
+    → after ≡ right ∷ more → Table ≡ case_of rules (unit_seen left) (unit_seen right) → t ≡ rules.table
+    → LandsOrWalks (walk-of t left (left ∷ right ∷ more)) (first-verdict t left right more (entry_of t left.class right.class)) (left ∷ right ∷ more) step rest
+    → LandsOrWalks (walk-of rules.table left (left ∷ after)) (unit_verdict rules (units_seen (left ∷ after))) (left ∷ after) step rest
+unfolding unit_verdict
+unit-table rules t left right after more step rest is which same lands =
+    let by_table = subst (λ t. LandsOrWalks (walk-of t left (left ∷ right ∷ more)) (first-verdict t left right more (entry_of t left.class right.class)) (left ∷ right ∷ more) step rest) same lands in
+    rw is
+    (subst (λ c. LandsOrWalks (walk-of rules.table left (left ∷ right ∷ more)) (case_verdict rules.table (unit_seen left) (unit_seen right) (units_seen (left ∷ right ∷ more)) c) (left ∷ right ∷ more) step rest)
+    which by_table)
+
 -- the element that a step comes to has a class
 
 pub unless-below : (b : Bool) (next : Element) (count : ℕ) → next.class < count → IsStepBelow count (step_unless b next)
 unless-below true next count below = below
 unless-below false next count below = below
-
-pub unit-table : (rules : LineRules) (t : PairTable) (left right : Element) (more : List Element) (step : Step) (rest : List Element) → t ≡ rules.table
-    → Lands (first-verdict t left right more (entry_of t left.class right.class)) (left ∷ right ∷ more) step rest
-    → Lands (case_verdict rules.table (unit_seen left) (unit_seen right) (units_seen (left ∷ right ∷ more)) Table) (left ∷ right ∷ more) step rest
-unit-table rules t left right more step rest is lands =
-    subst (λ t. Lands (first-verdict t left right more (entry_of t left.class right.class)) (left ∷ right ∷ more) step rest) is lands

@@ -1,8 +1,8 @@
 //! What comes after a unit of lines: a boundary, none, or a run of complex code points.
 
-ghost use Rattle.std.specs.Prelude.{◌≡◌, ◌<◌, ◌∷◌};
+ghost use Rattle.std.specs.Prelude.{◌≡◌, ◌<◌, List, ◌∷◌};
 ghost use Rattle.seg_pair_data.specs.PairTable.{entry_of};
-ghost use Rattle.seg_pairs.specs.Steps.{Lands, IsStepBelow};
+ghost use Rattle.seg_pairs.specs.Steps.{Lands, LandsOrWalks, IsStepBelow};
 ghost use Rattle.seg_line_rules.specs.LinePairs.{rules_by};
 ghost use Rattle.seg_line_rules.specs.LineSteps.{step_unless};
 ghost use Rattle.seg_line_rules.specs.LineVerdict.{begins_run, case_of, unit_first_verdict, unit_named_verdict, unit_verdict};
@@ -63,6 +63,8 @@ pub struct LineVerdicts<'data> {
 impl<'data> Verdicts for LineVerdicts<'data> {
     ghost verdict = { λ s elements. unit_verdict (rules_by s.pairs) (units_seen elements) };
 
+    ghost walk_verdict = { λ s state left elements. unit_named_verdict (rules_by s.pairs).table state (unit_seen left) (units_seen elements) };
+
     ghost table = { λ s. (rules_by s.pairs).table };
 
     #[inline(always)]
@@ -74,37 +76,40 @@ impl<'data> Verdicts for LineVerdicts<'data> {
             Case::Run => Step::Run(right),
             Case::Together => Step::Go(right),
             Case::Apart => Step::Break(right, 0),
-            Case::Table => table_step(self.pairs.table(), left, right, rest),
+            Case::Table => table_step(self.pairs.table(), left, right),
         }
+    }
+
+    #[inline(always)]
+    fn walk_step<E: Elements>(
+        &self,
+        state: u8,
+        left: Element,
+        right: Element,
+        rest: &mut E,
+    ) -> Step {
+        walk_step(self.pairs.table(), state, left, right, rest)
     }
 
     fn facts(&self) {}
 }
 
 /// The step of a pair table from `left`, which `right` follows.
-///
-/// `rest` has the units after `right`, and then those after the one that the step has read.
 #[inline(always)]
-fn table_step<E: Elements>(
-    table: &RuleBreakData,
-    left: Element,
-    right: Element,
-    rest: &mut E,
-) -> Step
+fn table_step(table: &RuleBreakData, left: Element, right: Element) -> Step
     requires left { left.class < table.now.property_count }
     requires right { right.class < table.now.property_count }
-    requires table { E.table rest.old ≡ table.now }
-    ensures lands { Lands (unit_first_verdict table.now (unit_seen left) (units_seen (left ∷ right ∷ E.left rest.old)) (entry_of table.now left.class right.class)) (left ∷ right ∷ E.left rest.old) result (E.left rest.new) }
+    ensures lands { (after : List Element) → LandsOrWalks (λ state. unit_named_verdict table.now state (unit_seen left) (units_seen (left ∷ right ∷ after)))
+        (unit_first_verdict table.now (unit_seen left) (units_seen (left ∷ right ∷ after)) (entry_of table.now left.class right.class))
+        (left ∷ right ∷ after) result after }
     ensures class { IsStepBelow table.now.property_count result }
-    ensures end { E.end rest.new ≡ E.end rest.old }
-    ensures table { E.table rest.new ≡ E.table rest.old }
 {
     let entry = entry_between(table, left, right);
     if let BreakState::Keep = entry {
         return Step::Go(right);
     }
     match state_named(entry) {
-        Some(state) => walk_step(table, state, left, right, rest),
+        Some(state) => Step::Walk(right, state),
         None => unless(left.is_joined, right),
     }
 }

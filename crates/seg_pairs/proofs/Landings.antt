@@ -12,8 +12,8 @@ use Rattle.seg_pairs.specs.Walk.{Walk}
 use Rattle.seg_pairs.specs.Verdict.{Verdict, stop_verdict, end_verdict, walk_verdict, named_verdict, first_verdict, verdict, complex_verdict}
 use Rattle.seg_pairs.specs.Stop.{IsStop, class_at, walk_of}
 use Rattle.seg_pairs.specs.declared.verdicts.Step.{Step}
-use Rattle.seg_pairs.specs.declared.verdicts.Step.TheVariants.{Break, End, Go, Run}
-use Rattle.seg_pairs.specs.Steps.{Lands, EndsIn, IsRest}
+use Rattle.seg_pairs.specs.declared.verdicts.Step.TheVariants.{Break, End, Go, Run, Walk as WalkOn}
+use Rattle.seg_pairs.specs.Steps.{Lands, LandsOrWalks, EndsIn, IsRest}
 use Rattle.seg_pairs.specs.declared.verdicts.Outcome.{Outcome}
 use Rattle.seg_pairs.specs.declared.verdicts.Outcome.TheVariants.{Break as BreakOut, Run as RunOut}
 use Rattle.seg_pairs.specs.Chains.{chain, TakesOf, IsForward}
@@ -107,13 +107,12 @@ lands-first t left right after entry step rest is lands =
     subst (λ e. Lands (first_verdict t left.class (classes_of (left ∷ right ∷ after)) e) (left ∷ right ∷ after) step rest) is lands
 
 -- where the entry names a state, the verdict is that of the walk from there
-pub lands-named : (t : PairTable) (left right : Element) (after : List Element) (entry : BreakState) (state : ℕ) (step : Step) (rest : List Element)
+pub walk-named : (t : PairTable) (left right : Element) (after : List Element) (entry : BreakState) (state : ℕ)
     → entry ≡ entry_of t left.class right.class → named_state entry ≡ Some state
-    → Lands (named_verdict t state left.class (classes_of (left ∷ right ∷ after))) (left ∷ right ∷ after) step rest
-    → Lands (verdict t (classes_of (left ∷ right ∷ after))) (left ∷ right ∷ after) step rest
-lands-named t left right after entry state step rest is names lands =
-    lands-first t left right after entry step rest is
-    (subst (λ v. Lands v (left ∷ right ∷ after) step rest) (sym (by_walk entry names)) lands)
+    → verdict t (classes_of (left ∷ right ∷ after)) ≡ named_verdict t state left.class (classes_of (left ∷ right ∷ after))
+unfolding verdict
+walk-named t left right after entry state is names =
+    ap (first_verdict t left.class (classes_of (left ∷ right ∷ after))) (sym is) ∙ by_walk entry names
   where
     by_walk : (entry : BreakState) → named_state entry ≡ Some state
         → first_verdict t left.class (classes_of (left ∷ right ∷ after)) entry ≡ named_verdict t state left.class (classes_of (left ∷ right ∷ after))
@@ -150,14 +149,15 @@ abbrev by-complex : PairTable → Element → Element → List Element → Bool 
 by-complex t left right more second first =
     cond second (cond first RunBegins (BreakAfter 1 left.class)) (verdict t (classes_of (left ∷ right ∷ more)))
 
-pub complex-pair : (t : PairTable) (left right : Element) (after more : List Element) (step : Step) (rest : List Element)
+pub complex-pair : (walk : List Element → ℕ → Verdict) (t : PairTable) (left right : Element) (after more : List Element) (step : Step) (rest : List Element)
     → after ≡ right ∷ more → right.class ≢ t.complex_property
-    → Lands (verdict t (classes_of (left ∷ right ∷ more))) (left ∷ right ∷ more) step rest
-    → Lands (complex_verdict t (classes_of (left ∷ after))) (left ∷ after) step rest
+    → LandsOrWalks (walk (left ∷ right ∷ more)) (verdict t (classes_of (left ∷ right ∷ more))) (left ∷ right ∷ more) step rest
+    → LandsOrWalks (walk (left ∷ after)) (complex_verdict t (classes_of (left ∷ after))) (left ∷ after) step rest
 unfolding complex_verdict
-complex-pair t left right after more step rest is other lands =
+complex-pair walk t left right after more step rest is other lands =
     rw is
-    (subst (λ b. Lands (by-complex t left right more b (left.class == t.complex_property)) (left ∷ right ∷ more) step rest) (sym (ne_eqb right.class t.complex_property other)) lands)
+    (subst (λ b. LandsOrWalks (walk (left ∷ right ∷ more)) (by-complex t left right more b (left.class == t.complex_property)) (left ∷ right ∷ more) step rest)
+    (sym (ne_eqb right.class t.complex_property other)) lands)
 
 pub complex-break : (t : PairTable) (left right : Element) (after more : List Element)
     → after ≡ right ∷ more → right.class ≡ t.complex_property → left.class ≢ t.complex_property
@@ -176,6 +176,15 @@ complex-run t left right after more is complex same =
     rw is
     (subst (λ b. Lands (by-complex t left right more b (left.class == t.complex_property)) (left ∷ right ∷ more) (Run right) more) (sym (eq-eqb right.class t.complex_property complex))
     (subst (λ b. Lands (by-complex t left right more true b) (left ∷ right ∷ more) (Run right) more) (sym (eq-eqb left.class t.complex_property same)) refl))
+
+-- the step of a walk that decides a verdict
+
+pub walk-lands : (walk : List Element → ℕ → Verdict) (verdict : Verdict) (left right : Element) (after more : List Element) (state : ℕ) (step : Step) (rest : List Element)
+    → LandsOrWalks (walk (left ∷ after)) verdict (left ∷ after) (WalkOn right state) more
+    → Lands (walk (left ∷ right ∷ more) state) (left ∷ right ∷ more) step rest → Lands verdict (left ∷ after) step rest
+walk-lands walk verdict left right after more state step rest (is, here) lands =
+    subst (λ v. Lands v (left ∷ after) step rest) (sym is)
+    (subst (λ (elements : List Element). Lands (walk (left ∷ elements) state) (left ∷ elements) step rest) (sym here) lands)
 
 -- the step where a chain of verdicts ends
 

@@ -3,7 +3,7 @@
 ghost use Rattle.std.specs.Prelude.{◌≡◌, ◌<◌, ℕ, List, ◌∷◌};
 ghost use Rattle.seg_pair_data.specs.PairTable.{PairTable};
 ghost use Rattle.seg_pairs.specs.Elements.{classes_of};
-ghost use Rattle.seg_pairs.specs.Steps.{Lands, EndsIn, IsStepBelow, IsOutcomeBelow};
+ghost use Rattle.seg_pairs.specs.Steps.{Lands, LandsOrWalks, EndsIn, IsStepBelow, IsOutcomeBelow};
 ghost use Rattle.seg_pairs.specs.Verdict.{verdict, named_verdict, complex_verdict};
 ghost use Rattle.seg_pairs.specs.Chains.{chain, IsForward};
 
@@ -22,6 +22,8 @@ pub enum Step {
     Go(Element),
     /// A run of complex elements begins with the element that was asked of. This is its second.
     Run(Element),
+    /// A walk decides: the element that was asked of and this one, its second, name this state.
+    Walk(Element, u8),
 }
 
 /// What the verdicts from an element on lead to.
@@ -41,15 +43,30 @@ pub trait Verdicts {
     /// The verdict on the first of these elements.
     ghost verdict: { Self → List Element → Verdict };
 
+    /// The verdict on the first of these elements where a walk decides, from the state that it and
+    /// the second name.
+    ghost walk_verdict: { Self → ℕ → Element → List Element → Verdict };
+
     /// The pair table whose classes the elements have.
     ghost table: { Self → PairTable };
 
-    /// What the verdict on `left` leads to. `rest` has the elements after `left`, and then those
-    /// after the one that the step has read.
+    /// What the verdict on `left` leads to, or the walk that decides it. `rest` has the elements
+    /// after `left`, and then those after the one that the step has read.
     fn step<E: Elements>(&self, left: Element, rest: &mut E) -> Step
         requires left { left.class < (table self.now).property_count }
         requires table { E.table rest.old ≡ table self.now }
-        ensures lands { Lands (verdict self.now (left ∷ E.left rest.old)) (left ∷ E.left rest.old) result (E.left rest.new) }
+        ensures lands { LandsOrWalks (λ state. walk_verdict self.now state left (left ∷ E.left rest.old)) (verdict self.now (left ∷ E.left rest.old)) (left ∷ E.left rest.old) result (E.left rest.new) }
+        ensures class { IsStepBelow (table self.now).property_count result }
+        ensures end { E.end rest.new ≡ E.end rest.old }
+        ensures table { E.table rest.new ≡ E.table rest.old };
+
+    /// What the walk leads to that decides the verdict on `left`, which `right` follows. `rest` has the
+    /// elements after `right`, and then those after the one that the step has read.
+    fn walk_step<E: Elements>(&self, state: u8, left: Element, right: Element, rest: &mut E) -> Step
+        requires state { state < (table self.now).property_count }
+        requires right { right.class < (table self.now).property_count }
+        requires table { E.table rest.old ≡ table self.now }
+        ensures lands { Lands (walk_verdict self.now state left (left ∷ right ∷ E.left rest.old)) (left ∷ right ∷ E.left rest.old) result (E.left rest.new) }
         ensures class { IsStepBelow (table self.now).property_count result }
         ensures end { E.end rest.new ≡ E.end rest.old }
         ensures table { E.table rest.new ≡ E.table rest.old };
@@ -69,14 +86,27 @@ pub struct TableVerdicts<'data> {
 impl<'data> Verdicts for TableVerdicts<'data> {
     ghost verdict = { λ s elements. verdict s.table.now (classes_of elements) };
 
+    ghost walk_verdict = { λ s state left elements. named_verdict s.table.now state left.class (classes_of elements) };
+
     ghost table = { λ s. s.table.now };
 
     #[inline(always)]
     fn step<E: Elements>(&self, left: Element, rest: &mut E) -> Step {
         match rest.next_element() {
-            Some(right) => pair_step(self.table, left, right, rest),
+            Some(right) => pair_step(self.table, left, right),
             None => Step::End(left.class),
         }
+    }
+
+    #[inline(always)]
+    fn walk_step<E: Elements>(
+        &self,
+        state: u8,
+        left: Element,
+        right: Element,
+        rest: &mut E,
+    ) -> Step {
+        walk_step(self.table, state, left, right, rest)
     }
 
     fn facts(&self) {}
@@ -93,6 +123,8 @@ pub struct ComplexVerdicts<'data> {
 impl<'data> Verdicts for ComplexVerdicts<'data> {
     ghost verdict = { λ s elements. complex_verdict s.table.now (classes_of elements) };
 
+    ghost walk_verdict = { λ s state left elements. named_verdict s.table.now state left.class (classes_of elements) };
+
     ghost table = { λ s. s.table.now };
 
     #[inline(always)]
@@ -102,12 +134,23 @@ impl<'data> Verdicts for ComplexVerdicts<'data> {
             return Step::End(left.class);
         };
         if right.class != complex {
-            return pair_step(self.table, left, right, rest);
+            return pair_step(self.table, left, right);
         }
         if left.class != complex {
             return Step::Break(right, left.class);
         }
         Step::Run(right)
+    }
+
+    #[inline(always)]
+    fn walk_step<E: Elements>(
+        &self,
+        state: u8,
+        left: Element,
+        right: Element,
+        rest: &mut E,
+    ) -> Step {
+        walk_step(self.table, state, left, right, rest)
     }
 
     fn facts(&self) {}
@@ -132,34 +175,32 @@ pub fn next_break<E: Elements, R: Verdicts>(rules: &R, left: Element, rest: &mut
             Step::Break(next, class) => return Outcome::Break(class, Some(next)),
             Step::End(class) => return Outcome::Break(class, None),
             Step::Run(second) => return Outcome::Run(left, second),
+            Step::Walk(right, state) => match rules.walk_step(state, left, right, rest) {
+                Step::Go(next) => left = next,
+                Step::Break(next, class) => return Outcome::Break(class, Some(next)),
+                Step::End(class) => return Outcome::Break(class, None),
+                Step::Run(other) => return Outcome::Run(left, other),
+                Step::Walk(_other, _state) => unreachable!(),
+            },
         }
     }
 }
 
 /// The step of a pair table from `left`, which `right` follows.
-///
-/// `rest` has the elements after `right`, and then those after the one that the step has read.
 #[inline(always)]
-pub fn pair_step<E: Elements>(
-    table: &RuleBreakData,
-    left: Element,
-    right: Element,
-    rest: &mut E,
-) -> Step
+pub fn pair_step(table: &RuleBreakData, left: Element, right: Element) -> Step
     requires left { left.class < table.now.property_count }
     requires right { right.class < table.now.property_count }
-    requires table { E.table rest.old ≡ table.now }
-    ensures lands { Lands (verdict table.now (classes_of (left ∷ right ∷ E.left rest.old))) (left ∷ right ∷ E.left rest.old) result (E.left rest.new) }
+    ensures lands { (after : List Element) → LandsOrWalks (λ state. named_verdict table.now state left.class (classes_of (left ∷ right ∷ after)))
+        (verdict table.now (classes_of (left ∷ right ∷ after))) (left ∷ right ∷ after) result after }
     ensures class { IsStepBelow table.now.property_count result }
-    ensures end { E.end rest.new ≡ E.end rest.old }
-    ensures table { E.table rest.new ≡ E.table rest.old }
 {
     let entry = table.entry(left.class, right.class);
     if let BreakState::Keep = entry {
         return Step::Go(right);
     }
     match entry.named() {
-        Some(state) => walk_step(table, state, left, right, rest),
+        Some(state) => Step::Walk(right, state),
         None => Step::Break(right, left.class),
     }
 }

@@ -1,13 +1,13 @@
 use Rattle.std.proofs.Common.{◌∙◌}
 use Rattle.seg_pairs.proofs.Chains.{on_chain-go}
-use Rattle.seg_pairs.proofs.Landings.{goes-from, ends-break, ends-end, ends-run}
+use Rattle.seg_pairs.proofs.Landings.{goes-from, walk-lands, ends-break, ends-end, ends-run}
 use Rattle.seg_pairs.proofs.verdicts.next_break.Goals as goal
 
-pub loop-next-smaller : goal.loop-next-smaller
-loop-next-smaller g c = (goes-from (g.R.Verdicts.verdict c.args.rules.now) _ _ _ _ c.facts.ensures c.in-Go.ensures.lands).fewer
+pub loop-next-smaller-in-Go : goal.loop-next-smaller-in-Go
+loop-next-smaller-in-Go g c = (goes-from (g.R.Verdicts.verdict c.args.rules.now) _ _ _ _ c.facts.ensures c.in-Go.ensures.lands).fewer
 
-pub loop-next-preserved : goal.loop-next-preserved
-loop-next-preserved g c =
+pub loop-next-preserved-in-Go : goal.loop-next-preserved-in-Go
+loop-next-preserved-in-Go g c =
     let goes = goes-from (g.R.Verdicts.verdict c.args.rules.now) _ _ _ _ c.facts.ensures c.in-Go.ensures.lands in
     record {
       on = on_chain-go (g.R.Verdicts.verdict c.args.rules.now) _ _ _ _ _ _ c.facts.ensures c.loop-next.invariant.on goes.goes goes.here;
@@ -39,3 +39,36 @@ returns-in-Run g c = record {
   end = c.in-Run.ensures.end ∙ c.loop-next.invariant.end;
   table = c.in-Run.ensures.table ∙ c.loop-next.invariant.table;
 }
+
+-- after a walk
+
+pub loop-next-smaller : goal.loop-next-smaller
+loop-next-smaller g c =
+    (goes-from (g.R.Verdicts.verdict c.args.rules.now) _ _ _ _ c.facts.ensures
+    (walk-lands (λ elements state. g.R.Verdicts.walk_verdict c.args.rules.now state c.loop-next.left elements) _ _ _ _ _ _ _ _ c.in-Walk.ensures.lands c.in-Go-walk_step.ensures.lands)).fewer
+
+pub loop-next-preserved : goal.loop-next-preserved
+loop-next-preserved g c =
+    let goes = goes-from (g.R.Verdicts.verdict c.args.rules.now) _ _ _ _ c.facts.ensures
+    (walk-lands (λ elements state. g.R.Verdicts.walk_verdict c.args.rules.now state c.loop-next.left elements) _ _ _ _ _ _ _ _ c.in-Walk.ensures.lands c.in-Go-walk_step.ensures.lands) in
+    record {
+      on = on_chain-go (g.R.Verdicts.verdict c.args.rules.now) _ _ _ _ _ _ c.facts.ensures c.loop-next.invariant.on goes.goes goes.here;
+      class = c.in-Go-walk_step.ensures.class;
+      end = c.in-Go-walk_step.ensures.end ∙ c.in-Walk.ensures.end ∙ c.loop-next.invariant.end;
+      table = c.in-Go-walk_step.ensures.table ∙ c.in-Walk.ensures.table ∙ c.loop-next.invariant.table;
+    }
+
+pub returns-in-Break-walk_step-clause-ends : goal.returns-in-Break-walk_step-clause-ends
+returns-in-Break-walk_step-clause-ends g c =
+    ends-break (g.R.Verdicts.verdict c.args.rules.now) _ _ _ c.facts.ensures c.loop-next.invariant.on _ _ _
+    (walk-lands (λ elements state. g.R.Verdicts.walk_verdict c.args.rules.now state c.loop-next.left elements) _ _ _ _ _ _ _ _ c.in-Walk.ensures.lands c.in-Break-walk_step.ensures.lands)
+
+pub returns-in-End-walk_step-clause-ends : goal.returns-in-End-walk_step-clause-ends
+returns-in-End-walk_step-clause-ends g c =
+    ends-end (g.R.Verdicts.verdict c.args.rules.now) _ _ _ c.facts.ensures c.loop-next.invariant.on _ _
+    (walk-lands (λ elements state. g.R.Verdicts.walk_verdict c.args.rules.now state c.loop-next.left elements) _ _ _ _ _ _ _ _ c.in-Walk.ensures.lands c.in-End-walk_step.ensures.lands)
+
+pub returns-in-Run-walk_step-clause-ends : goal.returns-in-Run-walk_step-clause-ends
+returns-in-Run-walk_step-clause-ends g c =
+    ends-run (g.R.Verdicts.verdict c.args.rules.now) _ _ _ c.facts.ensures c.loop-next.invariant.on _ _
+    (walk-lands (λ elements state. g.R.Verdicts.walk_verdict c.args.rules.now state c.loop-next.left elements) _ _ _ _ _ _ _ _ c.in-Walk.ensures.lands c.in-Run-walk_step.ensures.lands)

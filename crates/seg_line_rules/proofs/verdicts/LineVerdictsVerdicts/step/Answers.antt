@@ -17,5 +17,5 @@ returns-in-Apart-clause-lands g c = unit-case (rules_by c.args.self.now.pairs) _
 
 pub returns-in-Table-clause-lands : goal.returns-in-Table-clause-lands
 returns-in-Table-clause-lands g c =
-    unit-case (rules_by c.args.self.now.pairs) c.args.left _ _ _ _ _ _ c.in-Some.ensures.gives (sym c.in-Table.is ∙ c.case_of.ensures)
-    (unit-table (rules_by c.args.self.now.pairs) c.table.result.now c.args.left c.in-Some.right _ _ _ c.table.ensures c.table_step.ensures.lands)
+    unit-table (rules_by c.args.self.now.pairs) c.table.result.now c.args.left c.in-Some.right _ _ _ _ c.in-Some.ensures.gives (sym c.in-Table.is ∙ c.case_of.ensures)
+    c.table.ensures (c.table_step.ensures.lands _)
