@@ -1,13 +1,13 @@
 -- What a scan keeps as it reads a text.
-use Rattle.std.specs.Prelude.{◌≡◌, ℕ, ◌<◌, ◌≤◌, Option, Some, None, List, [], ◌++◌, map, length, replicate, slice_set, slice_index_or}
-use Rattle.std.specs.Option.{option_map, option_or}
+use Rattle.std.specs.Prelude.{◌≡◌, ℕ, ◌<◌, ◌≤◌, Option, Some, None, List, [], ◌∷◌, ◌++◌, map, length, replicate, slice_set, slice_index_or}
+use Rattle.std.specs.Option.{option_map, option_map_or, option_or}
 use Rattle.seg_text.specs.declared.boundary.Boundary.{Boundary}
 use Rattle.seg_text.specs.Boundaries.{boundary, boundary_in}
 use Rattle.seg_text.specs.Items.{Text, code_points, start_of, rest_after}
-use Rattle.seg_machine.specs.Machine.{Machine, symbols_of, run, scan, state_at}
+use Rattle.seg_machine.specs.Machine.{Machine, symbols_of, symbol_count, step, run, scan, state_at}
 use Rattle.seg_machine.specs.declared.provider.Acceptance.{Acceptance}
 use Rattle.seg_machine.specs.declared.provider.Acceptance.TheVariants.{Conditional}
-use Rattle.seg_machine.specs.Pick.{acceptance_status, naming, last_step, first_condition}
+use Rattle.seg_machine.specs.Pick.{acceptance_status, naming, last_step, first_condition, pick}
 
 -- the states that are still to come, from a state and what is left of the text
 abbrev pub future : Machine → ℕ → Text → List ℕ
@@ -59,3 +59,17 @@ pub record Scanned
       ≡ first_condition (entries m entered) (entries m (future m state left))
   pub size : m.num_lookaheads ≤ length kept
   pub remembered : Remembered text (entries m entered) kept last
+
+-- the symbol of a text's first item, or that of the end, and what is left after that item: what is to come from any state
+-- begins with the step on it
+pub record IsAhead (m : Machine) (text : Text) (symbol : ℕ) (after : Text) : Type 0 where
+  pub below : symbol < symbol_count m
+  pub begins :
+      (state : ℕ) → state < length m.states
+      → future m state text ≡ option_map_or {T = ℕ} {U = List ℕ} (λ next. next ∷ future m next after) (step m state symbol) []
+  pub left : after ≡ rest_after 1 text
+
+-- a text begins with the segment that the machine picks, with this status, and this is left after it
+abbrev pub IsSegment : Machine → Text → Text → ℕ → Type 0
+IsSegment m text left status =
+    (p : Boundary) × (pick m (symbols_of m (code_points text.items)) ≡ Some p) × (status ≡ p.status) × (left ≡ rest_after p.offset text)

@@ -7,11 +7,11 @@ ghost use Rattle.seg_text.specs.Items.{code_points, start_of, rest_after};
 ghost use Rattle.seg_text.specs.declared.boundary.Boundary.{Boundary as AnyBoundary};
 ghost use Rattle.seg_text.specs.Boundaries.{GivesNext, IsCover, boundaries_in, boundary_in, offsets_left};
 ghost use Rattle.seg_machine.specs.MachineFaults.{NamesPast};
-ghost use Rattle.seg_machine.specs.Machine.{step, symbol_count, symbols_of};
+ghost use Rattle.seg_machine.specs.Machine.{symbols_of};
 ghost use Rattle.seg_machine.specs.Pick.{pick};
 ghost use Rattle.seg_machine.specs.Segments.{machine_boundaries};
 ghost use Rattle.seg_machine.specs.Tailored.{machine_of};
-ghost use Rattle.seg_machine.specs.Scan.{acceptance_after, future, condition_end, places_after};
+ghost use Rattle.seg_machine.specs.Scan.{acceptance_after, condition_end, places_after, IsAhead, IsSegment};
 
 use crate::provider::{Acceptance, Lookahead, SegmenterStateMachine, Symbol};
 use crate::tailored_machine::TailoredMachineBorrowed;
@@ -26,7 +26,11 @@ use std::marker::Model;
 #[derive(Debug, Drop)]
 pub struct RuleBreakIterator<'data, I: Cursor> {
     machine: TailoredMachineBorrowed<'data>,
+    // What is left after the boundary that was given last.
     rest: I,
+    // The symbol of the first item of that, which is read already, and what is left after it.
+    first: Symbol,
+    ahead: I,
     started: bool,
     status: u8,
 }
@@ -36,13 +40,15 @@ impl<'data, I: Cursor> Model for RuleBreakIterator<'data, I> {
     ghost use Rattle.seg_machine.specs.Tailored.{machine_of};
     ghost use Rattle.seg_text.specs.Boundaries.{Remainder};
     ghost use Rattle.seg_text.specs.Stretches.{remainder};
+    ghost use Rattle.seg_machine.specs.Scan.{IsAhead};
     ghost use Rattle.seg_machine.specs.Segments.{machine_stretch};
 
     ghost Value = { Remainder };
 
     ghost view = { λ s. remainder s.started (machine_stretch (machine_of s.machine)) (I.text s.rest) s.status };
 
-    ghost invariant = { λ s. s.started ≡ false → s.status ≡ 0 };
+    ghost invariant = { λ s. (s.started ≡ false → s.status ≡ 0)
+        × IsAhead (machine_of s.machine) (I.text s.rest) s.first (I.text s.ahead) };
 }
 
 impl<'data, I: Cursor> RuleBreakIterator<'data, I> {
@@ -53,9 +59,13 @@ impl<'data, I: Cursor> RuleBreakIterator<'data, I> {
         ensures status { result.status ≡ 0 }
     {
         machine.facts();
+        let mut ahead = text.fork();
+        let first = next_symbol(&machine, &mut ahead);
         RuleBreakIterator {
             machine,
             rest: text,
+            first,
+            ahead,
             started: false,
             status: 0,
         }
@@ -75,6 +85,8 @@ impl<'data, I: Cursor> RuleBreakIterator<'data, I> {
         RuleBreakIterator {
             machine: self.machine,
             rest: self.rest.fork(),
+            first: self.first,
+            ahead: self.ahead.fork(),
             started: self.started,
             status: self.status,
         }
@@ -101,7 +113,12 @@ impl<'data, I: Cursor> Iterator for RuleBreakIterator<'data, I> {
             self.status = 0;
             return None;
         }
-        self.status = next_segment(&self.machine, &mut self.rest);
+        self.status = next_segment(
+            &self.machine,
+            &mut self.rest,
+            &mut self.first,
+            &mut self.ahead,
+        );
         Some(self.rest.place())
     }
 
@@ -116,22 +133,66 @@ impl<'data, I: Cursor> Iterator for RuleBreakIterator<'data, I> {
     }
 }
 
-/// Goes on to the end of the next segment, and gives its status.
-#[inline(never)]
-fn next_segment<I: Cursor>(machine: &TailoredMachineBorrowed<'_>, rest: &mut I) -> u8
-    requires { (I.text rest.old).items ≢ [] }
-    ensures { (p : AnyBoundary) × (pick (machine_of machine.now) (symbols_of (machine_of machine.now) (code_points (I.text rest.old).items)) ≡ Some p)
-        × (result ≡ p.status) × (I.text rest.new ≡ rest_after p.offset (I.text rest.old)) }
+/// Goes on to the end of the next segment, and gives its status. `first` and `ahead` are the symbol of the first item of
+/// `rest`, and what is left after it.
+#[inline(always)]
+fn next_segment<I: Cursor>(
+    machine: &TailoredMachineBorrowed<'_>,
+    rest: &mut I,
+    first: &mut Symbol,
+    ahead: &mut I,
+) -> u8
+    requires some { (I.text rest.old).items ≢ [] }
+    requires ahead { IsAhead (machine_of machine.now) (I.text rest.old) first.old (I.text ahead.old) }
+    ensures segment { IsSegment (machine_of machine.now) (I.text rest.old) (I.text rest.new) result }
+    ensures ahead { IsAhead (machine_of machine.now) (I.text rest.new) first.new (I.text ahead.new) }
 {
     machine.facts();
-    let picked = if machine.num_lookaheads() == 0 {
-        scan_plain(machine, rest)
-    } else {
-        scan(machine, rest)
-    };
+    if machine.num_lookaheads() != 0 {
+        return next_kept_segment(machine, rest, first, ahead);
+    }
+    let (picked, stood) = scan_plain(machine, rest, first, ahead);
     let Some(picked) = picked else { unreachable!() };
     rest.seek(picked.offset);
+    if picked.offset != stood {
+        read_first(machine, rest, first, ahead);
+    }
     picked.status
+}
+
+/// The same by a machine that keeps places for lookaheads.
+#[inline(never)]
+fn next_kept_segment<I: Cursor>(
+    machine: &TailoredMachineBorrowed<'_>,
+    rest: &mut I,
+    first: &mut Symbol,
+    ahead: &mut I,
+) -> u8
+    requires { (I.text rest.old).items ≢ [] }
+    ensures segment { IsSegment (machine_of machine.now) (I.text rest.old) (I.text rest.new) result }
+    ensures ahead { IsAhead (machine_of machine.now) (I.text rest.new) first.new (I.text ahead.new) }
+{
+    machine.facts();
+    let Some(found) = scan(machine, rest) else {
+        unreachable!()
+    };
+    rest.seek(found.offset);
+    read_first(machine, rest, first, ahead);
+    found.status
+}
+
+/// Reads the first symbol of what is left of a text.
+#[inline(never)]
+fn read_first<I: Cursor>(
+    machine: &TailoredMachineBorrowed<'_>,
+    rest: &I,
+    first: &mut Symbol,
+    ahead: &mut I,
+)
+    ensures { IsAhead (machine_of machine.now) (I.text rest.now) first.new (I.text ahead.new) }
+{
+    *ahead = rest.fork();
+    *first = next_symbol(machine, ahead);
 }
 
 /// The pick of what is left of a text: where the segment ends, and its status.
@@ -158,39 +219,62 @@ fn scan<I: Cursor>(machine: &TailoredMachineBorrowed<'_>, rest: &I) -> Option<Bo
     }
 }
 
-/// The same by a machine without lookaheads, which keeps no places.
-fn scan_plain<I: Cursor>(machine: &TailoredMachineBorrowed<'_>, rest: &I) -> Option<Boundary>
-    requires { (machine_of machine.now).num_lookaheads ≡ 0 }
-    ensures { result ≡ option_map (boundary_in (I.text rest.now))
+/// The same by a machine without lookaheads, which keeps no places; and where the symbol was read that led nowhere. `first` is
+/// that symbol then, and `ahead` is what is left after it.
+#[inline(always)]
+fn scan_plain<I: Cursor>(
+    machine: &TailoredMachineBorrowed<'_>,
+    rest: &I,
+    first: &mut Symbol,
+    ahead: &mut I,
+) -> (Option<Boundary>, usize)
+    requires plain { (machine_of machine.now).num_lookaheads ≡ 0 }
+    requires ahead { IsAhead (machine_of machine.now) (I.text rest.now) first.old (I.text ahead.old) }
+    ensures pick { result.0 ≡ option_map (boundary_in (I.text rest.now))
         (pick (machine_of machine.now) (symbols_of (machine_of machine.now) (code_points (I.text rest.now).items))) }
+    ensures stood { (k : ℕ) × (result.1 ≡ start_of (rest_after k (I.text rest.now)))
+        × IsAhead (machine_of machine.now) (rest_after k (I.text rest.now)) first.new (I.text ahead.new) }
 {
     machine.facts();
-    let mut iter = rest.fork();
     let mut last: Option<Boundary> = None;
     let mut state = SegmenterStateMachine::START_STATE;
+    let mut symbol = *first;
+    let mut stood = rest.place();
     'scan: loop {
-        let symbol = next_symbol(machine, &mut iter);
         let Some(next) = machine.next_state(state, symbol) else {
-            return last;
+            *first = symbol;
+            return (last, stood);
         };
-        if let Acceptance::Accept(status) = machine.entry(next).0 {
-            last = Some(Boundary {
-                offset: iter.place(),
-                status,
-            });
-        }
+        stood = ahead.place();
+        last = acceptance_after(stood, machine.entry(next), last);
+        symbol = next_symbol(machine, ahead);
         state = next;
+    }
+}
+
+/// The last acceptance, once a state is entered at a place.
+#[inline(always)]
+#[tactic(auto, unfolding(crate::specs::Scan::acceptance_after))]
+fn acceptance_after(
+    place: usize,
+    entry: (Acceptance, Option<Lookahead>),
+    last: Option<Boundary>,
+) -> Option<Boundary>
+    ensures { result ≡ acceptance_after place entry last }
+{
+    match entry.0 {
+        Acceptance::Accept(status) => Some(Boundary {
+            offset: place,
+            status,
+        }),
+        _ => last,
     }
 }
 
 /// The symbol of the next item; after the last one that of the end, as often as it is asked for.
 #[inline(always)]
 fn next_symbol<I: Cursor>(machine: &TailoredMachineBorrowed<'_>, iter: &mut I) -> Symbol
-    ensures symbol { result < symbol_count (machine_of machine.now) }
-    ensures future { (state : ℕ) → state < length (machine_of machine.now).states
-        → future (machine_of machine.now) state (I.text iter.old)
-        ≡ option_map_or (λ next. next ∷ future (machine_of machine.now) next (I.text iter.new)) (step (machine_of machine.now) state result) [] }
-    ensures left { I.text iter.new ≡ rest_after 1 (I.text iter.old) }
+    ensures { IsAhead (machine_of machine.now) (I.text iter.old) result (I.text iter.new) }
 {
     machine.facts();
     match iter.next_item() {

@@ -10,17 +10,17 @@ enter-found-requires g c = rw c.entry.ensures (within _ _ _ c.facts.ensures c.sc
 
 pub returns-in_default : goal.returns-in_default
 returns-in_default g c =
-    turn-stop _ _ _ _ _ _ _ _ _ c.scan.invariant c.next_symbol-symbol.ensures.future c.next_symbol-symbol.ensures.left
+    turn-stop _ _ _ _ _ _ _ _ _ c.scan.invariant c.next_symbol-symbol.ensures.begins c.next_symbol-symbol.ensures.left
     c.next_state.ensures.value c.in_default.is
 
 pub returns-then-is_some : goal.returns-then-is_some
 returns-then-is_some g c =
-    turn-held _ _ _ _ _ _ _ _ _ _ _ _ _ c.facts.ensures c.scan.invariant c.next_symbol-symbol.ensures.future c.next_symbol-symbol.ensures.left
+    turn-held _ _ _ _ _ _ _ _ _ _ _ _ _ c.facts.ensures c.scan.invariant c.next_symbol-symbol.ensures.begins c.next_symbol-symbol.ensures.left
     c.next_state.ensures.value c.in-Some.is c.entry.ensures c.enter-found.ensures.condition_end c.is_some.ensures c.if-is_some.true
 
 pub scan-preserved : goal.scan-preserved
 scan-preserved g c =
-    turn _ _ _ _ _ _ _ _ _ _ _ _ _ _ _ _ c.facts.ensures c.scan.invariant c.next_symbol-symbol.ensures.future
+    turn _ _ _ _ _ _ _ _ _ _ _ _ _ _ _ _ c.facts.ensures c.scan.invariant c.next_symbol-symbol.ensures.begins
     c.next_state.ensures.value c.in-Some.is c.in-Some.ensures.state
     c.next_symbol-symbol.ensures.left c.place.ensures
     c.entry.ensures c.enter-found.ensures.condition_end c.is_some.ensures c.if-is_some.false

@@ -5,11 +5,11 @@ use Rattle.seg_machine.proofs.rule_segmenter_v2.RuleBreakIteratorIterator.next.G
 
 pub returns-then-not-self-clause-steps : goal.returns-then-not-self-clause-steps
 returns-then-not-self-clause-steps g c =
-    rw (← c.self.view_is) ((gives-start _ _ _ c.self.inside.status _ c.if-not-self.true (c.self.invariant c.if-not-self.true) c.place.ensures).steps)
+    rw (← c.self.view_is) ((gives-start _ _ _ c.self.inside.status _ c.if-not-self.true (c.self.invariant.0 c.if-not-self.true) c.place.ensures).steps)
 
 pub returns-then-not-self-clause-goes : goal.returns-then-not-self-clause-goes
 returns-then-not-self-clause-goes g c =
-    rw (← c.self.view_is) ((gives-start _ _ _ c.self.inside.status _ c.if-not-self.true (c.self.invariant c.if-not-self.true) c.place.ensures).goes)
+    rw (← c.self.view_is) ((gives-start _ _ _ c.self.inside.status _ c.if-not-self.true (c.self.invariant.0 c.if-not-self.true) c.place.ensures).goes)
 
 pub returns-then-is_at_end-clause-steps : goal.returns-then-is_at_end-clause-steps
 returns-then-is_at_end-clause-steps g c =
@@ -20,10 +20,10 @@ pub returns-clause-steps : goal.returns-clause-steps
 returns-clause-steps g c =
     rw (← c.self.view_is)
     ((gives-next _ _ _ _ c.self.inside.status _ _ c.if-not-self.false (not_at_end _ (sym c.is_at_end.ensures ∙ c.if-is_at_end.false))
-    c.next_segment-self-inside.ensures c.place-2.ensures).steps)
+    c.next_segment-self-inside.ensures.segment c.place-2.ensures).steps)
 
 pub returns-clause-goes : goal.returns-clause-goes
 returns-clause-goes g c =
     rw (← c.self.view_is)
     ((gives-next _ _ _ _ c.self.inside.status _ _ c.if-not-self.false (not_at_end _ (sym c.is_at_end.ensures ∙ c.if-is_at_end.false))
-    c.next_segment-self-inside.ensures c.place-2.ensures).goes)
+    c.next_segment-self-inside.ensures.segment c.place-2.ensures).goes)
