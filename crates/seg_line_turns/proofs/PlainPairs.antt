@@ -1,7 +1,6 @@
 -- Turns by the classes and the table alone.
-use Rattle.std.proofs.Common.{◌≡◌, ℕ, suc, ◌≤◌, ◌&&◌, ◌||◌, not, Bool, true, false, cond, Option, Some, None, List, [], ◌∷◌, ◌++◌, length, map, refl, sym, ap, ◌∙◌, arith}
+use Rattle.std.proofs.Common.{◌≡◌, ℕ, suc, ◌&&◌, ◌||◌, not, Bool, true, false, cond, Option, None, List, [], ◌∷◌, ◌++◌, map, refl, sym, ap, ◌∙◌}
 use Rattle.std.proofs.lemmas.Bool.{eqb-true}
-use Rattle.std.proofs.lemmas.List.{length-drop}
 use Rattle.seg_text.specs.declared.boundary.Boundary.{Boundary}
 use Rattle.seg_text.specs.Boundaries.{boundary, boundary_in, boundaries_in}
 use Rattle.seg_text.specs.Cuts.{Cuts}
@@ -22,14 +21,14 @@ use Rattle.seg_line_turns.specs.PlainPairs.{IsPassed, asks_more, entry_turn, goi
 use Rattle.seg_line_turns.specs.TurnAhead.{HasClass, text_from}
 use Rattle.seg_line_turns.specs.TurnBoundaries.{later_turns, stretch_of}
 use Rattle.seg_line_turns.specs.TurnClasses.{CM, CM_EASTASIAN, HH, HY, IS, QU_PF, SA, SA_MC_MN, SP, ZWJ}
-use Rattle.seg_line_turns.specs.TurnEvents.{LeadsToBreak, unread_turns}
+use Rattle.seg_line_turns.specs.TurnEvents.{unread_turns}
 use Rattle.seg_line_turns.specs.TurnLists.{keeps, listed, turn_rows}
 use Rattle.seg_line_turns.specs.TurnReadings.{turn_class}
 use Rattle.seg_line_turns.specs.TurnSets.{is_before_hyphen, is_before_quote, is_complex, is_glue, is_hyphen, is_infix, is_opening, is_quote, is_space}
 use Rattle.seg_line_turns.specs.TurnUnits.{LeftUnit, is_joined, left_unit}
 use Rattle.seg_line_turns.specs.Turns.{Turn, class_turn, list_turn, right_turn, table_turn, turn}
 use Rattle.seg_line_turns.specs.Turns.Turn.{BreakAt, GoTo}
-use Rattle.seg_line_turns.proofs.TurnEvents.{turn-next, unread_by}
+use Rattle.seg_line_turns.proofs.TurnEvents.{turn-next}
 use Rattle.seg_line_turns.proofs.TurnPlaces.{next-of}
 use Rattle.seg_line_turns.proofs.TurnReads.{turn-cons}
 use Rattle.seg_line_turns.proofs.TurnSets.{none-among}
@@ -332,40 +331,3 @@ module _ (rules : LineRules) (left right : Right) (rest after : Text) (few : ask
       class = right_class;
       leads = λ opened cuts. passed.leads opened cuts ∙ break-on said opened cuts;
     }
-
-pub passed-start : (rules : LineRules) (first : Right) (start : Text) → HasClass rules first → IsPassed rules first start first start false
-passed-start rules first start class = record { taken = 0; text_is = refl; class = class; leads = λ opened cuts. refl }
-
--- the text where plain turns come to
-module _ (rules : LineRules) (here : Text) (first : Right) (start : Text) (next : Right) (after : Text) (is_break : Bool)
-    (from : here ≡ text_from first start) (passed : IsPassed rules first start next after is_break) where
-  pub passed-place : next.place ≡ start_of (rest_after passed.taken here)
-  passed-place = ap start_of passed.text_is ∙ ap (λ (text : Text). start_of (rest_after passed.taken text)) (sym from)
-
-  pub passed-here : (moved : Text) → moved ≡ rest_after passed.taken here → moved ≡ text_from next after
-  passed-here moved is = is ∙ ap (rest_after passed.taken) from ∙ sym passed.text_is
-
-  passed-leads : (opened : Bool) (cuts : Cuts) → unread_turns cuts (going_text rules opened here) ≡ passed_turns cuts rules opened is_break next after
-  passed-leads opened cuts = ap (λ (text : Text). unread_turns cuts (going_text rules opened text)) from ∙ passed.leads opened cuts
-
-  pub passed-some : (starts opened : Bool) (moved : Text) → moved ≡ rest_after passed.taken here → starts ≡ false → is_break ≡ true
-      → LeadsToBreak (unread_by rules starts opened here) (Some next.place) (unread_by rules starts false moved)
-  passed-some starts opened moved is going broken cuts =
-      ap (λ starts. unread_turns cuts (unread_by rules starts opened here)) going ∙ passed-leads opened cuts
-      ∙ ap (λ is_break. passed_turns cuts rules opened is_break next after) broken
-      ∙ ap (λ (text : Text). boundary next.place 0 ∷ unread_turns cuts (going_text rules false text)) (sym (passed-here moved is))
-      ∙ ap (λ starts. boundary next.place 0 ∷ unread_turns cuts (unread_by rules starts false moved)) (sym going)
-
-  pub passed-none : (starts opened : Bool) (moved : Text) → moved ≡ rest_after passed.taken here → starts ≡ false → is_break ≡ false
-      → LeadsToBreak (unread_by rules starts opened here) None (unread_by rules starts opened moved)
-  passed-none starts opened moved is going whole = (λ cuts. same cuts, fewer)
-    where
-      same : (cuts : Cuts) → unread_turns cuts (unread_by rules starts opened here) ≡ unread_turns cuts (unread_by rules starts opened moved)
-      same cuts =
-          ap (λ starts. unread_turns cuts (unread_by rules starts opened here)) going ∙ passed-leads opened cuts
-          ∙ ap (λ is_break. passed_turns cuts rules opened is_break next after) whole
-          ∙ ap (λ (text : Text). unread_turns cuts (going_text rules opened text)) (sym (passed-here moved is))
-          ∙ ap (λ starts. unread_turns cuts (unread_by rules starts opened moved)) (sym going)
-
-      fewer : length moved.items ≤ length here.items
-      fewer = let long = length-drop passed.taken here.items in rw is (omega (arith, long))
