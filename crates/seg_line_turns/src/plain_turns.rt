@@ -64,7 +64,7 @@ pub(crate) fn plain_turns<I: Cursor>(pairs: TurnPairs<'_>, first: Right, rest: I
             return turns_passed(next, rest, false);
         };
         let right = Right {
-            class: pairs.class(code_point),
+            class: pairs.strict_class(code_point),
             code_point,
             place,
         };
