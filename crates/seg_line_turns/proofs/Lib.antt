@@ -5,6 +5,7 @@ pub mod TurnMarks
 pub mod TurnPlaces
 pub mod TurnReads
 pub mod TurnEvents
+pub mod PlainPairs
 pub mod TurnsLeft
 pub mod PlainUnits
 pub mod PlainTurns

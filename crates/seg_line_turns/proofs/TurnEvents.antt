@@ -1,5 +1,5 @@
 -- What comes next of a text that is read turn by turn.
-use Rattle.std.proofs.Common.{◌≡◌, ◌≢◌, ℕ, ◌+◌, ◌-◌, ◌<◌, ◌&&◌, Bool, false, List, [], ◌∷◌, ◌++◌, length, map, take, drop, refl, sym, ap, ◌∙◌, subst, arith}
+use Rattle.std.proofs.Common.{◌≡◌, ◌≢◌, ℕ, ◌+◌, ◌-◌, ◌<◌, ◌&&◌, Bool, false, Option, Some, None, List, [], ◌∷◌, ◌++◌, length, map, take, drop, refl, sym, ap, ◌∙◌, subst, arith}
 use Rattle.std.proofs.lemmas.List.{drop-drop, length-drop, length-take, length-map, take-map}
 use Rattle.std.proofs.lemmas.List.Sums.{prefix_len-le-length}
 use Rattle.seg_text.specs.declared.boundary.Boundary.{Boundary}
@@ -10,8 +10,10 @@ use Rattle.seg_text.proofs.Places.{in-append, in-shift, code_points-drop}
 use Rattle.seg_pairs.proofs.Events.{cuts-placed}
 use Rattle.seg_line_rules.specs.LineRules.{LineRules}
 use Rattle.seg_line_turns.specs.declared.turn_units.Left.{Left}
+use Rattle.seg_line_turns.specs.declared.turn_units.Right.{Right}
 use Rattle.seg_line_turns.specs.declared.turn_units.TurnOutcome.{TurnOutcome}
 use Rattle.seg_line_turns.specs.declared.turn_units.TurnOutcome.TheVariants.{Break, Go, Run}
+use Rattle.seg_line_turns.specs.TurnAhead.{HasClass, IsAhead, text_from}
 use Rattle.seg_line_turns.specs.TurnBoundaries.{is_complex_point, run_length, has_none, stretch_of, turn_stretch, later_turns}
 use Rattle.seg_line_turns.specs.TurnEvents.{UnreadTurns, GoesOnTurns, unread_turns, after_cuts}
 use Rattle.seg_line_turns.specs.TurnPlaces.{item_place, placed, left_seen, FindsFrom}
@@ -206,6 +208,32 @@ module _ (rules : LineRules) (starts opened : Bool) (here after : Text) (item : 
 
 abbrev pub unread_by : LineRules → (starts opened : Bool) → Text → UnreadTurns
 unread_by rules starts opened text = record { rules = rules; starts = starts; opened = opened; text = text }
+
+-- the first item of a text, and what is left after it
+pub record FirstOf (here after : Text) (item : Item) : Type 0 where
+  pub items : here.items ≡ item ∷ after.items
+  pub end : after.end ≡ here.end
+
+pub ahead-some : (rules : LineRules) (here : Text) (next : Option Right) (one : Right) (rest : Text) → next ≡ Some one → IsAhead rules here next rest
+    → (here ≡ text_from one rest) × HasClass rules one
+ahead-some rules here next one rest is ahead = subst (λ (next : Option Right). IsAhead rules here next rest) is ahead
+
+pub ahead-none : (rules : LineRules) (here : Text) (next : Option Right) (rest : Text) → next ≡ None → IsAhead rules here next rest → here.items ≡ []
+ahead-none rules here next rest is ahead = subst (λ (next : Option Right). IsAhead rules here next rest) is ahead
+
+pub first-of : {I : Type 0} (text : I → Text) (rules : LineRules) (here : Text) (next : Option Right) (one : Right) (rest copy : I) → next ≡ Some one
+    → IsAhead rules here next (text rest) → copy ≡ rest → FirstOf here (text copy) (one.place, one.code_point)
+first-of text rules here next one rest copy is ahead same =
+    let from = (ahead-some rules here next one (text rest) is ahead).0 in
+    record {
+      items = ap (λ (t : Text). t.items) from ∙ ap (λ i. (one.place, one.code_point) ∷ (text i).items) (sym same);
+      end = ap (λ i. (text i).end) same ∙ sym (ap (λ (t : Text). t.end) from);
+    }
+
+-- nothing is left
+pub ends-here : (rules : LineRules) (starts opened : Bool) (here : Text) → here.items ≡ []
+    → GoesOnTurns (unread_by rules starts opened here) (unread_by rules starts opened here)
+ends-here rules starts opened here none = record { rules = refl; end = refl; fewer = λ some. absurd (some none) }
 
 pub goes-on : (rules : LineRules) (starts opened wide : Bool) (here after : Text) (n : ℕ) → after ≡ rest_after n here → length (drop n here.items) < length here.items
     → GoesOnTurns (unread_by rules starts opened here) (unread_by rules false wide after)

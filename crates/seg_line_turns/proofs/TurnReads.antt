@@ -122,7 +122,7 @@ turn-nil : (rules : LineRules) (opened : Bool) (left : LeftUnit) → turn rules 
 unfolding turn
 turn-nil rules opened left = refl
 
-turn-cons : (rules : LineRules) (opened : Bool) (left : LeftUnit) (item : ℕ) (items : List ℕ)
+pub turn-cons : (rules : LineRules) (opened : Bool) (left : LeftUnit) (item : ℕ) (items : List ℕ)
     → turn rules opened left (item ∷ items)
     ≡ cond (is_taken left (turn_class rules item)) (turn rules opened (with_item rules left item) items)
     (right_turn rules (opened || opens left (turn_class rules item)) left item items)

@@ -5,12 +5,12 @@ use Rattle.seg_line_rules.specs.LineRules.{is_among}
 use Rattle.seg_line_turns.specs.TurnClasses.{BK, CM, CM_EASTASIAN, CR, HH, HY, LF, NL, QU, QU_PF, QU_PI, SA, SA_MC_MN, SP, ZW, ZWJ}
 use Rattle.seg_line_turns.specs.TurnSets.{is_mark, is_glue, bears_none, is_complex, is_complex_mark, is_start}
 
-abbrev Each : (ℕ → Bool) → List ℕ → Type 0
+abbrev pub Each : (ℕ → Bool) → List ℕ → Type 0
 Each test [] = Unit {0}
 Each test (one ∷ others) = (test one ≡ false) × Each test others
 
 -- a test that no number of a list passes is passed by none among them
-none-among : (test : ℕ → Bool) (ones : List ℕ) (class : ℕ) → Each test ones → is_among ones class ≡ true → test class ≡ false
+pub none-among : (test : ℕ → Bool) (ones : List ℕ) (class : ℕ) → Each test ones → is_among ones class ≡ true → test class ≡ false
 none-among test [] class each among = cc
 none-among test (one ∷ others) class each among = on (class == one) refl (λ among. none-among test others class each.1 among) among
   where

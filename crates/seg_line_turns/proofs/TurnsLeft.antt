@@ -1,5 +1,5 @@
 -- What is left of a text that is read turn by turn, and of its runs.
-use Rattle.std.proofs.Common.{◌≡◌, ℕ, ◌&&◌, Bool, true, false, List, [], ◌∷◌, ◌++◌, length, map, refl, sym, ap, ◌∙◌}
+use Rattle.std.proofs.Common.{◌≡◌, ℕ, ◌<◌, ◌≤◌, ◌&&◌, Bool, true, false, List, [], ◌∷◌, ◌++◌, length, map, refl, sym, ap, ◌∙◌, arith}
 use Rattle.std.proofs.lemmas.List.{length-map}
 use Rattle.seg_text.specs.declared.boundary.Boundary.{Boundary}
 use Rattle.seg_text.specs.Items.{Item, Text, start_of, code_points, IsRising}
@@ -29,6 +29,9 @@ by_opened cuts unread opened = boundaries_in (later_turns cuts unread.rules unre
 
 same-opened : (cuts : Cuts) (unread : UnreadTurns) (one other : Bool) → one ≡ other → by_opened cuts unread one ≡ by_opened cuts unread other
 same-opened cuts unread one other is = ap (by_opened cuts unread) is
+
+pub fewer-still : (after passed before : ℕ) → after < passed → passed ≤ before → after < before
+fewer-still after passed before less most = omega (arith, less, most)
 
 -- a new engine
 

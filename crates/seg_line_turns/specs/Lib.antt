@@ -9,5 +9,7 @@ pub mod TurnMarks
 pub mod TurnFaults
 pub mod TurnPairs
 pub mod TurnPlaces
+pub mod TurnAhead
 pub mod TurnEvents
+pub mod PlainPairs
 pub mod PlainTexts

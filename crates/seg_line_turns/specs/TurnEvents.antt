@@ -1,5 +1,5 @@
 -- What comes next of a text that is read turn by turn.
-use Rattle.std.specs.Prelude.{◌≡◌, ◌≢◌, ◌<◌, ◌&&◌, ℕ, Bool, true, false, if◌then◌else◌, List, [], ◌∷◌, ◌++◌, length}
+use Rattle.std.specs.Prelude.{◌≡◌, ◌≢◌, ◌<◌, ◌≤◌, ◌&&◌, ℕ, Bool, true, false, if◌then◌else◌, Option, Some, None, List, [], ◌∷◌, ◌++◌, length}
 use Rattle.seg_text.specs.declared.boundary.Boundary.{Boundary}
 use Rattle.seg_text.specs.Items.{Text, code_points, start_of}
 use Rattle.seg_text.specs.Boundaries.{Remainder, boundary, boundaries_in}
@@ -41,6 +41,12 @@ pub record GoesOnTurns (before after : UnreadTurns) : Type 0 where
   pub rules : after.rules ≡ before.rules
   pub end : after.text.end ≡ before.text.end
   pub fewer : before.text.items ≢ [] → length after.text.items < length before.text.items
+
+-- plain turns lead to a boundary, or to none
+abbrev pub LeadsToBreak : UnreadTurns → Option ℕ → UnreadTurns → Type 0
+LeadsToBreak before (Some place) after = (cuts : Cuts) → unread_turns cuts before ≡ boundary place 0 ∷ unread_turns cuts after
+LeadsToBreak before None after =
+    ((cuts : Cuts) → unread_turns cuts before ≡ unread_turns cuts after) × (length after.text.items ≤ length before.text.items)
 
 -- a text that nothing was read of
 abbrev pub whole_text : LineRules → Text → UnreadTurns

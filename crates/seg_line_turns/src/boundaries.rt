@@ -82,6 +82,9 @@ impl<'data, I: Cursor> Iterator for TurnLines<'data, I> {
                 self.events.note_boundary();
                 return Some(place);
             }
+            if let Some(place) = self.events.plain_break() {
+                return Some(place);
+            }
             match self.events.next_event() {
                 TurnEvent::End => return None,
                 TurnEvent::Go => {}

@@ -5,6 +5,7 @@ mod bases;
 pub mod boundaries;
 mod classes;
 pub mod laws;
+mod plain_turns;
 pub mod turn_events;
 mod turn_lists;
 pub mod turn_pairs;

@@ -1,13 +1,16 @@
 //! The boundaries of lines of a text, as far as turns find them: runs of complex code points are given as texts of their own, to be cut in some
 //! other way.
-ghost use Rattle.std.specs.Prelude.{◌≡◌, false, []};
-ghost use Rattle.seg_text.specs.Items.{start_of};
-ghost use Rattle.seg_line_turns.specs.TurnEvents.{GoesOnTurns, LeadsToTurns, whole_text};
+ghost use Rattle.std.specs.Prelude.{◌≡◌, ◌-◌, false, []};
+ghost use Rattle.seg_text.specs.Items.{prefix_length, rest_after, start_of, text_before};
+ghost use Rattle.seg_line_turns.specs.TurnAhead.{HasClass, IsAhead};
+ghost use Rattle.seg_line_turns.specs.TurnBoundaries.{is_complex_point};
+ghost use Rattle.seg_line_turns.specs.TurnEvents.{GoesOnTurns, LeadsToBreak, LeadsToTurns, whole_text};
 ghost use Rattle.seg_line_turns.specs.TurnPairs.{turn_rules_by};
 
 use crate::classes::is_complex;
+use crate::plain_turns::{asks_more, plain_turns};
 use crate::turn_pairs::TurnPairs;
-use crate::turn_units::TurnOutcome;
+use crate::turn_units::{Right, TurnOutcome};
 use crate::turns::{first_unit, turn};
 use seg_line_rules::events::take_run;
 use seg_text::cursor::Cursor;
@@ -48,8 +51,12 @@ impl<'data> CodePointTest for ComplexPoints<'data> {
 #[derive(Debug, Drop)]
 pub struct TurnEvents<'data, I: Cursor> {
     pairs: TurnPairs<'data>,
-    // What isn't read yet.
+    // What isn't turned yet: as items, ..
     here: I,
+    // .. and as the first of them, which is read already, ..
+    next: Option<Right>,
+    // .. with those after it.
+    rest: I,
     // Whether nothing was read.
     starts: bool,
     // Whether a space after an opening was met since the last boundary.
@@ -57,12 +64,15 @@ pub struct TurnEvents<'data, I: Cursor> {
 }
 
 impl<'data, I: Cursor> Model for TurnEvents<'data, I> {
+    ghost use Rattle.seg_line_turns.specs.TurnAhead.{IsAhead};
     ghost use Rattle.seg_line_turns.specs.TurnEvents.{UnreadTurns};
     ghost use Rattle.seg_line_turns.specs.TurnPairs.{turn_rules_by};
 
     ghost Value = { UnreadTurns };
 
     ghost view = { λ s. record { rules = turn_rules_by s.pairs; starts = s.starts; opened = s.opened; text = I.text s.here } };
+
+    ghost invariant = { λ s. IsAhead (turn_rules_by s.pairs) (I.text s.here) s.next (I.text s.rest) };
 }
 
 impl<'data, I: Cursor> TurnEvents<'data, I> {
@@ -70,9 +80,13 @@ impl<'data, I: Cursor> TurnEvents<'data, I> {
     pub fn new(pairs: TurnPairs<'data>, text: I) -> Self
         ensures { result ≡ whole_text (turn_rules_by pairs.entry) (I.text text) }
     {
+        let mut rest = text.fork();
+        let next = next_right(pairs, &mut rest);
         TurnEvents {
             pairs,
             here: text,
+            next,
+            rest,
             starts: true,
             opened: false,
         }
@@ -99,36 +113,91 @@ impl<'data, I: Cursor> TurnEvents<'data, I> {
         self.opened = false;
     }
 
+    /// The next boundary, where turns by classes and pairs alone come to it. Where they don't, they are passed: what comes then is an event.
+    #[inline(always)]
+    pub fn plain_break(&mut self) -> Option<usize>
+        ensures leads { LeadsToBreak self.old result self.new }
+    {
+        let Some(next) = self.next else {
+            return None;
+        };
+        if self.starts {
+            return None;
+        }
+        if asks_more(self.pairs.style()) {
+            return None;
+        }
+        let passed = plain_turns(self.pairs, next, self.rest.fork());
+        self.here.seek(passed.next.place);
+        self.next = Some(passed.next);
+        self.rest = passed.rest;
+        if !passed.is_break {
+            return None;
+        }
+        self.opened = false;
+        Some(passed.next.place)
+    }
+
     /// What comes next. After the end it is the end for ever.
+    #[inline(never)]
     pub fn next_event(&mut self) -> TurnEvent<I>
         ensures leads { LeadsToTurns I.text self.old result self.new }
         ensures goes { GoesOnTurns self.old self.new }
     {
-        let mut ahead = self.here.fork();
-        let Some((place, code_point)) = ahead.next_item() else {
+        let Some(next) = self.next else {
             return TurnEvent::End;
         };
-        let first = first_unit(self.pairs, self.starts, place, code_point);
+        let first = first_unit(self.pairs, self.starts, next);
         self.starts = false;
-        match turn(self.pairs, self.opened, first, ahead) {
+        match turn(self.pairs, self.opened, first, self.rest.fork()) {
             TurnOutcome::Break(place, resume) => {
                 self.opened = false;
                 self.here.seek(resume);
+                self.rest = self.here.fork();
+                self.next = next_right(self.pairs, &mut self.rest);
                 TurnEvent::Break(place)
             }
             TurnOutcome::Go(place, opened) => {
                 self.opened = opened;
                 self.here.seek(place);
+                self.rest = self.here.fork();
+                self.next = next_right(self.pairs, &mut self.rest);
                 TurnEvent::Go
             }
             TurnOutcome::Run(place, opened) => {
                 self.opened = opened;
                 self.here.seek(place);
-                let (run, end) = take_run(&mut self.here, &ComplexPoints { pairs: self.pairs });
+                let (run, end) = complex_run(self.pairs, &mut self.here);
+                self.rest = self.here.fork();
+                self.next = next_right(self.pairs, &mut self.rest);
                 TurnEvent::Run(run, end)
             }
         }
     }
+}
+
+/// The run of complex items that a text begins with. `rest` goes on at the last of them. Apart, so that its loop has the registers.
+#[inline(never)]
+fn complex_run<I: Cursor>(pairs: TurnPairs<'_>, rest: &mut I) -> (I, usize)
+    ensures run { I.text result.0 ≡ text_before (prefix_length (is_complex_point (turn_rules_by pairs.entry)) (I.text rest.old)) (I.text rest.old) }
+    ensures end { result.1 ≡ (I.text result.0).end }
+    ensures rest { I.text rest.new ≡ rest_after (prefix_length (is_complex_point (turn_rules_by pairs.entry)) (I.text rest.old) - 1) (I.text rest.old) }
+{
+    take_run(rest, &ComplexPoints { pairs })
+}
+
+/// The next item, with its class.
+fn next_right<I: Cursor>(pairs: TurnPairs<'_>, rest: &mut I) -> Option<Right>
+    ensures { IsAhead (turn_rules_by pairs.entry) (I.text rest.old) result (I.text rest.new) }
+{
+    let Some((place, code_point)) = rest.next_item() else {
+        return None;
+    };
+    Some(Right {
+        class: pairs.class(code_point),
+        code_point,
+        place,
+    })
 }
 
 impl<'data, I: Cursor> TurnEvents<'data, I> {
@@ -139,6 +208,8 @@ impl<'data, I: Cursor> TurnEvents<'data, I> {
         TurnEvents {
             pairs: self.pairs,
             here: self.here.fork(),
+            next: self.next,
+            rest: self.rest.fork(),
             starts: self.starts,
             opened: self.opened,
         }

@@ -1,7 +1,8 @@
 //! Pair tables of lines of the engine 17, with what options say. They aren't part of the library's surface.
-ghost use Rattle.std.specs.Prelude.{◌≡◌, ℕ, ◌<◌, ◌↔◌, true, None, IsTrue, IfOk, IfErr};
+ghost use Rattle.std.specs.Prelude.{◌≡◌, ℕ, ◌<◌, ◌↔◌, true, false, None, IsTrue, IfOk, IfErr};
 ghost use Rattle.seg_data.specs.declared.provider.DataError.TheVariants.{ComplexBelow0100};
 ghost use Rattle.seg_data.specs.Faults.{IsFaultless, IsLowestFault};
+ghost use Rattle.seg_line_rules.specs.LineStyles.{is_loose_or_normal};
 ghost use Rattle.seg_line_turns.specs.TurnClasses.{ID};
 ghost use Rattle.seg_line_turns.specs.TurnFaults.{HasOwnTurnFault};
 ghost use Rattle.seg_line_turns.specs.TurnReadings.{class_read, is_read_as_id};
@@ -114,6 +115,17 @@ impl<'data> TurnPairs<'data> {
             PairDataBorrowed::new(self.table).class(code_point),
         )
     }
+
+    /// The same where the strictness reads no class, so that the word option alone is asked.
+    #[inline(always)]
+    pub(crate) fn strict_class(self, code_point: u32) -> u8
+        requires { is_loose_or_normal (turn_rules_by self).style.strictness ≡ false }
+        ensures value { result ≡ turn_class (turn_rules_by self.entry) code_point }
+        ensures below { result < (turn_rules_by self.entry).table.property_count }
+    {
+        let class = PairDataBorrowed::new(self.table).class(code_point);
+        strict_read(self.style, class)
+    }
 }
 
 /// Whether a code point below U+0100 has class SA or SA_MC_MN.
@@ -135,6 +147,19 @@ fn class_read(style: LineStyle, class: u8) -> u8
 {
     if is_read_as_id(style, class) {
         RuleBreakData::LINE_V3_PROPERTY_ID
+    } else {
+        class
+    }
+}
+
+/// The same where the strictness reads no class.
+#[inline(always)]
+fn strict_read(style: LineStyle, class: u8) -> u8
+    requires { is_loose_or_normal style.strictness ≡ false }
+    ensures { result ≡ class_read style class }
+{
+    if style.breaks_all() {
+        class_read(style, class)
     } else {
         class
     }

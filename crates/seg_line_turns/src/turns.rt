@@ -2,6 +2,7 @@
 ghost use Rattle.std.specs.Prelude.{◌≡◌, ◌<◌, ℕ, suc};
 ghost use Rattle.seg_text.specs.Items.{Text, code_points, rest_after};
 ghost use Rattle.seg_pair_data.specs.PairTable.{entry_of};
+ghost use Rattle.seg_line_turns.specs.TurnAhead.{HasClass};
 ghost use Rattle.seg_line_turns.specs.TurnPairs.{turn_rules_by};
 ghost use Rattle.seg_line_turns.specs.TurnPlaces.{FindsBetween, FindsFrom, class_at_start, hyphen_outcome, item_place, left_seen, placed};
 ghost use Rattle.seg_line_turns.specs.TurnReadings.{turn_class};
@@ -59,21 +60,21 @@ pub(crate) fn turn<I: Cursor>(
 }
 
 /// The left unit that a turn begins with, which is this item, the first of the text or not.
-pub(crate) fn first_unit(pairs: TurnPairs<'_>, starts: bool, place: usize, code_point: u32) -> Left
-    ensures unit { left_seen 0 result ≡ first_unit (turn_rules_by pairs.entry) starts code_point }
-    ensures place { result.last_place ≡ place }
+pub(crate) fn first_unit(pairs: TurnPairs<'_>, starts: bool, item: Right) -> Left
+    requires { HasClass (turn_rules_by pairs) item }
+    ensures unit { left_seen 0 result ≡ first_unit (turn_rules_by pairs.entry) starts item.code_point }
+    ensures place { result.last_place ≡ item.place }
     ensures class { result.class < (turn_rules_by pairs.entry).table.property_count }
 {
-    let class = pairs.class(code_point);
     Left {
-        class: if starts && is_start(class) {
-            start_class(pairs.table(), class)
+        class: if starts && is_start(item.class) {
+            start_class(pairs.table(), item.class)
         } else {
-            class
+            item.class
         },
-        last_class: class,
-        last_code_point: code_point,
-        last_place: place,
+        last_class: item.class,
+        last_code_point: item.code_point,
+        last_place: item.place,
     }
 }
 

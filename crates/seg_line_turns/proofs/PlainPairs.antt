@@ -1,0 +1,333 @@
+-- Turns by the classes and the table alone.
+use Rattle.std.proofs.Common.{◌≡◌, ℕ, suc, ◌&&◌, ◌||◌, not, Bool, true, false, cond, Option, None, List, [], ◌∷◌, ◌++◌, map, refl, sym, ap, ◌∙◌}
+use Rattle.std.proofs.lemmas.Bool.{eqb-true}
+use Rattle.seg_text.specs.declared.boundary.Boundary.{Boundary}
+use Rattle.seg_text.specs.Boundaries.{boundary, boundary_in, boundaries_in}
+use Rattle.seg_text.specs.Cuts.{Cuts}
+use Rattle.seg_text.specs.Items.{Item, Text, start_of, rest_after, code_points}
+use Rattle.seg_pair_data.specs.declared.provider.pairs.BreakState.{BreakState}
+use Rattle.seg_pair_data.specs.declared.provider.pairs.BreakState.TheVariants as entries
+use Rattle.seg_pair_data.specs.PairTable.{entry_of}
+use Rattle.seg_line_rules.specs.declared.options.LineBreakStrictness.{LineBreakStrictness}
+use Rattle.seg_line_rules.specs.declared.options.LineBreakStrictness.TheVariants as strictness
+use Rattle.seg_line_rules.specs.declared.options.LineStyle.{LineStyle}
+use Rattle.seg_line_rules.specs.LineLists.{LooseRow, listed_by}
+use Rattle.seg_line_rules.specs.LineRules.{LineRules, is_among}
+use Rattle.seg_line_rules.specs.LineStyles.{is_keep_all, is_loose_or_normal}
+use Rattle.seg_line_turns.specs.declared.plain_turns.PlainTurn.{PlainTurn}
+use Rattle.seg_line_turns.specs.declared.plain_turns.PlainTurn.TheVariants as plain
+use Rattle.seg_line_turns.specs.declared.turn_units.Right.{Right}
+use Rattle.seg_line_turns.specs.PlainPairs.{IsPassed, asks_more, entry_turn, going_text, is_asked, is_plain, is_unanswered, passed_turns, plain_turn}
+use Rattle.seg_line_turns.specs.TurnAhead.{HasClass, text_from}
+use Rattle.seg_line_turns.specs.TurnBoundaries.{later_turns, stretch_of}
+use Rattle.seg_line_turns.specs.TurnClasses.{CM, CM_EASTASIAN, HH, HY, IS, QU_PF, SA, SA_MC_MN, SP, ZWJ}
+use Rattle.seg_line_turns.specs.TurnEvents.{unread_turns}
+use Rattle.seg_line_turns.specs.TurnLists.{keeps, listed, turn_rows}
+use Rattle.seg_line_turns.specs.TurnReadings.{turn_class}
+use Rattle.seg_line_turns.specs.TurnSets.{is_before_hyphen, is_before_quote, is_complex, is_glue, is_hyphen, is_infix, is_opening, is_quote, is_space}
+use Rattle.seg_line_turns.specs.TurnUnits.{LeftUnit, is_joined, left_unit}
+use Rattle.seg_line_turns.specs.Turns.{Turn, class_turn, list_turn, right_turn, table_turn, turn}
+use Rattle.seg_line_turns.specs.Turns.Turn.{BreakAt, GoTo}
+use Rattle.seg_line_turns.proofs.TurnEvents.{turn-next}
+use Rattle.seg_line_turns.proofs.TurnPlaces.{next-of}
+use Rattle.seg_line_turns.proofs.TurnReads.{turn-cons}
+use Rattle.seg_line_turns.proofs.TurnSets.{none-among}
+
+and-off : (a b : Bool) → a ≡ false → (a && b) ≡ false
+and-off true b off = cc
+and-off false b off = refl
+
+and-off-last : (a b : Bool) → b ≡ false → (a && b) ≡ false
+and-off-last true b off = off
+and-off-last false b off = refl
+
+and-first : (a b : Bool) → (a && b) ≡ true → a ≡ true
+and-first true b is = refl
+and-first false b is = cc
+
+and-last : (a b : Bool) → (a && b) ≡ true → b ≡ true
+and-last true b is = is
+and-last false b is = cc
+
+not-true : (b : Bool) → not b ≡ true → b ≡ false
+not-true true is = cc
+not-true false is = refl
+
+swapped : (a b : Bool) → (a && b) ≡ false → (b && a) ≡ false
+swapped true true off = off
+swapped true false off = refl
+swapped false true off = refl
+swapped false false off = refl
+
+or-off : (a b : Bool) → b ≡ false → (a || b) ≡ a
+or-off true b off = refl
+or-off false b off = off
+
+-- classes of which no rule asks on the right
+
+unasked : ℕ → Bool
+unasked class = not (is_among (CM ∷ CM_EASTASIAN ∷ HH ∷ HY ∷ IS ∷ QU_PF ∷ SA ∷ SA_MC_MN ∷ SP ∷ ZWJ ∷ []) class)
+
+-- where no rule asks of a class, it is none of those that such a test finds
+not-among : (test : ℕ → Bool) (class : ℕ) → (test class ≡ true → unasked class ≡ false) → is_asked class ≡ false → test class ≡ false
+unfolding is_asked unasked
+not-among test class asked none = on (test class) refl
+  where
+    no : true ≡ false → ⊥
+    no is = cc
+
+    on : (b : Bool) → test class ≡ b → b ≡ false
+    on true is = absurd (no (ap not (sym none) ∙ asked is))
+    on false is = refl
+
+glue-asked : (class : ℕ) → is_glue class ≡ true → unasked class ≡ false
+unfolding is_glue unasked
+glue-asked class among = none-among unasked (CM ∷ CM_EASTASIAN ∷ SA_MC_MN ∷ ZWJ ∷ []) class (refl, (refl, (refl, (refl, tt)))) among
+
+complex-asked : (class : ℕ) → is_complex class ≡ true → unasked class ≡ false
+unfolding is_complex unasked
+complex-asked class among = none-among unasked (SA ∷ SA_MC_MN ∷ []) class (refl, (refl, tt)) among
+
+hyphen-asked : (class : ℕ) → is_hyphen class ≡ true → unasked class ≡ false
+unfolding is_hyphen unasked
+hyphen-asked class among = none-among unasked (HH ∷ HY ∷ []) class (refl, (refl, tt)) among
+
+space-asked : (class : ℕ) → is_space class ≡ true → unasked class ≡ false
+unfolding unasked
+space-asked class is = let same : class ≡ SP = eqb-true class SP is in rw same refl
+
+infix-asked : (class : ℕ) → is_infix class ≡ true → unasked class ≡ false
+unfolding unasked
+infix-asked class is = let same : class ≡ IS = eqb-true class IS is in rw same refl
+
+quote-asked : (class : ℕ) → is_quote class ≡ true → unasked class ≡ false
+unfolding unasked
+quote-asked class is = let same : class ≡ QU_PF = eqb-true class QU_PF is in rw same refl
+
+-- no rule that asks of the right class finds on the left what it asks of
+record Unanswered (left right : ℕ) : Type 0 where
+  pub glue : is_glue right ≡ false
+  pub opens : (is_opening left && is_space right) ≡ false
+  pub complex : (is_complex left && is_complex right) ≡ false
+  pub separator : (is_space left && is_infix right) ≡ false
+  pub before : (is_quote right && is_before_quote left) ≡ false
+  pub after : (is_quote right && is_space left) ≡ false
+  pub hyphen : (is_before_hyphen left && is_hyphen right) ≡ false
+
+sign-infix : (i q h s b c : Bool) → (((i || q) || h) && ((s || b) || c)) ≡ false → (s && i) ≡ false
+sign-infix true q h true b c is = is
+sign-infix true q h false b c is = refl
+sign-infix false q h true b c is = refl
+sign-infix false q h false b c is = refl
+
+sign-before : (i q h s b c : Bool) → (((i || q) || h) && ((s || b) || c)) ≡ false → (q && b) ≡ false
+sign-before i false h s b c is = refl
+sign-before i true h s false c is = refl
+sign-before true true h true true c is = is
+sign-before true true h false true c is = is
+sign-before false true h true true c is = is
+sign-before false true h false true c is = is
+
+sign-after : (i q h s b c : Bool) → (((i || q) || h) && ((s || b) || c)) ≡ false → (q && s) ≡ false
+sign-after i false h s b c is = refl
+sign-after i true h false b c is = refl
+sign-after true true h true b c is = is
+sign-after false true h true b c is = is
+
+some-last : (x y : Bool) → ((x || y) || true) ≡ true
+some-last true y = refl
+some-last false true = refl
+some-last false false = refl
+
+both-last : (i q s b : Bool) → (((i || q) || true) && ((s || b) || true)) ≡ true
+both-last i q s b = rw (some-last i q) (some-last s b)
+
+sign-hyphen : (i q h s b c : Bool) → (((i || q) || h) && ((s || b) || c)) ≡ false → (c && h) ≡ false
+sign-hyphen i q true s b true is = sym (both-last i q s b) ∙ is
+sign-hyphen i q false s b true is = refl
+sign-hyphen i q true s b false is = refl
+sign-hyphen i q false s b false is = refl
+
+unanswered : (left right : ℕ) → is_unanswered left right ≡ true → Unanswered left right
+unanswered left right is =
+    let three = and-first _ _ is in
+    let two = and-first _ _ three in
+    let signs = not-true _ (and-last _ _ is) in
+    record {
+      glue = not-true _ (and-first _ _ two);
+      opens = swapped (is_space right) (is_opening left) (not-true _ (and-last _ _ two));
+      complex = swapped (is_complex right) (is_complex left) (not-true _ (and-last _ _ three));
+      separator = sign-infix (is_infix right) (is_quote right) (is_hyphen right) (is_space left) (is_before_quote left) (is_before_hyphen left) signs;
+      before = sign-before (is_infix right) (is_quote right) (is_hyphen right) (is_space left) (is_before_quote left) (is_before_hyphen left) signs;
+      after = sign-after (is_infix right) (is_quote right) (is_hyphen right) (is_space left) (is_before_quote left) (is_before_hyphen left) signs;
+      hyphen = sign-hyphen (is_infix right) (is_quote right) (is_hyphen right) (is_space left) (is_before_quote left) (is_before_hyphen left) signs;
+    }
+
+plain-unanswered : (left right : ℕ) → is_plain left right ≡ true → Unanswered left right
+plain-unanswered left right is = on (is_asked right) refl is
+  where
+    on : (b : Bool) → is_asked right ≡ b → (not b || is_unanswered left right) ≡ true → Unanswered left right
+    on true asked is = unanswered left right is
+    on false none is =
+        record {
+          glue = not-among is_glue right (glue-asked right) none;
+          opens = and-off-last (is_opening left) _ (not-among is_space right (space-asked right) none);
+          complex = and-off-last (is_complex left) _ (not-among is_complex right (complex-asked right) none);
+          separator = and-off-last (is_space left) _ (not-among is_infix right (infix-asked right) none);
+          before = and-off _ (is_before_quote left) (not-among is_quote right (quote-asked right) none);
+          after = and-off _ (is_space left) (not-among is_quote right (quote-asked right) none);
+          hyphen = and-off-last (is_before_hyphen left) _ (not-among is_hyphen right (hyphen-asked right) none);
+        }
+
+-- options that ask for no more
+or-neither : (a b : Bool) → (a || b) ≡ false → (a ≡ false) × (b ≡ false)
+or-neither true b is = cc
+or-neither false b is = (refl, is)
+
+keeps-off : (style : LineStyle) (left right : ℕ) → asks_more style ≡ false → keeps style left right ≡ false
+unfolding keeps
+keeps-off style left right none = and-off _ _ (and-off (is_keep_all style.word_option) _ (or-neither (is_keep_all style.word_option) _ none).0)
+
+listed-by-off : (strictness : LineBreakStrictness) (rows : List LooseRow) (style : LineStyle) (joined : Bool) (left left_point right right_point : ℕ)
+    → is_loose_or_normal strictness ≡ false → listed_by strictness rows style joined left left_point right right_point ≡ None
+listed-by-off strictness.Loose rows style joined left left_point right right_point none = cc
+listed-by-off strictness.Normal rows style joined left left_point right right_point none = cc
+listed-by-off strictness.Strict rows style joined left left_point right right_point none = refl
+listed-by-off strictness.Anywhere rows style joined left left_point right right_point none = refl
+
+listed-off : (style : LineStyle) (joined : Bool) (left left_point right right_point : ℕ) → asks_more style ≡ false → listed style joined left left_point right right_point ≡ None
+unfolding listed
+listed-off style joined left left_point right right_point none =
+    listed-by-off style.strictness turn_rows style joined left left_point right right_point (or-neither (is_keep_all style.word_option) _ none).1
+
+if-off : (b : Bool) (x y : Turn) → b ≡ false → cond b x y ≡ y
+if-off true x y off = cc
+if-off false x y off = refl
+
+-- the turn is the table's
+module _ (rules : LineRules) (opened : Bool) (left right : ℕ) (after : List ℕ) where
+  abbrev unit : LeftUnit
+  unit = left_unit rules left
+
+  abbrev class : ℕ
+  class = turn_class rules right
+
+  abbrev by_table : Turn
+  by_table = table_turn rules opened unit class after (entry_of rules.table unit.class class)
+
+  class-plain : Unanswered unit.class class → class_turn rules opened unit class after ≡ by_table
+  class-plain none =
+      if-off _ _ _ none.complex ∙ if-off _ _ _ (and-off _ _ none.separator) ∙ if-off _ _ _ none.before ∙ if-off _ _ _ (and-off _ _ none.after)
+      ∙ if-off _ _ _ (and-off _ _ none.after) ∙ if-off _ _ _ (and-off _ _ none.after) ∙ if-off _ _ _ (and-off _ _ none.hyphen)
+
+  right-plain : asks_more rules.style ≡ false → Unanswered unit.class class → right_turn rules opened unit right after ≡ by_table
+  right-plain few none =
+      if-off _ _ _ (keeps-off rules.style unit.class class few)
+      ∙ ap (λ (said : Option Bool). list_turn said (suc unit.last) opened (class_turn rules opened unit class after))
+      (listed-off rules.style (is_joined unit) unit.class unit.last_code_point class right few)
+      ∙ class-plain none
+
+  turn-plain : asks_more rules.style ≡ false → is_plain unit.class class ≡ true → turn rules opened unit (right ∷ after) ≡ by_table
+  turn-plain few is =
+      let none = plain-unanswered unit.class class is in
+      turn-cons rules opened unit right after ∙ if-off _ _ _ (and-off _ _ (and-off (is_glue class) _ none.glue))
+      ∙ ap (λ opened. right_turn rules opened unit right after) (or-off opened _ none.opens)
+      ∙ right-plain few none
+
+  said-plain : (b : Bool) (said : PlainTurn) → (cond b said plain.Other ≡ plain.Go) → (b ≡ true) × (said ≡ plain.Go)
+  said-plain true said is = (refl, is)
+  said-plain false said is = cc
+
+  said-break : (b : Bool) (said : PlainTurn) → (cond b said plain.Other ≡ plain.Break) → (b ≡ true) × (said ≡ plain.Break)
+  said-break true said is = (refl, is)
+  said-break false said is = cc
+
+  entry-go : (joined : Bool) (entry : BreakState) → entry_turn joined entry ≡ plain.Go → entry ≡ entries.Keep
+  entry-go joined entries.Keep is = refl
+  entry-go true entries.Break is = cc
+  entry-go false entries.Break is = cc
+  entry-go joined entries.NoMatch is = cc
+  entry-go joined (entries.Index state) is = cc
+  entry-go joined (entries.Intermediate state) is = cc
+
+  entry-break : (joined : Bool) (entry : BreakState) → entry_turn joined entry ≡ plain.Break → (joined ≡ false) × (entry ≡ entries.Break)
+  entry-break joined entries.Keep is = cc
+  entry-break true entries.Break is = cc
+  entry-break false entries.Break is = (refl, refl)
+  entry-break joined entries.NoMatch is = cc
+  entry-break joined (entries.Index state) is = cc
+  entry-break joined (entries.Intermediate state) is = cc
+
+  go-plain : asks_more rules.style ≡ false → plain_turn rules.table unit.class class ≡ plain.Go → turn rules opened unit (right ∷ after) ≡ GoTo 1 opened
+  go-plain few is =
+      let said = said-plain (is_plain unit.class class) _ is in
+      turn-plain few said.0 ∙ ap (table_turn rules opened unit class after) (entry-go _ _ said.1)
+
+  break-plain : asks_more rules.style ≡ false → plain_turn rules.table unit.class class ≡ plain.Break → turn rules opened unit (right ∷ after) ≡ BreakAt 1 1
+  break-plain few is =
+      let said = said-break (is_plain unit.class class) _ is in
+      let both = entry-break _ _ said.1 in
+      turn-plain few said.0 ∙ ap (table_turn rules opened unit class after) both.1 ∙ if-off _ _ _ both.0
+
+-- one item more
+module _ (rules : LineRules) (left right : Right) (rest after : Text) (few : asks_more rules.style ≡ false)
+    (left_class : HasClass rules left) (right_class : HasClass rules right)
+    (items : rest.items ≡ (right.place, right.code_point) ∷ after.items) (end : after.end ≡ rest.end) where
+  rest-is : rest ≡ text_from right after
+  rest-is =
+      ap (λ (items : List Item). record { items = items; end = rest.end }) items
+      ∙ ap (λ (end : ℕ). record { items = (right.place, right.code_point) ∷ after.items; end = end }) (sym end)
+
+  same-said : (said : PlainTurn) → said ≡ plain_turn rules.table left.class right.class
+      → plain_turn rules.table (turn_class rules left.code_point) (turn_class rules right.code_point) ≡ said
+  same-said said is =
+      ap (λ class. plain_turn rules.table class (turn_class rules right.code_point)) (sym left_class.is)
+      ∙ ap (plain_turn rules.table left.class) (sym right_class.is) ∙ sym is
+
+  points : code_points rest.items ≡ right.code_point ∷ code_points after.items
+  points = ap code_points items
+
+  abbrev by_turn : Cuts → Turn → List Boundary
+  by_turn cuts found =
+      let here : Text = text_from left rest in
+      let s = stretch_of cuts rules (code_points here.items) found in
+      map (boundary_in here) s.boundaries ++ boundaries_in (later_turns cuts rules false s.opened) (rest_after s.extent here)
+
+  first-turn : (opened : Bool) (cuts : Cuts) (found : Turn)
+      → turn rules opened (left_unit rules left.code_point) (right.code_point ∷ code_points after.items) ≡ found
+      → unread_turns cuts (going_text rules opened (text_from left rest)) ≡ by_turn cuts found
+  first-turn opened cuts found is =
+      (turn-next rules false opened (text_from left rest) rest (left.place, left.code_point) refl).leads cuts
+      ∙ ap (by_turn cuts) (ap (turn rules opened (left_unit rules left.code_point)) points ∙ is)
+
+  go-on : plain.Go ≡ plain_turn rules.table left.class right.class → (opened : Bool) (cuts : Cuts)
+      → unread_turns cuts (going_text rules opened (text_from left rest)) ≡ passed_turns cuts rules opened false right after
+  go-on said opened cuts =
+      first-turn opened cuts (GoTo 1 opened) (go-plain rules opened left.code_point right.code_point (code_points after.items) few (same-said plain.Go said))
+      ∙ ap (λ (text : Text). unread_turns cuts (going_text rules opened text)) rest-is
+
+  break-on : plain.Break ≡ plain_turn rules.table left.class right.class → (opened : Bool) (cuts : Cuts)
+      → unread_turns cuts (going_text rules opened (text_from left rest)) ≡ passed_turns cuts rules opened true right after
+  break-on said opened cuts =
+      first-turn opened cuts (BreakAt 1 1) (break-plain rules opened left.code_point right.code_point (code_points after.items) few (same-said plain.Break said))
+      ∙ ap (λ (text : Text). boundary (start_of text) 0 ∷ unread_turns cuts (going_text rules false text)) rest-is
+
+  module _ (first : Right) (start : Text) (passed : IsPassed rules first start left rest false) where
+    text-on : text_from right after ≡ rest_after (suc passed.taken) (text_from first start)
+    text-on = sym rest-is ∙ (next-of (text_from first start) (text_from left rest) rest passed.taken (left.place, left.code_point) passed.text_is refl refl).after_is
+
+    pub passed-go : plain.Go ≡ plain_turn rules.table left.class right.class → IsPassed rules first start right after false
+    passed-go said = record {
+      taken = suc passed.taken;
+      text_is = text-on;
+      class = right_class;
+      leads = λ opened cuts. passed.leads opened cuts ∙ go-on said opened cuts;
+    }
+
+    pub passed-break : plain.Break ≡ plain_turn rules.table left.class right.class → IsPassed rules first start right after true
+    passed-break said = record {
+      taken = suc passed.taken;
+      text_is = text-on;
+      class = right_class;
+      leads = λ opened cuts. passed.leads opened cuts ∙ break-on said opened cuts;
+    }
