@@ -13,7 +13,7 @@ use Rattle.seg_memo.specs.declared.configuration.Cell.TheVariants.{Unknown, Firs
 use Rattle.seg_memo.specs.Configurations.{AreStarts, Subject, all_look_ups, configurations, reading, subject}
 use Rattle.seg_memo.specs.Grids.{Grid, IsFit, IsMemo, IsRight, IsSound, cell, filled, has_number, is_filled, is_filled_at, number}
 use Rattle.seg_memo.specs.declared.table.Table.{Table}
-use Rattle.seg_memo.specs.Windows.{Keeps}
+use Rattle.seg_memo.specs.Windows.{Has, late, lost_at}
 use Rattle.seg_memo.proofs.Counts.{count-none, has-nil}
 use Rattle.seg_memo.proofs.Scanning.{all-nil}
 use Rattle.seg_memo.proofs.Memoised.{symbols-length}
@@ -132,7 +132,7 @@ pub first-keeps : (m : Machine) (transitions : List ℕ) (text : List Item) (t :
     → IsChecked m → transitions ≡ m.transitions → t.states ≡ length m.states → t.sets ≡ 2 ^ m.num_lookaheads → items ≡ length text
     → (t.states * t.sets * (items + 1) < 2 ^ 64) × (count ≡ t.states * t.sets * (items + 1)) → t.first ≡ 0 → t.cells.items ≡ [] → vec_capacity t.cells ≡ count → counted ≡ 0
     → let s = subject (reading m transitions) (symbols_of (reading m transitions) (code_points text)) in
-    Keeps s t 0 counted (λ whole. IsMemo s whole 0)
+    Has s t 0 (lost_at s 0) counted (λ whole. IsMemo s whole 0)
 first-keeps m transitions text t items count counted checked transitions_are states sets items_are fits first none room is =
     let cells = replicate count Unknown in
     let made = first-memo m transitions text t.states t.sets items count cells checked transitions_are states sets items_are fits refl in
@@ -144,7 +144,7 @@ first-keeps m transitions text t items count counted checked transitions_are sta
         states = refl;
         sets = refl;
         begins = omega (arith, first);
-        held = λ i. ap (λ (xs : List Cell). get_or xs i Unknown) none ∙ sym (unknown-at count (t.first + i));
+        held = λ i kept. ap (λ (xs : List Cell). get_or xs i Unknown) none ∙ sym (unknown-at count (t.first + i));
         room = omega (arith, long, room);
       };
       count = fresh-count cells counted (none-filled cells count refl) is;
@@ -155,8 +155,8 @@ first-keeps m transitions text t items count counted checked transitions_are sta
 pub other-keeps : (m : Machine) (before after : List ℕ) (place counted count : ℕ) (text : List Item) (t : Table)
     → let old = subject (reading m before) (symbols_of (reading m before) (code_points text)) in
     let new = subject (reading m after) (symbols_of (reading m after) (code_points text)) in
-    Keeps old t place counted (λ whole. IsMemo old whole place) → place ≡ 0 → IsChecked (reading m after) → count ≡ 0
-    → Keeps new t 0 count (λ whole. IsMemo new whole 0)
+    Has old t place (lost_at old place) counted (λ whole. IsMemo old whole place) → place ≡ 0 → IsChecked (reading m after) → count ≡ 0
+    → Has new t 0 (lost_at new 0) count (λ whole. IsMemo new whole 0)
 unfolding number
 other-keeps m before after place counted count text t k is checked none =
     let made = other-memo m before after place text k.whole k.is is checked in
@@ -168,7 +168,7 @@ other-keeps m before after place counted count text t k is checked none =
         states = k.window.states;
         sets = k.window.sets;
         begins = subst (λ (n : ℕ). t.first ≤ (n * 2 ^ m.num_lookaheads + 0) * length m.states + 0) is begins;
-        held = k.window.held;
+        held = λ i kept. k.window.held i (subst (λ (n : ℕ). lost_at (subject (reading m before) (symbols_of (reading m before) (code_points text))) n (t.first + i) ≡ false) (sym is) kept);
         room = k.window.room;
       };
       count = other-count _ k.whole place count k.is is none;

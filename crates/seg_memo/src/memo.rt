@@ -59,7 +59,7 @@ impl<'data, I: Cursor, R: ReadTransitions> Model for MemoBreakIterator<'data, I,
     ghost use Rattle.seg_memo.specs.Configurations.{reading, subject};
     ghost use Rattle.seg_memo.specs.Grids.{IsMemo, IsReadBy};
     ghost use Rattle.seg_memo.specs.Memos.{Memo, memo};
-    ghost use Rattle.seg_memo.specs.Windows.{Keeps};
+    ghost use Rattle.seg_memo.specs.Windows.{Has, lost_at};
 
     ghost Value = { Memo };
 
@@ -71,7 +71,7 @@ impl<'data, I: Cursor, R: ReadTransitions> Model for MemoBreakIterator<'data, I,
         (s.started ≡ false → (s.status ≡ 0) × (s.place ≡ 0))
         × IsReadBy scanned (machine_of s.machine) (R.states s.reader) (R.transitions s.reader)
         × (I.text s.rest ≡ rest_after s.place (I.text s.text))
-        × Keeps scanned s.table s.place (R.counted s.reader) (λ whole. IsMemo scanned whole s.place) };
+        × Has scanned s.table s.place (lost_at scanned s.place) (R.counted s.reader) (λ whole. IsMemo scanned whole s.place) };
 }
 
 impl<'data, I: Cursor, R: ReadTransitions> MemoBreakIterator<'data, I, R> {
