@@ -1,6 +1,6 @@
 //! The boundaries of a text by a state machine, where no configuration is looked up twice.
 
-ghost use Rattle.std.specs.Prelude.{◌≡◌, ◌<◌, ◌≤◌, ◌+◌, ◌*◌, ◌^◌, ⊤, ℕ, false, Some, IfOk, IfErr, SomeIff, length};
+ghost use Rattle.std.specs.Prelude.{◌≡◌, ◌<◌, ◌≤◌, ◌+◌, ◌*◌, ◌^◌, ⊤, ℕ, false, Some, IfOk, IfErr, SomeIff, [], length, vec_capacity};
 ghost use Rattle.std.specs.Iterator.{YieldsFirst, MakesProgress, item_count};
 ghost use Rattle.seg_text.specs.Boundaries.{GivesNext, boundaries_in};
 ghost use Rattle.seg_text.specs.Items.{code_points, rest_after};
@@ -11,6 +11,7 @@ ghost use Rattle.seg_machine.specs.Tailored.{machine_of};
 ghost use Rattle.seg_memo.specs.Configurations.{AreLookedUp, configurations, reading};
 ghost use Rattle.seg_memo.specs.Memos.{IsMemoRefusal, IsNewMemo, memo_places, subject_of};
 
+use crate::configuration::Cell;
 use crate::reader::{CountedTransitions, ReadTransitions};
 use crate::search::{next_segment, skip};
 use crate::table::Table;
@@ -156,9 +157,42 @@ fn count_configurations(states: usize, sets: usize, items: usize) -> Option<usiz
     states.checked_mul(sets)?.checked_mul(items.checked_add(1)?)
 }
 
+/// Room for a cell of each configuration: for as many items as the text has units, which takes no count, or where that is
+/// refused, for as many as it has.
+fn make_cells<I: Cursor>(
+    alloc: Global,
+    machine: &TailoredMachineBorrowed<'_>,
+    text: &I,
+) -> Result<Vec<Cell>, MemoError>
+    ensures none { IfOk result (λ cells. cells.items ≡ []) }
+    ensures room { IfOk result (λ cells. configurations (machine_of machine.now) (length (I.text text.now).items) ≤ vec_capacity cells) }
+    ensures fits { IfOk result (λ cells. configurations (machine_of machine.now) (length (I.text text.now).items) < 2 ^ 64) }
+    ensures refused { IfErr result (IsMemoRefusal (Some (machine_of machine.now)) ⊥ (I.text text.now)) }
+{
+    machine.facts();
+    let states = machine.machine().states().len();
+    let sets = 1 << machine.num_lookaheads();
+    let units = text.end() - text.place();
+    if let Some(most) = count_configurations(states, sets, units) {
+        if let Ok(cells) = Vec::with_capacity(alloc, most) {
+            return Ok(cells);
+        }
+    }
+    let Some(items) = count_items(text) else {
+        return Err(MemoError::TooLarge);
+    };
+    let Some(count) = count_configurations(states, sets, items) else {
+        return Err(MemoError::TooLarge);
+    };
+    let Ok(cells) = Vec::with_capacity(alloc, count) else {
+        return Err(MemoError::Memory);
+    };
+    Ok(cells)
+}
+
 impl<'data, I: Cursor> MemoBreakIterator<'data, I, CountedTransitions<'data>> {
-    /// The boundaries of what is left of `text`. One growth makes the room for all configurations; nothing takes memory
-    /// after that. `TooLarge` where there are more of them than the greatest `usize`: no memory is asked for then.
+    /// The boundaries of what is left of `text`. One growth makes the room for all configurations, of as many items as the text
+    /// has units, or where that is refused, of as many as it has; nothing takes memory after that. `TooLarge` where there are more of them than the greatest `usize`: no memory is asked for then.
     pub fn try_new(
         alloc: Global,
         machine: TailoredMachineBorrowed<'data>,
@@ -170,15 +204,7 @@ impl<'data, I: Cursor> MemoBreakIterator<'data, I, CountedTransitions<'data>> {
         machine.facts();
         let states = machine.machine().states().len();
         let sets = 1 << machine.num_lookaheads();
-        let Some(items) = count_items(&text) else {
-            return Err(MemoError::TooLarge);
-        };
-        let Some(count) = count_configurations(states, sets, items) else {
-            return Err(MemoError::TooLarge);
-        };
-        let Ok(cells) = Vec::with_capacity(alloc, count) else {
-            return Err(MemoError::Memory);
-        };
+        let cells = make_cells(alloc, &machine, &text)?;
         Ok(MemoBreakIterator {
             machine,
             reader: CountedTransitions::new(machine.machine()),
