@@ -163,10 +163,6 @@ units-fit m text states sets units most rising states_are sets_are end fits is =
     let same : states * sets * (length text.items + 1) ≡ configurations m (length text.items) = rw (states_are, sets_are) refl in
     (omega (arith, less, same, is), omega (arith, less, same, fits))
 
-pub items-fit : (m : Machine) (text : List Item) (states sets items count : ℕ) → states ≡ length m.states → sets ≡ 2 ^ m.num_lookaheads → items ≡ length text → count ≡ states * sets * (items + 1)
-    → configurations m (length text) ≡ count
-items-fit m text states sets items count states_are sets_are items_are is = sym (is ∙ rw (states_are, sets_are, items_are) refl)
-
 -- and with another reader
 pub other-keeps : (m : Machine) (before after : List ℕ) (place counted count : ℕ) (text : List Item) (t : Table)
     → let old = subject (reading m before) (symbols_of (reading m before) (code_points text)) in

@@ -1,6 +1,6 @@
 //! The boundaries of a text by a state machine, where no configuration is looked up twice.
 
-ghost use Rattle.std.specs.Prelude.{◌≡◌, ◌<◌, ◌≤◌, ◌+◌, ◌*◌, ◌^◌, ⊤, ℕ, false, Some, IfOk, IfErr, SomeIff, [], length, vec_capacity};
+ghost use Rattle.std.specs.Prelude.{◌≡◌, ◌<◌, ◌≤◌, ◌+◌, ◌*◌, ◌^◌, ⊤, ℕ, false, Some, IfOk, IfErr, IfSome, IsNone, SomeIff, length};
 ghost use Rattle.std.specs.Iterator.{YieldsFirst, MakesProgress, item_count};
 ghost use Rattle.seg_text.specs.Boundaries.{GivesNext, boundaries_in};
 ghost use Rattle.seg_text.specs.Items.{code_points, rest_after};
@@ -11,7 +11,6 @@ ghost use Rattle.seg_machine.specs.Tailored.{machine_of};
 ghost use Rattle.seg_memo.specs.Configurations.{AreLookedUp, configurations, reading};
 ghost use Rattle.seg_memo.specs.Memos.{IsMemoRefusal, IsNewMemo, memo_places, subject_of};
 
-use crate::configuration::Cell;
 use crate::reader::{CountedTransitions, ReadTransitions};
 use crate::search::{next_segment, skip};
 use crate::table::Table;
@@ -157,42 +156,33 @@ fn count_configurations(states: usize, sets: usize, items: usize) -> Option<usiz
     states.checked_mul(sets)?.checked_mul(items.checked_add(1)?)
 }
 
-/// Room for a cell of each configuration: for as many items as the text has units, which takes no count, or where that is
-/// refused, for as many as it has.
-fn make_cells<I: Cursor>(
-    alloc: Global,
-    machine: &TailoredMachineBorrowed<'_>,
-    text: &I,
-) -> Result<Vec<Cell>, MemoError>
-    ensures none { IfOk result (λ cells. cells.items ≡ []) }
-    ensures room { IfOk result (λ cells. configurations (machine_of machine.now) (length (I.text text.now).items) ≤ vec_capacity cells) }
-    ensures fits { IfOk result (λ cells. configurations (machine_of machine.now) (length (I.text text.now).items) < 2 ^ 64) }
-    ensures refused { IfErr result (IsMemoRefusal (Some (machine_of machine.now)) ⊥ (I.text text.now)) }
+/// So many cells at most are made room for without a count of items: a gigabyte, of which only what is used is touched.
+const UNCOUNTED: usize = 1 << 28;
+
+/// How many cells to make room for, unless there are more configurations than the greatest `usize`: those of as many items as
+/// the text has units, which needs no count, or where these are many, of as many as it has.
+fn count_cells<I: Cursor>(machine: &TailoredMachineBorrowed<'_>, text: &I) -> Option<usize>
+    ensures room { IfSome result (λ count. configurations (machine_of machine.now) (length (I.text text.now).items) ≤ count) }
+    ensures fits { IfSome result (λ _. configurations (machine_of machine.now) (length (I.text text.now).items) < 2 ^ 64) }
+    ensures none { IsNone result → 2 ^ 64 ≤ configurations (machine_of machine.now) (length (I.text text.now).items) }
 {
     machine.facts();
     let states = machine.machine().states().len();
     let sets = 1 << machine.num_lookaheads();
     let units = text.end() - text.place();
     if let Some(most) = count_configurations(states, sets, units) {
-        if let Ok(cells) = Vec::with_capacity(alloc, most) {
-            return Ok(cells);
+        if most <= UNCOUNTED {
+            return Some(most);
         }
     }
-    let Some(items) = count_items(text) else {
-        return Err(MemoError::TooLarge);
-    };
-    let Some(count) = count_configurations(states, sets, items) else {
-        return Err(MemoError::TooLarge);
-    };
-    let Ok(cells) = Vec::with_capacity(alloc, count) else {
-        return Err(MemoError::Memory);
-    };
-    Ok(cells)
+    let items = count_items(text)?;
+    let count = count_configurations(states, sets, items)?;
+    Some(count)
 }
 
 impl<'data, I: Cursor> MemoBreakIterator<'data, I, CountedTransitions<'data>> {
-    /// The boundaries of what is left of `text`. One growth makes the room for all configurations, of as many items as the text
-    /// has units, or where that is refused, of as many as it has; nothing takes memory after that. `TooLarge` where there are more of them than the greatest `usize`: no memory is asked for then.
+    /// The boundaries of what is left of `text`. One growth makes the room for all configurations; nothing takes memory
+    /// after that. `TooLarge` where there are more of them than the greatest `usize`: no memory is asked for then.
     pub fn try_new(
         alloc: Global,
         machine: TailoredMachineBorrowed<'data>,
@@ -204,7 +194,12 @@ impl<'data, I: Cursor> MemoBreakIterator<'data, I, CountedTransitions<'data>> {
         machine.facts();
         let states = machine.machine().states().len();
         let sets = 1 << machine.num_lookaheads();
-        let cells = make_cells(alloc, &machine, &text)?;
+        let Some(count) = count_cells(&machine, &text) else {
+            return Err(MemoError::TooLarge);
+        };
+        let Ok(cells) = Vec::with_capacity(alloc, count) else {
+            return Err(MemoError::Memory);
+        };
         Ok(MemoBreakIterator {
             machine,
             reader: CountedTransitions::new(machine.machine()),

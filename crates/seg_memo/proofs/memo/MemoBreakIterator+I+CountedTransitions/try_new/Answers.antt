@@ -1,4 +1,4 @@
-use Rattle.std.proofs.Common.{◌∙◌, ap, refl}
+use Rattle.std.proofs.Common.{◌∙◌, ap, arith, refl}
 use Rattle.seg_memo.proofs.Fresh.{first-keeps, sets-made, states-made}
 use Rattle.seg_machine.specs.Tailored.{machine_of}
 use Rattle.seg_memo.proofs.Memoised.{read-by}
@@ -11,5 +11,5 @@ invariant_of-result g c = (
   ap (g.I.Cursor.text) c.fork.ensures,
   first-keeps (machine_of c.args.machine) _ _ _ _ c.facts.ensures (c.new.ensures.transitions ∙ c.machine-2.ensures.transitions)
       (states-made (machine_of c.args.machine) _ (c.states-states.ensures ∙ c.machine.ensures.states)) (sets-made _ _ c.facts.ensures c.num_lookaheads-sets.ensures)
-      c.in_ok-cells.ensures.fits refl c.in_ok-cells.ensures.none c.in_ok-cells.ensures.room c.new.ensures.count,
+      c.in-Some.ensures.fits refl c.in-Ok.ensures.items (omega (arith, c.in-Some.ensures.room, c.in-Ok.ensures.exact)) c.new.ensures.count,
 )

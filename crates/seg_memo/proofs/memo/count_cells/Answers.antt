@@ -1,34 +1,26 @@
 use Rattle.std.proofs.Common.{◌-◌, ◌∙◌, arith}
 use Rattle.seg_machine.specs.Tailored.{machine_of}
 use Rattle.seg_text.proofs.Hints.{items-few}
-use Rattle.seg_memo.proofs.Fresh.{items-fit, sets-made, states-made, units-fit}
-use Rattle.seg_memo.proofs.memo.make_cells.Goals as goal
+use Rattle.seg_memo.proofs.Fresh.{sets-made, states-made, units-fit}
+use Rattle.seg_memo.proofs.memo.count_cells.Goals as goal
 
 pub overflow_sub-units : goal.overflow_sub-units
 overflow_sub-units g c =
     let text = g.I.Cursor.text c.args.text.now in
     omega (arith, c.place.ensures, c.end.ensures, items-few text.items text.end (g.met.I.Cursor.rises c.args.text.now))
 
-pub returns-in-Ok-clause-room : goal.returns-in-Ok-clause-room
-returns-in-Ok-clause-room g c =
+pub returns-then-most-le-UNCOUNTED-clause-room : goal.returns-then-most-le-UNCOUNTED-clause-room
+returns-then-most-le-UNCOUNTED-clause-room g c =
     let text = g.I.Cursor.text c.args.text.now in
     let few = items-few text.items text.end (g.met.I.Cursor.rises c.args.text.now) in
-    let fits = units-fit (machine_of c.args.machine.now) text _ _ (c.end.result - c.place.result) c.in-Some.most (g.met.I.Cursor.rises c.args.text.now)
+    (units-fit (machine_of c.args.machine.now) text _ _ (c.end.result - c.place.result) c.in-Some.most (g.met.I.Cursor.rises c.args.text.now)
     (states-made (machine_of c.args.machine.now) _ (c.states-states.ensures ∙ c.machine.ensures.states)) (sets-made _ _ c.facts.ensures c.num_lookaheads-sets.ensures)
-    (omega (arith, c.place.ensures, c.end.ensures, few)) c.in-Some.ensures.0 c.in-Some.ensures.1 in
-    omega (arith, fits.0, c.in-Ok.ensures.exact)
+    (omega (arith, c.place.ensures, c.end.ensures, few)) c.in-Some.ensures.0 c.in-Some.ensures.1).0
 
-pub returns-in-Ok-clause-fits : goal.returns-in-Ok-clause-fits
-returns-in-Ok-clause-fits g c =
+pub returns-then-most-le-UNCOUNTED-clause-fits : goal.returns-then-most-le-UNCOUNTED-clause-fits
+returns-then-most-le-UNCOUNTED-clause-fits g c =
     let text = g.I.Cursor.text c.args.text.now in
     let few = items-few text.items text.end (g.met.I.Cursor.rises c.args.text.now) in
     (units-fit (machine_of c.args.machine.now) text _ _ (c.end.result - c.place.result) c.in-Some.most (g.met.I.Cursor.rises c.args.text.now)
     (states-made (machine_of c.args.machine.now) _ (c.states-states.ensures ∙ c.machine.ensures.states)) (sets-made _ _ c.facts.ensures c.num_lookaheads-sets.ensures)
     (omega (arith, c.place.ensures, c.end.ensures, few)) c.in-Some.ensures.0 c.in-Some.ensures.1).1
-
-pub returns-clause-room : goal.returns-clause-room
-returns-clause-room g c =
-    let fits = items-fit (machine_of c.args.machine.now) (g.I.Cursor.text c.args.text.now).items _ _ _ _
-    (states-made (machine_of c.args.machine.now) _ (c.states-states.ensures ∙ c.machine.ensures.states)) (sets-made _ _ c.facts.ensures c.num_lookaheads-sets.ensures)
-    c.in-Some-count_items.ensures.1 c.in-Some-count_configurations.ensures.1 in
-    omega (arith, fits, c.in-Ok-with_capacity.ensures.exact)
