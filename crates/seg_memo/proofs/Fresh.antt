@@ -14,7 +14,7 @@ use Rattle.seg_memo.specs.declared.configuration.Cell.TheVariants.{Unknown, Firs
 use Rattle.seg_memo.specs.Configurations.{AreStarts, Subject, all_look_ups, configurations, reading, subject}
 use Rattle.seg_memo.specs.Grids.{Grid, IsFit, IsMemo, IsRight, IsSound, cell, filled, has_number, is_filled, is_filled_at, number}
 use Rattle.seg_memo.specs.declared.table.Table.{Table}
-use Rattle.seg_memo.specs.Windows.{Has, late, lost_at}
+use Rattle.seg_memo.specs.Windows.{Has, lost_at}
 use Rattle.seg_memo.proofs.Counts.{count-none, has-nil}
 use Rattle.seg_memo.proofs.Scanning.{all-nil}
 use Rattle.seg_memo.proofs.Memoised.{symbols-length}

@@ -197,17 +197,21 @@ fn look_up_plain<I: Cursor, R: ReadTransitions>(
     ensures count { R.counted reader.new ≡ R.counted reader.old + 1 }
 {
     let (symbol, place) = next_symbol(machine, rest, here.place);
-    let state = reader.read(here.state, symbol);
-    if state == SegmenterStateMachine::TRASH_STATE {
+    let next = reader.read(here.state, symbol);
+    if next == SegmenterStateMachine::TRASH_STATE {
         return LookUp::Ends(Outcome::Nothing);
     }
-    let kept = here.kept;
-    LookUp::Leads(Configuration { state, place, kept })
+    LookUp::Leads(Configuration {
+        state: next,
+        place,
+        kept: here.kept,
+    })
 }
 
-/// The pick by a machine without lookaheads, and where a cursor stands there. No scan comes to what is before the pick, or to
-/// a state that accepts, so only the other states after an acceptance are marked: their outcome is nothing, or that of a
-/// later acceptance, which lets the marks before it go.
+/// The pick by a machine without lookaheads, and where a cursor stands there. Three things need no cell: what is before the
+/// pick, since later scans begin there; a state that accepts, since a scan that came to it before had its pick there or
+/// later; and what is before the first acceptance, since a scan that has a pick comes to nothing that has none. What comes
+/// after an acceptance is marked at once: nothing accepts after it, unless the pick is later and no scan comes to it again.
 #[inline(always)]
 fn scan_plain<I: Cursor, R: ReadTransitions>(
     machine: &TailoredMachineBorrowed<'_>,

@@ -1,4 +1,3 @@
-use Rattle.std.proofs.Common.{◌∙◌, sym}
 use Rattle.seg_memo.proofs.Windows.{part-more}
 use Rattle.seg_memo.proofs.table.Table.make_room.Goals as goal
 
