@@ -77,7 +77,7 @@ at-none : (move : ℕ → ℕ) (kept : ℕ) → at move (outcome kept []) ≡ No
 unfolding outcome
 at-none move kept = refl
 
-outcome-nil : (kept : ℕ) → outcome kept [] ≡ Nothing
+pub outcome-nil : (kept : ℕ) → outcome kept [] ≡ Nothing
 unfolding outcome
 outcome-nil kept = refl
 
@@ -85,7 +85,7 @@ outcome-none : (s : Subject) (c : Configuration) → following s c ≡ [] → ou
 unfolding outcome_at
 outcome-none s c none = rw none (at-none _ c.kept)
 
-outcome-cons : (kept : ℕ) (state : Acceptance × Option ℕ) (states : List (Acceptance × Option ℕ)) (found : Option (ℕ × ℕ)) → condition_held kept state ≡ found
+pub outcome-cons : (kept : ℕ) (state : Acceptance × Option ℕ) (states : List (Acceptance × Option ℕ)) (found : Option (ℕ × ℕ)) → condition_held kept state ≡ found
     → outcome kept (state ∷ states) ≡ option_map_or {T = ℕ × ℕ} {U = Outcome} (λ f. Kept f.0 f.1) found (entered 1 state (at suc (outcome (keep kept state.1) states)))
 unfolding outcome
 outcome-cons kept state states found is = rw is refl
@@ -144,7 +144,7 @@ outcome-past kept (state ∷ states) found is = on (condition_held kept state) r
     on None free = entered-past state (outcome (keep kept state.1) states) found (sym (outcome-cons kept state states None free) ∙ is)
     on (Some f) holds = let never : Kept f.0 f.1 ≡ Picked found = sym (outcome-cons kept state states (Some f) holds) ∙ is in cc
 
-outcome-at : (s : Subject) (c : Configuration) → outcome_at s c ≡ at (λ steps. min (c.place + steps) (length s.symbols)) (outcome c.kept (map (state_at s.machine) (following s c)))
+pub outcome-at : (s : Subject) (c : Configuration) → outcome_at s c ≡ at (λ steps. min (c.place + steps) (length s.symbols)) (outcome c.kept (map (state_at s.machine) (following s c)))
 unfolding outcome_at
 outcome-at s c = refl
 
@@ -206,7 +206,7 @@ look-up-held : (s : Subject) (c : Configuration) (next : ℕ) (f : ℕ × ℕ) �
     → condition_held c.kept (state_at s.machine next) ≡ Some f → look_up s c ≡ Ends (Kept f.0 f.1)
 look-up-held s c next f some holds = look-up-some s c next some ∙ rw holds refl
 
-look-up-leads : (s : Subject) (c : Configuration) (next : ℕ) → step s.machine c.state (get_or s.symbols c.place 0) ≡ Some next
+pub look-up-leads : (s : Subject) (c : Configuration) (next : ℕ) → step s.machine c.state (get_or s.symbols c.place 0) ≡ Some next
     → condition_held c.kept (state_at s.machine next) ≡ None → look_up s c ≡ Leads (entering s c next)
 look-up-leads s c next some free = look-up-some s c next some ∙ rw free refl
 

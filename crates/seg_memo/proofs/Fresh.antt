@@ -2,9 +2,10 @@
 use Rattle.std.proofs.Common.{◌≡◌, ℕ, zero, suc, ◌+◌, ◌*◌, ◌%◌, ◌^◌, ◌<◌, ◌≤◌, ◌||◌, Bool, false, Option, List, [], ◌∷◌, length, get_or, replicate, refl, sym, ap, ◌∙◌, subst, arith, inl, inr}
 use Rattle.std.proofs.lemmas.Bool.{cases_lt, false≢true}
 use Rattle.std.proofs.lemmas.List.{get_or_past, get_or-map, length-map, length-replicate}
-use Rattle.std.proofs.lemmas.Nat.{pow_below}
+use Rattle.std.proofs.lemmas.Nat.{mul-le, pow_below}
 use Rattle.std.specs.Prelude.{vec_capacity}
-use Rattle.seg_text.specs.Items.{Item, code_points}
+use Rattle.seg_text.specs.Items.{IsRising, Item, Text, code_points, start_of}
+use Rattle.seg_text.proofs.Hints.{items-few}
 use Rattle.seg_machine.specs.declared.provider.Acceptance.{Acceptance}
 use Rattle.seg_machine.specs.Checked.{IsChecked}
 use Rattle.seg_machine.specs.Machine.{Machine, symbol_and_script, symbol_count, symbols_of}
@@ -13,7 +14,7 @@ use Rattle.seg_memo.specs.declared.configuration.Cell.TheVariants.{Unknown, Firs
 use Rattle.seg_memo.specs.Configurations.{AreStarts, Subject, all_look_ups, configurations, reading, subject}
 use Rattle.seg_memo.specs.Grids.{Grid, IsFit, IsMemo, IsRight, IsSound, cell, filled, has_number, is_filled, is_filled_at, number}
 use Rattle.seg_memo.specs.declared.table.Table.{Table}
-use Rattle.seg_memo.specs.Windows.{Keeps}
+use Rattle.seg_memo.specs.Windows.{Has, lost_at}
 use Rattle.seg_memo.proofs.Counts.{count-none, has-nil}
 use Rattle.seg_memo.proofs.Scanning.{all-nil}
 use Rattle.seg_memo.proofs.Memoised.{symbols-length}
@@ -128,14 +129,16 @@ pub other-count : (s : Subject) (g : Grid) (place counted : ℕ) → IsMemo s g 
 other-count s g place counted memo is none = fresh-count g.cells counted (first-unfilled s g (subst (IsMemo s g) is memo)) none
 
 -- what a table keeps that has no cell yet
-pub first-keeps : (m : Machine) (transitions : List ℕ) (text : List Item) (t : Table) (items count counted : ℕ)
-    → IsChecked m → transitions ≡ m.transitions → t.states ≡ length m.states → t.sets ≡ 2 ^ m.num_lookaheads → items ≡ length text
-    → (t.states * t.sets * (items + 1) < 2 ^ 64) × (count ≡ t.states * t.sets * (items + 1)) → t.first ≡ 0 → t.cells.items ≡ [] → vec_capacity t.cells ≡ count → counted ≡ 0
+pub first-keeps : (m : Machine) (transitions : List ℕ) (text : List Item) (t : Table) (counted : ℕ)
+    → IsChecked m → transitions ≡ m.transitions → t.states ≡ length m.states → t.sets ≡ 2 ^ m.num_lookaheads → configurations m (length text) < 2 ^ 64
+    → t.first ≡ 0 → t.cells.items ≡ [] → configurations m (length text) ≤ vec_capacity t.cells → counted ≡ 0
     → let s = subject (reading m transitions) (symbols_of (reading m transitions) (code_points text)) in
-    Keeps s t 0 counted (λ whole. IsMemo s whole 0)
-first-keeps m transitions text t items count counted checked transitions_are states sets items_are fits first none room is =
+    Has s t 0 (lost_at s 0) counted (λ whole. IsMemo s whole 0)
+first-keeps m transitions text t counted checked transitions_are states sets fits first none room is =
+    let count = configurations m (length text) in
     let cells = replicate count Unknown in
-    let made = first-memo m transitions text t.states t.sets items count cells checked transitions_are states sets items_are fits refl in
+    let all : t.states * t.sets * (length text + 1) ≡ count = rw (states, sets) refl in
+    let made = first-memo m transitions text t.states t.sets (length text) count cells checked transitions_are states sets refl (subst (λ (n : ℕ). n < 2 ^ 64) (sym all) fits, sym all) refl in
     let long = length-replicate count Unknown in
     record {
       whole = record { states = t.states; sets = t.sets; cells = cells };
@@ -144,19 +147,28 @@ first-keeps m transitions text t items count counted checked transitions_are sta
         states = refl;
         sets = refl;
         begins = omega (arith, first);
-        held = λ i. ap (λ (xs : List Cell). get_or xs i Unknown) none ∙ sym (unknown-at count (t.first + i));
+        held = λ i kept. ap (λ (xs : List Cell). get_or xs i Unknown) none ∙ sym (unknown-at count (t.first + i));
         room = omega (arith, long, room);
       };
       count = fresh-count cells counted (none-filled cells count refl) is;
       is = made;
     }
 
+-- the room for a text of as many items as it has units is enough
+pub units-fit : (m : Machine) (text : Text) (states sets units most : ℕ) → IsRising text.items text.end → states ≡ length m.states → sets ≡ 2 ^ m.num_lookaheads → units + start_of text ≡ text.end
+    → states * sets * (units + 1) < 2 ^ 64 → most ≡ states * sets * (units + 1) → (configurations m (length text.items) ≤ most) × (configurations m (length text.items) < 2 ^ 64)
+units-fit m text states sets units most rising states_are sets_are end fits is =
+    let few : start_of text + length text.items ≤ text.end = items-few text.items text.end rising in
+    let less : states * sets * (length text.items + 1) ≤ states * sets * (units + 1) = mul-le (states * sets) (length text.items + 1) (states * sets) (units + 1) (omega arith) (omega (arith, few, end)) in
+    let same : states * sets * (length text.items + 1) ≡ configurations m (length text.items) = rw (states_are, sets_are) refl in
+    (omega (arith, less, same, is), omega (arith, less, same, fits))
+
 -- and with another reader
 pub other-keeps : (m : Machine) (before after : List ℕ) (place counted count : ℕ) (text : List Item) (t : Table)
     → let old = subject (reading m before) (symbols_of (reading m before) (code_points text)) in
     let new = subject (reading m after) (symbols_of (reading m after) (code_points text)) in
-    Keeps old t place counted (λ whole. IsMemo old whole place) → place ≡ 0 → IsChecked (reading m after) → count ≡ 0
-    → Keeps new t 0 count (λ whole. IsMemo new whole 0)
+    Has old t place (lost_at old place) counted (λ whole. IsMemo old whole place) → place ≡ 0 → IsChecked (reading m after) → count ≡ 0
+    → Has new t 0 (lost_at new 0) count (λ whole. IsMemo new whole 0)
 unfolding number
 other-keeps m before after place counted count text t k is checked none =
     let made = other-memo m before after place text k.whole k.is is checked in
@@ -168,7 +180,7 @@ other-keeps m before after place counted count text t k is checked none =
         states = k.window.states;
         sets = k.window.sets;
         begins = subst (λ (n : ℕ). t.first ≤ (n * 2 ^ m.num_lookaheads + 0) * length m.states + 0) is begins;
-        held = k.window.held;
+        held = λ i kept. k.window.held i (subst (λ (n : ℕ). lost_at (subject (reading m before) (symbols_of (reading m before) (code_points text))) n (t.first + i) ≡ false) (sym is) kept);
         room = k.window.room;
       };
       count = other-count _ k.whole place count k.is is none;

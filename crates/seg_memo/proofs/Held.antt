@@ -1,10 +1,13 @@
 -- What a table keeps, turn by turn.
-use Rattle.std.proofs.Common.{◌≡◌, ℕ, suc, ◌+◌, ◌<◌, ◌≤◌, Bool, Option, Some, None, List, length, min, refl, sym, ap, ◌∙◌, arith}
+use Rattle.std.proofs.Common.{◌≡◌, ◌≢◌, ℕ, suc, ◌+◌, ◌<◌, ◌≤◌, if◌then◌else◌, Bool, [], Option, Some, None, List, length, min, refl, sym, ap, ◌∙◌, subst, arith, eq-eqb}
+use Rattle.std.proofs.lemmas.Bool.{ne_eqb}
+use Rattle.seg_text.specs.Items.{Item}
 use Rattle.seg_text.specs.declared.boundary.Boundary.{Boundary}
 use Rattle.seg_machine.specs.declared.provider.Acceptance.{Acceptance}
 use Rattle.seg_machine.specs.Machine.{Machine, state_at}
 use Rattle.seg_memo.specs.declared.configuration.Configuration.{Configuration}
 use Rattle.seg_memo.specs.declared.configuration.Outcome.{Outcome}
+use Rattle.seg_memo.specs.declared.configuration.Outcome.TheVariants.{Picked}
 use Rattle.seg_memo.specs.declared.configuration.LookUp.{LookUp}
 use Rattle.seg_memo.specs.declared.configuration.LookUp.TheVariants.{Ends, Leads}
 use Rattle.seg_memo.specs.declared.configuration.Cell.{Cell}
@@ -12,17 +15,17 @@ use Rattle.seg_memo.specs.declared.configuration.Cell.TheVariants.{Unknown, Firs
 use Rattle.seg_memo.specs.declared.table.Table.{Table}
 use Rattle.seg_memo.specs.Configurations.{Subject, start_at}
 use Rattle.seg_memo.specs.Outcomes.{entered, look_up}
-use Rattle.seg_memo.specs.Grids.{Grid, IsBegun, IsMemo, IsReadBy, IsScanned, IsWithin, Walking, Went, cell, with_cell, holding, known, came_from, way_from}
-use Rattle.seg_memo.specs.Windows.{IsHeld, IsWindow, Keeps}
+use Rattle.seg_memo.specs.Grids.{Grid, IsAt, IsBegun, IsMemo, IsReadBy, IsScanned, IsWithin, Walking, Went, cell, with_cell, holding, known, came_from, way_from}
+use Rattle.seg_memo.specs.Windows.{Has, IsHeld, IsPart, IsWindow, Keeps, late, lost_at, none}
 use Rattle.seg_memo.proofs.Following.{leads}
 use Rattle.seg_memo.proofs.Scanning.{start-within}
-use Rattle.seg_memo.proofs.Segments.{Segment}
+use Rattle.seg_memo.proofs.Segments.{Segment, segment-found, segment-memo}
 use Rattle.seg_memo.proofs.Ways.{right-unknown, way-inside, way-past}
 use Rattle.seg_memo.proofs.Windows.{start-least}
 use Rattle.seg_memo.proofs.Turns.{back-count, back-turn, known-before, start-count, start-walk, turn-count, turn-ends, turn-known, turn-next, walk-inside}
 
 pub held : (s : Subject) (t : Table) (place counted : ℕ) (P : Grid → Type 0) → Keeps s t place counted P → IsHeld s t place
-held s t place counted P k = (k.whole, k.window)
+held s t place counted P k = (none, k.whole, k.window)
 
 -- what is written
 abbrev pub IsWritten : Subject → Table → Table → ℕ → Configuration → Cell → Type 0
@@ -35,7 +38,7 @@ IsRead s t place c x = (whole : Grid) → IsWindow s t place whole → x ≡ cel
 pub first-there : (s : Subject) (t : Table) (place counted : ℕ) (first : Configuration) → Keeps s t place counted (λ whole. IsMemo s whole place) → first ≡ start_at place
     → IsHeld s t place × (IsWithin s first × (place ≤ first.place))
 first-there s t place counted first k is =
-    ((k.whole, k.window), rw is (start-within s place k.is.table.fit.sound k.is.within, omega arith))
+    ((none, k.whole, k.window), rw is (start-within s place k.is.table.fit.sound k.is.within, omega arith))
 
 pub begins : (s : Subject) (t : Table) (place counted : ℕ) (first : Configuration) (x : Cell) (is_known : Option Outcome) → Keeps s t place counted (λ whole. IsMemo s whole place)
     → place < length s.symbols → first ≡ start_at place → IsRead s t place first x → is_known ≡ known x → is_known ≡ None → Keeps s t place counted (IsBegun s place)
@@ -74,7 +77,7 @@ next-there s t place counted here next found k value is inside =
     let here-inside = walk-inside s k.whole place here k.is in
     let past = way-past s k.whole (start_at place) here k.is.path sound k.is.way in
     let on : next.place ≡ min (suc here.place) (length s.symbols) = (leads s here next sound here-inside (sym value ∙ is)).place in
-    ((k.whole, k.window), (inside, omega (arith, past, here-inside.place, on)))
+    ((none, k.whole, k.window), (inside, omega (arith, past, here-inside.place, on)))
 
 pub keeps-next : (s : Subject) (old new : Table) (place counted count : ℕ) (here next : Configuration) (found : LookUp) (x marked : Cell) (is_known : Option Outcome)
     → Keeps s old place (counted + 1) (λ whole. Walking s whole place here) → found ≡ look_up s here → found ≡ Leads next → IsWithin s next → IsRead s old place next x → is_known ≡ known x
@@ -111,7 +114,7 @@ keeps-known s m states transitions t place counted count here next found x is_kn
 pub back-there : (s : Subject) (t : Table) (place counted : ℕ) (here : Configuration) (o : Outcome) → Keeps s t place counted (λ whole. Went s whole place here o)
     → IsHeld s t place × (IsWithin s here × (place ≤ here.place))
 back-there s t place counted here o k =
-    ((k.whole, k.window), (way-inside s k.whole (start_at place) here k.is.path k.is.way, way-past s k.whole (start_at place) here k.is.path k.is.table.fit.sound k.is.way))
+    ((none, k.whole, k.window), (way-inside s k.whole (start_at place) here k.is.path k.is.way, way-past s k.whole (start_at place) here k.is.path k.is.table.fit.sound k.is.way))
 
 pub keeps-back : (s : Subject) (m : Machine) (old new : Table) (place counted : ℕ) (here back : Configuration) (o result : Outcome) (is_held : Option Cell) (x was : Cell) (state kept : ℕ) (stays : Bool)
     (entry : Acceptance × Option ℕ)
@@ -140,18 +143,47 @@ keeps-before s t place counted first x is_known o k more is read e some = record
 }
 
 -- from a segment to the next
-window-on : (s : Subject) (t : Table) (place later : ℕ) (whole : Grid) → place ≤ later → IsWindow s t place whole → IsWindow s t later whole
-window-on s t place later whole past w =
+pub part-on : (s : Subject) (t : Table) (place later : ℕ) (lost : ℕ → Bool) (whole : Grid) → place ≤ later → IsPart s t place lost whole → IsPart s t later lost whole
+part-on s t place later lost whole past w =
     let least = start-least s (start_at later) place past in
     let first = w.begins in
     record { fit = w.fit; states = w.states; sets = w.sets; begins = omega (arith, least, first); held = w.held; room = w.room }
 
 pub keeps-on : (s : Subject) (t : Table) (place later counted : ℕ) (P Q : Grid → Type 0) → place ≤ later → (k : Keeps s t place counted P) → Q k.whole → Keeps s t later counted Q
-keeps-on s t place later counted P Q past k is = record { whole = k.whole; window = window-on s t place later k.whole past k.window; count = k.count; is = is }
+keeps-on s t place later counted P Q past k is = record { whole = k.whole; window = part-on s t place later none k.whole past k.window; count = k.count; is = is }
 
 pub keeps-left : (s : Subject) (old new : Table) (place counted : ℕ) (P : Grid → Type 0) → Keeps s old place counted P
-    → ((whole : Grid) → IsWindow s old place whole → IsWindow s new place whole) → Keeps s new place counted P
-keeps-left s old new place counted P k left = record { whole = k.whole; window = left k.whole k.window; count = k.count; is = k.is }
+    → ((lost : ℕ → Bool) (whole : Grid) → IsPart s old place lost whole → IsPart s new place lost whole) → Keeps s new place counted P
+keeps-left s old new place counted P k left = record { whole = k.whole; window = left none k.whole k.window; count = k.count; is = k.is }
 
 pub segment-on : (s : Subject) (place : ℕ) (b : Boundary) → Segment s place b → place ≤ b.offset
 segment-on s place b segment = let offset : b.offset ≡ place + segment.p.offset = ap (λ (x : Boundary). x.offset) segment.is in omega (arith, offset)
+
+-- what is lost, by whether there are lookaheads
+pub lost-plain : (s : Subject) (place : ℕ) → s.machine.num_lookaheads ≡ 0 → lost_at s place ≡ late s place
+lost-plain s place is = ap (λ (plain : Bool). if plain then late s place else none) (eq-eqb s.machine.num_lookaheads 0 is)
+
+pub lost-none : (s : Subject) (place : ℕ) → (s.machine.num_lookaheads ≡ 0 → ⊥) → lost_at s place ≡ none
+lost-none s place not = ap (λ (plain : Bool). if plain then late s place else none) (ne_eqb s.machine.num_lookaheads 0 not)
+
+pub has-lost : (s : Subject) (t : Table) (place counted : ℕ) (lost other : ℕ → Bool) (P : Grid → Type 0) → Has s t place lost counted P → lost ≡ other → Has s t place other counted P
+has-lost s t place counted lost other P k is = subst (λ (x : ℕ → Bool). Has s t place x counted P) is k
+
+pub read-lookaheads : (s : Subject) (m : Machine) (states : ℕ) (transitions : List ℕ) (count : ℕ) → IsReadBy s m states transitions → count ≡ m.num_lookaheads → s.machine.num_lookaheads ≡ count
+read-lookaheads s m states transitions count read is = ap (λ (x : Machine). x.num_lookaheads) read.machine ∙ sym is
+
+pub plain-segment : (s : Subject) (t : Table) (place counted : ℕ) (lost : ℕ → Bool) (b : Boundary) → Has s t b.offset lost counted (λ whole. IsScanned s whole place (Picked b)) → Segment s place b
+plain-segment s t place counted lost b k = segment-found s k.whole place (Picked b) (Some b) b k.is refl refl
+
+pub plain-memo : (s : Subject) (m : Machine) (states : ℕ) (transitions : List ℕ) (t : Table) (place counted : ℕ) (items : List Item) (b : Boundary) → s.machine.num_lookaheads ≡ 0
+    → Has s t b.offset (late s b.offset) counted (λ whole. IsScanned s whole place (Picked b)) → IsReadBy s m states transitions → IsAt s m place items → items ≢ []
+    → Has s t b.offset (lost_at s b.offset) counted (λ whole. IsMemo s whole b.offset)
+plain-memo s m states transitions t place counted items b none k read here some =
+    has-lost s t b.offset counted (late s b.offset) (lost_at s b.offset) (λ whole. IsMemo s whole b.offset)
+    (record {
+      whole = k.whole;
+      window = k.window;
+      count = k.count;
+      is = segment-memo s m states transitions k.whole place (Picked b) items b k.is read here some (plain-segment s t place counted (late s b.offset) b k);
+    })
+    (sym (lost-plain s b.offset none))

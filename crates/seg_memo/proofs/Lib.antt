@@ -14,4 +14,6 @@ pub mod Different
 pub mod Memoised
 pub mod Fresh
 pub mod Starts
+pub mod Plain
+pub mod Onward
 pub mod Rows

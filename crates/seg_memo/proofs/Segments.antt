@@ -13,8 +13,8 @@ use Rattle.seg_machine.proofs.Scanned.{pick-some, after-after}
 use Rattle.seg_memo.specs.declared.configuration.Outcome.{Outcome}
 use Rattle.seg_memo.specs.declared.configuration.Outcome.TheVariants.{Nothing, Picked, Kept}
 use Rattle.seg_memo.specs.Configurations.{Subject, reading, start_at, look_ups, all_look_ups}
-use Rattle.seg_memo.specs.Outcomes.{picked}
-use Rattle.seg_memo.specs.Grids.{Grid, IsAt, IsMemo, IsReadBy, IsScanned, has_number}
+use Rattle.seg_memo.specs.Outcomes.{outcome_at, picked}
+use Rattle.seg_memo.specs.Grids.{Grid, IsAt, IsMemo, IsReadBy, IsScanned, IsSound, has_number}
 use Rattle.seg_memo.proofs.Counts.{has-append, has-nil}
 use Rattle.seg_memo.proofs.Scanning.{all-cons}
 use Rattle.seg_memo.proofs.Picking.{picked-start}
@@ -61,16 +61,21 @@ some-left s m states transitions place items read here some =
     ]
 
 -- there is a pick
-pub segment-some : (s : Subject) (m : Machine) (states : ℕ) (transitions : List ℕ) (g : Grid) (place : ℕ) (o : Outcome) (items : List Item) (found : Option Boundary)
-    → IsScanned s g place o → IsReadBy s m states transitions → IsAt s m place items → items ≢ [] → found ≡ picked o → found ≡ None → ⊥
-segment-some s m states transitions g place o items found scanned read here some is none =
+pub start-picks : (s : Subject) (m : Machine) (states : ℕ) (transitions : List ℕ) (place : ℕ) (items : List Item) → IsSound s → place ≤ length s.symbols → IsReadBy s m states transitions
+    → IsAt s m place items → items ≢ [] → picked (outcome_at s (start_at place)) ≡ None → ⊥
+start-picks s m states transitions place items sound within read here some none =
     on (pick s.machine (drop place s.symbols))
-    (subst (λ (xs : List ℕ). IsSome (pick s.machine xs)) (own-symbols s m states transitions place items read here) (pick-some s.machine scanned.fit.sound.checked items some))
-    (sym none ∙ is ∙ picked-is s g place o scanned)
+    (subst (λ (xs : List ℕ). IsSome (pick s.machine xs)) (own-symbols s m states transitions place items read here) (pick-some s.machine sound.checked items some))
+    (sym none ∙ picked-start s place within)
   where
     on : (f : Option Boundary) → IsSome f → None ≡ option_map (shift place) f → ⊥
     on None there e = cc
     on (Some p) there e = cc
+
+pub segment-some : (s : Subject) (m : Machine) (states : ℕ) (transitions : List ℕ) (g : Grid) (place : ℕ) (o : Outcome) (items : List Item) (found : Option Boundary)
+    → IsScanned s g place o → IsReadBy s m states transitions → IsAt s m place items → items ≢ [] → found ≡ picked o → found ≡ None → ⊥
+segment-some s m states transitions g place o items found scanned read here some is none =
+    start-picks s m states transitions place items scanned.fit.sound scanned.within read here some (ap picked (sym scanned.is) ∙ sym is ∙ none)
 
 pub segment-found : (s : Subject) (g : Grid) (place : ℕ) (o : Outcome) (found : Option Boundary) (b : Boundary) → IsScanned s g place o → found ≡ picked o → found ≡ Some b → Segment s place b
 segment-found s g place o found b scanned is some = on (pick s.machine (drop place s.symbols)) refl (sym some ∙ is ∙ picked-is s g place o scanned)

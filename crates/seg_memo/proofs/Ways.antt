@@ -34,7 +34,7 @@ right-unknown s c (Way state kept stays) right is = absurd right
 right-unknown s c KnownNothing right is = cc
 right-unknown s c (KnownKept lookahead status) right is = cc
 
-known-filled : (x : Cell) (o : Outcome) → known x ≡ Some o → is_filled x ≡ true
+pub known-filled : (x : Cell) (o : Outcome) → known x ≡ Some o → is_filled x ≡ true
 known-filled Unknown o is = cc
 known-filled First o is = refl
 known-filled (Way state kept stays) o is = refl
@@ -66,16 +66,16 @@ known-open (KnownKept lookahead status) o found is picks = cc
 
 -- a write changes one cell
 
-other-cell : (s : Subject) (g : Grid) (c d : Configuration) (x : Cell) → IsWithin s c → IsWithin s d → (d ≡ c → ⊥) → cell s (with_cell s g c x) d ≡ cell s g d
+pub other-cell : (s : Subject) (g : Grid) (c d : Configuration) (x : Cell) → IsWithin s c → IsWithin s d → (d ≡ c → ⊥) → cell s (with_cell s g c x) d ≡ cell s g d
 other-cell s g c d x inside within other = get_or-set_other g.cells (number s c) (number s d) x Unknown (λ is. other (number-same s d c within inside is))
 
-same-cell : (s : Subject) (g : Grid) (c : Configuration) (x : Cell) → IsFit s g → IsWithin s c → cell s (with_cell s g c x) c ≡ x
+pub same-cell : (s : Subject) (g : Grid) (c : Configuration) (x : Cell) → IsFit s g → IsWithin s c → cell s (with_cell s g c x) c ≡ x
 same-cell s g c x fit inside = get_or-set_same g.cells (number s c) x Unknown (number-in s g c fit inside)
 
 pub fit-write : (s : Subject) (g : Grid) (c : Configuration) (x : Cell) → IsFit s g → IsFit s (with_cell s g c x)
 fit-write s g c x fit = record { sound = fit.sound; states = fit.states; sets = fit.sets; size = length-set g.cells (number s c) x ∙ fit.size }
 
-table-mark : (s : Subject) (g : Grid) (place : ℕ) (path : List Configuration) (c : Configuration) (x : Cell) → IsTable s g place path → IsWithin s c
+pub table-mark : (s : Subject) (g : Grid) (place : ℕ) (path : List Configuration) (c : Configuration) (x : Cell) → IsTable s g place path → IsWithin s c
     → IsTable s (with_cell s g c x) place (c ∷ path)
 table-mark s g place path c x table inside = record {
   fit = fit-write s g c x table.fit;
@@ -98,7 +98,7 @@ table-fill s g place path c x table inside right = record {
       ];
 }
 
-filling-mark : (s : Subject) (g : Grid) (starts : List ℕ) (found : List Configuration) (c : Configuration) (x : Cell)
+pub filling-mark : (s : Subject) (g : Grid) (starts : List ℕ) (found : List Configuration) (c : Configuration) (x : Cell)
     → AreFilled s g starts found → IsFit s g → IsWithin s c → is_filled x ≡ true → AreFilled s (with_cell s g c x) starts (c ∷ found)
 filling-mark s g starts found c x are fit inside full i =
     elim (cases_eq i (number s c)) [
@@ -191,7 +191,7 @@ way-write s g first here [] c x way inside off = (way.0, way.1, other-cell s g c
 way-write s g first here (before ∷ path) c x way inside off =
     (way.0, way.1, other-cell s g c here x inside way.1 (λ is. off (inl (sym is))) ∙ way.2, way-write s g first before path c x way.3 inside (λ on. off (inr on)))
 
-or-swap : (a b c : Bool) → (a || (b || c)) ≡ ((b || a) || c)
+pub or-swap : (a b c : Bool) → (a || (b || c)) ≡ ((b || a) || c)
 or-swap true true c = refl
 or-swap true false c = refl
 or-swap false true c = refl
@@ -272,7 +272,7 @@ or-nil true b p is = refl
 or-nil false true p is = absurd (false≢true (sym is))
 or-nil false false p is = refl
 
-or-move : (a b : Bool) → (a || b) ≡ (b || (a || false))
+pub or-move : (a b : Bool) → (a || b) ≡ (b || (a || false))
 or-move true true = refl
 or-move true false = refl
 or-move false true = refl
@@ -301,7 +301,7 @@ walk-ends s g place here o w is =
     }
 
 -- one that was looked up before
-or-part : (a b c p : Bool) → (c ≡ true → p ≡ true) → ((a || b) || p) ≡ ((b || (a || c)) || p)
+pub or-part : (a b c p : Bool) → (c ≡ true → p ≡ true) → ((a || b) || p) ≡ ((b || (a || c)) || p)
 or-part true true c p part = refl
 or-part true false c p part = refl
 or-part false true c p part = refl

@@ -1,17 +1,17 @@
 -- The window of the cells that a table holds.
-use Rattle.std.proofs.Common.{◌≡◌, ℕ, ◌+◌, ◌-◌, ◌*◌, ◌^◌, ◌<◌, ◌≤◌, length, get_or, set, refl, sym, ap, ◌∙◌, subst, arith, inl, inr}
+use Rattle.std.proofs.Common.{◌≡◌, ℕ, ◌+◌, ◌-◌, ◌*◌, ◌^◌, ◌<◌, ◌≤◌, Bool, true, false, List, [], length, get_or, set, refl, sym, ap, ◌∙◌, subst, arith, inl, inr}
 use Rattle.std.specs.Prelude.{vec_capacity}
 use Rattle.std.specs.Vec.{with_item}
 use Rattle.std.proofs.lemmas.Bool.{cases_eq}
-use Rattle.std.proofs.lemmas.List.{length-set, get_or-set_same, get_or-set_other}
-use Rattle.std.proofs.lemmas.Nat.{mul-le}
+use Rattle.std.proofs.lemmas.List.{length-set, get_or-set_same, get_or-set_other, get_or_past, get_or_read}
+use Rattle.std.proofs.lemmas.Nat.{mul-add-lt, mul-le}
 use Rattle.seg_memo.specs.declared.configuration.Configuration.{Configuration}
 use Rattle.seg_memo.specs.declared.configuration.Cell.{Cell}
-use Rattle.seg_memo.specs.declared.configuration.Cell.TheVariants.{Unknown}
+use Rattle.seg_memo.specs.declared.configuration.Cell.TheVariants.{Unknown, First, Way, KnownNothing, KnownKept}
 use Rattle.seg_memo.specs.declared.table.Table.{Table}
 use Rattle.seg_memo.specs.Configurations.{Subject, start_at}
-use Rattle.seg_memo.specs.Grids.{Grid, IsWithin, number, with_cell}
-use Rattle.seg_memo.specs.Windows.{IsHeld, IsWindow}
+use Rattle.seg_memo.specs.Grids.{Grid, IsWithin, cell, is_filled, number, with_cell}
+use Rattle.seg_memo.specs.Windows.{IsHeld, IsPart}
 use Rattle.seg_memo.proofs.Numbers.{number-fits, number-in, number-is}
 use Rattle.seg_memo.proofs.Ways.{fit-write}
 
@@ -44,7 +44,7 @@ reached-by s t c n code is fits past room = record {
 }
 
 pub reached : (s : Subject) (t : Table) (place : ℕ) (c : Configuration) → IsHeld s t place → IsWithin s c → place ≤ c.place → Reached s t c
-reached s t place c (whole, w) within past =
+reached s t place c (lost, whole, w) within past =
     let code : (c.place * t.sets + c.kept) * t.states + c.state ≡ (c.place * whole.sets + c.kept) * whole.states + c.state = rw (w.states, w.sets) refl in
     let is = number-is s whole c w.fit in
     let least = start-least s c place past in
@@ -54,17 +54,17 @@ reached s t place c (whole, w) within past =
     reached-by s t c ((c.place * whole.sets + c.kept) * whole.states + c.state) code is (number-fits s whole c w.fit within) (omega (arith, is, least, begins)) (omega (arith, is, in_whole, room))
 
 -- a cell that is written
-pub window-write : (s : Subject) (t mid : Table) (place : ℕ) (whole : Grid) (c : Configuration) (x : Cell) (index : ℕ)
-    → IsWindow s t place whole → IsWithin s c → t.first + index ≡ number s c
+pub window-write : (s : Subject) (t mid : Table) (place : ℕ) (lost : ℕ → Bool) (whole : Grid) (c : Configuration) (x : Cell) (index : ℕ)
+    → IsPart s t place lost whole → IsWithin s c → t.first + index ≡ number s c
     → mid.states ≡ t.states → mid.sets ≡ t.sets → mid.first ≡ t.first → vec_capacity t.cells ≤ vec_capacity mid.cells → index < length mid.cells.items
     → ((i : ℕ) → get_or mid.cells.items i Unknown ≡ get_or t.cells.items i Unknown)
-    → IsWindow s (record { states = mid.states; sets = mid.sets; first = mid.first; cells = with_item mid.cells index x }) place (with_cell s whole c x)
-window-write s t mid place whole c x index w within is states sets first capacity inside held = record {
+    → IsPart s (record { states = mid.states; sets = mid.sets; first = mid.first; cells = with_item mid.cells index x }) place lost (with_cell s whole c x)
+window-write s t mid place lost whole c x index w within is states sets first capacity inside held = record {
   fit = fit-write s whole c x w.fit;
   states = states ∙ w.states;
   sets = sets ∙ w.sets;
   begins = rw first w.begins;
-  held = λ i.
+  held = λ i kept.
       elim (cases_eq index i) [
         | inl same ↦
             subst (λ (j : ℕ). get_or (set mid.cells.items index x) j Unknown ≡ get_or (set whole.cells (number s c) x) (mid.first + j) Unknown) same
@@ -74,9 +74,74 @@ window-write s t mid place whole c x index w within is states sets first capacit
         | inr other ↦
             get_or-set_other mid.cells.items index i x Unknown (λ e. other (sym e))
             ∙ held i
-            ∙ w.held i
+            ∙ w.held i (ap lost (ap (λ (n : ℕ). n + i) (sym first)) ∙ kept)
             ∙ ap (λ (n : ℕ). get_or whole.cells (n + i) Unknown) (sym first)
             ∙ sym (get_or-set_other whole.cells (number s c) (mid.first + i) x Unknown (λ e. other (omega (arith, e, is, first))))
       ];
   room = let size = length-set whole.cells (number s c) x in let room = w.room in omega (arith, size, room, capacity);
 }
+
+-- a configuration before a place has a lesser number than those from there on
+pub number-before : (s : Subject) (c : Configuration) (place : ℕ) → IsWithin s c → c.place < place → number s c < number s (start_at place)
+unfolding number
+number-before s c place within before =
+    let m = s.machine in
+    let sets : c.place * 2 ^ m.num_lookaheads + c.kept < 2 ^ m.num_lookaheads * place = mul-add-lt c.place (2 ^ m.num_lookaheads) c.kept place before within.kept in
+    let states : (c.place * 2 ^ m.num_lookaheads + c.kept) * length m.states + c.state < length m.states * (2 ^ m.num_lookaheads * place) = mul-add-lt _ (length m.states) c.state _ sets within.state in
+    omega (arith, states)
+
+-- the cells before a place are let go
+pub part-left : (s : Subject) (old new : Table) (place gone : ℕ) (lost : ℕ → Bool) (whole : Grid) → IsPart s old place lost whole → new.states ≡ old.states → new.sets ≡ old.sets
+    → new.first ≡ old.first + gone → new.first ≤ number s (start_at place) → vec_capacity old.cells ≤ vec_capacity new.cells
+    → ((i : ℕ) → get_or new.cells.items i Unknown ≡ get_or old.cells.items (gone + i) Unknown) → IsPart s new place lost whole
+part-left s old new place gone lost whole w states sets first begins capacity same =
+    record {
+      fit = w.fit;
+      states = states ∙ w.states;
+      sets = sets ∙ w.sets;
+      begins = begins;
+      held = λ i kept.
+          let at : old.first + (gone + i) ≡ new.first + i = omega (arith, first) in
+          same i ∙ w.held (gone + i) (ap lost at ∙ kept) ∙ ap (λ (n : ℕ). get_or whole.cells n Unknown) at;
+      room = let room = w.room in omega (arith, room, capacity);
+    }
+
+-- there are none after them
+pub none-after : (new old : List Cell) (gone i : ℕ) → new ≡ [] → length old ≤ gone → get_or new i Unknown ≡ get_or old (gone + i) Unknown
+none-after new old gone i none past = ap (λ (xs : List Cell). get_or xs i Unknown) none ∙ sym (get_or_past old (gone + i) Unknown (omega (arith, past)))
+
+-- more are made
+pub part-more : (s : Subject) (old new : Table) (place : ℕ) (lost : ℕ → Bool) (whole : Grid) → IsPart s old place lost whole → new.states ≡ old.states → new.sets ≡ old.sets
+    → new.first ≡ old.first → vec_capacity old.cells ≤ vec_capacity new.cells → ((i : ℕ) → get_or new.cells.items i Unknown ≡ get_or old.cells.items i Unknown) → IsPart s new place lost whole
+part-more s old new place lost whole w states sets first capacity same =
+    part-left s old new place 0 lost whole w states sets (omega (arith, first)) (let begins = w.begins in omega (arith, begins, first)) capacity
+    (λ i. same i ∙ ap (λ (n : ℕ). get_or old.cells.items n Unknown) (omega arith))
+
+-- a cell that isn't lost is read
+cell-read : (s : Subject) (t : Table) (place : ℕ) (lost : ℕ → Bool) (whole : Grid) (c : Configuration) (index : ℕ) (was : Cell) → IsPart s t place lost whole → lost (number s c) ≡ false
+    → t.first + index ≡ number s c → number s c < t.first + length t.cells.items → was ≡ get_or t.cells.items index was → was ≡ cell s whole c
+cell-read s t place lost whole c index was w kept is held read =
+    get_or_read t.cells.items index was (omega (arith, is, held)) read Unknown
+    ∙ w.held index (ap lost is ∙ kept)
+    ∙ ap (λ (n : ℕ). get_or whole.cells n Unknown) is
+
+pub mark-unknown : (s : Subject) (t : Table) (place : ℕ) (lost : ℕ → Bool) (whole : Grid) (c : Configuration) (index : ℕ) (was : Cell) → IsPart s t place lost whole → IsWithin s c
+    → lost (number s c) ≡ false → t.first + index ≡ number s c → number s c < t.first + length t.cells.items → was ≡ get_or t.cells.items index was → was ≡ Unknown
+    → (false ≡ is_filled (cell s whole c)) × IsPart s (record { states = t.states; sets = t.sets; first = t.first; cells = with_item t.cells index KnownNothing }) place lost (with_cell s whole c KnownNothing)
+mark-unknown s t place lost whole c index was w within kept is held read unknown = (
+  ap is_filled (sym unknown ∙ cell-read s t place lost whole c index was w kept is held read),
+  window-write s t t place lost whole c KnownNothing index w within is refl refl refl (omega arith) (omega (arith, is, held)) (λ i. refl),
+)
+
+filled-known : (x : Cell) → (x ≡ Unknown → ⊥) → true ≡ is_filled x
+filled-known Unknown not = absurd (not refl)
+filled-known First not = refl
+filled-known (Way state kept stays) not = refl
+filled-known KnownNothing not = refl
+filled-known (KnownKept lookahead status) not = refl
+
+pub mark-known : (s : Subject) (t : Table) (place : ℕ) (lost : ℕ → Bool) (whole : Grid) (c : Configuration) (index : ℕ) (was : Cell) → IsPart s t place lost whole → IsWithin s c
+    → lost (number s c) ≡ false → t.first + index ≡ number s c → number s c < t.first + length t.cells.items → was ≡ get_or t.cells.items index was → (was ≡ Unknown → ⊥)
+    → (true ≡ is_filled (cell s whole c)) × IsPart s t place lost whole
+mark-known s t place lost whole c index was w within kept is held read known =
+    (filled-known was known ∙ ap is_filled (cell-read s t place lost whole c index was w kept is held read), w)

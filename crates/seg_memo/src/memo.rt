@@ -1,6 +1,6 @@
 //! The boundaries of a text by a state machine, where no configuration is looked up twice.
 
-ghost use Rattle.std.specs.Prelude.{◌≡◌, ◌<◌, ◌≤◌, ◌+◌, ◌*◌, ◌^◌, ⊤, ℕ, false, Some, IfOk, IfErr, SomeIff, length};
+ghost use Rattle.std.specs.Prelude.{◌≡◌, ◌<◌, ◌≤◌, ◌+◌, ◌*◌, ◌^◌, ⊤, ℕ, false, Some, IfOk, IfErr, IfSome, IsNone, SomeIff, length};
 ghost use Rattle.std.specs.Iterator.{YieldsFirst, MakesProgress, item_count};
 ghost use Rattle.seg_text.specs.Boundaries.{GivesNext, boundaries_in};
 ghost use Rattle.seg_text.specs.Items.{code_points, rest_after};
@@ -59,7 +59,7 @@ impl<'data, I: Cursor, R: ReadTransitions> Model for MemoBreakIterator<'data, I,
     ghost use Rattle.seg_memo.specs.Configurations.{reading, subject};
     ghost use Rattle.seg_memo.specs.Grids.{IsMemo, IsReadBy};
     ghost use Rattle.seg_memo.specs.Memos.{Memo, memo};
-    ghost use Rattle.seg_memo.specs.Windows.{Keeps};
+    ghost use Rattle.seg_memo.specs.Windows.{Has, lost_at};
 
     ghost Value = { Memo };
 
@@ -71,7 +71,7 @@ impl<'data, I: Cursor, R: ReadTransitions> Model for MemoBreakIterator<'data, I,
         (s.started ≡ false → (s.status ≡ 0) × (s.place ≡ 0))
         × IsReadBy scanned (machine_of s.machine) (R.states s.reader) (R.transitions s.reader)
         × (I.text s.rest ≡ rest_after s.place (I.text s.text))
-        × Keeps scanned s.table s.place (R.counted s.reader) (λ whole. IsMemo scanned whole s.place) };
+        × Has scanned s.table s.place (lost_at scanned s.place) (R.counted s.reader) (λ whole. IsMemo scanned whole s.place) };
 }
 
 impl<'data, I: Cursor, R: ReadTransitions> MemoBreakIterator<'data, I, R> {
@@ -156,6 +156,30 @@ fn count_configurations(states: usize, sets: usize, items: usize) -> Option<usiz
     states.checked_mul(sets)?.checked_mul(items.checked_add(1)?)
 }
 
+/// So many cells at most are made room for without a count of items: a gigabyte, of which only what is used is touched.
+const UNCOUNTED: usize = 1 << 28;
+
+/// How many cells to make room for, unless there are more configurations than the greatest `usize`: those of as many items as
+/// the text has units, which needs no count, or where these are many, of as many as it has.
+fn count_cells<I: Cursor>(machine: &TailoredMachineBorrowed<'_>, text: &I) -> Option<usize>
+    ensures room { IfSome result (λ count. configurations (machine_of machine.now) (length (I.text text.now).items) ≤ count) }
+    ensures fits { IfSome result (λ _. configurations (machine_of machine.now) (length (I.text text.now).items) < 2 ^ 64) }
+    ensures none { IsNone result → 2 ^ 64 ≤ configurations (machine_of machine.now) (length (I.text text.now).items) }
+{
+    machine.facts();
+    let states = machine.machine().states().len();
+    let sets = 1 << machine.num_lookaheads();
+    let units = text.end() - text.place();
+    if let Some(most) = count_configurations(states, sets, units) {
+        if most <= UNCOUNTED {
+            return Some(most);
+        }
+    }
+    let items = count_items(text)?;
+    let count = count_configurations(states, sets, items)?;
+    Some(count)
+}
+
 impl<'data, I: Cursor> MemoBreakIterator<'data, I, CountedTransitions<'data>> {
     /// The boundaries of what is left of `text`. One growth makes the room for all configurations; nothing takes memory
     /// after that. `TooLarge` where there are more of them than the greatest `usize`: no memory is asked for then.
@@ -170,10 +194,7 @@ impl<'data, I: Cursor> MemoBreakIterator<'data, I, CountedTransitions<'data>> {
         machine.facts();
         let states = machine.machine().states().len();
         let sets = 1 << machine.num_lookaheads();
-        let Some(items) = count_items(&text) else {
-            return Err(MemoError::TooLarge);
-        };
-        let Some(count) = count_configurations(states, sets, items) else {
+        let Some(count) = count_cells(&machine, &text) else {
             return Err(MemoError::TooLarge);
         };
         let Ok(cells) = Vec::with_capacity(alloc, count) else {

@@ -9,14 +9,15 @@ ghost use Rattle.seg_machine.specs.Tailored.{machine_of};
 ghost use Rattle.seg_memo.specs.Configurations.{Scan, Subject, start_at};
 ghost use Rattle.seg_memo.specs.Outcomes.{look_up, IfLeads};
 ghost use Rattle.seg_memo.specs.Grids.{GoesOn, IsAt, IsBegun, IsMemo, IsReadBy, IsScanned, IsSound, IsWithin, StandsAt, Went};
-ghost use Rattle.seg_memo.specs.Windows.{Keeps};
+ghost use Rattle.seg_memo.specs.Windows.{Has, Keeps, late, lost_at};
+ghost use Rattle.seg_memo.specs.declared.configuration.Outcome.TheVariants.{Picked};
 
 use crate::configuration::{
     Cell, Configuration, LookUp, Outcome, arrive, before, entered, holding, known, picked, way,
 };
 use crate::reader::ReadTransitions;
 use crate::table::Table;
-use seg_machine::provider::{SegmenterStateMachine, Symbol};
+use seg_machine::provider::{Acceptance, SegmenterStateMachine, Symbol};
 use seg_machine::tailored_machine::TailoredMachineBorrowed;
 use seg_text::boundary::Boundary;
 use seg_text::cursor::Cursor;
@@ -173,6 +174,94 @@ fn outcome_from<I: Cursor, R: ReadTransitions>(
     (go_back(machine, table, last, outcome), last.place, stood)
 }
 
+/// One look-up by a machine without lookaheads.
+#[inline(always)]
+fn look_up_plain<I: Cursor, R: ReadTransitions>(
+    machine: &TailoredMachineBorrowed<'_>,
+    reader: &mut R,
+    rest: &mut I,
+    here: Configuration,
+) -> LookUp
+    ghost subject: { Subject }
+    requires sound { IsSound subject }
+    requires plain { subject.machine.num_lookaheads ≡ 0 }
+    requires read { IsReadBy subject (machine_of machine.now) (R.states reader.old) (R.transitions reader.old) }
+    requires count { R.counted reader.old < usize.MAX }
+    requires here { IsWithin subject here }
+    requires rest { IsAt subject (machine_of machine.now) here.place (I.text rest.old).items }
+    ensures value { result ≡ look_up subject here }
+    ensures within { IfLeads result (IsWithin subject) }
+    ensures rest { IfLeads result (λ next. IsAt subject (machine_of machine.now) next.place (I.text rest.new).items) }
+    ensures goes { IfLeads result (λ next. GoesOn (I.text rest.old) here.place (I.text rest.new) next.place) }
+    ensures read { IsReadBy subject (machine_of machine.now) (R.states reader.new) (R.transitions reader.new) }
+    ensures count { R.counted reader.new ≡ R.counted reader.old + 1 }
+{
+    let (symbol, place) = next_symbol(machine, rest, here.place);
+    let next = reader.read(here.state, symbol);
+    if next == SegmenterStateMachine::TRASH_STATE {
+        return LookUp::Ends(Outcome::Nothing);
+    }
+    LookUp::Leads(Configuration {
+        state: next,
+        place,
+        kept: here.kept,
+    })
+}
+
+/// The pick by a machine without lookaheads, and where a cursor stands there. Three things need no cell: what is before the
+/// pick, since later scans begin there; a state that accepts, since a scan that came to it before had its pick there or
+/// later; and what is before the first acceptance, since a scan that has a pick comes to nothing that has none. What comes
+/// after an acceptance is marked at once: nothing accepts after it, unless the pick is later and no scan comes to it again.
+#[inline(always)]
+fn scan_plain<I: Cursor, R: ReadTransitions>(
+    machine: &TailoredMachineBorrowed<'_>,
+    reader: &mut R,
+    table: &mut Table,
+    rest: &I,
+    start: usize,
+) -> (Boundary, usize)
+    ghost scan: { Scan }
+    requires plain { scan.subject.machine.num_lookaheads ≡ 0 }
+    requires read { IsReadBy scan.subject (machine_of machine.now) (R.states reader.old) (R.transitions reader.old) }
+    requires memo { Has scan.subject table.old scan.start (late scan.subject scan.start) (R.counted reader.old) (λ whole. IsMemo scan.subject whole scan.start) }
+    requires start { start ≡ scan.start }
+    requires rest { IsAt scan.subject (machine_of machine.now) scan.start (I.text rest.now).items }
+    requires some { (I.text rest.now).items ≢ [] }
+    ensures read { IsReadBy scan.subject (machine_of machine.now) (R.states reader.new) (R.transitions reader.new) }
+    ensures scanned { Has scan.subject table.new result.0.offset (late scan.subject result.0.offset) (R.counted reader.new) (λ whole. IsScanned scan.subject whole scan.start (Picked result.0)) }
+    ensures stands { StandsAt (I.text rest.now) scan.start result.0.offset result.1 }
+{
+    let mut iter = rest.fork();
+    let mut last: Option<Boundary> = None;
+    let mut stood = rest.place();
+    let mut here = Configuration {
+        state: SegmenterStateMachine::START_STATE,
+        place: start,
+        kept: 0,
+    };
+    'scan: loop {
+        let next = match look_up_plain(machine, reader, &mut iter, here) {
+            LookUp::Ends(_) => {
+                let Some(found) = last else { unreachable!() };
+                return (found, stood);
+            }
+            LookUp::Leads(next) => next,
+        };
+        if let Acceptance::Accept(status) = machine.entry(next.state).0 {
+            last = Some(Boundary {
+                offset: next.place,
+                status,
+            });
+            stood = iter.place();
+        } else if let Some(found) = last {
+            if table.mark(next, found.offset) {
+                return (found, stood);
+            }
+        }
+        here = next;
+    }
+}
+
 /// Goes on by an item.
 #[inline(always)]
 pub(crate) fn skip<I: Cursor>(rest: &mut I)
@@ -196,14 +285,19 @@ pub(crate) fn next_segment<I: Cursor, R: ReadTransitions>(
 ) -> Boundary
     ghost subject: { Subject }
     requires read { IsReadBy subject (machine_of machine.now) (R.states reader.old) (R.transitions reader.old) }
-    requires memo { Keeps subject table.old start (R.counted reader.old) (λ whole. IsMemo subject whole start) }
+    requires memo { Has subject table.old start (lost_at subject start) (R.counted reader.old) (λ whole. IsMemo subject whole start) }
     requires rest { IsAt subject (machine_of machine.now) start (I.text rest.old).items }
     requires some { (I.text rest.old).items ≢ [] }
     ensures read { IsReadBy subject (machine_of machine.now) (R.states reader.new) (R.transitions reader.new) }
-    ensures memo { Keeps subject table.new result.offset (R.counted reader.new) (λ whole. IsMemo subject whole result.offset) }
+    ensures memo { Has subject table.new result.offset (lost_at subject result.offset) (R.counted reader.new) (λ whole. IsMemo subject whole result.offset) }
     ensures segment { (p : AnyBoundary) × (pick subject.machine (drop start subject.symbols) ≡ Some p) × (result ≡ shift start p)
         × (I.text rest.new ≡ rest_after p.offset (I.text rest.old)) }
 {
+    if machine.num_lookaheads() == 0 {
+        let (found, stood) = scan_plain(machine, reader, table, rest, start);
+        rest.seek(stood);
+        return found;
+    }
     table.leave(start);
     let (outcome, last, stood) = outcome_from(machine, reader, table, rest, start);
     let Some(found) = picked(outcome) else {

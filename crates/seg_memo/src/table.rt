@@ -1,10 +1,10 @@
 //! The table of configurations: a cell for each, of which those are held that a scan may come to.
 
-ghost use Rattle.std.specs.Prelude.{◌≡◌, ◌+◌, ◌<◌, ◌≤◌, ◌^◌, ℕ, length, slice_index_or, vec_capacity};
+ghost use Rattle.std.specs.Prelude.{◌≡◌, ◌+◌, ◌<◌, ◌≤◌, ◌^◌, ℕ, Bool, false, if◌then◌else◌, length, slice_index_or, vec_capacity};
 ghost use Rattle.seg_memo.specs.Configurations.{Scan};
-ghost use Rattle.seg_memo.specs.declared.configuration.Cell.TheVariants.{Unknown};
-ghost use Rattle.seg_memo.specs.Grids.{Grid, cell, with_cell, number, IsWithin};
-ghost use Rattle.seg_memo.specs.Windows.{IsHeld, IsWindow};
+ghost use Rattle.seg_memo.specs.declared.configuration.Cell.TheVariants.{Unknown, KnownNothing};
+ghost use Rattle.seg_memo.specs.Grids.{Grid, cell, with_cell, number, is_filled, IsWithin};
+ghost use Rattle.seg_memo.specs.Windows.{IsHeld, IsPart, IsWindow};
 
 use crate::configuration::{Cell, Configuration};
 use seg_machine::provider::SegmenterStateMachine;
@@ -13,7 +13,7 @@ use seg_machine::provider::SegmenterStateMachine;
 const LET_GO: usize = 4096;
 
 /// So many cells are made at once, where there is room.
-const AHEAD: usize = 256;
+const AHEAD: usize = 64;
 
 /// A cell for each configuration of a text: for so many states and so many sets of lookaheads at each place. Held are the
 /// cells from the first on, as far as some were made; those after them are unknown, and no scan comes back to those before.
@@ -112,6 +112,58 @@ impl Table {
         self.cells[index] = cell;
     }
 
+    /// Holds the cell of a configuration, and lets go those before a place, where that is due.
+    #[inline(never)]
+    fn make_room(&mut self, here: Configuration, from: usize)
+        ghost scan: { Scan }
+        requires window { IsHeld scan.subject self.old scan.start }
+        requires here { IsWithin scan.subject here }
+        requires place { scan.start ≤ here.place }
+        requires from { from ≡ scan.start }
+        ensures window { (lost : ℕ → Bool) (whole : Grid) → IsPart scan.subject self.old scan.start lost whole → IsPart scan.subject self.new scan.start lost whole }
+        ensures held { number scan.subject here < self.new.first + length self.new.cells.items }
+    {
+        self.leave(from);
+        let index = self.index(here);
+        self.reach(index);
+    }
+
+    /// Holds the cell of a configuration; only those from a place on are needed.
+    #[inline(always)]
+    fn hold(&mut self, here: Configuration, from: usize)
+        ghost scan: { Scan }
+        requires window { IsHeld scan.subject self.old scan.start }
+        requires here { IsWithin scan.subject here }
+        requires place { scan.start ≤ here.place }
+        requires from { from ≡ scan.start }
+        ensures window { (lost : ℕ → Bool) (whole : Grid) → IsPart scan.subject self.old scan.start lost whole → IsPart scan.subject self.new scan.start lost whole }
+        ensures held { number scan.subject here < self.new.first + length self.new.cells.items }
+    {
+        if self.index(here) >= self.cells.len() {
+            self.make_room(here, from);
+        }
+    }
+
+    /// Whether a configuration after a place was looked up; if not, its cell holds from now on that its outcome is nothing.
+    #[inline(always)]
+    pub(crate) fn mark(&mut self, here: Configuration, from: usize) -> bool
+        ghost scan: { Scan }
+        requires window { IsHeld scan.subject self.old scan.start }
+        requires here { IsWithin scan.subject here }
+        requires place { scan.start ≤ here.place }
+        requires from { from ≡ scan.start }
+        ensures { (lost : ℕ → Bool) (whole : Grid) → IsPart scan.subject self.old scan.start lost whole → lost (number scan.subject here) ≡ false
+            → (result ≡ is_filled (cell scan.subject whole here)) × IsPart scan.subject self.new scan.start lost (if result then whole else with_cell scan.subject whole here KnownNothing) }
+    {
+        self.hold(here, from);
+        let index = self.index(here);
+        if let Cell::Unknown = self.cells[index] {
+            self.cells[index] = Cell::KnownNothing;
+            return false;
+        }
+        true
+    }
+
     /// Lets go the cells before a place, where there are many of them, and no fewer than others.
     #[inline(always)]
     pub(crate) fn leave(&mut self, start: usize)
@@ -119,24 +171,28 @@ impl Table {
         requires window { IsHeld scan.subject self.old scan.start }
         requires start { start ≡ scan.start }
         requires place { start ≤ length scan.subject.symbols }
-        ensures { (whole : Grid) → IsWindow scan.subject self.old scan.start whole → IsWindow scan.subject self.new scan.start whole }
+        ensures { (lost : ℕ → Bool) (whole : Grid) → IsPart scan.subject self.old scan.start lost whole → IsPart scan.subject self.new scan.start lost whole }
     {
         let before = self.index(Configuration {
             state: SegmenterStateMachine::START_STATE,
             place: start,
             kept: 0,
         });
+        let len = self.cells.len();
+        if before >= len {
+            self.cells.truncate(0);
+            self.first += before;
+            return;
+        }
         if before < LET_GO {
             return;
         }
-        let len = self.cells.len();
-        let gone = if before < len { before } else { len };
-        let left = len - gone;
-        if gone < LET_GO || gone < left {
+        let left = len - before;
+        if before < left {
             return;
         }
-        self.cells.copy_within(gone..len, 0);
+        self.cells.copy_within(before..len, 0);
         self.cells.truncate(left);
-        self.first += gone;
+        self.first += before;
     }
 }

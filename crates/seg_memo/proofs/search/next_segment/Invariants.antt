@@ -5,6 +5,9 @@ use Rattle.seg_memo.proofs.search.next_segment.Given as goal
 abbrev pub ghost-leave : goal.ghost-leave
 ghost-leave g a = record { subject = g.subject; start = a.start }
 
+abbrev pub ghost-scan_plain : goal.ghost-scan_plain
+ghost-scan_plain g a = record { subject = g.subject; start = a.start }
+
 abbrev pub ghost-outcome_from : goal.ghost-outcome_from
 ghost-outcome_from g a = record { subject = g.subject; start = a.start }
 

@@ -1,4 +1,4 @@
-use Rattle.std.proofs.Common.{◌∙◌, ap, refl}
+use Rattle.std.proofs.Common.{◌∙◌, ap, arith, refl}
 use Rattle.seg_memo.proofs.Fresh.{first-keeps, sets-made, states-made}
 use Rattle.seg_machine.specs.Tailored.{machine_of}
 use Rattle.seg_memo.proofs.Memoised.{read-by}
@@ -9,7 +9,7 @@ invariant_of-result g c = (
   λ off. (refl, refl),
   read-by (machine_of c.args.machine) _ _ _ (c.new.ensures.states ∙ states-made (machine_of c.args.machine) _ c.machine-2.ensures.states),
   ap (g.I.Cursor.text) c.fork.ensures,
-  first-keeps (machine_of c.args.machine) _ _ _ _ _ _ c.facts.ensures (c.new.ensures.transitions ∙ c.machine-2.ensures.transitions)
-      (states-made (machine_of c.args.machine) _ (c.states-states.ensures ∙ c.machine.ensures.states)) (sets-made _ _ c.facts.ensures c.num_lookaheads-sets.ensures) c.in-Some.ensures.1
-      c.in-Some-count_configurations.ensures refl c.in-Ok.ensures.items c.in-Ok.ensures.exact c.new.ensures.count,
+  first-keeps (machine_of c.args.machine) _ _ _ _ c.facts.ensures (c.new.ensures.transitions ∙ c.machine-2.ensures.transitions)
+      (states-made (machine_of c.args.machine) _ (c.states-states.ensures ∙ c.machine.ensures.states)) (sets-made _ _ c.facts.ensures c.num_lookaheads-sets.ensures)
+      c.in-Some.ensures.fits refl c.in-Ok.ensures.items (omega (arith, c.in-Some.ensures.room, c.in-Ok.ensures.exact)) c.new.ensures.count,
 )
