@@ -2,7 +2,7 @@
 use Rattle.std.proofs.Common.{◌≡◌, ℕ, suc, ◌<◌, false, Option, Some, None, List, [], ◌∷◌, length, refl, sym, ap, ◌∙◌, subst, arith}
 use Rattle.std.specs.Option.{option_map, option_map_or}
 use Rattle.seg_text.specs.declared.boundary.Boundary.{Boundary}
-use Rattle.seg_text.specs.Boundaries.{boundary_in}
+use Rattle.seg_text.specs.Boundaries.{boundary, boundary_in}
 use Rattle.seg_text.specs.Items.{Text, code_points, start_of, rest_after}
 use Rattle.seg_machine.specs.declared.provider.Acceptance.{Acceptance}
 use Rattle.seg_machine.specs.declared.provider.Acceptance.TheVariants.{Continue, Accept, Conditional}
@@ -24,6 +24,19 @@ no-places : (place : ℕ) (entry : Acceptance × Option ℕ) → [] ≡ places_a
 unfolding places_after
 no-places place (acceptance, Some name) = refl
 no-places place (acceptance, None) = refl
+
+-- the last acceptance, once a state is entered that accepts, or that doesn't
+pub accepted-after : (place status : ℕ) (entry : Acceptance × Option ℕ) (last : Option Boundary) → entry.0 ≡ Accept status
+    → Some (boundary place status) ≡ acceptance_after place entry last
+unfolding acceptance_after
+accepted-after place status (acceptance, name) last is = rw is refl
+
+pub none-after : (place : ℕ) (entry : Acceptance × Option ℕ) (last : Option Boundary) → ((status : ℕ) → entry.0 ≡ Accept status → ⊥)
+    → last ≡ acceptance_after place entry last
+unfolding acceptance_after
+none-after place (Conditional lookahead status, name) last other = refl
+none-after place (Accept status, name) last other = absurd (other status refl)
+none-after place (Continue, name) last other = refl
 
 -- a turn of the loop that goes on
 pub plain-turn : (m : Machine) (text : Text) (state : ℕ) (left : Text) (last : Option Boundary)

@@ -246,28 +246,14 @@ fn scan_plain<I: Cursor>(
             return (last, stood);
         };
         stood = ahead.place();
-        last = acceptance_after(stood, machine.entry(next), last);
         symbol = next_symbol(machine, ahead);
         state = next;
-    }
-}
-
-/// The last acceptance, once a state is entered at a place.
-#[inline(always)]
-#[tactic(auto, unfolding(crate::specs::Scan::acceptance_after))]
-fn acceptance_after(
-    place: usize,
-    entry: (Acceptance, Option<Lookahead>),
-    last: Option<Boundary>,
-) -> Option<Boundary>
-    ensures { result ≡ acceptance_after place entry last }
-{
-    match entry.0 {
-        Acceptance::Accept(status) => Some(Boundary {
-            offset: place,
-            status,
-        }),
-        _ => last,
+        if let Acceptance::Accept(status) = machine.entry(next).0 {
+            last = Some(Boundary {
+                offset: stood,
+                status,
+            });
+        }
     }
 }
 
