@@ -26,10 +26,10 @@ pub use Rattle.seg_pairs.specs.Walk
 pub use Rattle.seg_pairs.specs.Verdict
 pub use Rattle.seg_pairs.specs.Breaks
 pub use Rattle.seg_pairs.specs.Chains
-pub use Rattle.seg_engine.specs.Rules
-pub use Rattle.seg_engine.specs.Engine
-pub use Rattle.seg_engine.specs.Resets
-pub use Rattle.seg_engine.specs.Parted
+pub use Rattle.seg_clusters.specs.Rules
+pub use Rattle.seg_clusters.specs.Engine
+pub use Rattle.seg_clusters.specs.Resets
+pub use Rattle.seg_clusters.specs.Parted
 pub use Rattle.seg_clusters.specs.Clusters
 pub use Rattle.seg_clusters.specs.Sentences
 pub use Rattle.seg_line_rules.specs.LineClasses

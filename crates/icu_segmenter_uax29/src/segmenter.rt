@@ -1,6 +1,6 @@
 //! A segmenter whose boundaries are those of UAX #29.
 ghost use Rattle.std.specs.Prelude.{◌≡◌};
-ghost use Rattle.seg_engine.specs.Rules.Rules.{ByMachine};
+ghost use Rattle.seg_clusters.specs.Rules.Rules.{ByMachine};
 ghost use Rattle.seg_clusters.specs.Clusters.{owned_cluster_rules};
 ghost use Rattle.icu_segmenter_uax29.specs.Clusters.{cluster_machine};
 

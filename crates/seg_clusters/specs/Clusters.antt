@@ -5,8 +5,8 @@ use Rattle.seg_text.specs.Boundaries.{offsets}
 use Rattle.seg_clusters.specs.declared.grapheme.GraphemeClusterSegmenter.{GraphemeClusterSegmenter}
 use Rattle.seg_clusters.specs.declared.grapheme.GraphemeClusterSegmenterBorrowed.{GraphemeClusterSegmenterBorrowed}
 use Rattle.seg_clusters.specs.declared.grapheme.GraphemeClusterBreakIterator.{GraphemeClusterBreakIterator}
-use Rattle.seg_engine.specs.Engine.{rules_of, owned_rules}
-use Rattle.seg_engine.specs.Rules.{Rules}
+use Rattle.seg_clusters.specs.Engine.{rules_of, owned_rules}
+use Rattle.seg_clusters.specs.Rules.{Rules}
 
 -- what a segmenter finds boundaries by
 abbrev pub cluster_rules : GraphemeClusterSegmenterBorrowed → Rules

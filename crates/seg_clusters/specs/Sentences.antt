@@ -5,8 +5,8 @@ use Rattle.seg_text.specs.Boundaries.{offsets}
 use Rattle.seg_clusters.specs.declared.sentence.SentenceSegmenter.{SentenceSegmenter}
 use Rattle.seg_clusters.specs.declared.sentence.SentenceSegmenterBorrowed.{SentenceSegmenterBorrowed}
 use Rattle.seg_clusters.specs.declared.sentence.SentenceBreakIterator.{SentenceBreakIterator}
-use Rattle.seg_engine.specs.Engine.{rules_of, owned_rules}
-use Rattle.seg_engine.specs.Rules.{Rules}
+use Rattle.seg_clusters.specs.Engine.{rules_of, owned_rules}
+use Rattle.seg_clusters.specs.Rules.{Rules}
 
 -- what a segmenter finds boundaries by
 abbrev pub sentence_rules : SentenceSegmenterBorrowed → Rules

@@ -1,4 +1,5 @@
 //! Laws of boundaries.
 
+pub mod engine;
 pub mod grapheme;
 pub mod sentence;

@@ -13,7 +13,7 @@ use Rattle.seg_dictionary.specs.declared.provider.cursor.DictionaryCursor.{Dicti
 use Rattle.seg_dictionary.specs.Dictionary.{words_after}
 use Rattle.seg_dictionary.specs.ScriptWords.{words_in}
 use Rattle.seg_dictionary.specs.WordSets.{Words}
-use Rattle.seg_engine.specs.Rules.{boundaries_by}
+use Rattle.seg_clusters.specs.Rules.{boundaries_by}
 use Rattle.seg_machine.specs.Machine.{Machine}
 use Rattle.seg_complex.specs.DictionaryCuts.{Clusters, by_words, dictionary_cuts}
 use Rattle.seg_complex.specs.InnerCuts.{inner_cuts, inner_stretch, inside, span_cuts}

@@ -10,7 +10,7 @@ use Rattle.seg_text.proofs.Stretches.{later-nil, later-next}
 use Rattle.seg_data.specs.declared.provider.ComplexScript.{ComplexScript}
 use Rattle.seg_dictionary.specs.ScriptWords.{words_in}
 use Rattle.seg_dictionary.specs.WordSets.{Words}
-use Rattle.seg_engine.specs.Rules.{boundaries_by}
+use Rattle.seg_clusters.specs.Rules.{boundaries_by}
 use Rattle.seg_machine.specs.Machine.{Machine}
 use Rattle.seg_complex.specs.DictionaryCuts.{Clusters, by_words, dictionary_cuts}
 use Rattle.seg_complex.specs.InnerCuts.{inner_cuts, inner_stretch, inside, span_cuts}

@@ -4,7 +4,7 @@ use Rattle.seg_text.specs.Boundaries.{offsets}
 use Rattle.seg_text.specs.Cuts.{Cuts, with_status}
 use Rattle.seg_text.specs.Stretches.{Stretch, later_boundaries}
 use Rattle.seg_dictionary.specs.WordSets.{Words}
-use Rattle.seg_engine.specs.Rules.{boundaries_by}
+use Rattle.seg_clusters.specs.Rules.{boundaries_by}
 use Rattle.seg_machine.specs.Machine.{Machine}
 use Rattle.seg_complex.specs.DictionaryCuts.{Clusters, dictionary_cuts}
 use Rattle.seg_complex.specs.Payloads.{Payloads}

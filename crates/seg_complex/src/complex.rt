@@ -6,8 +6,8 @@ ghost use Rattle.seg_text.specs.Cuts.{cut_places};
 ghost use Rattle.seg_text.specs.Utf8.{utf8};
 ghost use Rattle.seg_text.specs.Utf16.{utf16};
 ghost use Rattle.seg_memo.specs.Memos.{IsMemoRefusal, IsNewMemo};
-ghost use Rattle.seg_engine.specs.Engine.{rules_of};
-ghost use Rattle.seg_engine.specs.Rules.{boundaries_by, boundaries_of, machine_in};
+ghost use Rattle.seg_clusters.specs.Engine.{rules_of};
+ghost use Rattle.seg_clusters.specs.Rules.{boundaries_by, boundaries_of, machine_in};
 ghost use Rattle.seg_dictionary.specs.ScriptWords.{filled, lent_words, no_words};
 ghost use Rattle.seg_clusters.specs.Clusters.{cluster_rules};
 ghost use Rattle.seg_complex.specs.DictionaryCuts.{dictionary_cuts};
@@ -17,10 +17,10 @@ ghost use Rattle.seg_complex.specs.Payloads.{payload_words, payloads_of, piece_c
 
 use crate::later::LaterCuts;
 use crate::laws::dictionary_cuts_cover;
+use seg_clusters::engine::Engine;
 use seg_clusters::grapheme::GraphemeClusterSegmenterBorrowed;
 use seg_dictionary::dictionaries::DictionariesBorrowed;
 use seg_dictionary::provider::DictionaryBreakData;
-use seg_engine::engine::Engine;
 use seg_memo::memo::{MemoBreakIterator, MemoError};
 use seg_memo::reader::CountedTransitions;
 use seg_text::cursor::Cursor;

@@ -5,14 +5,14 @@ ghost use Rattle.std.specs.Iterator.{YieldsFirst, item_count};
 ghost use Rattle.seg_text.specs.Items.{start_of, rest_after, code_points};
 ghost use Rattle.seg_text.specs.Boundaries.{offsets_left};
 ghost use Rattle.seg_text.specs.Cuts.{cut_places};
-ghost use Rattle.seg_engine.specs.Rules.{boundaries_by};
+ghost use Rattle.seg_clusters.specs.Rules.{boundaries_by};
 ghost use Rattle.seg_clusters.specs.Clusters.{cluster_rules};
 ghost use Rattle.seg_complex.specs.DictionaryCuts.{next_cut, dictionary_cuts};
 
+use seg_clusters::engine::Boundaries;
 use seg_clusters::grapheme::GraphemeClusterSegmenterBorrowed;
 use seg_clusters::laws::grapheme;
 use seg_dictionary::words::WordCursor;
-use seg_engine::engine::Boundaries;
 use seg_text::cursor::Cursor;
 use std::marker::Model;
 
@@ -32,7 +32,7 @@ pub struct DictionaryCuts<'data, D: WordCursor, I: Cursor> {
 impl<'data, D: WordCursor, I: Cursor> Model for DictionaryCuts<'data, D, I> {
     ghost use Rattle.std.specs.Prelude.{ℕ, List};
     ghost use Rattle.seg_text.specs.Cuts.{cut_places};
-    ghost use Rattle.seg_engine.specs.Rules.{boundaries_by};
+    ghost use Rattle.seg_clusters.specs.Rules.{boundaries_by};
     ghost use Rattle.seg_clusters.specs.Clusters.{cluster_rules};
     ghost use Rattle.seg_complex.specs.DictionaryCuts.{dictionary_cuts};
 

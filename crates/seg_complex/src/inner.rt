@@ -7,7 +7,7 @@ ghost use Rattle.seg_machine.specs.Tailored.{machine_of};
 ghost use Rattle.std.specs.Option.{option_map};
 ghost use Rattle.seg_clusters.specs.Clusters.{cluster_rules};
 ghost use Rattle.seg_dictionary.specs.Dictionary.{words_after};
-ghost use Rattle.seg_engine.specs.Rules.{boundaries_by};
+ghost use Rattle.seg_clusters.specs.Rules.{boundaries_by};
 ghost use Rattle.seg_complex.specs.InnerCuts.{inner_cuts, span_cuts};
 ghost use Rattle.seg_complex.specs.Payloads.{payloads_of, piece_left};
 

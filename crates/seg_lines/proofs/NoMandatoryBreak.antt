@@ -8,7 +8,7 @@ use Rattle.seg_text.specs.Cuts.{Cuts, with_status}
 use Rattle.seg_text.specs.Stretches.{Stretch, later_boundaries, later_boundaries_within}
 use Rattle.seg_pairs.specs.Verdict.{Verdict}
 use Rattle.seg_pairs.specs.Verdict.Verdict.{BreakAfter, GoAfter, RunBegins}
-use Rattle.seg_engine.specs.Rules.{boundaries_by}
+use Rattle.seg_clusters.specs.Rules.{boundaries_by}
 use Rattle.seg_complex.specs.Payloads.{Payloads, run_cuts_by}
 use Rattle.seg_line_rules.specs.LineBoundaries.{inside, line_stretch, line_stretch_of, line_verdict}
 use Rattle.seg_line_rules.specs.LineRules.{LineRules as TableRules}

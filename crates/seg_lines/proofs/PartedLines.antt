@@ -7,12 +7,12 @@ use Rattle.std.proofs.lemmas.List.{map-append}
 use Rattle.seg_text.specs.declared.boundary.Boundary.{Boundary}
 use Rattle.seg_text.specs.Boundaries.{IsCover, RisesTo, boundary, offsets, shift, shift_all, start}
 use Rattle.seg_text.specs.Stretches.{later_boundaries}
-use Rattle.seg_engine.specs.Parted.{PartsBehind, PartsTexts}
-use Rattle.seg_engine.specs.Resets.{ResetsAfter}
-use Rattle.seg_engine.specs.Rules.{boundaries_by}
-use Rattle.seg_engine.proofs.ByRules.{machine-covers}
-use Rattle.seg_engine.proofs.PartedTexts.{texts-parted}
-use Rattle.seg_engine.proofs.ResetScans.{parts-lists}
+use Rattle.seg_clusters.specs.Parted.{PartsBehind, PartsTexts}
+use Rattle.seg_clusters.specs.Resets.{ResetsAfter}
+use Rattle.seg_clusters.specs.Rules.{boundaries_by}
+use Rattle.seg_clusters.proofs.ByRules.{machine-covers}
+use Rattle.seg_clusters.proofs.PartedTexts.{texts-parted}
+use Rattle.seg_clusters.proofs.ResetScans.{parts-lists}
 use Rattle.seg_machine.specs.Checked.{IsChecked}
 use Rattle.seg_machine.specs.Machine.{Machine as AnyMachine}
 use Rattle.seg_machine.specs.declared.tailored_machine.TailoredMachineBorrowed.{TailoredMachineBorrowed}

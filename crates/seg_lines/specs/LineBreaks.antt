@@ -7,8 +7,8 @@ use Rattle.seg_text.specs.Boundaries.{boundaries_in, offsets}
 use Rattle.seg_text.specs.Stretches.{AreBoundaries, AreLaterBoundaries, Stretch, list_boundaries}
 use Rattle.seg_machine.specs.Machine.{Machine}
 use Rattle.seg_machine.specs.Segments.{machine_stretch}
-use Rattle.seg_engine.specs.Rules.{boundaries_by, first_stretch, machine_in}
-use Rattle.seg_engine.specs.Rules.Rules.{ByMachine as ByClusterMachine, ByTable as ByClusterTable}
+use Rattle.seg_clusters.specs.Rules.{boundaries_by, first_stretch, machine_in}
+use Rattle.seg_clusters.specs.Rules.Rules.{ByMachine as ByClusterMachine, ByTable as ByClusterTable}
 use Rattle.seg_pair_data.specs.PairTable.{PairTable}
 use Rattle.seg_text.specs.Cuts.{with_status}
 use Rattle.seg_line_rules.specs.declared.options.LineBreakStrictness.{LineBreakStrictness}

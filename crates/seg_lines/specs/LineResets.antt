@@ -1,7 +1,7 @@
 -- Code points behind which the boundaries of lines start afresh.
 use Rattle.std.specs.Prelude.{ℕ}
-use Rattle.seg_engine.specs.Resets.{ResetsAfter}
-use Rattle.seg_engine.specs.Rules.Rules.{ByMachine as ByRuleMachine}
+use Rattle.seg_clusters.specs.Resets.{ResetsAfter}
+use Rattle.seg_clusters.specs.Rules.Rules.{ByMachine as ByRuleMachine}
 use Rattle.seg_complex.specs.Outside.{IsOutsideRuns}
 use Rattle.seg_complex.specs.Payloads.{Payloads}
 use Rattle.seg_lines.specs.LineBreaks.{LineFinder, LineRules}

@@ -6,7 +6,7 @@ use Rattle.seg_machine.specs.Machine.{Machine, MachineTailoring, with_tailoring}
 use Rattle.seg_machine.specs.MachineFaults.{HasComplexBelow0100, HasTailoringFault}
 use Rattle.seg_text.specs.declared.boundary.Boundary.{Boundary}
 use Rattle.seg_text.specs.Boundaries.{offsets}
-use Rattle.seg_engine.specs.Rules.Rules.{ByMachine as ByClusterMachine}
+use Rattle.seg_clusters.specs.Rules.Rules.{ByMachine as ByClusterMachine}
 use Rattle.seg_dictionary.specs.ScriptWords.{ScriptWords, no_words, script_words}
 use Rattle.seg_clusters.specs.Clusters.{owned_cluster_rules}
 use Rattle.seg_machine.specs.Tailored.{machine_of, owned_machine}

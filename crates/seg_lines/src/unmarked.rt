@@ -5,7 +5,7 @@ ghost use Rattle.std.specs.Iterator.{YieldsFirst, MakesProgress, item_count};
 ghost use Rattle.seg_text.specs.Boundaries.{GivesNext, offsets, offsets_left};
 ghost use Rattle.seg_text.specs.Cuts.{with_status};
 
-use seg_engine::engine::Boundaries;
+use seg_clusters::engine::Boundaries;
 use seg_text::cursor::Cursor;
 use std::marker::Model;
 

@@ -14,8 +14,8 @@ use Rattle.seg_pairs.specs.Breaks.{table_stretch}
 use Rattle.seg_pairs.specs.Runs.{HasComplexElement, complex_stretch}
 use Rattle.seg_pairs.proofs.ComplexStretches.{complex-going, none-after, without-complex}
 use Rattle.seg_pairs.proofs.Engine.{table-going, table-alone}
-use Rattle.seg_engine.specs.Rules.{Rules}
-use Rattle.seg_engine.specs.Rules.Rules.{ByTable, ByMachine}
+use Rattle.seg_clusters.specs.Rules.{Rules}
+use Rattle.seg_clusters.specs.Rules.Rules.{ByTable, ByMachine}
 use Rattle.seg_text.specs.Cuts.{Cuts}
 use Rattle.seg_dictionary.specs.ScriptWords.{ScriptWords, AreSameWords}
 use Rattle.seg_complex.specs.Payloads.{Payloads, run_cuts_by}

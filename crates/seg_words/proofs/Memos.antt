@@ -5,8 +5,8 @@ use Rattle.seg_text.specs.Items.{Text, code_points}
 use Rattle.seg_text.specs.Boundaries.{boundary_in}
 use Rattle.seg_memo.specs.declared.memo.MemoError.{MemoError}
 use Rattle.seg_memo.specs.Memos.{IsNewMemo, Memo}
-use Rattle.seg_engine.specs.Rules.{Rules, boundaries_of, machine_in}
-use Rattle.seg_engine.specs.Rules.Rules.{ByTable, ByMachine}
+use Rattle.seg_clusters.specs.Rules.{Rules, boundaries_of, machine_in}
+use Rattle.seg_clusters.specs.Rules.Rules.{ByTable, ByMachine}
 use Rattle.seg_dictionary.specs.ScriptWords.{no_words}
 use Rattle.seg_words.specs.WordRules.{WordRules, word_boundaries_of}
 use Rattle.seg_complex.specs.Payloads.{Payloads}

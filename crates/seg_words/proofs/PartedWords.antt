@@ -6,12 +6,12 @@ use Rattle.seg_text.specs.Boundaries.{IsCover, start}
 use Rattle.seg_text.specs.Stretches.{list_boundaries}
 use Rattle.seg_text.proofs.Covers.{covers-list}
 use Rattle.seg_text.proofs.Stretches.{later-nil}
-use Rattle.seg_engine.specs.Parted.{PartsBehind, PartsTexts}
-use Rattle.seg_engine.specs.Rules.{boundaries_by}
-use Rattle.seg_engine.specs.Rules.Rules.{ByMachine}
-use Rattle.seg_engine.proofs.Joined.{later-joined}
-use Rattle.seg_engine.proofs.PartedTexts.{texts-parted}
-use Rattle.seg_engine.proofs.ResetScans.{ends-within}
+use Rattle.seg_clusters.specs.Parted.{PartsBehind, PartsTexts}
+use Rattle.seg_clusters.specs.Rules.{boundaries_by}
+use Rattle.seg_clusters.specs.Rules.Rules.{ByMachine}
+use Rattle.seg_clusters.proofs.Joined.{later-joined}
+use Rattle.seg_clusters.proofs.PartedTexts.{texts-parted}
+use Rattle.seg_clusters.proofs.ResetScans.{ends-within}
 use Rattle.seg_machine.specs.Checked.{IsChecked}
 use Rattle.seg_machine.specs.Machine.{Machine}
 use Rattle.seg_machine.specs.Segments.{machine_stretch}

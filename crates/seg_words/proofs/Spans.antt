@@ -15,7 +15,7 @@ use Rattle.seg_dictionary.specs.declared.provider.cursor.DictionaryCursor.{Dicti
 use Rattle.seg_dictionary.specs.Dictionary.{words_after}
 use Rattle.seg_dictionary.specs.ScriptWords.{ScriptWords, no_words, words_in}
 use Rattle.seg_dictionary.specs.WordSets.{Words}
-use Rattle.seg_engine.specs.Rules.{Rules, boundaries_by}
+use Rattle.seg_clusters.specs.Rules.{Rules, boundaries_by}
 use Rattle.seg_machine.specs.Checked.{IsChecked}
 use Rattle.seg_machine.specs.Machine.{Machine}
 use Rattle.seg_machine.specs.Segments.{machine_stretch}

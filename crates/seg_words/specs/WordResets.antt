@@ -1,9 +1,9 @@
 -- Code points behind which the boundaries of words start afresh.
 use Rattle.std.specs.Prelude.{ℕ}
 use Rattle.seg_dictionary.specs.ScriptWords.{ScriptWords}
-use Rattle.seg_engine.specs.Resets.{ResetsAfter}
-use Rattle.seg_engine.specs.Rules.{Rules}
-use Rattle.seg_engine.specs.Rules.Rules.{ByTable, ByMachine}
+use Rattle.seg_clusters.specs.Resets.{ResetsAfter}
+use Rattle.seg_clusters.specs.Rules.{Rules}
+use Rattle.seg_clusters.specs.Rules.Rules.{ByTable, ByMachine}
 use Rattle.seg_complex.specs.Outside.{IsOutsideRuns}
 use Rattle.seg_words.specs.WordRules.{WordRules}
 

@@ -10,8 +10,8 @@ use Rattle.seg_machine.specs.Machine.{Machine}
 use Rattle.seg_machine.specs.Segments.{machine_stretch}
 use Rattle.seg_pair_data.specs.PairTable.{PairTable}
 use Rattle.seg_pairs.specs.Runs.{HasComplexElement, complex_stretch}
-use Rattle.seg_engine.specs.Rules.{Rules, boundaries_by}
-use Rattle.seg_engine.specs.Rules.Rules.{ByTable, ByMachine}
+use Rattle.seg_clusters.specs.Rules.{Rules, boundaries_by}
+use Rattle.seg_clusters.specs.Rules.Rules.{ByTable, ByMachine}
 use Rattle.seg_dictionary.specs.ScriptWords.{ScriptWords, no_words}
 use Rattle.seg_dictionary.specs.WordSets.{Words}
 use Rattle.seg_complex.specs.DictionaryCuts.{Clusters, dictionary_cuts}

@@ -6,7 +6,7 @@ ghost use Rattle.seg_text.specs.Items.{start_of};
 ghost use Rattle.seg_text.specs.Cuts.{cut_places};
 ghost use Rattle.seg_text.specs.Boundaries.{GivesNext, IsCover, offsets_left};
 ghost use Rattle.seg_pair_data.specs.PairData.{pair_table_of, override_of};
-ghost use Rattle.seg_engine.specs.Rules.Rules.{ByTable};
+ghost use Rattle.seg_clusters.specs.Rules.Rules.{ByTable};
 ghost use Rattle.seg_complex.specs.Payloads.{payloads_of, run_cuts_by};
 ghost use Rattle.seg_words.specs.WordRules.{word_boundaries_of};
 

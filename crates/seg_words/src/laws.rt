@@ -5,13 +5,13 @@ ghost use Rattle.std.specs.Prelude.{◌≡◌, ℕ, List};
 ghost use Rattle.seg_text.specs.Boundaries.{HasEqualOrdinals, RestartsIn};
 ghost use Rattle.seg_text.specs.Stretches.{HasOneAnswer};
 ghost use Rattle.seg_dictionary.specs.ScriptWords.{ScriptWords, AreSameWords};
-ghost use Rattle.seg_engine.specs.Parted.{PartsTexts};
+ghost use Rattle.seg_clusters.specs.Parted.{PartsTexts};
 ghost use Rattle.seg_words.specs.WordResets.{WordsResetAfter};
 ghost use Rattle.seg_words.specs.WordRules.{HasNoRun, WordRules, first_word_stretch, with_words, word_boundaries_by};
 ghost use Rattle.seg_words.specs.Words.{word_rules};
 
 use crate::word::WordSegmenterBorrowed;
-use seg_engine::engine::Engine;
+use seg_clusters::engine::Engine;
 
 /// Law: a list of code points has exactly one list of boundaries, in code points: the first is at its start, and the
 /// others come from the first stretch of what is left, again and again. Such a stretch is the machine's pick, what the verdict

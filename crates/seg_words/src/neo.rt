@@ -4,7 +4,7 @@ ghost use Rattle.std.specs.Prelude.{◌≡◌, ⊤};
 ghost use Rattle.std.specs.Iterator.{YieldsFirst, MakesProgress, item_count};
 ghost use Rattle.seg_text.specs.Items.{start_of};
 ghost use Rattle.seg_text.specs.Boundaries.{GivesNext, IsCover, offsets_left};
-ghost use Rattle.seg_engine.specs.Rules.Rules.{ByMachine};
+ghost use Rattle.seg_clusters.specs.Rules.Rules.{ByMachine};
 ghost use Rattle.seg_complex.specs.Payloads.{payloads_of};
 ghost use Rattle.seg_machine.specs.Tailored.{machine_of};
 ghost use Rattle.seg_words.specs.WordRules.{word_boundaries_of};

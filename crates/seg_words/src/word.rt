@@ -9,7 +9,7 @@ ghost use Rattle.seg_text.specs.Utf16.{utf16};
 ghost use Rattle.seg_text.specs.Boundaries.{IsCover};
 ghost use Rattle.seg_data.specs.Faults.{IsFaultless, IsLowestFault};
 ghost use Rattle.seg_pair_data.specs.Overriding.{table_in};
-ghost use Rattle.seg_engine.specs.Rules.{machine_in};
+ghost use Rattle.seg_clusters.specs.Rules.{machine_in};
 ghost use Rattle.seg_memo.specs.Memos.{IsMemoRefusal, IsNewMemo};
 ghost use Rattle.seg_dictionary.specs.ScriptWords.{filled, lent_words, no_words, script_words};
 ghost use Rattle.seg_words.specs.WordResets.{WordsResetAfter};
@@ -19,12 +19,12 @@ ghost use Rattle.seg_words.specs.declared.word.WordType.TheVariants.{None as NoW
 
 use crate::boundaries::Boundaries;
 use crate::data::{check_machine, word_pairs};
+use seg_clusters::engine::{Engine, OwnedEngine};
 use seg_clusters::grapheme::{GraphemeClusterSegmenter, GraphemeClusterSegmenterBorrowed};
 use seg_complex::complex::ComplexPayloadsBorrowed;
 use seg_complex::spans::is_outside_runs;
 use seg_data::provider::{DataError, LanguageIdentifier};
 use seg_dictionary::dictionaries::{Dictionaries, DictionariesBorrowed};
-use seg_engine::engine::{Engine, OwnedEngine};
 use seg_machine::provider::SegmenterStateMachine;
 use seg_machine::tailored_machine::{TailoredMachine, TailoredMachineBorrowed};
 use seg_memo::memo::{MemoBreakIterator, MemoError};

@@ -1,7 +1,7 @@
 //! Cursors over the clusters of a text.
 
 ghost use Rattle.seg_clusters.specs.Clusters.{cluster_rules};
-ghost use Rattle.seg_engine.specs.Rules.{boundaries_by};
+ghost use Rattle.seg_clusters.specs.Rules.{boundaries_by};
 
 use crate::cursor::Segmenter;
 use crate::cursor::nearest::{nearest_above, nearest_below};

@@ -1,6 +1,6 @@
 //! A segmenter whose boundaries are the sentence boundaries of UAX #29.
 ghost use Rattle.std.specs.Prelude.{◌≡◌};
-ghost use Rattle.seg_engine.specs.Rules.Rules.{ByMachine};
+ghost use Rattle.seg_clusters.specs.Rules.Rules.{ByMachine};
 ghost use Rattle.seg_clusters.specs.Sentences.{owned_sentence_rules};
 ghost use Rattle.icu_segmenter_uax29.specs.Sentences.{sentence_machine};
 

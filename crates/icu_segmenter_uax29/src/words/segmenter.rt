@@ -3,14 +3,14 @@ ghost use Rattle.std.specs.Prelude.{◌≡◌};
 ghost use Rattle.seg_text.specs.Latin1.{latin1};
 ghost use Rattle.seg_text.specs.Utf8.{utf8};
 ghost use Rattle.seg_text.specs.Utf16.{utf16};
-ghost use Rattle.seg_engine.specs.Engine.{owned_rules, rules_of};
-ghost use Rattle.seg_engine.specs.Rules.{boundaries_of};
-ghost use Rattle.seg_engine.specs.Rules.Rules.{ByMachine};
+ghost use Rattle.seg_clusters.specs.Engine.{owned_rules, rules_of};
+ghost use Rattle.seg_clusters.specs.Rules.{boundaries_of};
+ghost use Rattle.seg_clusters.specs.Rules.Rules.{ByMachine};
 ghost use Rattle.icu_segmenter_uax29.specs.Words.{word_machine};
 
 use crate::words::machine::word_machine;
+use seg_clusters::engine::{Boundaries, Engine, OwnedEngine};
 use seg_data::provider::DataError;
-use seg_engine::engine::{Boundaries, Engine, OwnedEngine};
 use seg_machine::tailored_machine::TailoredMachine;
 use seg_text::indices::{Latin1Indices, StrCharIndices, Utf8CharIndices, Utf16Indices};
 use std::alloc::Global;

@@ -4,13 +4,13 @@ ghost use Rattle.std.specs.Prelude.{◌≡◌, ℕ, List, length};
 ghost use Rattle.seg_text.specs.Boundaries.{HasEqualOrdinals, HasRestart, IsCover};
 ghost use Rattle.seg_text.specs.Stretches.{HasOneAnswer};
 ghost use Rattle.seg_text.specs.Utf8.{utf8};
-ghost use Rattle.seg_engine.specs.Parted.{PartsTexts};
-ghost use Rattle.seg_engine.specs.Resets.{ResetsAfter};
-ghost use Rattle.seg_engine.specs.Rules.{boundaries_by, boundaries_of, first_stretch};
+ghost use Rattle.seg_clusters.specs.Parted.{PartsTexts};
+ghost use Rattle.seg_clusters.specs.Resets.{ResetsAfter};
+ghost use Rattle.seg_clusters.specs.Rules.{boundaries_by, boundaries_of, first_stretch};
 ghost use Rattle.seg_clusters.specs.Clusters.{cluster_rules, clusters_left};
 
 use crate::grapheme::{GraphemeClusterBreakIterator, GraphemeClusterSegmenterBorrowed};
-use seg_engine::laws;
+use crate::laws::engine;
 use seg_text::scaffold::{PotentiallyIllFormedUtf8, Utf8};
 
 /// Law: a list of code points has exactly one list of boundaries, in code points: the first is at its start, and each
@@ -19,7 +19,7 @@ use seg_text::scaffold::{PotentiallyIllFormedUtf8, Utf8};
 pub fn boundaries_are_one(segmenter: GraphemeClusterSegmenterBorrowed<'_>)
     ensures { HasOneAnswer (first_stretch (cluster_rules segmenter.entry)) }
 {
-    laws::boundaries_are_one(segmenter.engine);
+    engine::boundaries_are_one(segmenter.engine);
 }
 
 /// Law: two texts with equal code points, in whatever encodings, have the same boundaries, counted in code points, with
@@ -27,7 +27,7 @@ pub fn boundaries_are_one(segmenter: GraphemeClusterSegmenterBorrowed<'_>)
 pub fn equal_code_points(segmenter: GraphemeClusterSegmenterBorrowed<'_>)
     ensures { HasEqualOrdinals (boundaries_by (cluster_rules segmenter.entry)) }
 {
-    laws::equal_code_points(segmenter.engine);
+    engine::equal_code_points(segmenter.engine);
 }
 
 /// Law: a text may be segmented anew from any of its boundaries: for every list of code points, the boundaries after one of
@@ -35,14 +35,14 @@ pub fn equal_code_points(segmenter: GraphemeClusterSegmenterBorrowed<'_>)
 pub fn restart(segmenter: GraphemeClusterSegmenterBorrowed<'_>)
     ensures { HasRestart (boundaries_by (cluster_rules segmenter.entry)) }
 {
-    laws::restart(segmenter.engine);
+    engine::restart(segmenter.engine);
 }
 
 /// Law: the boundaries of a list of code points rise strictly from 0, where the first is, to its length, where the last is.
 pub fn cover(segmenter: GraphemeClusterSegmenterBorrowed<'_>)
     ensures { (code_points : List ℕ) → IsCover 0 (length code_points) (boundaries_by (cluster_rules segmenter.entry) code_points) }
 {
-    laws::cover(segmenter.engine);
+    engine::cover(segmenter.engine);
 }
 
 /// Law: a text may be parted behind each code point that `resets_after` names: where the first of two texts ends with it, the
@@ -52,7 +52,7 @@ pub fn cover(segmenter: GraphemeClusterSegmenterBorrowed<'_>)
 pub fn parts_behind_resets(segmenter: GraphemeClusterSegmenterBorrowed<'_>, code_point: char)
     ensures { ResetsAfter (cluster_rules segmenter.entry) code_point → PartsTexts (boundaries_by (cluster_rules segmenter.entry)) code_point }
 {
-    laws::parts_behind_resets(segmenter.engine, code_point);
+    engine::parts_behind_resets(segmenter.engine, code_point);
 }
 
 /// Law: the clusters of a `str` are those of its bytes as UTF-8, since a `str` is the special case of UTF-8 in which no

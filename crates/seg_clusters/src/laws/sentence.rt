@@ -2,13 +2,13 @@
 
 ghost use Rattle.seg_text.specs.Boundaries.{HasEqualOrdinals, HasRestart};
 ghost use Rattle.seg_text.specs.Stretches.{HasOneAnswer};
-ghost use Rattle.seg_engine.specs.Parted.{PartsTexts};
-ghost use Rattle.seg_engine.specs.Resets.{ResetsAfter};
-ghost use Rattle.seg_engine.specs.Rules.{boundaries_by, first_stretch};
+ghost use Rattle.seg_clusters.specs.Parted.{PartsTexts};
+ghost use Rattle.seg_clusters.specs.Resets.{ResetsAfter};
+ghost use Rattle.seg_clusters.specs.Rules.{boundaries_by, first_stretch};
 ghost use Rattle.seg_clusters.specs.Sentences.{sentence_rules};
 
+use crate::laws::engine;
 use crate::sentence::SentenceSegmenterBorrowed;
-use seg_engine::laws;
 
 /// Law: a list of code points has exactly one list of boundaries, in code points: the first is at its start, and each
 /// other one comes from the first stretch of what is left. Such a stretch is the machine's pick, or what the verdict of the
@@ -16,7 +16,7 @@ use seg_engine::laws;
 pub fn boundaries_are_one(segmenter: SentenceSegmenterBorrowed<'_>)
     ensures { HasOneAnswer (first_stretch (sentence_rules segmenter.entry)) }
 {
-    laws::boundaries_are_one(segmenter.engine);
+    engine::boundaries_are_one(segmenter.engine);
 }
 
 /// Law: two texts with equal code points, in whatever encodings, have the same boundaries, counted in code points, with
@@ -24,7 +24,7 @@ pub fn boundaries_are_one(segmenter: SentenceSegmenterBorrowed<'_>)
 pub fn equal_code_points(segmenter: SentenceSegmenterBorrowed<'_>)
     ensures { HasEqualOrdinals (boundaries_by (sentence_rules segmenter.entry)) }
 {
-    laws::equal_code_points(segmenter.engine);
+    engine::equal_code_points(segmenter.engine);
 }
 
 /// Law: a text may be segmented anew from any of its boundaries: for every list of code points, the boundaries after one of
@@ -32,7 +32,7 @@ pub fn equal_code_points(segmenter: SentenceSegmenterBorrowed<'_>)
 pub fn restart(segmenter: SentenceSegmenterBorrowed<'_>)
     ensures { HasRestart (boundaries_by (sentence_rules segmenter.entry)) }
 {
-    laws::restart(segmenter.engine);
+    engine::restart(segmenter.engine);
 }
 
 /// Law: a text may be parted behind each code point that `resets_after` names: where the first of two texts ends with it, the
@@ -42,5 +42,5 @@ pub fn restart(segmenter: SentenceSegmenterBorrowed<'_>)
 pub fn parts_behind_resets(segmenter: SentenceSegmenterBorrowed<'_>, code_point: char)
     ensures { ResetsAfter (sentence_rules segmenter.entry) code_point → PartsTexts (boundaries_by (sentence_rules segmenter.entry)) code_point }
 {
-    laws::parts_behind_resets(segmenter.engine, code_point);
+    engine::parts_behind_resets(segmenter.engine, code_point);
 }

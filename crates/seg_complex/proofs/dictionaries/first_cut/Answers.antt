@@ -1,7 +1,7 @@
 use Rattle.std.proofs.Common.{sym, ◌∙◌, ap, refl, length}
 use Rattle.seg_text.specs.Items.{code_points, place_of}
 use Rattle.seg_text.specs.Boundaries.{offsets, boundaries_in}
-use Rattle.seg_engine.specs.Rules.{boundaries_by}
+use Rattle.seg_clusters.specs.Rules.{boundaries_by}
 use Rattle.seg_clusters.specs.Clusters.{cluster_rules}
 use Rattle.seg_complex.proofs.Restarted.{covered-ends}
 use Rattle.seg_complex.proofs.Reading.{length-points, at-start, ends-at, reading-start, reading-step, reading-on, reading-stop, reading-end}

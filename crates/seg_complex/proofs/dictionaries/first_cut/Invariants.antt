@@ -1,7 +1,7 @@
 use Rattle.std.proofs.Common.{◌≡◌, length}
 use Rattle.seg_text.specs.Items.{code_points}
 use Rattle.seg_text.specs.Boundaries.{offsets, offsets_left}
-use Rattle.seg_engine.specs.Rules.{boundaries_by}
+use Rattle.seg_clusters.specs.Rules.{boundaries_by}
 use Rattle.seg_clusters.specs.Clusters.{cluster_rules}
 use Rattle.seg_complex.proofs.Reading.{IsReading}
 use Rattle.seg_complex.proofs.dictionaries.first_cut.Given as goal

@@ -1,4 +1,4 @@
-use Rattle.seg_engine.specs.Rules.{boundaries_by}
+use Rattle.seg_clusters.specs.Rules.{boundaries_by}
 use Rattle.seg_clusters.specs.Clusters.{cluster_rules}
 use Rattle.seg_complex.proofs.WordCuts.{are-cuts, only-cuts}
 use Rattle.seg_complex.proofs.laws.dictionary_cuts_are_one.Goals as goal

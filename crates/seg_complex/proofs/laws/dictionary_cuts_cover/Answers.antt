@@ -1,4 +1,4 @@
-use Rattle.seg_engine.specs.Rules.{boundaries_by}
+use Rattle.seg_clusters.specs.Rules.{boundaries_by}
 use Rattle.seg_clusters.specs.Clusters.{cluster_rules}
 use Rattle.seg_complex.specs.DictionaryCuts.{by_dictionaries}
 use Rattle.seg_complex.proofs.Cutting.{runs-covered}

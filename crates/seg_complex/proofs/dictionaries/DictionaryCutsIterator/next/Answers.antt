@@ -1,6 +1,6 @@
 use Rattle.seg_text.proofs.Cursors.{fewer-left}
 use Rattle.seg_clusters.specs.Clusters.{cluster_rules}
-use Rattle.seg_engine.specs.Rules.{boundaries_by}
+use Rattle.seg_clusters.specs.Rules.{boundaries_by}
 use Rattle.seg_complex.proofs.Reading.{at_end-none, not_at_end-some}
 use Rattle.seg_complex.proofs.WordCuts.{places-nil, places-next}
 use Rattle.seg_complex.proofs.dictionaries.DictionaryCutsIterator.next.Goals as goal

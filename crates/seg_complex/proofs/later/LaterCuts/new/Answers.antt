@@ -1,5 +1,5 @@
 use Rattle.seg_dictionary.specs.Dictionary.{words_after}
-use Rattle.seg_engine.specs.Rules.{boundaries_by}
+use Rattle.seg_clusters.specs.Rules.{boundaries_by}
 use Rattle.seg_clusters.specs.Clusters.{cluster_rules}
 use Rattle.seg_complex.specs.DictionaryCuts.{dictionary_cuts}
 use Rattle.seg_complex.proofs.Fitting.{places-fit}

@@ -6,7 +6,7 @@ use Rattle.seg_clusters.specs.Clusters.{cluster_rules}
 use Rattle.seg_dictionary.specs.Dictionary.{words_after}
 use Rattle.seg_dictionary.specs.WordSets.{Words}
 use Rattle.std.specs.Option.{option_map}
-use Rattle.seg_engine.specs.Rules.{boundaries_by}
+use Rattle.seg_clusters.specs.Rules.{boundaries_by}
 use Rattle.seg_machine.specs.Tailored.{machine_of}
 use Rattle.seg_complex.specs.DictionaryCuts.{dictionary_cuts}
 use Rattle.seg_words.specs.WordRules.{letters, span_boundaries}

@@ -1,0 +1,7 @@
+use Rattle.seg_text.proofs.Stretches.{equal-ordinals}
+use Rattle.seg_clusters.specs.Engine.{rules_of}
+use Rattle.seg_clusters.specs.Rules.{boundaries_by}
+use Rattle.seg_clusters.proofs.laws.engine.equal_code_points.Goals as goal
+
+pub returns : goal.returns
+returns c = equal-ordinals (boundaries_by (rules_of c.args.engine))

@@ -1,0 +1,184 @@
+//! The engine of a segmenter: that of a pair table, or that of a state machine.
+
+ghost use Rattle.std.specs.Prelude.{◌≡◌, ◌↔◌, ⊤, IsTrue, IfOk, IfErr};
+ghost use Rattle.std.specs.Iterator.{YieldsFirst, MakesProgress, item_count};
+ghost use Rattle.seg_text.specs.Items.{start_of};
+ghost use Rattle.seg_text.specs.Boundaries.{GivesNext, IsCover, offsets_left};
+ghost use Rattle.seg_clusters.specs.Engine.{rules_of, owned_rules};
+ghost use Rattle.seg_clusters.specs.Resets.{ResetsAfter};
+ghost use Rattle.seg_clusters.specs.Rules.{boundaries_of, machine_in};
+ghost use Rattle.seg_memo.specs.Memos.{IsMemoRefusal, IsNewMemo};
+
+use crate::resets::is_reset;
+use seg_machine::rule_segmenter_v2;
+use seg_machine::tailored_machine::{TailoredMachine, TailoredMachineBorrowed};
+use seg_memo::memo::{MemoBreakIterator, MemoError};
+use seg_memo::reader::CountedTransitions;
+use seg_pair_data::pair_data::{PairData, PairDataBorrowed};
+use seg_pairs::rule_segmenter_v1;
+use seg_text::cursor::Cursor;
+use std::alloc::{AllocError, Global};
+use std::marker::Model;
+
+/// What the boundaries of a text are found by.
+#[derive(Debug, Drop)]
+pub enum OwnedEngine {
+    /// A pair table, with its override.
+    Classic(PairData),
+    /// A state machine, with its tailoring.
+    Neo(TailoredMachine),
+}
+
+impl OwnedEngine {
+    /// The same, lent.
+    pub fn as_borrowed(&self) -> Engine<'_>
+        ensures { rules_of result ≡ owned_rules self.now }
+    {
+        match self {
+            OwnedEngine::Classic(pairs) => Engine::Classic(pairs.as_borrowed()),
+            OwnedEngine::Neo(machine) => Engine::Neo(machine.as_borrowed()),
+        }
+    }
+}
+
+/// What the boundaries of a text are found by, lent.
+#[derive(Clone, Copy, Debug)]
+pub enum Engine<'data> {
+    /// A pair table, with its override.
+    Classic(PairDataBorrowed<'data>),
+    /// A state machine, with its tailoring.
+    Neo(TailoredMachineBorrowed<'data>),
+}
+
+impl<'data> Engine<'data> {
+    /// The boundaries of what is left of a text. Takes no memory.
+    pub fn boundaries<I: Cursor>(self, text: I) -> Boundaries<'data, I>
+        ensures boundaries { result.left ≡ boundaries_of (rules_of self.entry) (I.text text) }
+        ensures cover { IsCover (start_of (I.text text)) (I.text text).end result.left }
+        ensures status { result.status ≡ 0 }
+    {
+        match self {
+            Engine::Classic(pairs) => Boundaries {
+                by: BoundariesBy::Classic(rule_segmenter_v1::RuleBreakIterator::new(pairs, text)),
+            },
+            Engine::Neo(machine) => Boundaries {
+                by: BoundariesBy::Neo(rule_segmenter_v2::RuleBreakIterator::new(machine, text)),
+            },
+        }
+    }
+
+    /// Whether a text may be parted behind the code point, so that each part has the boundaries that it has alone
+    /// (`laws::parts_behind_resets`): a scan of the machine that reads the code point's symbol is over there, from whatever state.
+    /// By a pair table it is `false`. Takes no memory; asks the machine for at most as many steps as it has transitions.
+    pub fn resets_after(self, code_point: char) -> bool
+        ensures { IsTrue result ↔ ResetsAfter (rules_of self.entry) code_point }
+    {
+        match self {
+            Engine::Classic(_) => false,
+            Engine::Neo(machine) => is_reset(machine, machine.symbol(code_point as u32)),
+        }
+    }
+
+    /// The same boundaries, where no configuration of the machine is looked up twice. `NotNeo` by a pair table, and otherwise
+    /// `TooLarge` where there are more configurations than the greatest `usize`: both without asking for memory. `Memory`
+    /// where the one growth was refused.
+    pub fn memoised<I: Cursor>(
+        self,
+        alloc: Global,
+        text: I,
+    ) -> Result<MemoBreakIterator<'data, I, CountedTransitions<'data>>, MemoError>
+        ensures made { IfOk result (IsNewMemo (machine_in (rules_of self.entry)) (I.text text) (boundaries_of (rules_of self.entry) (I.text text))) }
+        ensures refused { IfErr result (IsMemoRefusal (machine_in (rules_of self.entry)) ⊥ (I.text text)) }
+    {
+        match self {
+            Engine::Classic(_) => Err(MemoError::NotNeo),
+            Engine::Neo(machine) => MemoBreakIterator::try_new(alloc, machine, text),
+        }
+    }
+}
+
+/// The boundaries of a text, as places, by either engine.
+#[derive(Debug, Drop)]
+pub struct Boundaries<'data, I: Cursor> {
+    by: BoundariesBy<'data, I>,
+}
+
+/// Which engine gives them.
+#[derive(Debug, Drop)]
+enum BoundariesBy<'data, I: Cursor> {
+    /// That of a pair table.
+    Classic(rule_segmenter_v1::RuleBreakIterator<'data, I>),
+    /// That of a state machine.
+    Neo(rule_segmenter_v2::RuleBreakIterator<'data, I>),
+}
+
+impl<'data, I: Cursor> Model for Boundaries<'data, I> {
+    ghost use Rattle.seg_text.specs.Boundaries.{Remainder};
+    ghost use Rattle.seg_clusters.specs.Remainders.{remainder_by};
+
+    ghost Value = { Remainder };
+
+    ghost view = { λ s. remainder_by s.by };
+}
+
+impl<'data, I: Cursor> Boundaries<'data, I> {
+    /// The status of the boundary that was given last: 0 for the first, before it and after the end.
+    pub fn status(&self) -> u8
+        ensures { result ≡ self.now.status }
+    {
+        match &self.by {
+            BoundariesBy::Classic(engine) => engine.rule_status(),
+            BoundariesBy::Neo(engine) => engine.status(),
+        }
+    }
+
+    /// The same boundaries once more, from the same one on. Takes no memory.
+    pub fn fork(&self) -> Self
+        ensures { result ≡ self.now }
+    {
+        match &self.by {
+            BoundariesBy::Classic(engine) => Boundaries {
+                by: BoundariesBy::Classic(engine.fork()),
+            },
+            BoundariesBy::Neo(engine) => Boundaries {
+                by: BoundariesBy::Neo(engine.fork()),
+            },
+        }
+    }
+}
+
+impl<'data, I: Cursor> Clone for Boundaries<'data, I> {
+    ghost is_clone = { λ s r. r ≡ s };
+
+    ghost is_infallible = { λ _. ⊤ };
+
+    fn clone(&self) -> Result<Self, AllocError> {
+        Ok(self.fork())
+    }
+}
+
+impl<'data, I: Cursor> Iterator for Boundaries<'data, I> {
+    type Item = usize;
+
+    ghost next_gives = { YieldsFirst offsets_left };
+
+    ghost remaining = { item_count offsets_left };
+
+    #[inline(always)]
+    fn next(&mut self) -> Option<usize>
+        ensures steps { YieldsFirst offsets_left self.old result self.new × GivesNext self.old result self.new }
+        ensures goes { MakesProgress (λ _. ⊤) (item_count offsets_left) self.old result self.new }
+    {
+        match &mut self.by {
+            BoundariesBy::Classic(engine) => engine.next(),
+            BoundariesBy::Neo(engine) => engine.next(),
+        }
+    }
+
+    fn size_hint(&self) -> (usize, Option<usize>) {
+        match &self.by {
+            BoundariesBy::Classic(engine) => engine.size_hint(),
+            BoundariesBy::Neo(engine) => engine.size_hint(),
+        }
+    }
+}

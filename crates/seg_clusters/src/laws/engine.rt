@@ -1,0 +1,58 @@
+//! Laws of the boundaries of texts, whatever rules they are found by.
+
+ghost use Rattle.std.specs.Prelude.{ℕ, List, length};
+ghost use Rattle.seg_text.specs.Boundaries.{HasEqualOrdinals, HasRestart, IsCover};
+ghost use Rattle.seg_text.specs.Stretches.{HasOneAnswer};
+ghost use Rattle.seg_clusters.specs.Engine.{rules_of};
+ghost use Rattle.seg_clusters.specs.Parted.{PartsTexts};
+ghost use Rattle.seg_clusters.specs.Resets.{ResetsAfter};
+ghost use Rattle.seg_clusters.specs.Rules.{boundaries_by, first_stretch};
+
+use crate::engine::Engine;
+
+/// Law: a list of code points has exactly one list of boundaries, in code points: the first is at its start, and each
+/// other one comes from the first stretch of what is left. Such a stretch is the machine's pick, or what the verdict of the
+/// table takes.
+pub fn boundaries_are_one(engine: Engine<'_>)
+    ensures { HasOneAnswer (first_stretch (rules_of engine.entry)) }
+{
+    let _ = engine;
+}
+
+/// Law: two texts with equal code points, in whatever encodings, have the same boundaries, counted in code points, with
+/// the same statuses: one function of the rules and of the decoded list, which names no place, length or encoding.
+pub fn equal_code_points(engine: Engine<'_>)
+    ensures { HasEqualOrdinals (boundaries_by (rules_of engine.entry)) }
+{
+    let _ = engine;
+}
+
+/// Law: a text may be segmented anew from any of its boundaries: for every list of code points, the boundaries after one of
+/// them are those of the rest taken alone, shifted, with the same statuses.
+pub fn restart(engine: Engine<'_>)
+    ensures { HasRestart (boundaries_by (rules_of engine.entry)) }
+{
+    let _ = engine;
+}
+
+/// Law: the boundaries of a list of code points rise strictly from 0, where the first is, to its length, where the last is.
+pub fn cover(engine: Engine<'_>)
+    ensures { (code_points : List ℕ) → IsCover 0 (length code_points) (boundaries_by (rules_of engine.entry) code_points) }
+{
+    if let Engine::Neo(machine) = engine {
+        machine.facts();
+    }
+}
+
+/// Law: a text may be parted behind each code point that `resets_after` names: where the first of two texts ends with it, the
+/// boundaries of both, joined, are those of the first, and then those of the second but for its start, so much later, with the
+/// same statuses. So it is counted in code points, and as places in possibly ill-formed UTF-8, a `str` too, in Latin-1 and in
+/// possibly ill-formed UTF-16.
+pub fn parts_behind_resets(engine: Engine<'_>, code_point: char)
+    ensures { ResetsAfter (rules_of engine.entry) code_point → PartsTexts (boundaries_by (rules_of engine.entry)) code_point }
+{
+    let _ = code_point;
+    if let Engine::Neo(machine) = engine {
+        machine.facts();
+    }
+}

@@ -1,7 +1,0 @@
-use Rattle.seg_text.proofs.Stretches.{equal-ordinals}
-use Rattle.seg_engine.specs.Engine.{rules_of}
-use Rattle.seg_engine.specs.Rules.{boundaries_by}
-use Rattle.seg_engine.proofs.laws.equal_code_points.Goals as goal
-
-pub returns : goal.returns
-returns c = equal-ordinals (boundaries_by (rules_of c.args.engine))

@@ -1,5 +1,0 @@
-pub mod Rules
-pub mod Engine
-pub mod Remainders
-pub mod Resets
-pub mod Parted
