@@ -4,7 +4,7 @@ use Rattle.std.specs.Option.{option_map}
 use Rattle.std.proofs.lemmas.Bool.{true≢false}
 use Rattle.segment_output.specs.Output.{ended, line_at, segments}
 use Rattle.segment_output.specs.declared.marks.Mark.{Mark}
-use Rattle.segment_output.proofs.Gathered.{count-more, gathered-none, gathered-one, gathered-same}
+use Rattle.segment_output.proofs.Gathered.{count-more, gathered-all, gathered-none, gathered-one, gathered-same}
 use Rattle.segment_output.proofs.Segments.{begun, begun-at, begun-not, has-begun, last, last-more, segments-more, segments-same}
 use Rattle.segment_output.proofs.output.print_segments.Goals as goal
 
@@ -94,3 +94,11 @@ places-preserved g c =
       c.places.invariant.3,
       never _ true refl,
     )
+
+pub returns : goal.returns
+returns g c = (
+  c.places.yielded,
+  (c.places.places, c.places.yielded_by, c.in_default.ensures.steps),
+  c.places.invariant.2,
+  gathered-all c.places.lines.items _ (g.O.Write.contents c.args.out.now) (g.O.Write.contents c.places.out) (g.O.Write.contents c.flush.new.self) c.places.invariant.1 (search rules),
+)
