@@ -75,7 +75,7 @@ escaped-none (first ∷ second ∷ third ∷ bytes) some not nor neither =
 pub rest-is : (bytes : List ℕ) (start : ℕ) → take (length bytes - start) (drop start bytes) ≡ drop start bytes
 rest-is bytes start = take_all _ _ (omega (arith, length-drop start bytes))
 
-escaped-nothing : escaped [] ≡ []
+pub escaped-nothing : escaped [] ≡ []
 unfolding escaped
 escaped-nothing = refl
 

@@ -9,4 +9,5 @@ pub mod Printed
 pub mod Segments
 pub mod ShownLines
 pub mod ShownWide
+pub mod Stretches
 pub mod WrittenTokens

@@ -1,5 +1,5 @@
 -- One boundary more ends one segment more, if it is shown.
-use Rattle.std.proofs.Common.{◌≡◌, ℕ, Bool, true, false, Option, None, Some, List, [], ◌∷◌, ◌++◌, drop, map, filter, refl, ap, ◌∙◌, append-nil}
+use Rattle.std.proofs.Common.{◌≡◌, ℕ, ◌+◌, ◌^◌, ◌<◌, arith, Bool, true, false, Option, None, Some, List, [], ◌∷◌, ◌++◌, drop, map, filter, refl, ap, ◌∙◌, append-nil}
 use Rattle.std.proofs.lemmas.List.{map-append}
 use Rattle.std.proofs.lemmas.List.Elements.{filter-append}
 use Rattle.std.specs.List.{zip}
@@ -17,6 +17,24 @@ pub last-more : {X : Type 0} (xs : List X) (x : X) → last (xs ++ x ∷ []) ≡
 last-more [] x = refl
 last-more (a ∷ []) x = refl
 last-more (a ∷ b ∷ xs) x = last-more (b ∷ xs) x
+
+-- where the next segment begins, once a place has come
+unfoldable pub begun : Bool → ℕ → Option ℕ
+begun true start = Some start
+begun false start = None
+
+pub begun-at : (has_begun : Bool) (start : ℕ) → has_begun ≡ true → begun has_begun start ≡ Some start
+unfolding begun
+begun-at has_begun start is = rw is refl
+
+pub begun-not : (has_begun : Bool) (start : ℕ) → has_begun ≡ false → begun has_begun start ≡ None
+unfolding begun
+begun-not has_begun start is = rw is refl
+
+-- what doesn't begin at the last place that can be counted has begun
+pub has-begun : (has_begun : Bool) (start : ℕ) → (has_begun ≡ false → start + 1 ≡ 2 ^ 64) → start + 1 < 2 ^ 64 → has_begun ≡ true
+has-begun true start last within = refl
+has-begun false start last within = absurd (omega (arith, last refl, within))
 
 -- the neighbours of a list
 abbrev neighbours : {X : Type 0} → List X → List (X × X)

@@ -3,7 +3,7 @@ use Rattle.std.proofs.Common.{◌≡◌, ℕ, Option, List, [], ◌∷◌, ◌++
 use Rattle.std.proofs.lemmas.List.{map-append}
 use Rattle.std.proofs.lemmas.Grind.{flat_map-append}
 use Rattle.std.specs.List.{flat_map}
-use Rattle.segment_output.proofs.Gathered.{AreGathered}
+use Rattle.segment_output.specs.Gathered.{AreGathered}
 
 -- the bytes of lines that are seen through a view
 module _ {X Y : Type 0} (bytes_of : Y → List ℕ) (view : X → Y) where

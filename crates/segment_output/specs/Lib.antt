@@ -1,10 +1,12 @@
 pub mod Escapes
 pub mod Fault
+pub mod Gathered
 pub mod Marks
 pub mod Memo
 pub mod Objects
 pub mod Output
 pub mod Parts
 pub mod Segmenter
+pub mod Stretch
 pub mod Wrapped
 pub mod Wrapper

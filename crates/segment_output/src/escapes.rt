@@ -78,12 +78,12 @@ fn is_escaped(byte: u8) -> bool
     byte < 0x20 || byte == b'\\' || byte == 0x7F
 }
 
-// Whether a byte neither is such a character nor begins one of more bytes.
+/// Whether a byte neither is such a character nor begins one of more bytes.
 #[inline(always)]
-fn is_plain(byte: u8) -> bool
+pub fn is_plain(byte: u8) -> bool
     ensures { result ≡ is_plain byte }
 {
-    !is_escaped(byte) && byte != 0xC2 && byte != 0xE2
+    (byte >= 0x20) & (byte != b'\\') & (byte != 0x7F) & (byte != 0xC2) & (byte != 0xE2)
 }
 
 // The control character that begins some bytes, where it has two.

@@ -12,5 +12,6 @@ mod objects;
 pub mod output;
 pub mod parts;
 pub mod segmenter;
+mod stretch;
 mod wrapped;
 pub mod wrapper;

@@ -3,12 +3,15 @@ ghost use Rattle.std.specs.Prelude.{◌≡◌, ◌+◌, ◌++◌, ◌∷◌, [],
 ghost use Rattle.std.specs.Io.KnownBytes.{Appends};
 ghost use Rattle.std.specs.Iterator.{IsFinite, YieldsThen};
 ghost use Rattle.std.specs.List.{slice_range};
-ghost use Rattle.segment_output.specs.Output.{count_line, ended, segments, line_at, lines_at};
+ghost use Rattle.segment_output.specs.Gathered.{AreGathered};
+ghost use Rattle.segment_output.specs.Output.{count_line, segments, line_at, lines_at};
+ghost use Rattle.segment_output.specs.Stretch.{IsStretch};
 ghost use Rattle.segment_output.specs.declared.marks.Mark.{Mark};
 
 use crate::escapes::push_escaped;
 use crate::marks::Mark;
 use crate::objects::push_object;
+use crate::stretch::{Stretch, push_short, stretch_after};
 use std::alloc::{AllocError, Global};
 use std::io;
 use std::io::Write;
@@ -39,15 +42,6 @@ pub const LINES_LEN: usize = 65536;
 /// Room for such lines and one more, unless that is a long one.
 pub const LINES_CAPACITY: usize = 69632;
 
-// The lines of segments, and how many segments there were.
-#[derive(Drop)]
-struct Lines {
-    // The lines that are to be written.
-    bytes: Vec<u8>,
-    // How many segments there were so far.
-    count: usize,
-}
-
 /// Writes the segments between each two places that come, each with the mark of what ends there, or words alone, of a text or of a part of
 /// one before which so many bytes stand, flushes, and says how many there were. The errors are the writer's, and want of memory, also
 /// where there are more segments, or bytes in all, than a `usize` counts.
@@ -66,28 +60,98 @@ pub fn print_segments<N: Iterator<Item = (usize, Mark)>, O: Write>(
         × (count ≡ length (segments alone given))
         × Appends (O.contents out.old) (O.contents out.new) (lines_at style before text.now (segments alone given))) }
 {
-    let mut lines = no_lines(alloc)?;
-    let mut start = None;
+    let mut lines = Vec::with_capacity(alloc, LINES_CAPACITY)?;
+    let mut stretch = stretch_after(text, 0, style);
+    let mut count: usize = 0;
+    // Before the first place no segment begins, and the short way isn't taken.
+    let mut start = usize::MAX;
+    let mut has_begun = false;
     'places: while let Some((end, mark)) = places.next() {
-        if mark.is_shown(alone) {
-            push_ended(text, before, start, end, mark, style, &mut lines)?;
-            if lines.bytes.len() >= LINES_LEN {
-                write_lines(&mut lines.bytes, out)?;
+        if !mark.is_shown(alone) {
+            has_begun = true;
+        } else if push_short(text, start, end, &stretch, &mut lines) {
+            count = one_more(count)?;
+        } else if has_begun {
+            count = one_more(count)?;
+            let segment = Segment { start, end, mark };
+            match style {
+                Style::Counted => {}
+                _ => push_long(text, before, segment, style, &mut stretch, &mut lines, out)?,
             }
+        } else {
+            has_begun = true;
         }
-        start = Some(end);
+        start = end;
     }
-    out.write_all(lines.bytes.as_slice())?;
+    out.write_all(lines.as_slice())?;
     out.flush()?;
-    Ok(lines.count)
+    Ok(count)
 }
 
-// No lines, and room for some.
-fn no_lines(alloc: Global) -> Result<Lines, AllocError>
-    ensures { IfOk result (λ lines. (lines.bytes.items ≡ []) × (lines.count ≡ 0)) }
+// One segment more. The error is one that no `usize` counts.
+#[inline(always)]
+fn one_more(count: usize) -> Result<usize, AllocError>
+    ensures { IfOk result (λ more. more ≡ count + 1) }
 {
-    let bytes = Vec::with_capacity(alloc, LINES_CAPACITY)?;
-    Ok(Lines { bytes, count: 0 })
+    count.checked_add(1).ok_or(AllocError)
+}
+
+// A segment: where it begins, where it ends, and what is said of it.
+#[derive(Clone, Copy)]
+struct Segment {
+    start: usize,
+    end: usize,
+    mark: Mark,
+}
+
+// Adds the line of a segment, and writes what was gathered before, where it is much. The errors are the writer's, and want of memory.
+// Apart, since an `io::Result` is wide.
+#[inline(never)]
+fn push_long<O: Write>(
+    text: &[u8],
+    before: usize,
+    segment: Segment,
+    style: Style,
+    stretch: &mut Stretch,
+    lines: &mut Vec<u8>,
+    out: &mut O,
+) -> io::Result<()>
+    requires { IsStretch style text.now stretch.old }
+    ensures stretch { OnOk result (IsStretch style text.now stretch.new) }
+    ensures lines { OnOk result (AreGathered (O.contents out.old) (O.contents out.new) lines.new.items
+        (lines.old.items ++ line_at style before text.now (record { from = segment.start; to = segment.end; mark = segment.mark }))) }
+{
+    if lines.len() >= LINES_LEN {
+        write_lines(lines, out)?;
+    }
+    push_segment(text, before, segment, style, stretch, lines)?;
+    Ok(())
+}
+
+// Adds the line of a segment, and finds the next stretch, where the segment doesn't end before this one does.
+fn push_segment(
+    text: &[u8],
+    before: usize,
+    segment: Segment,
+    style: Style,
+    stretch: &mut Stretch,
+    lines: &mut Vec<u8>,
+) -> Result<(), AllocError>
+    requires { IsStretch style text.now stretch.old }
+    ensures stretch { OnOk result (IsStretch style text.now stretch.new) }
+    ensures lines { OnOk result (lines.new.items ≡ lines.old.items ++ line_at style before text.now (record { from = segment.start; to = segment.end; mark = segment.mark })) }
+{
+    let Segment { start, end, mark } = segment;
+    if stretch.from <= start && start <= end && end <= stretch.to {
+        lines.extend_from_slice(&text[start..end])?;
+        lines.push(stretch.last)?;
+        return Ok(());
+    }
+    push_line(text, before, start, end, mark, style, lines)?;
+    if end > stretch.to {
+        *stretch = stretch_after(text, end, style);
+    }
+    Ok(())
 }
 
 /// Writes how many segments there are, and after a space the name of what they were counted in, if it has one, on a line, and flushes.
@@ -130,30 +194,7 @@ pub fn write_lines<O: Write>(lines: &mut Vec<u8>, out: &mut O) -> io::Result<()>
     Ok(())
 }
 
-// Adds the line of the segment that ends at a place, if one begins before it, and counts it.
-#[inline(always)]
-fn push_ended(
-    text: &[u8],
-    before: usize,
-    start: Option<usize>,
-    end: usize,
-    mark: Mark,
-    style: Style,
-    lines: &mut Lines,
-) -> Result<(), AllocError>
-    ensures { OnOk result ((lines.new.bytes.items ≡ lines.old.bytes.items ++ lines_at style before text.now (ended start (end, mark)))
-        × (lines.new.count ≡ lines.old.count + length (ended start (end, mark)))) }
-{
-    let Some(start) = start else {
-        return Ok(());
-    };
-    push_line(text, before, start, end, mark, style, &mut lines.bytes)?;
-    lines.count = lines.count.checked_add(1).ok_or(AllocError)?;
-    Ok(())
-}
-
 // Adds the line of a segment.
-#[inline(always)]
 fn push_line(
     text: &[u8],
     before: usize,

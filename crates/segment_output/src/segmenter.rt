@@ -122,6 +122,7 @@ impl Segmenter {
 }
 
 // Writes the segments between the boundaries that come, or words alone.
+#[inline(always)]
 fn print_breaks<M: HasMark, B: BreakIterator<Mark = M>, O: Write>(
     alloc: Global,
     breaks: B,

@@ -3,7 +3,7 @@ use Rattle.std.proofs.Common.{map}
 use Rattle.icu_segmenter.specs.WrappedLines.{utf8_line_in}
 use Rattle.segment_output.specs.Wrapped.{shown_lines}
 use Rattle.segment_output.specs.Wrapper.{wrapping_of}
-use Rattle.segment_output.proofs.Gathered.{AreGathered}
+use Rattle.segment_output.specs.Gathered.{AreGathered}
 use Rattle.segment_output.proofs.wrapper.Wrapper.print_all.Given as goal
 
 abbrev pub invariant-loop-line : goal.invariant-loop-line

@@ -1,0 +1,17 @@
+-- Stretches of a text in which each segment is written as it stands.
+use Rattle.std.specs.Prelude.{◌≡◌, ℕ, ◌+◌, ◌<◌, ◌≤◌, true, List, [], ◌∷◌, ◌++◌, length, slice_index_or}
+use Rattle.segment_output.specs.Escapes.{is_plain}
+use Rattle.segment_output.specs.Output.{Segment, line_with, units_of}
+use Rattle.segment_output.specs.declared.output.Style.{Style}
+use Rattle.segment_output.specs.declared.stretch.Stretch.{Stretch}
+
+-- no byte of a text between two places is escaped or begins more bytes that may be
+abbrev pub ArePlain : List ℕ → ℕ → ℕ → Type 0
+ArePlain text from to = (place : ℕ) → from ≤ place → place < to → is_plain (slice_index_or text place 0) ≡ true
+
+-- each segment of a stretch is written as it stands, and a byte behind it; and 16 bytes stand behind a stretch
+abbrev pub IsStretch : Style → List ℕ → Stretch → Type 0
+IsStretch style text stretch =
+    (stretch.from ≤ stretch.to → stretch.to + 16 ≤ length text)
+    × ((segment shown : Segment) → stretch.from ≤ segment.from → segment.from ≤ segment.to → segment.to ≤ stretch.to
+    → line_with style text segment shown ≡ units_of text segment ++ stretch.last ∷ [])
