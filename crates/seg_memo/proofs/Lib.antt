@@ -17,3 +17,4 @@ pub mod Starts
 pub mod Plain
 pub mod Onward
 pub mod Rows
+pub mod Ahead

@@ -22,7 +22,7 @@ use Rattle.seg_memo.proofs.Segments.{symbols-read}
 pub symbols-length : (m : Machine) (items : List Item) → length (symbols_of m (code_points items)) ≡ length items
 symbols-length m items = length-map (code_points items) (λ code_point. (symbol_and_script m code_point).0) ∙ length-map items (λ (item : Item). item.1)
 
-symbols-drop : (m : Machine) (n : ℕ) (items : List Item) → symbols_of m (code_points (drop n items)) ≡ drop n (symbols_of m (code_points items))
+pub symbols-drop : (m : Machine) (n : ℕ) (items : List Item) → symbols_of m (code_points (drop n items)) ≡ drop n (symbols_of m (code_points items))
 symbols-drop m n items =
     sym (drop-map (λ code_point. (symbol_and_script m code_point).0) n (code_points items)
     ∙ ap (symbols_of m) (drop-map (λ (item : Item). item.1) n items))

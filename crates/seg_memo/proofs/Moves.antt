@@ -3,12 +3,11 @@ use Rattle.std.proofs.Common.{◌≡◌, ℕ, ◌+◌, [], ◌∷◌, refl, sym,
 use Rattle.seg_text.specs.Items.{Item, Text, rest_after, start_of}
 use Rattle.seg_text.specs.Boundaries.{shift}
 use Rattle.seg_text.specs.declared.boundary.Boundary.{Boundary}
-use Rattle.seg_machine.specs.Machine.{Machine}
 use Rattle.seg_machine.specs.Pick.{pick}
 use Rattle.seg_machine.proofs.Scanned.{after-after, one-less}
 use Rattle.std.specs.Prelude.{drop, Some}
 use Rattle.seg_memo.specs.Configurations.{Subject}
-use Rattle.seg_memo.specs.Grids.{GoesOn, IsAt, StandsAt}
+use Rattle.seg_memo.specs.Grids.{GoesOn, StandsAt}
 use Rattle.seg_memo.proofs.Segments.{Segment}
 
 pub stays : (text : Text) (place other : ℕ) → other ≡ place → GoesOn text place text other
@@ -29,13 +28,6 @@ goes-on text left after place here next one more =
 
 pub stands : (text left : Text) (place next offset : ℕ) → GoesOn text place left next → offset ≡ start_of left → StandsAt text place next offset
 stands text left place next offset goes is = (left, goes, is)
-
--- a copy of a cursor, at the start
-pub copy-rest : (s : Subject) (m : Machine) (start place : ℕ) (text left : Text) → place ≡ start → left ≡ text → IsAt s m start text.items → IsAt s m place left.items
-copy-rest s m start place text left here same at = rw (here, same) at
-
-pub copy-goes : (start place : ℕ) (text left : Text) → place ≡ start → left ≡ text → GoesOn text start left place
-copy-goes start place text left here same = rw same (stays text start place here)
 
 -- a segment that ends where the last look-up was
 pub segment-sought : (s : Subject) (text new : Text) (place last offset : ℕ) (b : Boundary) → Segment s place b → StandsAt text place last offset → b.offset ≡ last

@@ -1,5 +1,5 @@
 -- The table of configurations.
-use Rattle.std.specs.Prelude.{◌≡◌, ℕ, zero, suc, ◌+◌, ◌-◌, ◌*◌, ◌^◌, ◌<◌, ◌≤◌, ◌⊎◌, ◌==◌, ◌||◌, Bool, true, false, if◌then◌else◌, Option, Some, None, List, [], ◌∷◌, drop, length, slice_index_or, slice_set}
+use Rattle.std.specs.Prelude.{◌≡◌, ℕ, zero, suc, ◌+◌, ◌-◌, ◌*◌, ◌^◌, ◌<◌, ◌≤◌, ◌⊎◌, ◌==◌, ◌||◌, Bool, true, false, if◌then◌else◌, Option, Some, None, List, [], ◌∷◌, drop, length, min, slice_index_or, slice_set}
 use Rattle.seg_text.specs.declared.boundary.Boundary.{Boundary}
 use Rattle.seg_text.specs.Items.{Item, Text, code_points, rest_after, start_of}
 use Rattle.seg_machine.specs.Machine.{Machine, symbol_count, symbols_of}
@@ -108,6 +108,12 @@ GoesOn before place after next = (count : ℕ) × (after ≡ rest_after count be
 -- where a cursor stands that went on to a place from one where this was left of the text
 abbrev pub StandsAt : Text → ℕ → ℕ → ℕ → Type 0
 StandsAt text place next offset = (after : Text) × GoesOn text place after next × (offset ≡ start_of after)
+
+-- the symbol at a place of the text, or that of the end, is read, and this is left after it, of what was left from some place on
+pub record IsAhead (s : Subject) (m : Machine) (text : Text) (from place symbol : ℕ) (after : Text) : Type 0 where
+  pub symbol_is : symbol ≡ slice_index_or s.symbols place 0
+  pub goes : GoesOn text from after (min (suc place) (length s.symbols))
+  pub rest : IsAt s m (min (suc place) (length s.symbols)) after.items
 
 abbrev pub IsOn : Configuration → List Configuration → Type 0
 IsOn c [] = ⊥

@@ -12,8 +12,9 @@ ghost use Rattle.seg_memo.specs.Configurations.{AreLookedUp, configurations, rea
 ghost use Rattle.seg_memo.specs.Memos.{IsMemoRefusal, IsNewMemo, memo_places, subject_of};
 
 use crate::reader::{CountedTransitions, ReadTransitions};
-use crate::search::{next_segment, skip};
+use crate::search::{next_segment, next_symbol, skip};
 use crate::table::Table;
+use seg_machine::provider::Symbol;
 use seg_machine::tailored_machine::TailoredMachineBorrowed;
 use seg_text::cursor::Cursor;
 use std::alloc::Global;
@@ -45,8 +46,12 @@ pub struct MemoBreakIterator<'data, I: Cursor, R: ReadTransitions> {
     reader: R,
     table: Table,
     text: I,
+    // What is left after the boundary that was given last, and how many items are before it.
     rest: I,
     place: usize,
+    // The symbol of the first item of that, which is read already, and what is left after it.
+    first: Symbol,
+    ahead: I,
     started: bool,
     status: u8,
 }
@@ -57,7 +62,7 @@ impl<'data, I: Cursor, R: ReadTransitions> Model for MemoBreakIterator<'data, I,
     ghost use Rattle.seg_machine.specs.Machine.{symbols_of};
     ghost use Rattle.seg_machine.specs.Tailored.{machine_of};
     ghost use Rattle.seg_memo.specs.Configurations.{reading, subject};
-    ghost use Rattle.seg_memo.specs.Grids.{IsMemo, IsReadBy};
+    ghost use Rattle.seg_memo.specs.Grids.{IsAhead, IsMemo, IsReadBy};
     ghost use Rattle.seg_memo.specs.Memos.{Memo, memo};
     ghost use Rattle.seg_memo.specs.Windows.{Has, lost_at};
 
@@ -71,7 +76,8 @@ impl<'data, I: Cursor, R: ReadTransitions> Model for MemoBreakIterator<'data, I,
         (s.started ≡ false → (s.status ≡ 0) × (s.place ≡ 0))
         × IsReadBy scanned (machine_of s.machine) (R.states s.reader) (R.transitions s.reader)
         × (I.text s.rest ≡ rest_after s.place (I.text s.text))
-        × Has scanned s.table s.place (lost_at scanned s.place) (R.counted s.reader) (λ whole. IsMemo scanned whole s.place) };
+        × Has scanned s.table s.place (lost_at scanned s.place) (R.counted s.reader) (λ whole. IsMemo scanned whole s.place)
+        × IsAhead scanned (machine_of s.machine) (I.text s.rest) s.place s.place s.first (I.text s.ahead) };
 }
 
 impl<'data, I: Cursor, R: ReadTransitions> MemoBreakIterator<'data, I, R> {
@@ -118,6 +124,8 @@ impl<'data, I: Cursor, R: ReadTransitions> MemoBreakIterator<'data, I, R> {
             text,
             rest,
             place: _,
+            first,
+            ahead,
             started: _,
             status: _,
         } = self;
@@ -129,6 +137,8 @@ impl<'data, I: Cursor, R: ReadTransitions> MemoBreakIterator<'data, I, R> {
             text,
             rest,
             place: 0,
+            first,
+            ahead,
             started,
             status: 0,
         }
@@ -200,6 +210,8 @@ impl<'data, I: Cursor> MemoBreakIterator<'data, I, CountedTransitions<'data>> {
         let Ok(cells) = Vec::with_capacity(alloc, count) else {
             return Err(MemoError::Memory);
         };
+        let mut ahead = text.fork();
+        let (first, _) = next_symbol(&machine, &mut ahead, 0);
         Ok(MemoBreakIterator {
             machine,
             reader: CountedTransitions::new(machine.machine()),
@@ -212,6 +224,8 @@ impl<'data, I: Cursor> MemoBreakIterator<'data, I, CountedTransitions<'data>> {
             rest: text.fork(),
             text,
             place: 0,
+            first,
+            ahead,
             started: false,
             status: 0,
         })
@@ -220,6 +234,7 @@ impl<'data, I: Cursor> MemoBreakIterator<'data, I, CountedTransitions<'data>> {
 
 impl<'data, I: Cursor, R: ReadTransitions> MemoBreakIterator<'data, I, R> {
     /// The next boundary: the start of the text, and then the end of the next segment.
+    #[inline(always)]
     fn next_boundary(&mut self) -> Option<usize>
         ensures steps { YieldsFirst memo_places self.old result self.new × GivesNext self.old.coming result self.new.coming }
         ensures goes { MakesProgress (λ _. ⊤) (item_count memo_places) self.old result self.new }
@@ -239,6 +254,8 @@ impl<'data, I: Cursor, R: ReadTransitions> MemoBreakIterator<'data, I, R> {
             &mut self.table,
             &self.text,
             &mut self.rest,
+            &mut self.first,
+            &mut self.ahead,
             self.place,
         );
         self.place = found.offset;
@@ -254,6 +271,7 @@ impl<'data, I: Cursor, R: ReadTransitions> Iterator for MemoBreakIterator<'data,
 
     ghost remaining = { item_count memo_places };
 
+    #[inline(always)]
     fn next(&mut self) -> Option<usize>
         ensures steps { YieldsFirst memo_places self.old result self.new × GivesNext self.old.coming result self.new.coming
             × (self.new.machine ≡ self.old.machine) × (self.new.text ≡ self.old.text) }

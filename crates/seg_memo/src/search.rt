@@ -8,7 +8,7 @@ ghost use Rattle.seg_machine.specs.Pick.{pick};
 ghost use Rattle.seg_machine.specs.Tailored.{machine_of};
 ghost use Rattle.seg_memo.specs.Configurations.{Scan, Subject, start_at};
 ghost use Rattle.seg_memo.specs.Outcomes.{look_up, IfLeads};
-ghost use Rattle.seg_memo.specs.Grids.{GoesOn, IsAt, IsBegun, IsMemo, IsReadBy, IsScanned, IsSound, IsWithin, StandsAt, Went};
+ghost use Rattle.seg_memo.specs.Grids.{GoesOn, IsAhead, IsAt, IsBegun, IsMemo, IsReadBy, IsScanned, IsSound, IsWithin, StandsAt, Went};
 ghost use Rattle.seg_memo.specs.Windows.{Has, Keeps, late, lost_at};
 ghost use Rattle.seg_memo.specs.declared.configuration.Outcome.TheVariants.{Picked};
 
@@ -25,7 +25,7 @@ use seg_text::cursor::Cursor;
 /// The symbol of the item at a place, and the place after it; at the end of the text the symbol of the end, and the place
 /// stays.
 #[inline(always)]
-fn next_symbol<I: Cursor>(
+pub(crate) fn next_symbol<I: Cursor>(
     machine: &TailoredMachineBorrowed<'_>,
     rest: &mut I,
     place: usize,
@@ -174,41 +174,8 @@ fn outcome_from<I: Cursor, R: ReadTransitions>(
     (go_back(machine, table, last, outcome), last.place, stood)
 }
 
-/// One look-up by a machine without lookaheads.
-#[inline(always)]
-fn look_up_plain<I: Cursor, R: ReadTransitions>(
-    machine: &TailoredMachineBorrowed<'_>,
-    reader: &mut R,
-    rest: &mut I,
-    here: Configuration,
-) -> LookUp
-    ghost subject: { Subject }
-    requires sound { IsSound subject }
-    requires plain { subject.machine.num_lookaheads ≡ 0 }
-    requires read { IsReadBy subject (machine_of machine.now) (R.states reader.old) (R.transitions reader.old) }
-    requires count { R.counted reader.old < usize.MAX }
-    requires here { IsWithin subject here }
-    requires rest { IsAt subject (machine_of machine.now) here.place (I.text rest.old).items }
-    ensures value { result ≡ look_up subject here }
-    ensures within { IfLeads result (IsWithin subject) }
-    ensures rest { IfLeads result (λ next. IsAt subject (machine_of machine.now) next.place (I.text rest.new).items) }
-    ensures goes { IfLeads result (λ next. GoesOn (I.text rest.old) here.place (I.text rest.new) next.place) }
-    ensures read { IsReadBy subject (machine_of machine.now) (R.states reader.new) (R.transitions reader.new) }
-    ensures count { R.counted reader.new ≡ R.counted reader.old + 1 }
-{
-    let (symbol, place) = next_symbol(machine, rest, here.place);
-    let next = reader.read(here.state, symbol);
-    if next == SegmenterStateMachine::TRASH_STATE {
-        return LookUp::Ends(Outcome::Nothing);
-    }
-    LookUp::Leads(Configuration {
-        state: next,
-        place,
-        kept: here.kept,
-    })
-}
-
-/// The pick by a machine without lookaheads, and where a cursor stands there. Three things need no cell: what is before the
+/// The pick by a machine without lookaheads, and where a cursor stands there; and the place of the symbol that was looked up
+/// last: `first` is that symbol then, and `ahead` is what is left after it. Three things need no cell: what is before the
 /// pick, since later scans begin there; a state that accepts, since a scan that came to it before had its pick there or
 /// later; and what is before the first acceptance, since a scan that has a pick comes to nothing that has none. What comes
 /// after an acceptance is marked at once: nothing accepts after it, unless the pick is later and no scan comes to it again.
@@ -218,8 +185,10 @@ fn scan_plain<I: Cursor, R: ReadTransitions>(
     reader: &mut R,
     table: &mut Table,
     rest: &I,
+    first: &mut Symbol,
+    ahead: &mut I,
     start: usize,
-) -> (Boundary, usize)
+) -> (Boundary, usize, usize)
     ghost scan: { Scan }
     requires plain { scan.subject.machine.num_lookaheads ≡ 0 }
     requires read { IsReadBy scan.subject (machine_of machine.now) (R.states reader.old) (R.transitions reader.old) }
@@ -227,38 +196,45 @@ fn scan_plain<I: Cursor, R: ReadTransitions>(
     requires start { start ≡ scan.start }
     requires rest { IsAt scan.subject (machine_of machine.now) scan.start (I.text rest.now).items }
     requires some { (I.text rest.now).items ≢ [] }
+    requires ahead { IsAhead scan.subject (machine_of machine.now) (I.text rest.now) scan.start scan.start first.old (I.text ahead.old) }
     ensures read { IsReadBy scan.subject (machine_of machine.now) (R.states reader.new) (R.transitions reader.new) }
     ensures scanned { Has scan.subject table.new result.0.offset (late scan.subject result.0.offset) (R.counted reader.new) (λ whole. IsScanned scan.subject whole scan.start (Picked result.0)) }
     ensures stands { StandsAt (I.text rest.now) scan.start result.0.offset result.1 }
+    ensures ahead { IsAhead scan.subject (machine_of machine.now) (I.text rest.now) scan.start result.2 first.new (I.text ahead.new) }
 {
-    let mut iter = rest.fork();
+    let mut state = SegmenterStateMachine::START_STATE;
+    let mut symbol = *first;
+    let mut place = start;
+    let mut after = start + 1;
     let mut last: Option<Boundary> = None;
     let mut stood = rest.place();
-    let mut here = Configuration {
-        state: SegmenterStateMachine::START_STATE,
-        place: start,
-        kept: 0,
-    };
     'scan: loop {
-        let next = match look_up_plain(machine, reader, &mut iter, here) {
-            LookUp::Ends(_) => {
-                let Some(found) = last else { unreachable!() };
-                return (found, stood);
-            }
-            LookUp::Leads(next) => next,
-        };
-        if let Acceptance::Accept(status) = machine.entry(next.state).0 {
+        let next = reader.read(state, symbol);
+        if next == SegmenterStateMachine::TRASH_STATE {
+            let Some(found) = last else { unreachable!() };
+            *first = symbol;
+            return (found, stood, place);
+        }
+        if let Acceptance::Accept(status) = machine.entry(next).0 {
             last = Some(Boundary {
-                offset: next.place,
+                offset: after,
                 status,
             });
-            stood = iter.place();
+            stood = ahead.place();
         } else if let Some(found) = last {
-            if table.mark(next, found.offset) {
-                return (found, stood);
+            let here = Configuration {
+                state: next,
+                place: after,
+                kept: 0,
+            };
+            if table.mark(here, found.offset) {
+                *first = symbol;
+                return (found, stood, place);
             }
         }
-        here = next;
+        state = next;
+        place = after;
+        (symbol, after) = next_symbol(machine, ahead, place);
     }
 }
 
@@ -273,17 +249,55 @@ pub(crate) fn skip<I: Cursor>(rest: &mut I)
     }
 }
 
-/// Goes on to the end of the next segment: where it is in the whole text, counted in items, and its status.
-#[inline(never)]
+/// Goes on to the end of the next segment: where it is in the whole text, counted in items, and its status. `first` and
+/// `ahead` are the symbol of the first item of `rest`, and what is left after it.
+#[inline(always)]
 pub(crate) fn next_segment<I: Cursor, R: ReadTransitions>(
     machine: &TailoredMachineBorrowed<'_>,
     reader: &mut R,
     table: &mut Table,
     text: &I,
     rest: &mut I,
+    first: &mut Symbol,
+    ahead: &mut I,
     start: usize,
 ) -> Boundary
     ghost subject: { Subject }
+    requires read { IsReadBy subject (machine_of machine.now) (R.states reader.old) (R.transitions reader.old) }
+    requires memo { Has subject table.old start (lost_at subject start) (R.counted reader.old) (λ whole. IsMemo subject whole start) }
+    requires rest { IsAt subject (machine_of machine.now) start (I.text rest.old).items }
+    requires some { (I.text rest.old).items ≢ [] }
+    requires ahead { IsAhead subject (machine_of machine.now) (I.text rest.old) start start first.old (I.text ahead.old) }
+    ensures read { IsReadBy subject (machine_of machine.now) (R.states reader.new) (R.transitions reader.new) }
+    ensures memo { Has subject table.new result.offset (lost_at subject result.offset) (R.counted reader.new) (λ whole. IsMemo subject whole result.offset) }
+    ensures segment { (p : AnyBoundary) × (pick subject.machine (drop start subject.symbols) ≡ Some p) × (result ≡ shift start p)
+        × (I.text rest.new ≡ rest_after p.offset (I.text rest.old)) }
+    ensures ahead { IsAhead subject (machine_of machine.now) (I.text rest.new) result.offset result.offset first.new (I.text ahead.new) }
+{
+    if machine.num_lookaheads() != 0 {
+        let found = next_kept_segment(machine, reader, table, rest, start);
+        read_first(machine, rest, found.offset, first, ahead);
+        return found;
+    }
+    let (found, stood, place) = scan_plain(machine, reader, table, rest, first, ahead, start);
+    rest.seek(stood);
+    if found.offset != place {
+        read_first(machine, rest, found.offset, first, ahead);
+    }
+    found
+}
+
+/// The same by a machine that keeps places for lookaheads.
+#[inline(never)]
+fn next_kept_segment<I: Cursor, R: ReadTransitions>(
+    machine: &TailoredMachineBorrowed<'_>,
+    reader: &mut R,
+    table: &mut Table,
+    rest: &mut I,
+    start: usize,
+) -> Boundary
+    ghost subject: { Subject }
+    requires lookaheads { subject.machine.num_lookaheads ≢ 0 }
     requires read { IsReadBy subject (machine_of machine.now) (R.states reader.old) (R.transitions reader.old) }
     requires memo { Has subject table.old start (lost_at subject start) (R.counted reader.old) (λ whole. IsMemo subject whole start) }
     requires rest { IsAt subject (machine_of machine.now) start (I.text rest.old).items }
@@ -293,11 +307,6 @@ pub(crate) fn next_segment<I: Cursor, R: ReadTransitions>(
     ensures segment { (p : AnyBoundary) × (pick subject.machine (drop start subject.symbols) ≡ Some p) × (result ≡ shift start p)
         × (I.text rest.new ≡ rest_after p.offset (I.text rest.old)) }
 {
-    if machine.num_lookaheads() == 0 {
-        let (found, stood) = scan_plain(machine, reader, table, rest, start);
-        rest.seek(stood);
-        return found;
-    }
     table.leave(start);
     let (outcome, last, stood) = outcome_from(machine, reader, table, rest, start);
     let Some(found) = picked(outcome) else {
@@ -311,4 +320,24 @@ pub(crate) fn next_segment<I: Cursor, R: ReadTransitions>(
         skip(rest);
     }
     found
+}
+
+/// Reads the first symbol of what is left of a text.
+#[inline(never)]
+fn read_first<I: Cursor>(
+    machine: &TailoredMachineBorrowed<'_>,
+    rest: &I,
+    place: usize,
+    first: &mut Symbol,
+    ahead: &mut I,
+)
+    ghost subject: { Subject }
+    requires rest { IsAt subject (machine_of machine.now) place (I.text rest.now).items }
+    requires place { place ≤ length subject.symbols }
+    requires room { suc (length subject.symbols) < 2 ^ 64 }
+    ensures { IsAhead subject (machine_of machine.now) (I.text rest.now) place place first.new (I.text ahead.new) }
+{
+    *ahead = rest.fork();
+    let (symbol, _) = next_symbol(machine, ahead, place);
+    *first = symbol;
 }

@@ -1,15 +1,10 @@
-use Rattle.std.proofs.Common.{◌≡◌, ◌-◌}
-use Rattle.seg_text.specs.Items.{rest_after}
 use Rattle.seg_memo.proofs.search.next_segment.Given as goal
 
-abbrev pub ghost-leave : goal.ghost-leave
-ghost-leave g a = record { subject = g.subject; start = a.start }
+abbrev pub ghost-next_kept_segment : goal.ghost-next_kept_segment
+ghost-next_kept_segment g a = g.subject
 
 abbrev pub ghost-scan_plain : goal.ghost-scan_plain
 ghost-scan_plain g a = record { subject = g.subject; start = a.start }
 
-abbrev pub ghost-outcome_from : goal.ghost-outcome_from
-ghost-outcome_from g a = record { subject = g.subject; start = a.start }
-
-abbrev pub invariant-loop-item : goal.invariant-loop-item
-invariant-loop-item g l = g.I.Cursor.text l.rest ≡ rest_after (l.item - l.start) (g.I.Cursor.text l.fn.rest)
+abbrev pub ghost-read_first : goal.ghost-read_first
+ghost-read_first g a = g.subject

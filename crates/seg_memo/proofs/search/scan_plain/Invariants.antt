@@ -1,12 +1,12 @@
-use Rattle.std.proofs.Common.{◌+◌, length}
+use Rattle.std.proofs.Common.{◌≡◌, suc, ◌+◌, length, min}
 use Rattle.seg_machine.specs.Tailored.{machine_of}
-use Rattle.seg_memo.specs.Configurations.{following}
-use Rattle.seg_memo.specs.Grids.{GoesOn, IsAt, IsReadBy, StandsAt}
+use Rattle.seg_memo.specs.Configurations.{configuration, following}
+use Rattle.seg_memo.specs.Grids.{IsAhead, IsReadBy, StandsAt}
 use Rattle.seg_memo.proofs.Onward.{Turn, floor}
 use Rattle.seg_memo.proofs.search.scan_plain.Given as goal
 
-abbrev pub ghost-look_up_plain : goal.ghost-look_up_plain
-ghost-look_up_plain g a = g.scan.subject
+abbrev pub ghost-next_symbol : goal.ghost-next_symbol
+ghost-next_symbol g a = g.scan.subject
 
 abbrev pub ghost-mark : goal.ghost-mark
 ghost-mark g a = record { subject = g.scan.subject; start = a.from }
@@ -14,11 +14,11 @@ ghost-mark g a = record { subject = g.scan.subject; start = a.from }
 abbrev pub invariant-scan : goal.invariant-scan
 invariant-scan g l = record {
   read : IsReadBy g.scan.subject (machine_of l.machine) (g.R.ReadTransitions.states l.reader) (g.R.ReadTransitions.transitions l.reader);
-  turn : Turn g.scan.subject l.table g.scan.start l.here l.last (g.R.ReadTransitions.counted l.reader + 1);
-  rest : IsAt g.scan.subject (machine_of l.machine) l.here.place (g.I.Cursor.text l.iter).items;
-  goes : GoesOn (g.I.Cursor.text l.fn.rest) g.scan.start (g.I.Cursor.text l.iter) l.here.place;
+  turn : Turn g.scan.subject l.table g.scan.start (configuration l.state l.place 0) l.last (g.R.ReadTransitions.counted l.reader + 1);
+  ahead : IsAhead g.scan.subject (machine_of l.machine) (g.I.Cursor.text l.fn.rest) g.scan.start l.place l.symbol (g.I.Cursor.text l.ahead);
+  after : l.after ≡ min (suc l.place) (length g.scan.subject.symbols);
   stands : StandsAt (g.I.Cursor.text l.fn.rest) g.scan.start (floor g.scan.start l.last) l.stood;
 }
 
 abbrev pub decreases-scan : goal.decreases-scan
-decreases-scan g l = length (following g.scan.subject l.here)
+decreases-scan g l = length (following g.scan.subject (configuration l.state l.place 0))

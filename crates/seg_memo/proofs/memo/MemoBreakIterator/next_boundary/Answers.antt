@@ -22,7 +22,7 @@ next_segment-found-requires g c = λ κs lives. (
         c.self.invariant.3,
         (
           rest-at (machine_of c.self.inside.machine) _ (g.R.ReadTransitions.transitions c.self.inside.reader) (g.I.Cursor.text c.self.inside.text) _ _ c.self.invariant.1 c.self.invariant.2,
-          not_at_end _ (sym c.is_at_end.ensures ∙ c.if-is_at_end.false),
+          (not_at_end _ (sym c.is_at_end.ensures ∙ c.if-is_at_end.false), c.self.invariant.4),
         ),
       ),
     ),

@@ -4,6 +4,7 @@ use Rattle.seg_machine.specs.Checked.{IsChecked}
 use Rattle.seg_machine.specs.Tailored.{machine_of}
 use Rattle.seg_memo.specs.Configurations.{reading}
 use Rattle.seg_memo.specs.Memos.{Memo}
+use Rattle.seg_memo.proofs.Ahead.{other-ahead}
 use Rattle.seg_memo.proofs.Fresh.{other-keeps}
 use Rattle.seg_memo.proofs.Memoised.{read-by}
 use Rattle.seg_memo.proofs.memo.MemoBreakIterator.with_reader.Goals as goal
@@ -18,4 +19,5 @@ invariant_of-result g c =
       read-by (machine_of c.self.inside.machine) _ _ _ (c.requires.states ∙ ap (λ (v : Memo). length v.machine.states) (sym c.self.view_is)),
       c.self.invariant.2 ∙ ap (λ (n : ℕ). rest_after n (g.I.Cursor.text c.self.inside.text)) none,
       other-keeps (machine_of c.self.inside.machine) (g.R.ReadTransitions.transitions c.self.inside.reader) (g.Other.ReadTransitions.transitions c.args.reader) _ _ _ _ _ c.self.invariant.3 none checked c.requires.count,
+      other-ahead (machine_of c.self.inside.machine) (g.R.ReadTransitions.transitions c.self.inside.reader) (g.Other.ReadTransitions.transitions c.args.reader) _ _ _ _ _ c.self.invariant.4 none,
     )
