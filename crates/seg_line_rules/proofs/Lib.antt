@@ -11,3 +11,4 @@ pub mod LineChains
 pub mod LineEvents
 pub mod RunEnds
 pub mod LinesLeft
+pub mod PlainPairs

@@ -60,7 +60,7 @@ pub record HasRun (rules : LineRules) (text : Text) (place : ℕ) : Type 0 where
 
 module _ (rules : LineRules) where
   -- the first stretch of a text, and what is left after it
-  first-stretch : (cuts : Cuts) (items : List Item) (end first : ℕ) (others : List ℕ) (s : Stretch) → code_points items ≡ first ∷ others
+  pub first-stretch : (cuts : Cuts) (items : List Item) (end first : ℕ) (others : List ℕ) (s : Stretch) → code_points items ≡ first ∷ others
       → line_stretch cuts rules (code_points items) ≡ s
       → let text : Text = record { items = items; end = end } in
       unread_lines cuts (unread rules text) ≡ map (boundary_in text) s.boundaries ++ unread_lines cuts (unread rules (rest_after s.extent text))

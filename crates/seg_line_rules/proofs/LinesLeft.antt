@@ -105,6 +105,11 @@ nothing-unread cuts unread none =
 pub none-of : (run : List ℕ) (unread left : List Boundary) → run ≡ [] → with_status 0 run ++ unread ≡ left → unread ≡ left
 none-of run unread left none is = ap (λ (run : List ℕ). with_status 0 run ++ unread) (sym none) ∙ is
 
+-- plain pairs led to no boundary
+pub passed-none : (cuts : Cuts) (run : List ℕ) (before after : UnreadLines) (left : List Boundary) → unread_lines cuts before ≡ unread_lines cuts after
+    → with_status 0 run ++ unread_lines cuts before ≡ left → with_status 0 run ++ unread_lines cuts after ≡ left
+passed-none cuts run before after left same is = ap (λ (unread : List Boundary). with_status 0 run ++ unread) (sym same) ∙ is
+
 -- the next cut of a run
 pub next-of : (place : ℕ) (before after : List ℕ) (unread left : List Boundary) → before ≡ place ∷ after → with_status 0 before ++ unread ≡ left
     → left ≡ boundary place 0 ∷ (with_status 0 after ++ unread)
@@ -121,16 +126,19 @@ lines-run text cuts before after run end found left leads is same =
     stay : AreCutsOf (length (text run).items) (inside cuts (code_points (text run).items))
     stay = rw (length-map (text run).items (λ (item : Item). item.1)) (inside-cuts (length (text run).items) (cuts (code_points (text run).items)))
 
--- and it took something
-pub lines-fewer : {I : Type 0} (text : I → Text) (before after : UnreadLines) (run : I) (end : ℕ) → LeadsToLines text before (Run run end) after → GoesOnLines before after
-    → length after.text.items < length before.text.items
-lines-fewer text before after run end leads goes = goes.fewer (λ none. some (sym (leads.1 one (omega arith, tt)) ∙ nothing-unread one before none))
+-- and it took something, so that less is left than there was before
+pub lines-fewer : {I : Type 0} (text : I → Text) (before after : UnreadLines) (run : I) (end most : ℕ) → LeadsToLines text before (Run run end) after → GoesOnLines before after
+    → length before.text.items ≤ most → length after.text.items < most
+lines-fewer text before after run end most leads goes bound = omega (arith, less, bound)
   where
     one : Cuts
     one code_points = 0 ∷ []
 
     some : with_status 0 (cut_places one (text run)) ++ unread_lines one after ≢ []
     some is = cc
+
+    less : length after.text.items < length before.text.items
+    less = goes.fewer (λ none. some (sym (leads.1 one (omega arith, tt)) ∙ nothing-unread one before none))
 
 -- nothing is left, before and after the end was read
 pub lines-end : (cuts : Cuts) (run later : List ℕ) (before after : UnreadLines) (left : List Boundary) → run ≡ [] → later ≡ [] → before.text.items ≡ [] → after ≡ before

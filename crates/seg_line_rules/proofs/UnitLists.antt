@@ -14,7 +14,7 @@ PartsAfter rules code_points k =
     (before mark : ℕ) → slice_get code_points k ≡ Some before → slice_get code_points (suc k) ≡ Some mark
     → is_mark (line_class rules mark) ≡ true → bears_none (line_class rules before) ≡ true
 
-abbrev counted : ℕ → LineUnit → CountedUnit
+abbrev pub counted : ℕ → LineUnit → CountedUnit
 counted extent unit = record { extent = extent; unit = unit }
 
 module _ (rules : LineRules) where

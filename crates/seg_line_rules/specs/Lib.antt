@@ -12,3 +12,5 @@ pub mod UnitElements
 pub mod LineSteps
 pub mod LineEvents
 pub mod LinesLeft
+pub mod ItemAhead
+pub mod PlainPairs

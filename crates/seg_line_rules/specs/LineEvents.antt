@@ -1,5 +1,5 @@
 -- What comes next of a text that is read line by line.
-use Rattle.std.specs.Prelude.{◌≡◌, ◌≢◌, ◌<◌, Option, None, List, [], ◌∷◌, ◌++◌, length, IfSome}
+use Rattle.std.specs.Prelude.{◌≡◌, ◌≢◌, ◌<◌, ◌≤◌, ℕ, Option, Some, None, List, [], ◌∷◌, ◌++◌, length, IfSome}
 use Rattle.seg_text.specs.declared.boundary.Boundary.{Boundary}
 use Rattle.seg_text.specs.Items.{Text, code_points}
 use Rattle.seg_text.specs.Boundaries.{boundary, boundaries_in}
@@ -31,6 +31,12 @@ LeadsToLines text before (Run run end) after =
     (end ≡ (text run).end)
     × ((cuts : Cuts) → AreCutsOf (length (text run).items) (cuts (code_points (text run).items))
     → unread_lines cuts before ≡ with_status 0 (cut_places cuts (text run)) ++ unread_lines cuts after)
+
+-- plain pairs lead to a boundary, or to none
+abbrev pub LeadsToBreak : UnreadLines → Option ℕ → UnreadLines → Type 0
+LeadsToBreak before (Some place) after = (cuts : Cuts) → unread_lines cuts before ≡ boundary place 0 ∷ unread_lines cuts after
+LeadsToBreak before None after =
+    ((cuts : Cuts) → unread_lines cuts before ≡ unread_lines cuts after) × (length after.text.items ≤ length before.text.items)
 
 -- the text goes on by the same rules, and less of it is left
 pub record GoesOnLines (before after : UnreadLines) : Type 0 where

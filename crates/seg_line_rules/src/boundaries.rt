@@ -85,6 +85,9 @@ impl<'data, I: Cursor> Iterator for ClassicLines<'data, I> {
             if let Some(place) = self.run.next() {
                 return Some(place);
             }
+            if let Some(place) = self.events.plain_break() {
+                return Some(place);
+            }
             match self.events.next_event() {
                 LineEvent::End => return None,
                 LineEvent::Break(place) => return Some(place),

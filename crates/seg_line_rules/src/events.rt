@@ -4,11 +4,13 @@
 ghost use Rattle.std.specs.Prelude.{◌≡◌, ◌-◌, []};
 ghost use Rattle.seg_text.specs.Items.{prefix_length, rest_after, start_of, text_before};
 ghost use Rattle.seg_pairs.specs.Elements.{onto, place_at};
-ghost use Rattle.seg_line_rules.specs.LineEvents.{LeadsToLines, GoesOnLines};
+ghost use Rattle.seg_line_rules.specs.ItemAhead.{IsAhead};
+ghost use Rattle.seg_line_rules.specs.LineEvents.{AreAhead, LeadsToBreak, LeadsToLines, GoesOnLines};
 ghost use Rattle.seg_line_rules.specs.LinePairs.{rules_by};
 ghost use Rattle.seg_line_rules.specs.LineRules.{is_complex};
 
 use crate::line_pairs::LinePairs;
+use crate::plain_pairs::{ClassedItem, asks_more, plain_pairs};
 use crate::units::Units;
 use crate::verdicts::LineVerdicts;
 use seg_pairs::elements::{Element, Elements};
@@ -34,20 +36,22 @@ pub struct LineEvents<'data, I: Cursor> {
     pairs: LinePairs<'data>,
     // What isn't read yet: as items, ..
     here: I,
-    // .. and as units, the first apart.
-    next: Option<Element>,
-    rest: Units<'data, I>,
+    // .. and as the first of them, whose class is read already, ..
+    next: Option<ClassedItem>,
+    // .. with those after it.
+    rest: I,
 }
 
 impl<'data, I: Cursor> Model for LineEvents<'data, I> {
-    ghost use Rattle.seg_line_rules.specs.LineEvents.{UnreadLines, AreAhead};
+    ghost use Rattle.seg_line_rules.specs.ItemAhead.{IsAhead};
+    ghost use Rattle.seg_line_rules.specs.LineEvents.{UnreadLines};
     ghost use Rattle.seg_line_rules.specs.LinePairs.{rules_by};
 
     ghost Value = { UnreadLines };
 
     ghost view = { λ s. record { rules = rules_by s.pairs; text = I.text s.here } };
 
-    ghost invariant = { λ s. AreAhead (rules_by s.pairs) (I.text s.here) s.next s.rest };
+    ghost invariant = { λ s. IsAhead (rules_by s.pairs) (I.text s.here) s.next (I.text s.rest) };
 }
 
 impl<'data, I: Cursor> LineEvents<'data, I> {
@@ -55,8 +59,8 @@ impl<'data, I: Cursor> LineEvents<'data, I> {
     pub fn new(pairs: LinePairs<'data>, text: I) -> Self
         ensures { result ≡ record { rules = rules_by pairs.entry; text = I.text text } }
     {
-        let mut rest = Units::new(pairs, text.fork());
-        let next = rest.next_element();
+        let mut rest = text.fork();
+        let next = next_classed(pairs, &mut rest);
         LineEvents {
             pairs,
             here: text,
@@ -79,31 +83,81 @@ impl<'data, I: Cursor> LineEvents<'data, I> {
         self.here.up_to(self.here.place())
     }
 
+    /// The next boundary, where plain pairs alone come to it. Where they don't, they are passed: what comes then is an event.
+    #[inline(always)]
+    pub fn plain_break(&mut self) -> Option<usize>
+        ensures leads { LeadsToBreak self.old result self.new }
+    {
+        let Some(next) = self.next else {
+            return None;
+        };
+        if asks_more(self.pairs.style()) {
+            return None;
+        }
+        let passed = plain_pairs(self.pairs, next, self.rest.fork());
+        self.here.seek(passed.next.place);
+        self.next = Some(passed.next);
+        self.rest = passed.rest;
+        if !passed.is_break {
+            return None;
+        }
+        Some(passed.next.place)
+    }
+
     /// What comes next. After the end it is the end for ever.
+    #[inline(never)]
     pub fn next_event(&mut self) -> LineEvent<I>
         ensures leads { LeadsToLines I.text self.old result self.new }
         ensures goes { GoesOnLines self.old self.new }
     {
-        let Some(left) = self.next else {
+        let (next, mut units) = first_units(self.pairs, &self.here);
+        let Some(left) = next else {
             return LineEvent::End;
         };
         let rules = LineVerdicts { pairs: self.pairs };
-        match next_break(&rules, left, &mut self.rest) {
+        match next_break(&rules, left, &mut units) {
             Outcome::Break(_class, next) => {
-                self.next = next;
-                let place = place_before(next, &self.rest);
+                let place = place_before(next, &units);
                 self.here.seek(place);
+                self.rest = self.here.fork();
+                self.next = next_classed(self.pairs, &mut self.rest);
                 LineEvent::Break(place)
             }
             Outcome::Run(first, _second) => {
                 self.here.seek(first.place);
-                let (run, end) = take_run(&mut self.here, &ComplexPoints { pairs: self.pairs });
-                self.rest = Units::new(self.pairs, self.here.fork());
-                self.next = self.rest.next_element();
+                let (run, end) = complex_run(self.pairs, &mut self.here);
+                self.rest = self.here.fork();
+                self.next = next_classed(self.pairs, &mut self.rest);
                 LineEvent::Run(run, end)
             }
         }
     }
+}
+
+/// The first unit of a text, and the units after it.
+fn first_units<'data, I: Cursor>(
+    pairs: LinePairs<'data>,
+    text: &I,
+) -> (Option<Element>, Units<'data, I>)
+    ensures { AreAhead (rules_by pairs.entry) (I.text text.now) result.0 result.1 }
+{
+    let mut rest = Units::new(pairs, text.fork());
+    let next = rest.next_element();
+    (next, rest)
+}
+
+/// The next item, with its class.
+fn next_classed<I: Cursor>(pairs: LinePairs<'_>, rest: &mut I) -> Option<ClassedItem>
+    ensures { IsAhead (rules_by pairs.entry) (I.text rest.old) result (I.text rest.new) }
+{
+    let Some((place, code_point)) = rest.next_item() else {
+        return None;
+    };
+    Some(ClassedItem {
+        class: pairs.class(code_point),
+        code_point,
+        place,
+    })
 }
 
 /// The place of this unit, or else of the first of the others, or of the text's end.
@@ -131,6 +185,16 @@ impl<'data> CodePointTest for ComplexPoints<'data> {
     fn accepts(&self, code_point: u32) -> bool {
         is_complex(self.pairs, code_point)
     }
+}
+
+/// The run of complex items that a text begins with. `rest` goes on at the last of them. Apart, so that its loop has the registers.
+#[inline(never)]
+fn complex_run<I: Cursor>(pairs: LinePairs<'_>, rest: &mut I) -> (I, usize)
+    ensures run { I.text result.0 ≡ text_before (prefix_length (is_complex (rules_by pairs.entry)) (I.text rest.old)) (I.text rest.old) }
+    ensures end { result.1 ≡ (I.text result.0).end }
+    ensures rest { I.text rest.new ≡ rest_after (prefix_length (is_complex (rules_by pairs.entry)) (I.text rest.old) - 1) (I.text rest.old) }
+{
+    take_run(rest, &ComplexPoints { pairs })
 }
 
 /// The longest beginning of a text whose code points pass a test, as a text that ends there, and the place of its end: its places stay.

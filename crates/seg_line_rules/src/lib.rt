@@ -8,5 +8,6 @@ pub mod laws;
 pub mod line_pairs;
 pub mod lists;
 pub mod options;
+pub mod plain_pairs;
 pub mod units;
 pub mod verdicts;

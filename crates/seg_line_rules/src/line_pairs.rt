@@ -5,6 +5,7 @@ ghost use Rattle.seg_pair_data.specs.PairFaults.{HasPairDataFault};
 ghost use Rattle.seg_line_rules.specs.LineClasses.{ID};
 ghost use Rattle.seg_line_rules.specs.LineFaults.{is_named_class};
 ghost use Rattle.seg_line_rules.specs.LineRules.{class_read, is_read_as_id};
+ghost use Rattle.seg_line_rules.specs.LineStyles.{is_loose_or_normal};
 
 use crate::options::LineStyle;
 use seg_data::provider::DataError;
@@ -62,6 +63,7 @@ impl<'data> LinePairs<'data> {
     ghost use Rattle.seg_line_rules.specs.LineFaults.{HasLineTableFault};
     ghost use Rattle.seg_line_rules.specs.LinePairs.{rules_by};
     ghost use Rattle.seg_line_rules.specs.LineRules.{line_class};
+    ghost use Rattle.seg_line_rules.specs.LineStyles.{is_loose_or_normal};
 
     /// A pair table of lines, with what options say, and checked with the pair table of clusters: `ClassOutOfRange` where the
     /// table has no class ID, and `StartRowKeeps` and `ComplexItems` by the clusters; `ComplexBelow0100` where a code
@@ -111,6 +113,17 @@ impl<'data> LinePairs<'data> {
         let class = PairDataBorrowed::new(self.table).class(code_point);
         class_read(self.style, self.table.complex_property(), class)
     }
+
+    /// The same where the strictness reads no class, so that the word option alone is asked.
+    #[inline(always)]
+    pub(crate) fn strict_class(self, code_point: u32) -> u8
+        requires { is_loose_or_normal (rules_by self).style.strictness ≡ false }
+        ensures value { result ≡ line_class (rules_by self.entry) code_point }
+        ensures below { result < (rules_by self.entry).table.property_count }
+    {
+        let class = PairDataBorrowed::new(self.table).class(code_point);
+        strict_read(self.style, self.table.complex_property(), class)
+    }
 }
 
 /// What is wrong with the pair table of clusters, if anything is: `StartRowKeeps` where no boundary stands between the text's start and some
@@ -136,6 +149,19 @@ fn class_read(style: LineStyle, complex: u8, class: u8) -> u8
 {
     if is_read_as_id(style, complex, class) {
         RuleBreakData::LINE_PROPERTY_ID
+    } else {
+        class
+    }
+}
+
+/// The same where the strictness reads no class.
+#[inline(always)]
+fn strict_read(style: LineStyle, complex: u8, class: u8) -> u8
+    requires { is_loose_or_normal style.strictness ≡ false }
+    ensures { result ≡ class_read style complex class }
+{
+    if style.word_option.is_break_all() {
+        class_read(style, complex, class)
     } else {
         class
     }

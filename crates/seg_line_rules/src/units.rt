@@ -156,7 +156,7 @@ fn is_glued(base: u8, class: u8) -> bool
 }
 
 /// Whether the class is one of marks.
-fn is_mark(class: u8) -> bool
+pub(crate) fn is_mark(class: u8) -> bool
     ensures { result ≡ is_mark class }
 {
     class == RuleBreakData::LINE_PROPERTY_CM || class == RuleBreakData::LINE_PROPERTY_ZWJ
