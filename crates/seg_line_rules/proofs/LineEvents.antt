@@ -21,6 +21,8 @@ use Rattle.seg_pairs.specs.Steps.{EndsIn}
 use Rattle.seg_pairs.proofs.Chained.{Chained, chained}
 use Rattle.seg_pairs.proofs.Engine.{read-onto, rest-is}
 use Rattle.seg_pairs.proofs.Events.{cuts-placed}
+use Rattle.seg_line_rules.specs.declared.plain_pairs.ClassedItem.{ClassedItem}
+use Rattle.seg_line_rules.specs.ItemAhead.{IsAhead, text_from}
 use Rattle.seg_line_rules.specs.LineBoundaries.{line_verdict, complex_length, line_stretch_of, line_stretch}
 use Rattle.seg_line_rules.specs.LineEvents.{UnreadLines, unread_lines, GoesOnLines, AreAhead}
 use Rattle.seg_line_rules.specs.LineRules.{LineRules}
@@ -223,10 +225,6 @@ pub place-after : (rules : LineRules) (text : Text) (n place end : ℕ) (after :
     → end ≡ text.end → place ≡ start_of (rest_after n text)
 place-after rules text n place end after is same stays = is ∙ rw (same, stays) (elements-place rules (drop n text.items) text.end)
 
-pub nothing-left : (rules : LineRules) (items : List Item) (next : Option Element) (rest : List Element) → next ≡ None → rest ≡ []
-    → onto next rest ≡ line_elements rules items → items ≡ []
-nothing-left rules items next rest none empty is = no-elements rules items (sym is ∙ ap (λ (n : Option Element). onto n rest) none ∙ empty)
-
 -- the first unit of a text is read
 pub ahead-read : (rules : LineRules) (text : Text) (from : UnitsLeft) (next : Option Element) (rest : UnitsLeft)
     → from ≡ record { rules = rules; left = line_elements rules text.items; end = text.end }
@@ -237,13 +235,28 @@ ahead-read rules text from next rest is gives end table below = record {
   same = sym (read-onto (λ (left : UnitsLeft). left.left) from next rest gives) ∙ ap (λ (left : UnitsLeft). left.left) is;
   same_end = end ∙ ap (λ (left : UnitsLeft). left.end) is;
   same_table = table ∙ ap (λ (left : UnitsLeft). left.rules.table) is;
-  empty = empty next gives;
   below = subst (λ (from : UnitsLeft). IfSome next (λ next. next.class < from.rules.table.property_count)) is below;
 }
+
+-- a text with a first item has a unit
+pub some-first : (rules : LineRules) (first : ClassedItem) (rest : Text) (units : UnitsLeft)
+    → units ≡ record { rules = rules; left = line_elements rules (text_from first rest).items; end = rest.end } → units.left ≡ [] → ⊥
+some-first rules first rest units is none = never (no-elements rules (text_from first rest).items (sym (ap (λ (left : UnitsLeft). left.left) is) ∙ none))
   where
-    empty : (next : Option Element) → YieldsFirst (λ (left : UnitsLeft). left.left) from next rest → next ≡ None → rest.left ≡ []
-    empty None gives none = gives.1
-    empty (Some next) gives none = cc
+    never : (text_from first rest).items ≡ [] → ⊥
+    never is = cc
+
+-- the first unit of a text whose first item is read, and those after it
+pub ahead-here : {I : Type 0} (text : I → Text) (rules : LineRules) (here : Text) (next : Option ClassedItem) (first : ClassedItem) (rest copy : I) (left : Element) (units : UnitsLeft)
+    → next ≡ Some first → IsAhead rules here next (text rest) → copy ≡ rest → AreAhead rules (text_from first (text copy)) (Some left) units
+    → AreAhead rules here (Some left) units
+ahead-here text rules here next first rest copy left units is ahead same read =
+    let some : IsAhead rules here (Some first) (text rest) = subst (λ (next : Option ClassedItem). IsAhead rules here next (text rest)) is ahead in
+    subst (λ (t : Text). AreAhead rules t (Some left) units) (ap (λ i. text_from first (text i)) same ∙ sym some.0) read
+
+-- nothing is left
+pub ahead-none : (rules : LineRules) (here : Text) (next : Option ClassedItem) (rest : Text) → next ≡ None → IsAhead rules here next rest → here.items ≡ []
+ahead-none rules here next rest is ahead = subst (λ (next : Option ClassedItem). IsAhead rules here next rest) is ahead
 
 -- what is left after an event
 pub goes-on : (rules : LineRules) (text after : Text) (n : ℕ) → after ≡ rest_after n text → length (drop n text.items) < length text.items

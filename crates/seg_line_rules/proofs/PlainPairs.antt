@@ -1,7 +1,6 @@
 -- Pairs of units of one item each, between which the table alone decides.
-use Rattle.std.proofs.Common.{◌≡◌, ℕ, suc, ◌+◌, ◌&&◌, ◌||◌, ◌==◌, not, Bool, true, false, cond, Option, None, List, [], ◌∷◌, drop, refl, sym, ap, ◌∙◌}
+use Rattle.std.proofs.Common.{◌≡◌, ℕ, suc, ◌+◌, ◌&&◌, ◌||◌, ◌==◌, not, Bool, true, false, cond, None, List, [], ◌∷◌, drop, refl, sym, ap, ◌∙◌}
 use Rattle.std.proofs.lemmas.List.{drop-drop}
-use Rattle.seg_text.specs.declared.boundary.Boundary.{Boundary}
 use Rattle.seg_text.specs.Items.{Item, Text, start_of, rest_after, code_points}
 use Rattle.seg_text.specs.Boundaries.{boundary}
 use Rattle.seg_text.specs.Cuts.{Cuts}
@@ -24,7 +23,7 @@ use Rattle.seg_line_rules.specs.LineEvents.{unread_lines}
 use Rattle.seg_line_rules.specs.LineLists.{LooseRow, keeps, listed, listed_by, loose_rows}
 use Rattle.seg_line_rules.specs.LineRules.{LineRules, line_class}
 use Rattle.seg_line_rules.specs.LineStyles.{is_keep_all, is_loose_or_normal}
-use Rattle.seg_line_rules.specs.LineUnits.{CountedUnit, LineUnit, base_unit, bears_none, counted_units, extent_of, is_glued, is_mark, units_from, units_of}
+use Rattle.seg_line_rules.specs.LineUnits.{CountedUnit, LineUnit, base_unit, counted_units, extent_of, is_glued, is_mark, units_from, units_of}
 use Rattle.seg_line_rules.specs.LineVerdict.{begins_run, case_of, case_verdict, list_case, unit_first_verdict, unit_verdict}
 use Rattle.seg_line_rules.specs.PlainPairs.{IsPassed, asks_more, entry_pair, is_plain, passed_lines, plain_pair, unread_from}
 use Rattle.seg_line_rules.proofs.LineEvents.{first-stretch}

@@ -49,5 +49,4 @@ pub record AreAhead (rules : LineRules) (text : Text) (next : Option Element) (r
   pub same : onto next rest.left ≡ line_elements rules text.items
   pub same_end : rest.end ≡ text.end
   pub same_table : rest.rules.table ≡ rules.table
-  pub empty : next ≡ None → rest.left ≡ []
   pub below : IfSome next (λ next. next.class < rules.table.property_count)

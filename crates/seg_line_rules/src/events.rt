@@ -1,10 +1,10 @@
 //! The boundaries of lines of a text, as far as the table finds them: runs of complex code points are given as texts of their own, to be cut in
 //! some other way.
 
-ghost use Rattle.std.specs.Prelude.{◌≡◌, ◌-◌, []};
+ghost use Rattle.std.specs.Prelude.{◌≡◌, ◌-◌, Some, []};
 ghost use Rattle.seg_text.specs.Items.{prefix_length, rest_after, start_of, text_before};
 ghost use Rattle.seg_pairs.specs.Elements.{onto, place_at};
-ghost use Rattle.seg_line_rules.specs.ItemAhead.{IsAhead};
+ghost use Rattle.seg_line_rules.specs.ItemAhead.{HasClass, IsAhead, text_from};
 ghost use Rattle.seg_line_rules.specs.LineEvents.{AreAhead, LeadsToBreak, LeadsToLines, GoesOnLines};
 ghost use Rattle.seg_line_rules.specs.LinePairs.{rules_by};
 ghost use Rattle.seg_line_rules.specs.LineRules.{is_complex};
@@ -110,10 +110,10 @@ impl<'data, I: Cursor> LineEvents<'data, I> {
         ensures leads { LeadsToLines I.text self.old result self.new }
         ensures goes { GoesOnLines self.old self.new }
     {
-        let (next, mut units) = first_units(self.pairs, &self.here);
-        let Some(left) = next else {
+        let Some(first) = self.next else {
             return LineEvent::End;
         };
+        let (left, mut units) = first_units(self.pairs, first, self.rest.fork());
         let rules = LineVerdicts { pairs: self.pairs };
         match next_break(&rules, left, &mut units) {
             Outcome::Break(_class, next) => {
@@ -134,16 +134,20 @@ impl<'data, I: Cursor> LineEvents<'data, I> {
     }
 }
 
-/// The first unit of a text, and the units after it.
+/// The first unit of a text whose first item is read already, and the units after it. `rest` has the items after that item.
 fn first_units<'data, I: Cursor>(
     pairs: LinePairs<'data>,
-    text: &I,
-) -> (Option<Element>, Units<'data, I>)
-    ensures { AreAhead (rules_by pairs.entry) (I.text text.now) result.0 result.1 }
+    first: ClassedItem,
+    rest: I,
+) -> (Element, Units<'data, I>)
+    requires { HasClass (rules_by pairs) first }
+    ensures { AreAhead (rules_by pairs.entry) (text_from first (I.text rest)) (Some result.0) result.1 }
 {
-    let mut rest = Units::new(pairs, text.fork());
-    let next = rest.next_element();
-    (next, rest)
+    let mut units = Units::from_item(pairs, first, rest);
+    let Some(left) = units.next_element() else {
+        unreachable!()
+    };
+    (left, units)
 }
 
 /// The next item, with its class.

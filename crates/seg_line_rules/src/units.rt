@@ -1,11 +1,13 @@
 //! The units of a text of lines, each read once.
 
 ghost use Rattle.std.specs.Prelude.{◌≡◌, ◌<◌, ◌∷◌, [], None, IfSome};
+ghost use Rattle.seg_line_rules.specs.ItemAhead.{HasClass, text_from};
 ghost use Rattle.seg_line_rules.specs.LinePairs.{rules_by};
 ghost use Rattle.seg_line_rules.specs.LineUnits.{bears_none, is_glued, is_mark};
 ghost use Rattle.seg_line_rules.specs.UnitElements.{base_element, base_of, elements_after, elements_from, line_elements, marked_element};
 
 use crate::line_pairs::LinePairs;
+use crate::plain_pairs::ClassedItem;
 use seg_pair_data::provider::RuleBreakData;
 use seg_pairs::elements::{Element, Elements};
 use seg_text::cursor::Cursor;
@@ -43,6 +45,19 @@ impl<'data, I: Cursor> Units<'data, I> {
             None => None,
         };
         Units { pairs, first, rest }
+    }
+
+    /// The units of a text whose first item is read already. `rest` has the items after it. Takes no memory.
+    pub(crate) fn from_item(pairs: LinePairs<'data>, first: ClassedItem, rest: I) -> Self
+        requires { HasClass (rules_by pairs) first }
+        ensures { result ≡ record { rules = rules_by pairs.entry; left = line_elements (rules_by pairs.entry) (text_from first (I.text rest)).items; end = (I.text rest).end } }
+    {
+        let base = base_element(first.place, first.code_point, first.class);
+        Units {
+            pairs,
+            first: Some(base),
+            rest,
+        }
     }
 }
 
