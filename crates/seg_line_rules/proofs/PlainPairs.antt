@@ -29,27 +29,27 @@ use Rattle.seg_line_rules.specs.PlainPairs.{IsPassed, asks_more, entry_pair, is_
 use Rattle.seg_line_rules.proofs.LineEvents.{first-stretch}
 use Rattle.seg_line_rules.proofs.UnitLists.{counted, first-unit}
 
-if-off : {X : Type 0} (b : Bool) (x y : X) → b ≡ false → cond b x y ≡ y
+pub if-off : {X : Type 0} (b : Bool) (x y : X) → b ≡ false → cond b x y ≡ y
 if-off true x y off = cc
 if-off false x y off = refl
 
-and-first : (a b : Bool) → (a && b) ≡ true → a ≡ true
+pub and-first : (a b : Bool) → (a && b) ≡ true → a ≡ true
 and-first true b is = refl
 and-first false b is = cc
 
-and-last : (a b : Bool) → (a && b) ≡ true → b ≡ true
+pub and-last : (a b : Bool) → (a && b) ≡ true → b ≡ true
 and-last true b is = is
 and-last false b is = cc
 
-and-off : (a b : Bool) → a ≡ false → (a && b) ≡ false
+pub and-off : (a b : Bool) → a ≡ false → (a && b) ≡ false
 and-off true b off = cc
 and-off false b off = refl
 
-not-true : (b : Bool) → not b ≡ true → b ≡ false
+pub not-true : (b : Bool) → not b ≡ true → b ≡ false
 not-true true is = cc
 not-true false is = refl
 
-or-neither : (a b : Bool) → (a || b) ≡ false → (a ≡ false) × (b ≡ false)
+pub or-neither : (a b : Bool) → (a || b) ≡ false → (a ≡ false) × (b ≡ false)
 or-neither true b is = cc
 or-neither false b is = (refl, is)
 
@@ -66,7 +66,7 @@ with-single false b off = refl
 keeps-off : (style : LineStyle) (left right : LineUnit) → asks_more style ≡ false → keeps style left right ≡ false
 keeps-off style left right few = three-off (is_keep_all style.word_option) _ _ (or-neither (is_keep_all style.word_option) _ few).0
 
-listed-by-off : (strictness : LineBreakStrictness) (rows : List LooseRow) (style : LineStyle) (joined : Bool) (left left_point right right_point : ℕ)
+pub listed-by-off : (strictness : LineBreakStrictness) (rows : List LooseRow) (style : LineStyle) (joined : Bool) (left left_point right right_point : ℕ)
     → is_loose_or_normal strictness ≡ false → listed_by strictness rows style joined left left_point right right_point ≡ None
 listed-by-off strictness.Loose rows style joined left left_point right right_point none = cc
 listed-by-off strictness.Normal rows style joined left left_point right right_point none = cc
@@ -80,11 +80,11 @@ listed-off style left right few =
 
 -- what a plain pair says of the table's entry
 
-said-go : (b : Bool) (said : PlainPair) → cond b said plain.Other ≡ plain.Go → (b ≡ true) × (said ≡ plain.Go)
+pub said-go : (b : Bool) (said : PlainPair) → cond b said plain.Other ≡ plain.Go → (b ≡ true) × (said ≡ plain.Go)
 said-go true said is = (refl, is)
 said-go false said is = cc
 
-said-break : (b : Bool) (said : PlainPair) → cond b said plain.Other ≡ plain.Break → (b ≡ true) × (said ≡ plain.Break)
+pub said-break : (b : Bool) (said : PlainPair) → cond b said plain.Other ≡ plain.Break → (b ≡ true) × (said ≡ plain.Break)
 said-break true said is = (refl, is)
 said-break false said is = cc
 

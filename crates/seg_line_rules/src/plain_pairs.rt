@@ -36,17 +36,17 @@ pub enum PlainPair {
 
 /// Where plain pairs come to.
 #[derive(Debug, Drop)]
-pub(crate) struct Passed<I: Cursor> {
-    /// The item that the next unit begins with.
-    pub(crate) next: ClassedItem,
+pub struct Passed<I: Cursor> {
+    /// The item that the next unit or turn begins with.
+    pub next: ClassedItem,
     /// The items after it.
-    pub(crate) rest: I,
+    pub rest: I,
     /// Whether a boundary stands before it.
-    pub(crate) is_break: bool,
+    pub is_break: bool,
 }
 
 /// Whether the options ask for more than the classes and the table.
-pub(crate) fn asks_more(style: LineStyle) -> bool
+pub fn asks_more(style: LineStyle) -> bool
     ensures { result ≡ asks_more style }
 {
     style.keeps_all() || style.is_loose_or_normal()
@@ -90,7 +90,7 @@ pub(crate) fn plain_pairs<I: Cursor>(pairs: LinePairs<'_>, first: ClassedItem, r
 
 /// Where pairs come to.
 #[inline(always)]
-fn pairs_passed<I: Cursor>(next: ClassedItem, rest: I, is_break: bool) -> Passed<I>
+pub fn pairs_passed<I: Cursor>(next: ClassedItem, rest: I, is_break: bool) -> Passed<I>
     ensures { result ≡ record { next = next; rest = rest; is_break = is_break } }
 {
     Passed {

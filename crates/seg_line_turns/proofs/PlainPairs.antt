@@ -13,12 +13,14 @@ use Rattle.seg_line_rules.specs.declared.options.LineBreakStrictness.TheVariants
 use Rattle.seg_line_rules.specs.declared.options.LineStyle.{LineStyle}
 use Rattle.seg_line_rules.specs.LineLists.{LooseRow, listed_by}
 use Rattle.seg_line_rules.specs.LineRules.{LineRules, is_among}
-use Rattle.seg_line_rules.specs.LineStyles.{is_keep_all, is_loose_or_normal}
-use Rattle.seg_line_turns.specs.declared.plain_turns.PlainTurn.{PlainTurn}
-use Rattle.seg_line_turns.specs.declared.plain_turns.PlainTurn.TheVariants as plain
-use Rattle.seg_line_turns.specs.declared.turn_units.Right.{Right}
-use Rattle.seg_line_turns.specs.PlainPairs.{IsPassed, asks_more, entry_turn, going_text, is_asked, is_plain, is_unanswered, passed_turns, plain_turn}
-use Rattle.seg_line_turns.specs.TurnAhead.{HasClass, text_from}
+use Rattle.seg_line_rules.specs.LineStyles.{is_keep_all}
+use Rattle.seg_line_rules.specs.PlainPairs.{asks_more}
+use Rattle.seg_line_rules.specs.declared.plain_pairs.PlainPair.{PlainPair}
+use Rattle.seg_line_rules.specs.declared.plain_pairs.PlainPair.TheVariants as plain
+use Rattle.seg_line_rules.specs.declared.plain_pairs.ClassedItem.{ClassedItem}
+use Rattle.seg_line_turns.specs.PlainPairs.{IsPassedByTurns, entry_turn, going_text, is_asked, is_plain, is_unanswered, passed_turns, plain_turn}
+use Rattle.seg_line_rules.specs.ItemAhead.{text_from}
+use Rattle.seg_line_turns.specs.TurnAhead.{HasTurnClass}
 use Rattle.seg_line_turns.specs.TurnBoundaries.{later_turns, stretch_of}
 use Rattle.seg_line_turns.specs.TurnClasses.{CM, CM_EASTASIAN, HH, HY, IS, QU_PF, SA, SA_MC_MN, SP, ZWJ}
 use Rattle.seg_line_turns.specs.TurnEvents.{unread_turns}
@@ -28,30 +30,15 @@ use Rattle.seg_line_turns.specs.TurnSets.{is_before_hyphen, is_before_quote, is_
 use Rattle.seg_line_turns.specs.TurnUnits.{LeftUnit, is_joined, left_unit}
 use Rattle.seg_line_turns.specs.Turns.{Turn, class_turn, list_turn, right_turn, table_turn, turn}
 use Rattle.seg_line_turns.specs.Turns.Turn.{BreakAt, GoTo}
+use Rattle.seg_line_rules.proofs.PlainPairs.{and-first, and-last, and-off, if-off, listed-by-off, not-true, or-neither, said-break, said-go}
 use Rattle.seg_line_turns.proofs.TurnEvents.{turn-next}
 use Rattle.seg_line_turns.proofs.TurnPlaces.{next-of}
 use Rattle.seg_line_turns.proofs.TurnReads.{turn-cons}
 use Rattle.seg_line_turns.proofs.TurnSets.{none-among}
 
-and-off : (a b : Bool) → a ≡ false → (a && b) ≡ false
-and-off true b off = cc
-and-off false b off = refl
-
 and-off-last : (a b : Bool) → b ≡ false → (a && b) ≡ false
 and-off-last true b off = off
 and-off-last false b off = refl
-
-and-first : (a b : Bool) → (a && b) ≡ true → a ≡ true
-and-first true b is = refl
-and-first false b is = cc
-
-and-last : (a b : Bool) → (a && b) ≡ true → b ≡ true
-and-last true b is = is
-and-last false b is = cc
-
-not-true : (b : Bool) → not b ≡ true → b ≡ false
-not-true true is = cc
-not-true false is = refl
 
 swapped : (a b : Bool) → (a && b) ≡ false → (b && a) ≡ false
 swapped true true off = off
@@ -180,29 +167,14 @@ plain-unanswered left right is = on (is_asked right) refl is
         }
 
 -- options that ask for no more
-or-neither : (a b : Bool) → (a || b) ≡ false → (a ≡ false) × (b ≡ false)
-or-neither true b is = cc
-or-neither false b is = (refl, is)
-
 keeps-off : (style : LineStyle) (left right : ℕ) → asks_more style ≡ false → keeps style left right ≡ false
 unfolding keeps
 keeps-off style left right none = and-off _ _ (and-off (is_keep_all style.word_option) _ (or-neither (is_keep_all style.word_option) _ none).0)
-
-listed-by-off : (strictness : LineBreakStrictness) (rows : List LooseRow) (style : LineStyle) (joined : Bool) (left left_point right right_point : ℕ)
-    → is_loose_or_normal strictness ≡ false → listed_by strictness rows style joined left left_point right right_point ≡ None
-listed-by-off strictness.Loose rows style joined left left_point right right_point none = cc
-listed-by-off strictness.Normal rows style joined left left_point right right_point none = cc
-listed-by-off strictness.Strict rows style joined left left_point right right_point none = refl
-listed-by-off strictness.Anywhere rows style joined left left_point right right_point none = refl
 
 listed-off : (style : LineStyle) (joined : Bool) (left left_point right right_point : ℕ) → asks_more style ≡ false → listed style joined left left_point right right_point ≡ None
 unfolding listed
 listed-off style joined left left_point right right_point none =
     listed-by-off style.strictness turn_rows style joined left left_point right right_point (or-neither (is_keep_all style.word_option) _ none).1
-
-if-off : (b : Bool) (x y : Turn) → b ≡ false → cond b x y ≡ y
-if-off true x y off = cc
-if-off false x y off = refl
 
 -- the turn is the table's
 module _ (rules : LineRules) (opened : Bool) (left right : ℕ) (after : List ℕ) where
@@ -234,14 +206,6 @@ module _ (rules : LineRules) (opened : Bool) (left right : ℕ) (after : List �
       ∙ ap (λ opened. right_turn rules opened unit right after) (or-off opened _ none.opens)
       ∙ right-plain few none
 
-  said-plain : (b : Bool) (said : PlainTurn) → (cond b said plain.Other ≡ plain.Go) → (b ≡ true) × (said ≡ plain.Go)
-  said-plain true said is = (refl, is)
-  said-plain false said is = cc
-
-  said-break : (b : Bool) (said : PlainTurn) → (cond b said plain.Other ≡ plain.Break) → (b ≡ true) × (said ≡ plain.Break)
-  said-break true said is = (refl, is)
-  said-break false said is = cc
-
   entry-go : (joined : Bool) (entry : BreakState) → entry_turn joined entry ≡ plain.Go → entry ≡ entries.Keep
   entry-go joined entries.Keep is = refl
   entry-go true entries.Break is = cc
@@ -260,7 +224,7 @@ module _ (rules : LineRules) (opened : Bool) (left right : ℕ) (after : List �
 
   go-plain : asks_more rules.style ≡ false → plain_turn rules.table unit.class class ≡ plain.Go → turn rules opened unit (right ∷ after) ≡ GoTo 1 opened
   go-plain few is =
-      let said = said-plain (is_plain unit.class class) _ is in
+      let said = said-go (is_plain unit.class class) _ is in
       turn-plain few said.0 ∙ ap (table_turn rules opened unit class after) (entry-go _ _ said.1)
 
   break-plain : asks_more rules.style ≡ false → plain_turn rules.table unit.class class ≡ plain.Break → turn rules opened unit (right ∷ after) ≡ BreakAt 1 1
@@ -270,15 +234,15 @@ module _ (rules : LineRules) (opened : Bool) (left right : ℕ) (after : List �
       turn-plain few said.0 ∙ ap (table_turn rules opened unit class after) both.1 ∙ if-off _ _ _ both.0
 
 -- one item more
-module _ (rules : LineRules) (left right : Right) (rest after : Text) (few : asks_more rules.style ≡ false)
-    (left_class : HasClass rules left) (right_class : HasClass rules right)
+module _ (rules : LineRules) (left right : ClassedItem) (rest after : Text) (few : asks_more rules.style ≡ false)
+    (left_class : HasTurnClass rules left) (right_class : HasTurnClass rules right)
     (items : rest.items ≡ (right.place, right.code_point) ∷ after.items) (end : after.end ≡ rest.end) where
   rest-is : rest ≡ text_from right after
   rest-is =
       ap (λ (items : List Item). record { items = items; end = rest.end }) items
       ∙ ap (λ (end : ℕ). record { items = (right.place, right.code_point) ∷ after.items; end = end }) (sym end)
 
-  same-said : (said : PlainTurn) → said ≡ plain_turn rules.table left.class right.class
+  same-said : (said : PlainPair) → said ≡ plain_turn rules.table left.class right.class
       → plain_turn rules.table (turn_class rules left.code_point) (turn_class rules right.code_point) ≡ said
   same-said said is =
       ap (λ class. plain_turn rules.table class (turn_class rules right.code_point)) (sym left_class.is)
@@ -312,11 +276,11 @@ module _ (rules : LineRules) (left right : Right) (rest after : Text) (few : ask
       first-turn opened cuts (BreakAt 1 1) (break-plain rules opened left.code_point right.code_point (code_points after.items) few (same-said plain.Break said))
       ∙ ap (λ (text : Text). boundary (start_of text) 0 ∷ unread_turns cuts (going_text rules false text)) rest-is
 
-  module _ (first : Right) (start : Text) (passed : IsPassed rules first start left rest false) where
+  module _ (first : ClassedItem) (start : Text) (passed : IsPassedByTurns rules first start left rest false) where
     text-on : text_from right after ≡ rest_after (suc passed.taken) (text_from first start)
     text-on = sym rest-is ∙ (next-of (text_from first start) (text_from left rest) rest passed.taken (left.place, left.code_point) passed.text_is refl refl).after_is
 
-    pub passed-go : plain.Go ≡ plain_turn rules.table left.class right.class → IsPassed rules first start right after false
+    pub passed-go : plain.Go ≡ plain_turn rules.table left.class right.class → IsPassedByTurns rules first start right after false
     passed-go said = record {
       taken = suc passed.taken;
       text_is = text-on;
@@ -324,7 +288,7 @@ module _ (rules : LineRules) (left right : Right) (rest after : Text) (few : ask
       leads = λ opened cuts. passed.leads opened cuts ∙ go-on said opened cuts;
     }
 
-    pub passed-break : plain.Break ≡ plain_turn rules.table left.class right.class → IsPassed rules first start right after true
+    pub passed-break : plain.Break ≡ plain_turn rules.table left.class right.class → IsPassedByTurns rules first start right after true
     passed-break said = record {
       taken = suc passed.taken;
       text_is = text-on;

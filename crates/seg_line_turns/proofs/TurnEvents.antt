@@ -10,10 +10,11 @@ use Rattle.seg_text.proofs.Places.{in-append, in-shift, code_points-drop}
 use Rattle.seg_pairs.proofs.Events.{cuts-placed}
 use Rattle.seg_line_rules.specs.LineRules.{LineRules}
 use Rattle.seg_line_turns.specs.declared.turn_units.Left.{Left}
-use Rattle.seg_line_turns.specs.declared.turn_units.Right.{Right}
+use Rattle.seg_line_rules.specs.declared.plain_pairs.ClassedItem.{ClassedItem}
 use Rattle.seg_line_turns.specs.declared.turn_units.TurnOutcome.{TurnOutcome}
 use Rattle.seg_line_turns.specs.declared.turn_units.TurnOutcome.TheVariants.{Break, Go, Run}
-use Rattle.seg_line_turns.specs.TurnAhead.{HasClass, IsAhead, text_from}
+use Rattle.seg_line_rules.specs.ItemAhead.{text_from}
+use Rattle.seg_line_turns.specs.TurnAhead.{HasTurnClass, IsTurnAhead}
 use Rattle.seg_line_turns.specs.TurnBoundaries.{is_complex_point, run_length, has_none, stretch_of, turn_stretch, later_turns}
 use Rattle.seg_line_turns.specs.TurnEvents.{UnreadTurns, GoesOnTurns, unread_turns, after_cuts}
 use Rattle.seg_line_turns.specs.TurnPlaces.{item_place, placed, left_seen, FindsFrom}
@@ -214,15 +215,15 @@ pub record FirstOf (here after : Text) (item : Item) : Type 0 where
   pub items : here.items ≡ item ∷ after.items
   pub end : after.end ≡ here.end
 
-pub ahead-some : (rules : LineRules) (here : Text) (next : Option Right) (one : Right) (rest : Text) → next ≡ Some one → IsAhead rules here next rest
-    → (here ≡ text_from one rest) × HasClass rules one
-ahead-some rules here next one rest is ahead = subst (λ (next : Option Right). IsAhead rules here next rest) is ahead
+pub ahead-some : (rules : LineRules) (here : Text) (next : Option ClassedItem) (one : ClassedItem) (rest : Text) → next ≡ Some one → IsTurnAhead rules here next rest
+    → (here ≡ text_from one rest) × HasTurnClass rules one
+ahead-some rules here next one rest is ahead = subst (λ (next : Option ClassedItem). IsTurnAhead rules here next rest) is ahead
 
-pub ahead-none : (rules : LineRules) (here : Text) (next : Option Right) (rest : Text) → next ≡ None → IsAhead rules here next rest → here.items ≡ []
-ahead-none rules here next rest is ahead = subst (λ (next : Option Right). IsAhead rules here next rest) is ahead
+pub ahead-none : (rules : LineRules) (here : Text) (next : Option ClassedItem) (rest : Text) → next ≡ None → IsTurnAhead rules here next rest → here.items ≡ []
+ahead-none rules here next rest is ahead = subst (λ (next : Option ClassedItem). IsTurnAhead rules here next rest) is ahead
 
-pub first-of : {I : Type 0} (text : I → Text) (rules : LineRules) (here : Text) (next : Option Right) (one : Right) (rest copy : I) → next ≡ Some one
-    → IsAhead rules here next (text rest) → copy ≡ rest → FirstOf here (text copy) (one.place, one.code_point)
+pub first-of : {I : Type 0} (text : I → Text) (rules : LineRules) (here : Text) (next : Option ClassedItem) (one : ClassedItem) (rest copy : I) → next ≡ Some one
+    → IsTurnAhead rules here next (text rest) → copy ≡ rest → FirstOf here (text copy) (one.place, one.code_point)
 first-of text rules here next one rest copy is ahead same =
     let from = (ahead-some rules here next one (text rest) is ahead).0 in
     record {

@@ -7,20 +7,15 @@ use Rattle.seg_text.specs.Items.{Text, rest_after}
 use Rattle.seg_pair_data.specs.declared.provider.pairs.BreakState.{BreakState}
 use Rattle.seg_pair_data.specs.declared.provider.pairs.BreakState.TheVariants as entries
 use Rattle.seg_pair_data.specs.PairTable.{PairTable, entry_of}
-use Rattle.seg_line_rules.specs.declared.options.LineStyle.{LineStyle}
 use Rattle.seg_line_rules.specs.LineRules.{LineRules, is_among}
-use Rattle.seg_line_rules.specs.LineStyles.{is_keep_all, is_loose_or_normal}
-use Rattle.seg_line_turns.specs.declared.plain_turns.PlainTurn.{PlainTurn}
-use Rattle.seg_line_turns.specs.declared.plain_turns.PlainTurn.TheVariants.{Break, Go, Other}
-use Rattle.seg_line_turns.specs.declared.turn_units.Right.{Right}
-use Rattle.seg_line_turns.specs.TurnAhead.{HasClass, text_from}
+use Rattle.seg_line_rules.specs.declared.plain_pairs.PlainPair.{PlainPair}
+use Rattle.seg_line_rules.specs.declared.plain_pairs.PlainPair.TheVariants.{Break, Go, Other}
+use Rattle.seg_line_rules.specs.declared.plain_pairs.ClassedItem.{ClassedItem}
+use Rattle.seg_line_rules.specs.ItemAhead.{text_from}
+use Rattle.seg_line_turns.specs.TurnAhead.{HasTurnClass}
 use Rattle.seg_line_turns.specs.TurnClasses.{CM, CM_EASTASIAN, HH, HY, IS, QU_PF, SA, SA_MC_MN, SP, ZWJ}
 use Rattle.seg_line_turns.specs.TurnEvents.{UnreadTurns, unread_turns}
 use Rattle.seg_line_turns.specs.TurnSets.{is_before_hyphen, is_before_quote, is_complex, is_glue, is_hyphen, is_infix, is_joiner, is_opening, is_quote, is_space}
-
--- the options ask for more than the classes and the table
-abbrev pub asks_more : LineStyle → Bool
-asks_more style = is_keep_all style.word_option || is_loose_or_normal style.strictness
 
 -- a rule asks of such a class on the right
 unfoldable pub is_asked : ℕ → Bool
@@ -43,14 +38,14 @@ is_unanswered left right =
 abbrev pub is_plain : ℕ → ℕ → Bool
 is_plain left right = not (is_asked right) || is_unanswered left right
 
-abbrev pub entry_turn : Bool → BreakState → PlainTurn
+abbrev pub entry_turn : Bool → BreakState → PlainPair
 entry_turn joined entries.Keep = Go
 entry_turn joined entries.Break = if joined then Other else Break
 entry_turn joined entries.NoMatch = Other
 entry_turn joined (entries.Index state) = Other
 entry_turn joined (entries.Intermediate state) = Other
 
-abbrev pub plain_turn : PairTable → ℕ → ℕ → PlainTurn
+abbrev pub plain_turn : PairTable → ℕ → ℕ → PlainPair
 plain_turn t left right = if is_plain left right then entry_turn (is_joiner left) (entry_of t left right) else Other
 
 -- a text that is being read, not from its start
@@ -58,14 +53,14 @@ abbrev pub going_text : LineRules → Bool → Text → UnreadTurns
 going_text rules opened text = record { rules = rules; starts = false; opened = opened; text = text }
 
 -- the boundaries from this item on, and one before it or not
-abbrev pub passed_turns : Cuts → LineRules → (opened is_break : Bool) → Right → Text → List Boundary
+abbrev pub passed_turns : Cuts → LineRules → (opened is_break : Bool) → ClassedItem → Text → List Boundary
 passed_turns cuts rules opened true next rest = boundary next.place 0 ∷ unread_turns cuts (going_text rules false (text_from next rest))
 passed_turns cuts rules opened false next rest = unread_turns cuts (going_text rules opened (text_from next rest))
 
 -- plain turns lead from one item, with those after it, to another
-pub record IsPassed (rules : LineRules) (first : Right) (start : Text) (next : Right) (rest : Text) (is_break : Bool) : Type 0 where
+pub record IsPassedByTurns (rules : LineRules) (first : ClassedItem) (start : Text) (next : ClassedItem) (rest : Text) (is_break : Bool) : Type 0 where
   pub taken : ℕ
   pub text_is : text_from next rest ≡ rest_after taken (text_from first start)
-  pub class : HasClass rules next
+  pub class : HasTurnClass rules next
   pub leads : (opened : Bool) (cuts : Cuts)
       → unread_turns cuts (going_text rules opened (text_from first start)) ≡ passed_turns cuts rules opened is_break next rest

@@ -1,20 +1,13 @@
--- An item that is read ahead of a text.
-use Rattle.std.specs.Prelude.{◌≡◌, ◌<◌, Option, Some, None, [], ◌∷◌}
+-- An item that is read ahead of a text, with its class for the engine 17.
+use Rattle.std.specs.Prelude.{Option}
 use Rattle.seg_text.specs.Items.{Text}
+use Rattle.seg_line_rules.specs.declared.plain_pairs.ClassedItem.{ClassedItem}
+use Rattle.seg_line_rules.specs.ItemAhead.{HasClassBy, IsAheadBy}
 use Rattle.seg_line_rules.specs.LineRules.{LineRules}
-use Rattle.seg_line_turns.specs.declared.turn_units.Right.{Right}
 use Rattle.seg_line_turns.specs.TurnReadings.{turn_class}
 
--- the text that begins with this item, and goes on with those
-abbrev pub text_from : Right → Text → Text
-text_from next rest = record { items = (next.place, next.code_point) ∷ rest.items; end = rest.end }
+abbrev pub HasTurnClass : LineRules → ClassedItem → Type 0
+HasTurnClass rules item = HasClassBy rules.table (turn_class rules) item
 
--- an item has its class by the rules
-pub record HasClass (rules : LineRules) (item : Right) : Type 0 where
-  pub below : item.class < rules.table.property_count
-  pub is : item.class ≡ turn_class rules item.code_point
-
--- the first item of a text, where there is one, and those after it
-abbrev pub IsAhead : LineRules → Text → Option Right → Text → Type 0
-IsAhead rules here None rest = here.items ≡ []
-IsAhead rules here (Some next) rest = (here ≡ text_from next rest) × HasClass rules next
+abbrev pub IsTurnAhead : LineRules → Text → Option ClassedItem → Text → Type 0
+IsTurnAhead rules here next rest = IsAheadBy rules.table (turn_class rules) here next rest

@@ -43,9 +43,9 @@ pub record GoesOnTurns (before after : UnreadTurns) : Type 0 where
   pub fewer : before.text.items ≢ [] → length after.text.items < length before.text.items
 
 -- plain turns lead to a boundary, or to none
-abbrev pub LeadsToBreak : UnreadTurns → Option ℕ → UnreadTurns → Type 0
-LeadsToBreak before (Some place) after = (cuts : Cuts) → unread_turns cuts before ≡ boundary place 0 ∷ unread_turns cuts after
-LeadsToBreak before None after =
+abbrev pub LeadsToTurnBreak : UnreadTurns → Option ℕ → UnreadTurns → Type 0
+LeadsToTurnBreak before (Some place) after = (cuts : Cuts) → unread_turns cuts before ≡ boundary place 0 ∷ unread_turns cuts after
+LeadsToTurnBreak before None after =
     ((cuts : Cuts) → unread_turns cuts before ≡ unread_turns cuts after) × (length after.text.items ≤ length before.text.items)
 
 -- a text that nothing was read of

@@ -2,17 +2,18 @@
 //! other way.
 ghost use Rattle.std.specs.Prelude.{◌≡◌, ◌-◌, false, []};
 ghost use Rattle.seg_text.specs.Items.{prefix_length, rest_after, start_of, text_before};
-ghost use Rattle.seg_line_turns.specs.TurnAhead.{HasClass, IsAhead};
+ghost use Rattle.seg_line_turns.specs.TurnAhead.{HasTurnClass, IsTurnAhead};
 ghost use Rattle.seg_line_turns.specs.TurnBoundaries.{is_complex_point};
-ghost use Rattle.seg_line_turns.specs.TurnEvents.{GoesOnTurns, LeadsToBreak, LeadsToTurns, whole_text};
+ghost use Rattle.seg_line_turns.specs.TurnEvents.{GoesOnTurns, LeadsToTurnBreak, LeadsToTurns, whole_text};
 ghost use Rattle.seg_line_turns.specs.TurnPairs.{turn_rules_by};
 
 use crate::classes::is_complex;
-use crate::plain_turns::{asks_more, plain_turns};
+use crate::plain_turns::plain_turns;
 use crate::turn_pairs::TurnPairs;
-use crate::turn_units::{Right, TurnOutcome};
+use crate::turn_units::TurnOutcome;
 use crate::turns::{first_unit, turn};
 use seg_line_rules::events::take_run;
+use seg_line_rules::plain_pairs::{ClassedItem, asks_more};
 use seg_text::cursor::Cursor;
 use seg_text::prefixes::CodePointTest;
 use std::marker::Model;
@@ -54,7 +55,7 @@ pub struct TurnEvents<'data, I: Cursor> {
     // What isn't turned yet: as items, ..
     here: I,
     // .. and as the first of them, which is read already, ..
-    next: Option<Right>,
+    next: Option<ClassedItem>,
     // .. with those after it.
     rest: I,
     // Whether nothing was read.
@@ -64,7 +65,7 @@ pub struct TurnEvents<'data, I: Cursor> {
 }
 
 impl<'data, I: Cursor> Model for TurnEvents<'data, I> {
-    ghost use Rattle.seg_line_turns.specs.TurnAhead.{IsAhead};
+    ghost use Rattle.seg_line_turns.specs.TurnAhead.{IsTurnAhead};
     ghost use Rattle.seg_line_turns.specs.TurnEvents.{UnreadTurns};
     ghost use Rattle.seg_line_turns.specs.TurnPairs.{turn_rules_by};
 
@@ -72,7 +73,7 @@ impl<'data, I: Cursor> Model for TurnEvents<'data, I> {
 
     ghost view = { λ s. record { rules = turn_rules_by s.pairs; starts = s.starts; opened = s.opened; text = I.text s.here } };
 
-    ghost invariant = { λ s. IsAhead (turn_rules_by s.pairs) (I.text s.here) s.next (I.text s.rest) };
+    ghost invariant = { λ s. IsTurnAhead (turn_rules_by s.pairs) (I.text s.here) s.next (I.text s.rest) };
 }
 
 impl<'data, I: Cursor> TurnEvents<'data, I> {
@@ -81,7 +82,7 @@ impl<'data, I: Cursor> TurnEvents<'data, I> {
         ensures { result ≡ whole_text (turn_rules_by pairs.entry) (I.text text) }
     {
         let mut rest = text.fork();
-        let next = next_right(pairs, &mut rest);
+        let next = next_classed(pairs, &mut rest);
         TurnEvents {
             pairs,
             here: text,
@@ -116,7 +117,7 @@ impl<'data, I: Cursor> TurnEvents<'data, I> {
     /// The next boundary, where turns by classes and pairs alone come to it. Where they don't, they are passed: what comes then is an event.
     #[inline(always)]
     pub fn plain_break(&mut self) -> Option<usize>
-        ensures leads { LeadsToBreak self.old result self.new }
+        ensures leads { LeadsToTurnBreak self.old result self.new }
     {
         let Some(next) = self.next else {
             return None;
@@ -154,14 +155,14 @@ impl<'data, I: Cursor> TurnEvents<'data, I> {
                 self.opened = false;
                 self.here.seek(resume);
                 self.rest = self.here.fork();
-                self.next = next_right(self.pairs, &mut self.rest);
+                self.next = next_classed(self.pairs, &mut self.rest);
                 TurnEvent::Break(place)
             }
             TurnOutcome::Go(place, opened) => {
                 self.opened = opened;
                 self.here.seek(place);
                 self.rest = self.here.fork();
-                self.next = next_right(self.pairs, &mut self.rest);
+                self.next = next_classed(self.pairs, &mut self.rest);
                 TurnEvent::Go
             }
             TurnOutcome::Run(place, opened) => {
@@ -169,7 +170,7 @@ impl<'data, I: Cursor> TurnEvents<'data, I> {
                 self.here.seek(place);
                 let (run, end) = complex_run(self.pairs, &mut self.here);
                 self.rest = self.here.fork();
-                self.next = next_right(self.pairs, &mut self.rest);
+                self.next = next_classed(self.pairs, &mut self.rest);
                 TurnEvent::Run(run, end)
             }
         }
@@ -187,13 +188,13 @@ fn complex_run<I: Cursor>(pairs: TurnPairs<'_>, rest: &mut I) -> (I, usize)
 }
 
 /// The next item, with its class.
-fn next_right<I: Cursor>(pairs: TurnPairs<'_>, rest: &mut I) -> Option<Right>
-    ensures { IsAhead (turn_rules_by pairs.entry) (I.text rest.old) result (I.text rest.new) }
+fn next_classed<I: Cursor>(pairs: TurnPairs<'_>, rest: &mut I) -> Option<ClassedItem>
+    ensures { IsTurnAhead (turn_rules_by pairs.entry) (I.text rest.old) result (I.text rest.new) }
 {
     let Some((place, code_point)) = rest.next_item() else {
         return None;
     };
-    Some(Right {
+    Some(ClassedItem {
         class: pairs.class(code_point),
         code_point,
         place,

@@ -18,17 +18,6 @@ pub struct Left {
     pub last_place: usize,
 }
 
-/// The item after the left unit.
-#[derive(Clone, Copy, Debug)]
-pub struct Right {
-    /// Its class.
-    pub class: u8,
-    /// Its code point.
-    pub code_point: u32,
-    /// Its place.
-    pub place: usize,
-}
-
 /// What a turn finds.
 #[derive(Clone, Copy, Debug, PartialEq, Eq)]
 pub enum TurnOutcome {

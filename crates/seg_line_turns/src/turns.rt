@@ -2,7 +2,7 @@
 ghost use Rattle.std.specs.Prelude.{◌≡◌, ◌<◌, ℕ, suc};
 ghost use Rattle.seg_text.specs.Items.{Text, code_points, rest_after};
 ghost use Rattle.seg_pair_data.specs.PairTable.{entry_of};
-ghost use Rattle.seg_line_turns.specs.TurnAhead.{HasClass};
+ghost use Rattle.seg_line_turns.specs.TurnAhead.{HasTurnClass};
 ghost use Rattle.seg_line_turns.specs.TurnPairs.{turn_rules_by};
 ghost use Rattle.seg_line_turns.specs.TurnPlaces.{FindsBetween, FindsFrom, class_at_start, hyphen_outcome, item_place, left_seen, placed};
 ghost use Rattle.seg_line_turns.specs.TurnReadings.{turn_class};
@@ -17,9 +17,10 @@ use crate::classes::{
 };
 use crate::turn_lists::{keeps, listed};
 use crate::turn_pairs::TurnPairs;
-use crate::turn_units::{Left, Right, TurnOutcome, is_joiner, unless};
+use crate::turn_units::{Left, TurnOutcome, is_joiner, unless};
 use crate::turn_walk::{Walker, walk};
 use seg_line_rules::lists::Neighbours;
+use seg_line_rules::plain_pairs::ClassedItem;
 use seg_pair_data::provider::{BreakState, RuleBreakData};
 use seg_pairs::walk::{entry_after, entry_at_start, is_class, state_named};
 use seg_text::cursor::Cursor;
@@ -41,7 +42,7 @@ pub(crate) fn turn<I: Cursor>(
             let end = rest.place();
             return TurnOutcome::Break(end, end);
         };
-        let right = Right {
+        let right = ClassedItem {
             class: pairs.class(code_point),
             code_point,
             place,
@@ -60,8 +61,8 @@ pub(crate) fn turn<I: Cursor>(
 }
 
 /// The left unit that a turn begins with, which is this item, the first of the text or not.
-pub(crate) fn first_unit(pairs: TurnPairs<'_>, starts: bool, item: Right) -> Left
-    requires { HasClass (turn_rules_by pairs) item }
+pub(crate) fn first_unit(pairs: TurnPairs<'_>, starts: bool, item: ClassedItem) -> Left
+    requires { HasTurnClass (turn_rules_by pairs) item }
     ensures unit { left_seen 0 result ≡ first_unit (turn_rules_by pairs.entry) starts item.code_point }
     ensures place { result.last_place ≡ item.place }
     ensures class { result.class < (turn_rules_by pairs.entry).table.property_count }
@@ -111,7 +112,7 @@ fn right_turn<I: Cursor>(
     pairs: TurnPairs<'_>,
     opened: bool,
     left: Left,
-    right: Right,
+    right: ClassedItem,
     rest: I,
 ) -> TurnOutcome
     requires left { left.class < (turn_rules_by pairs).table.property_count }
@@ -141,7 +142,7 @@ fn class_turn<I: Cursor>(
     pairs: TurnPairs<'_>,
     opened: bool,
     left: Left,
-    right: Right,
+    right: ClassedItem,
     rest: I,
 ) -> TurnOutcome
     requires left { left.class < (turn_rules_by pairs).table.property_count }
@@ -208,7 +209,7 @@ fn table_turn<I: Cursor>(
     pairs: TurnPairs<'_>,
     opened: bool,
     left: Left,
-    right: Right,
+    right: ClassedItem,
     rest: I,
 ) -> TurnOutcome
     requires left { left.class < (turn_rules_by pairs).table.property_count }

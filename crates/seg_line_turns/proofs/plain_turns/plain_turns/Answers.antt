@@ -6,7 +6,7 @@ use Rattle.seg_line_turns.proofs.plain_turns.plain_turns.Goals as goal
 pub returns-in-Break : goal.returns-in-Break
 returns-in-Break g c =
     let rules = turn_rules_by c.args.pairs in
-    rw c.turns_passed-in-Break.ensures (passed-break rules c.loop-place.next _ (g.I.Cursor.text c.loop-place.rest) _ c.requires.plain c.loop-place.invariant.passed.class
+    rw c.pairs_passed-in-Break.ensures (passed-break rules c.loop-place.next _ (g.I.Cursor.text c.loop-place.rest) _ c.requires.plain c.loop-place.invariant.passed.class
     (record { below = c.strict_class.ensures.below; is = c.strict_class.ensures.value }) (ap (λ i. (g.I.Cursor.text i).items) (sym c.fork-after.ensures) ∙ c.in-Some.ensures.gives)
     (c.in-Some.ensures.end ∙ ap (λ i. (g.I.Cursor.text i).end) c.fork-after.ensures) c.args.first (g.I.Cursor.text c.args.rest) c.loop-place.invariant.passed
     (rw (← c.table.ensures.value) (sym c.in-Break.is ∙ c.plain_turn.ensures)))

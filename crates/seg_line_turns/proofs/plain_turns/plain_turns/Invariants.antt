@@ -1,11 +1,11 @@
 use Rattle.std.proofs.Common.{false, length}
-use Rattle.seg_line_turns.specs.PlainPairs.{IsPassed}
+use Rattle.seg_line_turns.specs.PlainPairs.{IsPassedByTurns}
 use Rattle.seg_line_turns.specs.TurnPairs.{turn_rules_by}
 use Rattle.seg_line_turns.proofs.plain_turns.plain_turns.Given as goal
 
 abbrev pub invariant-loop-place : goal.invariant-loop-place
 invariant-loop-place g l = record {
-  passed : IsPassed (turn_rules_by l.pairs) l.fn.first (g.I.Cursor.text l.fn.rest) l.next (g.I.Cursor.text l.rest) false;
+  passed : IsPassedByTurns (turn_rules_by l.pairs) l.fn.first (g.I.Cursor.text l.fn.rest) l.next (g.I.Cursor.text l.rest) false;
 }
 
 abbrev pub decreases-loop-place : goal.decreases-loop-place
