@@ -1,9 +1,9 @@
 -- What each engine of lines has still to give.
 use Rattle.seg_text.specs.Boundaries.{Remainder}
-use Rattle.seg_lines.specs.declared.boundaries.BoundariesBy.{BoundariesBy}
-use Rattle.seg_lines.specs.declared.boundaries.BoundariesBy.TheVariants.{Plain, Unmarked, Classic, Turns, Joined}
+use Rattle.seg_lines.specs.declared.boundaries.LineBoundaries.{LineBoundaries}
+use Rattle.seg_lines.specs.declared.boundaries.LineBoundaries.TheVariants.{Plain, Unmarked, Classic, Turns, Joined}
 
-abbrev pub remainder_by : {I : Type 0} → BoundariesBy I → Remainder
+abbrev pub remainder_by : {I : Type 0} → LineBoundaries I → Remainder
 remainder_by (Plain remainder) = remainder
 remainder_by (Unmarked remainder) = remainder
 remainder_by (Classic remainder) = remainder

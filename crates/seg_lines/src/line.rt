@@ -22,7 +22,7 @@ mod neo;
 mod options;
 mod tailorings;
 
-use crate::boundaries::Boundaries;
+use crate::boundaries::{LineBoundaries, boundaries};
 use crate::finder::{Finder, OwnedFinder};
 use crate::memo::memoised;
 use crate::provider::{LineTailorings, LineTailoringsBorrowed};
@@ -45,6 +45,7 @@ use seg_memo::reader::CountedTransitions;
 use seg_pair_data::provider::RuleBreakData;
 use seg_text::cursor::Cursor;
 use seg_text::indices::{Latin1Indices, StrCharIndices, Utf8CharIndices, Utf16Indices};
+use seg_text::reach::HintedBoundaries;
 use seg_text::scaffold::{Latin1, PotentiallyIllFormedUtf8, RuleBreakType, Utf8, Utf16};
 use std::alloc::{AllocError, Global};
 use std::fmt::Debug;
@@ -56,7 +57,7 @@ use std::marker::PhantomData;
 /// First 0, then each place where a line may be broken; the last is the text's length. After None it is None for ever.
 #[derive_where(Debug; Y::IterAttr: Debug)]
 pub struct LineBreakIterator<'data, 's, Y: RuleBreakType<'s>> {
-    boundaries: Boundaries<'data, Y::IterAttr>,
+    boundaries: HintedBoundaries<LineBoundaries<'data, Y::IterAttr>>,
     segmenter: LineSegmenterBorrowed<'data>,
     whole: Y::IterAttr,
     text: PhantomData<&'s ()>,
@@ -465,7 +466,7 @@ fn segment<'data, 's, Y: RuleBreakType<'s>>(
     ensures status { result.boundaries.status ≡ 0 }
 {
     LineBreakIterator {
-        boundaries: Boundaries::new(segmenter.finder, segmenter.payloads, Y::fork(&text)),
+        boundaries: boundaries(segmenter.finder, segmenter.payloads, Y::fork(&text)),
         segmenter,
         whole: text,
         text: PhantomData,

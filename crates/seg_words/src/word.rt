@@ -17,7 +17,7 @@ ghost use Rattle.seg_words.specs.WordRules.{is_word_like, machine_words, table_w
 ghost use Rattle.seg_words.specs.Words.{word_rules};
 ghost use Rattle.seg_words.specs.declared.word.WordType.TheVariants.{None as NoWord};
 
-use crate::boundaries::Boundaries;
+use crate::boundaries::{WordBoundaries, boundaries};
 use crate::data::{check_machine, word_pairs};
 use seg_clusters::engine::{Engine, OwnedEngine};
 use seg_clusters::grapheme::{GraphemeClusterSegmenter, GraphemeClusterSegmenterBorrowed};
@@ -33,6 +33,7 @@ use seg_pair_data::pair_data::{PairData, PairDataBorrowed};
 use seg_pair_data::provider::{RuleBreakData, RuleBreakDataOverride};
 use seg_text::cursor::Cursor;
 use seg_text::indices::{Latin1Indices, StrCharIndices, Utf8CharIndices, Utf16Indices};
+use seg_text::reach::HintedBoundaries;
 use seg_text::scaffold::{Latin1, PotentiallyIllFormedUtf8, RuleBreakType, Utf8, Utf16};
 use std::alloc::{AllocError, Global};
 use std::fmt::Debug;
@@ -93,7 +94,7 @@ fn type_of(status: u8) -> WordType
 /// it is None for ever.
 #[derive_where(Debug; Y::IterAttr: Debug)]
 pub struct WordBreakIterator<'data, 's, Y: RuleBreakType<'s>> {
-    boundaries: Boundaries<'data, Y::IterAttr>,
+    boundaries: HintedBoundaries<WordBoundaries<'data, Y::IterAttr>>,
     segmenter: WordSegmenterBorrowed<'data>,
     whole: Y::IterAttr,
     text: PhantomData<&'s ()>,
@@ -520,7 +521,7 @@ fn segment<'data, 's, Y: RuleBreakType<'s>>(
     ensures status { result.boundaries.status ≡ 0 }
 {
     WordBreakIterator {
-        boundaries: Boundaries::new(segmenter.engine, segmenter.payloads, Y::fork(&text)),
+        boundaries: boundaries(segmenter.engine, segmenter.payloads, Y::fork(&text)),
         segmenter,
         whole: text,
         text: PhantomData,

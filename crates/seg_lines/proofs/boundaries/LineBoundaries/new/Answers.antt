@@ -9,7 +9,7 @@ use Rattle.seg_lines.specs.declared.finder.Finder.{Finder}
 use Rattle.seg_lines.specs.LineBreaks.{boundaries_with}
 use Rattle.seg_lines.specs.Lines.{finder_of}
 use Rattle.seg_lines.proofs.PlainBoundaries.{plain-cover, plain-places}
-use Rattle.seg_lines.proofs.boundaries.BoundariesBy.new.Goals as goal
+use Rattle.seg_lines.proofs.boundaries.LineBoundaries.new.Goals as goal
 
 pub returns-in-Places-clause-boundaries : goal.returns-in-Places-clause-boundaries
 returns-in-Places-clause-boundaries g c =
