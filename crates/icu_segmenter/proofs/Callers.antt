@@ -11,7 +11,7 @@ use Rattle.seg_text.specs.declared.boundary.Boundary.{Boundary}
 use Rattle.seg_text.specs.Boundaries.{boundaries_in}
 use Rattle.seg_text.specs.Items.{Text}
 use Rattle.seg_text.specs.Utf8.{utf8}
-use Rattle.seg_dictionary.specs.ScriptWords.{ScriptWords, AreSameWords}
+use Rattle.seg_data.specs.ScriptWords.{ScriptWords, AreSameWords}
 use Rattle.seg_words.specs.WordRules.{WordRules, with_words, word_boundaries_of}
 use Rattle.seg_words.proofs.ByRules.{equal-words}
 use Rattle.seg_lines.specs.LineBreaks.{LineRules, line_boundaries_of, with_words as lines_with_words}

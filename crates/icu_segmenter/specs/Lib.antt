@@ -62,10 +62,10 @@ pub use Rattle.seg_complex.specs.Scripts
 pub use Rattle.seg_complex.specs.Pieces
 pub use Rattle.seg_complex.specs.RunCuts
 pub use Rattle.seg_complex.specs.Spans
-pub use Rattle.seg_dictionary.specs.WordSets
-pub use Rattle.seg_dictionary.specs.Texts
-pub use Rattle.seg_dictionary.specs.Dictionary
-pub use Rattle.seg_dictionary.specs.ScriptWords
+pub use Rattle.seg_data.specs.WordSets
+pub use Rattle.seg_data.specs.Texts
+pub use Rattle.seg_data.specs.Dictionary
+pub use Rattle.seg_data.specs.ScriptWords
 pub use Rattle.seg_complex.specs.DictionaryCuts
 pub use Rattle.seg_complex.specs.LaterPlaces
 pub use Rattle.seg_complex.specs.Payloads

@@ -2,7 +2,7 @@
 
 use crate::failure::Failure;
 use icu_segmenter::provider::{DataError, DictionaryBreakData};
-use seg_dictionary::words::WordCursor;
+use seg_data::words::WordCursor;
 use std::alloc::Global;
 use std::io::{self, Write};
 

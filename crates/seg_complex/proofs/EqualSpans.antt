@@ -8,8 +8,8 @@ use Rattle.seg_text.specs.Boundaries.{offsets}
 use Rattle.seg_text.specs.Cuts.{with_status}
 use Rattle.seg_text.specs.Stretches.{Stretch, later_boundaries}
 use Rattle.seg_data.specs.declared.provider.ComplexScript.{ComplexScript}
-use Rattle.seg_dictionary.specs.ScriptWords.{ScriptWords, AreSameWords, IsSameChoice, words_in}
-use Rattle.seg_dictionary.specs.WordSets.{Words}
+use Rattle.seg_data.specs.ScriptWords.{ScriptWords, AreSameWords, IsSameChoice, words_in}
+use Rattle.seg_data.specs.WordSets.{Words}
 use Rattle.seg_clusters.specs.Rules.{boundaries_by}
 use Rattle.seg_machine.specs.Machine.{Machine, symbol_and_script}
 use Rattle.seg_complex.specs.DictionaryCuts.{Clusters}

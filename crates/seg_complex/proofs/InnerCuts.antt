@@ -9,10 +9,10 @@ use Rattle.seg_text.specs.Cuts.{AreCutsOf, cut_places, with_status}
 use Rattle.seg_text.specs.Stretches.{later_boundaries}
 use Rattle.seg_text.proofs.Stretches.{text-later-nil}
 use Rattle.seg_data.specs.declared.provider.ComplexScript.{ComplexScript}
-use Rattle.seg_dictionary.specs.declared.provider.cursor.DictionaryCursor.{DictionaryCursor}
-use Rattle.seg_dictionary.specs.Dictionary.{words_after}
-use Rattle.seg_dictionary.specs.ScriptWords.{words_in}
-use Rattle.seg_dictionary.specs.WordSets.{Words}
+use Rattle.seg_data.specs.declared.provider.dictionary.cursor.DictionaryCursor.{DictionaryCursor}
+use Rattle.seg_data.specs.Dictionary.{words_after}
+use Rattle.seg_data.specs.ScriptWords.{words_in}
+use Rattle.seg_data.specs.WordSets.{Words}
 use Rattle.seg_clusters.specs.Rules.{boundaries_by}
 use Rattle.seg_machine.specs.Machine.{Machine}
 use Rattle.seg_complex.specs.DictionaryCuts.{Clusters, by_words, dictionary_cuts}

@@ -4,7 +4,7 @@ use Rattle.std.specs.Prelude.{◌&&◌, ◌||◌, if◌then◌else◌, Option, N
 use Rattle.std.proofs.lemmas.Bool.{cases_lt, eq-eqb, eqb-true, le-leb, lt-leb, and_parts, or_cases, or_left, or_right, false≢true}
 use Rattle.seg_text.specs.Boundaries.{RisesTo}
 use Rattle.seg_text.specs.Cuts.{with_status}
-use Rattle.seg_dictionary.specs.WordSets.{Words}
+use Rattle.seg_data.specs.WordSets.{Words}
 use Rattle.seg_complex.specs.DictionaryCuts.{IsGreatest, IsLeast, HoldsOfNone, IsWordEnd, IsDeadEnd, IsNextCut, is_word, goes_on, is_end, end_from, longest_word, read_from, read_all, first_cut}
 use Rattle.seg_complex.proofs.Tails.{contains-cases, contains-here, contains-later, contains-nil, word-to, word-from, prefix-to, prefix-from}
 

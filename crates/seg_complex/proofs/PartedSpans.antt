@@ -11,7 +11,7 @@ use Rattle.seg_text.proofs.Places.{shifted-append, shifted-none, shifted-twice}
 use Rattle.seg_text.proofs.Stretches.{later-nil, later-next}
 use Rattle.seg_data.specs.declared.provider.ComplexScript.{ComplexScript}
 use Rattle.seg_data.specs.declared.provider.ComplexScript.TheVariants.{None as NoScript}
-use Rattle.seg_dictionary.specs.ScriptWords.{ScriptWords, words_in}
+use Rattle.seg_data.specs.ScriptWords.{ScriptWords, words_in}
 use Rattle.seg_clusters.specs.Rules.{boundaries_by}
 use Rattle.seg_machine.specs.Machine.{Machine}
 use Rattle.seg_complex.specs.InnerCuts.{inner_cuts, inner_stretch}

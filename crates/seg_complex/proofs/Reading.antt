@@ -9,7 +9,7 @@ use Rattle.seg_text.specs.declared.boundary.Boundary.{Boundary}
 use Rattle.seg_text.specs.Items.{Item, Text, place_of, start_of, code_points, IsRising}
 use Rattle.seg_text.specs.Boundaries.{IsCover, boundaries_in, offsets}
 use Rattle.seg_text.proofs.Places.{IsRising-drop, place_of-drop-lt}
-use Rattle.seg_dictionary.specs.WordSets.{Words, tails_after, tails, has_empty, has_nonempty}
+use Rattle.seg_data.specs.WordSets.{Words, tails_after, tails, has_empty, has_nonempty}
 use Rattle.seg_complex.specs.DictionaryCuts.{Clusters, is_word, goes_on, is_end, end_from, longest_word, read_from, read_all, first_cut}
 use Rattle.seg_complex.proofs.Cutting.{places-offsets}
 use Rattle.seg_complex.proofs.Tails.{tails-one}

@@ -9,9 +9,9 @@ use Rattle.seg_text.specs.Boundaries.{boundary_in, boundaries_in}
 use Rattle.seg_text.specs.Stretches.{Stretch, HasProgress, later_boundaries}
 use Rattle.seg_text.proofs.Places.{place-before}
 use Rattle.seg_text.proofs.Stretches.{text-later-next}
-use Rattle.seg_dictionary.specs.declared.provider.cursor.DictionaryCursor.{DictionaryCursor}
-use Rattle.seg_dictionary.specs.ScriptWords.{ScriptWords}
-use Rattle.seg_dictionary.specs.WordSets.{Words}
+use Rattle.seg_data.specs.declared.provider.dictionary.cursor.DictionaryCursor.{DictionaryCursor}
+use Rattle.seg_data.specs.ScriptWords.{ScriptWords}
+use Rattle.seg_data.specs.WordSets.{Words}
 use Rattle.seg_machine.specs.Machine.{Machine}
 use Rattle.seg_complex.specs.Spans.{GivesSpan, has_worded_script, span_length, span_words, worded_script}
 

@@ -2,7 +2,7 @@
 use Rattle.std.proofs.Common.{◌≡◌, ℕ, zero, suc, ◌⊎◌, inl, inr, Bool, true, false, ◌==◌, List, [], ◌∷◌, ◌++◌, Contains, refl, sym, ◌∙◌, subst, arith, append-nil}
 use Rattle.std.specs.Prelude.{if◌then◌else◌}
 use Rattle.std.proofs.lemmas.Bool.{eq-eqb, eqb-true, false≢true}
-use Rattle.seg_dictionary.specs.WordSets.{Words, tails_after, tails, has_empty, has_nonempty}
+use Rattle.seg_data.specs.WordSets.{Words, tails_after, tails, has_empty, has_nonempty}
 use Rattle.seg_complex.specs.DictionaryCuts.{IsProperPrefix, is_word, goes_on}
 
 -- members

@@ -8,8 +8,8 @@ use Rattle.seg_text.specs.Stretches.{later_boundaries}
 use Rattle.seg_text.proofs.Stretches.{later-nil, later-next}
 use Rattle.seg_data.specs.declared.provider.ComplexScript.{ComplexScript}
 use Rattle.seg_data.specs.declared.provider.ComplexScript.TheVariants.{None as NoScript, Myanmar, ChineseOrJapanese, Khmer, Lao, Thai}
-use Rattle.seg_dictionary.specs.ScriptWords.{ScriptWords, no_words, words_in}
-use Rattle.seg_dictionary.specs.WordSets.{Words}
+use Rattle.seg_data.specs.ScriptWords.{ScriptWords, no_words, words_in}
+use Rattle.seg_data.specs.WordSets.{Words}
 use Rattle.seg_clusters.specs.Rules.{Rules}
 use Rattle.seg_machine.specs.Machine.{Machine, symbol_and_script}
 use Rattle.seg_complex.specs.InnerCuts.{inner_cuts, inner_stretch}

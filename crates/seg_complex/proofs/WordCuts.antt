@@ -11,7 +11,7 @@ use Rattle.seg_text.specs.Stretches.{later_boundaries, HasProgress, IsWithin}
 use Rattle.seg_text.proofs.Covers.{covers-list}
 use Rattle.seg_text.proofs.Stretches.{later-nil, later-next, text-later-next, text-later-nil}
 use Rattle.seg_data.specs.declared.provider.ComplexScript.{ComplexScript}
-use Rattle.seg_dictionary.specs.WordSets.{Words}
+use Rattle.seg_data.specs.WordSets.{Words}
 use Rattle.seg_complex.specs.RunCuts.{CoverPieces}
 use Rattle.seg_complex.specs.DictionaryCuts.{Clusters, IsNextCut, AreCutsAfter, AreDictionaryCuts, first_cut, next_cut, cut_stretch, dictionary_cuts, by_words, by_dictionaries}
 use Rattle.seg_complex.proofs.Cutting.{offsets-rise, places-offsets, at_end-covers}

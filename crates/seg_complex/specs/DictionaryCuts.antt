@@ -4,7 +4,7 @@ use Rattle.seg_text.specs.declared.boundary.Boundary.{Boundary}
 use Rattle.seg_text.specs.Boundaries.{boundary, offsets}
 use Rattle.seg_text.specs.Cuts.{Cuts}
 use Rattle.seg_text.specs.Stretches.{Stretch, later_boundaries}
-use Rattle.seg_dictionary.specs.WordSets.{Words, tails, has_empty, has_nonempty}
+use Rattle.seg_data.specs.WordSets.{Words, tails, has_empty, has_nonempty}
 use Rattle.seg_data.specs.declared.provider.ComplexScript.{ComplexScript}
 use Rattle.seg_complex.specs.RunCuts.{PieceCuts, at_end}
 

@@ -3,7 +3,7 @@ use Rattle.std.specs.Prelude.{ℕ, Option, None, Some, List, [], ◌∷◌, take
 use Rattle.seg_text.specs.Boundaries.{offsets}
 use Rattle.seg_text.specs.Cuts.{Cuts, with_status}
 use Rattle.seg_text.specs.Stretches.{Stretch, later_boundaries}
-use Rattle.seg_dictionary.specs.WordSets.{Words}
+use Rattle.seg_data.specs.WordSets.{Words}
 use Rattle.seg_clusters.specs.Rules.{boundaries_by}
 use Rattle.seg_machine.specs.Machine.{Machine}
 use Rattle.seg_complex.specs.DictionaryCuts.{Clusters, dictionary_cuts}

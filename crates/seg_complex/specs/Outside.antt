@@ -2,7 +2,7 @@
 use Rattle.std.specs.Prelude.{◌≡◌, ℕ, List, [], ◌∷◌, ◌++◌, length}
 use Rattle.seg_text.specs.Cuts.{Cuts}
 use Rattle.seg_data.specs.declared.provider.ComplexScript.TheVariants.{None}
-use Rattle.seg_dictionary.specs.ScriptWords.{ScriptWords}
+use Rattle.seg_data.specs.ScriptWords.{ScriptWords}
 use Rattle.seg_machine.specs.Machine.{Machine}
 use Rattle.seg_complex.specs.LaterPlaces.{later_places}
 use Rattle.seg_complex.specs.Spans.{worded_script}

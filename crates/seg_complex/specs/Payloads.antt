@@ -2,9 +2,9 @@
 use Rattle.std.specs.Prelude.{ℕ, List}
 use Rattle.std.specs.Option.{option_to_list}
 use Rattle.seg_text.specs.Cuts.{Cuts}
-use Rattle.seg_dictionary.specs.WordSets.{Words}
-use Rattle.seg_dictionary.specs.Dictionary.{words_of}
-use Rattle.seg_dictionary.specs.ScriptWords.{ScriptWords, lent_words, words_in}
+use Rattle.seg_data.specs.WordSets.{Words}
+use Rattle.seg_data.specs.Dictionary.{words_of}
+use Rattle.seg_data.specs.ScriptWords.{ScriptWords, lent_words, words_in}
 use Rattle.seg_clusters.specs.Rules.{Rules, boundaries_by}
 use Rattle.seg_clusters.specs.Clusters.{cluster_rules}
 use Rattle.seg_complex.specs.declared.complex.ComplexIterator.{ComplexIterator}

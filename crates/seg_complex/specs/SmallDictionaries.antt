@@ -3,7 +3,7 @@ use Rattle.std.specs.Prelude.{ℕ, ◌+◌, ◌||◌, ◌==◌, Bool, List, [], 
 use Rattle.std.specs.List.{prefix_len}
 use Rattle.seg_text.specs.Boundaries.{boundary}
 use Rattle.seg_text.specs.Stretches.{Stretch, list_boundaries}
-use Rattle.seg_dictionary.specs.WordSets.{Words}
+use Rattle.seg_data.specs.WordSets.{Words}
 use Rattle.seg_complex.specs.DictionaryCuts.{Clusters}
 
 -- U+0301 and U+0E34 belong to the cluster before them

@@ -5,10 +5,10 @@ use Rattle.std.specs.Option.{option_map}
 use Rattle.seg_text.specs.Items.{Text, rest_after, text_before, code_points}
 use Rattle.seg_data.specs.declared.provider.ComplexScript.{ComplexScript}
 use Rattle.seg_data.specs.declared.provider.ComplexScript.TheVariants.{None}
-use Rattle.seg_dictionary.specs.Dictionary.{words_after}
-use Rattle.seg_dictionary.specs.ScriptWords.{ScriptWords, words_in}
-use Rattle.seg_dictionary.specs.WordSets.{Words}
-use Rattle.seg_dictionary.specs.declared.provider.cursor.DictionaryCursor.{DictionaryCursor}
+use Rattle.seg_data.specs.Dictionary.{words_after}
+use Rattle.seg_data.specs.ScriptWords.{ScriptWords, words_in}
+use Rattle.seg_data.specs.WordSets.{Words}
+use Rattle.seg_data.specs.declared.provider.dictionary.cursor.DictionaryCursor.{DictionaryCursor}
 use Rattle.seg_machine.specs.Machine.{Machine, symbol_and_script}
 use Rattle.seg_complex.specs.Scripts.{script_number}
 

@@ -12,7 +12,7 @@ ghost use Rattle.seg_complex.specs.DictionaryCuts.{next_cut, dictionary_cuts};
 use seg_clusters::engine::Boundaries;
 use seg_clusters::grapheme::GraphemeClusterSegmenterBorrowed;
 use seg_clusters::laws::grapheme;
-use seg_dictionary::words::WordCursor;
+use seg_data::words::WordCursor;
 use seg_text::cursor::Cursor;
 use std::marker::Model;
 

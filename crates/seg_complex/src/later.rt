@@ -10,7 +10,7 @@ ghost use Rattle.seg_complex.specs.LaterPlaces.{later_places};
 
 use crate::dictionaries::DictionaryCuts;
 use seg_clusters::grapheme::GraphemeClusterSegmenterBorrowed;
-use seg_dictionary::provider::{DictionaryBreakData, DictionaryCursor};
+use seg_data::provider::{DictionaryBreakData, DictionaryCursor};
 use seg_text::cursor::Cursor;
 use std::marker::Model;
 
@@ -33,7 +33,7 @@ impl<'data, I: Cursor> Model for LaterCuts<'data, I> {
 }
 
 impl<'data, I: Cursor> LaterCuts<'data, I> {
-    ghost use Rattle.seg_dictionary.specs.Dictionary.{words_of};
+    ghost use Rattle.seg_data.specs.Dictionary.{words_of};
 
     /// The cuts of what is left of a piece by a dictionary.
     pub(crate) fn new(

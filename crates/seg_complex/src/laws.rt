@@ -4,8 +4,8 @@ ghost use Rattle.std.specs.Prelude.{◌≡◌, ℕ, Option, List, [], ◌∷◌,
 ghost use Rattle.seg_text.specs.Boundaries.{RisesTo};
 ghost use Rattle.seg_text.specs.Cuts.{with_status};
 ghost use Rattle.seg_data.specs.declared.provider.ComplexScript.{ComplexScript};
-ghost use Rattle.seg_dictionary.specs.ScriptWords.{ScriptWords, AreSameWords};
-ghost use Rattle.seg_dictionary.specs.WordSets.{IsSameSet, Words};
+ghost use Rattle.seg_data.specs.ScriptWords.{ScriptWords, AreSameWords};
+ghost use Rattle.seg_data.specs.WordSets.{IsSameSet, Words};
 ghost use Rattle.seg_clusters.specs.Rules.{boundaries_by};
 ghost use Rattle.seg_machine.specs.Machine.{Machine};
 ghost use Rattle.seg_clusters.specs.Clusters.{cluster_rules};

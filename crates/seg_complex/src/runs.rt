@@ -9,7 +9,7 @@ use crate::complex::ComplexPayloadsBorrowed;
 use crate::dictionaries::DictionaryCuts;
 use crate::script_iter::ScriptIterator;
 use seg_data::provider::ComplexScript;
-use seg_dictionary::provider::DictionaryCursor;
+use seg_data::provider::DictionaryCursor;
 use seg_text::cursor::Cursor;
 use std::marker::Model;
 

@@ -1,14 +1,14 @@
 //! Spans of a text by a machine: the runs of one script that has words, and the pieces between them.
 
 ghost use Rattle.std.specs.Prelude.{◌≡◌, ◌↔◌, IsTrue};
-ghost use Rattle.seg_dictionary.specs.ScriptWords.{lent_words};
+ghost use Rattle.seg_data.specs.ScriptWords.{lent_words};
 ghost use Rattle.seg_machine.specs.Tailored.{machine_of};
 ghost use Rattle.seg_complex.specs.Outside.{IsOutsideRuns};
 ghost use Rattle.seg_complex.specs.Spans.{GivesSpan, worded_script};
 
 use seg_data::provider::ComplexScript;
-use seg_dictionary::dictionaries::DictionariesBorrowed;
-use seg_dictionary::provider::DictionaryCursor;
+use seg_data::dictionaries::DictionariesBorrowed;
+use seg_data::provider::DictionaryCursor;
 use seg_machine::tailored_machine::TailoredMachineBorrowed;
 use seg_text::cursor::Cursor;
 use seg_text::prefixes::{CodePointTest, take_prefix};
@@ -22,7 +22,7 @@ struct SpanTest<'data> {
 }
 
 impl<'data> CodePointTest for SpanTest<'data> {
-    ghost use Rattle.seg_dictionary.specs.ScriptWords.{lent_words};
+    ghost use Rattle.seg_data.specs.ScriptWords.{lent_words};
     ghost use Rattle.seg_machine.specs.Tailored.{machine_of};
     ghost use Rattle.seg_complex.specs.Spans.{has_worded_script};
 

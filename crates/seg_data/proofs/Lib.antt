@@ -5,3 +5,9 @@ pub mod Runs
 pub mod Paged
 pub mod Lowest
 pub mod Ordered
+pub mod Along
+pub mod Tries
+pub mod Groups
+pub mod Drafts
+pub mod Sorted
+pub mod Filling

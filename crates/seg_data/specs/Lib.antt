@@ -3,3 +3,10 @@ pub mod Table
 pub mod Pages
 pub mod Faults
 pub mod Lemmas
+pub mod WordSets
+pub mod ScriptWords
+pub mod Trie
+pub mod Dictionary
+pub mod Sorting
+pub mod Texts
+pub mod Building

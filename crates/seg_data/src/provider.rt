@@ -3,9 +3,11 @@ ghost use Rattle.std.specs.Prelude.{◌≡◌};
 ghost use Rattle.seg_data.specs.Faults.{number_of};
 ghost use Rattle.seg_data.specs.declared.provider.DataError.TheVariants.{Memory};
 
+mod dictionary;
 mod language;
 mod table;
 
+pub use dictionary::{DictionaryBreakData, DictionaryCursor};
 pub use language::LanguageIdentifier;
 use std::alloc::AllocError;
 pub use table::{ClassTable, page_byte_count, value_by_halving};

@@ -12,7 +12,7 @@ use Rattle.seg_machine.specs.Segments.{machine_boundaries, machine_stretch}
 use Rattle.seg_machine.proofs.Segmentations.{machine-alone, machine-going}
 use Rattle.seg_clusters.specs.Rules.{boundaries_by, first_stretch}
 use Rattle.seg_clusters.proofs.ByRules.{going, restarts-by}
-use Rattle.seg_dictionary.specs.ScriptWords.{ScriptWords, AreSameWords, no_words}
+use Rattle.seg_data.specs.ScriptWords.{ScriptWords, AreSameWords, no_words}
 use Rattle.seg_complex.specs.InnerCuts.{inner_cuts, inner_stretch}
 use Rattle.seg_complex.specs.Payloads.{Payloads, piece_cuts_by, run_cuts_by}
 use Rattle.seg_complex.specs.RunCuts.{CoverPieces}

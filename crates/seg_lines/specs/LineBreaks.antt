@@ -16,7 +16,7 @@ use Rattle.seg_line_rules.specs.declared.options.LineBreakStrictness.TheVariants
 use Rattle.seg_line_rules.specs.LineBoundaries.{HasComplexCodePoint, inside, line_boundaries, line_stretch}
 use Rattle.seg_line_rules.specs.LineRules.{LineRules as TableRules}
 use Rattle.seg_line_turns.specs.TurnBoundaries.{AreTurnBoundaries, turn_boundaries}
-use Rattle.seg_dictionary.specs.ScriptWords.{ScriptWords, no_words}
+use Rattle.seg_data.specs.ScriptWords.{ScriptWords, no_words}
 use Rattle.seg_complex.specs.InnerCuts.{inner_cuts, inner_stretch}
 use Rattle.seg_complex.specs.Payloads.{Payloads, run_cuts_by}
 use Rattle.seg_lines.specs.Joined.{IsJoin, joined}

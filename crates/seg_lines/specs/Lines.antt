@@ -7,7 +7,7 @@ use Rattle.seg_machine.specs.MachineFaults.{HasComplexBelow0100, HasTailoringFau
 use Rattle.seg_text.specs.declared.boundary.Boundary.{Boundary}
 use Rattle.seg_text.specs.Boundaries.{offsets}
 use Rattle.seg_clusters.specs.Rules.Rules.{ByMachine as ByClusterMachine}
-use Rattle.seg_dictionary.specs.ScriptWords.{ScriptWords, no_words, script_words}
+use Rattle.seg_data.specs.ScriptWords.{ScriptWords, no_words, script_words}
 use Rattle.seg_clusters.specs.Clusters.{owned_cluster_rules}
 use Rattle.seg_machine.specs.Tailored.{machine_of, owned_machine}
 use Rattle.seg_complex.specs.Payloads.{payloads_of}

@@ -8,7 +8,7 @@ ghost use Rattle.seg_text.specs.Utf8.{utf8};
 ghost use Rattle.seg_text.specs.Utf16.{utf16};
 ghost use Rattle.seg_data.specs.Faults.{IsFaultless, IsLowestFault};
 ghost use Rattle.seg_memo.specs.Memos.{IsMemoRefusal, IsNewMemo};
-ghost use Rattle.seg_dictionary.specs.ScriptWords.{filled, lent_words, no_words, script_words};
+ghost use Rattle.seg_data.specs.ScriptWords.{filled, lent_words, no_words, script_words};
 ghost use Rattle.seg_line_rules.specs.LineFaults.{HasLineTableFault};
 ghost use Rattle.seg_line_rules.specs.LineStyles.{style_of};
 ghost use Rattle.seg_line_turns.specs.TurnFaults.{HasTurnTableFault};
@@ -35,7 +35,7 @@ use seg_clusters::grapheme::{GraphemeClusterSegmenter, GraphemeClusterSegmenterB
 use seg_complex::complex::ComplexPayloadsBorrowed;
 use seg_complex::spans::is_outside_runs;
 use seg_data::provider::DataError;
-use seg_dictionary::dictionaries::{Dictionaries, DictionariesBorrowed};
+use seg_data::dictionaries::{Dictionaries, DictionariesBorrowed};
 use seg_line_rules::line_pairs::{LinePairs, OwnedLinePairs};
 use seg_line_rules::options::LineStyle;
 use seg_line_turns::turn_pairs::{OwnedTurnPairs, TurnPairs};

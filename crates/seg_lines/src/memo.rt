@@ -3,7 +3,7 @@
 ghost use Rattle.std.specs.Prelude.{◌≡◌, ◌≢◌, IfOk, IfErr};
 ghost use Rattle.seg_text.specs.Boundaries.{boundaries_in};
 ghost use Rattle.seg_memo.specs.Memos.{IsMemoRefusal, IsNewMemo};
-ghost use Rattle.seg_dictionary.specs.ScriptWords.{no_words};
+ghost use Rattle.seg_data.specs.ScriptWords.{no_words};
 ghost use Rattle.seg_complex.specs.Payloads.{payloads_of};
 ghost use Rattle.seg_lines.specs.LineBreaks.{boundaries_with, machine_in_finder};
 ghost use Rattle.seg_lines.specs.Lines.{finder_of};

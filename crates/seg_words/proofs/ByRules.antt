@@ -17,7 +17,7 @@ use Rattle.seg_pairs.proofs.Engine.{table-going, table-alone}
 use Rattle.seg_clusters.specs.Rules.{Rules}
 use Rattle.seg_clusters.specs.Rules.Rules.{ByTable, ByMachine}
 use Rattle.seg_text.specs.Cuts.{Cuts}
-use Rattle.seg_dictionary.specs.ScriptWords.{ScriptWords, AreSameWords}
+use Rattle.seg_data.specs.ScriptWords.{ScriptWords, AreSameWords}
 use Rattle.seg_complex.specs.Payloads.{Payloads, run_cuts_by}
 use Rattle.seg_complex.proofs.EqualWords.{same-run-cuts}
 use Rattle.seg_words.specs.WordRules.{HasNoRun, WordRules, first_word_stretch, span_stretch, stretch_by, with_words, word_boundaries_by}

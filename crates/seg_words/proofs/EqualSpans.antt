@@ -2,7 +2,7 @@
 use Rattle.std.proofs.Common.{◌≡◌, ℕ, List, refl, ap}
 use Rattle.std.specs.Prelude.{None, Some}
 use Rattle.seg_text.specs.Cuts.{with_status}
-use Rattle.seg_dictionary.specs.ScriptWords.{ScriptWords, AreSameWords}
+use Rattle.seg_data.specs.ScriptWords.{ScriptWords, AreSameWords}
 use Rattle.seg_clusters.specs.Rules.{boundaries_by}
 use Rattle.seg_machine.specs.Machine.{Machine}
 use Rattle.seg_complex.specs.DictionaryCuts.{Clusters}

@@ -7,7 +7,7 @@ use Rattle.seg_memo.specs.declared.memo.MemoError.{MemoError}
 use Rattle.seg_memo.specs.Memos.{IsNewMemo, Memo}
 use Rattle.seg_clusters.specs.Rules.{Rules, boundaries_of, machine_in}
 use Rattle.seg_clusters.specs.Rules.Rules.{ByTable, ByMachine}
-use Rattle.seg_dictionary.specs.ScriptWords.{no_words}
+use Rattle.seg_data.specs.ScriptWords.{no_words}
 use Rattle.seg_words.specs.WordRules.{WordRules, word_boundaries_of}
 use Rattle.seg_complex.specs.Payloads.{Payloads}
 use Rattle.seg_words.proofs.Spans.{without-words}

@@ -11,10 +11,10 @@ use Rattle.seg_text.specs.Stretches.{Stretch, HasProgress, IsWithin, later_bound
 use Rattle.seg_text.proofs.Covers.{covers, covers-list}
 use Rattle.seg_text.proofs.Stretches.{later-nil, later-next, text-later-nil}
 use Rattle.seg_data.specs.declared.provider.ComplexScript.{ComplexScript}
-use Rattle.seg_dictionary.specs.declared.provider.cursor.DictionaryCursor.{DictionaryCursor}
-use Rattle.seg_dictionary.specs.Dictionary.{words_after}
-use Rattle.seg_dictionary.specs.ScriptWords.{ScriptWords, no_words, words_in}
-use Rattle.seg_dictionary.specs.WordSets.{Words}
+use Rattle.seg_data.specs.declared.provider.dictionary.cursor.DictionaryCursor.{DictionaryCursor}
+use Rattle.seg_data.specs.Dictionary.{words_after}
+use Rattle.seg_data.specs.ScriptWords.{ScriptWords, no_words, words_in}
+use Rattle.seg_data.specs.WordSets.{Words}
 use Rattle.seg_clusters.specs.Rules.{Rules, boundaries_by}
 use Rattle.seg_machine.specs.Checked.{IsChecked}
 use Rattle.seg_machine.specs.Machine.{Machine}

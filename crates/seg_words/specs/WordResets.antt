@@ -1,6 +1,6 @@
 -- Code points behind which the boundaries of words start afresh.
 use Rattle.std.specs.Prelude.{ℕ}
-use Rattle.seg_dictionary.specs.ScriptWords.{ScriptWords}
+use Rattle.seg_data.specs.ScriptWords.{ScriptWords}
 use Rattle.seg_clusters.specs.Resets.{ResetsAfter}
 use Rattle.seg_clusters.specs.Rules.{Rules}
 use Rattle.seg_clusters.specs.Rules.Rules.{ByTable, ByMachine}

@@ -12,8 +12,8 @@ use Rattle.seg_pair_data.specs.PairTable.{PairTable}
 use Rattle.seg_pairs.specs.Runs.{HasComplexElement, complex_stretch}
 use Rattle.seg_clusters.specs.Rules.{Rules, boundaries_by}
 use Rattle.seg_clusters.specs.Rules.Rules.{ByTable, ByMachine}
-use Rattle.seg_dictionary.specs.ScriptWords.{ScriptWords, no_words}
-use Rattle.seg_dictionary.specs.WordSets.{Words}
+use Rattle.seg_data.specs.ScriptWords.{ScriptWords, no_words}
+use Rattle.seg_data.specs.WordSets.{Words}
 use Rattle.seg_complex.specs.DictionaryCuts.{Clusters, dictionary_cuts}
 use Rattle.seg_complex.specs.Payloads.{Payloads, run_cuts_by}
 use Rattle.seg_complex.specs.Spans.{span_length, span_words}

@@ -3,7 +3,7 @@ use Rattle.std.specs.Prelude.{ℕ, List, map}
 use Rattle.seg_text.specs.declared.boundary.Boundary.{Boundary}
 use Rattle.seg_text.specs.Boundaries.{offsets}
 use Rattle.seg_clusters.specs.Engine.{rules_of, owned_rules}
-use Rattle.seg_dictionary.specs.ScriptWords.{script_words}
+use Rattle.seg_data.specs.ScriptWords.{script_words}
 use Rattle.seg_clusters.specs.Clusters.{owned_cluster_rules}
 use Rattle.seg_complex.specs.Payloads.{payloads_of}
 use Rattle.seg_words.specs.declared.word.WordType.{WordType}

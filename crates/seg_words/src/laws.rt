@@ -4,7 +4,7 @@
 ghost use Rattle.std.specs.Prelude.{◌≡◌, ℕ, List};
 ghost use Rattle.seg_text.specs.Boundaries.{HasEqualOrdinals, RestartsIn};
 ghost use Rattle.seg_text.specs.Stretches.{HasOneAnswer};
-ghost use Rattle.seg_dictionary.specs.ScriptWords.{ScriptWords, AreSameWords};
+ghost use Rattle.seg_data.specs.ScriptWords.{ScriptWords, AreSameWords};
 ghost use Rattle.seg_clusters.specs.Parted.{PartsTexts};
 ghost use Rattle.seg_words.specs.WordResets.{WordsResetAfter};
 ghost use Rattle.seg_words.specs.WordRules.{HasNoRun, WordRules, first_word_stretch, with_words, word_boundaries_by};

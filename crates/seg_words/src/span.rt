@@ -6,7 +6,7 @@ ghost use Rattle.std.specs.Option.{option_map};
 ghost use Rattle.seg_text.specs.Items.{code_points};
 ghost use Rattle.seg_text.specs.Boundaries.{boundary_in};
 ghost use Rattle.seg_clusters.specs.Clusters.{cluster_rules};
-ghost use Rattle.seg_dictionary.specs.Dictionary.{words_after};
+ghost use Rattle.seg_data.specs.Dictionary.{words_after};
 ghost use Rattle.seg_clusters.specs.Rules.{boundaries_by};
 ghost use Rattle.seg_machine.specs.Tailored.{machine_of};
 ghost use Rattle.seg_words.specs.SpansLeft.{span_left};
@@ -14,7 +14,7 @@ ghost use Rattle.seg_words.specs.WordRules.{span_boundaries};
 
 use seg_clusters::grapheme::GraphemeClusterSegmenterBorrowed;
 use seg_complex::dictionaries::DictionaryCuts;
-use seg_dictionary::provider::DictionaryCursor;
+use seg_data::provider::DictionaryCursor;
 use seg_machine::rule_segmenter_v2::RuleBreakIterator;
 use seg_machine::tailored_machine::TailoredMachineBorrowed;
 use seg_text::boundary::Boundary;

@@ -11,7 +11,7 @@ ghost use Rattle.seg_data.specs.Faults.{IsFaultless, IsLowestFault};
 ghost use Rattle.seg_pair_data.specs.Overriding.{table_in};
 ghost use Rattle.seg_clusters.specs.Rules.{machine_in};
 ghost use Rattle.seg_memo.specs.Memos.{IsMemoRefusal, IsNewMemo};
-ghost use Rattle.seg_dictionary.specs.ScriptWords.{filled, lent_words, no_words, script_words};
+ghost use Rattle.seg_data.specs.ScriptWords.{filled, lent_words, no_words, script_words};
 ghost use Rattle.seg_words.specs.WordResets.{WordsResetAfter};
 ghost use Rattle.seg_words.specs.WordRules.{is_word_like, machine_words, table_words, type_of, with_words, word_boundaries_of};
 ghost use Rattle.seg_words.specs.Words.{word_rules};
@@ -24,7 +24,7 @@ use seg_clusters::grapheme::{GraphemeClusterSegmenter, GraphemeClusterSegmenterB
 use seg_complex::complex::ComplexPayloadsBorrowed;
 use seg_complex::spans::is_outside_runs;
 use seg_data::provider::{DataError, LanguageIdentifier};
-use seg_dictionary::dictionaries::{Dictionaries, DictionariesBorrowed};
+use seg_data::dictionaries::{Dictionaries, DictionariesBorrowed};
 use seg_machine::provider::SegmenterStateMachine;
 use seg_machine::tailored_machine::{TailoredMachine, TailoredMachineBorrowed};
 use seg_memo::memo::{MemoBreakIterator, MemoError};

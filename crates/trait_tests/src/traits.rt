@@ -7,7 +7,7 @@ use bench::clusters::cluster_machine;
 use icu_segmenter::GraphemeClusterSegmenter;
 use seg_complex::dictionaries::DictionaryCuts;
 use seg_data::provider::ClassTable;
-use seg_dictionary::words::WordCursor;
+use seg_data::words::WordCursor;
 use seg_machine::provider::{Acceptance, Lookahead, SegmenterStateMachine, State, Symbol};
 use seg_machine::tailored_machine::{TailoredMachine, TailoredMachineBorrowed};
 use seg_memo::configuration::Cell;

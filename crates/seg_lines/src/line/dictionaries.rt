@@ -1,9 +1,9 @@
 //! The dictionaries that lines take.
 ghost use Rattle.std.specs.Prelude.{◌≡◌};
-ghost use Rattle.seg_dictionary.specs.ScriptWords.{lent_words, script_words};
+ghost use Rattle.seg_data.specs.ScriptWords.{lent_words, script_words};
 ghost use Rattle.seg_lines.specs.Lines.{without_ja};
 
-use seg_dictionary::dictionaries::{Dictionaries, DictionariesBorrowed};
+use seg_data::dictionaries::{Dictionaries, DictionariesBorrowed};
 
 // All but that of Chinese and Japanese, between any two of whose characters a line may be broken.
 pub(super) fn without_ja(dictionaries: Dictionaries) -> Dictionaries

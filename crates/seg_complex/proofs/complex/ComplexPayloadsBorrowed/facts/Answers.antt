@@ -1,4 +1,4 @@
-use Rattle.seg_dictionary.specs.ScriptWords.{lent_words, words_in}
+use Rattle.seg_data.specs.ScriptWords.{lent_words, words_in}
 use Rattle.seg_complex.proofs.complex.ComplexPayloadsBorrowed.facts.Goals as goal
 
 pub returns-clause-pieces : goal.returns-clause-pieces

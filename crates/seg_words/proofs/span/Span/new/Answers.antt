@@ -3,8 +3,8 @@ use Rattle.seg_text.specs.Items.{code_points}
 use Rattle.seg_text.specs.Boundaries.{boundary_in}
 use Rattle.seg_text.specs.Cuts.{with_status}
 use Rattle.seg_clusters.specs.Clusters.{cluster_rules}
-use Rattle.seg_dictionary.specs.Dictionary.{words_after}
-use Rattle.seg_dictionary.specs.WordSets.{Words}
+use Rattle.seg_data.specs.Dictionary.{words_after}
+use Rattle.seg_data.specs.WordSets.{Words}
 use Rattle.std.specs.Option.{option_map}
 use Rattle.seg_clusters.specs.Rules.{boundaries_by}
 use Rattle.seg_machine.specs.Tailored.{machine_of}

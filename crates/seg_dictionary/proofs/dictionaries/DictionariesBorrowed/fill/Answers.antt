@@ -1,6 +1,0 @@
-use Rattle.seg_dictionary.proofs.Filling.{lent-filled}
-use Rattle.seg_dictionary.proofs.dictionaries.DictionariesBorrowed.fill.Goals as goal
-
-pub returns : goal.returns
-returns c =
-    rw (c.or-self.ensures, c.or-self-2.ensures, c.or-self-3.ensures, c.or-self-4.ensures, c.or-self-5.ensures) (lent-filled c.args.self.now c.args.others)

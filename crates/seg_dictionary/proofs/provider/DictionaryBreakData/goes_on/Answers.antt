@@ -1,7 +1,0 @@
-use Rattle.seg_dictionary.specs.Dictionary.{trie_of}
-use Rattle.seg_dictionary.proofs.Tries.{node-tests}
-use Rattle.seg_dictionary.proofs.provider.DictionaryBreakData.goes_on.Goals as goal
-
-pub returns : goal.returns
-returns c =
-    node-tests (trie_of c.args.self.now) c.args.node c.index.result.now c.index-2.result.now c.args.self.now.is_trie c.requires c.index.ensures c.index-2.ensures

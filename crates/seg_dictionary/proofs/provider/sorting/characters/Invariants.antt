@@ -1,6 +1,0 @@
-use Rattle.std.proofs.Common.{◌≡◌, take}
-use Rattle.seg_dictionary.specs.Texts.{code_points, held}
-use Rattle.seg_dictionary.proofs.provider.sorting.characters.Given as goal
-
-abbrev pub invariant-loop-word : goal.invariant-loop-word
-invariant-loop-word l = held l.all.items ≡ code_points (take l.word-index l.words)
