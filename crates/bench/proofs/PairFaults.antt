@@ -10,7 +10,7 @@ use Rattle.seg_data.specs.Table.{named_values}
 use Rattle.seg_data.proofs.Anywhere.{any-contained}
 use Rattle.seg_pair_data.specs.declared.provider.pairs.BreakState.{BreakState}
 use Rattle.seg_pair_data.specs.declared.provider.pairs.BreakState.TheVariants.{Break, Keep, NoMatch, Intermediate, Index}
-use Rattle.seg_pair_data.specs.PairFaults.{HasPairFault, HasPairDataFault, NamesStatePast, KeepsStart}
+use Rattle.seg_pair_data.specs.PairData.{HasPairFault, HasPairDataFault, NamesStatePast, KeepsStart}
 use Rattle.seg_pair_data.specs.PairTable.{PairTable, entry_of}
 use Rattle.bench.specs.PairTables.{cluster_table, sentence_table, word_table}
 use Rattle.bench.proofs.Faultless.{any-refuted}

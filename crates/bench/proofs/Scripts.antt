@@ -7,10 +7,10 @@ use Rattle.seg_data.specs.declared.provider.DataError.TheVariants.{ComplexBelow0
 use Rattle.seg_data.specs.Table.{value_of}
 use Rattle.seg_machine.specs.Machine.{Machine, replaced, symbol_and_script}
 use Rattle.seg_machine.specs.MachineFaults.{HasComplexBelow0100}
-use Rattle.seg_pair_data.specs.PairFaults.{HasComplexClassBelow0100}
+use Rattle.seg_pair_data.specs.PairData.{HasComplexClassBelow0100}
 use Rattle.seg_pair_data.specs.PairTable.{PairTable, class_of}
-use Rattle.icu_segmenter.specs.TurnFaults.{HasOwnTurnFault}
-use Rattle.icu_segmenter.specs.TurnSets.{is_complex}
+use Rattle.icu_segmenter.specs.TurnRules.{HasOwnTurnFault}
+use Rattle.icu_segmenter.specs.TurnClasses.{is_complex}
 use Rattle.bench.specs.Lines.{line_machine}
 use Rattle.bench.specs.LineTables.{line_table}
 use Rattle.bench.specs.PairTables.{word_table}

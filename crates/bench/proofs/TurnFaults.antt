@@ -2,11 +2,11 @@
 use Rattle.std.proofs.Common.{◌≡◌, ℕ, inl, inr, true, [], ◌∷◌, ◌==◌, ◌||◌, refl, arith}
 use Rattle.icu_segmenter.specs.LineRules.{is_among}
 use Rattle.icu_segmenter.specs.TurnClasses.{BK, CJ, CR, EX, EX_EASTASIAN, HY, ID, ID_EASTASIAN, IN, IN_EASTASIAN, LF, NL, NS, NS_EASTASIAN, SP, ZW}
-use Rattle.icu_segmenter.specs.TurnFaults.{HasTurnTableFault}
+use Rattle.icu_segmenter.specs.TurnRules.{HasTurnTableFault}
 use Rattle.seg_data.specs.declared.provider.DataError.{DataError}
 use Rattle.seg_data.specs.declared.provider.DataError.TheVariants.{Memory, RangeOrder, RangePast10FFFF, TableSize, ClassOutOfRange, StateOutOfRange, StartRowKeeps, ComplexItems, ComplexBelow0100, ComplexClassNamed, StateCount, TransitionSize, TransitionOutOfRange, SymbolOutOfRange, TooManyLookaheads, LookaheadOutOfRange, EndCycle, Stalls, MissingTailoring}
 use Rattle.seg_data.specs.Faults.{IsFaultless, IsLowestFault}
-use Rattle.seg_pair_data.specs.PairFaults.{HasPairFault}
+use Rattle.seg_pair_data.specs.PairData.{HasPairFault}
 use Rattle.seg_pair_data.specs.PairTable.{PairTable}
 use Rattle.bench.specs.TurnTables.{BA, BA_EASTASIAN, turn_entry, turn_table}
 use Rattle.bench.specs.PairTables.{cluster_table}

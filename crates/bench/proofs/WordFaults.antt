@@ -3,7 +3,7 @@ use Rattle.std.proofs.Common.{◌≡◌, inl, inr, None, Result, Ok, Err, IfOk}
 use Rattle.seg_data.specs.declared.provider.DataError.TheVariants.{Memory, RangeOrder, RangePast10FFFF, TableSize, ClassOutOfRange, StateOutOfRange, StartRowKeeps, ComplexItems, ComplexBelow0100, ComplexClassNamed, StateCount, TransitionSize, TransitionOutOfRange, SymbolOutOfRange, TooManyLookaheads, LookaheadOutOfRange, EndCycle, Stalls, MissingTailoring}
 use Rattle.seg_data.specs.Faults.{IsFaultless}
 use Rattle.seg_machine.specs.Machine.{Machine}
-use Rattle.seg_words.specs.WordFaults.{HasWordTableFault, HasWordMachineFault}
+use Rattle.seg_words.specs.Words.{HasWordTableFault, HasWordMachineFault}
 use Rattle.bench.specs.PairTables.{cluster_table, word_table}
 use Rattle.bench.specs.Words.{word_machine}
 use Rattle.bench.proofs.PairFaults.{clusters-sound, words-no_class_past, words-no_keep}

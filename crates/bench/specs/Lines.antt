@@ -4,7 +4,7 @@ use Rattle.seg_data.specs.declared.provider.ComplexScript.{ComplexScript}
 use Rattle.seg_data.specs.declared.provider.ComplexScript.TheVariants.{None as NoScript, Myanmar, Thai}
 use Rattle.seg_machine.specs.declared.provider.Acceptance.{Acceptance}
 use Rattle.seg_machine.specs.declared.provider.Acceptance.TheVariants.{Continue, Accept}
-use Rattle.icu_segmenter.specs.LineTailorings.{MachineTailorings}
+use Rattle.icu_segmenter.specs.Options.{MachineTailorings}
 use Rattle.icu_segmenter.specs.Table.{Table}
 use Rattle.icu_segmenter.specs.Machine.{Machine, MachineTailoring, machine, tailoring}
 

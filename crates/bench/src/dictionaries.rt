@@ -2,10 +2,8 @@
 
 ghost use Rattle.std.specs.Prelude.{IfOk};
 ghost use Rattle.bench.specs.Dictionaries.{dictionary_words};
-ghost use Rattle.icu_segmenter.specs.Dictionary.{words_of};
-ghost use Rattle.icu_segmenter.specs.ScriptWords.{AreSameWords, script_words};
-ghost use Rattle.icu_segmenter.specs.Texts.{code_points};
-ghost use Rattle.icu_segmenter.specs.WordSets.{IsSameSet};
+ghost use Rattle.icu_segmenter.specs.ScriptWords.{words_of, AreSameWords, script_words};
+ghost use Rattle.icu_segmenter.specs.WordSets.{code_points_of_each, IsSameSet};
 
 use icu_segmenter::provider::{Dictionaries, DictionaryBreakData};
 use std::alloc::{AllocError, Global};
@@ -30,7 +28,7 @@ pub fn dictionaries(alloc: Global) -> Result<Dictionaries, AllocError>
 
 // A dictionary is refused for want of memory alone.
 fn dictionary_of(alloc: Global, words: &[&str]) -> Result<DictionaryBreakData, AllocError>
-    ensures { IfOk result (λ dictionary. IsSameSet (words_of dictionary) (code_points words.now)) }
+    ensures { IfOk result (λ dictionary. IsSameSet (words_of dictionary) (code_points_of_each words.now)) }
 {
     match DictionaryBreakData::try_from_words(alloc, words) {
         Ok(dictionary) => Ok(dictionary),

@@ -7,8 +7,7 @@ ghost use Rattle.bench.specs.PairTables.{cluster_table};
 ghost use Rattle.bench.specs.Rows.{row, rows};
 ghost use Rattle.icu_segmenter.specs.Faults.{IsFaultless};
 ghost use Rattle.icu_segmenter.specs.LineClasses.{BA, BK, CJ, CR, EX, HY, IN, LF, NL, NS, SP, ZW};
-ghost use Rattle.icu_segmenter.specs.LineFaults.{HasLineTableFault};
-ghost use Rattle.icu_segmenter.specs.LineRules.{is_among};
+ghost use Rattle.icu_segmenter.specs.LineRules.{HasLineTableFault, is_among};
 
 use icu_segmenter::provider::{BreakState, ClassTable, RuleBreakData};
 use std::alloc::{AllocError, Global};

@@ -3,8 +3,8 @@
 ghost use Rattle.std.specs.Prelude.{◌≡◌, None, IfOk};
 ghost use Rattle.bench.specs.PairTables.{cluster_table, sentence_table, word_table};
 ghost use Rattle.icu_segmenter.specs.Faults.{IsFaultless};
-ghost use Rattle.icu_segmenter.specs.PairFaults.{HasPairDataFault};
-ghost use Rattle.icu_segmenter.specs.WordFaults.{HasWordTableFault};
+ghost use Rattle.icu_segmenter.specs.PairData.{HasPairDataFault};
+ghost use Rattle.icu_segmenter.specs.Words.{HasWordTableFault};
 
 use icu_segmenter::provider::{BreakState, ClassTable, RuleBreakData};
 use std::alloc::{AllocError, Global};

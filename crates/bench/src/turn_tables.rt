@@ -7,7 +7,7 @@ ghost use Rattle.bench.specs.TurnTables.{BA, BA_EASTASIAN, turn_entry, turn_tabl
 ghost use Rattle.icu_segmenter.specs.Faults.{IsFaultless};
 ghost use Rattle.icu_segmenter.specs.LineRules.{is_among};
 ghost use Rattle.icu_segmenter.specs.TurnClasses.{BK, CJ, CR, EX, EX_EASTASIAN, HY, ID, ID_EASTASIAN, IN, IN_EASTASIAN, LF, NL, NS, NS_EASTASIAN, SP, ZW};
-ghost use Rattle.icu_segmenter.specs.TurnFaults.{HasTurnTableFault};
+ghost use Rattle.icu_segmenter.specs.TurnRules.{HasTurnTableFault};
 
 use crate::line_tables::keep_if;
 use icu_segmenter::provider::{BreakState, ClassTable, RuleBreakData};

@@ -4,7 +4,7 @@ ghost use Rattle.std.specs.Prelude.{◌≡◌, IfOk};
 ghost use Rattle.bench.specs.PairTables.{cluster_table};
 ghost use Rattle.bench.specs.Words.{word_machine};
 ghost use Rattle.icu_segmenter.specs.Faults.{IsFaultless};
-ghost use Rattle.icu_segmenter.specs.WordFaults.{HasWordMachineFault};
+ghost use Rattle.icu_segmenter.specs.Words.{HasWordMachineFault};
 
 use crate::machines::{Entry, machine_of};
 use icu_segmenter::provider::{Acceptance, ComplexScript, SegmenterStateMachine, State, Symbol};

@@ -1,14 +1,12 @@
 -- The boundaries that each segmenter gives.
 use Rattle.std.specs.Prelude.{◌≡◌, ℕ, ◌==◌, Option, Some, None, IfSome, List, filter}
 use Rattle.icu_segmenter.specs.Boundaries.{offsets}
-use Rattle.icu_segmenter.specs.Clusters.{owned_cluster_rules}
+use Rattle.icu_segmenter.specs.Clusters.{owned_cluster_rules, owned_sentence_rules}
 use Rattle.icu_segmenter.specs.Items.{Text}
 use Rattle.icu_segmenter.specs.LineBreaks.{LineRules, line_boundaries_of}
 use Rattle.icu_segmenter.specs.Lines.{owned_line_rules}
 use Rattle.icu_segmenter.specs.Rules.{boundaries_of}
-use Rattle.icu_segmenter.specs.Sentences.{owned_sentence_rules}
-use Rattle.icu_segmenter.specs.Utf16.{utf16}
-use Rattle.icu_segmenter.specs.Utf8.{utf8}
+use Rattle.icu_segmenter.specs.Decoding.{utf16, utf8}
 use Rattle.icu_segmenter.specs.WordRules.{word_boundaries_of}
 use Rattle.icu_segmenter.specs.Words.{owned_word_rules}
 use Rattle.break_tests.specs.declared.sample.Sample.{Sample}

@@ -1,7 +1,7 @@
 //! Segmenters of any kind.
 ghost use Rattle.std.specs.Prelude.{◌≡◌, IfOk};
 ghost use Rattle.icu_segmenter.specs.Lines.{line_rules};
-ghost use Rattle.icu_segmenter.specs.Utf8.{utf8};
+ghost use Rattle.icu_segmenter.specs.Decoding.{utf8};
 ghost use Rattle.break_tests.specs.Segmenter.{mandatory_by};
 
 use icu_segmenter::{
@@ -27,8 +27,7 @@ pub enum Segmenter {
 
 impl Segmenter {
     ghost use Rattle.std.specs.Option.{option_map};
-    ghost use Rattle.icu_segmenter.specs.Utf8.{utf8};
-    ghost use Rattle.icu_segmenter.specs.Utf16.{utf16};
+    ghost use Rattle.icu_segmenter.specs.Decoding.{utf8, utf16};
     ghost use Rattle.break_tests.specs.Segmenter.{places_by, mandatory_places_by};
 
     /// The boundaries of a text, in bytes. The only error is want of memory.

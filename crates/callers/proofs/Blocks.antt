@@ -4,13 +4,11 @@ use Rattle.std.specs.Char.{encode_utf8}
 use Rattle.std.proofs.lemmas.List.{drop_all, length-drop, length-map, take_all, take-append-drop}
 use Rattle.std.proofs.str.Laws.{one}
 use Rattle.icu_segmenter.specs.Boundary.{Boundary}
-use Rattle.icu_segmenter.specs.Boundaries.{boundary_in, shift, shift_all}
-use Rattle.icu_segmenter.specs.Parted.{PartsTexts}
-use Rattle.icu_segmenter.specs.Rules.{Rules, boundaries_by, boundaries_of}
-use Rattle.icu_segmenter.specs.Stretches.{later_boundaries, later_boundaries_within}
+use Rattle.icu_segmenter.specs.Boundaries.{boundary_in, shift, shift_all, later_boundaries, later_boundaries_within}
+use Rattle.icu_segmenter.specs.Rules.{PartsTexts, Rules, boundaries_by, boundaries_of}
 use Rattle.icu_segmenter.specs.Items.{first_items, items_by}
 use Rattle.icu_segmenter.specs.TextSegments.{Segment, marked, nothing, segments_from, segments_of, units_of}
-use Rattle.icu_segmenter.specs.Utf8.{utf8, utf8_items}
+use Rattle.icu_segmenter.specs.Decoding.{utf8, utf8_items}
 use Rattle.callers.specs.Blocks.{IsBlock}
 
 -- as many as there are places where they end

@@ -4,13 +4,11 @@ use Rattle.std.specs.Option.{is_some, option_map, option_map_or}
 use Rattle.std.proofs.lemmas.List.{get_or-map, length-drop, length-map}
 use Rattle.std.proofs.lemmas.Option.{none-some, same_Some}
 use Rattle.icu_segmenter.specs.Items.{Item, Text, code_points, rest_after}
-use Rattle.icu_segmenter.specs.Boundaries.{GivesNext, Remainder, boundary, offsets, offsets_left}
-use Rattle.icu_segmenter.specs.Stretches.{Stretch, later_boundaries, later_boundaries_within, remainder}
+use Rattle.icu_segmenter.specs.Boundaries.{GivesNext, Remainder, boundary, offsets, offsets_left, Stretch, later_boundaries, later_boundaries_within, remainder}
 use Rattle.icu_segmenter.specs.Boundary.{Boundary}
-use Rattle.icu_segmenter.specs.Checked.{IsChecked}
+use Rattle.icu_segmenter.specs.MachineFaults.{IsChecked}
 use Rattle.icu_segmenter.specs.Machine.{Machine, IsTextSymbol, scan, symbol_and_script, state_at, symbols_of}
-use Rattle.icu_segmenter.specs.Pick.{pick, picked_step}
-use Rattle.icu_segmenter.specs.Segments.{machine_stretch}
+use Rattle.icu_segmenter.specs.Pick.{pick, picked_step, machine_stretch}
 use Rattle.icu_segmenter.specs.Configurations.{Subject, AreLookedUp, AreStarts}
 use Rattle.icu_segmenter.specs.Memos.{Memo, memo_places, subject_of}
 use Rattle.callers.specs.LookUps.{AreAllLookedUp}

@@ -6,7 +6,7 @@ ghost use Rattle.icu_segmenter.specs.Clusters.{cluster_rules};
 ghost use Rattle.icu_segmenter.specs.NearBoundaries.{IsNearestAbove, IsNearestBelow, boundary_places};
 ghost use Rattle.icu_segmenter.specs.Rules.{boundaries_by, boundaries_of};
 ghost use Rattle.icu_segmenter.specs.TextSegments.{indices_of, nothing, segments_of};
-ghost use Rattle.icu_segmenter.specs.Utf8.{utf8};
+ghost use Rattle.icu_segmenter.specs.Decoding.{utf8};
 
 use icu_segmenter::GraphemeClusterSegmenterBorrowed;
 use icu_segmenter::cursor::BoundaryCursor;

@@ -1,6 +1,6 @@
 //! Data that a caller hands in: here both kinds cut a text into runs of spaces and runs of other characters.
 ghost use Rattle.std.specs.Prelude.{◌≡◌, None, IfOk};
-ghost use Rattle.icu_segmenter.specs.Checked.{IsChecked};
+ghost use Rattle.icu_segmenter.specs.MachineFaults.{IsChecked};
 ghost use Rattle.icu_segmenter.specs.Clusters.{owned_cluster_rules};
 ghost use Rattle.icu_segmenter.specs.Rules.Rules.{ByMachine, ByTable};
 ghost use Rattle.callers.specs.Spaces.{spaces_machine, spaces_table};

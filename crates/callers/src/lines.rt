@@ -7,7 +7,7 @@ ghost use Rattle.icu_segmenter.specs.LineBreaks.{line_boundaries_of, machine_lin
 ghost use Rattle.icu_segmenter.specs.Lines.{HasFaultWith, line_rules, owned_line_rules};
 ghost use Rattle.icu_segmenter.specs.Machine.{with_tailoring};
 ghost use Rattle.icu_segmenter.specs.ScriptWords.{no_words};
-ghost use Rattle.icu_segmenter.specs.Utf8.{utf8};
+ghost use Rattle.icu_segmenter.specs.Decoding.{utf8};
 
 use icu_segmenter::options::{LineBreakOptions, LineBreakWordOption};
 use icu_segmenter::provider::{

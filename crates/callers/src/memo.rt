@@ -4,7 +4,7 @@ ghost use Rattle.icu_segmenter.specs.Clusters.{cluster_rules};
 ghost use Rattle.icu_segmenter.specs.Configurations.{configurations};
 ghost use Rattle.icu_segmenter.specs.Machine.{Machine};
 ghost use Rattle.icu_segmenter.specs.Rules.{machine_in};
-ghost use Rattle.icu_segmenter.specs.Utf8.{utf8};
+ghost use Rattle.icu_segmenter.specs.Decoding.{utf8};
 ghost use Rattle.callers.specs.LookUps.{AreAllLookedUp};
 ghost use Rattle.callers.specs.Spaces.{spaces_machine};
 

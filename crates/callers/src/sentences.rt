@@ -3,10 +3,10 @@ ghost use Rattle.std.specs.Prelude.{◌≡◌, ◌%◌, ◌^◌, None, IfOk, IfS
 ghost use Rattle.std.specs.List.{last_or};
 ghost use Rattle.std.specs.Option.{option_map};
 ghost use Rattle.callers.specs.Blocks.{IsBlock};
-ghost use Rattle.icu_segmenter.specs.Sentences.{sentence_rules};
+ghost use Rattle.icu_segmenter.specs.Clusters.{sentence_rules};
 ghost use Rattle.icu_segmenter.specs.Rules.{boundaries_of};
 ghost use Rattle.icu_segmenter.specs.TextSegments.{nothing, segments_of, units_of};
-ghost use Rattle.icu_segmenter.specs.Utf8.{utf8};
+ghost use Rattle.icu_segmenter.specs.Decoding.{utf8};
 
 use icu_segmenter::SentenceSegmenterBorrowed;
 use icu_segmenter::laws::sentence;

@@ -3,7 +3,7 @@ ghost use Rattle.std.specs.Prelude.{◌≡◌, ◌++◌, IfOk, OnOk, length, map
 ghost use Rattle.std.specs.List.{flat_map};
 ghost use Rattle.callers.specs.Highlights.{shown};
 ghost use Rattle.icu_segmenter.specs.TextSegments.{segments_of, units_of, words_of};
-ghost use Rattle.icu_segmenter.specs.Utf8.{utf8};
+ghost use Rattle.icu_segmenter.specs.Decoding.{utf8};
 ghost use Rattle.icu_segmenter.specs.WordRules.{type_of, word_boundaries_of};
 ghost use Rattle.icu_segmenter.specs.Words.{word_rules};
 

@@ -10,11 +10,11 @@ use Rattle.std.specs.Str.{IsCharBoundary, IsUtf8}
 use Rattle.seg_text.specs.declared.boundary.Boundary.{Boundary}
 use Rattle.seg_text.specs.Boundaries.{boundaries_in}
 use Rattle.seg_text.specs.Items.{Text}
-use Rattle.seg_text.specs.Utf8.{utf8}
+use Rattle.seg_text.specs.Decoding.{utf8}
 use Rattle.seg_data.specs.ScriptWords.{ScriptWords, AreSameWords}
 use Rattle.seg_words.specs.WordRules.{WordRules, with_words, word_boundaries_of}
 use Rattle.seg_words.proofs.ByRules.{equal-words}
-use Rattle.seg_lines.specs.LineBreaks.{LineRules, line_boundaries_of, with_words as lines_with_words}
+use Rattle.seg_lines.specs.LineBreaks.{LineRules, line_boundaries_of, lines_with_words}
 use Rattle.seg_lines.proofs.LineLaws.{equal-words as equal-line-words}
 use Rattle.icu_segmenter.specs.TextSegments.{IsPlace}
 use Rattle.icu_segmenter.proofs.Cutting.{place-boundary}

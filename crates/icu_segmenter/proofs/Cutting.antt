@@ -6,7 +6,7 @@ use Rattle.std.specs.Str.{IsCharBoundary, IsUtf8}
 use Rattle.seg_text.specs.declared.boundary.Boundary.{Boundary}
 use Rattle.seg_text.specs.Boundaries.{GivesNext, IsCover, Remainder, RisesTo, boundaries_in, boundary_in, offsets}
 use Rattle.seg_text.specs.Items.{Text, code_points}
-use Rattle.seg_text.specs.Utf8.{utf8, utf8_items}
+use Rattle.seg_text.specs.Decoding.{utf8, utf8_items}
 use Rattle.seg_text.proofs.Str.{seek-boundary}
 use Rattle.seg_wrap.specs.Wrapping.{between}
 use Rattle.icu_segmenter.specs.TextSegments.{AreCuts, IsPlace, Segment, marked, nothing, segments_from}

@@ -6,7 +6,7 @@ use Rattle.std.proofs.Math.Seq.{drop-append_seam, drop-cons, take-append_seam}
 use Rattle.std.proofs.lemmas.List.Elements.{Contains-append_left, Contains-append_right, Contains-append_cases}
 use Rattle.seg_text.specs.declared.boundary.Boundary.{Boundary}
 use Rattle.seg_text.specs.Boundaries.{IsCover, RisesTo, offsets, shift_all}
-use Rattle.seg_clusters.specs.Parted.{PartsBehind, PartsTexts}
+use Rattle.seg_clusters.specs.Rules.{PartsBehind, PartsTexts}
 use Rattle.icu_segmenter.specs.NearBoundaries.{BeginsLine, IsNearestAbove, IsNearestBelow, IsPart, boundaries_of_bytes, boundary_places, line_feed}
 use Rattle.icu_segmenter.proofs.Nearest.{has-none, has-cases, has-here, has-later}
 

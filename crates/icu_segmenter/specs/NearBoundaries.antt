@@ -2,7 +2,7 @@
 use Rattle.std.specs.Prelude.{◌≡◌, ℕ, ◌+◌, ◌<◌, ◌≤◌, ◌⊎◌, Option, List, [], ◌∷◌, ◌++◌, Contains, MatchOption, length}
 use Rattle.seg_text.specs.declared.boundary.Boundary.{Boundary}
 use Rattle.seg_text.specs.Boundaries.{boundaries_in, offsets}
-use Rattle.seg_text.specs.Utf8.{utf8}
+use Rattle.seg_text.specs.Decoding.{utf8}
 
 -- the boundaries of a text of bytes, where this finds those of a list of code points; and their places
 abbrev pub boundaries_of_bytes : (List ℕ → List Boundary) → List ℕ → List Boundary

@@ -12,7 +12,7 @@
 ghost use Rattle.std.specs.Prelude.{◌≡◌, ◌↔◌, ◌≤◌, ◌+◌, ℕ, IsTrue, IfSome, List, Contains, length};
 ghost use Rattle.seg_text.specs.declared.boundary.Boundary.{Boundary};
 ghost use Rattle.seg_text.specs.Boundaries.{IsCover};
-ghost use Rattle.seg_clusters.specs.Parted.{PartsBehind};
+ghost use Rattle.seg_clusters.specs.Rules.{PartsBehind};
 ghost use Rattle.icu_segmenter.specs.NearBoundaries.{IsNearestAbove, IsNearestBelow, IsPart, boundaries_of_bytes, boundary_places, line_feed};
 
 mod clusters;
@@ -64,7 +64,7 @@ pub struct BoundaryCursor<'s, S: Segmenter> {
 impl<'s, S: Segmenter> Model for BoundaryCursor<'s, S> {
     ghost use Rattle.std.specs.Prelude.{ℕ, List, IsTrue, length};
     ghost use Rattle.seg_text.specs.Boundaries.{IsCover};
-    ghost use Rattle.seg_clusters.specs.Parted.{PartsBehind};
+    ghost use Rattle.seg_clusters.specs.Rules.{PartsBehind};
     ghost use Rattle.icu_segmenter.specs.NearBoundaries.{boundaries_of_bytes, boundary_places, line_feed};
 
     ghost Value = { List ℕ };

@@ -17,9 +17,10 @@ pub use seg_words::word::{WordSegmenter, WordSegmenterBorrowed};
 /// The data of segmenters, each checked once, where it is made: tables of classes, state machines and pair tables
 /// with what replaces parts of them, and what is wrong where they are refused.
 pub mod provider {
-    pub use seg_data::provider::{ClassTable, ComplexScript, DataError, LanguageIdentifier};
     pub use seg_data::dictionaries::{Dictionaries, DictionariesBorrowed};
-    pub use seg_data::provider::DictionaryBreakData;
+    pub use seg_data::provider::{
+        ClassTable, ComplexScript, DataError, DictionaryBreakData, LanguageIdentifier,
+    };
     pub use seg_lines::provider::{LineTailorings, LineTailoringsBorrowed};
     pub use seg_machine::provider::{
         Acceptance, Lookahead, SegmenterStateMachine, SegmenterStateMachineOverride, State, Symbol,

@@ -2,7 +2,7 @@
 use Rattle.std.specs.Prelude.{ℕ, Some, List, []}
 use Rattle.seg_data.specs.declared.provider.ComplexScript.{ComplexScript}
 use Rattle.icu_segmenter.specs.Machine.{tailoring}
-use Rattle.icu_segmenter.specs.LineTailorings.{MachineTailorings}
+use Rattle.icu_segmenter.specs.Options.{MachineTailorings}
 
 -- the tailorings by these maps, which replace no symbols
 abbrev pub tailoring_maps :

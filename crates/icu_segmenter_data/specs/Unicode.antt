@@ -1,6 +1,6 @@
 -- Unicode's data: machines, pair tables and tailorings of just the arrays that stand in the code.
 use Rattle.std.specs.Prelude.{[]}
-use Rattle.icu_segmenter.specs.LineTailorings.{MachineTailorings}
+use Rattle.icu_segmenter.specs.Options.{MachineTailorings}
 use Rattle.icu_segmenter.specs.Machine.{Machine, machine}
 use Rattle.icu_segmenter.specs.PairTable.{PairTable, pair_table}
 use Rattle.icu_segmenter.specs.Table.{table}

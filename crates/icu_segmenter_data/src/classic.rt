@@ -1,12 +1,11 @@
 //! Segmenters by Unicode's pair tables, each in one call, of the engines that the original calls classic and 17.
 ghost use Rattle.std.specs.Prelude.{◌≡◌, None, IfOk};
-ghost use Rattle.icu_segmenter.specs.Clusters.{owned_cluster_rules};
+ghost use Rattle.icu_segmenter.specs.Clusters.{owned_cluster_rules, owned_sentence_rules};
 ghost use Rattle.icu_segmenter.specs.LineBreaks.{table_lines, turn_lines};
-ghost use Rattle.icu_segmenter.specs.LineStyles.{style_of};
+ghost use Rattle.icu_segmenter.specs.LineRules.{style_of};
 ghost use Rattle.icu_segmenter.specs.Lines.{owned_line_rules};
 ghost use Rattle.icu_segmenter.specs.Rules.Rules.{ByTable};
 ghost use Rattle.icu_segmenter.specs.ScriptWords.{no_words};
-ghost use Rattle.icu_segmenter.specs.Sentences.{owned_sentence_rules};
 ghost use Rattle.icu_segmenter.specs.WordRules.{table_words};
 ghost use Rattle.icu_segmenter.specs.Words.{owned_word_rules};
 ghost use Rattle.icu_segmenter_data.specs.Unicode.{cluster_table, line_table, line_17_table, sentence_table, word_table};

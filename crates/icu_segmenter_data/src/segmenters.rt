@@ -1,11 +1,10 @@
 //! Segmenters by Unicode's machines, each in one call: of clusters and of sentences by those that are proved to follow UAX #29.
 ghost use Rattle.std.specs.Prelude.{◌≡◌, IfOk};
-ghost use Rattle.icu_segmenter.specs.Clusters.{owned_cluster_rules};
+ghost use Rattle.icu_segmenter.specs.Clusters.{owned_cluster_rules, owned_sentence_rules};
 ghost use Rattle.icu_segmenter.specs.Lines.{chosen_rules, owned_line_rules};
 ghost use Rattle.icu_segmenter.specs.Options.{machine_choice};
 ghost use Rattle.icu_segmenter.specs.Rules.Rules.{ByMachine};
 ghost use Rattle.icu_segmenter.specs.ScriptWords.{no_words};
-ghost use Rattle.icu_segmenter.specs.Sentences.{owned_sentence_rules};
 ghost use Rattle.icu_segmenter.specs.WordRules.{machine_words};
 ghost use Rattle.icu_segmenter.specs.Words.{owned_word_rules};
 ghost use Rattle.icu_segmenter_data.specs.Unicode.{cluster_machine, cluster_table, line_machine, line_tailorings, word_machine};

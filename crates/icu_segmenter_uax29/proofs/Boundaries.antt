@@ -6,7 +6,7 @@ use Rattle.std.proofs.lemmas.List.{reverse-append}
 use Rattle.unicode_segmentation.specs.Segments.{Rule, cut}
 use Rattle.seg_text.specs.Boundaries.{offsets}
 use Rattle.seg_machine.specs.Machine.{Machine}
-use Rattle.seg_machine.specs.Segments.{machine_boundaries}
+use Rattle.seg_machine.specs.Pick.{machine_boundaries}
 use Rattle.icu_segmenter_uax29.specs.Pieces.{piece_ends}
 use Rattle.icu_segmenter_uax29.proofs.Ends.{break_places, ends-cut}
 use Rattle.icu_segmenter_uax29.proofs.Lists.{has-none, has-cases, has-here, has-later}

@@ -6,10 +6,8 @@ use Rattle.std.proofs.lemmas.List.{length-map}
 use Rattle.seg_machine.specs.declared.provider.Acceptance.TheVariants.{Continue, Accept, Conditional}
 use Rattle.seg_text.specs.declared.boundary.Boundary.{Boundary}
 use Rattle.seg_machine.specs.Machine.{Machine, step, run, scan, state_at}
-use Rattle.seg_machine.specs.Pick.{later, last_step, acceptance_status, condition, first_condition, picked_step, pick}
-use Rattle.seg_machine.specs.Segments.{machine_stretch}
-use Rattle.seg_text.specs.Boundaries.{boundary}
-use Rattle.seg_text.specs.Stretches.{Stretch}
+use Rattle.seg_machine.specs.Pick.{later, last_step, acceptance_status, condition, first_condition, picked_step, pick, machine_stretch}
+use Rattle.seg_text.specs.Boundaries.{boundary, Stretch}
 use Rattle.icu_segmenter_uax29.proofs.Entries.{Entry, is_plain, accepts}
 use Rattle.icu_segmenter_uax29.proofs.Lists.{every, every-at, option-cases}
 use Rattle.icu_segmenter_uax29.proofs.RangeSymbols.{symbol_in}

@@ -4,9 +4,9 @@ use Rattle.std.specs.Str.{IsUtf8}
 use Rattle.unicode_segmentation.specs.Segments.{Rule, cut, segments}
 use Rattle.seg_text.specs.Boundaries.{offsets}
 use Rattle.seg_text.specs.Items.{Text, code_points, start_of, rest_after}
-use Rattle.seg_text.specs.Utf8.{utf8}
+use Rattle.seg_text.specs.Decoding.{utf8}
 use Rattle.seg_machine.specs.Machine.{Machine}
-use Rattle.seg_machine.specs.Segments.{machine_boundaries}
+use Rattle.seg_machine.specs.Pick.{machine_boundaries}
 use Rattle.seg_clusters.specs.Rules.{Rules, boundaries_of}
 use Rattle.seg_clusters.specs.Rules.Rules.{ByMachine}
 use Rattle.icu_segmenter_uax29.specs.Pieces.{parts_at, piece_bounds, piece_places}

@@ -11,7 +11,7 @@ use Rattle.seg_text.specs.Items.{Item, Text, place_of, start_of, rest_after, cod
 use Rattle.seg_text.specs.Boundaries.{offsets, boundary_in, boundaries_in}
 use Rattle.seg_text.specs.Lemmas.Readers.{items_by-nil, items_by-cons}
 use Rattle.seg_text.specs.Lemmas.Rising.{read_utf8-reader}
-use Rattle.seg_text.specs.Utf8.{utf8, utf8_items, read_utf8}
+use Rattle.seg_text.specs.Decoding.{utf8, utf8_items, read_utf8}
 use Rattle.seg_text.proofs.Str.{read_utf8-encode, utf8_items-characters}
 use Rattle.icu_segmenter_uax29.specs.Pieces.{piece_ends}
 

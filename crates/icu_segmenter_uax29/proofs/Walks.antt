@@ -5,9 +5,8 @@ use Rattle.std.proofs.lemmas.Bool.{cond-true, cond-false}
 use Rattle.unicode_segmentation.specs.Segments.{Rule, cut}
 use Rattle.seg_text.specs.declared.boundary.Boundary.{Boundary}
 use Rattle.seg_machine.specs.Machine.{Machine}
-use Rattle.seg_machine.specs.Segments.{machine_stretch, machine_boundaries}
-use Rattle.seg_text.specs.Boundaries.{boundary, offsets, shift_all}
-use Rattle.seg_text.specs.Stretches.{Stretch, later_boundaries_within, later_boundaries}
+use Rattle.seg_machine.specs.Pick.{machine_stretch, machine_boundaries}
+use Rattle.seg_text.specs.Boundaries.{boundary, offsets, shift_all, Stretch, later_boundaries_within, later_boundaries}
 use Rattle.icu_segmenter_uax29.specs.Pieces.{piece_ends}
 use Rattle.icu_segmenter_uax29.proofs.Ends.{break_places, ends-cut}
 use Rattle.icu_segmenter_uax29.proofs.Picks.{ended}

@@ -13,7 +13,7 @@ ghost use Rattle.unicode_segmentation.specs.Sentence.{before_close_sp, is_para_s
 ghost use Rattle.unicode_segmentation.specs.Word.{is_word_break};
 ghost use Rattle.seg_text.specs.Boundaries.{offsets};
 ghost use Rattle.seg_machine.specs.Machine.{symbol_and_script};
-ghost use Rattle.seg_machine.specs.Segments.{machine_boundaries};
+ghost use Rattle.seg_machine.specs.Pick.{machine_boundaries};
 ghost use Rattle.icu_segmenter_uax29.specs.Clusters.{cluster_machine, clusters};
 ghost use Rattle.icu_segmenter_uax29.specs.Neighbours.{IsBoundary, IsJoined, IsSentenceBoundary, IsSentenceJoined, IsWordBoundary, WordsHoldTogether, WordsStayTogether, all_but_line_ends, StayTogether, all_but_controls, EndsInWholeFlags, AllExtend, AllInConjunct};
 ghost use Rattle.icu_segmenter_uax29.specs.Pieces.{piece_bounds};

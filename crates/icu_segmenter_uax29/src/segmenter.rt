@@ -24,9 +24,7 @@ impl ClusterSegmenter {
     ghost use Rattle.std.specs.Prelude.{true, IfErr};
     ghost use Rattle.seg_data.specs.declared.provider.DataError.TheVariants.{Memory};
     ghost use Rattle.unicode_segmentation.specs.Grapheme.{graphemes};
-    ghost use Rattle.seg_text.specs.Latin1.{latin1};
-    ghost use Rattle.seg_text.specs.Utf8.{utf8};
-    ghost use Rattle.seg_text.specs.Utf16.{utf16};
+    ghost use Rattle.seg_text.specs.Decoding.{latin1, utf8, utf16};
     ghost use Rattle.seg_clusters.specs.Clusters.{cluster_rules, clusters_places};
     ghost use Rattle.icu_segmenter_uax29.specs.Clusters.{cluster_places};
     ghost use Rattle.icu_segmenter_uax29.specs.Pieces.{parts_at, piece_bounds};

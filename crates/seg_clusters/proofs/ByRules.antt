@@ -1,14 +1,13 @@
 -- Stretches by either rules.
 use Rattle.std.proofs.Common.{ℕ, List, ◌∷◌, length}
 use Rattle.std.specs.Prelude.{Option}
-use Rattle.seg_text.specs.Boundaries.{HasRestart, IsCover}
-use Rattle.seg_text.specs.Stretches.{HasProgress, HasEndAlone}
+use Rattle.seg_text.specs.Boundaries.{HasRestart, IsCover, HasProgress, HasEndAlone}
 use Rattle.seg_text.proofs.Covers.{covers-list}
 use Rattle.seg_text.proofs.Restarts.{restarts}
 use Rattle.seg_data.specs.Table.{Table}
 use Rattle.seg_machine.specs.Machine.{Machine}
-use Rattle.seg_machine.specs.Checked.{IsChecked}
-use Rattle.seg_machine.specs.Segments.{machine_stretch}
+use Rattle.seg_machine.specs.MachineFaults.{IsChecked}
+use Rattle.seg_machine.specs.Pick.{machine_stretch}
 use Rattle.seg_machine.proofs.Segmentations.{machine-going, machine-alone, machine-within}
 use Rattle.seg_pairs.specs.Breaks.{table_stretch}
 use Rattle.seg_pair_data.specs.PairTable.{PairTable}

@@ -8,9 +8,7 @@ use Rattle.std.proofs.Math.Utf8.{scalar_cases}
 use Rattle.std.proofs.lemmas.Bool.{and_parts, cases_lt, cond_both, le-ltb, leb-true, lt-ltb, ltb-true}
 use Rattle.std.proofs.lemmas.Grind.{and_high_numeral, and_numeral}
 use Rattle.std.proofs.str.Laws.{one, two, three, four}
-use Rattle.seg_text.specs.Latin1.{read_latin1}
-use Rattle.seg_text.specs.Utf8.{Ranges, rows, fitting, read_row, read_utf8}
-use Rattle.seg_text.specs.Utf16.{IsHighSurrogate, IsLowSurrogate, pair_of, read_utf16}
+use Rattle.seg_text.specs.Decoding.{read_latin1, Ranges, rows, fitting, read_row, read_utf8, IsHighSurrogate, IsLowSurrogate, pair_of, read_utf16}
 use Rattle.seg_text.specs.Lemmas.Utf16Stable.{Start, start, pair, single}
 use Rattle.seg_text.proofs.Str.{read_utf8-encode}
 use Rattle.seg_clusters.proofs.PartedItems.{IsApart}

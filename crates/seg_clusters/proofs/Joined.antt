@@ -2,8 +2,7 @@
 use Rattle.std.proofs.Common.{◌≡◌, ℕ, zero, suc, ◌+◌, ◌-◌, ◌<◌, ◌≤◌, List, [], ◌∷◌, ◌++◌, drop, length, sym, ap, ◌∙◌, arith, append_assoc}
 use Rattle.std.proofs.lemmas.List.{length-drop, drop-drop, drop-append-le}
 use Rattle.seg_text.specs.declared.boundary.Boundary.{Boundary}
-use Rattle.seg_text.specs.Boundaries.{shift_all, start}
-use Rattle.seg_text.specs.Stretches.{Stretch, HasProgress, later_boundaries, list_boundaries}
+use Rattle.seg_text.specs.Boundaries.{shift_all, start, Stretch, HasProgress, later_boundaries, list_boundaries}
 use Rattle.seg_text.proofs.Places.{shifted-append, shifted-none, shifted-twice}
 use Rattle.seg_text.proofs.Stretches.{later-nil, later-next}
 

@@ -5,7 +5,7 @@ use Rattle.std.proofs.lemmas.Bool.{cases_lt}
 use Rattle.std.proofs.lemmas.Option.{none-some}
 use Rattle.seg_machine.specs.Machine.{Machine, step, symbol_count}
 use Rattle.seg_machine.proofs.Transitions.{step-none, step-some}
-use Rattle.seg_clusters.specs.Resets.{IsLastState}
+use Rattle.seg_clusters.specs.Rules.{IsLastState}
 
 module _ (m : Machine) (state states : ℕ) (transitions : List ℕ) (same : states ≡ length m.states) (all : transitions ≡ m.transitions) where
   abbrev read : ℕ → ℕ

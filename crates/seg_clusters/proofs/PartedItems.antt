@@ -7,7 +7,7 @@ use Rattle.seg_text.specs.Boundaries.{IsCover, RisesTo, boundary, boundary_in, b
 use Rattle.seg_text.specs.Lemmas.Readers.{IsStable, items_by-nil, items_by-cons, place_of-items_by}
 use Rattle.seg_text.proofs.Covers.{rises-le}
 use Rattle.seg_text.proofs.Places.{in-append}
-use Rattle.seg_clusters.specs.Parted.{PartsBehind}
+use Rattle.seg_clusters.specs.Rules.{PartsBehind}
 
 -- these units are read as the code point, and no item reaches into them from before
 pub record IsApart (read : Reader ℕ) (mark : List ℕ) (code_point : ℕ) : Type 0 where

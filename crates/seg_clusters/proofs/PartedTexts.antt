@@ -4,17 +4,13 @@ use Rattle.std.specs.Char.{IsScalar, encode_utf8}
 use Rattle.std.specs.Char.Escape.{encode_utf16}
 use Rattle.seg_text.specs.declared.boundary.Boundary.{Boundary}
 use Rattle.seg_text.specs.Boundaries.{IsCover, boundaries_in}
-use Rattle.seg_text.specs.Latin1.{read_latin1, latin1, latin1_items}
-use Rattle.seg_text.specs.Utf8.{read_utf8, utf8, utf8_items}
-use Rattle.seg_text.specs.Utf16.{read_utf16, utf16, utf16_items}
+use Rattle.seg_text.specs.Decoding.{read_latin1, latin1, latin1_items, read_utf8, utf8, utf8_items, read_utf16, utf16, utf16_items}
 use Rattle.seg_text.specs.Lemmas.Latin1Stable.{read_latin1-stable}
 use Rattle.seg_text.specs.Lemmas.Utf8Stable.{read_utf8-stable}
 use Rattle.seg_text.specs.Lemmas.Utf16Stable.{read_utf16-stable}
 use Rattle.seg_machine.specs.Machine.{Machine}
-use Rattle.seg_machine.specs.Checked.{IsChecked}
-use Rattle.seg_clusters.specs.Parted.{PartsBehind, PartsTexts}
-use Rattle.seg_clusters.specs.Resets.{ResetsAfter}
-use Rattle.seg_clusters.specs.Rules.{boundaries_by}
+use Rattle.seg_machine.specs.MachineFaults.{IsChecked}
+use Rattle.seg_clusters.specs.Rules.{PartsBehind, PartsTexts, ResetsAfter, boundaries_by}
 use Rattle.seg_clusters.specs.Rules.Rules.{ByMachine}
 use Rattle.seg_clusters.proofs.ByRules.{machine-covers}
 use Rattle.seg_clusters.proofs.Encoded.{latin1-apart, utf8-apart, utf16-apart}

@@ -5,15 +5,13 @@ use Rattle.std.specs.Option.{option_map, option_map_or}
 use Rattle.std.proofs.lemmas.Bool.{false≢true}
 use Rattle.std.proofs.lemmas.List.{length-drop, length-map, drop-append-le}
 use Rattle.seg_text.specs.declared.boundary.Boundary.{Boundary}
-use Rattle.seg_text.specs.Stretches.{Stretch}
-use Rattle.seg_machine.specs.Checked.{IsChecked}
+use Rattle.seg_text.specs.Boundaries.{Stretch}
+use Rattle.seg_machine.specs.MachineFaults.{IsChecked}
 use Rattle.seg_machine.specs.Machine.{Machine, step, run, scan, state_at, symbol_and_script, symbol_count, symbols_of}
-use Rattle.seg_machine.specs.Pick.{picked_step, pick}
-use Rattle.seg_machine.specs.Segments.{machine_stretch, machine_boundaries}
+use Rattle.seg_machine.specs.Pick.{picked_step, pick, machine_stretch, machine_boundaries}
 use Rattle.seg_machine.proofs.Segmentations.{machine-going, machine-within, symbols_of-text}
 use Rattle.seg_machine.proofs.Transitions.{leads-to}
-use Rattle.seg_clusters.specs.Parted.{PartsBehind}
-use Rattle.seg_clusters.specs.Resets.{IsLastState, IsReset}
+use Rattle.seg_clusters.specs.Rules.{PartsBehind, IsLastState, IsReset}
 use Rattle.seg_clusters.proofs.Bounds.{same-place, up-to-picked}
 use Rattle.seg_clusters.proofs.Joined.{EndsWithin, boundaries-joined}
 

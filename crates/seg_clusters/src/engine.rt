@@ -4,9 +4,7 @@ ghost use Rattle.std.specs.Prelude.{◌≡◌, ◌↔◌, ⊤, IsTrue, IfOk, IfE
 ghost use Rattle.std.specs.Iterator.{YieldsFirst, MakesProgress, item_count};
 ghost use Rattle.seg_text.specs.Items.{start_of};
 ghost use Rattle.seg_text.specs.Boundaries.{GivesNext, IsCover, offsets_left};
-ghost use Rattle.seg_clusters.specs.Engine.{rules_of, owned_rules};
-ghost use Rattle.seg_clusters.specs.Resets.{ResetsAfter};
-ghost use Rattle.seg_clusters.specs.Rules.{boundaries_of, machine_in};
+ghost use Rattle.seg_clusters.specs.Rules.{rules_of, owned_rules, ResetsAfter, boundaries_of, machine_in};
 ghost use Rattle.seg_memo.specs.Memos.{IsMemoRefusal, IsNewMemo};
 
 use crate::resets::is_reset;
@@ -114,7 +112,7 @@ enum BoundariesBy<'data, I: Cursor> {
 
 impl<'data, I: Cursor> Model for Boundaries<'data, I> {
     ghost use Rattle.seg_text.specs.Boundaries.{Remainder};
-    ghost use Rattle.seg_clusters.specs.Remainders.{remainder_by};
+    ghost use Rattle.seg_clusters.specs.Rules.{remainder_by};
 
     ghost Value = { Remainder };
 

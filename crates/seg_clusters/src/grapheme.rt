@@ -3,15 +3,11 @@
 ghost use Rattle.std.specs.Prelude.{◌≡◌, ◌↔◌, ℕ, None, List, length, IfOk, IfErr, IsOkAnd, IsTrue};
 ghost use Rattle.std.specs.Iterator.{YieldsFirst, item_count};
 ghost use Rattle.seg_text.specs.Items.{start_of};
-ghost use Rattle.seg_text.specs.Latin1.{latin1};
-ghost use Rattle.seg_text.specs.Utf8.{utf8};
-ghost use Rattle.seg_text.specs.Utf16.{utf16};
+ghost use Rattle.seg_text.specs.Decoding.{latin1, utf8, utf16};
 ghost use Rattle.seg_text.specs.Boundaries.{IsCover};
 ghost use Rattle.seg_data.specs.Faults.{IsFaultless, IsLowestFault};
-ghost use Rattle.seg_pair_data.specs.PairFaults.{HasPairDataFault};
-ghost use Rattle.seg_clusters.specs.Engine.{rules_of};
-ghost use Rattle.seg_clusters.specs.Resets.{ResetsAfter};
-ghost use Rattle.seg_clusters.specs.Rules.{boundaries_of, machine_in};
+ghost use Rattle.seg_pair_data.specs.PairData.{HasPairDataFault};
+ghost use Rattle.seg_clusters.specs.Rules.{rules_of, ResetsAfter, boundaries_of, machine_in};
 ghost use Rattle.seg_clusters.specs.Rules.Rules.{ByTable, ByMachine};
 ghost use Rattle.seg_memo.specs.Memos.{IsMemoRefusal, IsNewMemo};
 

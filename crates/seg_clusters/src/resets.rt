@@ -1,7 +1,7 @@
 //! Whether a symbol resets a machine: no scan looks past it.
 
 ghost use Rattle.std.specs.Prelude.{◌↔◌, ◌<◌, IsTrue, length};
-ghost use Rattle.seg_clusters.specs.Resets.{IsLastState, IsReset};
+ghost use Rattle.seg_clusters.specs.Rules.{IsLastState, IsReset};
 ghost use Rattle.seg_machine.specs.Machine.{IsTextSymbol};
 ghost use Rattle.seg_machine.specs.Tailored.{machine_of};
 

@@ -4,18 +4,14 @@ ghost use Rattle.std.specs.Prelude.{◌≡◌, ◌↔◌, ℕ, List, length, IfO
 ghost use Rattle.std.specs.Iterator.{YieldsFirst, item_count};
 ghost use Rattle.std.specs.Option.{option_map};
 ghost use Rattle.seg_text.specs.Items.{start_of};
-ghost use Rattle.seg_text.specs.Latin1.{latin1};
-ghost use Rattle.seg_text.specs.Utf8.{utf8};
-ghost use Rattle.seg_text.specs.Utf16.{utf16};
+ghost use Rattle.seg_text.specs.Decoding.{latin1, utf8, utf16};
 ghost use Rattle.seg_text.specs.Boundaries.{IsCover};
 ghost use Rattle.seg_data.specs.Faults.{IsFaultless, IsLowestFault};
 ghost use Rattle.seg_machine.specs.MachineFaults.{HasTailoringFault};
 ghost use Rattle.seg_machine.specs.Machine.{with_tailoring};
-ghost use Rattle.seg_pair_data.specs.Overriding.{table_in};
-ghost use Rattle.seg_pair_data.specs.PairFaults.{HasPairDataFault};
-ghost use Rattle.seg_clusters.specs.Engine.{rules_of};
-ghost use Rattle.seg_clusters.specs.Resets.{ResetsAfter};
-ghost use Rattle.seg_clusters.specs.Rules.{boundaries_of, machine_in};
+ghost use Rattle.seg_pair_data.specs.PairTable.{table_in};
+ghost use Rattle.seg_pair_data.specs.PairData.{HasPairDataFault};
+ghost use Rattle.seg_clusters.specs.Rules.{rules_of, ResetsAfter, boundaries_of, machine_in};
 ghost use Rattle.seg_clusters.specs.Rules.Rules.{ByTable, ByMachine};
 ghost use Rattle.seg_memo.specs.Memos.{IsMemoRefusal, IsNewMemo};
 
@@ -72,7 +68,7 @@ impl<'data, 's, Y: RuleBreakType<'s>> Drop for SentenceBreakIterator<'data, 's, 
 }
 
 impl<'data, 's, Y: RuleBreakType<'s>> SentenceBreakIterator<'data, 's, Y> {
-    ghost use Rattle.seg_clusters.specs.Sentences.{sentence_finder, sentences_source};
+    ghost use Rattle.seg_clusters.specs.Clusters.{sentence_finder, sentences_source};
 
     /// A cursor at the start of the whole text, whatever was given of its boundaries. Takes no memory.
     pub fn source(&self) -> Y::IterAttr
@@ -116,7 +112,7 @@ impl<'data, 's, Y: RuleBreakType<'s>> Clone for SentenceBreakIterator<'data, 's,
 impl<'data, 's, Y: RuleBreakType<'s>> Iterator for SentenceBreakIterator<'data, 's, Y> {
     ghost use Rattle.std.specs.Prelude.{⊤};
     ghost use Rattle.std.specs.Iterator.{MakesProgress};
-    ghost use Rattle.seg_clusters.specs.Sentences.{sentence_finder, sentences_places, sentences_source};
+    ghost use Rattle.seg_clusters.specs.Clusters.{sentence_finder, sentences_places, sentences_source};
 
     type Item = usize;
 
@@ -146,7 +142,7 @@ pub struct SentenceSegmenter {
 }
 
 impl SentenceSegmenter {
-    ghost use Rattle.seg_clusters.specs.Sentences.{sentence_rules, owned_sentence_rules};
+    ghost use Rattle.seg_clusters.specs.Clusters.{sentence_rules, owned_sentence_rules};
 
     /// A segmenter by a pair table and its override, if there is one. Of several faults that with
     /// the lowest number: `ClassOutOfRange` where the override names a class that the table lacks,
@@ -208,7 +204,7 @@ pub struct SentenceSegmenterBorrowed<'data> {
 }
 
 impl<'data> SentenceSegmenterBorrowed<'data> {
-    ghost use Rattle.seg_clusters.specs.Sentences.{sentence_rules, sentence_finder, sentences_left, sentences_source};
+    ghost use Rattle.seg_clusters.specs.Clusters.{sentence_rules, sentence_finder, sentences_left, sentences_source};
 
     /// A segmenter by a pair table and its override, if there is one. Of several faults that with
     /// the lowest number: `ClassOutOfRange` where the override names a class that the table lacks,

@@ -5,16 +5,12 @@ use Rattle.std.proofs.lemmas.List.{length-drop, length-map, take-map}
 use Rattle.std.proofs.lemmas.List.Sums.{prefix_len-le-length}
 use Rattle.seg_text.specs.declared.boundary.Boundary.{Boundary}
 use Rattle.seg_text.specs.Items.{Item, Text, start_of, rest_after, text_before, code_points}
-use Rattle.seg_text.specs.Boundaries.{boundary_in, boundaries_in, offsets, RisesTo}
-use Rattle.seg_text.specs.Cuts.{AreCutsOf, cut_places, with_status}
-use Rattle.seg_text.specs.Stretches.{later_boundaries, HasProgress, IsWithin}
+use Rattle.seg_text.specs.Boundaries.{boundary_in, boundaries_in, offsets, RisesTo, AreCutsOf, cut_places, with_status, later_boundaries, HasProgress, IsWithin}
 use Rattle.seg_text.proofs.Covers.{covers-list}
 use Rattle.seg_text.proofs.Places.{place-before}
 use Rattle.seg_text.proofs.Stretches.{text-later-next, text-later-nil}
 use Rattle.seg_data.specs.declared.provider.ComplexScript.{ComplexScript}
-use Rattle.seg_complex.specs.Scripts.{script_of, has_script}
-use Rattle.seg_complex.specs.Pieces.{GivesPiece, piece_length, piece_script}
-use Rattle.seg_complex.specs.RunCuts.{PieceCuts, CoverPieces, CoverRuns, at_end, piece_stretch, run_cuts}
+use Rattle.seg_complex.specs.Scripts.{script_of, has_script, GivesPiece, piece_length, piece_script, PieceCuts, CoverPieces, CoverRuns, at_end, piece_stretch, run_cuts}
 use Rattle.seg_complex.proofs.Pieces.{piece-some}
 
 progress : (cuts : PieceCuts) → HasProgress (piece_stretch cuts)

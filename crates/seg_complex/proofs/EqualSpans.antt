@@ -4,19 +4,16 @@ use Rattle.std.proofs.Math.Path.{fun_ext}
 use Rattle.std.specs.Prelude.{Option, None, Some}
 use Rattle.std.specs.List.{prefix_len}
 use Rattle.seg_text.specs.declared.boundary.Boundary.{Boundary}
-use Rattle.seg_text.specs.Boundaries.{offsets}
-use Rattle.seg_text.specs.Cuts.{with_status}
-use Rattle.seg_text.specs.Stretches.{Stretch, later_boundaries}
+use Rattle.seg_text.specs.Boundaries.{offsets, with_status, Stretch, later_boundaries}
 use Rattle.seg_data.specs.declared.provider.ComplexScript.{ComplexScript}
 use Rattle.seg_data.specs.ScriptWords.{ScriptWords, AreSameWords, IsSameChoice, words_in}
 use Rattle.seg_data.specs.WordSets.{Words}
 use Rattle.seg_clusters.specs.Rules.{boundaries_by}
 use Rattle.seg_machine.specs.Machine.{Machine, symbol_and_script}
 use Rattle.seg_complex.specs.DictionaryCuts.{Clusters}
-use Rattle.seg_complex.specs.InnerCuts.{inner_cuts, inside, span_cuts}
+use Rattle.seg_complex.specs.Spans.{inner_cuts, but_the_last, span_cuts, if_worded, span_length, span_words, worded_script}
 use Rattle.seg_complex.specs.Payloads.{Payloads}
 use Rattle.seg_complex.specs.Scripts.{script_number}
-use Rattle.seg_complex.specs.Spans.{if_worded, span_length, span_words, worded_script}
 use Rattle.seg_complex.proofs.EqualWords.{same-cuts}
 use Rattle.seg_complex.proofs.SpanStretches.{InSpan, stretch_with}
 
@@ -65,9 +62,9 @@ module _ (m : Machine) (words others : ScriptWords) (same : AreSameWords words o
         ap (λ n. with n (inner (span_words m words code_points) (take n code_points))) (same-length code_points)
         ∙ ap (with (span_length m others code_points)) (same-inner code_points (take (span_length m others code_points) code_points))))
 
-in-span-alike : (clusters : Clusters) → IsAlike (λ found span. with_status 0 (inside (span_cuts clusters found span)))
+in-span-alike : (clusters : Clusters) → IsAlike (λ found span. with_status 0 (but_the_last (span_cuts clusters found span)))
 in-span-alike clusters None None same span = refl
-in-span-alike clusters (Some words) (Some others) same span = ap (λ (cuts : List ℕ → List ℕ). with_status 0 (inside (cuts span))) (same-cuts words others same clusters)
+in-span-alike clusters (Some words) (Some others) same span = ap (λ (cuts : List ℕ → List ℕ). with_status 0 (but_the_last (cuts span))) (same-cuts words others same clusters)
 in-span-alike clusters None (Some others) same span = absurd same
 in-span-alike clusters (Some words) None same span = absurd same
 
@@ -75,4 +72,4 @@ pub same-inner-cuts : (m : Machine) (payloads : Payloads) (others : ScriptWords)
     → inner_cuts m (record { words = others; clusters = payloads.clusters }) ≡ inner_cuts m payloads
 same-inner-cuts m payloads others same =
     ap (λ (first : List ℕ → Stretch). (λ code_points. offsets (later_boundaries first code_points)))
-    (same-stretches m payloads.words others same (λ found span. with_status 0 (inside (span_cuts (boundaries_by payloads.clusters) found span))) (in-span-alike (boundaries_by payloads.clusters)))
+    (same-stretches m payloads.words others same (λ found span. with_status 0 (but_the_last (span_cuts (boundaries_by payloads.clusters) found span))) (in-span-alike (boundaries_by payloads.clusters)))

@@ -2,15 +2,14 @@
 use Rattle.std.proofs.Common.{◌≡◌, ℕ, zero, suc, Bool, true, false, List, [], ◌∷◌, ◌++◌, length, take, refl, sym, ap}
 use Rattle.std.proofs.Math.Path.{fun_ext}
 use Rattle.std.specs.Prelude.{Option, None, Some}
-use Rattle.seg_text.specs.Boundaries.{boundary, offsets}
-use Rattle.seg_text.specs.Stretches.{Stretch, later_boundaries}
+use Rattle.seg_text.specs.Boundaries.{boundary, offsets, Stretch, later_boundaries}
 use Rattle.seg_data.specs.declared.provider.ComplexScript.{ComplexScript}
 use Rattle.seg_data.specs.WordSets.{Words, IsSameSet}
 use Rattle.seg_data.specs.ScriptWords.{ScriptWords, AreSameWords, IsSameChoice, words_in}
 use Rattle.seg_clusters.specs.Rules.{boundaries_by}
 use Rattle.seg_complex.specs.DictionaryCuts.{Clusters, IsProperPrefix, is_word, goes_on, longest_word, read_from, read_all, first_cut, dictionary_cuts, by_words}
 use Rattle.seg_complex.specs.Payloads.{Payloads, run_cuts_by}
-use Rattle.seg_complex.specs.RunCuts.{PieceCuts, run_cuts}
+use Rattle.seg_complex.specs.Scripts.{PieceCuts, run_cuts}
 use Rattle.seg_complex.proofs.Tails.{word-to, word-from, prefix-to, prefix-from}
 
 -- two tests that say yes of the same

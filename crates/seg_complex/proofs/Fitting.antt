@@ -2,8 +2,8 @@
 use Rattle.std.proofs.Common.{◌≡◌, ℕ, zero, suc, ◌+◌, ◌<◌, ◌≤◌, List, [], ◌∷◌, map, drop, sym, subst, arith}
 use Rattle.std.specs.Prelude.{◌^◌}
 use Rattle.seg_text.specs.Items.{Item, Text, IsRising, place_of, start_of, rest_after, code_points}
-use Rattle.seg_text.specs.Cuts.{Cuts, cut_places}
-use Rattle.seg_complex.specs.LaterPlaces.{FitLater}
+use Rattle.seg_text.specs.Boundaries.{Cuts, cut_places}
+use Rattle.seg_complex.specs.Scripts.{FitLater}
 
 place-inside : (items : List Item) (end n : ℕ) → IsRising items end → place_of (drop n items) end ≤ end
 place-inside [] end zero rising = omega arith

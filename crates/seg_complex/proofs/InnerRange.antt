@@ -3,9 +3,7 @@ use Rattle.std.proofs.Common.{◌≡◌, ℕ, zero, suc, ◌+◌, ◌<◌, ◌�
 use Rattle.std.proofs.lemmas.List.{length-drop}
 use Rattle.std.specs.Prelude.{Option, None, Some}
 use Rattle.seg_text.specs.declared.boundary.Boundary.{Boundary}
-use Rattle.seg_text.specs.Boundaries.{offsets, shift_all, RisesTo}
-use Rattle.seg_text.specs.Cuts.{with_status}
-use Rattle.seg_text.specs.Stretches.{later_boundaries}
+use Rattle.seg_text.specs.Boundaries.{offsets, shift_all, RisesTo, with_status, later_boundaries}
 use Rattle.seg_text.proofs.Stretches.{later-nil, later-next}
 use Rattle.seg_data.specs.declared.provider.ComplexScript.{ComplexScript}
 use Rattle.seg_data.specs.ScriptWords.{words_in}
@@ -13,10 +11,9 @@ use Rattle.seg_data.specs.WordSets.{Words}
 use Rattle.seg_clusters.specs.Rules.{boundaries_by}
 use Rattle.seg_machine.specs.Machine.{Machine}
 use Rattle.seg_complex.specs.DictionaryCuts.{Clusters, by_words, dictionary_cuts}
-use Rattle.seg_complex.specs.InnerCuts.{inner_cuts, inner_stretch, inside, span_cuts}
+use Rattle.seg_complex.specs.Spans.{inner_cuts, inner_stretch, but_the_last, span_cuts, span_length, worded_script}
 use Rattle.seg_complex.specs.Payloads.{Payloads, piece_cuts_by}
-use Rattle.seg_complex.specs.RunCuts.{CoverPieces}
-use Rattle.seg_complex.specs.Spans.{span_length, worded_script}
+use Rattle.seg_complex.specs.Scripts.{CoverPieces}
 use Rattle.seg_complex.proofs.Cutting.{length-taken, offsets-append, rises-inside}
 use Rattle.seg_complex.proofs.SpanStretches.{span-inside, span-some}
 
@@ -43,7 +40,7 @@ between-shift before (boundary ∷ boundaries) low high are =
     (omega (arith, are.0), omega (arith, are.1), between-shift before boundaries boundary.offset high are.2)
 
 -- all cuts but the last
-inside-between : (cuts : List ℕ) (from end : ℕ) → RisesTo from (with_status 0 cuts) end → AreBetween from (offsets (with_status 0 (inside cuts))) end
+inside-between : (cuts : List ℕ) (from end : ℕ) → RisesTo from (with_status 0 cuts) end → AreBetween from (offsets (with_status 0 (but_the_last cuts))) end
 inside-between [] from end rises = tt
 inside-between (cut ∷ []) from end rises = tt
 inside-between (cut ∷ next ∷ cuts) from end rises = (
@@ -58,16 +55,16 @@ module _ (m : Machine) (payloads : Payloads) (cover : CoverPieces (piece_cuts_by
 
   alone-between : (found : Option Words) (script : ComplexScript) (n first : ℕ) (rest : List ℕ) → length (first ∷ rest) ≡ n
       → RisesTo 0 (with_status 0 (by_words found clusters script (first ∷ rest))) (length (first ∷ rest))
-      → AreBetween 0 (offsets (with_status 0 (inside (span_cuts clusters found (first ∷ rest))))) n
+      → AreBetween 0 (offsets (with_status 0 (but_the_last (span_cuts clusters found (first ∷ rest))))) n
   alone-between None script n first rest is rises = tt
   alone-between (Some words) script n first rest is rises =
       rw is at (inside-between (dictionary_cuts words clusters (first ∷ rest)) 0 (length (first ∷ rest)) rises)
 
   taken-between : (script : ComplexScript) (n first : ℕ) (rest : List ℕ) → 0 < n → n ≤ length (first ∷ rest)
-      → AreBetween 0 (offsets (with_status 0 (inside (span_cuts clusters (words_in payloads.words script) (take n (first ∷ rest)))))) n
-  taken-between script zero first rest some inside = absurd (omega arith)
-  taken-between script (suc n) first rest some inside =
-      alone-between (words_in payloads.words script) script (suc n) first (take n rest) (ap suc (length-taken n rest (omega (arith, inside)))) (cover script first (take n rest))
+      → AreBetween 0 (offsets (with_status 0 (but_the_last (span_cuts clusters (words_in payloads.words script) (take n (first ∷ rest)))))) n
+  taken-between script zero first rest some bound = absurd (omega arith)
+  taken-between script (suc n) first rest some bound =
+      alone-between (words_in payloads.words script) script (suc n) first (take n rest) (ap suc (length-taken n rest (omega (arith, bound)))) (cover script first (take n rest))
 
   stretch-between : (first : ℕ) (rest : List ℕ) → AreBetween 0 (offsets (inner_stretch m payloads (first ∷ rest)).boundaries) (span_length m payloads.words (first ∷ rest))
   stretch-between first rest =
@@ -82,12 +79,12 @@ module _ (m : Machine) (payloads : Payloads) (cover : CoverPieces (piece_cuts_by
       let n = span_length m payloads.words (first ∷ rest) in
       let left = drop n (first ∷ rest) in
       let later : List Boundary = later_boundaries (inner_stretch m payloads) left in
-      let inside : n ≤ length (first ∷ rest) = span-inside m payloads.words (first ∷ rest) in
-      let whole : n + length left ≡ length (first ∷ rest) = omega (arith, length-drop n (first ∷ rest), inside) in
+      let bound : n ≤ length (first ∷ rest) = span-inside m payloads.words (first ∷ rest) in
+      let whole : n + length left ≡ length (first ∷ rest) = omega (arith, length-drop n (first ∷ rest), but_the_last) in
       let none : n + 0 ≡ n = omega arith in
       let after : AreBetween n (offsets (shift_all n later)) (length (first ∷ rest)) = rw (none, whole) at (between-shift n later 0 (length left) between) in
       rw (later-next (inner_stretch m payloads) (λ first rest. span-some m payloads.words first rest) first rest, offsets-append (inner_stretch m payloads (first ∷ rest)).boundaries (shift_all n later))
-      (between-append _ _ 0 n (length (first ∷ rest)) (omega arith) inside (stretch-between first rest) after)
+      (between-append _ _ 0 n (length (first ∷ rest)) (omega arith) but_the_last (stretch-between first rest) after)
 
   stretches-between : (most : ℕ) (code_points : List ℕ) → length code_points ≤ most → AreBetween 0 (inner_cuts m payloads code_points) (length code_points)
   stretches-between most [] bound = rw (later-nil (inner_stretch m payloads)) tt

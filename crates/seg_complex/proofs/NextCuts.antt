@@ -2,8 +2,7 @@
 use Rattle.std.proofs.Common.{◌≡◌, ℕ, zero, suc, ◌+◌, ◌<◌, ◌≤◌, ◌⊎◌, inl, inr, Bool, true, false, ◌==◌, nat_le, List, [], ◌∷◌, ◌++◌, length, take, Contains, refl, sym, ap, ◌∙◌, subst, arith}
 use Rattle.std.specs.Prelude.{◌&&◌, ◌||◌, if◌then◌else◌, Option, None, Some, unwrap_or}
 use Rattle.std.proofs.lemmas.Bool.{cases_lt, eq-eqb, eqb-true, le-leb, lt-leb, and_parts, or_cases, or_left, or_right, false≢true}
-use Rattle.seg_text.specs.Boundaries.{RisesTo}
-use Rattle.seg_text.specs.Cuts.{with_status}
+use Rattle.seg_text.specs.Boundaries.{RisesTo, with_status}
 use Rattle.seg_data.specs.WordSets.{Words}
 use Rattle.seg_complex.specs.DictionaryCuts.{IsGreatest, IsLeast, HoldsOfNone, IsWordEnd, IsDeadEnd, IsNextCut, is_word, goes_on, is_end, end_from, longest_word, read_from, read_all, first_cut}
 use Rattle.seg_complex.proofs.Tails.{contains-cases, contains-here, contains-later, contains-nil, word-to, word-from, prefix-to, prefix-from}

@@ -5,8 +5,7 @@ use Rattle.std.specs.List.{prefix_len}
 use Rattle.std.proofs.lemmas.Bool.{cases_lt, cond_both, eqb-true}
 use Rattle.std.proofs.lemmas.List.{drop_all, length-drop, drop-append-le}
 use Rattle.seg_text.specs.declared.boundary.Boundary.{Boundary}
-use Rattle.seg_text.specs.Boundaries.{offsets, shift_all}
-use Rattle.seg_text.specs.Stretches.{Stretch, later_boundaries}
+use Rattle.seg_text.specs.Boundaries.{offsets, shift_all, Stretch, later_boundaries}
 use Rattle.seg_text.proofs.Places.{shifted-append, shifted-none, shifted-twice}
 use Rattle.seg_text.proofs.Stretches.{later-nil, later-next}
 use Rattle.seg_data.specs.declared.provider.ComplexScript.{ComplexScript}
@@ -14,11 +13,9 @@ use Rattle.seg_data.specs.declared.provider.ComplexScript.TheVariants.{None as N
 use Rattle.seg_data.specs.ScriptWords.{ScriptWords, words_in}
 use Rattle.seg_clusters.specs.Rules.{boundaries_by}
 use Rattle.seg_machine.specs.Machine.{Machine}
-use Rattle.seg_complex.specs.InnerCuts.{inner_cuts, inner_stretch}
-use Rattle.seg_complex.specs.LaterPlaces.{later_places}
-use Rattle.seg_complex.specs.Outside.{IsOutsideRuns, PartsCuts}
+use Rattle.seg_complex.specs.Spans.{inner_cuts, inner_stretch, IsOutsideRuns, PartsCuts, has_worded_script, span_length, worded_script}
+use Rattle.seg_complex.specs.Scripts.{later_places}
 use Rattle.seg_complex.specs.Payloads.{Payloads}
-use Rattle.seg_complex.specs.Spans.{has_worded_script, span_length, worded_script}
 use Rattle.seg_complex.proofs.Cutting.{offsets-append}
 use Rattle.seg_complex.proofs.InnerCuts.{in-span}
 use Rattle.seg_complex.proofs.Pieces.{same-number}

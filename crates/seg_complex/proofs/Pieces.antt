@@ -9,8 +9,7 @@ use Rattle.seg_text.specs.Items.{Item, Text, rest_after, text_before, code_point
 use Rattle.seg_text.proofs.Places.{code_points-drop}
 use Rattle.seg_data.specs.declared.provider.ComplexScript.{ComplexScript}
 use Rattle.seg_data.specs.declared.provider.ComplexScript.TheVariants.{None, Myanmar, ChineseOrJapanese, Khmer, Lao, Thai}
-use Rattle.seg_complex.specs.Scripts.{script_of, script_number, has_script}
-use Rattle.seg_complex.specs.Pieces.{HaveScript, IsPiece, Differ, joined, ArePieces, piece_length, pieces_within, pieces}
+use Rattle.seg_complex.specs.Scripts.{script_of, script_number, has_script, HaveScript, IsPiece, Differ, joined_pieces, ArePieces, piece_length, pieces_within, pieces}
 
 -- a script is told by its number
 pub same-number : (a b : ComplexScript) → script_number a ≡ script_number b → a ≡ b
@@ -155,7 +154,7 @@ pieces-are code_points = are-within (length code_points) code_points (omega arit
 
 -- and nothing else is
 
-pieces-rest : (piece : List ℕ) (found : List (List ℕ)) (code_points : List ℕ) → ArePieces code_points (piece ∷ found) → ArePieces (joined found) found
+pieces-rest : (piece : List ℕ) (found : List (List ℕ)) (code_points : List ℕ) → ArePieces code_points (piece ∷ found) → ArePieces (joined_pieces found) found
 pieces-rest piece found code_points are = record {
   whole = refl;
   each = are.each.1;
@@ -166,7 +165,7 @@ own-script : (first : ℕ) (piece : List ℕ) → IsPiece (first ∷ piece) → 
 own-script first piece (some, (script, have)) = subst (λ (s : ComplexScript). HaveScript s (first ∷ piece)) (sym have.0) have
 
 stops-after : (first : ℕ) (piece : List ℕ) (found : List (List ℕ)) (code_points : List ℕ) → ArePieces code_points ((first ∷ piece) ∷ found)
-    → Stops (script_of first) (joined found)
+    → Stops (script_of first) (joined_pieces found)
 stops-after first piece [] code_points are = tt
 stops-after first piece ([] ∷ found) code_points are = absurd (are.each.1.0.0 refl)
 stops-after first piece ((other ∷ next) ∷ found) code_points are = on (has_script (script_of first) other) refl
@@ -181,15 +180,15 @@ pub pieces-only : (code_points : List ℕ) (found : List (List ℕ)) → ArePiec
 pieces-only code_points [] are = rw (← are.whole) (sym pieces-nil)
 pieces-only code_points ([] ∷ found) are = absurd (are.each.0.0 refl)
 pieces-only code_points ((first ∷ piece) ∷ found) are =
-    let all = (first ∷ piece) ++ joined found in
+    let all = (first ∷ piece) ++ joined_pieces found in
     let count : piece_length all ≡ length (first ∷ piece) =
-    prefix-whole (script_of first) (first ∷ piece) (joined found) (own-script first piece are.each.0) (stops-after first piece found code_points are) in
+    prefix-whole (script_of first) (first ∷ piece) (joined_pieces found) (own-script first piece are.each.0) (stops-after first piece found code_points are) in
     let next : pieces all ≡ take (length (first ∷ piece)) all ∷ pieces (drop (length (first ∷ piece)) all) =
-    pieces-next first (piece ++ joined found) ∙ ap (λ n. take n all ∷ pieces (drop n all)) count in
+    pieces-next first (piece ++ joined_pieces found) ∙ ap (λ n. take n all ∷ pieces (drop n all)) count in
     let same : pieces all ≡ (first ∷ piece) ∷ found =
-    next ∙ ap (λ (taken : List ℕ). taken ∷ pieces (drop (length (first ∷ piece)) all)) (take-append_seam (first ∷ piece) (joined found))
-    ∙ ap (λ (rest : List ℕ). (first ∷ piece) ∷ pieces rest) (drop-append_seam (first ∷ piece) (joined found))
-    ∙ ap (λ (rest : List (List ℕ)). (first ∷ piece) ∷ rest) (sym (pieces-only (joined found) found (pieces-rest (first ∷ piece) found code_points are))) in
+    next ∙ ap (λ (taken : List ℕ). taken ∷ pieces (drop (length (first ∷ piece)) all)) (take-append_seam (first ∷ piece) (joined_pieces found))
+    ∙ ap (λ (rest : List ℕ). (first ∷ piece) ∷ pieces rest) (drop-append_seam (first ∷ piece) (joined_pieces found))
+    ∙ ap (λ (rest : List (List ℕ)). (first ∷ piece) ∷ rest) (sym (pieces-only (joined_pieces found) found (pieces-rest (first ∷ piece) found code_points are))) in
     sym same ∙ ap pieces are.whole
 
 -- the pieces of a text: the one that was given, and then those of what is left

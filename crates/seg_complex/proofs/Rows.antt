@@ -7,20 +7,20 @@ use Rattle.std.proofs.lemmas.List.Folds.{find-append}
 use Rattle.seg_data.specs.declared.provider.ComplexScript.TheVariants.{ChineseOrJapanese, Thai, None as NoScript}
 use Rattle.seg_data.specs.Table as tables
 use Rattle.seg_complex.specs.declared.script_iter.ranges.TheConstants.{RANGES}
-use Rattle.seg_complex.specs.Scripts.{Row, script_rows, holds, script_of, script_number}
+use Rattle.seg_complex.specs.Scripts.{Row, script_rows, row_holds, script_of, script_number}
 
 -- a row as a range
 numbered : Row → ℕ × ℕ × ℕ
 numbered row = (row.0, row.1, script_number row.2)
 
 find-numbered : (code_point : ℕ) (rows : List Row)
-    → find (tables.holds code_point) (map numbered rows) ≡ option_map numbered (find (holds code_point) rows)
+    → find (tables.holds code_point) (map numbered rows) ≡ option_map numbered (find (row_holds code_point) rows)
 unfolding numbered
 find-numbered code_point [] = refl
-find-numbered code_point (row ∷ rows) = on (holds code_point row) (find-numbered code_point rows)
+find-numbered code_point (row ∷ rows) = on (row_holds code_point row) (find-numbered code_point rows)
   where
-    on : (b : Bool) → find (tables.holds code_point) (map numbered rows) ≡ option_map numbered (find (holds code_point) rows)
-        → cond b (Some (numbered row)) (find (tables.holds code_point) (map numbered rows)) ≡ option_map numbered (cond b (Some row) (find (holds code_point) rows))
+    on : (b : Bool) → find (tables.holds code_point) (map numbered rows) ≡ option_map numbered (find (row_holds code_point) rows)
+        → cond b (Some (numbered row)) (find (tables.holds code_point) (map numbered rows)) ≡ option_map numbered (cond b (Some row) (find (row_holds code_point) rows))
     on true rest = refl
     on false rest = rest
 
@@ -34,33 +34,33 @@ abbrev begin_from : ℕ → List Row → Bool
 begin_from bound [] = true
 begin_from bound (row ∷ rows) = nat_le bound row.0 && begin_from bound rows
 
-past-none : (bound code_point : ℕ) (rows : List Row) → end_below bound rows ≡ true → bound ≤ code_point → find (holds code_point) rows ≡ None
+past-none : (bound code_point : ℕ) (rows : List Row) → end_below bound rows ≡ true → bound ≤ code_point → find (row_holds code_point) rows ≡ None
 past-none bound code_point [] ends past = refl
 past-none bound code_point (row ∷ rows) ends past =
     let parts = and_parts (nat_lt row.1 bound) (end_below bound rows) ends in
-    ap (λ b. cond b (Some row) (find (holds code_point) rows))
+    ap (λ b. cond b (Some row) (find (row_holds code_point) rows))
     (and_right (nat_le row.0 code_point) (nat_le code_point row.1) (lt-leb _ _ (omega (arith, ltb-true _ _ parts.0, past))))
     ∙ past-none bound code_point rows parts.1 past
 
-before-none : (bound code_point : ℕ) (rows : List Row) → begin_from bound rows ≡ true → code_point < bound → find (holds code_point) rows ≡ None
+before-none : (bound code_point : ℕ) (rows : List Row) → begin_from bound rows ≡ true → code_point < bound → find (row_holds code_point) rows ≡ None
 before-none bound code_point [] begins before = refl
 before-none bound code_point (row ∷ rows) begins before =
     let parts = and_parts (nat_le bound row.0) (begin_from bound rows) begins in
-    ap (λ b. cond b (Some row) (find (holds code_point) rows))
+    ap (λ b. cond b (Some row) (find (row_holds code_point) rows))
     (and_left (nat_le row.0 code_point) (nat_le code_point row.1) (lt-leb _ _ (omega (arith, leb-true _ _ parts.0, before))))
     ∙ before-none bound code_point rows parts.1 before
 
 -- rows on both sides of a bound may change places
 module _ (bound : ℕ) (start high low end : List Row) (begins : begin_from bound high ≡ true) (ends : end_below bound low ≡ true) where
   swapped : (code_point : ℕ)
-      → find (holds code_point) (start ++ (low ++ (high ++ end))) ≡ find (holds code_point) (start ++ (high ++ (low ++ end)))
+      → find (row_holds code_point) (start ++ (low ++ (high ++ end))) ≡ find (row_holds code_point) (start ++ (high ++ (low ++ end)))
   swapped code_point =
-      let test = holds code_point in
+      let test = row_holds code_point in
       find-append test start (low ++ (high ++ end)) ∙ ap (option_or (find test start)) middle ∙ sym (find-append test start (high ++ (low ++ end)))
     where
-      middle : find (holds code_point) (low ++ (high ++ end)) ≡ find (holds code_point) (high ++ (low ++ end))
+      middle : find (row_holds code_point) (low ++ (high ++ end)) ≡ find (row_holds code_point) (high ++ (low ++ end))
       middle =
-          let test = holds code_point in
+          let test = row_holds code_point in
           find-append test low (high ++ end) ∙ ap (option_or (find test low)) (find-append test high end)
           ∙ elim (cases_lt code_point bound) [
             | inl before ↦ rw (before-none bound code_point high begins before) (rw (← find-append test low end) (sym (find-append test high (low ++ end) ∙ rw (before-none bound code_point high begins before) refl)))
@@ -116,17 +116,17 @@ value-is-script code_point =
     ∙ ap value (find-numbered code_point (start ++ (low ++ (high ++ end))))
     ∙ number-of-found _
     ∙ ap (λ (found : Option Row). script_number (option_map_or (λ (row : Row). row.2) found NoScript))
-    (swapped 0xA9E0 start high low end high-begins low-ends code_point ∙ ap (find (holds code_point)) (sym rows-are))
+    (swapped 0xA9E0 start high low end high-begins low-ends code_point ∙ ap (find (row_holds code_point)) (sym rows-are))
 
 -- a row that holds a code point, where none before it does
 
-at-row : (before : List Row) (row : Row) (after : List Row) (code_point : ℕ) → find (holds code_point) before ≡ None → row.0 ≤ code_point → code_point ≤ row.1
-    → find (holds code_point) (before ++ (row ∷ after)) ≡ Some row
+at-row : (before : List Row) (row : Row) (after : List Row) (code_point : ℕ) → find (row_holds code_point) before ≡ None → row.0 ≤ code_point → code_point ≤ row.1
+    → find (row_holds code_point) (before ++ (row ∷ after)) ≡ Some row
 at-row before row after code_point none low high =
-    find-append (holds code_point) before (row ∷ after)
-    ∙ rw none (ap (λ b. cond b (Some row) (find (holds code_point) after)) (and_from (nat_le row.0 code_point) (nat_le code_point row.1) (le-leb _ _ low) (le-leb _ _ high)))
+    find-append (row_holds code_point) before (row ∷ after)
+    ∙ rw none (ap (λ b. cond b (Some row) (find (row_holds code_point) after)) (and_from (nat_le row.0 code_point) (nat_le code_point row.1) (le-leb _ _ low) (le-leb _ _ high)))
 
-script-at : (row : Row) (code_point : ℕ) → find (holds code_point) script_rows ≡ Some row → script_of code_point ≡ row.2
+script-at : (row : Row) (code_point : ℕ) → find (row_holds code_point) script_rows ≡ Some row → script_of code_point ≡ row.2
 unfolding script_of
 script-at row code_point found = rw found refl
 
@@ -168,22 +168,22 @@ lower-ends = refl
 pub letter-is-thai : (code_point : ℕ) → 0x0E01 ≤ code_point → code_point ≤ 0x0E3A → script_of code_point ≡ Thai
 unfolding thai_letters
 letter-is-thai code_point first last =
-    script-at thai_letters code_point (ap (find (holds code_point)) letters-are ∙ at-row [] thai_letters (drop 1 script_rows) code_point refl first last)
+    script-at thai_letters code_point (ap (find (row_holds code_point)) letters-are ∙ at-row [] thai_letters (drop 1 script_rows) code_point refl first last)
 
 pub sign-is-thai : (code_point : ℕ) → 0x0E40 ≤ code_point → code_point ≤ 0x0E4E → script_of code_point ≡ Thai
 unfolding thai_letters thai_signs
 sign-is-thai code_point first last =
     script-at thai_signs code_point
-    (ap (find (holds code_point)) signs-are ∙ at-row (thai_letters ∷ []) thai_signs (drop 2 script_rows) code_point (past-none 0x0E40 code_point (thai_letters ∷ []) refl first) first last)
+    (ap (find (row_holds code_point)) signs-are ∙ at-row (thai_letters ∷ []) thai_signs (drop 2 script_rows) code_point (past-none 0x0E40 code_point (thai_letters ∷ []) refl first) first last)
 
 pub ideograph-is-chinese : (code_point : ℕ) → 0x4E00 ≤ code_point → code_point ≤ 0x9FFF → script_of code_point ≡ ChineseOrJapanese
 unfolding ideographs
 ideograph-is-chinese code_point first last =
-    script-at ideographs code_point (ap (find (holds code_point)) ideographs-are ∙ at-row (start ++ (high ++ lower)) ideographs end code_point none first last)
+    script-at ideographs code_point (ap (find (row_holds code_point)) ideographs-are ∙ at-row (start ++ (high ++ lower)) ideographs end code_point none first last)
   where
-    none : find (holds code_point) (start ++ (high ++ lower)) ≡ None
+    none : find (row_holds code_point) (start ++ (high ++ lower)) ≡ None
     none =
-        find-append (holds code_point) start (high ++ lower)
+        find-append (row_holds code_point) start (high ++ lower)
         ∙ rw (past-none 0x4E00 code_point start start-ends first)
-        (find-append (holds code_point) high lower
+        (find-append (row_holds code_point) high lower
         ∙ rw (before-none 0xA9E0 code_point high high-begins (omega arith)) (past-none 0x4E00 code_point lower lower-ends first))

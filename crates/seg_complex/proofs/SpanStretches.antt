@@ -5,8 +5,7 @@ use Rattle.std.proofs.lemmas.List.{length-drop, length-map, take-map}
 use Rattle.std.proofs.lemmas.List.Sums.{prefix_len-le-length}
 use Rattle.seg_text.specs.declared.boundary.Boundary.{Boundary}
 use Rattle.seg_text.specs.Items.{Item, Text, rest_after, text_before, code_points}
-use Rattle.seg_text.specs.Boundaries.{boundary_in, boundaries_in}
-use Rattle.seg_text.specs.Stretches.{Stretch, HasProgress, later_boundaries}
+use Rattle.seg_text.specs.Boundaries.{boundary_in, boundaries_in, Stretch, HasProgress, later_boundaries}
 use Rattle.seg_text.proofs.Places.{place-before}
 use Rattle.seg_text.proofs.Stretches.{text-later-next}
 use Rattle.seg_data.specs.declared.provider.dictionary.cursor.DictionaryCursor.{DictionaryCursor}

@@ -3,8 +3,7 @@ use Rattle.std.proofs.Common.{◌≡◌, ℕ, zero, suc, ◌≤◌, List, [], �
 use Rattle.std.proofs.lemmas.List.{length-drop}
 use Rattle.std.specs.Prelude.{Option, None}
 use Rattle.std.specs.List.{prefix_len}
-use Rattle.seg_text.specs.Boundaries.{offsets}
-use Rattle.seg_text.specs.Stretches.{later_boundaries}
+use Rattle.seg_text.specs.Boundaries.{offsets, later_boundaries}
 use Rattle.seg_text.proofs.Stretches.{later-nil, later-next}
 use Rattle.seg_data.specs.declared.provider.ComplexScript.{ComplexScript}
 use Rattle.seg_data.specs.declared.provider.ComplexScript.TheVariants.{None as NoScript, Myanmar, ChineseOrJapanese, Khmer, Lao, Thai}
@@ -12,10 +11,9 @@ use Rattle.seg_data.specs.ScriptWords.{ScriptWords, no_words, words_in}
 use Rattle.seg_data.specs.WordSets.{Words}
 use Rattle.seg_clusters.specs.Rules.{Rules}
 use Rattle.seg_machine.specs.Machine.{Machine, symbol_and_script}
-use Rattle.seg_complex.specs.InnerCuts.{inner_cuts, inner_stretch}
+use Rattle.seg_complex.specs.Spans.{inner_cuts, inner_stretch, has_worded_script, if_worded, span_length, span_words, worded_script}
 use Rattle.seg_complex.specs.Payloads.{Payloads}
 use Rattle.seg_complex.specs.Scripts.{script_number}
-use Rattle.seg_complex.specs.Spans.{has_worded_script, if_worded, span_length, span_words, worded_script}
 use Rattle.seg_complex.proofs.SpanStretches.{span-some}
 
 no-words : (script : ComplexScript) → words_in no_words script ≡ None

@@ -5,14 +5,12 @@ use Rattle.std.proofs.lemmas.Bool.{cases_lt}
 use Rattle.std.proofs.lemmas.List.{drop-drop, length-drop, drop_all}
 use Rattle.seg_text.specs.declared.boundary.Boundary.{Boundary}
 use Rattle.seg_text.specs.Items.{Item, Text, start_of, rest_after, code_points}
-use Rattle.seg_text.specs.Boundaries.{boundary, shift_all, offsets, IsCover, HasRestart}
-use Rattle.seg_text.specs.Cuts.{cut_places}
-use Rattle.seg_text.specs.Stretches.{later_boundaries, HasProgress, IsWithin}
+use Rattle.seg_text.specs.Boundaries.{boundary, shift_all, offsets, IsCover, HasRestart, cut_places, later_boundaries, HasProgress, IsWithin}
 use Rattle.seg_text.proofs.Covers.{covers-list}
 use Rattle.seg_text.proofs.Stretches.{later-nil, later-next, text-later-next, text-later-nil}
 use Rattle.seg_data.specs.declared.provider.ComplexScript.{ComplexScript}
 use Rattle.seg_data.specs.WordSets.{Words}
-use Rattle.seg_complex.specs.RunCuts.{CoverPieces}
+use Rattle.seg_complex.specs.Scripts.{CoverPieces}
 use Rattle.seg_complex.specs.DictionaryCuts.{Clusters, IsNextCut, AreCutsAfter, AreDictionaryCuts, first_cut, next_cut, cut_stretch, dictionary_cuts, by_words, by_dictionaries}
 use Rattle.seg_complex.proofs.Cutting.{offsets-rise, places-offsets, at_end-covers}
 use Rattle.seg_complex.proofs.NextCuts.{Rises, next-one, next-other, next-ends, next-some, rising-within, last-among, first-is}

@@ -1,10 +1,4 @@
 pub mod Scripts
-pub mod Pieces
-pub mod RunCuts
 pub mod DictionaryCuts
-pub mod SmallDictionaries
 pub mod Payloads
-pub mod LaterPlaces
 pub mod Spans
-pub mod InnerCuts
-pub mod Outside

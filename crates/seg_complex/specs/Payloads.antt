@@ -1,10 +1,9 @@
 -- What the pieces of runs are cut by.
 use Rattle.std.specs.Prelude.{ℕ, List}
 use Rattle.std.specs.Option.{option_to_list}
-use Rattle.seg_text.specs.Cuts.{Cuts}
+use Rattle.seg_text.specs.Boundaries.{Cuts}
 use Rattle.seg_data.specs.WordSets.{Words}
-use Rattle.seg_data.specs.Dictionary.{words_of}
-use Rattle.seg_data.specs.ScriptWords.{ScriptWords, lent_words, words_in}
+use Rattle.seg_data.specs.ScriptWords.{words_of, ScriptWords, lent_words, words_in}
 use Rattle.seg_clusters.specs.Rules.{Rules, boundaries_by}
 use Rattle.seg_clusters.specs.Clusters.{cluster_rules}
 use Rattle.seg_complex.specs.declared.complex.ComplexIterator.{ComplexIterator}
@@ -14,7 +13,7 @@ use Rattle.seg_complex.specs.declared.complex.ComplexPayloadsBorrowed.{ComplexPa
 use Rattle.seg_complex.specs.declared.runs.PieceIterator.{PieceIterator}
 use Rattle.seg_complex.specs.declared.runs.PieceIterator.TheVariants.{End, Words as ByWords}
 use Rattle.seg_complex.specs.DictionaryCuts.{by_dictionaries}
-use Rattle.seg_complex.specs.RunCuts.{PieceCuts, run_cuts}
+use Rattle.seg_complex.specs.Scripts.{PieceCuts, run_cuts}
 
 -- the words of each script that has a dictionary, and what clusters are found by
 pub record Payloads : Type 0 where

@@ -1,6 +1,9 @@
 -- The scripts of code points that are written without spaces between words.
-use Rattle.std.specs.Prelude.{ℕ, ◌&&◌, ◌==◌, nat_le, Bool, List, [], ◌∷◌, find}
+use Rattle.std.specs.Prelude.{ℕ, ◌&&◌, ◌==◌, nat_le, Bool, List, [], ◌∷◌, find, ◌≡◌, ◌≢◌, zero, suc, ◌<◌, Option, Some, ◌++◌, length, take, drop, slice_get, MatchOption, ◌+◌, ◌^◌, map}
 use Rattle.std.specs.Option.{option_map_or}
+use Rattle.std.specs.List.{prefix_len}
+use Rattle.seg_text.specs.Items.{Text, rest_after, text_before, code_points}
+use Rattle.seg_text.specs.Boundaries.{offsets, RisesTo, Cuts, with_status, Stretch, later_boundaries}
 use Rattle.seg_data.specs.declared.provider.ComplexScript.{ComplexScript}
 use Rattle.seg_data.specs.declared.provider.ComplexScript.TheVariants.{None, Myanmar, ChineseOrJapanese, Khmer, Lao, Thai}
 
@@ -65,12 +68,12 @@ script_rows =
     ∷ []
 
 -- the row holds the code point
-abbrev pub holds : ℕ → Row → Bool
-holds code_point row = nat_le row.0 code_point && nat_le code_point row.1
+abbrev pub row_holds : ℕ → Row → Bool
+row_holds code_point row = nat_le row.0 code_point && nat_le code_point row.1
 
 -- the script of the row that holds a code point, or else none
 unfoldable pub script_of : ℕ → ComplexScript
-script_of code_point = option_map_or (λ (row : Row). row.2) (find (holds code_point) script_rows) None
+script_of code_point = option_map_or (λ (row : Row). row.2) (find (row_holds code_point) script_rows) None
 
 -- the numbers of the scripts, as data write them
 abbrev pub script_number : ComplexScript → ℕ
@@ -84,3 +87,102 @@ script_number Thai = 5
 -- the code point has the script
 abbrev pub has_script : ComplexScript → ℕ → Bool
 has_script script code_point = script_number (script_of code_point) == script_number script
+
+-- The pieces of a list of code points: the longest parts of one script each.
+
+-- all of these code points have the script
+abbrev pub HaveScript : ComplexScript → List ℕ → Type 0
+HaveScript script [] = Unit {0}
+HaveScript script (code_point ∷ code_points) = (script_of code_point ≡ script) × HaveScript script code_points
+
+-- a piece isn't empty, and its code points have one script
+abbrev pub IsPiece : List ℕ → Type 0
+IsPiece piece = (piece ≢ []) × ((script : ComplexScript) × HaveScript script piece)
+
+-- no script is that of both pieces
+abbrev pub Differ : List ℕ → List ℕ → Type 0
+Differ piece other = (script : ComplexScript) → HaveScript script piece → HaveScript script other → ⊥
+
+-- the pieces one after another
+abbrev pub joined_pieces : List (List ℕ) → List ℕ
+joined_pieces [] = []
+joined_pieces (piece ∷ pieces) = piece ++ joined_pieces pieces
+
+abbrev pub AllPieces : List (List ℕ) → Type 0
+AllPieces [] = Unit {0}
+AllPieces (piece ∷ pieces) = IsPiece piece × AllPieces pieces
+
+-- the pieces of some code points: joined they are the code points, each is a piece, and neighbours have different scripts
+pub record ArePieces (code_points : List ℕ) (pieces : List (List ℕ)) : Type 0 where
+  pub whole : joined_pieces pieces ≡ code_points
+  pub each : AllPieces pieces
+  pub differ : (k : ℕ) (piece next : List ℕ) → slice_get pieces k ≡ Some piece → slice_get pieces (suc k) ≡ Some next → Differ piece next
+
+-- how many code points the first piece has: as far as they have the script of the first
+abbrev pub piece_length : List ℕ → ℕ
+piece_length [] = 0
+piece_length (first ∷ rest) = prefix_len (has_script (script_of first)) (first ∷ rest)
+
+-- the script of the first piece
+abbrev pub piece_script : List ℕ → ComplexScript
+piece_script [] = None
+piece_script (first ∷ rest) = script_of first
+
+-- the pieces as a function, of which there are so many at most
+unfoldable pub pieces_within : ℕ → List ℕ → List (List ℕ)
+pieces_within zero code_points = []
+pieces_within (suc most) [] = []
+pieces_within (suc most) (first ∷ rest) =
+    let count = piece_length (first ∷ rest) in
+    take count (first ∷ rest) ∷ pieces_within most (drop count (first ∷ rest))
+
+unfoldable pub pieces : List ℕ → List (List ℕ)
+pieces code_points = pieces_within (length code_points) code_points
+
+-- the first piece of a text was given as a text of its own, with its script, and what comes after it is left; or, of
+-- a text with no item, none
+abbrev pub GivesPiece : {I : Type 0} → (I → Text) → Text → Option (I × ComplexScript) → Text → Type 0
+GivesPiece text before given after =
+    MatchOption given ((before.items ≡ []) × (after ≡ before))
+    (λ piece. let count = piece_length (code_points before.items) in
+    (0 < count) × (text piece.0 ≡ text_before count before) × (piece.1 ≡ piece_script (code_points before.items)) × (after ≡ rest_after count before))
+
+-- How a run of code points is cut: piece by piece, whatever cuts the pieces.
+
+-- where a piece of a script is cut: after so many of its code points each, the last at its end
+abbrev pub PieceCuts : Type 0
+PieceCuts = ComplexScript → List ℕ → List ℕ
+
+-- at its end alone
+abbrev pub at_end : PieceCuts
+at_end script piece = length piece ∷ []
+
+-- the first stretch of a run: its first piece, with the piece's cuts
+abbrev pub piece_stretch : PieceCuts → List ℕ → Stretch
+piece_stretch cuts run =
+    let extent = piece_length run in
+    record { extent = extent; boundaries = with_status 0 (cuts (piece_script run) (take extent run)) }
+
+-- the cuts of a run: those of its pieces
+abbrev pub run_cuts : PieceCuts → Cuts
+run_cuts cuts run = offsets (later_boundaries (piece_stretch cuts) run)
+
+-- the cuts of each piece rise strictly from its start, where there is none, and the last is at its end
+abbrev pub CoverPieces : PieceCuts → Type 0
+CoverPieces cuts =
+    (script : ComplexScript) (first : ℕ) (rest : List ℕ)
+    → RisesTo 0 (with_status 0 (cuts script (first ∷ rest))) (length (first ∷ rest))
+
+-- so do the cuts of each run
+abbrev pub CoverRuns : PieceCuts → Type 0
+CoverRuns cuts = (run : List ℕ) → RisesTo 0 (with_status 0 (run_cuts cuts run)) (length run)
+
+-- Places that are given so much later.
+
+abbrev pub later_places : ℕ → List ℕ → List ℕ
+later_places offset places = map (λ (place : ℕ). offset + place) places
+
+-- they are still numbers of 64 bits
+abbrev pub FitLater : ℕ → List ℕ → Type 0
+FitLater offset [] = Unit {0}
+FitLater offset (place ∷ places) = (offset + place < 2 ^ 64) × FitLater offset places

@@ -2,17 +2,14 @@
 
 ghost use Rattle.std.specs.Prelude.{◌≡◌, ◌≢◌, ◌+◌, ◌<◌, ◌^◌, length, IfOk, IfErr};
 ghost use Rattle.std.specs.Iterator.{YieldsFirst, item_count};
-ghost use Rattle.seg_text.specs.Cuts.{cut_places};
-ghost use Rattle.seg_text.specs.Utf8.{utf8};
-ghost use Rattle.seg_text.specs.Utf16.{utf16};
+ghost use Rattle.seg_text.specs.Boundaries.{cut_places};
+ghost use Rattle.seg_text.specs.Decoding.{utf8, utf16};
 ghost use Rattle.seg_memo.specs.Memos.{IsMemoRefusal, IsNewMemo};
-ghost use Rattle.seg_clusters.specs.Engine.{rules_of};
-ghost use Rattle.seg_clusters.specs.Rules.{boundaries_by, boundaries_of, machine_in};
+ghost use Rattle.seg_clusters.specs.Rules.{rules_of, boundaries_by, boundaries_of, machine_in};
 ghost use Rattle.seg_data.specs.ScriptWords.{filled, lent_words, no_words};
 ghost use Rattle.seg_clusters.specs.Clusters.{cluster_rules};
 ghost use Rattle.seg_complex.specs.DictionaryCuts.{dictionary_cuts};
-ghost use Rattle.seg_complex.specs.LaterPlaces.{later_places};
-ghost use Rattle.seg_complex.specs.RunCuts.{CoverPieces, CoverRuns};
+ghost use Rattle.seg_complex.specs.Scripts.{later_places, CoverPieces, CoverRuns};
 ghost use Rattle.seg_complex.specs.Payloads.{payload_words, payloads_of, piece_cuts_by};
 
 use crate::later::LaterCuts;

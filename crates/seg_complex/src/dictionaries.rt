@@ -3,8 +3,7 @@
 ghost use Rattle.std.specs.Prelude.{◌≡◌, ◌≢◌, ◌≤◌, ◌<◌, Some, if◌then◌else◌, [], ◌∷◌};
 ghost use Rattle.std.specs.Iterator.{YieldsFirst, item_count};
 ghost use Rattle.seg_text.specs.Items.{start_of, rest_after, code_points};
-ghost use Rattle.seg_text.specs.Boundaries.{offsets_left};
-ghost use Rattle.seg_text.specs.Cuts.{cut_places};
+ghost use Rattle.seg_text.specs.Boundaries.{offsets_left, cut_places};
 ghost use Rattle.seg_clusters.specs.Rules.{boundaries_by};
 ghost use Rattle.seg_clusters.specs.Clusters.{cluster_rules};
 ghost use Rattle.seg_complex.specs.DictionaryCuts.{next_cut, dictionary_cuts};
@@ -31,7 +30,7 @@ pub struct DictionaryCuts<'data, D: WordCursor, I: Cursor> {
 
 impl<'data, D: WordCursor, I: Cursor> Model for DictionaryCuts<'data, D, I> {
     ghost use Rattle.std.specs.Prelude.{ℕ, List};
-    ghost use Rattle.seg_text.specs.Cuts.{cut_places};
+    ghost use Rattle.seg_text.specs.Boundaries.{cut_places};
     ghost use Rattle.seg_clusters.specs.Rules.{boundaries_by};
     ghost use Rattle.seg_clusters.specs.Clusters.{cluster_rules};
     ghost use Rattle.seg_complex.specs.DictionaryCuts.{dictionary_cuts};

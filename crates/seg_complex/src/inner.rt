@@ -2,13 +2,13 @@
 
 ghost use Rattle.std.specs.Prelude.{◌≡◌};
 ghost use Rattle.std.specs.Iterator.{YieldsFirst, item_count};
-ghost use Rattle.seg_text.specs.Cuts.{cut_places};
+ghost use Rattle.seg_text.specs.Boundaries.{cut_places};
 ghost use Rattle.seg_machine.specs.Tailored.{machine_of};
 ghost use Rattle.std.specs.Option.{option_map};
 ghost use Rattle.seg_clusters.specs.Clusters.{cluster_rules};
-ghost use Rattle.seg_data.specs.Dictionary.{words_after};
+ghost use Rattle.seg_data.specs.ScriptWords.{words_after};
 ghost use Rattle.seg_clusters.specs.Rules.{boundaries_by};
-ghost use Rattle.seg_complex.specs.InnerCuts.{inner_cuts, span_cuts};
+ghost use Rattle.seg_complex.specs.Spans.{inner_cuts, span_cuts};
 ghost use Rattle.seg_complex.specs.Payloads.{payloads_of, piece_left};
 
 use crate::complex::ComplexPayloadsBorrowed;
@@ -37,14 +37,14 @@ pub struct InnerCuts<'data, I: Cursor> {
 impl<'data, I: Cursor> Model for InnerCuts<'data, I> {
     ghost use Rattle.std.specs.Prelude.{◌≡◌, ◌++◌, None, ℕ, List, []};
     ghost use Rattle.std.specs.Option.{option_to_list};
-    ghost use Rattle.seg_text.specs.Cuts.{cut_places};
+    ghost use Rattle.seg_text.specs.Boundaries.{cut_places};
     ghost use Rattle.seg_machine.specs.Tailored.{machine_of};
-    ghost use Rattle.seg_complex.specs.InnerCuts.{inner_cuts, inside};
+    ghost use Rattle.seg_complex.specs.Spans.{inner_cuts, but_the_last};
     ghost use Rattle.seg_complex.specs.Payloads.{payloads_of, piece_left};
 
     ghost Value = { List ℕ };
 
-    ghost view = { λ s. inside (option_to_list s.held ++ piece_left s.run) ++ cut_places (inner_cuts (machine_of s.machine) (payloads_of s.payloads)) (I.text s.rest) };
+    ghost view = { λ s. but_the_last (option_to_list s.held ++ piece_left s.run) ++ cut_places (inner_cuts (machine_of s.machine) (payloads_of s.payloads)) (I.text s.rest) };
 
     ghost invariant = { λ s. s.held ≡ None → piece_left s.run ≡ [] };
 }

@@ -2,11 +2,11 @@
 
 ghost use Rattle.std.specs.Prelude.{◌≡◌, ◌+◌, ◌<◌, ◌^◌};
 ghost use Rattle.std.specs.Iterator.{YieldsFirst, item_count};
-ghost use Rattle.seg_text.specs.Cuts.{cut_places};
+ghost use Rattle.seg_text.specs.Boundaries.{cut_places};
 ghost use Rattle.seg_clusters.specs.Rules.{boundaries_by};
 ghost use Rattle.seg_clusters.specs.Clusters.{cluster_rules};
 ghost use Rattle.seg_complex.specs.DictionaryCuts.{dictionary_cuts};
-ghost use Rattle.seg_complex.specs.LaterPlaces.{later_places};
+ghost use Rattle.seg_complex.specs.Scripts.{later_places};
 
 use crate::dictionaries::DictionaryCuts;
 use seg_clusters::grapheme::GraphemeClusterSegmenterBorrowed;
@@ -23,7 +23,7 @@ pub(crate) struct LaterCuts<'data, I: Cursor> {
 
 impl<'data, I: Cursor> Model for LaterCuts<'data, I> {
     ghost use Rattle.std.specs.Prelude.{ℕ, List};
-    ghost use Rattle.seg_complex.specs.LaterPlaces.{FitLater, later_places};
+    ghost use Rattle.seg_complex.specs.Scripts.{FitLater, later_places};
 
     ghost Value = { List ℕ };
 
@@ -33,7 +33,7 @@ impl<'data, I: Cursor> Model for LaterCuts<'data, I> {
 }
 
 impl<'data, I: Cursor> LaterCuts<'data, I> {
-    ghost use Rattle.seg_data.specs.Dictionary.{words_of};
+    ghost use Rattle.seg_data.specs.ScriptWords.{words_of};
 
     /// The cuts of what is left of a piece by a dictionary.
     pub(crate) fn new(

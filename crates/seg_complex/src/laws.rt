@@ -1,21 +1,17 @@
 //! Laws of pieces, and of the cuts of pieces and runs.
 
 ghost use Rattle.std.specs.Prelude.{◌≡◌, ℕ, Option, List, [], ◌∷◌, length};
-ghost use Rattle.seg_text.specs.Boundaries.{RisesTo};
-ghost use Rattle.seg_text.specs.Cuts.{with_status};
+ghost use Rattle.seg_text.specs.Boundaries.{RisesTo, with_status};
 ghost use Rattle.seg_data.specs.declared.provider.ComplexScript.{ComplexScript};
 ghost use Rattle.seg_data.specs.ScriptWords.{ScriptWords, AreSameWords};
 ghost use Rattle.seg_data.specs.WordSets.{IsSameSet, Words};
 ghost use Rattle.seg_clusters.specs.Rules.{boundaries_by};
 ghost use Rattle.seg_machine.specs.Machine.{Machine};
 ghost use Rattle.seg_clusters.specs.Clusters.{cluster_rules};
-ghost use Rattle.seg_complex.specs.DictionaryCuts.{AreDictionaryCuts, Clusters, dictionary_cuts, by_dictionaries};
-ghost use Rattle.seg_complex.specs.InnerCuts.{inner_cuts};
-ghost use Rattle.seg_complex.specs.Outside.{IsOutsideRuns, PartsCuts};
+ghost use Rattle.seg_complex.specs.DictionaryCuts.{AreDictionaryCuts, Clusters, dictionary_cuts, by_dictionaries, small_clusters, thai_word, thai_words, edition_words, replacement_word};
+ghost use Rattle.seg_complex.specs.Spans.{inner_cuts, IsOutsideRuns, PartsCuts};
 ghost use Rattle.seg_complex.specs.Payloads.{Payloads, run_cuts_by};
-ghost use Rattle.seg_complex.specs.Pieces.{ArePieces, pieces};
-ghost use Rattle.seg_complex.specs.RunCuts.{PieceCuts, CoverPieces, CoverRuns, at_end, run_cuts};
-ghost use Rattle.seg_complex.specs.SmallDictionaries.{small_clusters, thai_word, thai_words, edition_words, replacement_word};
+ghost use Rattle.seg_complex.specs.Scripts.{ArePieces, pieces, PieceCuts, CoverPieces, CoverRuns, at_end, run_cuts};
 
 use seg_clusters::grapheme::GraphemeClusterSegmenterBorrowed;
 use seg_clusters::laws::grapheme;

@@ -2,14 +2,13 @@
 
 ghost use Rattle.std.specs.Prelude.{◌≡◌};
 ghost use Rattle.std.specs.Iterator.{YieldsFirst, item_count};
-ghost use Rattle.seg_text.specs.Cuts.{cut_places};
+ghost use Rattle.seg_text.specs.Boundaries.{cut_places};
 ghost use Rattle.seg_complex.specs.Payloads.{payloads_of, piece_cuts_by, piece_left, run_cuts_by};
 
 use crate::complex::ComplexPayloadsBorrowed;
 use crate::dictionaries::DictionaryCuts;
 use crate::script_iter::ScriptIterator;
-use seg_data::provider::ComplexScript;
-use seg_data::provider::DictionaryCursor;
+use seg_data::provider::{ComplexScript, DictionaryCursor};
 use seg_text::cursor::Cursor;
 use std::marker::Model;
 
@@ -69,7 +68,7 @@ pub struct RunCuts<'data, I: Cursor> {
 
 impl<'data, I: Cursor> Model for RunCuts<'data, I> {
     ghost use Rattle.std.specs.Prelude.{◌++◌, ℕ, List};
-    ghost use Rattle.seg_text.specs.Cuts.{cut_places};
+    ghost use Rattle.seg_text.specs.Boundaries.{cut_places};
     ghost use Rattle.seg_complex.specs.Payloads.{payloads_of, piece_left, run_cuts_by};
 
     ghost Value = { List ℕ };

@@ -2,8 +2,7 @@
 
 ghost use Rattle.std.specs.Prelude.{◌≡◌, [], ◌∷◌, MatchOption};
 ghost use Rattle.seg_text.specs.Items.{start_of, code_points};
-ghost use Rattle.seg_complex.specs.Pieces.{GivesPiece, pieces};
-ghost use Rattle.seg_complex.specs.Scripts.{script_number, script_of};
+ghost use Rattle.seg_complex.specs.Scripts.{GivesPiece, pieces, script_number, script_of};
 
 mod ranges;
 

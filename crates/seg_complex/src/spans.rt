@@ -3,12 +3,10 @@
 ghost use Rattle.std.specs.Prelude.{◌≡◌, ◌↔◌, IsTrue};
 ghost use Rattle.seg_data.specs.ScriptWords.{lent_words};
 ghost use Rattle.seg_machine.specs.Tailored.{machine_of};
-ghost use Rattle.seg_complex.specs.Outside.{IsOutsideRuns};
-ghost use Rattle.seg_complex.specs.Spans.{GivesSpan, worded_script};
+ghost use Rattle.seg_complex.specs.Spans.{IsOutsideRuns, GivesSpan, worded_script};
 
-use seg_data::provider::ComplexScript;
 use seg_data::dictionaries::DictionariesBorrowed;
-use seg_data::provider::DictionaryCursor;
+use seg_data::provider::{ComplexScript, DictionaryCursor};
 use seg_machine::tailored_machine::TailoredMachineBorrowed;
 use seg_text::cursor::Cursor;
 use seg_text::prefixes::{CodePointTest, take_prefix};

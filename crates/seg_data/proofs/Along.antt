@@ -3,7 +3,7 @@ use Rattle.std.proofs.Common.{◌≡◌, ℕ, zero, suc, ◌+◌, ◌<◌, ◌�
 use Rattle.std.proofs.lemmas.Bool.{cases_lt, eq-eqb, ne_eqb, lt-ltb}
 use Rattle.std.proofs.lemmas.List.{append-nil, append_assoc, length-append, length-map}
 use Rattle.seg_data.specs.WordSets.{Words, tails_after, has_empty, has_nonempty}
-use Rattle.seg_data.specs.Trie.{empty_word, words_along, IsRising, IsFirstFrom}
+use Rattle.seg_data.specs.Trie.{empty_word, words_along, AreEdgesRising, IsFirstFrom}
 
 pub along-same : (f g : ℕ → Words) (edges : List (ℕ × ℕ))
     → ((k : ℕ) → k < length edges → f (get_or edges k (0, 0)).1 ≡ g (get_or edges k (0, 0)).1) → words_along f edges ≡ words_along g edges
@@ -113,7 +113,7 @@ one-along f code_point (edge ∷ edges) (suc place) within same differ =
     ∙ one-along f code_point edges place (omega arith) same (λ k below other. differ (suc k) (omega arith) (λ e. other (omega arith)))
 
 -- the first edge that isn't below the code point has it
-pub edge-found : (f : ℕ → Words) (code_point : ℕ) (edges : List (ℕ × ℕ)) (place : ℕ) → IsRising edges → IsFirstFrom edges code_point place
+pub edge-found : (f : ℕ → Words) (code_point : ℕ) (edges : List (ℕ × ℕ)) (place : ℕ) → AreEdgesRising edges → IsFirstFrom edges code_point place
     → place < length edges → (get_or edges place (0, 0)).0 ≡ code_point
     → tails_after code_point (words_along f edges) ≡ f (get_or edges place (0, 0)).1
 edge-found f code_point edges place rising first within same =
@@ -124,7 +124,7 @@ edge-found f code_point edges place rising first within same =
     ]))
 
 -- no edge has it
-pub edge-missing : (f : ℕ → Words) (code_point : ℕ) (edges : List (ℕ × ℕ)) (place : ℕ) → IsRising edges → IsFirstFrom edges code_point place
+pub edge-missing : (f : ℕ → Words) (code_point : ℕ) (edges : List (ℕ × ℕ)) (place : ℕ) → AreEdgesRising edges → IsFirstFrom edges code_point place
     → (place < length edges → (get_or edges place (0, 0)).0 ≡ code_point → ⊥)
     → tails_after code_point (words_along f edges) ≡ []
 edge-missing f code_point edges place rising first missing =
@@ -140,7 +140,7 @@ edge-missing f code_point edges place rising first missing =
     ]))
 
 -- halving: what is below the middle's code point
-pub all-before : (edges : List (ℕ × ℕ)) (code_point middle : ℕ) → IsRising edges → middle < length edges
+pub all-before : (edges : List (ℕ × ℕ)) (code_point middle : ℕ) → AreEdgesRising edges → middle < length edges
     → (get_or edges middle (0, 0)).0 < code_point → (k : ℕ) → k < middle + 1 → (get_or edges k (0, 0)).0 < code_point
 all-before edges code_point middle rising within low k below =
     elim (cases_lt k middle) [
@@ -150,7 +150,7 @@ all-before edges code_point middle rising within low k below =
           rw e low
     ]
 
-pub all-after : (edges : List (ℕ × ℕ)) (code_point middle : ℕ) → IsRising edges
+pub all-after : (edges : List (ℕ × ℕ)) (code_point middle : ℕ) → AreEdgesRising edges
     → code_point ≤ (get_or edges middle (0, 0)).0 → (k : ℕ) → middle ≤ k → k < length edges → code_point ≤ (get_or edges k (0, 0)).0
 all-after edges code_point middle rising high k above within =
     elim (cases_lt middle k) [

@@ -2,9 +2,8 @@
 use Rattle.std.proofs.Common.{◌≡◌, ℕ, ◌+◌, ◌-◌, ◌<◌, ◌≤◌, Bool, true, false, List, [], ◌∷◌, ◌++◌, length, map, get_or, take, drop, refl, sym, subst, ap, ◌∙◌, inl, inr, arith}
 use Rattle.std.proofs.lemmas.Bool.{cases_lt, false≢true}
 use Rattle.std.proofs.lemmas.List.{append-nil, append_assoc, length-append, length-drop, length_push, get_or_append_left, get_or-append_right, get_or_push, drop-append-le, take-append-le, drop_at, take_all, drop_more, drop_all}
-use Rattle.seg_data.specs.WordSets.{Words}
-use Rattle.seg_data.specs.Sorting.{IsInOrder}
-use Rattle.seg_data.specs.Trie.{Trie, trie, edges_of, empty_word, words_along, words_from, IsRising, IsNode, IsTrie}
+use Rattle.seg_data.specs.WordSets.{Words, IsInOrder}
+use Rattle.seg_data.specs.Trie.{Trie, trie, edges_of, empty_word, words_along, words_from, AreEdgesRising, IsNode, IsTrie}
 use Rattle.seg_data.specs.Building.{word_at, letter, rests, rests_of, rests_at, IsRange, AreLonger, IsGroup, total, owed, left, AreAdded, IsBegun, IsDraft}
 use Rattle.seg_data.proofs.Along.{along-same, along-append}
 use Rattle.seg_data.proofs.Tries.{words-filled}
@@ -27,7 +26,7 @@ append-at P d xs ys zs e n within first second =
           (second (n - length xs) (omega (arith, ap length e, length-append xs ys)))
     ]
 
-rising-push : (xs : List (ℕ × ℕ)) (x : ℕ × ℕ) → IsRising xs → ((k : ℕ) → k < length xs → (get_or xs k (0, 0)).0 < x.0) → IsRising (xs ++ x ∷ [])
+rising-push : (xs : List (ℕ × ℕ)) (x : ℕ × ℕ) → AreEdgesRising xs → ((k : ℕ) → k < length xs → (get_or xs k (0, 0)).0 < x.0) → AreEdgesRising (xs ++ x ∷ [])
 rising-push xs x rising below i j less within =
     let short : i < length xs = omega (arith, length_push xs x) in
     let here = ap (λ (p : ℕ × ℕ). p.0) (get_or_append_left xs (x ∷ []) (0, 0) i short) in
@@ -180,7 +179,7 @@ node-same : (count more : ℕ) (t u : Trie) (n : ℕ) → count ≤ more → get
 node-same count more t u n grows start end longer same flag is = record {
   order = omega (arith, start, end, is.order);
   within = omega (arith, end, is.within);
-  rises = subst IsRising (sym same) is.rises;
+  rises = subst AreEdgesRising (sym same) is.rises;
   later = λ k within. subst (λ (es : List (ℕ × ℕ)). k < length es → n < (get_or es k (0, 0)).1) (sym same) (is.later k) within;
   known = λ k within.
       let old = subst (λ (es : List (ℕ × ℕ)). k < length es → (get_or es k (0, 0)).1 < count) (sym same) (is.known k) within in
@@ -306,7 +305,7 @@ new-node words first end depth begin flag flags starts old_edges edges old_range
     record {
       order = omega arith;
       within = omega arith;
-      rises = subst IsRising (sym same) a.rises;
+      rises = subst AreEdgesRising (sym same) a.rises;
       later = λ k within.
           let target = subst (λ (es : List (ℕ × ℕ)). k < length es → length old_ranges ≤ (get_or es k (0, 0)).1) (sym same) (a.later k) within in
           let known = next.known in

@@ -2,8 +2,7 @@
 use Rattle.std.proofs.Common.{◌≡◌, ℕ, zero, suc, ◌+◌, ◌-◌, ◌<◌, ◌≤◌, true, false, cond, ltb, List, [], ◌∷◌, ◌++◌, length, map, drop, refl, sym, ap, ◌∙◌, inl, inr, arith}
 use Rattle.std.proofs.lemmas.Bool.{cases_lt, eq-eqb, ne_eqb, ltb-true, false≢true}
 use Rattle.std.proofs.lemmas.List.{drop_more, drop_all}
-use Rattle.seg_data.specs.WordSets.{Words}
-use Rattle.seg_data.specs.Sorting.{is_before}
+use Rattle.seg_data.specs.WordSets.{Words, is_before}
 use Rattle.seg_data.specs.Building.{word_at, letter, rests, IsRange, AreLonger, IsGroup, total, owed}
 
 pub rests-split : (words : Words) (depth first a b : ℕ) → rests words depth first (a + b) ≡ rests words depth first a ++ rests words depth (first + a) b

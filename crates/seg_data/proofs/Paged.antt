@@ -7,8 +7,7 @@ use Rattle.std.proofs.lemmas.Bool.{cases_eq, cases_lt}
 use Rattle.std.proofs.lemmas.Grind.{get_or_default_zero}
 use Rattle.std.proofs.lemmas.List.{get_or_append_left, length-append}
 use Rattle.std.proofs.lemmas.Nat.{div-add-mod'}
-use Rattle.seg_data.specs.Pages.{ArePages, HasGrown, IsPageAt, IsPlain}
-use Rattle.seg_data.specs.Table.{Table, value_of}
+use Rattle.seg_data.specs.Table.{ArePages, HasGrown, IsPageAt, IsPlain, Table, value_of}
 
 -- the values of the first code points stand each at its place
 abbrev pub AreFirst : Table → List ℕ → ℕ → Type 0

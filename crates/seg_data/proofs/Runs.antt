@@ -5,8 +5,7 @@ use Rattle.std.proofs.lemmas.Bool.{cases_lt, lt-leb, and_left, and_right}
 use Rattle.std.proofs.lemmas.List.{drop_more, drop_all}
 use Rattle.seg_data.specs.declared.provider.DataError.TheVariants.{RangeOrder}
 use Rattle.seg_data.specs.Faults.{HasRangeFault, IsFaultless}
-use Rattle.seg_data.specs.Pages.{IsFirstReaching, IsRun}
-use Rattle.seg_data.specs.Table.{table, holds, value_of}
+use Rattle.seg_data.specs.Table.{IsFirstReaching, IsRun, table, holds, value_of}
 use Rattle.seg_data.proofs.Anywhere.{any-at}
 use Rattle.seg_data.proofs.Ranges.{found-at, overlaps-at}
 

@@ -1,6 +1,5 @@
 -- Words that were sorted, and of which each is kept once.
-use Rattle.std.proofs.Common.{◌≡◌, ℕ, ◌<◌, Bool, true, List, [], ◌∷◌, length, get_or, refl, sym, subst, ap, ◌∙◌, arith}
-use Rattle.std.proofs.Common.{Ordering}
+use Rattle.std.proofs.Common.{◌≡◌, ℕ, ◌<◌, Bool, true, List, [], ◌∷◌, length, get_or, refl, sym, subst, ap, ◌∙◌, arith, Ordering}
 use Rattle.std.specs.Prelude.{Contains, nat_eq, Vec}
 use Rattle.std.specs.declared.cmp.Ordering.TheVariants.{Less, Equal, Greater}
 use Rattle.std.specs.Cmp.Lexicographic.{slice_cmp, pointwise, texts_ties, on_texts, on_texts_equal}
@@ -17,9 +16,7 @@ use Rattle.std.proofs.lemmas.List.Kept.{Any-dedup, Contains-from_dedup, IsStrict
 use Rattle.std.proofs.lemmas.List.Sorted.{Contains-permutation, IsPermutation-sym}
 use Rattle.std.proofs.lemmas.Map.Keys.{Less-from_sorted}
 use Rattle.std.proofs.lemmas.Map.Lookups.{exact_bytes}
-use Rattle.seg_data.specs.WordSets.{Words, IsSameSet}
-use Rattle.seg_data.specs.Sorting.{is_before, IsInOrder}
-use Rattle.seg_data.specs.Texts.{held}
+use Rattle.seg_data.specs.WordSets.{Words, IsSameSet, is_before, IsInOrder, held}
 
 -- the order of vectors, and whether they hold the same
 abbrev compared : Vec ℕ Global → Vec ℕ Global → Ordering

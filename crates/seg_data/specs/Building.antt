@@ -1,9 +1,8 @@
 -- A trie that is built from words in order. Each of its nodes stands for a range of them, (first, end, depth): the words from
 -- the first to before the end, which begin with the same code points, as many as the depth.
 use Rattle.std.specs.Prelude.{◌≡◌, ℕ, zero, suc, ◌+◌, ◌-◌, ◌<◌, ◌≤◌, Bool, true, false, List, [], ◌∷◌, ◌++◌, length, drop, slice_index, slice_index_or}
-use Rattle.seg_data.specs.WordSets.{Words}
-use Rattle.seg_data.specs.Sorting.{is_before}
-use Rattle.seg_data.specs.Trie.{Trie, edges_of, empty_word, words_along, IsRising, IsNode}
+use Rattle.seg_data.specs.WordSets.{Words, is_before}
+use Rattle.seg_data.specs.Trie.{Trie, edges_of, empty_word, words_along, AreEdgesRising, IsNode}
 
 -- the word of this number
 abbrev pub word_at : Words → ℕ → List ℕ
@@ -73,7 +72,7 @@ pub record AreAdded (words : Words) (depth begin first end : ℕ) (old_ranges ra
   pub ranges_are : ranges ≡ old_ranges ++ more
   pub edges_are : edges ≡ old_edges ++ added
   pub words_are : rests words depth begin (end - begin) ≡ words_along (rests_at words ranges) added ++ rests words depth first (end - first)
-  pub rises : IsRising added
+  pub rises : AreEdgesRising added
   pub below : first < end → (k : ℕ) → k < length added → (slice_index_or added k (0, 0)).0 < letter words depth first
   pub later : (k : ℕ) → k < length added → length old_ranges ≤ (slice_index_or added k (0, 0)).1
   pub known : (k : ℕ) → k < length added → (slice_index_or added k (0, 0)).1 < length ranges

@@ -1,12 +1,8 @@
 pub mod Language
 pub mod Table
-pub mod Pages
 pub mod Faults
 pub mod Lemmas
 pub mod WordSets
 pub mod ScriptWords
 pub mod Trie
-pub mod Dictionary
-pub mod Sorting
-pub mod Texts
 pub mod Building

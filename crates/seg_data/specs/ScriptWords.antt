@@ -1,12 +1,27 @@
--- The words of the scripts that are written without spaces between words.
-use Rattle.std.specs.Prelude.{Option, None as Nothing, Some}
-use Rattle.std.specs.Option.{option_or, option_map}
+-- What is seen of dictionaries and their cursors.
+use Rattle.std.specs.Prelude.{[], Option, None as Nothing, Some}
+use Rattle.std.specs.Option.{option_map_or, option_or, option_map}
+use Rattle.seg_data.specs.WordSets.{Words, IsSameSet}
+use Rattle.seg_data.specs.Trie.{Trie, trie, words_from}
+use Rattle.seg_data.specs.declared.provider.dictionary.DictionaryBreakData.{DictionaryBreakData}
+use Rattle.seg_data.specs.declared.provider.dictionary.cursor.DictionaryCursor.{DictionaryCursor}
 use Rattle.seg_data.specs.declared.provider.ComplexScript.{ComplexScript}
 use Rattle.seg_data.specs.declared.provider.ComplexScript.TheVariants.{None, Myanmar, ChineseOrJapanese, Khmer, Lao, Thai}
 use Rattle.seg_data.specs.declared.dictionaries.Dictionaries.{Dictionaries}
 use Rattle.seg_data.specs.declared.dictionaries.DictionariesBorrowed.{DictionariesBorrowed}
-use Rattle.seg_data.specs.WordSets.{Words, IsSameSet}
-use Rattle.seg_data.specs.Dictionary.{words_of}
+
+abbrev pub trie_of : DictionaryBreakData → Trie
+trie_of dictionary = trie dictionary.flags.items dictionary.starts.items dictionary.edges.items
+
+-- the words of a dictionary
+abbrev pub words_of : DictionaryBreakData → Words
+words_of dictionary = words_from (trie_of dictionary) 0
+
+-- what follows the code points that a cursor read in the words that begin with them
+abbrev pub words_after : DictionaryCursor → Words
+words_after cursor = option_map_or (words_from (trie_of cursor.data.now)) cursor.node []
+
+-- The words of the scripts that are written without spaces between words.
 
 -- the words of each script that has a dictionary
 pub record ScriptWords : Type 0 where

@@ -39,15 +39,15 @@ unfoldable pub words_from : Trie → ℕ → Words
 words_from t node = words_below t (suc (length t.flags)) node
 
 -- the code points of edges rise strictly
-abbrev pub IsRising : List (ℕ × ℕ) → Type 0
-IsRising edges =
+abbrev pub AreEdgesRising : List (ℕ × ℕ) → Type 0
+AreEdgesRising edges =
     (i j : ℕ) → i < j → j < length edges → (slice_index_or edges i (0, 0)).0 < (slice_index_or edges j (0, 0)).0
 
 -- a node's edges rise, and lead to later nodes of so many. Each node but the root leads to a word
 pub record IsNode (count : ℕ) (t : Trie) (node : ℕ) : Type 0 where
   pub order : slice_index t.starts node ≤ slice_index t.starts (node + 1)
   pub within : slice_index t.starts (node + 1) ≤ length t.edges
-  pub rises : IsRising (edges_of t node)
+  pub rises : AreEdgesRising (edges_of t node)
   pub later : (k : ℕ) → k < length (edges_of t node) → node < (slice_index_or (edges_of t node) k (0, 0)).1
   pub known : (k : ℕ) → k < length (edges_of t node) → (slice_index_or (edges_of t node) k (0, 0)).1 < count
   pub leads : 0 < node → slice_index_or t.flags node false ≡ false → slice_index t.starts node < slice_index t.starts (node + 1)

@@ -1,5 +1,8 @@
 -- Words are lists of code points. A set of words is a list of them, in which their order and repetitions say nothing.
-use Rattle.std.specs.Prelude.{◌↔◌, ℕ, Bool, true, false, ◌==◌, if◌then◌else◌, List, [], ◌∷◌, Contains}
+use Rattle.std.specs.Prelude.{ℕ, List, map, Vec, ◌↔◌, Bool, true, false, ◌==◌, if◌then◌else◌, [], ◌∷◌, Contains, ◌≡◌, ◌<◌, nat_lt, length, slice_index_or}
+use Rattle.std.specs.Borrow.{Bor}
+use Rattle.std.specs.Str.{chars}
+use Rattle.std.specs.declared.alloc.Global.{Global}
 
 abbrev pub Words : Type 0
 Words = List (List ℕ)
@@ -31,3 +34,27 @@ abbrev pub has_nonempty : Words → Bool
 has_nonempty [] = false
 has_nonempty ([] ∷ words) = has_nonempty words
 has_nonempty ((first ∷ rest) ∷ words) = true
+
+-- Texts as lists of code points.
+
+-- the code points of each text
+abbrev pub code_points_of_each : List (Bor (List ℕ)) → Words
+code_points_of_each texts = map (λ text. chars text.now) texts
+
+-- the words that vectors hold
+abbrev pub held : List (Vec ℕ Global) → Words
+held vectors = map (λ vector. vector.items) vectors
+
+-- Words in order.
+
+-- is a list of code points before another, as in a dictionary
+abbrev pub is_before : List ℕ → List ℕ → Bool
+is_before [] [] = false
+is_before [] (y ∷ ys) = true
+is_before (x ∷ xs) [] = false
+is_before (x ∷ xs) (y ∷ ys) = if x == y then is_before xs ys else nat_lt x y
+
+-- each word is before all later ones
+abbrev pub IsInOrder : Words → Type 0
+IsInOrder words =
+    (j k : ℕ) → j < k → k < length words → is_before (slice_index_or words j []) (slice_index_or words k []) ≡ true

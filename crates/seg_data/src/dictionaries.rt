@@ -2,11 +2,9 @@
 
 ghost use Rattle.std.specs.Prelude.{◌≡◌, ◌↔◌, IsTrue};
 ghost use Rattle.std.specs.Option.{option_or, option_map};
-ghost use Rattle.seg_data.specs.Dictionary.{words_of, words_after};
-ghost use Rattle.seg_data.specs.ScriptWords.{filled, lent_words, no_words, script_words, words_in};
+ghost use Rattle.seg_data.specs.ScriptWords.{words_of, words_after, filled, lent_words, no_words, script_words, words_in};
 
-use crate::provider::{DictionaryBreakData, DictionaryCursor};
-use crate::provider::ComplexScript;
+use crate::provider::{ComplexScript, DictionaryBreakData, DictionaryCursor};
 
 /// The dictionaries of scripts, each if there is one.
 #[derive(Debug, Drop)]

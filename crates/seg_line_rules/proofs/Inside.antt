@@ -2,8 +2,7 @@
 use Rattle.std.proofs.Common.{◌≡◌, ℕ, ◌<◌, ◌≤◌, nat_lt, List, [], ◌∷◌, length, refl, inl, inr, arith}
 use Rattle.std.specs.Prelude.{filter}
 use Rattle.std.proofs.lemmas.Bool.{cases_lt, lt-ltb, ltb-true, false_from_ne_true}
-use Rattle.seg_text.specs.Boundaries.{RisesTo}
-use Rattle.seg_text.specs.Cuts.{Cuts, with_status}
+use Rattle.seg_text.specs.Boundaries.{RisesTo, Cuts, with_status}
 use Rattle.seg_line_rules.specs.LineBoundaries.{CutsCover, inside}
 use Rattle.seg_line_rules.proofs.LineStretches.{StandInside}
 

@@ -4,16 +4,14 @@ use Rattle.std.proofs.lemmas.List.{length-map, drop-drop}
 use Rattle.seg_text.specs.Items.{Item, place_of, code_points}
 use Rattle.seg_pairs.specs.declared.elements.Element.{Element}
 use Rattle.seg_pairs.specs.Elements.{place_at}
-use Rattle.seg_pairs.specs.Verdict.{Verdict}
+use Rattle.seg_pairs.specs.Verdict.{Verdict, go_on, chain, TakesOf, IsForward}
 use Rattle.seg_pairs.specs.Verdict.Verdict.{BreakAfter, GoAfter, RunBegins}
-use Rattle.seg_pairs.specs.Chains.{go_on, chain, TakesOf, IsForward}
 use Rattle.seg_pairs.proofs.Chained.{chain-map}
 use Rattle.seg_pairs.proofs.Chains.{left-after, chain-go, chain-break, chain-run}
-use Rattle.seg_line_rules.specs.LineRules.{LineRules, line_class}
-use Rattle.seg_line_rules.specs.LineUnits.{LineUnit, CountedUnit, is_glued, units_from, counted_units, units_of, extent_of}
+use Rattle.seg_line_rules.specs.LineRules.{TableRules, line_class}
+use Rattle.seg_line_rules.specs.LineUnits.{LineUnit, CountedUnit, is_glued, units_from, counted_units, units_of, extent_of, unit_seen, units_seen, base_of, marked_element, elements_from, line_elements}
 use Rattle.seg_line_rules.specs.LineVerdict.{unit_verdict}
 use Rattle.seg_line_rules.specs.LineBoundaries.{in_code_points, line_verdict}
-use Rattle.seg_line_rules.specs.UnitElements.{unit_seen, units_seen, base_of, marked_element, elements_from, line_elements}
 use Rattle.seg_line_rules.proofs.LineStretches.{line-forward}
 use Rattle.seg_line_rules.proofs.UnitElements.{from-place}
 use Rattle.seg_line_rules.proofs.UnitLists.{first-unit, units, units-left, extent-sum}
@@ -25,7 +23,7 @@ chain-step v forward x xs (BreakAfter n class) is = chain-break v forward x xs n
 chain-step v forward x xs (GoAfter n) is = chain-go v forward x xs n is
 chain-step v forward x xs RunBegins is = chain-run v forward x xs is
 
-module _ (rules : LineRules) where
+module _ (rules : TableRules) where
   -- the elements of a text are its units
 
   seen-from : (element : Element) (extent : ℕ) (items : List Item)

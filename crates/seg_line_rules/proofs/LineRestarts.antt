@@ -3,14 +3,12 @@ use Rattle.std.proofs.Common.{◌≡◌, ℕ, zero, suc, List, [], ◌∷◌, dr
 use Rattle.std.specs.Prelude.{slice_get}
 use Rattle.std.proofs.lemmas.Bool.{eqb-true}
 use Rattle.seg_text.specs.declared.boundary.Boundary.{Boundary}
-use Rattle.seg_text.specs.Boundaries.{RestartsIn, start, shift_all}
-use Rattle.seg_text.specs.Cuts.{Cuts}
-use Rattle.seg_text.specs.Stretches.{HasEndAlone}
+use Rattle.seg_text.specs.Boundaries.{RestartsIn, start, shift_all, Cuts, HasEndAlone}
 use Rattle.seg_text.proofs.Restarts.{restarts}
 use Rattle.seg_pairs.specs.Verdict.{Verdict}
 use Rattle.seg_pairs.specs.Verdict.Verdict.{BreakAfter, GoAfter, RunBegins}
 use Rattle.seg_pairs.proofs.ComplexStretches.{later-same}
-use Rattle.seg_line_rules.specs.LineRules.{LineRules}
+use Rattle.seg_line_rules.specs.LineRules.{TableRules}
 use Rattle.seg_line_rules.specs.LineBoundaries.{HasComplexCodePoint, line_verdict, line_stretch_of, line_stretch, line_boundaries}
 use Rattle.seg_line_rules.proofs.LineStretches.{line-going, line-run}
 
@@ -18,7 +16,7 @@ use Rattle.seg_line_rules.proofs.LineStretches.{line-going, line-run}
 uncut : Cuts
 uncut run = []
 
-module _ (rules : LineRules) where
+module _ (rules : TableRules) where
   abbrev NoComplex : List ℕ → Type 0
   NoComplex code_points = HasComplexCodePoint rules code_points → ⊥
 

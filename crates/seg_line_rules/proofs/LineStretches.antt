@@ -3,13 +3,10 @@ use Rattle.std.proofs.Common.{◌≡◌, ℕ, suc, ◌<◌, true, List, [], ◌�
 use Rattle.std.proofs.lemmas.List.{length-map}
 use Rattle.std.proofs.lemmas.List.Folds.{length-prefix_len}
 use Rattle.std.proofs.lemmas.List.Sums.{prefix_len-le-length}
-use Rattle.seg_text.specs.Boundaries.{RisesTo}
-use Rattle.seg_text.specs.Cuts.{Cuts, with_status}
-use Rattle.seg_text.specs.Stretches.{HasProgress, IsWithin}
-use Rattle.seg_pairs.specs.Verdict.{Verdict}
+use Rattle.seg_text.specs.Boundaries.{RisesTo, Cuts, with_status, HasProgress, IsWithin}
+use Rattle.seg_pairs.specs.Verdict.{Verdict, TakesOf, IsForward}
 use Rattle.seg_pairs.specs.Verdict.Verdict.{BreakAfter, GoAfter, RunBegins}
-use Rattle.seg_pairs.specs.Chains.{TakesOf, IsForward}
-use Rattle.seg_line_rules.specs.LineRules.{LineRules, line_class, is_complex, is_complex_class}
+use Rattle.seg_line_rules.specs.LineRules.{TableRules, line_class, is_complex, is_complex_class}
 use Rattle.seg_line_rules.specs.LineUnits.{LineUnit, CountedUnit, units_of}
 use Rattle.seg_line_rules.specs.LineVerdict.{unit_verdict}
 use Rattle.seg_line_rules.specs.LineBoundaries.{in_code_points, line_verdict, complex_length, line_stretch_of, line_stretch}
@@ -22,7 +19,7 @@ StandInside cuts =
     (first : ℕ) (rest : List ℕ)
     → (end : ℕ) × (end < length (first ∷ rest)) × RisesTo 0 (with_status 0 (cuts (first ∷ rest))) end
 
-module _ (rules : LineRules) where
+module _ (rules : TableRules) where
   takes-units : (us later : List CountedUnit) (head : CountedUnit) → us ≡ head ∷ later → TakesOf (length us) (unit_verdict rules (units_of us))
   takes-units us later head is =
       let Takes : List CountedUnit → Type 0 = λ us. TakesOf (length us) (unit_verdict rules (units_of us)) in

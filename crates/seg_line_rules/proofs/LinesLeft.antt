@@ -5,17 +5,14 @@ use Rattle.std.proofs.lemmas.Bool.{cases_lt, lt-ltb, ltb-true, false_from_ne_tru
 use Rattle.std.proofs.lemmas.List.{length-map, drop_all}
 use Rattle.seg_text.specs.declared.boundary.Boundary.{Boundary}
 use Rattle.seg_text.specs.Items.{Item, Text, place_of, start_of, code_points, IsRising}
-use Rattle.seg_text.specs.Boundaries.{IsCover, boundary, boundaries_in, offsets}
-use Rattle.seg_text.specs.Cuts.{Cuts, AreCutsOf, with_status, cut_places}
-use Rattle.seg_text.specs.Stretches.{later_boundaries, list_boundaries}
+use Rattle.seg_text.specs.Boundaries.{IsCover, boundary, boundaries_in, offsets, Cuts, AreCutsOf, with_status, cut_places, later_boundaries, list_boundaries}
 use Rattle.seg_text.proofs.Covers.{covers, place-between}
 use Rattle.seg_text.proofs.Stretches.{later-nil, text-later-nil}
-use Rattle.seg_complex.specs.RunCuts.{PieceCuts, piece_stretch, run_cuts}
+use Rattle.seg_complex.specs.Scripts.{PieceCuts, piece_stretch, run_cuts}
 use Rattle.seg_line_rules.specs.declared.events.LineEvent.TheVariants.{Run}
 use Rattle.seg_line_rules.specs.LineBoundaries.{CutsCover, inside, line_stretch}
-use Rattle.seg_line_rules.specs.LineEvents.{UnreadLines, LeadsToLines, GoesOnLines, unread_lines}
-use Rattle.seg_line_rules.specs.LineRules.{LineRules}
-use Rattle.seg_line_rules.specs.LinesLeft.{places_before}
+use Rattle.seg_line_rules.specs.LineEvents.{UnreadLines, LeadsToLines, GoesOnLines, unread_lines, places_before}
+use Rattle.seg_line_rules.specs.LineRules.{TableRules}
 use Rattle.seg_line_rules.proofs.Inside.{inside-stand}
 use Rattle.seg_line_rules.proofs.LineStretches.{line-within}
 
@@ -82,7 +79,7 @@ next-past end place before after is past = rw (is, past) refl
 
 -- a new engine
 
-pub lines-cover : (cuts : Cuts) → CutsCover cuts → (rules : LineRules) (text : Text) (unread : UnreadLines) → unread ≡ record { rules = rules; text = text }
+pub lines-cover : (cuts : Cuts) → CutsCover cuts → (rules : TableRules) (text : Text) (unread : UnreadLines) → unread ≡ record { rules = rules; text = text }
     → IsRising text.items text.end → IsCover (start_of text) text.end (boundaries_in (list_boundaries (line_stretch (inside cuts) unread.rules)) unread.text)
 lines-cover cuts cover rules text unread is rising =
     subst (λ (u : UnreadLines). IsCover (start_of text) text.end (boundaries_in (list_boundaries (line_stretch (inside cuts) u.rules)) u.text)) (sym is)

@@ -7,18 +7,14 @@ use Rattle.std.proofs.lemmas.List.Folds.{length-prefix_len}
 use Rattle.std.proofs.lemmas.List.Sums.{prefix_len_passes}
 use Rattle.std.proofs.lemmas.Option.{get_or_from_slice_get}
 use Rattle.seg_text.specs.declared.boundary.Boundary.{Boundary}
-use Rattle.seg_text.specs.Boundaries.{RisesTo, shift_all}
-use Rattle.seg_text.specs.Cuts.{Cuts, with_status}
-use Rattle.seg_text.specs.Stretches.{later_boundaries}
+use Rattle.seg_text.specs.Boundaries.{RisesTo, shift_all, Cuts, with_status, later_boundaries}
 use Rattle.seg_text.proofs.Stretches.{later-nil, later-next}
-use Rattle.seg_pairs.specs.Verdict.{Verdict}
+use Rattle.seg_pairs.specs.Verdict.{Verdict, TakesOf}
 use Rattle.seg_pairs.specs.Verdict.Verdict.{BreakAfter, GoAfter, RunBegins}
-use Rattle.seg_pairs.specs.Chains.{TakesOf}
-use Rattle.seg_line_rules.specs.LineRules.{LineRules, line_class, is_complex}
+use Rattle.seg_line_rules.specs.LineRules.{TableRules, line_class, is_complex}
 use Rattle.seg_line_rules.specs.LineUnits.{CountedUnit, is_mark, units_of, extent_of}
 use Rattle.seg_line_rules.specs.LineVerdict.{unit_verdict}
-use Rattle.seg_line_rules.specs.LineBoundaries.{in_code_points, line_verdict, complex_length, line_stretch_of, line_stretch, line_boundaries}
-use Rattle.seg_line_rules.specs.MarkLaw.{KeepsMarks}
+use Rattle.seg_line_rules.specs.LineBoundaries.{in_code_points, line_verdict, complex_length, line_stretch_of, line_stretch, line_boundaries, KeepsMarks}
 use Rattle.seg_line_rules.proofs.UnitLists.{PartsAfter, units, first-unit, extent-first, extent-none}
 use Rattle.seg_line_rules.proofs.Inside.{rises-le}
 use Rattle.seg_line_rules.proofs.LineStretches.{StandInside, line-forward, line-going, line-run, run-two}
@@ -34,7 +30,7 @@ get-drop (suc n) k (x ∷ xs) =
     let more : suc (n + k) ≡ suc n + k = omega arith in
     get-drop n k xs ∙ ap (slice_get (x ∷ xs)) more
 
-module _ (rules : LineRules) where
+module _ (rules : TableRules) where
   -- an offset above 0 that parts no mark from what bears it
   abbrev Parts : List ℕ → ℕ → Type 0
   Parts code_points zero = ⊥

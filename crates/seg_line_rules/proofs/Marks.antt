@@ -1,8 +1,7 @@
 -- Which classes are marks, and which bear them.
 use Rattle.std.proofs.Common.{◌≡◌, ℕ, ◌==◌, ◌||◌, ◌&&◌, not, Bool, true, false, List, [], ◌∷◌, refl, sym, ap, ◌∙◌}
 use Rattle.std.proofs.lemmas.Bool.{eqb-true}
-use Rattle.seg_line_rules.specs.LineRules.{is_among}
-use Rattle.seg_line_rules.specs.LineFaults.{is_named_class}
+use Rattle.seg_line_rules.specs.LineRules.{is_among, is_named_class}
 use Rattle.seg_line_rules.specs.LineUnits.{is_mark, bears_none, is_glued}
 
 abbrev Fails : (ℕ → Bool) → List ℕ → Type 0

@@ -2,9 +2,7 @@
 use Rattle.std.proofs.Common.{◌≡◌, ℕ, suc, ◌+◌, ◌&&◌, ◌||◌, ◌==◌, not, Bool, true, false, cond, None, List, [], ◌∷◌, drop, refl, sym, ap, ◌∙◌}
 use Rattle.std.proofs.lemmas.List.{drop-drop}
 use Rattle.seg_text.specs.Items.{Item, Text, start_of, rest_after, code_points}
-use Rattle.seg_text.specs.Boundaries.{boundary}
-use Rattle.seg_text.specs.Cuts.{Cuts}
-use Rattle.seg_text.specs.Stretches.{Stretch}
+use Rattle.seg_text.specs.Boundaries.{boundary, Cuts, Stretch}
 use Rattle.seg_pair_data.specs.declared.provider.pairs.BreakState.{BreakState}
 use Rattle.seg_pair_data.specs.declared.provider.pairs.BreakState.TheVariants as entries
 use Rattle.seg_pair_data.specs.PairTable.{entry_of}
@@ -17,15 +15,12 @@ use Rattle.seg_line_rules.specs.declared.plain_pairs.ClassedItem.{ClassedItem}
 use Rattle.seg_line_rules.specs.declared.plain_pairs.PlainPair.{PlainPair}
 use Rattle.seg_line_rules.specs.declared.plain_pairs.PlainPair.TheVariants as plain
 use Rattle.seg_line_rules.specs.declared.verdicts.Case.TheVariants.{Table}
-use Rattle.seg_line_rules.specs.ItemAhead.{HasClass, text_from}
+use Rattle.seg_line_rules.specs.LineEvents.{HasClass, text_from, unread_lines, IsPassed, asks_more, entry_pair, is_plain, passed_lines, plain_pair, unread_from}
 use Rattle.seg_line_rules.specs.LineBoundaries.{in_code_points, line_stretch_of, line_stretch, line_verdict}
-use Rattle.seg_line_rules.specs.LineEvents.{unread_lines}
 use Rattle.seg_line_rules.specs.LineLists.{LooseRow, keeps, listed, listed_by, loose_rows}
-use Rattle.seg_line_rules.specs.LineRules.{LineRules, line_class}
-use Rattle.seg_line_rules.specs.LineStyles.{is_keep_all, is_loose_or_normal}
+use Rattle.seg_line_rules.specs.LineRules.{TableRules, line_class, is_keep_all, is_loose_or_normal}
 use Rattle.seg_line_rules.specs.LineUnits.{CountedUnit, LineUnit, base_unit, counted_units, extent_of, is_glued, is_mark, units_from, units_of}
 use Rattle.seg_line_rules.specs.LineVerdict.{begins_run, case_of, case_verdict, list_case, unit_first_verdict, unit_verdict}
-use Rattle.seg_line_rules.specs.PlainPairs.{IsPassed, asks_more, entry_pair, is_plain, passed_lines, plain_pair, unread_from}
 use Rattle.seg_line_rules.proofs.LineEvents.{first-stretch}
 use Rattle.seg_line_rules.proofs.UnitLists.{counted, first-unit}
 
@@ -98,7 +93,7 @@ entry-go joined (entries.Index state) is = cc
 entry-go joined (entries.Intermediate state) is = cc
 
 -- the verdict on the first of some code points, where the table decides between it and the second
-module _ (rules : LineRules) (left right : ℕ) (after : List ℕ) where
+module _ (rules : TableRules) (left right : ℕ) (after : List ℕ) where
   abbrev unit : LineUnit
   unit = base_unit rules left
 
@@ -189,7 +184,7 @@ module _ (rules : LineRules) (left right : ℕ) (after : List ℕ) where
       break-by few said.0 unit.is_joined refl (entry_of rules.table unit.class class) refl said.1
 
 -- one item more
-module _ (rules : LineRules) (left right : ClassedItem) (rest after : Text) (few : asks_more rules.style ≡ false)
+module _ (rules : TableRules) (left right : ClassedItem) (rest after : Text) (few : asks_more rules.style ≡ false)
     (left_class : HasClass rules left) (right_class : HasClass rules right)
     (items : rest.items ≡ (right.place, right.code_point) ∷ after.items) (end : after.end ≡ rest.end) where
   rest-is : rest ≡ text_from right after

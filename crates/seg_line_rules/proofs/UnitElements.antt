@@ -4,17 +4,15 @@ use Rattle.std.proofs.lemmas.List.{length-map}
 use Rattle.seg_text.specs.Items.{Item}
 use Rattle.seg_pairs.specs.declared.elements.Element.{Element}
 use Rattle.seg_pairs.specs.Elements.{place_at}
-use Rattle.seg_pairs.specs.Verdict.{Verdict}
-use Rattle.seg_pairs.specs.Chains.{TakesOf, IsForward}
-use Rattle.seg_line_rules.specs.LineRules.{LineRules, line_class}
-use Rattle.seg_line_rules.specs.LineUnits.{LineUnit, is_glued}
-use Rattle.seg_line_rules.specs.UnitElements.{unit_seen, units_seen, base_element, base_of, marked_element, elements_from}
+use Rattle.seg_pairs.specs.Verdict.{Verdict, TakesOf, IsForward}
+use Rattle.seg_line_rules.specs.LineRules.{TableRules, line_class}
+use Rattle.seg_line_rules.specs.LineUnits.{LineUnit, is_glued, unit_seen, units_seen, base_element, base_of, marked_element, elements_from}
 
 -- a verdict on units, of elements that are seen as units
 pub on-units : (v : List LineUnit → Verdict) → IsForward v → IsForward (λ (elements : List Element). v (units_seen elements))
 on-units v forward x xs = subst (λ n. TakesOf (suc n) (v (units_seen (x ∷ xs)))) (length-map xs unit_seen) (forward (unit_seen x) (units_seen xs))
 
-module _ (rules : LineRules) where
+module _ (rules : TableRules) where
   pub from-glued : (element : Element) (item : Item) (items : List Item) → is_glued element.class (line_class rules item.1) ≡ true
       → elements_from rules element (item ∷ items) ≡ elements_from rules (marked_element element (line_class rules item.1)) items
   unfolding elements_from

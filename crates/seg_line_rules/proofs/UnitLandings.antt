@@ -3,25 +3,20 @@ use Rattle.std.proofs.Common.{◌≡◌, ℕ, suc, ◌<◌, ◌&&◌, ◌||◌, 
 use Rattle.std.proofs.lemmas.List.{drop-map}
 use Rattle.seg_pair_data.specs.declared.provider.pairs.BreakState.{BreakState}
 use Rattle.seg_pair_data.specs.declared.provider.pairs.BreakState.TheVariants.{Break as BreakEntry, Keep, NoMatch, Intermediate, Index}
-use Rattle.seg_pair_data.specs.BreakStates.{named_state}
-use Rattle.seg_pair_data.specs.PairTable.{PairTable, entry_of}
+use Rattle.seg_pair_data.specs.PairTable.{named_state, PairTable, entry_of}
 use Rattle.seg_pairs.specs.declared.elements.Element.{Element}
 use Rattle.seg_pairs.specs.declared.verdicts.Step.{Step}
 use Rattle.seg_pairs.specs.declared.verdicts.Step.TheVariants.{End, Go}
 use Rattle.seg_pairs.specs.Elements.{classes_of, onto}
-use Rattle.seg_pairs.specs.Steps.{Lands, LandsOrWalks, IsStepBelow}
-use Rattle.seg_pairs.specs.Stop.{IsStop, class_at, walk_of}
-use Rattle.seg_pairs.specs.Verdict.{Verdict, walk_from}
+use Rattle.seg_pairs.specs.Verdict.{Lands, LandsOrWalks, IsStepBelow, IsStop, class_at, walk_of, Verdict, walk_from}
 use Rattle.seg_pairs.specs.Verdict.Verdict.{BreakAfter, GoAfter}
 use Rattle.seg_pairs.specs.Walk.{Walk, is_class}
 use Rattle.seg_pairs.proofs.Landings.{rest-at, saved-at}
 use Rattle.seg_line_rules.specs.declared.verdicts.Case.{Case}
 use Rattle.seg_line_rules.specs.declared.verdicts.Case.TheVariants.{Table}
-use Rattle.seg_line_rules.specs.LineRules.{LineRules}
-use Rattle.seg_line_rules.specs.LineSteps.{step_unless}
-use Rattle.seg_line_rules.specs.LineUnits.{LineUnit}
-use Rattle.seg_line_rules.specs.LineVerdict.{Found, unit_classes, begins_joined, joined_before, unless, is_taken_from, unit_stop_verdict, unit_end_verdict, unit_walk_verdict, unit_named_verdict, unit_first_verdict, case_of, case_verdict, unit_verdict}
-use Rattle.seg_line_rules.specs.UnitElements.{unit_seen, units_seen}
+use Rattle.seg_line_rules.specs.LineRules.{TableRules}
+use Rattle.seg_line_rules.specs.LineVerdict.{step_unless, Found, unit_classes, begins_joined, joined_before, unless, is_taken_from, unit_stop_verdict, unit_end_verdict, unit_walk_verdict, unit_named_verdict, unit_first_verdict, case_of, case_verdict, unit_verdict}
+use Rattle.seg_line_rules.specs.LineUnits.{LineUnit, unit_seen, units_seen}
 
 seen-classes : (elements : List Element) → unit_classes (units_seen elements) ≡ classes_of elements
 seen-classes [] = refl
@@ -179,12 +174,12 @@ first-between walk t left right after entry is none other =
 
 -- the step from a unit
 
-pub unit-last : (rules : LineRules) (left : Element) (after rest : List Element) → after ≡ [] → rest ≡ []
+pub unit-last : (rules : TableRules) (left : Element) (after rest : List Element) → after ≡ [] → rest ≡ []
     → Lands (unit_verdict rules (units_seen (left ∷ after))) (left ∷ after) (End 0) rest
 unfolding unit_verdict
 unit-last rules left after rest is none = rw is (refl, refl, none)
 
-pub unit-case : (rules : LineRules) (left right : Element) (after more : List Element) (case : Case) (step : Step) (rest : List Element)
+pub unit-case : (rules : TableRules) (left right : Element) (after more : List Element) (case : Case) (step : Step) (rest : List Element)
     → after ≡ right ∷ more → case ≡ case_of rules (unit_seen left) (unit_seen right)
     → Lands (case_verdict rules.table (unit_seen left) (unit_seen right) (units_seen (left ∷ right ∷ more)) case) (left ∷ right ∷ more) step rest
     → Lands (unit_verdict rules (units_seen (left ∷ after))) (left ∷ after) step rest
@@ -196,7 +191,7 @@ unit-case rules left right after more case step rest is which lands =
 abbrev walk-of : PairTable → Element → List Element → ℕ → Verdict
 walk-of t left elements state = unit_named_verdict t state (unit_seen left) (units_seen elements)
 
-pub unit-table : (rules : LineRules) (t : PairTable) (left right : Element) (after more : List Element) (step : Step) (rest : List Element)
+pub unit-table : (rules : TableRules) (t : PairTable) (left right : Element) (after more : List Element) (step : Step) (rest : List Element)
     → after ≡ right ∷ more → Table ≡ case_of rules (unit_seen left) (unit_seen right) → t ≡ rules.table
     → LandsOrWalks (walk-of t left (left ∷ right ∷ more)) (first-verdict t left right more (entry_of t left.class right.class)) (left ∷ right ∷ more) step rest
     → LandsOrWalks (walk-of rules.table left (left ∷ after)) (unit_verdict rules (units_seen (left ∷ after))) (left ∷ after) step rest

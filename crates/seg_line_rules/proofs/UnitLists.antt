@@ -4,12 +4,12 @@ use Rattle.std.specs.Prelude.{slice_get}
 use Rattle.std.proofs.lemmas.Bool.{false≢true}
 use Rattle.std.proofs.lemmas.List.{length-drop, drop-drop}
 use Rattle.std.proofs.lemmas.Option.{same_Some, none-some}
-use Rattle.seg_line_rules.specs.LineRules.{LineRules, line_class}
+use Rattle.seg_line_rules.specs.LineRules.{TableRules, line_class}
 use Rattle.seg_line_rules.specs.LineUnits.{LineUnit, CountedUnit, is_mark, bears_none, is_glued, base_unit, with_mark, units_from, counted_units, extent_of}
 use Rattle.seg_line_rules.proofs.Marks.{mark-bears, glued-bears, unglued-bears}
 
 -- where the code point after so many and one more is a mark, these end with what bears none
-abbrev pub PartsAfter : LineRules → List ℕ → ℕ → Type 0
+abbrev pub PartsAfter : TableRules → List ℕ → ℕ → Type 0
 PartsAfter rules code_points k =
     (before mark : ℕ) → slice_get code_points k ≡ Some before → slice_get code_points (suc k) ≡ Some mark
     → is_mark (line_class rules mark) ≡ true → bears_none (line_class rules before) ≡ true
@@ -17,7 +17,7 @@ PartsAfter rules code_points k =
 abbrev pub counted : ℕ → LineUnit → CountedUnit
 counted extent unit = record { extent = extent; unit = unit }
 
-module _ (rules : LineRules) where
+module _ (rules : TableRules) where
   -- the first unit, which begins with so many code points and has some of these too
   record FirstFrom (extent : ℕ) (unit : LineUnit) (code_points : List ℕ) : Type 0 where
     marks : ℕ

@@ -6,12 +6,12 @@ use Rattle.seg_pair_data.specs.declared.provider.pairs.BreakState.TheVariants.{B
 use Rattle.seg_pair_data.specs.PairTable.{PairTable, entry_of}
 use Rattle.seg_pairs.specs.Walk.{Walk, walk}
 use Rattle.seg_pairs.specs.Verdict.Verdict.{RunBegins}
-use Rattle.seg_pairs.specs.Chains.{TakesOf, IsForward}
+use Rattle.seg_pairs.specs.Verdict.{TakesOf, IsForward}
 use Rattle.seg_pairs.proofs.Forward.{Within, walk-within}
 use Rattle.seg_line_rules.specs.declared.verdicts.Case.{Case}
 use Rattle.seg_line_rules.specs.declared.verdicts.Case.TheVariants.{Run, Together, Apart, Table}
 use Rattle.seg_line_rules.specs.LineLists.{keeps, listed}
-use Rattle.seg_line_rules.specs.LineRules.{LineRules, is_complex_class}
+use Rattle.seg_line_rules.specs.LineRules.{TableRules, is_complex_class}
 use Rattle.seg_line_rules.specs.LineUnits.{LineUnit}
 use Rattle.seg_line_rules.specs.LineVerdict.{Found, unit_classes, unless, is_taken_from, unit_stop_verdict, unit_end_verdict, unit_walk_verdict, unit_named_verdict, unit_first_verdict, begins_run, list_case, case_of, case_verdict, unit_verdict}
 
@@ -102,7 +102,7 @@ case-takes t left right after Together = (omega arith, omega arith)
 case-takes t left right after Apart = (omega arith, omega arith)
 case-takes t left right after Table = first-takes t left right after (entry_of t left.class right.class)
 
-pub unit-forward : (rules : LineRules) → IsForward (unit_verdict rules)
+pub unit-forward : (rules : TableRules) → IsForward (unit_verdict rules)
 unfolding unit_verdict
 unit-forward rules left [] = (omega arith, omega arith)
 unit-forward rules left (right ∷ after) = case-takes rules.table left right after (case_of rules left right)
@@ -120,7 +120,7 @@ list-no-run (Some true) is = cc
 list-no-run (Some false) is = cc
 list-no-run None is = cc
 
-begins-of : (rules : LineRules) (left right : LineUnit) → case_of rules left right ≡ Run → begins_run rules left right ≡ true
+begins-of : (rules : TableRules) (left right : LineUnit) → case_of rules left right ≡ Run → begins_run rules left right ≡ true
 begins-of rules left right is = outer (begins_run rules left right) refl is
   where
     inner : (b : Bool) → cond b Together (list_case (listed rules.style left right)) ≡ Run → begins_run rules left right ≡ true
@@ -132,7 +132,7 @@ begins-of rules left right is = outer (begins_run rules left right) refl is
     outer true begins is = begins
     outer false begins is = inner (keeps rules.style left right) is
 
-pub record BeginsRun (rules : LineRules) (left : LineUnit) (others : List LineUnit) : Type 0 where
+pub record BeginsRun (rules : TableRules) (left : LineUnit) (others : List LineUnit) : Type 0 where
   pub right : LineUnit
   pub after : List LineUnit
   pub two : others ≡ right ∷ after
@@ -140,7 +140,7 @@ pub record BeginsRun (rules : LineRules) (left : LineUnit) (others : List LineUn
   pub left_single : left.is_single ≡ true
   pub right_complex : is_complex_class rules right.class ≡ true
 
-pub unit-run : (rules : LineRules) (left : LineUnit) (others : List LineUnit) → unit_verdict rules (left ∷ others) ≡ RunBegins → BeginsRun rules left others
+pub unit-run : (rules : TableRules) (left : LineUnit) (others : List LineUnit) → unit_verdict rules (left ∷ others) ≡ RunBegins → BeginsRun rules left others
 unfolding unit_verdict
 unit-run rules left [] is = cc
 unit-run rules left (right ∷ after) is =

@@ -1,16 +1,7 @@
 pub mod LineClasses
-pub mod LineStyles
 pub mod LineRules
 pub mod LineUnits
 pub mod LineLists
 pub mod LineVerdict
 pub mod LineBoundaries
-pub mod MarkLaw
-pub mod LineFaults
-pub mod LinePairs
-pub mod UnitElements
-pub mod LineSteps
 pub mod LineEvents
-pub mod LinesLeft
-pub mod ItemAhead
-pub mod PlainPairs

@@ -1,21 +1,49 @@
--- What comes next of a text that is read line by line.
-use Rattle.std.specs.Prelude.{◌≡◌, ◌≢◌, ◌<◌, ◌≤◌, ℕ, Option, Some, None, List, [], ◌∷◌, ◌++◌, length, IfSome}
+-- An item that is read ahead of a text, with its class.
+use Rattle.std.specs.Prelude.{◌≡◌, ◌<◌, ℕ, Option, Some, None, [], ◌∷◌, ◌≢◌, ◌≤◌, List, ◌++◌, length, IfSome, ◌==◌, ◌&&◌, ◌||◌, not, Bool, true, false, if◌then◌else◌, nat_lt, filter}
+use Rattle.seg_text.specs.Items.{Text, code_points, rest_after}
 use Rattle.seg_text.specs.declared.boundary.Boundary.{Boundary}
-use Rattle.seg_text.specs.Items.{Text, code_points}
-use Rattle.seg_text.specs.Boundaries.{boundary, boundaries_in}
-use Rattle.seg_text.specs.Cuts.{Cuts, AreCutsOf, with_status, cut_places}
-use Rattle.seg_text.specs.Stretches.{later_boundaries}
+use Rattle.seg_text.specs.Boundaries.{boundary, boundaries_in, Cuts, AreCutsOf, with_status, cut_places, later_boundaries, Remainder, list_boundaries}
+use Rattle.seg_pair_data.specs.PairTable.{PairTable, entry_of}
+use Rattle.seg_pair_data.specs.declared.provider.pairs.BreakState.{BreakState}
+use Rattle.seg_pair_data.specs.declared.provider.pairs.BreakState.TheVariants as entries
 use Rattle.seg_pairs.specs.declared.elements.Element.{Element}
 use Rattle.seg_pairs.specs.Elements.{onto}
+use Rattle.seg_line_rules.specs.declared.plain_pairs.ClassedItem.{ClassedItem}
+use Rattle.seg_line_rules.specs.LineRules.{TableRules, line_class, is_keep_all, is_loose_or_normal}
 use Rattle.seg_line_rules.specs.declared.events.LineEvent.{LineEvent}
 use Rattle.seg_line_rules.specs.declared.events.LineEvent.TheVariants.{End, Break, Run}
 use Rattle.seg_line_rules.specs.LineBoundaries.{line_stretch}
-use Rattle.seg_line_rules.specs.LineRules.{LineRules}
-use Rattle.seg_line_rules.specs.UnitElements.{UnitsLeft, line_elements}
+use Rattle.seg_line_rules.specs.LineUnits.{UnitsLeft, line_elements, is_joiner, is_mark}
+use Rattle.seg_line_rules.specs.declared.options.LineStyle.{LineStyle}
+use Rattle.seg_line_rules.specs.declared.plain_pairs.PlainPair.{PlainPair}
+use Rattle.seg_line_rules.specs.declared.plain_pairs.PlainPair.TheVariants as plain
+
+-- the text that begins with this item, and goes on with those
+abbrev pub text_from : ClassedItem → Text → Text
+text_from next rest = record { items = (next.place, next.code_point) ∷ rest.items; end = rest.end }
+
+-- an item has the class that its code point is read as, one of the table's
+pub record HasClassBy (t : PairTable) (class_of : ℕ → ℕ) (item : ClassedItem) : Type 0 where
+  pub below : item.class < t.property_count
+  pub is : item.class ≡ class_of item.code_point
+
+-- the first item of a text, where there is one, and those after it
+abbrev pub IsAheadBy : PairTable → (ℕ → ℕ) → Text → Option ClassedItem → Text → Type 0
+IsAheadBy t class_of here None rest = here.items ≡ []
+IsAheadBy t class_of here (Some next) rest = (here ≡ text_from next rest) × HasClassBy t class_of next
+
+-- the same by the rules of lines by a pair table
+abbrev pub HasClass : TableRules → ClassedItem → Type 0
+HasClass rules item = HasClassBy rules.table (line_class rules) item
+
+abbrev pub IsItemAhead : TableRules → Text → Option ClassedItem → Text → Type 0
+IsItemAhead rules here next rest = IsAheadBy rules.table (line_class rules) here next rest
+
+-- What comes next of a text that is read line by line.
 
 -- a text that is being read, and what its lines are found by
 pub record UnreadLines : Type 0 where
-  pub rules : LineRules
+  pub rules : TableRules
   pub text : Text
 
 -- the boundaries of an unread text but that at its start
@@ -45,8 +73,60 @@ pub record GoesOnLines (before after : UnreadLines) : Type 0 where
   pub fewer : before.text.items ≢ [] → length after.text.items < length before.text.items
 
 -- the first unit, where there is one, and the others are those of the text
-pub record AreAhead (rules : LineRules) (text : Text) (next : Option Element) (rest : UnitsLeft) : Type 0 where
+pub record AreUnitsAhead (rules : TableRules) (text : Text) (next : Option Element) (rest : UnitsLeft) : Type 0 where
   pub same : onto next rest.left ≡ line_elements rules text.items
   pub same_end : rest.end ≡ text.end
   pub same_table : rest.rules.table ≡ rules.table
   pub below : IfSome next (λ next. next.class < rules.table.property_count)
+
+-- Pairs of classes between which the table alone decides, and what they lead to.
+
+-- the options ask for more than the classes and the table
+abbrev pub asks_more : LineStyle → Bool
+asks_more style = is_keep_all style.word_option || is_loose_or_normal style.strictness
+
+-- the table alone decides between an item with no marks and the next: that is no mark, and no run begins
+abbrev pub is_plain : ℕ → ℕ → ℕ → Bool
+is_plain complex left right = not (is_mark right) && not (left == complex && right == complex)
+
+abbrev pub entry_pair : Bool → BreakState → PlainPair
+entry_pair joined entries.Keep = plain.Go
+entry_pair joined entries.Break = if joined then plain.Other else plain.Break
+entry_pair joined entries.NoMatch = if joined then plain.Other else plain.Break
+entry_pair joined (entries.Index state) = plain.Other
+entry_pair joined (entries.Intermediate state) = plain.Other
+
+abbrev pub plain_pair : PairTable → ℕ → ℕ → PlainPair
+plain_pair t left right = if is_plain t.complex_property left right then entry_pair (is_joiner left) (entry_of t left right) else plain.Other
+
+-- a text that is being read
+abbrev pub unread_from : TableRules → ClassedItem → Text → UnreadLines
+unread_from rules next rest = record { rules = rules; text = text_from next rest }
+
+-- the boundaries from this item on, and one before it or not
+abbrev pub passed_lines : Cuts → TableRules → (is_break : Bool) → ClassedItem → Text → List Boundary
+passed_lines cuts rules true next rest = boundary next.place 0 ∷ unread_lines cuts (unread_from rules next rest)
+passed_lines cuts rules false next rest = unread_lines cuts (unread_from rules next rest)
+
+-- plain pairs lead from one item, with those after it, to another
+pub record IsPassed (rules : TableRules) (first : ClassedItem) (start : Text) (next : ClassedItem) (rest : Text) (is_break : Bool) : Type 0 where
+  pub taken : ℕ
+  pub text_is : text_from next rest ≡ rest_after taken (text_from first start)
+  pub class : HasClass rules next
+  pub leads : (cuts : Cuts) → unread_lines cuts (unread_from rules first start) ≡ passed_lines cuts rules is_break next rest
+
+-- What is left of a text of lines, and of its runs.
+
+-- the places before an end
+abbrev pub places_before : ℕ → List ℕ → List ℕ
+places_before end places = filter (λ place. nat_lt place end) places
+
+-- all boundaries of the text, or where it has started the cuts that are left of a run, and then the boundaries of what isn't
+-- read; no status of a boundary of lines is other than 0
+abbrev pub line_remainder : Cuts → Bool → List ℕ → UnreadLines → Remainder
+line_remainder cuts started run unread = record {
+  left = if started
+      then with_status 0 run ++ unread_lines cuts unread
+      else boundaries_in (list_boundaries (line_stretch cuts unread.rules)) unread.text;
+  status = 0;
+}

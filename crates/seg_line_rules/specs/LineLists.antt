@@ -5,8 +5,7 @@ use Rattle.seg_line_rules.specs.declared.options.LineBreakStrictness.{LineBreakS
 use Rattle.seg_line_rules.specs.declared.options.LineBreakStrictness.TheVariants as strictness
 use Rattle.seg_line_rules.specs.declared.options.LineStyle.{LineStyle}
 use Rattle.seg_line_rules.specs.LineClasses.{AI, AL, BA, CJ, EX, H2, H3, HY, ID, IN, JL, JT, JV, NS, NU, PO_EAW, PR_EAW}
-use Rattle.seg_line_rules.specs.LineRules.{is_among}
-use Rattle.seg_line_rules.specs.LineStyles.{is_keep_all}
+use Rattle.seg_line_rules.specs.LineRules.{is_among, is_keep_all}
 use Rattle.seg_line_rules.specs.LineUnits.{LineUnit}
 
 -- under KeepAll no boundary stands between two of these

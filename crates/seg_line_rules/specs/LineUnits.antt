@@ -1,7 +1,9 @@
 -- The units of a text of lines: marks are glued to what stands before them.
-use Rattle.std.specs.Prelude.{ℕ, zero, suc, ◌+◌, ◌==◌, ◌&&◌, not, Bool, true, false, if◌then◌else◌, List, [], ◌∷◌, map}
+use Rattle.std.specs.Prelude.{ℕ, zero, suc, ◌+◌, ◌==◌, ◌&&◌, not, Bool, true, false, if◌then◌else◌, List, [], ◌∷◌, map, ◌≡◌, ◌<◌, Option, Some, None, IfSome}
+use Rattle.seg_text.specs.Items.{Item}
+use Rattle.seg_pairs.specs.declared.elements.Element.{Element}
 use Rattle.seg_line_rules.specs.LineClasses.{BK, CM, CR, LF, NL, SP, ZW, ZWJ}
-use Rattle.seg_line_rules.specs.LineRules.{LineRules, is_among, line_class}
+use Rattle.seg_line_rules.specs.LineRules.{TableRules, is_among, line_class}
 
 -- a code point that isn't glued, which is its base, and the marks after it: the class of the base and its code point,
 -- whether the last of them is ZWJ, and whether there are no marks
@@ -25,7 +27,7 @@ abbrev pub is_joiner : ℕ → Bool
 is_joiner class = class == ZWJ
 
 -- a code point alone, and a unit with one mark more
-abbrev pub base_unit : LineRules → ℕ → LineUnit
+abbrev pub base_unit : TableRules → ℕ → LineUnit
 base_unit rules code_point = record {
   class = line_class rules code_point;
   code_point = code_point;
@@ -33,7 +35,7 @@ base_unit rules code_point = record {
   is_single = true;
 }
 
-abbrev pub with_mark : LineRules → LineUnit → ℕ → LineUnit
+abbrev pub with_mark : TableRules → LineUnit → ℕ → LineUnit
 with_mark rules unit mark = record {
   class = unit.class;
   code_point = unit.code_point;
@@ -47,14 +49,14 @@ pub record CountedUnit : Type 0 where
   pub unit : LineUnit
 
 -- the units of a list that begins with this one, or with its first code points
-unfoldable pub units_from : LineRules → CountedUnit → List ℕ → List CountedUnit
+unfoldable pub units_from : TableRules → CountedUnit → List ℕ → List CountedUnit
 units_from rules counted [] = counted ∷ []
 units_from rules counted (code_point ∷ code_points) =
     if is_glued counted.unit.class (line_class rules code_point)
     then units_from rules (record { extent = suc counted.extent; unit = with_mark rules counted.unit code_point }) code_points
     else counted ∷ units_from rules (record { extent = 1; unit = base_unit rules code_point }) code_points
 
-unfoldable pub counted_units : LineRules → List ℕ → List CountedUnit
+unfoldable pub counted_units : TableRules → List ℕ → List CountedUnit
 counted_units rules [] = []
 counted_units rules (code_point ∷ code_points) = units_from rules (record { extent = 1; unit = base_unit rules code_point }) code_points
 
@@ -66,3 +68,67 @@ unfoldable pub extent_of : ℕ → List CountedUnit → ℕ
 extent_of zero counted = 0
 extent_of (suc n) [] = 0
 extent_of (suc n) (one ∷ counted) = one.extent + extent_of n counted
+
+-- Units of lines as elements of a text.
+
+-- what a verdict looks at of an element
+abbrev pub unit_seen : Element → LineUnit
+unit_seen element = record {
+  class = element.class;
+  code_point = element.code_point;
+  is_joined = element.is_joined;
+  is_single = element.is_single;
+}
+
+abbrev pub units_seen : List Element → List LineUnit
+units_seen elements = map unit_seen elements
+
+-- an item alone, and an element with one mark more, each mark by its class
+abbrev pub base_element : ℕ → ℕ → ℕ → Element
+base_element place code_point class = record {
+  class = class;
+  place = place;
+  code_point = code_point;
+  is_joined = is_joiner class;
+  is_single = true;
+}
+
+abbrev pub marked_element : Element → ℕ → Element
+marked_element element class = record {
+  class = element.class;
+  place = element.place;
+  code_point = element.code_point;
+  is_joined = is_joiner class;
+  is_single = false;
+}
+
+abbrev pub base_of : TableRules → Item → Element
+base_of rules item = base_element item.0 item.1 (line_class rules item.1)
+
+-- the elements of a text that begins with this one, or with its first items
+unfoldable pub elements_from : TableRules → Element → List Item → List Element
+elements_from rules element [] = element ∷ []
+elements_from rules element (item ∷ items) =
+    if is_glued element.class (line_class rules item.1)
+    then elements_from rules (marked_element element (line_class rules item.1)) items
+    else element ∷ elements_from rules (base_of rules item) items
+
+-- those of a text whose first item was read already, where there was one
+abbrev pub elements_after : TableRules → Option Element → List Item → List Element
+elements_after rules None items = []
+elements_after rules (Some first) items = elements_from rules first items
+
+abbrev pub line_elements : TableRules → List Item → List Element
+line_elements rules [] = []
+line_elements rules (item ∷ items) = elements_from rules (base_of rules item) items
+
+-- what isn't read yet of the units of a text
+pub record UnitsLeft : Type 0 where
+  pub rules : TableRules
+  pub left : List Element
+  pub end : ℕ
+
+-- the first item is a base by the rules, and where there is none no item is left
+pub record IsFirst (rules : TableRules) (first : Option Element) (items : List Item) : Type 0 where
+  pub none : first ≡ None → items ≡ []
+  pub below : IfSome first (λ first. first.class < rules.table.property_count)

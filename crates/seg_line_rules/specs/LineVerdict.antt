@@ -6,9 +6,12 @@ use Rattle.seg_pair_data.specs.PairTable.{PairTable, entry_of}
 use Rattle.seg_pairs.specs.Walk.{Walk, is_class}
 use Rattle.seg_pairs.specs.Verdict.{Verdict, unasked, walk_from}
 use Rattle.seg_pairs.specs.Verdict.Verdict.{BreakAfter, GoAfter, RunBegins}
+use Rattle.seg_pairs.specs.declared.elements.Element.{Element}
+use Rattle.seg_pairs.specs.declared.verdicts.Step.{Step}
+use Rattle.seg_pairs.specs.declared.verdicts.Step.TheVariants as steps
 use Rattle.seg_line_rules.specs.declared.verdicts.Case.{Case}
 use Rattle.seg_line_rules.specs.declared.verdicts.Case.TheVariants.{Run, Together, Apart, Table}
-use Rattle.seg_line_rules.specs.LineRules.{LineRules, is_complex_class}
+use Rattle.seg_line_rules.specs.LineRules.{TableRules, is_complex_class}
 use Rattle.seg_line_rules.specs.LineLists.{keeps, listed}
 use Rattle.seg_line_rules.specs.LineUnits.{LineUnit}
 
@@ -79,7 +82,7 @@ unit_first_verdict t left units (Index state) = unit_named_verdict t state left 
 unit_first_verdict t left units (Intermediate state) = unit_named_verdict t state left units
 
 -- a run begins where one complex code point stands alone before a complex base
-abbrev pub begins_run : LineRules → LineUnit → LineUnit → Bool
+abbrev pub begins_run : TableRules → LineUnit → LineUnit → Bool
 begins_run rules left right = is_complex_class rules left.class && left.is_single && is_complex_class rules right.class
 
 abbrev pub list_case : Option Bool → Case
@@ -88,7 +91,7 @@ list_case (Some false) = Together
 list_case None = Table
 
 -- the first case that applies: a run, KeepAll, the lists, and else the table
-abbrev pub case_of : LineRules → LineUnit → LineUnit → Case
+abbrev pub case_of : TableRules → LineUnit → LineUnit → Case
 case_of rules left right =
     if begins_run rules left right then Run
     else if keeps rules.style left right then Together
@@ -100,8 +103,14 @@ case_verdict t left right units Together = GoAfter 1
 case_verdict t left right units Apart = BreakAfter 1 0
 case_verdict t left right units Table = unit_first_verdict t left units (entry_of t left.class right.class)
 
-unfoldable pub unit_verdict : LineRules → List LineUnit → Verdict
+unfoldable pub unit_verdict : TableRules → List LineUnit → Verdict
 unit_verdict rules [] = unasked
 unit_verdict rules (left ∷ []) = BreakAfter 1 0
 unit_verdict rules (left ∷ right ∷ after) =
     case_verdict rules.table left right (left ∷ right ∷ after) (case_of rules left right)
+
+-- Steps of lines.
+
+-- a boundary before an element, unless it is taken away
+abbrev pub step_unless : Bool → Element → Step
+step_unless taken_away next = if taken_away then steps.Go next else steps.Break next 0

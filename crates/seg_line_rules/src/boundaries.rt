@@ -5,8 +5,7 @@ ghost use Rattle.std.specs.Iterator.{YieldsFirst, MakesProgress, item_count};
 ghost use Rattle.seg_text.specs.Items.{start_of};
 ghost use Rattle.seg_text.specs.Boundaries.{GivesNext, IsCover, offsets_left};
 ghost use Rattle.seg_complex.specs.Payloads.{payloads_of, run_cuts_by};
-ghost use Rattle.seg_line_rules.specs.LineBoundaries.{line_boundaries_of};
-ghost use Rattle.seg_line_rules.specs.LinePairs.{rules_by};
+ghost use Rattle.seg_line_rules.specs.LineBoundaries.{table_line_boundaries_of, rules_by};
 
 use crate::events::{LineEvent, LineEvents};
 use crate::inside_cuts::InsideCuts;
@@ -31,7 +30,7 @@ impl<'data, I: Cursor> Model for ClassicLines<'data, I> {
     ghost use Rattle.seg_text.specs.Boundaries.{Remainder};
     ghost use Rattle.seg_complex.specs.Payloads.{payloads_of, run_cuts_by};
     ghost use Rattle.seg_line_rules.specs.LineBoundaries.{inside};
-    ghost use Rattle.seg_line_rules.specs.LinesLeft.{line_remainder};
+    ghost use Rattle.seg_line_rules.specs.LineEvents.{line_remainder};
 
     ghost Value = { Remainder };
 
@@ -43,7 +42,7 @@ impl<'data, I: Cursor> Model for ClassicLines<'data, I> {
 impl<'data, I: Cursor> ClassicLines<'data, I> {
     /// The boundaries of what is left of a text. Takes no memory.
     pub fn new(pairs: LinePairs<'data>, payloads: ComplexPayloadsBorrowed<'data>, text: I) -> Self
-        ensures boundaries { result.left ≡ line_boundaries_of (run_cuts_by (payloads_of payloads.entry)) (rules_by pairs.entry) (I.text text) }
+        ensures boundaries { result.left ≡ table_line_boundaries_of (run_cuts_by (payloads_of payloads.entry)) (rules_by pairs.entry) (I.text text) }
         ensures cover { IsCover (start_of (I.text text)) (I.text text).end result.left }
         ensures status { result.status ≡ 0 }
     {

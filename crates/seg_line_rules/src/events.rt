@@ -4,9 +4,8 @@
 ghost use Rattle.std.specs.Prelude.{◌≡◌, ◌-◌, Some, []};
 ghost use Rattle.seg_text.specs.Items.{prefix_length, rest_after, start_of, text_before};
 ghost use Rattle.seg_pairs.specs.Elements.{onto, place_at};
-ghost use Rattle.seg_line_rules.specs.ItemAhead.{HasClass, IsAhead, text_from};
-ghost use Rattle.seg_line_rules.specs.LineEvents.{AreAhead, LeadsToBreak, LeadsToLines, GoesOnLines};
-ghost use Rattle.seg_line_rules.specs.LinePairs.{rules_by};
+ghost use Rattle.seg_line_rules.specs.LineEvents.{HasClass, IsItemAhead, text_from, AreUnitsAhead, LeadsToBreak, LeadsToLines, GoesOnLines};
+ghost use Rattle.seg_line_rules.specs.LineBoundaries.{rules_by};
 ghost use Rattle.seg_line_rules.specs.LineRules.{is_complex};
 
 use crate::line_pairs::LinePairs;
@@ -43,15 +42,14 @@ pub struct LineEvents<'data, I: Cursor> {
 }
 
 impl<'data, I: Cursor> Model for LineEvents<'data, I> {
-    ghost use Rattle.seg_line_rules.specs.ItemAhead.{IsAhead};
-    ghost use Rattle.seg_line_rules.specs.LineEvents.{UnreadLines};
-    ghost use Rattle.seg_line_rules.specs.LinePairs.{rules_by};
+    ghost use Rattle.seg_line_rules.specs.LineEvents.{IsItemAhead, UnreadLines};
+    ghost use Rattle.seg_line_rules.specs.LineBoundaries.{rules_by};
 
     ghost Value = { UnreadLines };
 
     ghost view = { λ s. record { rules = rules_by s.pairs; text = I.text s.here } };
 
-    ghost invariant = { λ s. IsAhead (rules_by s.pairs) (I.text s.here) s.next (I.text s.rest) };
+    ghost invariant = { λ s. IsItemAhead (rules_by s.pairs) (I.text s.here) s.next (I.text s.rest) };
 }
 
 impl<'data, I: Cursor> LineEvents<'data, I> {
@@ -141,7 +139,7 @@ fn first_units<'data, I: Cursor>(
     rest: I,
 ) -> (Element, Units<'data, I>)
     requires { HasClass (rules_by pairs) first }
-    ensures { AreAhead (rules_by pairs.entry) (text_from first (I.text rest)) (Some result.0) result.1 }
+    ensures { AreUnitsAhead (rules_by pairs.entry) (text_from first (I.text rest)) (Some result.0) result.1 }
 {
     let mut units = Units::from_item(pairs, first, rest);
     let Some(left) = units.next_element() else {
@@ -152,7 +150,7 @@ fn first_units<'data, I: Cursor>(
 
 /// The next item, with its class.
 fn next_classed<I: Cursor>(pairs: LinePairs<'_>, rest: &mut I) -> Option<ClassedItem>
-    ensures { IsAhead (rules_by pairs.entry) (I.text rest.old) result (I.text rest.new) }
+    ensures { IsItemAhead (rules_by pairs.entry) (I.text rest.old) result (I.text rest.new) }
 {
     let Some((place, code_point)) = rest.next_item() else {
         return None;
@@ -181,7 +179,7 @@ struct ComplexPoints<'data> {
 }
 
 impl<'data> CodePointTest for ComplexPoints<'data> {
-    ghost use Rattle.seg_line_rules.specs.LinePairs.{rules_by};
+    ghost use Rattle.seg_line_rules.specs.LineBoundaries.{rules_by};
     ghost use Rattle.seg_line_rules.specs.LineRules.{is_complex};
 
     ghost passes = { λ test code_point. is_complex (rules_by test.pairs) code_point };

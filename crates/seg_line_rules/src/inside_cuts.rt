@@ -2,7 +2,7 @@
 
 ghost use Rattle.std.specs.Prelude.{◌≡◌};
 ghost use Rattle.std.specs.Iterator.{YieldsFirst, item_count};
-ghost use Rattle.seg_text.specs.Cuts.{cut_places};
+ghost use Rattle.seg_text.specs.Boundaries.{cut_places};
 ghost use Rattle.seg_complex.specs.Payloads.{payloads_of, run_cuts_by};
 ghost use Rattle.seg_line_rules.specs.LineBoundaries.{inside};
 
@@ -21,7 +21,7 @@ pub struct InsideCuts<'data, I: Cursor> {
 
 impl<'data, I: Cursor> Model for InsideCuts<'data, I> {
     ghost use Rattle.std.specs.Prelude.{ℕ, List};
-    ghost use Rattle.seg_line_rules.specs.LinesLeft.{places_before};
+    ghost use Rattle.seg_line_rules.specs.LineEvents.{places_before};
 
     ghost Value = { List ℕ };
 

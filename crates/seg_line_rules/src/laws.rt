@@ -1,13 +1,9 @@
 //! Laws of the boundaries of lines by a pair table, in lists of code points: however runs are cut, or where their cuts rise strictly to their ends.
 
 ghost use Rattle.std.specs.Prelude.{◌≡◌, ℕ, List, length, drop};
-ghost use Rattle.seg_text.specs.Boundaries.{HasEqualOrdinals, IsCover, RestartsIn};
-ghost use Rattle.seg_text.specs.Cuts.{Cuts};
-ghost use Rattle.seg_text.specs.Stretches.{HasOneAnswer};
-ghost use Rattle.seg_line_rules.specs.LineBoundaries.{CutsCover, HasComplexCodePoint, inside, line_boundaries, line_stretch};
-ghost use Rattle.seg_line_rules.specs.LinePairs.{rules_by};
+ghost use Rattle.seg_text.specs.Boundaries.{HasEqualOrdinals, IsCover, RestartsIn, Cuts, HasOneAnswer};
+ghost use Rattle.seg_line_rules.specs.LineBoundaries.{CutsCover, HasComplexCodePoint, inside, line_boundaries, line_stretch, rules_by, KeepsMarks};
 ghost use Rattle.seg_line_rules.specs.LineUnits.{counted_units, extent_of};
-ghost use Rattle.seg_line_rules.specs.MarkLaw.{KeepsMarks};
 
 use crate::line_pairs::LinePairs;
 

@@ -1,11 +1,9 @@
 //! Pair tables of lines, with what options say. They aren't part of the library's surface.
 ghost use Rattle.std.specs.Prelude.{◌≡◌, ◌<◌, false, None, IfOk, IfErr};
 ghost use Rattle.seg_data.specs.Faults.{IsFaultless, IsLowestFault};
-ghost use Rattle.seg_pair_data.specs.PairFaults.{HasPairDataFault};
+ghost use Rattle.seg_pair_data.specs.PairData.{HasPairDataFault};
 ghost use Rattle.seg_line_rules.specs.LineClasses.{ID};
-ghost use Rattle.seg_line_rules.specs.LineFaults.{is_named_class};
-ghost use Rattle.seg_line_rules.specs.LineRules.{class_read, is_read_as_id};
-ghost use Rattle.seg_line_rules.specs.LineStyles.{is_loose_or_normal};
+ghost use Rattle.seg_line_rules.specs.LineRules.{is_named_class, class_read, is_read_as_id, is_loose_or_normal};
 
 use crate::options::LineStyle;
 use seg_data::provider::DataError;
@@ -22,8 +20,8 @@ pub struct OwnedLinePairs {
 }
 
 impl OwnedLinePairs {
-    ghost use Rattle.seg_line_rules.specs.LineFaults.{HasLineTableFault};
-    ghost use Rattle.seg_line_rules.specs.LinePairs.{owned_rules_by, rules_by};
+    ghost use Rattle.seg_line_rules.specs.LineRules.{HasLineTableFault};
+    ghost use Rattle.seg_line_rules.specs.LineBoundaries.{owned_rules_by, rules_by};
 
     /// A pair table of lines, with what options say, checked as the borrowed form is.
     pub fn try_new(
@@ -60,10 +58,8 @@ pub struct LinePairs<'data> {
 }
 
 impl<'data> LinePairs<'data> {
-    ghost use Rattle.seg_line_rules.specs.LineFaults.{HasLineTableFault};
-    ghost use Rattle.seg_line_rules.specs.LinePairs.{rules_by};
-    ghost use Rattle.seg_line_rules.specs.LineRules.{line_class};
-    ghost use Rattle.seg_line_rules.specs.LineStyles.{is_loose_or_normal};
+    ghost use Rattle.seg_line_rules.specs.LineRules.{HasLineTableFault, line_class, is_loose_or_normal};
+    ghost use Rattle.seg_line_rules.specs.LineBoundaries.{rules_by};
 
     /// A pair table of lines, with what options say, and checked with the pair table of clusters: `ClassOutOfRange` where the
     /// table has no class ID, and `StartRowKeeps` and `ComplexItems` by the clusters; `ComplexBelow0100` where a code

@@ -4,7 +4,7 @@ ghost use Rattle.std.specs.Option.{option_map};
 ghost use Rattle.seg_line_rules.specs.LineClasses.{BA, EX, ID, IN, NS, PO_EAW, PR_EAW};
 ghost use Rattle.seg_line_rules.specs.LineLists.{fits, is_kept, is_normal_listed, keeps, listed, loose_list, loose_rows, hyphen_row, wave_row, iteration_row, middle_dot_row, leader_row, exclamation_row, postfix_row, prefix_row};
 ghost use Rattle.seg_line_rules.specs.LineRules.{is_among};
-ghost use Rattle.seg_line_rules.specs.UnitElements.{unit_seen};
+ghost use Rattle.seg_line_rules.specs.LineUnits.{unit_seen};
 
 use crate::options::{LineBreakStrictness, LineStyle};
 use seg_pair_data::provider::RuleBreakData;

@@ -1,6 +1,6 @@
 //! What may be asked of the breaks of lines.
 ghost use Rattle.std.specs.Prelude.{◌≡◌};
-ghost use Rattle.seg_line_rules.specs.LineStyles.{is_ja_or_zh, is_break_all, is_keep_all, is_loose_or_normal, style_of};
+ghost use Rattle.seg_line_rules.specs.LineRules.{is_ja_or_zh, is_break_all, is_keep_all, is_loose_or_normal, style_of};
 
 use seg_data::provider::LanguageIdentifier;
 

@@ -1,9 +1,8 @@
 //! Units of one item each, between which the table alone decides: most of them.
 ghost use Rattle.std.specs.Prelude.{◌≡◌, ◌<◌, false};
-ghost use Rattle.seg_line_rules.specs.ItemAhead.{HasClass};
-ghost use Rattle.seg_line_rules.specs.LinePairs.{rules_by};
+ghost use Rattle.seg_line_rules.specs.LineEvents.{HasClass, IsPassed, asks_more, is_plain, plain_pair};
+ghost use Rattle.seg_line_rules.specs.LineBoundaries.{rules_by};
 ghost use Rattle.seg_line_rules.specs.LineUnits.{is_joiner};
-ghost use Rattle.seg_line_rules.specs.PlainPairs.{IsPassed, asks_more, is_plain, plain_pair};
 
 use crate::line_pairs::LinePairs;
 use crate::options::LineStyle;

@@ -1,10 +1,9 @@
 //! The units of a text of lines, each read once.
 
 ghost use Rattle.std.specs.Prelude.{◌≡◌, ◌<◌, ◌∷◌, [], None, IfSome};
-ghost use Rattle.seg_line_rules.specs.ItemAhead.{HasClass, text_from};
-ghost use Rattle.seg_line_rules.specs.LinePairs.{rules_by};
-ghost use Rattle.seg_line_rules.specs.LineUnits.{bears_none, is_glued, is_mark};
-ghost use Rattle.seg_line_rules.specs.UnitElements.{base_element, base_of, elements_after, elements_from, line_elements, marked_element};
+ghost use Rattle.seg_line_rules.specs.LineEvents.{HasClass, text_from};
+ghost use Rattle.seg_line_rules.specs.LineBoundaries.{rules_by};
+ghost use Rattle.seg_line_rules.specs.LineUnits.{bears_none, is_glued, is_mark, base_element, base_of, elements_after, elements_from, line_elements, marked_element};
 
 use crate::line_pairs::LinePairs;
 use crate::plain_pairs::ClassedItem;
@@ -24,8 +23,8 @@ pub struct Units<'data, I: Cursor> {
 }
 
 impl<'data, I: Cursor> Model for Units<'data, I> {
-    ghost use Rattle.seg_line_rules.specs.LinePairs.{rules_by};
-    ghost use Rattle.seg_line_rules.specs.UnitElements.{UnitsLeft, IsFirst, elements_after};
+    ghost use Rattle.seg_line_rules.specs.LineBoundaries.{rules_by};
+    ghost use Rattle.seg_line_rules.specs.LineUnits.{UnitsLeft, IsFirst, elements_after};
 
     ghost Value = { UnitsLeft };
 

@@ -2,11 +2,10 @@
 
 ghost use Rattle.std.specs.Prelude.{◌≡◌, ◌<◌, List, ◌∷◌};
 ghost use Rattle.seg_pair_data.specs.PairTable.{entry_of};
-ghost use Rattle.seg_pairs.specs.Steps.{Lands, LandsOrWalks, IsStepBelow};
-ghost use Rattle.seg_line_rules.specs.LinePairs.{rules_by};
-ghost use Rattle.seg_line_rules.specs.LineSteps.{step_unless};
-ghost use Rattle.seg_line_rules.specs.LineVerdict.{begins_run, case_of, unit_first_verdict, unit_named_verdict, unit_verdict};
-ghost use Rattle.seg_line_rules.specs.UnitElements.{unit_seen, units_seen};
+ghost use Rattle.seg_pairs.specs.Verdict.{Lands, LandsOrWalks, IsStepBelow};
+ghost use Rattle.seg_line_rules.specs.LineBoundaries.{rules_by};
+ghost use Rattle.seg_line_rules.specs.LineVerdict.{step_unless, begins_run, case_of, unit_first_verdict, unit_named_verdict, unit_verdict};
+ghost use Rattle.seg_line_rules.specs.LineUnits.{unit_seen, units_seen};
 
 use crate::line_pairs::LinePairs;
 use crate::lists::{keeps, listed};

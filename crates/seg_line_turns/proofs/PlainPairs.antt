@@ -2,8 +2,7 @@
 use Rattle.std.proofs.Common.{◌≡◌, ℕ, suc, ◌&&◌, ◌||◌, not, Bool, true, false, cond, Option, None, List, [], ◌∷◌, ◌++◌, map, refl, sym, ap, ◌∙◌}
 use Rattle.std.proofs.lemmas.Bool.{eqb-true}
 use Rattle.seg_text.specs.declared.boundary.Boundary.{Boundary}
-use Rattle.seg_text.specs.Boundaries.{boundary, boundary_in, boundaries_in}
-use Rattle.seg_text.specs.Cuts.{Cuts}
+use Rattle.seg_text.specs.Boundaries.{boundary, boundary_in, boundaries_in, Cuts}
 use Rattle.seg_text.specs.Items.{Item, Text, start_of, rest_after, code_points}
 use Rattle.seg_pair_data.specs.declared.provider.pairs.BreakState.{BreakState}
 use Rattle.seg_pair_data.specs.declared.provider.pairs.BreakState.TheVariants as entries
@@ -12,22 +11,15 @@ use Rattle.seg_line_rules.specs.declared.options.LineBreakStrictness.{LineBreakS
 use Rattle.seg_line_rules.specs.declared.options.LineBreakStrictness.TheVariants as strictness
 use Rattle.seg_line_rules.specs.declared.options.LineStyle.{LineStyle}
 use Rattle.seg_line_rules.specs.LineLists.{LooseRow, listed_by}
-use Rattle.seg_line_rules.specs.LineRules.{LineRules, is_among}
-use Rattle.seg_line_rules.specs.LineStyles.{is_keep_all}
-use Rattle.seg_line_rules.specs.PlainPairs.{asks_more}
+use Rattle.seg_line_rules.specs.LineRules.{TableRules, is_among, is_keep_all}
+use Rattle.seg_line_rules.specs.LineEvents.{asks_more, text_from}
 use Rattle.seg_line_rules.specs.declared.plain_pairs.PlainPair.{PlainPair}
 use Rattle.seg_line_rules.specs.declared.plain_pairs.PlainPair.TheVariants as plain
 use Rattle.seg_line_rules.specs.declared.plain_pairs.ClassedItem.{ClassedItem}
-use Rattle.seg_line_turns.specs.PlainPairs.{IsPassedByTurns, entry_turn, going_text, is_asked, is_plain, is_unanswered, passed_turns, plain_turn}
-use Rattle.seg_line_rules.specs.ItemAhead.{text_from}
-use Rattle.seg_line_turns.specs.TurnAhead.{HasTurnClass}
-use Rattle.seg_line_turns.specs.TurnBoundaries.{later_turns, stretch_of}
-use Rattle.seg_line_turns.specs.TurnClasses.{CM, CM_EASTASIAN, HH, HY, IS, QU_PF, SA, SA_MC_MN, SP, ZWJ}
-use Rattle.seg_line_turns.specs.TurnEvents.{unread_turns}
-use Rattle.seg_line_turns.specs.TurnLists.{keeps, listed, turn_rows}
-use Rattle.seg_line_turns.specs.TurnReadings.{turn_class}
-use Rattle.seg_line_turns.specs.TurnSets.{is_before_hyphen, is_before_quote, is_complex, is_glue, is_hyphen, is_infix, is_opening, is_quote, is_space}
-use Rattle.seg_line_turns.specs.TurnUnits.{LeftUnit, is_joined, left_unit}
+use Rattle.seg_line_turns.specs.TurnEvents.{IsPassedByTurns, entry_turn, going_text, is_asked, is_plain, is_unanswered, passed_turns, plain_turn, HasTurnClass, unread_turns}
+use Rattle.seg_line_turns.specs.TurnBoundaries.{later_turns, turn_stretch_of}
+use Rattle.seg_line_turns.specs.TurnClasses.{CM, CM_EASTASIAN, HH, HY, IS, QU_PF, SA, SA_MC_MN, SP, ZWJ, is_before_hyphen, is_before_quote, is_complex, is_glue, is_hyphen, is_infix, is_opening, is_quote, is_space}
+use Rattle.seg_line_turns.specs.TurnRules.{keeps, listed, turn_rows, turn_class, LeftUnit, is_joined, left_unit}
 use Rattle.seg_line_turns.specs.Turns.{Turn, class_turn, list_turn, right_turn, table_turn, turn}
 use Rattle.seg_line_turns.specs.Turns.Turn.{BreakAt, GoTo}
 use Rattle.seg_line_rules.proofs.PlainPairs.{and-first, and-last, and-off, if-off, listed-by-off, not-true, or-neither, said-break, said-go}
@@ -177,7 +169,7 @@ listed-off style joined left left_point right right_point none =
     listed-by-off style.strictness turn_rows style joined left left_point right right_point (or-neither (is_keep_all style.word_option) _ none).1
 
 -- the turn is the table's
-module _ (rules : LineRules) (opened : Bool) (left right : ℕ) (after : List ℕ) where
+module _ (rules : TableRules) (opened : Bool) (left right : ℕ) (after : List ℕ) where
   abbrev unit : LeftUnit
   unit = left_unit rules left
 
@@ -234,7 +226,7 @@ module _ (rules : LineRules) (opened : Bool) (left right : ℕ) (after : List �
       turn-plain few said.0 ∙ ap (table_turn rules opened unit class after) both.1 ∙ if-off _ _ _ both.0
 
 -- one item more
-module _ (rules : LineRules) (left right : ClassedItem) (rest after : Text) (few : asks_more rules.style ≡ false)
+module _ (rules : TableRules) (left right : ClassedItem) (rest after : Text) (few : asks_more rules.style ≡ false)
     (left_class : HasTurnClass rules left) (right_class : HasTurnClass rules right)
     (items : rest.items ≡ (right.place, right.code_point) ∷ after.items) (end : after.end ≡ rest.end) where
   rest-is : rest ≡ text_from right after
@@ -254,7 +246,7 @@ module _ (rules : LineRules) (left right : ClassedItem) (rest after : Text) (few
   abbrev by_turn : Cuts → Turn → List Boundary
   by_turn cuts found =
       let here : Text = text_from left rest in
-      let s = stretch_of cuts rules (code_points here.items) found in
+      let s = turn_stretch_of cuts rules (code_points here.items) found in
       map (boundary_in here) s.boundaries ++ boundaries_in (later_turns cuts rules false s.opened) (rest_after s.extent here)
 
   first-turn : (opened : Bool) (cuts : Cuts) (found : Turn)

@@ -1,9 +1,7 @@
 -- On plain texts a turn is the line verdict of its units, and the boundaries are those of the verdicts.
 use Rattle.std.proofs.Common.{◌≡◌, ℕ, zero, suc, ◌+◌, ◌<◌, ◌==◌, ◌&&◌, ◌||◌, not, Bool, true, false, cond, Option, Some, None, List, [], ◌∷◌, ◌++◌, length, drop, refl, sym, ap, ◌∙◌, subst, arith}
 use Rattle.seg_text.specs.declared.boundary.Boundary.{Boundary}
-use Rattle.seg_text.specs.Boundaries.{start, shift_all, boundary}
-use Rattle.seg_text.specs.Cuts.{Cuts}
-use Rattle.seg_text.specs.Stretches.{later_boundaries_within, later_boundaries}
+use Rattle.seg_text.specs.Boundaries.{start, shift_all, boundary, Cuts, later_boundaries_within, later_boundaries}
 use Rattle.seg_pair_data.specs.declared.provider.pairs.BreakState.{BreakState}
 use Rattle.seg_pair_data.specs.declared.provider.pairs.BreakState.TheVariants.{Break, Keep, NoMatch, Intermediate, Index}
 use Rattle.seg_pair_data.specs.PairTable.{entry_of}
@@ -11,20 +9,18 @@ use Rattle.seg_pairs.specs.Walk.{is_class}
 use Rattle.seg_pairs.specs.Verdict.{Verdict}
 use Rattle.seg_pairs.specs.Verdict.Verdict.{BreakAfter, GoAfter, RunBegins}
 use Rattle.seg_line_rules.specs.declared.verdicts.Case.TheVariants.{Together}
-use Rattle.seg_line_rules.specs.LineRules.{LineRules}
+use Rattle.seg_line_rules.specs.LineRules.{TableRules}
 use Rattle.seg_line_rules.specs.LineVerdict.{case_verdict, list_case, unless, unit_first_verdict, unit_named_verdict}
 use Rattle.seg_line_turns.specs.PlainTexts.{TurnUnit, unit_at, unit_with, turn_units_from, turn_units, extent_in, line_unit, line_units, plain_case, plain_unit_verdict, in_points, plain_stretch_of, plain_stretch, plain_boundaries, ArePlain, HasNoOpening}
-use Rattle.seg_line_turns.specs.TurnBoundaries.{run_length, stretch_of, turns_within, later_turns, turn_boundaries}
-use Rattle.seg_line_turns.specs.TurnLists.{keeps, listed}
-use Rattle.seg_line_turns.specs.TurnReadings.{turn_class}
-use Rattle.seg_line_turns.specs.TurnSets.{bears_none, is_mark, is_glued, is_complex, is_opening, is_space}
-use Rattle.seg_line_turns.specs.TurnUnits.{LeftUnit, left_unit, with_item, is_joined}
+use Rattle.seg_line_turns.specs.TurnBoundaries.{turn_run_length, turn_stretch_of, turns_within, later_turns, turn_boundaries}
+use Rattle.seg_line_turns.specs.TurnRules.{keeps, listed, turn_class, LeftUnit, left_unit, with_item, is_joined}
+use Rattle.seg_line_turns.specs.TurnClasses.{bears_none, is_mark, is_glued, is_complex, is_opening, is_space}
 use Rattle.seg_line_turns.specs.Turns.{Turn, turn_unless, walk_turn, walk_begin, table_turn, list_turn, class_turn, right_turn, is_taken, opens, turn, first_unit}
 use Rattle.seg_line_turns.specs.Turns.Turn.{BreakAt, GoTo}
 use Rattle.seg_line_turns.proofs.PlainUnits.{Ruled, ruled, and-none, glue-mark, units-head, walks, unit_walk, unit-walks, turn_by}
 use Rattle.seg_line_turns.proofs.TurnForward.{IsTurnOf, first-forward}
 
-module _ (rules : LineRules) where
+module _ (rules : TableRules) where
   taken-is : (left : LeftUnit) (class : ℕ) → Ruled class → is_taken left class ≡ is_glued left.class class
   taken-is left class r =
       rw (r.no_complex_mark, glue-mark class r, and-none (is_complex left.class)) (same (is_mark class) (bears_none left.class))
@@ -239,7 +235,7 @@ module _ (rules : LineRules) where
 
     one-stretch : (most : ℕ) (item : ℕ) (items : List ℕ) (v : Verdict) → Ruled (turn_class rules item) → IsTurnOf rules (item ∷ items) (turn_by (turn_units rules (item ∷ items)) v)
         → ((n : ℕ) → 0 < n → rest_by most false (extent_in n (turn_units rules (item ∷ items))) (item ∷ items) ≡ lines_by most (extent_in n (turn_units rules (item ∷ items))) (item ∷ items))
-        → (let s = stretch_of cuts rules (item ∷ items) (turn_by (turn_units rules (item ∷ items)) v) in s.boundaries ++ shift_all s.extent (rest_by most s.opened s.extent (item ∷ items)))
+        → (let s = turn_stretch_of cuts rules (item ∷ items) (turn_by (turn_units rules (item ∷ items)) v) in s.boundaries ++ shift_all s.extent (rest_by most s.opened s.extent (item ∷ items)))
         ≡ (let s = plain_stretch_of cuts rules (item ∷ items) (in_points (turn_units rules (item ∷ items)) v) in s.boundaries ++ shift_all s.extent (lines_by most s.extent (item ∷ items)))
     one-stretch most item items (BreakAfter n class) r forward later =
         let us : List TurnUnit = turn_units rules (item ∷ items) in
@@ -248,7 +244,7 @@ module _ (rules : LineRules) where
         let us : List TurnUnit = turn_units rules (item ∷ items) in
         ap (shift_all (extent_in n us)) (later n (some-units n us forward.0))
     one-stretch most item items RunBegins r forward later =
-        let none : run_length rules (item ∷ items) ≡ 0 = rw r.not_complex refl in absurd (omega (arith, forward, none))
+        let none : turn_run_length rules (item ∷ items) ≡ 0 = rw r.not_complex refl in absurd (omega (arith, forward, none))
 
     agrees : (most : ℕ) (starts : Bool) (items : List ℕ) → ArePlain rules items → HasNoOpening (turn_units rules items)
         → turns_within cuts rules most starts false items ≡ later_boundaries_within (plain_stretch cuts rules) most items
@@ -261,7 +257,7 @@ module _ (rules : LineRules) where
         let found : turn rules false (first_unit rules starts item) items ≡ turn_by us (plain_unit_verdict rules us) =
         ap (λ left. turn rules false left items) (first-plain starts item r) ∙ turns (unit_at rules item) items plain.1 none in
         let forward = subst (IsTurnOf rules (item ∷ items)) found (first-forward rules starts false item items) in
-        ap (λ (found : Turn). let s = stretch_of cuts rules (item ∷ items) found in s.boundaries ++ shift_all s.extent (rest_by most s.opened s.extent (item ∷ items))) found
+        ap (λ (found : Turn). let s = turn_stretch_of cuts rules (item ∷ items) found in s.boundaries ++ shift_all s.extent (rest_by most s.opened s.extent (item ∷ items))) found
         ∙ one-stretch most item items (plain_unit_verdict rules us) r forward
         (λ n some.
         agrees most false (drop (extent_in n us) (item ∷ items)) (plain-drop (extent_in n us) (item ∷ items) plain)

@@ -5,19 +5,17 @@ use Rattle.std.specs.Option.{option_map_or}
 use Rattle.seg_data.proofs.Options.{option-cases}
 use Rattle.seg_pair_data.specs.declared.provider.pairs.BreakState.{BreakState}
 use Rattle.seg_pair_data.specs.declared.provider.pairs.BreakState.TheVariants.{Break, Keep, NoMatch}
-use Rattle.seg_pair_data.specs.BreakStates.{named_state, is_intermediate}
-use Rattle.seg_pair_data.specs.PairTable.{PairTable, entry_of}
+use Rattle.seg_pair_data.specs.PairTable.{named_state, is_intermediate, PairTable, entry_of}
 use Rattle.seg_pairs.specs.Walk.{Walk, walk, is_class}
 use Rattle.seg_pairs.specs.Verdict.{Verdict}
 use Rattle.seg_pairs.specs.Verdict.Verdict.{BreakAfter, GoAfter, RunBegins}
 use Rattle.seg_pairs.proofs.Walks.{walk-named, walk-stop, walk-end}
-use Rattle.seg_line_rules.specs.LineRules.{LineRules}
+use Rattle.seg_line_rules.specs.LineRules.{TableRules}
 use Rattle.seg_line_rules.specs.LineUnits.{LineUnit}
 use Rattle.seg_line_rules.specs.LineVerdict.{unit_classes, joined_before, begins_joined, unless, unit_stop_verdict, unit_end_verdict, unit_walk_verdict}
 use Rattle.seg_line_turns.specs.PlainTexts.{TurnUnit, unit_at, unit_with, turn_units_from, extent_in, line_unit, line_units, is_quoting, ArePlain}
-use Rattle.seg_line_turns.specs.TurnReadings.{turn_class}
-use Rattle.seg_line_turns.specs.TurnSets.{is_mark, is_glue, is_glued, bears_none, is_complex, is_complex_mark, is_hyphen, is_start, is_infix, is_quote, is_joiner}
-use Rattle.seg_line_turns.specs.TurnUnits.{is_joined}
+use Rattle.seg_line_turns.specs.TurnRules.{turn_class, is_joined}
+use Rattle.seg_line_turns.specs.TurnClasses.{is_mark, is_glue, is_glued, bears_none, is_complex, is_complex_mark, is_hyphen, is_start, is_infix, is_quote, is_joiner}
 use Rattle.seg_line_turns.specs.Turns.{Turn, Walking, WalkStep, turn_unless, walk_end_turn, walk_stop_turn, walk_on, walk_entry_step, walk_step, walk_by, walk_turn}
 use Rattle.seg_line_turns.specs.Turns.Turn.{BreakAt, GoTo, RunAt}
 use Rattle.seg_line_turns.specs.Turns.WalkStep.{Stops, GoesOn}
@@ -80,7 +78,7 @@ pub glue-mark : (class : ℕ) → Ruled class → is_glue class ≡ is_mark clas
 glue-mark class r = glue-is class ∙ ap (λ b. is_mark class || b) r.no_complex_mark ∙ or-none (is_mark class)
 
 -- a unit with one mark more bears marks as it does
-pub with-alike : (rules : LineRules) (unit : TurnUnit) (item : ℕ) → is_glued unit.left.class (turn_class rules item) ≡ true → BearsAlike (unit_with rules unit item).left
+pub with-alike : (rules : TableRules) (unit : TurnUnit) (item : ℕ) → is_glued unit.left.class (turn_class rules item) ≡ true → BearsAlike (unit_with rules unit item).left
 with-alike rules unit item glued = on (is_mark (turn_class rules item)) (bears_none unit.left.class) refl refl glued
   where
     on : (a b : Bool) → is_mark (turn_class rules item) ≡ a → bears_none unit.left.class ≡ b → (a && not b) ≡ true
@@ -105,7 +103,7 @@ abbrev saves_at : PairTable → ℕ → ℕ → Bool
 saves_at t state class = is_intermediate (entry_of t state class) || is_class t state
 
 -- the walk over units, before which so many items are gone; the first of them is the one before the next entry
-unfoldable pub unit_walk : LineRules → Bool → ℕ → ℕ → Bool → ℕ → List TurnUnit → Turn
+unfoldable pub unit_walk : TableRules → Bool → ℕ → ℕ → Bool → ℕ → List TurnUnit → Turn
 unit_walk rules first state saved joined gone [] = BreakAt gone gone
 unit_walk rules first state saved joined gone (before ∷ []) =
     walk_end_turn (walking first state saved joined 0) (gone + suc before.left.last) (entry_of rules.table state rules.table.eot_property)
@@ -145,7 +143,7 @@ pub record Head (unit : TurnUnit) (units : List TurnUnit) : Type 0 where
   pub code_point : head.code_point ≡ unit.code_point
 
 -- what a glued mark and what another item do to a walk over a plain text
-module _ (rules : LineRules) where
+module _ (rules : TableRules) where
   pub units-mark : (unit : TurnUnit) (item : ℕ) (items : List ℕ) → is_glued unit.left.class (turn_class rules item) ≡ true
       → turn_units_from rules unit (item ∷ items) ≡ turn_units_from rules (unit_with rules unit item) items
   unfolding turn_units_from
@@ -288,7 +286,7 @@ joined-after : (passed : ℕ) (before : TurnUnit) (units whole : List TurnUnit) 
 joined-after passed before units whole here =
     ap begins_joined (drop-map line_unit passed whole ∙ ap (map line_unit) (sym here))
 
-module _ (rules : LineRules) (start : ℕ) (whole : List TurnUnit) where
+module _ (rules : TableRules) (start : ℕ) (whole : List TurnUnit) where
   unless-turn : (joined : Bool) (n : ℕ) → turn_unless joined false (extent_in n whole) ≡ turn_by whole (unless joined n)
   unless-turn true n = refl
   unless-turn false n = refl

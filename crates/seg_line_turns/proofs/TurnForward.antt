@@ -4,25 +4,22 @@ use Rattle.std.proofs.lemmas.List.{drop-drop, length-drop}
 use Rattle.std.specs.Option.{option_map_or}
 use Rattle.seg_pair_data.specs.declared.provider.pairs.BreakState.{BreakState}
 use Rattle.seg_pair_data.specs.declared.provider.pairs.BreakState.TheVariants.{Break, Keep, NoMatch, Intermediate, Index}
-use Rattle.seg_pair_data.specs.BreakStates.{named_state, is_intermediate}
-use Rattle.seg_pair_data.specs.PairTable.{entry_of}
+use Rattle.seg_pair_data.specs.PairTable.{named_state, is_intermediate, entry_of}
 use Rattle.seg_pairs.specs.Walk.{is_class}
-use Rattle.seg_line_rules.specs.LineRules.{LineRules}
-use Rattle.seg_line_turns.specs.TurnBoundaries.{run_length}
-use Rattle.seg_line_turns.specs.TurnLists.{keeps, listed}
-use Rattle.seg_line_turns.specs.TurnReadings.{turn_class}
-use Rattle.seg_line_turns.specs.TurnSets.{is_mark, is_glue, bears_none, is_complex, is_letter, is_hyphen, is_before_quote, is_after_quote, is_before_hyphen, is_joiner, is_space, is_zero_space, is_infix, is_digit, is_quote, is_contingent}
-use Rattle.seg_line_turns.specs.TurnUnits.{LeftUnit, with_item, is_joined, left_unit}
+use Rattle.seg_line_rules.specs.LineRules.{TableRules}
+use Rattle.seg_line_turns.specs.TurnBoundaries.{turn_run_length}
+use Rattle.seg_line_turns.specs.TurnRules.{keeps, listed, turn_class, LeftUnit, with_item, is_joined, left_unit}
+use Rattle.seg_line_turns.specs.TurnClasses.{is_mark, is_glue, bears_none, is_complex, is_letter, is_hyphen, is_before_quote, is_after_quote, is_before_hyphen, is_joiner, is_space, is_zero_space, is_infix, is_digit, is_quote, is_contingent}
 use Rattle.seg_line_turns.specs.Turns.{next_base, comes, to_base, sticks, Turn, Walking, turn_unless, walk_end_turn, walk_back_turn, walk_stop_turn, walk_begin, WalkStep, walk_step, walk_by, walk_turn, table_turn, quote_turn, list_turn, class_turn, right_turn, is_taken, opens, turn, start_unit, first_unit}
 use Rattle.seg_line_turns.specs.Turns.Turn.{BreakAt, GoTo, RunAt}
 use Rattle.seg_line_turns.specs.Turns.WalkStep.{Stops, GoesOn}
 
 -- of this list a turn takes some items. Where it begins a run, two complex items stand
-abbrev pub IsTurnOf : LineRules → List ℕ → Turn → Type 0
+abbrev pub IsTurnOf : TableRules → List ℕ → Turn → Type 0
 IsTurnOf rules whole (BreakAt place resume) =
     (0 < place) × (place ≤ resume) × ((resume < length whole) ⊎ ((place ≡ length whole) × (resume ≡ length whole)))
 IsTurnOf rules whole (GoTo place opened) = (0 < place) × (place < length whole)
-IsTurnOf rules whole (RunAt first opened) = 1 < run_length rules (drop first whole)
+IsTurnOf rules whole (RunAt first opened) = 1 < turn_run_length rules (drop first whole)
 
 and-first : (a b : Bool) → (a && b) ≡ true → a ≡ true
 and-first true b is = refl
@@ -33,17 +30,17 @@ and-last true b is = is
 and-last false b is = cc
 
 -- the items after so many, of which the last has this class
-pub record StandsAt (rules : LineRules) (whole : List ℕ) (last class : ℕ) (items : List ℕ) : Type 0 where
+pub record StandsAt (rules : TableRules) (whole : List ℕ) (last class : ℕ) (items : List ℕ) : Type 0 where
   pub item : ℕ
   pub here : drop last whole ≡ item ∷ items
   pub is_class : turn_class rules item ≡ class
 
-pub stands-sum : (rules : LineRules) (whole : List ℕ) (last class : ℕ) (items : List ℕ) → StandsAt rules whole last class items
+pub stands-sum : (rules : TableRules) (whole : List ℕ) (last class : ℕ) (items : List ℕ) → StandsAt rules whole last class items
     → suc last + length items ≡ length whole
 stands-sum rules whole last class items at =
     let long = ap length at.here in let dropped = length-drop last whole in omega (arith, long, dropped)
 
-pub stands-next : (rules : LineRules) (whole : List ℕ) (last class next : ℕ) (items : List ℕ) → StandsAt rules whole last class (next ∷ items)
+pub stands-next : (rules : TableRules) (whole : List ℕ) (last class next : ℕ) (items : List ℕ) → StandsAt rules whole last class (next ∷ items)
     → StandsAt rules whole (suc last) (turn_class rules next) items
 stands-next rules whole last class next items at =
     let more : last + 1 ≡ suc last = omega arith in
@@ -53,7 +50,7 @@ stands-next rules whole last class next items at =
       is_class = refl;
     }
 
-module _ (rules : LineRules) (whole : List ℕ) where
+module _ (rules : TableRules) (whole : List ℕ) where
   if-forward : (b : Bool) (x y : Turn) → (b ≡ true → IsTurnOf rules whole x) → IsTurnOf rules whole y → IsTurnOf rules whole (cond b x y)
   if-forward true x y some other = some refl
   if-forward false x y some other = other
@@ -182,7 +179,7 @@ module _ (rules : LineRules) (whole : List ℕ) where
 
   -- two complex items begin a run of two at least
   run-two : (last class next : ℕ) (items : List ℕ) → StandsAt rules whole last class (next ∷ items) → (is_complex class && is_complex (turn_class rules next)) ≡ true
-      → 1 < run_length rules (drop last whole)
+      → 1 < turn_run_length rules (drop last whole)
   run-two last class next items at both =
       let one : is_complex (turn_class rules at.item) ≡ true = ap is_complex at.is_class ∙ and-first (is_complex class) (is_complex (turn_class rules next)) both in
       let two = and-last (is_complex class) (is_complex (turn_class rules next)) both in
@@ -246,10 +243,10 @@ start-last unit Keep = (refl, refl)
 start-last unit NoMatch = (refl, refl)
 
 -- the first unit is its item alone, whatever it is read as
-pub first-last : (rules : LineRules) (starts : Bool) (code_point : ℕ)
+pub first-last : (rules : TableRules) (starts : Bool) (code_point : ℕ)
     → ((first_unit rules starts code_point).last ≡ 0) × ((first_unit rules starts code_point).last_class ≡ turn_class rules code_point)
 first-last rules starts code_point =
-    let unit = left_unit rules code_point in on (starts && Rattle.seg_line_turns.specs.TurnSets.is_start unit.class)
+    let unit = left_unit rules code_point in on (starts && Rattle.seg_line_turns.specs.TurnClasses.is_start unit.class)
   where
     on : (b : Bool)
         → ((cond b (start_unit (left_unit rules code_point) (entry_of rules.table rules.table.sot_property (turn_class rules code_point))) (left_unit rules code_point)).last ≡ 0)
@@ -257,7 +254,7 @@ first-last rules starts code_point =
     on true = start-last (left_unit rules code_point) (entry_of rules.table rules.table.sot_property (turn_class rules code_point))
     on false = (refl, refl)
 
-pub first-forward : (rules : LineRules) (starts opened : Bool) (code_point : ℕ) (code_points : List ℕ)
+pub first-forward : (rules : TableRules) (starts opened : Bool) (code_point : ℕ) (code_points : List ℕ)
     → IsTurnOf rules (code_point ∷ code_points) (turn rules opened (first_unit rules starts code_point) code_points)
 first-forward rules starts opened code_point code_points =
     let first = first-last rules starts code_point in

@@ -7,25 +7,19 @@ use Rattle.std.proofs.lemmas.List.Folds.{length-prefix_len}
 use Rattle.std.proofs.lemmas.List.Sums.{prefix_len_passes}
 use Rattle.std.proofs.lemmas.Option.{get_or_from_slice_get}
 use Rattle.seg_text.specs.declared.boundary.Boundary.{Boundary}
-use Rattle.seg_text.specs.Boundaries.{RisesTo, shift_all}
-use Rattle.seg_text.specs.Cuts.{Cuts, with_status}
+use Rattle.seg_text.specs.Boundaries.{RisesTo, shift_all, Cuts, with_status}
 use Rattle.seg_pair_data.specs.declared.provider.pairs.BreakState.{BreakState}
 use Rattle.seg_pair_data.specs.declared.provider.pairs.BreakState.TheVariants.{Break, Keep, NoMatch, Intermediate, Index}
-use Rattle.seg_pair_data.specs.BreakStates.{named_state, is_intermediate}
-use Rattle.seg_pair_data.specs.PairTable.{IsPairTable, class_of, entry_of}
+use Rattle.seg_pair_data.specs.PairTable.{named_state, is_intermediate, IsPairTable, class_of, entry_of}
 use Rattle.seg_pair_data.proofs.Pairs.{class-below, class-table}
 use Rattle.seg_pairs.specs.Walk.{is_class}
-use Rattle.seg_line_rules.specs.LineRules.{LineRules}
+use Rattle.seg_line_rules.specs.LineRules.{TableRules}
 use Rattle.seg_line_rules.proofs.Inside.{rises-le}
 use Rattle.seg_line_rules.proofs.LineStretches.{StandInside}
 use Rattle.seg_line_rules.proofs.MarkLaw.{get-drop}
-use Rattle.seg_line_turns.specs.TurnBoundaries.{is_complex_point, run_length, run_of, stretch_of, turn_stretch, later_turns, turn_boundaries}
-use Rattle.seg_line_turns.specs.TurnClasses.{ID}
-use Rattle.seg_line_turns.specs.TurnLists.{keeps, listed}
-use Rattle.seg_line_turns.specs.TurnMarks.{KeepsTurnMarks, StartsBear}
-use Rattle.seg_line_turns.specs.TurnReadings.{is_read_as_id, turn_class}
-use Rattle.seg_line_turns.specs.TurnSets.{is_mark, is_glue, is_glued, bears_none, is_complex, is_complex_mark, is_letter, is_hyphen, is_start, is_before_quote, is_after_quote, is_before_hyphen, is_joiner, is_space, is_zero_space, is_infix, is_digit, is_quote, is_contingent}
-use Rattle.seg_line_turns.specs.TurnUnits.{LeftUnit, with_item, is_joined, left_unit}
+use Rattle.seg_line_turns.specs.TurnBoundaries.{is_complex_point, turn_run_length, run_of, turn_stretch_of, turn_stretch, later_turns, turn_boundaries, KeepsTurnMarks, StartsBear}
+use Rattle.seg_line_turns.specs.TurnClasses.{ID, is_mark, is_glue, is_glued, bears_none, is_complex, is_complex_mark, is_letter, is_hyphen, is_start, is_before_quote, is_after_quote, is_before_hyphen, is_joiner, is_space, is_zero_space, is_infix, is_digit, is_quote, is_contingent}
+use Rattle.seg_line_turns.specs.TurnRules.{keeps, listed, is_read_as_id, turn_class, LeftUnit, with_item, is_joined, left_unit}
 use Rattle.seg_line_turns.specs.Turns.{comes, to_base, sticks, Turn, Walking, turn_unless, walk_end_turn, walk_back_turn, walk_stop_turn, walk_begin, WalkStep, walk_step, walk_by, walk_turn, table_turn, quote_turn, begins_marked, list_turn, right_turn, is_taken, opens, turn, start_unit, first_unit}
 use Rattle.seg_line_turns.specs.Turns.Turn.{BreakAt, GoTo, RunAt}
 use Rattle.seg_line_turns.specs.Turns.WalkStep.{Stops, GoesOn}
@@ -40,7 +34,7 @@ false-not : false ≡ true → ⊥
 false-not is = cc
 
 -- each code point's class is one of the table's, read as ID or not
-pub class-below-count : (rules : LineRules) → IsPairTable rules.table → ID < rules.table.property_count → (code_point : ℕ)
+pub class-below-count : (rules : TableRules) → IsPairTable rules.table → ID < rules.table.property_count → (code_point : ℕ)
     → turn_class rules code_point < rules.table.property_count
 unfolding turn_class
 class-below-count rules checked has_id code_point = on (is_read_as_id rules.style class)
@@ -67,7 +61,7 @@ untaken left class alike is =
     on true false false true apart is = cc
     on true false false false apart is = cc
 
-taken-alike : (rules : LineRules) (left : LeftUnit) (right : ℕ) → is_taken left (turn_class rules right) ≡ true → BearsAlike (with_item rules left right)
+taken-alike : (rules : TableRules) (left : LeftUnit) (right : ℕ) → is_taken left (turn_class rules right) ≡ true → BearsAlike (with_item rules left right)
 taken-alike rules left right is =
     on (is_mark class) (is_complex_mark class) (bears_none left.class) (is_complex left.class) refl refl refl
     (ap (λ b. b && not (bears_none left.class) && not (is_complex left.class && is_complex_mark class)) (sym (glue-is class)) ∙ is)
@@ -83,7 +77,7 @@ taken-alike rules left right is =
     on false true true c mark complex bears is = cc
     on false false n c mark complex bears is = cc
 
-module _ (rules : LineRules) where
+module _ (rules : TableRules) where
   abbrev PartsAfter : List ℕ → ℕ → Type 0
   PartsAfter code_points k =
       (before mark : ℕ) → slice_get code_points k ≡ Some before → slice_get code_points (suc k) ≡ Some mark
@@ -308,12 +302,12 @@ module _ (rules : LineRules) where
 
     -- each cut strictly inside a run parts, since complex code points are no marks
     cuts-part : (code_points : List ℕ) (from end : ℕ) (cuts : List ℕ)
-        → end < run_length rules code_points → RisesTo from (with_status 0 cuts) end → AllPart code_points (with_status 0 cuts)
+        → end < turn_run_length rules code_points → RisesTo from (with_status 0 cuts) end → AllPart code_points (with_status 0 cuts)
     cuts-part code_points from end [] less rises = tt
     cuts-part code_points from end (cut ∷ cuts) less rises =
         (one cut (omega (arith, rises.0)) (omega (arith, less, rises-le cut cuts end rises.1)), cuts-part code_points cut end cuts less rises.1)
       where
-        one : (cut : ℕ) → 0 < cut → cut < run_length rules code_points → Parts code_points cut
+        one : (cut : ℕ) → 0 < cut → cut < turn_run_length rules code_points → Parts code_points cut
         one zero some within = absurd (omega (arith, some))
         one (suc k) some within = λ before mark here there is.
             let passes : is_complex_point rules mark ≡ true =
@@ -321,13 +315,13 @@ module _ (rules : LineRules) where
             absurd (false-not (sym (complex-apart (turn_class rules mark) passes) ∙ is))
 
     module _ (cuts : Cuts) (stand : StandInside cuts) where
-      run-part : (rest inner : List ℕ) → 0 < length inner → length inner ≡ run_length rules rest → AllPart rest (with_status 0 (cuts inner))
+      run-part : (rest inner : List ℕ) → 0 < length inner → length inner ≡ turn_run_length rules rest → AllPart rest (with_status 0 (cuts inner))
       run-part rest [] some long = absurd (omega (arith, some))
       run-part rest (first ∷ more) some long =
           let there = stand first more in
           cuts-part rest 0 there.0 (cuts (first ∷ more)) (omega (arith, there.1, long)) there.2
 
-      stretch-parts : (whole : List ℕ) (found : Turn) → IsTurnOf rules whole found → IsGood whole found → AllPart whole (stretch_of cuts rules whole found).boundaries
+      stretch-parts : (whole : List ℕ) (found : Turn) → IsTurnOf rules whole found → IsGood whole found → AllPart whole (turn_stretch_of cuts rules whole found).boundaries
       stretch-parts whole (BreakAt place resume) is good = (good, tt)
       stretch-parts whole (GoTo place opened) is good = tt
       stretch-parts whole (RunAt first opened) two good =

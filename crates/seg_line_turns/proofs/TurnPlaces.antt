@@ -3,11 +3,11 @@ use Rattle.std.proofs.Common.{◌≡◌, ℕ, suc, ◌+◌, ◌-◌, true, false
 use Rattle.std.proofs.lemmas.List.{drop-drop}
 use Rattle.std.specs.Option.{option_map, option_map_or}
 use Rattle.seg_text.specs.Items.{Item, Text, start_of, rest_after, code_points}
-use Rattle.seg_line_rules.specs.LineRules.{LineRules}
+use Rattle.seg_line_rules.specs.LineRules.{TableRules}
 use Rattle.seg_line_turns.specs.declared.bases.BaseAhead.{BaseAhead}
 use Rattle.seg_line_turns.specs.TurnPlaces.{item_place, IsBaseOf}
-use Rattle.seg_line_turns.specs.TurnReadings.{turn_class}
-use Rattle.seg_line_turns.specs.TurnSets.{is_mark}
+use Rattle.seg_line_turns.specs.TurnRules.{turn_class}
+use Rattle.seg_line_turns.specs.TurnClasses.{is_mark}
 use Rattle.seg_line_turns.specs.Turns.{next_base}
 
 -- the next item of what is left, and what is left after it
@@ -43,7 +43,7 @@ base-past whole rest number more place at is =
     let sum : suc number + more ≡ number + suc more = omega arith in
     at ∙ place-past whole rest (suc number) more is ∙ ap (λ n. item_place n whole) sum
 
-module _ (rules : LineRules) (whole : Text) where
+module _ (rules : TableRules) (whole : Text) where
   -- marks were read, and what is left has the base
   pub record IsLooking (ahead : Text) (last : ℕ) : Type 0 where
     pub passed : ℕ

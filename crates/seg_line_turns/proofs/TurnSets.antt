@@ -2,8 +2,7 @@
 use Rattle.std.proofs.Common.{◌≡◌, ℕ, ◌==◌, ◌||◌, Bool, true, false, List, [], ◌∷◌, refl, sym, ◌∙◌}
 use Rattle.std.proofs.lemmas.Bool.{eqb-true}
 use Rattle.seg_line_rules.specs.LineRules.{is_among}
-use Rattle.seg_line_turns.specs.TurnClasses.{BK, CM, CM_EASTASIAN, CR, HH, HY, LF, NL, QU, QU_PF, QU_PI, SA, SA_MC_MN, SP, ZW, ZWJ}
-use Rattle.seg_line_turns.specs.TurnSets.{is_mark, is_glue, bears_none, is_complex, is_complex_mark, is_start}
+use Rattle.seg_line_turns.specs.TurnClasses.{BK, CM, CM_EASTASIAN, CR, HH, HY, LF, NL, QU, QU_PF, QU_PI, SA, SA_MC_MN, SP, ZW, ZWJ, is_mark, is_glue, bears_none, is_complex, is_complex_mark, is_start}
 
 abbrev pub Each : (ℕ → Bool) → List ℕ → Type 0
 Each test [] = Unit {0}

@@ -4,14 +4,12 @@ use Rattle.std.proofs.lemmas.List.{length-drop}
 use Rattle.std.proofs.lemmas.List.Folds.{length-prefix_len}
 use Rattle.std.proofs.lemmas.List.Sums.{prefix_len-le-length}
 use Rattle.seg_text.specs.declared.boundary.Boundary.{Boundary}
-use Rattle.seg_text.specs.Boundaries.{RisesTo, IsCover, shift_all, start}
-use Rattle.seg_text.specs.Cuts.{Cuts, with_status}
-use Rattle.seg_text.specs.Stretches.{Stretch, IsWithin}
+use Rattle.seg_text.specs.Boundaries.{RisesTo, IsCover, shift_all, start, Cuts, with_status, Stretch, IsWithin}
 use Rattle.seg_text.proofs.Places.{shifted-none, shifted-twice, shifted-append}
 use Rattle.seg_text.proofs.Covers.{rises-le}
-use Rattle.seg_line_rules.specs.LineRules.{LineRules}
+use Rattle.seg_line_rules.specs.LineRules.{TableRules}
 use Rattle.seg_line_rules.proofs.LineStretches.{StandInside}
-use Rattle.seg_line_turns.specs.TurnBoundaries.{TurnStretch, is_complex_point, run_length, run_of, stretch_of, turn_stretch, AreTurns, turns_within, later_turns, turn_boundaries, HasOneTurnList}
+use Rattle.seg_line_turns.specs.TurnBoundaries.{TurnStretch, is_complex_point, turn_run_length, run_of, turn_stretch_of, turn_stretch, AreTurns, turns_within, later_turns, turn_boundaries, HasOneTurnList}
 use Rattle.seg_line_turns.specs.Turns.{Turn, turn, first_unit}
 use Rattle.seg_line_turns.specs.Turns.Turn.{BreakAt, GoTo, RunAt}
 use Rattle.seg_line_turns.proofs.TurnForward.{IsTurnOf, first-forward}
@@ -20,8 +18,8 @@ use Rattle.seg_line_turns.proofs.TurnForward.{IsTurnOf, first-forward}
 abbrev plain_stretch : TurnStretch → Stretch
 plain_stretch s = record { extent = s.extent; boundaries = s.boundaries }
 
-module _ (cuts : Cuts) (rules : LineRules) where
-  some-of : (whole : List ℕ) (found : Turn) → IsTurnOf rules whole found → 0 < (stretch_of cuts rules whole found).extent
+module _ (cuts : Cuts) (rules : TableRules) where
+  some-of : (whole : List ℕ) (found : Turn) → IsTurnOf rules whole found → 0 < (turn_stretch_of cuts rules whole found).extent
   some-of whole (BreakAt place resume) (some, most, inside) = omega (arith, some, most)
   some-of whole (GoTo place opened) (some, inside) = some
   some-of whole (RunAt first opened) two = omega (arith, two)
@@ -101,12 +99,12 @@ from-start first end (boundary ∷ found) rises =
     let most = rises-le found boundary.offset end rises.1 in
     (end, omega arith, (omega (arith, rises.0), rises.1))
 
-module _ (cuts : Cuts) (inside : StandInside cuts) (rules : LineRules) where
+module _ (cuts : Cuts) (inside : StandInside cuts) (rules : TableRules) where
   stands : (run : List ℕ) → 0 < length run → (end : ℕ) × (end < length run) × RisesTo 0 (with_status 0 (cuts run)) end
   stands [] some = absurd (omega (arith, some))
   stands (first ∷ rest) some = inside first rest
 
-  within-of : (whole : List ℕ) (found : Turn) → IsTurnOf rules whole found → IsWithin (length whole) (plain_stretch (stretch_of cuts rules whole found))
+  within-of : (whole : List ℕ) (found : Turn) → IsTurnOf rules whole found → IsWithin (length whole) (plain_stretch (turn_stretch_of cuts rules whole found))
   within-of whole (BreakAt place resume) (some, most, inl before) = record {
     some = omega (arith, some, most);
     within = omega (arith, before);
@@ -127,7 +125,7 @@ module _ (cuts : Cuts) (inside : StandInside cuts) (rules : LineRules) where
   }
   within-of whole (RunAt first opened) two =
       let rest : List ℕ = drop first whole in
-      let n : ℕ = run_length rules rest in
+      let n : ℕ = turn_run_length rules rest in
       let most = prefix_len-le-length (is_complex_point rules) rest in
       let long = length-prefix_len (is_complex_point rules) rest in
       let dropped = length-drop first whole in

@@ -3,11 +3,10 @@ use Rattle.std.proofs.Common.{◌≡◌, ℕ, ◌<◌, ◌≤◌, ◌&&◌, Bool
 use Rattle.std.proofs.lemmas.List.{length-map}
 use Rattle.seg_text.specs.declared.boundary.Boundary.{Boundary}
 use Rattle.seg_text.specs.Items.{Item, Text, start_of, code_points, IsRising}
-use Rattle.seg_text.specs.Boundaries.{IsCover, boundary, boundaries_in, offsets}
-use Rattle.seg_text.specs.Cuts.{Cuts, AreCutsOf, with_status, cut_places}
+use Rattle.seg_text.specs.Boundaries.{IsCover, boundary, boundaries_in, offsets, Cuts, AreCutsOf, with_status, cut_places}
 use Rattle.seg_text.proofs.Covers.{covers-in}
 use Rattle.seg_line_rules.specs.LineBoundaries.{CutsCover, inside}
-use Rattle.seg_line_rules.specs.LineRules.{LineRules}
+use Rattle.seg_line_rules.specs.LineRules.{TableRules}
 use Rattle.seg_line_rules.proofs.Inside.{inside-stand}
 use Rattle.seg_line_rules.proofs.LinesLeft.{inside-cuts}
 use Rattle.seg_line_turns.specs.declared.turn_events.TurnEvent.TheVariants.{Run}
@@ -35,13 +34,13 @@ fewer-still after passed before less most = omega (arith, less, most)
 
 -- a new engine
 
-pub turns-whole : (cuts : Cuts) (rules : LineRules) (text : Text) (unread : UnreadTurns) (run : List ℕ) → unread ≡ whole_text rules text → run ≡ []
+pub turns-whole : (cuts : Cuts) (rules : TableRules) (text : Text) (unread : UnreadTurns) (run : List ℕ) → unread ≡ whole_text rules text → run ≡ []
     → boundary (start_of unread.text) 0 ∷ (with_status 0 run ++ unread_turns cuts (after_cuts run unread)) ≡ boundaries_in (turn_boundaries cuts rules) text
 turns-whole cuts rules text unread run is none =
     ap (λ (run : List ℕ). boundary (start_of unread.text) 0 ∷ (with_status 0 run ++ unread_turns cuts (after_cuts run unread))) none
     ∙ ap (λ (u : UnreadTurns). boundary (start_of u.text) 0 ∷ unread_turns cuts (after_cuts [] u)) is
 
-pub turns-text-cover : (cuts : Cuts) → CutsCover cuts → (rules : LineRules) (text : Text) → IsRising text.items text.end
+pub turns-text-cover : (cuts : Cuts) → CutsCover cuts → (rules : TableRules) (text : Text) → IsRising text.items text.end
     → IsCover (start_of text) text.end (boundaries_in (turn_boundaries (inside cuts) rules) text)
 turns-text-cover cuts cover rules text rising =
     let counted = turns-cover (inside cuts) (inside-stand cuts cover) rules (code_points text.items) in

@@ -1,15 +1,7 @@
 pub mod TurnClasses
-pub mod TurnSets
-pub mod TurnReadings
-pub mod TurnUnits
-pub mod TurnLists
+pub mod TurnRules
 pub mod Turns
 pub mod TurnBoundaries
-pub mod TurnMarks
-pub mod TurnFaults
-pub mod TurnPairs
 pub mod TurnPlaces
-pub mod TurnAhead
 pub mod TurnEvents
-pub mod PlainPairs
 pub mod PlainTexts

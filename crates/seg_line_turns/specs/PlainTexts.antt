@@ -1,42 +1,37 @@
 -- Plain texts of lines, on which the engine 17 has the boundaries of the verdicts on units.
 use Rattle.std.specs.Prelude.{◌≡◌, ℕ, zero, suc, ◌+◌, ◌-◌, ◌==◌, ◌&&◌, Bool, false, if◌then◌else◌, List, [], ◌∷◌, map}
 use Rattle.seg_text.specs.declared.boundary.Boundary.{Boundary}
-use Rattle.seg_text.specs.Boundaries.{boundary}
-use Rattle.seg_text.specs.Cuts.{Cuts, with_status}
-use Rattle.seg_text.specs.Stretches.{Stretch, list_boundaries}
+use Rattle.seg_text.specs.Boundaries.{boundary, Cuts, with_status, Stretch, list_boundaries}
 use Rattle.seg_pairs.specs.Verdict.{Verdict, unasked}
 use Rattle.seg_pairs.specs.Verdict.Verdict.{BreakAfter, GoAfter, RunBegins}
 use Rattle.seg_line_rules.specs.declared.verdicts.Case.{Case}
 use Rattle.seg_line_rules.specs.declared.verdicts.Case.TheVariants.{Run, Together}
-use Rattle.seg_line_rules.specs.LineRules.{LineRules, is_among}
+use Rattle.seg_line_rules.specs.LineRules.{TableRules, is_among}
 use Rattle.seg_line_rules.specs.LineUnits.{LineUnit}
 use Rattle.seg_line_rules.specs.LineVerdict.{case_verdict, list_case}
-use Rattle.seg_line_turns.specs.TurnBoundaries.{run_length, run_of}
-use Rattle.seg_line_turns.specs.TurnClasses.{HH, HY, IS, QU, QU_PF, QU_PI, SA, SA_MC_MN}
-use Rattle.seg_line_turns.specs.TurnLists.{keeps, listed}
-use Rattle.seg_line_turns.specs.TurnReadings.{turn_class}
-use Rattle.seg_line_turns.specs.TurnSets.{is_complex, is_glued, is_opening, is_space}
-use Rattle.seg_line_turns.specs.TurnUnits.{LeftUnit, left_unit, with_item, is_joined}
+use Rattle.seg_line_turns.specs.TurnBoundaries.{turn_run_length, run_of}
+use Rattle.seg_line_turns.specs.TurnClasses.{HH, HY, IS, QU, QU_PF, QU_PI, SA, SA_MC_MN, is_complex, is_glued, is_opening, is_space}
+use Rattle.seg_line_turns.specs.TurnRules.{keeps, listed, turn_class, LeftUnit, left_unit, with_item, is_joined}
 
 -- a unit, and the code point of its base
 pub record TurnUnit : Type 0 where
   pub code_point : ℕ
   pub left : LeftUnit
 
-abbrev pub unit_at : LineRules → ℕ → TurnUnit
+abbrev pub unit_at : TableRules → ℕ → TurnUnit
 unit_at rules code_point = record { code_point = code_point; left = left_unit rules code_point }
 
-abbrev pub unit_with : LineRules → TurnUnit → ℕ → TurnUnit
+abbrev pub unit_with : TableRules → TurnUnit → ℕ → TurnUnit
 unit_with rules unit mark = record unit { left = with_item rules unit.left mark }
 
 -- the units of a list that begins with this one, or with its first code points: a mark is glued unless the base bears none
-unfoldable pub turn_units_from : LineRules → TurnUnit → List ℕ → List TurnUnit
+unfoldable pub turn_units_from : TableRules → TurnUnit → List ℕ → List TurnUnit
 turn_units_from rules unit [] = unit ∷ []
 turn_units_from rules unit (code_point ∷ code_points) =
     if is_glued unit.left.class (turn_class rules code_point) then turn_units_from rules (unit_with rules unit code_point) code_points
     else unit ∷ turn_units_from rules (unit_at rules code_point) code_points
 
-abbrev pub turn_units : LineRules → List ℕ → List TurnUnit
+abbrev pub turn_units : TableRules → List ℕ → List TurnUnit
 turn_units rules [] = []
 turn_units rules (code_point ∷ code_points) = turn_units_from rules (unit_at rules code_point) code_points
 
@@ -60,14 +55,14 @@ line_units units = map line_unit units
 
 -- the first case that applies, with the classes, the KeepAll set and the lists of the engine 17: a run, KeepAll, the lists, and else the
 -- table. The lists look at the last code point of the left unit
-abbrev pub plain_case : LineRules → TurnUnit → TurnUnit → Case
+abbrev pub plain_case : TableRules → TurnUnit → TurnUnit → Case
 plain_case rules left right =
     if is_complex left.left.class && (left.left.last == 0) && is_complex right.left.class then Run
     else if keeps rules.style left.left.class right.left.class then Together
     else list_case (listed rules.style (is_joined left.left) left.left.class left.left.last_code_point right.left.class right.code_point)
 
 -- the verdict on the first of some units: that of lines by a pair table
-unfoldable pub plain_unit_verdict : LineRules → List TurnUnit → Verdict
+unfoldable pub plain_unit_verdict : TableRules → List TurnUnit → Verdict
 plain_unit_verdict rules [] = unasked
 plain_unit_verdict rules (left ∷ []) = BreakAfter 1 0
 plain_unit_verdict rules (left ∷ right ∷ after) =
@@ -79,25 +74,25 @@ in_points units (BreakAfter taken class) = BreakAfter (extent_in taken units) cl
 in_points units (GoAfter taken) = GoAfter (extent_in taken units)
 in_points units RunBegins = RunBegins
 
-abbrev pub plain_stretch_of : Cuts → LineRules → List ℕ → Verdict → Stretch
+abbrev pub plain_stretch_of : Cuts → TableRules → List ℕ → Verdict → Stretch
 plain_stretch_of cuts rules code_points (BreakAfter taken class) = record { extent = taken; boundaries = boundary taken 0 ∷ [] }
 plain_stretch_of cuts rules code_points (GoAfter taken) = record { extent = taken; boundaries = [] }
 plain_stretch_of cuts rules code_points RunBegins =
-    record { extent = run_length rules code_points - 1; boundaries = with_status 0 (cuts (run_of rules code_points)) }
+    record { extent = turn_run_length rules code_points - 1; boundaries = with_status 0 (cuts (run_of rules code_points)) }
 
-abbrev pub plain_stretch : Cuts → LineRules → List ℕ → Stretch
+abbrev pub plain_stretch : Cuts → TableRules → List ℕ → Stretch
 plain_stretch cuts rules code_points =
     let units = turn_units rules code_points in plain_stretch_of cuts rules code_points (in_points units (plain_unit_verdict rules units))
 
 -- the boundaries by the verdicts on units
-abbrev pub plain_boundaries : Cuts → LineRules → List ℕ → List Boundary
+abbrev pub plain_boundaries : Cuts → TableRules → List ℕ → List Boundary
 plain_boundaries cuts rules code_points = list_boundaries (plain_stretch cuts rules) code_points
 
 -- no quotes, hyphens, infix separators and complex characters
 unfoldable pub is_quoting : ℕ → Bool
 is_quoting class = is_among (IS ∷ HY ∷ HH ∷ QU ∷ QU_PI ∷ QU_PF ∷ SA ∷ SA_MC_MN ∷ []) class
 
-abbrev pub ArePlain : LineRules → List ℕ → Type 0
+abbrev pub ArePlain : TableRules → List ℕ → Type 0
 ArePlain rules [] = Unit {0}
 ArePlain rules (code_point ∷ code_points) = (is_quoting (turn_class rules code_point) ≡ false) × ArePlain rules code_points
 

@@ -1,5 +1,6 @@
 -- The numbers of those classes of lines that the rules of the engine 17 name.
-use Rattle.std.specs.Prelude.{ℕ}
+use Rattle.std.specs.Prelude.{ℕ, ◌==◌, ◌&&◌, not, Bool, [], ◌∷◌}
+use Rattle.seg_line_rules.specs.LineRules.{is_among}
 
 abbrev pub AI : ℕ
 AI = 1
@@ -162,3 +163,76 @@ ZW = 67
 
 abbrev pub ZWJ : ℕ
 ZWJ = 68
+
+-- The sets of classes that the rules of the engine 17 speak of.
+
+-- a mark
+unfoldable pub is_mark : ℕ → Bool
+is_mark class = is_among (CM ∷ CM_EASTASIAN ∷ ZWJ ∷ []) class
+
+-- a mark, or one that is complex
+unfoldable pub is_glue : ℕ → Bool
+is_glue class = is_among (CM ∷ CM_EASTASIAN ∷ SA_MC_MN ∷ ZWJ ∷ []) class
+
+-- a mark after one of these six stands alone
+unfoldable pub bears_none : ℕ → Bool
+bears_none class = is_among (BK ∷ CR ∷ LF ∷ NL ∷ SP ∷ ZW ∷ []) class
+
+unfoldable pub is_complex : ℕ → Bool
+is_complex class = is_among (SA ∷ SA_MC_MN ∷ []) class
+
+unfoldable pub is_letter : ℕ → Bool
+is_letter class = is_among (AL ∷ AL_EASTASIAN ∷ AL_DOTTED_CIRCLE ∷ HL ∷ AI ∷ AI_EASTASIAN ∷ XX ∷ XX_EXTPICT ∷ []) class
+
+unfoldable pub is_hyphen : ℕ → Bool
+is_hyphen class = is_among (HH ∷ HY ∷ []) class
+
+unfoldable pub is_opening : ℕ → Bool
+is_opening class = is_among (OP ∷ OP_EASTASIAN ∷ []) class
+
+-- at the start of a text the table may say what such a class is read as
+unfoldable pub is_start : ℕ → Bool
+is_start class = is_among (HY ∷ HH ∷ QU_PI ∷ QU_PF ∷ QU ∷ []) class
+
+-- a boundary stands between one of these and a closing quote
+unfoldable pub is_before_quote : ℕ → Bool
+is_before_quote class = is_among (BK ∷ CR ∷ LF ∷ NL ∷ ZW ∷ []) class
+
+-- a closing quote after a space stays with one of these
+unfoldable pub is_after_quote : ℕ → Bool
+is_after_quote class =
+    is_among (SP ∷ GL ∷ GL_EASTASIAN ∷ WJ ∷ CL ∷ CL_EASTASIAN ∷ QU ∷ QU_PI ∷ QU_PF ∷ CP ∷ EX ∷ EX_EASTASIAN ∷ IS ∷ SY ∷ BK ∷ CR ∷ LF ∷ NL ∷ ZW ∷ []) class
+
+-- a hyphen after one of these begins a word
+unfoldable pub is_before_hyphen : ℕ → Bool
+is_before_hyphen class = is_among (BK ∷ CB ∷ CR ∷ LF ∷ NL ∷ SP ∷ ZW ∷ []) class
+
+-- a mark is glued to an item of this class
+abbrev pub is_glued : ℕ → ℕ → Bool
+is_glued before class = is_mark class && not (bears_none before)
+
+-- classes alone
+
+abbrev pub is_joiner : ℕ → Bool
+is_joiner class = class == ZWJ
+
+abbrev pub is_complex_mark : ℕ → Bool
+is_complex_mark class = class == SA_MC_MN
+
+abbrev pub is_space : ℕ → Bool
+is_space class = class == SP
+
+abbrev pub is_zero_space : ℕ → Bool
+is_zero_space class = class == ZW
+
+abbrev pub is_infix : ℕ → Bool
+is_infix class = class == IS
+
+abbrev pub is_digit : ℕ → Bool
+is_digit class = class == NU
+
+abbrev pub is_quote : ℕ → Bool
+is_quote class = class == QU_PF
+
+abbrev pub is_contingent : ℕ → Bool
+is_contingent class = class == CB

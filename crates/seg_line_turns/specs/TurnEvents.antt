@@ -1,18 +1,34 @@
--- What comes next of a text that is read turn by turn.
-use Rattle.std.specs.Prelude.{◌≡◌, ◌≢◌, ◌<◌, ◌≤◌, ◌&&◌, ℕ, Bool, true, false, if◌then◌else◌, Option, Some, None, List, [], ◌∷◌, ◌++◌, length}
+-- An item that is read ahead of a text, with its class for the engine 17.
+use Rattle.std.specs.Prelude.{Option, ◌≡◌, ◌≢◌, ◌<◌, ◌≤◌, ◌&&◌, ℕ, Bool, true, false, if◌then◌else◌, Some, None, List, [], ◌∷◌, ◌++◌, length, ◌||◌, not}
+use Rattle.seg_text.specs.Items.{Text, code_points, start_of, rest_after}
 use Rattle.seg_text.specs.declared.boundary.Boundary.{Boundary}
-use Rattle.seg_text.specs.Items.{Text, code_points, start_of}
-use Rattle.seg_text.specs.Boundaries.{Remainder, boundary, boundaries_in}
-use Rattle.seg_text.specs.Cuts.{Cuts, AreCutsOf, with_status, cut_places}
-use Rattle.seg_line_rules.specs.LineRules.{LineRules}
+use Rattle.seg_text.specs.Boundaries.{Remainder, boundary, boundaries_in, Cuts, AreCutsOf, with_status, cut_places}
+use Rattle.seg_pair_data.specs.declared.provider.pairs.BreakState.{BreakState}
+use Rattle.seg_pair_data.specs.declared.provider.pairs.BreakState.TheVariants as entries
+use Rattle.seg_pair_data.specs.PairTable.{PairTable, entry_of}
+use Rattle.seg_line_rules.specs.declared.plain_pairs.ClassedItem.{ClassedItem}
+use Rattle.seg_line_rules.specs.LineEvents.{HasClassBy, IsAheadBy, text_from}
+use Rattle.seg_line_rules.specs.LineRules.{TableRules, is_among}
+use Rattle.seg_line_rules.specs.declared.plain_pairs.PlainPair.{PlainPair}
+use Rattle.seg_line_rules.specs.declared.plain_pairs.PlainPair.TheVariants as plain
+use Rattle.seg_line_turns.specs.TurnRules.{turn_class}
 use Rattle.seg_line_turns.specs.declared.turn_events.TurnEvent.{TurnEvent}
 use Rattle.seg_line_turns.specs.declared.turn_events.TurnEvent.TheVariants.{End, Go, Break, Run}
 use Rattle.seg_line_turns.specs.TurnBoundaries.{later_turns, has_none}
+use Rattle.seg_line_turns.specs.TurnClasses.{CM, CM_EASTASIAN, HH, HY, IS, QU_PF, SA, SA_MC_MN, SP, ZWJ, is_before_hyphen, is_before_quote, is_complex, is_glue, is_hyphen, is_infix, is_joiner, is_opening, is_quote, is_space}
+
+abbrev pub HasTurnClass : TableRules → ClassedItem → Type 0
+HasTurnClass rules item = HasClassBy rules.table (turn_class rules) item
+
+abbrev pub IsTurnAhead : TableRules → Text → Option ClassedItem → Text → Type 0
+IsTurnAhead rules here next rest = IsAheadBy rules.table (turn_class rules) here next rest
+
+-- What comes next of a text that is read turn by turn.
 
 -- a text that is being read: what its lines are found by, whether nothing was read yet, and whether a space after an opening was met since
 -- the last boundary
 pub record UnreadTurns : Type 0 where
-  pub rules : LineRules
+  pub rules : TableRules
   pub starts : Bool
   pub opened : Bool
   pub text : Text
@@ -49,7 +65,7 @@ LeadsToTurnBreak before None after =
     ((cuts : Cuts) → unread_turns cuts before ≡ unread_turns cuts after) × (length after.text.items ≤ length before.text.items)
 
 -- a text that nothing was read of
-abbrev pub whole_text : LineRules → Text → UnreadTurns
+abbrev pub whole_text : TableRules → Text → UnreadTurns
 whole_text rules text = record { rules = rules; starts = true; opened = false; text = text }
 
 -- the boundary at the start, where it isn't given yet, the cuts that are left of a run, and then the boundaries of what isn't read
@@ -60,3 +76,53 @@ turn_remainder cuts started run unread = record {
       else boundary (start_of unread.text) 0 ∷ (with_status 0 run ++ unread_turns cuts (after_cuts run unread));
   status = 0;
 }
+
+-- Pairs of classes between which the table alone decides, and the turns by them.
+
+-- a rule asks of such a class on the right
+unfoldable pub is_asked : ℕ → Bool
+is_asked class = is_among (CM ∷ CM_EASTASIAN ∷ HH ∷ HY ∷ IS ∷ QU_PF ∷ SA ∷ SA_MC_MN ∷ SP ∷ ZWJ ∷ []) class
+
+-- signs, and the classes before them that a rule of signs asks of
+abbrev pub is_sign : ℕ → Bool
+is_sign class = is_infix class || is_quote class || is_hyphen class
+
+abbrev pub is_before_sign : ℕ → Bool
+is_before_sign class = is_space class || is_before_quote class || is_before_hyphen class
+
+-- no rule that asks of the right class finds on the left what it asks of
+abbrev pub is_unanswered : ℕ → ℕ → Bool
+is_unanswered left right =
+    not (is_glue right) && not (is_space right && is_opening left) && not (is_complex right && is_complex left)
+    && not (is_sign right && is_before_sign left)
+
+-- the table alone decides between an item with no marks and the next
+abbrev pub is_plain : ℕ → ℕ → Bool
+is_plain left right = not (is_asked right) || is_unanswered left right
+
+abbrev pub entry_turn : Bool → BreakState → PlainPair
+entry_turn joined entries.Keep = plain.Go
+entry_turn joined entries.Break = if joined then plain.Other else plain.Break
+entry_turn joined entries.NoMatch = plain.Other
+entry_turn joined (entries.Index state) = plain.Other
+entry_turn joined (entries.Intermediate state) = plain.Other
+
+abbrev pub plain_turn : PairTable → ℕ → ℕ → PlainPair
+plain_turn t left right = if is_plain left right then entry_turn (is_joiner left) (entry_of t left right) else plain.Other
+
+-- a text that is being read, not from its start
+abbrev pub going_text : TableRules → Bool → Text → UnreadTurns
+going_text rules opened text = record { rules = rules; starts = false; opened = opened; text = text }
+
+-- the boundaries from this item on, and one before it or not
+abbrev pub passed_turns : Cuts → TableRules → (opened is_break : Bool) → ClassedItem → Text → List Boundary
+passed_turns cuts rules opened true next rest = boundary next.place 0 ∷ unread_turns cuts (going_text rules false (text_from next rest))
+passed_turns cuts rules opened false next rest = unread_turns cuts (going_text rules opened (text_from next rest))
+
+-- plain turns lead from one item, with those after it, to another
+pub record IsPassedByTurns (rules : TableRules) (first : ClassedItem) (start : Text) (next : ClassedItem) (rest : Text) (is_break : Bool) : Type 0 where
+  pub taken : ℕ
+  pub text_is : text_from next rest ≡ rest_after taken (text_from first start)
+  pub class : HasTurnClass rules next
+  pub leads : (opened : Bool) (cuts : Cuts)
+      → unread_turns cuts (going_text rules opened (text_from first start)) ≡ passed_turns cuts rules opened is_break next rest

@@ -5,7 +5,7 @@ use Rattle.seg_text.specs.Items.{Text, start_of, rest_after, code_points}
 use Rattle.seg_pair_data.specs.declared.provider.pairs.BreakState.{BreakState}
 use Rattle.seg_pair_data.specs.declared.provider.pairs.BreakState.TheVariants as entries
 use Rattle.seg_pair_data.specs.declared.provider.pairs.BreakState.TheVariants.{Keep, NoMatch, Intermediate, Index}
-use Rattle.seg_line_rules.specs.LineRules.{LineRules}
+use Rattle.seg_line_rules.specs.LineRules.{TableRules}
 use Rattle.seg_line_turns.specs.declared.bases.BaseAhead.{BaseAhead}
 use Rattle.seg_line_turns.specs.declared.turn_units.Left.{Left}
 use Rattle.seg_line_turns.specs.declared.turn_walk.Walker.{Walker}
@@ -13,8 +13,8 @@ use Rattle.seg_line_turns.specs.declared.turn_walk.WalkOutcome.{WalkOutcome}
 use Rattle.seg_line_turns.specs.declared.turn_walk.WalkOutcome.TheVariants as outcome
 use Rattle.seg_line_turns.specs.declared.turn_units.TurnOutcome.{TurnOutcome}
 use Rattle.seg_line_turns.specs.declared.turn_units.TurnOutcome.TheVariants.{Break, Go, Run}
-use Rattle.seg_line_turns.specs.TurnSets.{is_contingent, is_joiner}
-use Rattle.seg_line_turns.specs.TurnUnits.{LeftUnit}
+use Rattle.seg_line_turns.specs.TurnClasses.{is_contingent, is_joiner}
+use Rattle.seg_line_turns.specs.TurnRules.{LeftUnit}
 use Rattle.seg_line_turns.specs.Turns.{Turn, Walking, WalkStep, next_base, to_base}
 use Rattle.seg_line_turns.specs.Turns.Turn.{BreakAt, GoTo, RunAt}
 use Rattle.seg_line_turns.specs.Turns.WalkStep.{Stops, GoesOn}
@@ -105,7 +105,7 @@ pub record IsWalkAt (whole : Text) (number saved : ℕ) (walker : Walker) (rest 
   pub after : rest ≡ rest_after number whole
 
 -- the base after some items: its class, where there is one, and its place, or else that of the last item
-pub record IsBaseOf (rules : LineRules) (rest : Text) (found : BaseAhead) : Type 0 where
+pub record IsBaseOf (rules : TableRules) (rest : Text) (found : BaseAhead) : Type 0 where
   pub class : found.class ≡ option_map (λ (base : ℕ × ℕ). base.1) (next_base rules (code_points rest.items))
   pub place : found.place ≡ item_place (to_base rules (code_points rest.items)) rest
 

@@ -3,18 +3,14 @@ use Rattle.std.specs.Prelude.{ℕ, suc, ◌+◌, ◌-◌, ◌&&◌, ◌||◌, no
 use Rattle.std.specs.Option.{option_map_or}
 use Rattle.seg_pair_data.specs.declared.provider.pairs.BreakState.{BreakState}
 use Rattle.seg_pair_data.specs.declared.provider.pairs.BreakState.TheVariants.{Break, Keep, NoMatch, Intermediate, Index}
-use Rattle.seg_pair_data.specs.BreakStates.{named_state, is_intermediate}
-use Rattle.seg_pair_data.specs.PairTable.{PairTable, entry_of}
+use Rattle.seg_pair_data.specs.PairTable.{named_state, is_intermediate, PairTable, entry_of}
 use Rattle.seg_pairs.specs.Walk.{is_class}
-use Rattle.seg_line_rules.specs.LineRules.{LineRules}
-use Rattle.seg_line_turns.specs.TurnClasses.{AL}
-use Rattle.seg_line_turns.specs.TurnLists.{keeps, listed}
-use Rattle.seg_line_turns.specs.TurnReadings.{turn_class}
-use Rattle.seg_line_turns.specs.TurnSets.{is_mark, is_glue, bears_none, is_complex, is_complex_mark, is_letter, is_hyphen, is_opening, is_start, is_before_quote, is_after_quote, is_before_hyphen, is_joiner, is_space, is_zero_space, is_infix, is_digit, is_quote, is_contingent}
-use Rattle.seg_line_turns.specs.TurnUnits.{LeftUnit, left_unit, with_item, is_joined}
+use Rattle.seg_line_rules.specs.LineRules.{TableRules}
+use Rattle.seg_line_turns.specs.TurnClasses.{AL, is_mark, is_glue, bears_none, is_complex, is_complex_mark, is_letter, is_hyphen, is_opening, is_start, is_before_quote, is_after_quote, is_before_hyphen, is_joiner, is_space, is_zero_space, is_infix, is_digit, is_quote, is_contingent}
+use Rattle.seg_line_turns.specs.TurnRules.{keeps, listed, turn_class, LeftUnit, left_unit, with_item, is_joined}
 
 -- the code points after an item: how many marks stand first, and the class of the base after them, where there is one
-unfoldable pub next_base : LineRules → List ℕ → Option (ℕ × ℕ)
+unfoldable pub next_base : TableRules → List ℕ → Option (ℕ × ℕ)
 next_base rules [] = None
 next_base rules (code_point ∷ code_points) =
     if is_mark (turn_class rules code_point)
@@ -22,11 +18,11 @@ next_base rules (code_point ∷ code_points) =
     else Some (0, turn_class rules code_point)
 
 -- a base comes, and its class passes
-abbrev pub comes : LineRules → (ℕ → Bool) → List ℕ → Bool
+abbrev pub comes : TableRules → (ℕ → Bool) → List ℕ → Bool
 comes rules passes code_points = option_map_or (λ (found : ℕ × ℕ). passes found.1) (next_base rules code_points) false
 
 -- how many code points stand before it, or before the last one where no base comes
-abbrev pub to_base : LineRules → List ℕ → ℕ
+abbrev pub to_base : TableRules → List ℕ → ℕ
 to_base rules code_points = option_map_or (λ (found : ℕ × ℕ). found.0) (next_base rules code_points) (length code_points - 1)
 
 -- what a turn finds. Items are counted from the first of the left unit on
@@ -100,12 +96,12 @@ pub data WalkStep : Type 0 where
   GoesOn : Walking → WalkStep
 
 -- what the entry of the state and the class says
-abbrev pub walk_entry_step : LineRules → Walking → ℕ → ℕ → BreakState → WalkStep
+abbrev pub walk_entry_step : TableRules → Walking → ℕ → ℕ → BreakState → WalkStep
 walk_entry_step rules w place class entry =
     option_map_or (λ next. GoesOn (walk_on rules.table w place class next)) (named_state entry) (Stops (walk_stop_turn w (is_joiner w.before) place entry))
 
 -- an item that isn't glued: after a space some classes decide, and else the table
-abbrev pub space_step : LineRules → Walking → ℕ → ℕ → List ℕ → WalkStep
+abbrev pub space_step : TableRules → Walking → ℕ → ℕ → List ℕ → WalkStep
 space_step rules w place class after =
     if is_space w.before && not (is_zero_space w.state) && is_infix class && not (sticks rules.table w.state) then Stops (GoTo w.saved w.opened)
     else if is_quote class && is_space w.before && not (is_class rules.table w.state)
@@ -115,7 +111,7 @@ space_step rules w place class after =
     else walk_entry_step rules w place class (entry_of rules.table w.state class)
 
 -- the item with this number and class: the cases of a walk, in their order
-abbrev pub walk_step : LineRules → Walking → ℕ → ℕ → List ℕ → WalkStep
+abbrev pub walk_step : TableRules → Walking → ℕ → ℕ → List ℕ → WalkStep
 walk_step rules w place class after =
     if is_glue class && not (bears_none w.before) then GoesOn (record w { before = class })
     else if w.opened && not (is_space class) && not (is_hyphen class) then Stops (GoTo place false)
@@ -126,7 +122,7 @@ walk_by (Stops turn) later = turn
 walk_by (GoesOn w) later = later w
 
 -- the walk goes on before the item with this number
-unfoldable pub walk_turn : LineRules → Walking → ℕ → List ℕ → Turn
+unfoldable pub walk_turn : TableRules → Walking → ℕ → List ℕ → Turn
 walk_turn rules w place [] = walk_end_turn w place (entry_of rules.table w.state rules.table.eot_property)
 walk_turn rules w place (code_point ∷ after) =
     walk_by (walk_step rules w place (turn_class rules code_point) after) (λ w. walk_turn rules w (suc place) after)
@@ -143,7 +139,7 @@ walk_begin t joined opened place class state = record {
 }
 
 -- the table's entry of the left class and the right class
-abbrev pub table_turn : LineRules → Bool → LeftUnit → ℕ → List ℕ → BreakState → Turn
+abbrev pub table_turn : TableRules → Bool → LeftUnit → ℕ → List ℕ → BreakState → Turn
 table_turn rules opened left right after Keep = GoTo (suc left.last) opened
 table_turn rules opened left right after Break = turn_unless (is_joined left) opened (suc left.last)
 table_turn rules opened left right after NoMatch = turn_unless (is_joined left) opened (suc left.last)
@@ -152,12 +148,12 @@ table_turn rules opened left right after (Index state) =
 table_turn rules opened left right after (Intermediate state) =
     walk_turn rules (walk_begin rules.table (is_joined left) opened (suc left.last) right state) (suc (suc left.last)) after
 
-abbrev pub begins_marked : LineRules → List ℕ → Bool
+abbrev pub begins_marked : TableRules → List ℕ → Bool
 begins_marked rules [] = false
 begins_marked rules (code_point ∷ code_points) = is_mark (turn_class rules code_point)
 
 -- a closing quote after the end of a line, or after ZW
-abbrev pub quote_turn : LineRules → ℕ → List ℕ → Turn
+abbrev pub quote_turn : TableRules → ℕ → List ℕ → Turn
 quote_turn rules place after =
     if comes rules is_hyphen after then BreakAt place place
     else if begins_marked rules after then BreakAt place (place + suc (to_base rules after))
@@ -169,7 +165,7 @@ list_turn (Some false) place opened otherwise = GoTo place opened
 list_turn None place opened otherwise = otherwise
 
 -- where no list decides, and then where no class decides
-abbrev pub class_turn : LineRules → Bool → LeftUnit → ℕ → List ℕ → Turn
+abbrev pub class_turn : TableRules → Bool → LeftUnit → ℕ → List ℕ → Turn
 class_turn rules opened left class after =
     let place = suc left.last in
     if is_complex left.last_class && is_complex class then RunAt left.last opened
@@ -184,7 +180,7 @@ class_turn rules opened left class after =
     else table_turn rules opened left class after (entry_of rules.table left.class class)
 
 -- the right item isn't glued: KeepAll, the list of the strictness, classes, and the table
-abbrev pub right_turn : LineRules → Bool → LeftUnit → ℕ → List ℕ → Turn
+abbrev pub right_turn : TableRules → Bool → LeftUnit → ℕ → List ℕ → Turn
 right_turn rules opened left right after =
     let class = turn_class rules right in
     if keeps rules.style left.class class then GoTo (suc left.last) opened
@@ -200,7 +196,7 @@ abbrev pub opens : LeftUnit → ℕ → Bool
 opens left class = is_opening left.class && is_space class
 
 -- the turn from a left unit, and the code points after it
-unfoldable pub turn : LineRules → Bool → LeftUnit → List ℕ → Turn
+unfoldable pub turn : TableRules → Bool → LeftUnit → List ℕ → Turn
 turn rules opened left [] = BreakAt (suc left.last) (suc left.last)
 turn rules opened left (right ∷ after) =
     if is_taken left (turn_class rules right) then turn rules opened (with_item rules left right) after
@@ -214,7 +210,7 @@ start_unit unit Break = unit
 start_unit unit Keep = unit
 start_unit unit NoMatch = unit
 
-abbrev pub first_unit : LineRules → Bool → ℕ → LeftUnit
+abbrev pub first_unit : TableRules → Bool → ℕ → LeftUnit
 first_unit rules starts code_point =
     let unit = left_unit rules code_point in
     if starts && is_start unit.class then start_unit unit (entry_of rules.table rules.table.sot_property unit.class) else unit

@@ -1,9 +1,9 @@
 //! The first item ahead that is no mark.
 ghost use Rattle.std.specs.Prelude.{◌≡◌, ℕ, suc, ◌+◌, not};
 ghost use Rattle.seg_text.specs.Items.{Text, code_points, rest_after};
-ghost use Rattle.seg_line_turns.specs.TurnPairs.{turn_rules_by};
+ghost use Rattle.seg_line_turns.specs.TurnBoundaries.{turn_rules_by};
 ghost use Rattle.seg_line_turns.specs.TurnPlaces.{IsBaseOf, item_place, placed};
-ghost use Rattle.seg_line_turns.specs.TurnSets.{is_after_quote, is_digit, is_hyphen, is_letter};
+ghost use Rattle.seg_line_turns.specs.TurnClasses.{is_after_quote, is_digit, is_hyphen, is_letter};
 ghost use Rattle.seg_line_turns.specs.Turns.{begins_marked, comes, to_base};
 ghost use Rattle.seg_line_turns.specs.Turns.Turn.{BreakAt, GoTo};
 

@@ -4,8 +4,7 @@ ghost use Rattle.std.specs.Iterator.{YieldsFirst, MakesProgress, item_count};
 ghost use Rattle.seg_text.specs.Items.{start_of};
 ghost use Rattle.seg_text.specs.Boundaries.{GivesNext, IsCover, offsets_left};
 ghost use Rattle.seg_complex.specs.Payloads.{payloads_of, run_cuts_by};
-ghost use Rattle.seg_line_turns.specs.TurnBoundaries.{turn_boundaries_of};
-ghost use Rattle.seg_line_turns.specs.TurnPairs.{turn_rules_by};
+ghost use Rattle.seg_line_turns.specs.TurnBoundaries.{turn_boundaries_of, turn_rules_by};
 
 use crate::turn_events::{TurnEvent, TurnEvents};
 use crate::turn_pairs::TurnPairs;

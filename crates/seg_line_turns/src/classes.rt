@@ -1,11 +1,11 @@
 //! The sets of classes that the rules of the engine 17 speak of.
 ghost use Rattle.std.specs.Prelude.{◌≡◌};
-ghost use Rattle.seg_line_turns.specs.TurnSets.{bears_none, is_after_quote, is_before_hyphen, is_before_quote, is_complex, is_glue, is_hyphen, is_letter, is_mark, is_opening, is_start};
+ghost use Rattle.seg_line_turns.specs.TurnClasses.{bears_none, is_after_quote, is_before_hyphen, is_before_quote, is_complex, is_glue, is_hyphen, is_letter, is_mark, is_opening, is_start};
 
 use seg_pair_data::provider::RuleBreakData;
 
 /// Whether the class is one of marks.
-#[tactic(auto, unfolding(crate::specs::TurnSets::is_mark))]
+#[tactic(auto, unfolding(crate::specs::TurnClasses::is_mark))]
 pub(crate) fn is_mark(class: u8) -> bool
     ensures { result ≡ is_mark class }
 {
@@ -15,7 +15,7 @@ pub(crate) fn is_mark(class: u8) -> bool
 }
 
 /// Whether the class is one of marks, or of marks that are complex.
-#[tactic(auto, unfolding(crate::specs::TurnSets::is_glue))]
+#[tactic(auto, unfolding(crate::specs::TurnClasses::is_glue))]
 pub(crate) fn is_glue(class: u8) -> bool
     ensures { result ≡ is_glue class }
 {
@@ -26,7 +26,7 @@ pub(crate) fn is_glue(class: u8) -> bool
 }
 
 /// Whether a mark after a base of this class stands alone.
-#[tactic(auto, unfolding(crate::specs::TurnSets::bears_none))]
+#[tactic(auto, unfolding(crate::specs::TurnClasses::bears_none))]
 pub(crate) fn bears_none(class: u8) -> bool
     ensures { result ≡ bears_none class }
 {
@@ -39,7 +39,7 @@ pub(crate) fn bears_none(class: u8) -> bool
 }
 
 /// Whether the class is one of complex code points.
-#[tactic(auto, unfolding(crate::specs::TurnSets::is_complex))]
+#[tactic(auto, unfolding(crate::specs::TurnClasses::is_complex))]
 pub(crate) fn is_complex(class: u8) -> bool
     ensures { result ≡ is_complex class }
 {
@@ -47,7 +47,7 @@ pub(crate) fn is_complex(class: u8) -> bool
 }
 
 /// Whether the class is one of letters, after which a hyphen may begin a word.
-#[tactic(auto, unfolding(crate::specs::TurnSets::is_letter))]
+#[tactic(auto, unfolding(crate::specs::TurnClasses::is_letter))]
 pub(crate) fn is_letter(class: u8) -> bool
     ensures { result ≡ is_letter class }
 {
@@ -62,7 +62,7 @@ pub(crate) fn is_letter(class: u8) -> bool
 }
 
 /// Whether the class is one of hyphens.
-#[tactic(auto, unfolding(crate::specs::TurnSets::is_hyphen))]
+#[tactic(auto, unfolding(crate::specs::TurnClasses::is_hyphen))]
 pub(crate) fn is_hyphen(class: u8) -> bool
     ensures { result ≡ is_hyphen class }
 {
@@ -70,7 +70,7 @@ pub(crate) fn is_hyphen(class: u8) -> bool
 }
 
 /// Whether the class is one of openings.
-#[tactic(auto, unfolding(crate::specs::TurnSets::is_opening))]
+#[tactic(auto, unfolding(crate::specs::TurnClasses::is_opening))]
 pub(crate) fn is_opening(class: u8) -> bool
     ensures { result ≡ is_opening class }
 {
@@ -79,7 +79,7 @@ pub(crate) fn is_opening(class: u8) -> bool
 }
 
 /// Whether the table may say what the class is read as at the start of a text.
-#[tactic(auto, unfolding(crate::specs::TurnSets::is_start))]
+#[tactic(auto, unfolding(crate::specs::TurnClasses::is_start))]
 pub(crate) fn is_start(class: u8) -> bool
     ensures { result ≡ is_start class }
 {
@@ -91,7 +91,7 @@ pub(crate) fn is_start(class: u8) -> bool
 }
 
 /// Whether a boundary stands between the class and a closing quote.
-#[tactic(auto, unfolding(crate::specs::TurnSets::is_before_quote))]
+#[tactic(auto, unfolding(crate::specs::TurnClasses::is_before_quote))]
 pub(crate) fn is_before_quote(class: u8) -> bool
     ensures { result ≡ is_before_quote class }
 {
@@ -103,7 +103,7 @@ pub(crate) fn is_before_quote(class: u8) -> bool
 }
 
 /// Whether a closing quote after a space stays with the class.
-#[tactic(auto, unfolding(crate::specs::TurnSets::is_after_quote))]
+#[tactic(auto, unfolding(crate::specs::TurnClasses::is_after_quote))]
 pub(crate) fn is_after_quote(class: u8) -> bool
     ensures { result ≡ is_after_quote class }
 {
@@ -129,7 +129,7 @@ pub(crate) fn is_after_quote(class: u8) -> bool
 }
 
 /// Whether a hyphen after the class begins a word.
-#[tactic(auto, unfolding(crate::specs::TurnSets::is_before_hyphen))]
+#[tactic(auto, unfolding(crate::specs::TurnClasses::is_before_hyphen))]
 pub(crate) fn is_before_hyphen(class: u8) -> bool
     ensures { result ≡ is_before_hyphen class }
 {

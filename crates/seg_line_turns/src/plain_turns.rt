@@ -1,9 +1,8 @@
 //! Turns by pairs of classes alone: most of them.
 ghost use Rattle.std.specs.Prelude.{◌≡◌, ◌<◌, false};
-ghost use Rattle.seg_line_rules.specs.PlainPairs.{asks_more};
-ghost use Rattle.seg_line_turns.specs.PlainPairs.{IsPassedByTurns, is_asked, is_before_sign, is_plain, is_sign, is_unanswered, plain_turn};
-ghost use Rattle.seg_line_turns.specs.TurnAhead.{HasTurnClass};
-ghost use Rattle.seg_line_turns.specs.TurnPairs.{turn_rules_by};
+ghost use Rattle.seg_line_rules.specs.LineEvents.{asks_more};
+ghost use Rattle.seg_line_turns.specs.TurnEvents.{IsPassedByTurns, is_asked, is_before_sign, is_plain, is_sign, is_unanswered, plain_turn, HasTurnClass};
+ghost use Rattle.seg_line_turns.specs.TurnBoundaries.{turn_rules_by};
 
 use crate::classes::{
     is_before_hyphen, is_before_quote, is_complex, is_glue, is_hyphen, is_opening,
@@ -84,7 +83,7 @@ fn is_plain(left: u8, right: u8) -> bool
 }
 
 /// Whether a rule asks of the class on the right. It is one list, so that it takes one test of a bit.
-#[tactic(auto, unfolding(crate::specs::PlainPairs::is_asked))]
+#[tactic(auto, unfolding(crate::specs::TurnEvents::is_asked))]
 #[inline(always)]
 fn is_asked(class: u8) -> bool
     ensures { result ≡ is_asked class }

@@ -2,10 +2,8 @@
 //! other way.
 ghost use Rattle.std.specs.Prelude.{◌≡◌, ◌-◌, false, []};
 ghost use Rattle.seg_text.specs.Items.{prefix_length, rest_after, start_of, text_before};
-ghost use Rattle.seg_line_turns.specs.TurnAhead.{HasTurnClass, IsTurnAhead};
-ghost use Rattle.seg_line_turns.specs.TurnBoundaries.{is_complex_point};
-ghost use Rattle.seg_line_turns.specs.TurnEvents.{GoesOnTurns, LeadsToTurnBreak, LeadsToTurns, whole_text};
-ghost use Rattle.seg_line_turns.specs.TurnPairs.{turn_rules_by};
+ghost use Rattle.seg_line_turns.specs.TurnEvents.{HasTurnClass, IsTurnAhead, GoesOnTurns, LeadsToTurnBreak, LeadsToTurns, whole_text};
+ghost use Rattle.seg_line_turns.specs.TurnBoundaries.{is_complex_point, turn_rules_by};
 
 use crate::classes::is_complex;
 use crate::plain_turns::plain_turns;
@@ -38,8 +36,7 @@ struct ComplexPoints<'data> {
 }
 
 impl<'data> CodePointTest for ComplexPoints<'data> {
-    ghost use Rattle.seg_line_turns.specs.TurnBoundaries.{is_complex_point};
-    ghost use Rattle.seg_line_turns.specs.TurnPairs.{turn_rules_by};
+    ghost use Rattle.seg_line_turns.specs.TurnBoundaries.{is_complex_point, turn_rules_by};
 
     ghost passes = { λ test code_point. is_complex_point (turn_rules_by test.pairs) code_point };
 
@@ -65,9 +62,8 @@ pub struct TurnEvents<'data, I: Cursor> {
 }
 
 impl<'data, I: Cursor> Model for TurnEvents<'data, I> {
-    ghost use Rattle.seg_line_turns.specs.TurnAhead.{IsTurnAhead};
-    ghost use Rattle.seg_line_turns.specs.TurnEvents.{UnreadTurns};
-    ghost use Rattle.seg_line_turns.specs.TurnPairs.{turn_rules_by};
+    ghost use Rattle.seg_line_turns.specs.TurnEvents.{IsTurnAhead, UnreadTurns};
+    ghost use Rattle.seg_line_turns.specs.TurnBoundaries.{turn_rules_by};
 
     ghost Value = { UnreadTurns };
 

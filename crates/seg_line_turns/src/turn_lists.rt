@@ -3,7 +3,7 @@ ghost use Rattle.std.specs.Prelude.{◌≡◌, [], ◌∷◌, Some, None};
 ghost use Rattle.seg_line_rules.specs.LineLists.{fits, loose_list, hyphen_row, wave_row, iteration_row, middle_dot_row, leader_row, exclamation_row, postfix_row, prefix_row};
 ghost use Rattle.seg_line_rules.specs.LineRules.{is_among};
 ghost use Rattle.seg_line_turns.specs.TurnClasses.{EX, EX_EASTASIAN, ID, ID_EASTASIAN, IN, IN_EASTASIAN, NS, NS_EASTASIAN, PO, PO_EASTASIAN, PR, PR_EASTASIAN};
-ghost use Rattle.seg_line_turns.specs.TurnLists.{is_kept, keeps, listed, turn_rows};
+ghost use Rattle.seg_line_turns.specs.TurnRules.{is_kept, keeps, listed, turn_rows};
 
 use seg_line_rules::lists::{
     Neighbours, by_normal_list, by_row, is_exclamation, is_hyphen, is_iteration, is_middle_dot,
@@ -13,7 +13,7 @@ use seg_line_rules::options::{LineBreakStrictness, LineStyle};
 use seg_pair_data::provider::RuleBreakData;
 
 /// Whether no boundary stands between two classes under `KeepAll`.
-#[tactic(auto, unfolding(crate::specs::TurnLists::keeps))]
+#[tactic(auto, unfolding(crate::specs::TurnRules::keeps))]
 pub(crate) fn keeps(style: LineStyle, left: u8, right: u8) -> bool
     ensures { result ≡ keeps style left right }
 {
@@ -21,7 +21,7 @@ pub(crate) fn keeps(style: LineStyle, left: u8, right: u8) -> bool
 }
 
 /// Whether the class is one that `KeepAll` keeps together.
-#[tactic(auto, unfolding(crate::specs::TurnLists::is_kept))]
+#[tactic(auto, unfolding(crate::specs::TurnRules::is_kept))]
 fn is_kept(class: u8) -> bool
     ensures { result ≡ is_kept class }
 {
@@ -43,7 +43,7 @@ fn is_kept(class: u8) -> bool
 }
 
 /// Whether a boundary stands between the two by the list of the strictness, where it decides. `is_joined`: the left unit ends with ZWJ.
-#[tactic(auto, unfolding(crate::specs::TurnLists::listed))]
+#[tactic(auto, unfolding(crate::specs::TurnRules::listed))]
 pub(crate) fn listed(style: LineStyle, is_joined: bool, pair: Neighbours) -> Option<bool>
     ensures { result ≡ listed style is_joined pair.left pair.left_code_point pair.right pair.right_code_point }
 {
@@ -55,7 +55,7 @@ pub(crate) fn listed(style: LineStyle, is_joined: bool, pair: Neighbours) -> Opt
 }
 
 /// What the first row of the loose list says that fits, if one fits.
-#[tactic(auto, unfolding(seg_line_rules::specs::LineLists::loose_list, crate::specs::TurnLists::turn_rows))]
+#[tactic(auto, unfolding(seg_line_rules::specs::LineLists::loose_list, crate::specs::TurnRules::turn_rows))]
 fn loose(is_ja_or_zh: bool, pair: Neighbours) -> Option<bool>
     ensures { result ≡ loose_list turn_rows is_ja_or_zh pair.left pair.left_code_point pair.right pair.right_code_point }
 {

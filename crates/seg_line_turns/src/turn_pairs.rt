@@ -2,10 +2,9 @@
 ghost use Rattle.std.specs.Prelude.{◌≡◌, ℕ, ◌<◌, ◌↔◌, true, false, None, IsTrue, IfOk, IfErr};
 ghost use Rattle.seg_data.specs.declared.provider.DataError.TheVariants.{ComplexBelow0100};
 ghost use Rattle.seg_data.specs.Faults.{IsFaultless, IsLowestFault};
-ghost use Rattle.seg_line_rules.specs.LineStyles.{is_loose_or_normal};
+ghost use Rattle.seg_line_rules.specs.LineRules.{is_loose_or_normal};
 ghost use Rattle.seg_line_turns.specs.TurnClasses.{ID};
-ghost use Rattle.seg_line_turns.specs.TurnFaults.{HasOwnTurnFault};
-ghost use Rattle.seg_line_turns.specs.TurnReadings.{class_read, is_read_as_id};
+ghost use Rattle.seg_line_turns.specs.TurnRules.{HasOwnTurnFault, class_read, is_read_as_id};
 
 use crate::classes::is_complex;
 use seg_data::provider::DataError;
@@ -23,8 +22,8 @@ pub struct OwnedTurnPairs {
 }
 
 impl OwnedTurnPairs {
-    ghost use Rattle.seg_line_turns.specs.TurnFaults.{HasTurnTableFault};
-    ghost use Rattle.seg_line_turns.specs.TurnPairs.{owned_turn_rules_by, turn_rules_by};
+    ghost use Rattle.seg_line_turns.specs.TurnRules.{HasTurnTableFault};
+    ghost use Rattle.seg_line_turns.specs.TurnBoundaries.{owned_turn_rules_by, turn_rules_by};
 
     /// A pair table of lines, with what options say, checked as the borrowed form is.
     pub fn try_new(
@@ -60,9 +59,8 @@ pub struct TurnPairs<'data> {
 }
 
 impl<'data> TurnPairs<'data> {
-    ghost use Rattle.seg_line_turns.specs.TurnFaults.{HasTurnTableFault};
-    ghost use Rattle.seg_line_turns.specs.TurnPairs.{turn_rules_by};
-    ghost use Rattle.seg_line_turns.specs.TurnReadings.{turn_class};
+    ghost use Rattle.seg_line_turns.specs.TurnRules.{HasTurnTableFault, turn_class};
+    ghost use Rattle.seg_line_turns.specs.TurnBoundaries.{turn_rules_by};
 
     /// A pair table of lines, with what options say, and checked with the pair table of clusters: `ClassOutOfRange` where the table has no
     /// class ID, and `StartRowKeeps` and `ComplexItems` by the clusters; `ComplexBelow0100` where a code point below U+0100 has class SA or

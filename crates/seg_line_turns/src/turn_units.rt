@@ -1,7 +1,7 @@
 //! The left unit of a turn, and what a turn finds.
 ghost use Rattle.std.specs.Prelude.{◌≡◌};
 ghost use Rattle.seg_line_turns.specs.TurnPlaces.{outcome_unless};
-ghost use Rattle.seg_line_turns.specs.TurnSets.{is_joiner};
+ghost use Rattle.seg_line_turns.specs.TurnClasses.{is_joiner};
 
 use seg_pair_data::provider::RuleBreakData;
 

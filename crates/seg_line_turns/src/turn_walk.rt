@@ -2,7 +2,7 @@
 ghost use Rattle.std.specs.Prelude.{◌≡◌, ◌<◌, ℕ, suc};
 ghost use Rattle.seg_text.specs.Items.{Text, code_points};
 ghost use Rattle.seg_pair_data.specs.PairTable.{entry_of};
-ghost use Rattle.seg_line_turns.specs.TurnPairs.{turn_rules_by};
+ghost use Rattle.seg_line_turns.specs.TurnBoundaries.{turn_rules_by};
 ghost use Rattle.seg_line_turns.specs.TurnPlaces.{IsWalkAt, item_place, placed, step_at, walker_seen, IsBelowState};
 ghost use Rattle.seg_line_turns.specs.Turns.{space_step, sticks, walk_back_turn, walk_end_turn, walk_entry_step, walk_step, walk_stop_turn, walk_turn};
 

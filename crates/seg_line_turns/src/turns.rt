@@ -2,10 +2,10 @@
 ghost use Rattle.std.specs.Prelude.{◌≡◌, ◌<◌, ℕ, suc};
 ghost use Rattle.seg_text.specs.Items.{Text, code_points, rest_after};
 ghost use Rattle.seg_pair_data.specs.PairTable.{entry_of};
-ghost use Rattle.seg_line_turns.specs.TurnAhead.{HasTurnClass};
-ghost use Rattle.seg_line_turns.specs.TurnPairs.{turn_rules_by};
+ghost use Rattle.seg_line_turns.specs.TurnEvents.{HasTurnClass};
+ghost use Rattle.seg_line_turns.specs.TurnBoundaries.{turn_rules_by};
 ghost use Rattle.seg_line_turns.specs.TurnPlaces.{FindsBetween, FindsFrom, class_at_start, hyphen_outcome, item_place, left_seen, placed};
-ghost use Rattle.seg_line_turns.specs.TurnReadings.{turn_class};
+ghost use Rattle.seg_line_turns.specs.TurnRules.{turn_class};
 ghost use Rattle.seg_line_turns.specs.Turns.{class_turn, first_unit, is_taken, opens, quote_turn, right_turn, table_turn, turn};
 
 use crate::bases::{

@@ -4,20 +4,17 @@ use Rattle.std.proofs.lemmas.Bool.{cases_lt}
 use Rattle.std.proofs.lemmas.List.{length-map}
 use Rattle.seg_text.specs.declared.boundary.Boundary.{Boundary}
 use Rattle.seg_text.specs.Items.{Item, Text, IsRising, start_of, rest_after, code_points}
-use Rattle.seg_text.specs.Boundaries.{IsCover, RisesTo, boundaries_in, offsets, start}
-use Rattle.seg_text.specs.Cuts.{cut_places}
-use Rattle.seg_text.specs.Stretches.{later_boundaries}
+use Rattle.seg_text.specs.Boundaries.{IsCover, RisesTo, boundaries_in, offsets, start, cut_places, later_boundaries}
 use Rattle.seg_text.proofs.Covers.{covers-in, covers-list, place-between, rises-le}
-use Rattle.seg_machine.specs.Checked.{IsChecked}
+use Rattle.seg_machine.specs.MachineFaults.{IsChecked}
 use Rattle.seg_machine.specs.Machine.{Machine}
-use Rattle.seg_machine.specs.Segments.{machine_boundaries, machine_stretch}
+use Rattle.seg_machine.specs.Pick.{machine_boundaries, machine_stretch}
 use Rattle.seg_machine.proofs.Segmentations.{machine-within}
-use Rattle.seg_complex.specs.InnerCuts.{inner_cuts}
+use Rattle.seg_complex.specs.Spans.{inner_cuts}
 use Rattle.seg_complex.specs.Payloads.{Payloads, piece_cuts_by}
-use Rattle.seg_complex.specs.RunCuts.{CoverPieces}
+use Rattle.seg_complex.specs.Scripts.{CoverPieces}
 use Rattle.seg_complex.proofs.InnerRange.{AreBetween, between-more, inner-between}
-use Rattle.seg_lines.specs.Joined.{AreAbove, AreRising, joined, with_cut}
-use Rattle.seg_lines.specs.LineBreaks.{boundaries_with}
+use Rattle.seg_lines.specs.LineBreaks.{AreAbove, AreRising, joined, with_cut, boundaries_with}
 use Rattle.seg_lines.specs.LineBreaks.LineFinder.{ByMachine}
 use Rattle.seg_lines.proofs.Joins.{AreAtMost, boundary-first, cut-after, cut-ahead, cut-at, joined-places}
 

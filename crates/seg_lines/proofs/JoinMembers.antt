@@ -4,7 +4,7 @@ use Rattle.std.specs.List.{Contains}
 use Rattle.std.proofs.lemmas.Bool.{cases_lt}
 use Rattle.seg_text.specs.declared.boundary.Boundary.{Boundary}
 use Rattle.seg_text.specs.Boundaries.{boundary, offsets}
-use Rattle.seg_lines.specs.Joined.{AreAbove, AreRising, IsCutAlone, IsJoin, joined, with_cut}
+use Rattle.seg_lines.specs.LineBreaks.{AreAbove, AreRising, IsCutAlone, IsJoin, joined, with_cut}
 use Rattle.seg_lines.proofs.Joins.{above-more, cut-after, cut-ahead, cut-at, with-above}
 
 abbrev In : {X : Type 0} → List X → X → Type 0

@@ -1,39 +1,32 @@
 -- Laws of the boundaries of lines.
 use Rattle.std.proofs.Common.{◌≡◌, ℕ, List, drop, refl, ap, ◌∙◌, subst}
 use Rattle.seg_text.specs.declared.boundary.Boundary.{Boundary}
-use Rattle.seg_text.specs.Boundaries.{RestartsIn, offsets}
-use Rattle.seg_text.specs.Cuts.{Cuts, with_status}
-use Rattle.seg_text.specs.Stretches.{HasOneAnswer, later_boundaries}
+use Rattle.seg_text.specs.Boundaries.{RestartsIn, offsets, Cuts, with_status, HasOneAnswer, later_boundaries}
 use Rattle.seg_text.proofs.Restarts.{restarts, restarts-as}
 use Rattle.seg_text.proofs.Stretches.{later-are, later-only, one-answer}
-use Rattle.seg_machine.specs.Checked.{IsChecked}
+use Rattle.seg_machine.specs.MachineFaults.{IsChecked}
 use Rattle.seg_machine.specs.Machine.{Machine as AnyMachine}
-use Rattle.seg_machine.specs.Segments.{machine_boundaries, machine_stretch}
+use Rattle.seg_machine.specs.Pick.{machine_boundaries, machine_stretch}
 use Rattle.seg_machine.proofs.Segmentations.{machine-alone, machine-going}
 use Rattle.seg_clusters.specs.Rules.{boundaries_by, first_stretch}
 use Rattle.seg_clusters.proofs.ByRules.{going, restarts-by}
 use Rattle.seg_data.specs.ScriptWords.{ScriptWords, AreSameWords, no_words}
-use Rattle.seg_complex.specs.InnerCuts.{inner_cuts, inner_stretch}
+use Rattle.seg_complex.specs.Spans.{inner_cuts, inner_stretch}
 use Rattle.seg_complex.specs.Payloads.{Payloads, piece_cuts_by, run_cuts_by}
-use Rattle.seg_complex.specs.RunCuts.{CoverPieces}
+use Rattle.seg_complex.specs.Scripts.{CoverPieces}
 use Rattle.seg_complex.proofs.EqualSpans.{same-inner-cuts}
 use Rattle.seg_complex.proofs.EqualWords.{same-run-cuts}
 use Rattle.seg_complex.proofs.SpanStretches.{span-some}
 use Rattle.seg_complex.proofs.UnwordedSpans.{inner-none}
 use Rattle.seg_line_rules.specs.declared.line_pairs.LinePairs.{LinePairs}
 use Rattle.seg_line_turns.specs.declared.turn_pairs.TurnPairs.{TurnPairs}
-use Rattle.seg_line_rules.specs.LineBoundaries.{inside, line_boundaries, line_stretch}
-use Rattle.seg_line_rules.specs.LinePairs.{rules_by}
-use Rattle.seg_line_rules.specs.LineRules.{LineRules as TableRules}
-use Rattle.seg_line_rules.specs.MarkLaw.{KeepsMarks}
+use Rattle.seg_line_rules.specs.LineBoundaries.{inside, line_boundaries, line_stretch, rules_by, KeepsMarks}
+use Rattle.seg_line_rules.specs.LineRules.{TableRules}
 use Rattle.seg_line_rules.proofs.LineRestarts.{line-restarts}
 use Rattle.seg_line_rules.proofs.LineStretches.{line-going}
-use Rattle.seg_line_turns.specs.TurnBoundaries.{turn_boundaries}
-use Rattle.seg_line_turns.specs.TurnMarks.{KeepsTurnMarks, StartsBear}
-use Rattle.seg_line_turns.specs.TurnPairs.{turn_rules_by}
+use Rattle.seg_line_turns.specs.TurnBoundaries.{turn_boundaries, KeepsTurnMarks, StartsBear, turn_rules_by}
 use Rattle.seg_line_turns.proofs.TurnStretches.{one-list}
-use Rattle.seg_lines.specs.Joined.{joined}
-use Rattle.seg_lines.specs.LineBreaks.{AreBoundariesWith, HasOneList, LineFinder, LineRules, MayRestart, boundaries_with, line_boundaries_by, with_words}
+use Rattle.seg_lines.specs.LineBreaks.{joined, AreBoundariesWith, HasOneList, LineFinder, LineRules, MayRestart, boundaries_with, line_boundaries_by, lines_with_words}
 use Rattle.seg_lines.specs.LineBreaks.LineFinder.{ByClusters, ByPlaces, ByTable, ByTurns, ByMachine}
 use Rattle.seg_lines.specs.Lines.{finder_of}
 use Rattle.seg_lines.specs.declared.finder.Finder.{Finder}
@@ -134,7 +127,7 @@ same-with (ByMachine m) payloads others same =
     ap (λ (cuts : List ℕ → List ℕ). (λ code_points. joined (machine_boundaries m code_points) (cuts code_points))) (same-inner-cuts m payloads others same)
 
 pub equal-words : (rules : LineRules) (others : ScriptWords) → AreSameWords rules.payloads.words others
-    → line_boundaries_by (with_words rules others) ≡ line_boundaries_by rules
+    → line_boundaries_by (lines_with_words rules others) ≡ line_boundaries_by rules
 equal-words rules others same = same-with rules.finder rules.payloads others same
 
 -- marks

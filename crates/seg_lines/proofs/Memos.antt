@@ -4,7 +4,7 @@ use Rattle.seg_text.specs.declared.boundary.Boundary.{Boundary}
 use Rattle.seg_text.specs.Items.{Text, code_points}
 use Rattle.seg_text.specs.Boundaries.{boundary_in, boundaries_in}
 use Rattle.seg_machine.specs.Machine.{Machine}
-use Rattle.seg_machine.specs.Segments.{machine_boundaries}
+use Rattle.seg_machine.specs.Pick.{machine_boundaries}
 use Rattle.seg_memo.specs.declared.memo.MemoError.{MemoError}
 use Rattle.seg_memo.specs.Memos.{IsNewMemo, Memo}
 use Rattle.seg_data.specs.ScriptWords.{no_words}

@@ -3,21 +3,18 @@ use Rattle.std.proofs.Common.{◌≡◌, ℕ, zero, suc, List, [], ◌∷◌, �
 use Rattle.std.specs.Prelude.{Bool, true, false}
 use Rattle.std.proofs.lemmas.Option.{none-some, same_Some}
 use Rattle.seg_text.specs.declared.boundary.Boundary.{Boundary}
-use Rattle.seg_text.specs.Boundaries.{shift_all, offsets}
-use Rattle.seg_text.specs.Cuts.{Cuts, with_status}
-use Rattle.seg_text.specs.Stretches.{Stretch, later_boundaries, later_boundaries_within}
+use Rattle.seg_text.specs.Boundaries.{shift_all, offsets, Cuts, with_status, Stretch, later_boundaries, later_boundaries_within}
 use Rattle.seg_pairs.specs.Verdict.{Verdict}
 use Rattle.seg_pairs.specs.Verdict.Verdict.{BreakAfter, GoAfter, RunBegins}
 use Rattle.seg_clusters.specs.Rules.{boundaries_by}
 use Rattle.seg_complex.specs.Payloads.{Payloads, run_cuts_by}
 use Rattle.seg_line_rules.specs.LineBoundaries.{inside, line_stretch, line_stretch_of, line_verdict}
-use Rattle.seg_line_rules.specs.LineRules.{LineRules as TableRules}
-use Rattle.seg_line_turns.specs.TurnBoundaries.{later_turns, stretch_of, turn_stretch, turns_within}
+use Rattle.seg_line_rules.specs.LineRules.{TableRules}
+use Rattle.seg_line_turns.specs.TurnBoundaries.{later_turns, turn_stretch_of, turn_stretch, turns_within}
 use Rattle.seg_line_turns.specs.Turns.{Turn, first_unit, turn}
 use Rattle.seg_line_turns.specs.Turns.Turn.{BreakAt, GoTo, RunAt}
-use Rattle.seg_lines.specs.LineBreaks.{LineFinder, boundaries_with}
+use Rattle.seg_lines.specs.LineBreaks.{LineFinder, boundaries_with, HasNoMandatoryBreak, IsByPairTable}
 use Rattle.seg_lines.specs.LineBreaks.LineFinder.{ByClusters, ByPlaces, ByTable, ByTurns, ByMachine}
-use Rattle.seg_lines.specs.Unmarked.{HasNoMandatoryBreak, IsByPairTable}
 
 AreUnmarked : List Boundary → Type 0
 AreUnmarked [] = Unit {0}
@@ -68,7 +65,7 @@ by-verdict cuts rules code_points RunBegins = unmarked-at _
 in-lines : (cuts : Cuts) (rules : TableRules) (code_points : List ℕ) → AreUnmarked (later_boundaries (line_stretch cuts rules) code_points)
 in-lines cuts rules = later (line_stretch cuts rules) (λ code_points. by-verdict cuts rules code_points (line_verdict rules code_points))
 
-by-turn : (cuts : Cuts) (rules : TableRules) (code_points : List ℕ) (found : Turn) → AreUnmarked (stretch_of cuts rules code_points found).boundaries
+by-turn : (cuts : Cuts) (rules : TableRules) (code_points : List ℕ) (found : Turn) → AreUnmarked (turn_stretch_of cuts rules code_points found).boundaries
 unfolding AreUnmarked
 by-turn cuts rules code_points (BreakAt place resume) = (refl, tt)
 by-turn cuts rules code_points (GoTo place opened) = tt

@@ -5,28 +5,22 @@ use Rattle.std.specs.Char.{IsScalar}
 use Rattle.std.proofs.lemmas.Bool.{cases_lt}
 use Rattle.std.proofs.lemmas.List.{map-append}
 use Rattle.seg_text.specs.declared.boundary.Boundary.{Boundary}
-use Rattle.seg_text.specs.Boundaries.{IsCover, RisesTo, boundary, offsets, shift, shift_all, start}
-use Rattle.seg_text.specs.Stretches.{later_boundaries}
-use Rattle.seg_clusters.specs.Parted.{PartsBehind, PartsTexts}
-use Rattle.seg_clusters.specs.Resets.{ResetsAfter}
-use Rattle.seg_clusters.specs.Rules.{boundaries_by}
+use Rattle.seg_text.specs.Boundaries.{IsCover, RisesTo, boundary, offsets, shift, shift_all, start, later_boundaries}
+use Rattle.seg_clusters.specs.Rules.{PartsBehind, PartsTexts, ResetsAfter, boundaries_by}
 use Rattle.seg_clusters.proofs.ByRules.{machine-covers}
 use Rattle.seg_clusters.proofs.PartedTexts.{texts-parted}
 use Rattle.seg_clusters.proofs.ResetScans.{parts-lists}
-use Rattle.seg_machine.specs.Checked.{IsChecked}
+use Rattle.seg_machine.specs.MachineFaults.{IsChecked}
 use Rattle.seg_machine.specs.Machine.{Machine as AnyMachine}
 use Rattle.seg_machine.specs.declared.tailored_machine.TailoredMachineBorrowed.{TailoredMachineBorrowed}
-use Rattle.seg_machine.specs.Segments.{machine_boundaries, machine_stretch}
-use Rattle.seg_complex.specs.InnerCuts.{inner_cuts}
-use Rattle.seg_complex.specs.LaterPlaces.{later_places}
+use Rattle.seg_machine.specs.Pick.{machine_boundaries, machine_stretch}
+use Rattle.seg_complex.specs.Spans.{inner_cuts}
+use Rattle.seg_complex.specs.Scripts.{later_places, CoverPieces}
 use Rattle.seg_complex.specs.Payloads.{Payloads, piece_cuts_by}
-use Rattle.seg_complex.specs.RunCuts.{CoverPieces}
 use Rattle.seg_complex.proofs.InnerRange.{inner-between}
 use Rattle.seg_complex.proofs.PartedSpans.{cuts-parted}
-use Rattle.seg_lines.specs.Joined.{AreAbove, joined, with_cut}
-use Rattle.seg_lines.specs.LineBreaks.{boundaries_with}
+use Rattle.seg_lines.specs.LineBreaks.{AreAbove, joined, with_cut, boundaries_with, LinesResetWith}
 use Rattle.seg_lines.specs.LineBreaks.LineFinder.{ByMachine, ByPlaces}
-use Rattle.seg_lines.specs.LineResets.{LinesResetWith}
 use Rattle.seg_lines.specs.Lines.{finder_of}
 use Rattle.seg_lines.specs.declared.finder.Finder.{Finder}
 use Rattle.seg_lines.specs.declared.finder.Finder.TheVariants.{Clusters, Places, Table, Turns, Machine}

@@ -4,8 +4,7 @@ use Rattle.std.specs.Prelude.{Option, Some, slice_get}
 use Rattle.std.specs.Option.{option_map_or}
 use Rattle.seg_text.specs.declared.boundary.Boundary.{Boundary}
 use Rattle.seg_text.specs.Items.{Text}
-use Rattle.seg_text.specs.Boundaries.{IsCover, RestartsIn, RisesTo, boundary, boundary_in, offsets, shift_all}
-use Rattle.seg_text.specs.Cuts.{with_status}
+use Rattle.seg_text.specs.Boundaries.{IsCover, RestartsIn, RisesTo, boundary, boundary_in, offsets, shift_all, with_status}
 
 abbrev pub plain : List Boundary → List Boundary
 plain found = with_status 0 (offsets found)

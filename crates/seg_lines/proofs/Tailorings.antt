@@ -5,8 +5,7 @@ use Rattle.std.specs.Option.{option_map}
 use Rattle.seg_lines.specs.declared.line.options.Tailoring.{Tailoring}
 use Rattle.seg_lines.specs.declared.line.options.Tailoring.TheVariants as tailoring
 use Rattle.seg_lines.specs.declared.provider.TailoringsOf.{TailoringsOf}
-use Rattle.seg_lines.specs.LineTailorings.{lent_tailorings}
-use Rattle.seg_lines.specs.Tailorings.{tailoring_named, tailoring_for}
+use Rattle.seg_lines.specs.Options.{lent_tailorings, tailoring_named, tailoring_for}
 
 module _ {T : Type 0} (tailorings : TailoringsOf (Bor T)) where
   named-lent : (name : Tailoring) → tailoring_named (lent_tailorings tailorings) name ≡ option_map (λ t. t.now) (tailoring_named tailorings name)

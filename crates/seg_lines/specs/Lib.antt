@@ -1,11 +1,3 @@
 pub mod Options
-pub mod Tailorings
 pub mod Lines
-pub mod LineTailorings
-pub mod Joined
-pub mod First
-pub mod JoinedLeft
 pub mod LineBreaks
-pub mod LineResets
-pub mod LineRemainders
-pub mod Unmarked

@@ -1,25 +1,66 @@
--- The boundaries of lines: those of clusters, those of a pair table, by verdicts on units or turn by turn, or those of a machine joined with
--- the cuts strictly inside runs.
-use Rattle.std.specs.Prelude.{◌≡◌, List, ℕ, Option, Some, None}
-use Rattle.seg_text.specs.declared.boundary.Boundary.{Boundary}
+-- Boundaries joined with cuts, as a set of places: a boundary keeps its status, and a cut where none stands has status 0.
+use Rattle.std.specs.Prelude.{◌≡◌, ◌⊎◌, ◌↔◌, ℕ, ◌<◌, ◌==◌, nat_lt, if◌then◌else◌, List, [], ◌∷◌, Option, None, Some, IfSome, slice_get}
+use Rattle.std.specs.List.{Contains}
+use Rattle.seg_text.specs.declared.boundary.Boundary.{Boundary, Boundary as AnyBoundary}
+use Rattle.seg_text.specs.Boundaries.{boundary, offsets, boundaries_in, AreBoundaries, AreLaterBoundaries, Stretch, list_boundaries, with_status, Remainder}
 use Rattle.seg_text.specs.Items.{Text}
-use Rattle.seg_text.specs.Boundaries.{boundaries_in, offsets}
-use Rattle.seg_text.specs.Stretches.{AreBoundaries, AreLaterBoundaries, Stretch, list_boundaries}
-use Rattle.seg_machine.specs.Machine.{Machine}
-use Rattle.seg_machine.specs.Segments.{machine_stretch}
-use Rattle.seg_clusters.specs.Rules.{boundaries_by, first_stretch, machine_in}
-use Rattle.seg_clusters.specs.Rules.Rules.{ByMachine as ByClusterMachine, ByTable as ByClusterTable}
+use Rattle.seg_data.specs.ScriptWords.{ScriptWords, no_words}
 use Rattle.seg_pair_data.specs.PairTable.{PairTable}
-use Rattle.seg_text.specs.Cuts.{with_status}
+use Rattle.seg_machine.specs.Machine.{Machine}
+use Rattle.seg_machine.specs.Pick.{machine_stretch}
+use Rattle.seg_clusters.specs.Rules.{boundaries_by, first_stretch, machine_in, ResetsAfter}
+use Rattle.seg_clusters.specs.Rules.Rules.{ByMachine as ByClusterMachine, ByTable as ByClusterTable, ByMachine as ByRuleMachine}
+use Rattle.seg_complex.specs.Spans.{inner_cuts, inner_stretch, IsOutsideRuns}
+use Rattle.seg_complex.specs.Payloads.{Payloads, run_cuts_by}
 use Rattle.seg_line_rules.specs.declared.options.LineBreakStrictness.{LineBreakStrictness}
 use Rattle.seg_line_rules.specs.declared.options.LineBreakStrictness.TheVariants as strictness
 use Rattle.seg_line_rules.specs.LineBoundaries.{HasComplexCodePoint, inside, line_boundaries, line_stretch}
-use Rattle.seg_line_rules.specs.LineRules.{LineRules as TableRules}
+use Rattle.seg_line_rules.specs.LineRules.{TableRules}
 use Rattle.seg_line_turns.specs.TurnBoundaries.{AreTurnBoundaries, turn_boundaries}
-use Rattle.seg_data.specs.ScriptWords.{ScriptWords, no_words}
-use Rattle.seg_complex.specs.InnerCuts.{inner_cuts, inner_stretch}
-use Rattle.seg_complex.specs.Payloads.{Payloads, run_cuts_by}
-use Rattle.seg_lines.specs.Joined.{IsJoin, joined}
+use Rattle.seg_lines.specs.declared.joined.First.{First}
+use Rattle.seg_lines.specs.declared.joined.First.TheVariants as firsts
+
+-- boundaries that rise, and one cut
+abbrev pub with_cut : ℕ → List Boundary → List Boundary
+with_cut cut [] = boundary cut 0 ∷ []
+with_cut cut (found ∷ boundaries) =
+    if nat_lt cut found.offset
+    then boundary cut 0 ∷ found ∷ boundaries
+    else if cut == found.offset then found ∷ boundaries else found ∷ with_cut cut boundaries
+
+abbrev pub joined : List Boundary → List ℕ → List Boundary
+joined boundaries [] = boundaries
+joined boundaries (cut ∷ cuts) = with_cut cut (joined boundaries cuts)
+
+-- all are above a number
+abbrev pub AreAbove : ℕ → List ℕ → Type 0
+AreAbove low [] = Unit {0}
+AreAbove low (n ∷ numbers) = (low < n) × AreAbove low numbers
+
+-- each is above those before it
+abbrev pub AreRising : List ℕ → Type 0
+AreRising [] = Unit {0}
+AreRising (n ∷ numbers) = AreAbove n numbers × AreRising numbers
+
+-- a boundary where a cut stands and none of the others, with status 0
+abbrev pub IsCutAlone : List Boundary → List ℕ → Boundary → Type 0
+IsCutAlone boundaries cuts found = (found.status ≡ 0) × Contains cuts found.offset × (Contains (offsets boundaries) found.offset → ⊥)
+
+-- the same as a relation: the list rises, and holds all boundaries, the cuts that stand alone, and nothing else
+pub record IsJoin (boundaries : List Boundary) (cuts : List ℕ) (found : List Boundary) : Type 0 where
+  pub rises : AreRising (offsets found)
+  pub holds : (one : Boundary) → Contains found one ↔ (Contains boundaries one ⊎ IsCutAlone boundaries cuts one)
+
+-- What comes first of the next boundary and the next cut.
+
+abbrev pub ComesFirst : Option AnyBoundary → Option ℕ → First → Type 0
+ComesFirst found cut firsts.Nothing = (found ≡ None) × (cut ≡ None)
+ComesFirst found cut (firsts.Cut place) = (cut ≡ Some place) × IfSome found (λ boundary. place < boundary.offset)
+ComesFirst found cut (firsts.Boundary boundary) = (found ≡ Some boundary) × IfSome cut (λ place. boundary.offset < place)
+ComesFirst found cut (firsts.Both boundary) = (found ≡ Some boundary) × (cut ≡ Some boundary.offset)
+
+-- The boundaries of lines: those of clusters, those of a pair table, by verdicts on units or turn by turn, or those of a machine joined with
+-- the cuts strictly inside runs.
 
 -- what the breaks of lines are found by
 pub data LineFinder : Type 0 where
@@ -65,8 +106,8 @@ abbrev pub machine_lines : Machine → Machine → ScriptWords → LineRules
 machine_lines m clusters words = record { finder = ByMachine m; payloads = record { words = words; clusters = ByClusterMachine clusters } }
 
 -- the same with other words of scripts
-abbrev pub with_words : LineRules → ScriptWords → LineRules
-with_words rules words = record { finder = rules.finder; payloads = record { words = words; clusters = rules.payloads.clusters } }
+abbrev pub lines_with_words : LineRules → ScriptWords → LineRules
+lines_with_words rules words = record { finder = rules.finder; payloads = record { words = words; clusters = rules.payloads.clusters } }
 
 -- the machine that finds the breaks, if one does: that of clusters, or that of lines
 abbrev pub machine_in_finder : LineFinder → Payloads → Option Machine
@@ -123,3 +164,36 @@ MayRestart ByPlaces words code_points = Unit {0}
 MayRestart (ByTable rules) words code_points = HasComplexCodePoint rules code_points → ⊥
 MayRestart (ByTurns rules) words code_points = ⊥
 MayRestart (ByMachine m) words code_points = words ≡ no_words
+
+-- Code points behind which the boundaries of lines start afresh.
+
+-- where clusters are found, no scan of theirs looks past the code point; by a machine of lines none of its own does, and the
+-- code point stands in no run; of a pair table it is said of none
+abbrev pub LinesResetWith : LineFinder → Payloads → ℕ → Type 0
+LinesResetWith ByClusters payloads code_point = ResetsAfter payloads.clusters code_point
+LinesResetWith ByPlaces payloads code_point = ResetsAfter payloads.clusters code_point
+LinesResetWith (ByTable rules) payloads code_point = ⊥
+LinesResetWith (ByTurns rules) payloads code_point = ⊥
+LinesResetWith (ByMachine m) payloads code_point = ResetsAfter (ByRuleMachine m) code_point × IsOutsideRuns m payloads.words code_point
+
+abbrev pub LinesResetAfter : LineRules → ℕ → Type 0
+LinesResetAfter rules code_point = LinesResetWith rules.finder rules.payloads code_point
+
+-- Lines by a pair table have no mandatory break.
+
+-- breaks are found by a pair table: of lines, by verdicts on units or turn by turn, or, by Anywhere, of clusters
+abbrev pub IsByPairTable : LineFinder → Type 0
+IsByPairTable ByClusters = ⊥
+IsByPairTable ByPlaces = Unit {0}
+IsByPairTable (ByTable rules) = Unit {0}
+IsByPairTable (ByTurns rules) = Unit {0}
+IsByPairTable (ByMachine m) = ⊥
+
+-- none of these is mandatory: the status of each is 0
+abbrev pub HasNoMandatoryBreak : List Boundary → Type 0
+HasNoMandatoryBreak found = (k : ℕ) (one : Boundary) → slice_get found k ≡ Some one → one.status ≡ 0
+
+-- All boundaries that an engine has still to give.
+
+abbrev pub all_left : Remainder → List Boundary
+all_left remainder = remainder.left

@@ -1,31 +1,32 @@
 -- Lines: what finds their breaks, the faults of its data, and what is seen of segmenters and iterators.
 use Rattle.std.specs.Prelude.{◌≡◌, ◌⊎◌, ℕ, ◌==◌, Bool, Option, Some, None, List}
+use Rattle.seg_text.specs.declared.boundary.Boundary.{Boundary}
+use Rattle.seg_text.specs.Boundaries.{offsets, Remainder}
 use Rattle.seg_data.specs.declared.provider.DataError.{DataError}
 use Rattle.seg_data.specs.declared.provider.DataError.TheVariants.{ComplexBelow0100, MissingTailoring}
+use Rattle.seg_data.specs.ScriptWords.{ScriptWords, no_words, script_words}
 use Rattle.seg_machine.specs.Machine.{Machine, MachineTailoring, with_tailoring}
 use Rattle.seg_machine.specs.MachineFaults.{HasComplexBelow0100, HasTailoringFault}
-use Rattle.seg_text.specs.declared.boundary.Boundary.{Boundary}
-use Rattle.seg_text.specs.Boundaries.{offsets}
-use Rattle.seg_clusters.specs.Rules.Rules.{ByMachine as ByClusterMachine}
-use Rattle.seg_data.specs.ScriptWords.{ScriptWords, no_words, script_words}
-use Rattle.seg_clusters.specs.Clusters.{owned_cluster_rules}
 use Rattle.seg_machine.specs.Tailored.{machine_of, owned_machine}
+use Rattle.seg_clusters.specs.Rules.Rules.{ByMachine as ByClusterMachine}
+use Rattle.seg_clusters.specs.Clusters.{owned_cluster_rules}
 use Rattle.seg_complex.specs.Payloads.{payloads_of}
+use Rattle.seg_line_rules.specs.LineBoundaries.{owned_rules_by, rules_by}
+use Rattle.seg_line_turns.specs.TurnBoundaries.{owned_turn_rules_by, turn_rules_by}
 use Rattle.seg_lines.specs.declared.finder.Finder.{Finder}
 use Rattle.seg_lines.specs.declared.finder.Finder.TheVariants.{Clusters as LentClusters, Places as LentPlaces, Table as LentTable, Turns as LentTurns, Machine as LentMachine}
 use Rattle.seg_lines.specs.declared.finder.OwnedFinder.{OwnedFinder}
 use Rattle.seg_lines.specs.declared.finder.OwnedFinder.TheVariants.{Clusters as OwnedClusters, Places as OwnedPlaces, Table as OwnedTable, Turns as OwnedTurns, Machine as OwnedMachine}
-use Rattle.seg_line_rules.specs.LinePairs.{owned_rules_by, rules_by}
-use Rattle.seg_line_turns.specs.TurnPairs.{owned_turn_rules_by, turn_rules_by}
 use Rattle.seg_lines.specs.LineBreaks.{LineFinder, LineRules}
 use Rattle.seg_lines.specs.LineBreaks.LineFinder.{ByClusters, ByPlaces, ByTable, ByTurns, ByMachine}
 use Rattle.seg_lines.specs.declared.line.options.MachineChoice.{MachineChoice}
 use Rattle.seg_lines.specs.declared.line.options.MachineChoice.TheVariants.{Clusters, Lines}
-use Rattle.seg_lines.specs.LineTailorings.{MachineTailorings}
+use Rattle.seg_lines.specs.Options.{MachineTailorings, tailoring_for}
 use Rattle.seg_lines.specs.declared.line.LineSegmenter.{LineSegmenter}
 use Rattle.seg_lines.specs.declared.line.LineSegmenterBorrowed.{LineSegmenterBorrowed}
 use Rattle.seg_lines.specs.declared.line.LineBreakIterator.{LineBreakIterator}
-use Rattle.seg_lines.specs.Tailorings.{tailoring_for}
+use Rattle.seg_lines.specs.declared.boundaries.LineBoundaries.{LineBoundaries}
+use Rattle.seg_lines.specs.declared.boundaries.LineBoundaries.TheVariants.{Plain, Unmarked, Classic, Turns, Joined}
 
 -- the line machine with the tailoring that is named
 abbrev pub line_machine_for : Machine → Option (Option MachineTailoring) → Machine
@@ -100,3 +101,12 @@ line_finder iterator = line_rules iterator.segmenter
 
 abbrev pub lines_source : {Y C I : Type 0} → LineBreakIterator Y C I → I
 lines_source iterator = iterator.whole
+
+-- What each engine of lines has still to give.
+
+abbrev pub line_remainder_by : {I : Type 0} → LineBoundaries I → Remainder
+line_remainder_by (Plain remainder) = remainder
+line_remainder_by (Unmarked remainder) = remainder
+line_remainder_by (Classic remainder) = remainder
+line_remainder_by (Turns remainder) = remainder
+line_remainder_by (Joined remainder) = remainder

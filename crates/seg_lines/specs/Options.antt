@@ -1,14 +1,19 @@
 -- The machine that the options of lines choose.
-use Rattle.std.specs.Prelude.{Bool, true, false, Some, None}
+use Rattle.std.specs.Prelude.{Bool, true, false, Some, None, Option}
+use Rattle.std.specs.Option.{option_map}
+use Rattle.std.specs.Borrow.{Bor}
+use Rattle.seg_machine.specs.Machine.{MachineTailoring}
 use Rattle.seg_line_rules.specs.declared.options.LineBreakOptions.{LineBreakOptions}
 use Rattle.seg_line_rules.specs.declared.options.LineBreakStrictness.{LineBreakStrictness}
 use Rattle.seg_line_rules.specs.declared.options.LineBreakStrictness.TheVariants as strictness
 use Rattle.seg_line_rules.specs.declared.options.LineBreakWordOption.{LineBreakWordOption}
 use Rattle.seg_line_rules.specs.declared.options.LineBreakWordOption.TheVariants as word_option
-use Rattle.seg_line_rules.specs.LineStyles.{style_of}
+use Rattle.seg_line_rules.specs.LineRules.{style_of}
 use Rattle.seg_lines.specs.declared.line.options.Tailoring.TheVariants as tailoring
 use Rattle.seg_lines.specs.declared.line.options.MachineChoice.{MachineChoice}
 use Rattle.seg_lines.specs.declared.line.options.MachineChoice.TheVariants.{Clusters, Lines}
+use Rattle.seg_lines.specs.declared.line.options.Tailoring.{Tailoring}
+use Rattle.seg_lines.specs.declared.provider.TailoringsOf.{TailoringsOf}
 
 -- the machine of a word option, a strictness, and of whether the language is Japanese or Chinese: the first row that applies
 abbrev pub machine_for : LineBreakWordOption → LineBreakStrictness → Bool → MachineChoice
@@ -25,3 +30,38 @@ machine_for _ strictness.Strict false = Lines None
 -- the machine that options choose
 abbrev pub machine_choice : LineBreakOptions → MachineChoice
 machine_choice options = let style = style_of options in machine_for style.word_option style.strictness style.is_ja_or_zh
+
+-- The tailorings of line machines, by their names.
+
+-- the tailoring of this name, where it was handed in
+abbrev pub tailoring_named : {T : Type 0} → TailoringsOf T → Tailoring → Option T
+tailoring_named tailorings tailoring.BreakAll = tailorings.breakall
+tailoring_named tailorings tailoring.KeepAll = tailorings.keepall
+tailoring_named tailorings tailoring.JaLoose = tailorings.ja_loose
+tailoring_named tailorings tailoring.Loose = tailorings.loose
+tailoring_named tailorings tailoring.JaNormal = tailorings.ja_normal
+tailoring_named tailorings tailoring.Normal = tailorings.normal
+tailoring_named tailorings tailoring.Ja = tailorings.ja
+
+-- the tailoring of the line machine by this name, if one is named: `None` where it is missing
+abbrev pub tailoring_for : {T : Type 0} → TailoringsOf T → Option Tailoring → Option (Option T)
+tailoring_for tailorings (Some name) = option_map Some (tailoring_named tailorings name)
+tailoring_for tailorings None = Some None
+
+-- The tailorings of machines of lines, and what is lent of them.
+
+-- those that are there
+abbrev pub MachineTailorings : Type 0
+MachineTailorings = TailoringsOf MachineTailoring
+
+-- the tailorings that are lent
+abbrev pub lent_tailorings : {T : Type 0} → TailoringsOf (Bor T) → TailoringsOf T
+lent_tailorings tailorings = record {
+  breakall = option_map (λ tailoring. tailoring.now) tailorings.breakall;
+  keepall = option_map (λ tailoring. tailoring.now) tailorings.keepall;
+  ja_loose = option_map (λ tailoring. tailoring.now) tailorings.ja_loose;
+  loose = option_map (λ tailoring. tailoring.now) tailorings.loose;
+  ja_normal = option_map (λ tailoring. tailoring.now) tailorings.ja_normal;
+  normal = option_map (λ tailoring. tailoring.now) tailorings.normal;
+  ja = option_map (λ tailoring. tailoring.now) tailorings.ja;
+}

@@ -6,10 +6,9 @@ ghost use Rattle.seg_text.specs.Items.{start_of};
 ghost use Rattle.seg_text.specs.Boundaries.{IsCover, boundaries_in};
 ghost use Rattle.seg_machine.specs.Tailored.{machine_of};
 ghost use Rattle.seg_complex.specs.Payloads.{payloads_of};
-ghost use Rattle.seg_lines.specs.LineRemainders.{remainder_by};
+ghost use Rattle.seg_lines.specs.Lines.{line_remainder_by, finder_of};
 ghost use Rattle.seg_lines.specs.LineBreaks.{boundaries_with};
 ghost use Rattle.seg_lines.specs.LineBreaks.LineFinder.{ByMachine};
-ghost use Rattle.seg_lines.specs.Lines.{finder_of};
 
 use crate::finder::Finder;
 use crate::neo_lines::JoinedBoundaries;
@@ -40,9 +39,9 @@ pub(crate) enum LineBoundaries<'data, I: Cursor> {
 impl<'data, I: Cursor> LineBoundaries<'data, I> {
     /// Those of what is left of a text. Takes no memory.
     fn new(finder: Finder<'data>, payloads: ComplexPayloadsBorrowed<'data>, text: I) -> Self
-        ensures boundaries { (remainder_by result).left ≡ boundaries_in (boundaries_with (finder_of finder.entry) (payloads_of payloads.entry)) (I.text text) }
-        ensures cover { IsCover (start_of (I.text text)) (I.text text).end (remainder_by result).left }
-        ensures status { (remainder_by result).status ≡ 0 }
+        ensures boundaries { (line_remainder_by result).left ≡ boundaries_in (boundaries_with (finder_of finder.entry) (payloads_of payloads.entry)) (I.text text) }
+        ensures cover { IsCover (start_of (I.text text)) (I.text text).end (line_remainder_by result).left }
+        ensures status { (line_remainder_by result).status ≡ 0 }
     {
         match finder {
             Finder::Clusters => LineBoundaries::Plain(payloads.clusters.boundaries(text)),
@@ -63,9 +62,9 @@ impl<'data, I: Cursor> LineBoundaries<'data, I> {
         payloads: ComplexPayloadsBorrowed<'data>,
         text: I,
     ) -> Self
-        ensures boundaries { (remainder_by result).left ≡ boundaries_in (boundaries_with (ByMachine (machine_of machine.entry)) (payloads_of payloads.entry)) (I.text text) }
-        ensures cover { IsCover (start_of (I.text text)) (I.text text).end (remainder_by result).left }
-        ensures status { (remainder_by result).status ≡ 0 }
+        ensures boundaries { (line_remainder_by result).left ≡ boundaries_in (boundaries_with (ByMachine (machine_of machine.entry)) (payloads_of payloads.entry)) (I.text text) }
+        ensures cover { IsCover (start_of (I.text text)) (I.text text).end (line_remainder_by result).left }
+        ensures status { (line_remainder_by result).status ≡ 0 }
     {
         if payloads.dictionaries.is_empty() {
             return LineBoundaries::Plain(Engine::Neo(machine).boundaries(text));
@@ -89,7 +88,7 @@ pub(crate) fn boundaries<'data, I: Cursor>(
 }
 
 impl<'data, I: Cursor> BoundarySource for LineBoundaries<'data, I> {
-    ghost remainder = { remainder_by };
+    ghost remainder = { line_remainder_by };
 
     #[inline(always)]
     fn next_boundary(&mut self) -> Option<usize> {

@@ -1,8 +1,8 @@
 //! What the breaks of lines are found by.
 
 ghost use Rattle.std.specs.Prelude.{◌≡◌};
-ghost use Rattle.seg_line_rules.specs.LinePairs.{owned_rules_by, rules_by};
-ghost use Rattle.seg_line_turns.specs.TurnPairs.{owned_turn_rules_by, turn_rules_by};
+ghost use Rattle.seg_line_rules.specs.LineBoundaries.{owned_rules_by, rules_by};
+ghost use Rattle.seg_line_turns.specs.TurnBoundaries.{owned_turn_rules_by, turn_rules_by};
 ghost use Rattle.seg_lines.specs.LineBreaks.LineFinder.{ByTable, ByTurns};
 ghost use Rattle.seg_lines.specs.LineBreaks.{unless_anywhere};
 ghost use Rattle.seg_lines.specs.Lines.{finder_of, owned_finder};

@@ -2,7 +2,7 @@
 
 ghost use Rattle.std.specs.Prelude.{◌≡◌};
 ghost use Rattle.std.specs.Iterator.{YieldsFirst};
-ghost use Rattle.seg_lines.specs.First.{IsFirst};
+ghost use Rattle.seg_lines.specs.LineBreaks.{ComesFirst};
 
 use seg_text::boundary::Boundary;
 
@@ -21,7 +21,7 @@ pub(crate) enum First {
 
 /// What comes first of the next boundary and the next cut.
 pub(crate) fn first_of(boundary: Option<Boundary>, cut: Option<usize>) -> First
-    ensures { IsFirst boundary cut result }
+    ensures { ComesFirst boundary cut result }
 {
     match (boundary, cut) {
         (None, None) => First::Nothing,

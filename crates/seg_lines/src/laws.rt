@@ -3,18 +3,15 @@
 ghost use Rattle.std.specs.Prelude.{◌≡◌, ℕ, List};
 ghost use Rattle.seg_text.specs.Boundaries.{HasEqualOrdinals, RestartsIn};
 ghost use Rattle.seg_data.specs.ScriptWords.{ScriptWords, AreSameWords};
-ghost use Rattle.seg_clusters.specs.Parted.{PartsTexts};
+ghost use Rattle.seg_clusters.specs.Rules.{PartsTexts};
 ghost use Rattle.seg_complex.specs.Payloads.{run_cuts_by};
-ghost use Rattle.seg_line_rules.specs.LineBoundaries.{inside};
-ghost use Rattle.seg_line_rules.specs.LineRules.{LineRules as TableRules};
-ghost use Rattle.seg_line_rules.specs.MarkLaw.{KeepsMarks};
+ghost use Rattle.seg_line_rules.specs.LineBoundaries.{inside, KeepsMarks};
+ghost use Rattle.seg_line_rules.specs.LineRules.{TableRules};
 ghost use Rattle.seg_line_turns.specs.PlainTexts.{ArePlain, HasNoOpening, plain_boundaries, turn_units};
-ghost use Rattle.seg_line_turns.specs.TurnMarks.{KeepsTurnMarks, StartsBear};
+ghost use Rattle.seg_line_turns.specs.TurnBoundaries.{KeepsTurnMarks, StartsBear};
 ghost use Rattle.seg_lines.specs.LineBreaks.LineFinder.{ByTable, ByTurns};
-ghost use Rattle.seg_lines.specs.LineBreaks.{HasOneList, LineRules, MayRestart, line_boundaries_by, with_words};
-ghost use Rattle.seg_lines.specs.LineResets.{LinesResetAfter};
+ghost use Rattle.seg_lines.specs.LineBreaks.{HasOneList, LineRules, MayRestart, line_boundaries_by, lines_with_words, LinesResetAfter, HasNoMandatoryBreak, IsByPairTable};
 ghost use Rattle.seg_lines.specs.Lines.{line_rules};
-ghost use Rattle.seg_lines.specs.Unmarked.{HasNoMandatoryBreak, IsByPairTable};
 
 use crate::finder::Finder;
 use crate::line::LineSegmenterBorrowed;
@@ -46,7 +43,7 @@ pub fn equal_code_points(segmenter: LineSegmenterBorrowed<'_>)
 /// Law: the words of each script are a set: in what order they come, and how often, changes no boundary.
 pub fn equal_words()
     ensures { (rules : LineRules) (others : ScriptWords) → AreSameWords rules.payloads.words others
-        → line_boundaries_by (with_words rules others) ≡ line_boundaries_by rules }
+        → line_boundaries_by (lines_with_words rules others) ≡ line_boundaries_by rules }
 {}
 
 /// Law: a text may be segmented anew from any of its boundaries, where clusters are found, where no code point of it is complex by

@@ -3,17 +3,13 @@ ghost use Rattle.std.specs.Prelude.{◌≡◌, ◌≢◌, ◌↔◌, false, leng
 ghost use Rattle.std.specs.Iterator.{YieldsFirst, item_count};
 ghost use Rattle.seg_text.specs.Items.{start_of};
 ghost use Rattle.seg_text.specs.Boundaries.{IsCover};
-ghost use Rattle.seg_text.specs.Latin1.{latin1};
-ghost use Rattle.seg_text.specs.Utf8.{utf8};
-ghost use Rattle.seg_text.specs.Utf16.{utf16};
+ghost use Rattle.seg_text.specs.Decoding.{latin1, utf8, utf16};
 ghost use Rattle.seg_data.specs.Faults.{IsFaultless, IsLowestFault};
 ghost use Rattle.seg_memo.specs.Memos.{IsMemoRefusal, IsNewMemo};
 ghost use Rattle.seg_data.specs.ScriptWords.{filled, lent_words, no_words, script_words};
-ghost use Rattle.seg_line_rules.specs.LineFaults.{HasLineTableFault};
-ghost use Rattle.seg_line_rules.specs.LineStyles.{style_of};
-ghost use Rattle.seg_line_turns.specs.TurnFaults.{HasTurnTableFault};
-ghost use Rattle.seg_lines.specs.LineBreaks.{line_boundaries_of, machine_of_lines, table_lines, turn_lines, with_words};
-ghost use Rattle.seg_lines.specs.LineResets.{LinesResetAfter};
+ghost use Rattle.seg_line_rules.specs.LineRules.{HasLineTableFault, style_of};
+ghost use Rattle.seg_line_turns.specs.TurnRules.{HasTurnTableFault};
+ghost use Rattle.seg_lines.specs.LineBreaks.{line_boundaries_of, machine_of_lines, table_lines, turn_lines, lines_with_words, LinesResetAfter};
 ghost use Rattle.seg_lines.specs.Lines.{line_rules};
 ghost use Rattle.seg_lines.specs.Options.{machine_choice};
 
@@ -34,8 +30,8 @@ use seg_clusters::engine::Engine;
 use seg_clusters::grapheme::{GraphemeClusterSegmenter, GraphemeClusterSegmenterBorrowed};
 use seg_complex::complex::ComplexPayloadsBorrowed;
 use seg_complex::spans::is_outside_runs;
-use seg_data::provider::DataError;
 use seg_data::dictionaries::{Dictionaries, DictionariesBorrowed};
+use seg_data::provider::DataError;
 use seg_line_rules::line_pairs::{LinePairs, OwnedLinePairs};
 use seg_line_rules::options::LineStyle;
 use seg_line_turns::turn_pairs::{OwnedTurnPairs, TurnPairs};
@@ -262,7 +258,7 @@ impl LineSegmenter {
     /// Takes the dictionaries of Myanmar, Khmer, Lao and Thai where there is none yet. Those that are there stay, and that of
     /// Chinese and Japanese isn't taken. By `Anywhere` they change nothing. Takes no memory.
     pub fn load_dictionary(&mut self, dictionaries: Dictionaries)
-        ensures { owned_line_rules self.new ≡ with_words (owned_line_rules self.old) (filled (owned_line_rules self.old).payloads.words (without_ja (script_words dictionaries))) }
+        ensures { owned_line_rules self.new ≡ lines_with_words (owned_line_rules self.old) (filled (owned_line_rules self.old).payloads.words (without_ja (script_words dictionaries))) }
     {
         self.dictionaries.fill(without_ja(dictionaries));
     }
@@ -298,7 +294,7 @@ pub struct LineSegmenterBorrowed<'data> {
 
 impl<'data> LineSegmenterBorrowed<'data> {
     ghost use Rattle.seg_lines.specs.Lines.{line_finder, lines_left, lines_source, is_mandatory, chosen_rules, without_ja, HasLineFault};
-    ghost use Rattle.seg_lines.specs.LineTailorings.{lent_tailorings};
+    ghost use Rattle.seg_lines.specs.Options.{lent_tailorings};
 
     /// What `LineSegmenter::try_new_for_non_complex_scripts` makes, over lent data. The faults are the same. Takes no memory.
     pub fn new_for_non_complex_scripts(
@@ -386,7 +382,7 @@ impl<'data> LineSegmenterBorrowed<'data> {
     /// Takes the dictionaries of Myanmar, Khmer, Lao and Thai where there is none yet. Those that are there stay, and that of
     /// Chinese and Japanese isn't taken. By `Anywhere` they change nothing. Takes no memory.
     pub fn load_dictionary(&mut self, dictionaries: DictionariesBorrowed<'data>)
-        ensures { line_rules self.new ≡ with_words (line_rules self.old) (filled (line_rules self.old).payloads.words (without_ja (lent_words dictionaries.entry))) }
+        ensures { line_rules self.new ≡ lines_with_words (line_rules self.old) (filled (line_rules self.old).payloads.words (without_ja (lent_words dictionaries.entry))) }
     {
         self.payloads.load(lent_without_ja(dictionaries));
     }

@@ -6,8 +6,7 @@ ghost use Rattle.seg_text.specs.Items.{start_of};
 ghost use Rattle.seg_text.specs.Boundaries.{GivesNext, IsCover, boundaries_in, offsets_left};
 ghost use Rattle.seg_machine.specs.Tailored.{machine_of};
 ghost use Rattle.seg_complex.specs.Payloads.{payloads_of};
-ghost use Rattle.seg_lines.specs.JoinedLeft.{all_left};
-ghost use Rattle.seg_lines.specs.LineBreaks.{boundaries_with};
+ghost use Rattle.seg_lines.specs.LineBreaks.{all_left, boundaries_with};
 ghost use Rattle.seg_lines.specs.LineBreaks.LineFinder.{ByMachine};
 
 use crate::joined::{First, first_of};
@@ -35,7 +34,7 @@ impl<'data, I: Cursor> Model for JoinedBoundaries<'data, I> {
     ghost use Rattle.std.specs.Prelude.{◌≡◌, ◌++◌, None, []};
     ghost use Rattle.std.specs.Option.{option_to_list};
     ghost use Rattle.seg_text.specs.Boundaries.{Remainder, offsets};
-    ghost use Rattle.seg_lines.specs.Joined.{AreRising, joined};
+    ghost use Rattle.seg_lines.specs.LineBreaks.{AreRising, joined};
 
     ghost Value = { Remainder };
 

@@ -1,6 +1,6 @@
 //! The tailorings of machines of lines.
 ghost use Rattle.std.specs.Prelude.{◌≡◌};
-ghost use Rattle.seg_lines.specs.LineTailorings.{lent_tailorings};
+ghost use Rattle.seg_lines.specs.Options.{lent_tailorings};
 
 use seg_machine::provider::SegmenterStateMachineOverride;
 

@@ -2,8 +2,7 @@
 
 ghost use Rattle.std.specs.Prelude.{◌≡◌, ⊤};
 ghost use Rattle.std.specs.Iterator.{YieldsFirst, MakesProgress, item_count};
-ghost use Rattle.seg_text.specs.Boundaries.{GivesNext, offsets, offsets_left};
-ghost use Rattle.seg_text.specs.Cuts.{with_status};
+ghost use Rattle.seg_text.specs.Boundaries.{GivesNext, offsets, offsets_left, with_status};
 
 use seg_clusters::engine::Boundaries;
 use seg_text::cursor::Cursor;
@@ -16,8 +15,7 @@ pub(crate) struct UnmarkedBoundaries<'data, I: Cursor> {
 }
 
 impl<'data, I: Cursor> Model for UnmarkedBoundaries<'data, I> {
-    ghost use Rattle.seg_text.specs.Boundaries.{Remainder, offsets};
-    ghost use Rattle.seg_text.specs.Cuts.{with_status};
+    ghost use Rattle.seg_text.specs.Boundaries.{Remainder, offsets, with_status};
 
     ghost Value = { Remainder };
 

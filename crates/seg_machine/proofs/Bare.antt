@@ -6,9 +6,8 @@ use Rattle.std.proofs.lemmas.Bool.{both_ways}
 use Rattle.seg_data.proofs.Options.{option-cases}
 use Rattle.seg_machine.specs.Machine.{Machine, MachineTailoring, IsTextSymbol, with_tailoring, symbol_count, step, run, scan, state_after_ends, state_at}
 use Rattle.seg_machine.specs.Pick.{pick, HasStall, IsStallFree}
-use Rattle.seg_machine.specs.MachineFaults.{HasEndCycle}
+use Rattle.seg_machine.specs.MachineFaults.{HasEndCycle, HasTextSymbols, IsChecked}
 use Rattle.seg_machine.specs.Search.{bare}
-use Rattle.seg_machine.specs.Checked.{HasTextSymbols, IsChecked}
 use Rattle.seg_machine.proofs.Walks.{walk-next, walk-end}
 
 abbrev plain : Machine → Machine

@@ -5,13 +5,11 @@ use Rattle.std.specs.Prelude.{⊤}
 use Rattle.std.specs.Iterator.{MakesProgress, item_count}
 use Rattle.seg_text.specs.Items.{Item, Text, start_of, rest_after, code_points}
 use Rattle.seg_text.specs.declared.boundary.Boundary.{Boundary}
-use Rattle.seg_text.specs.Boundaries.{Remainder, boundary, boundary_in, offsets, offsets_left}
-use Rattle.seg_text.specs.Stretches.{Stretch, remainder}
+use Rattle.seg_text.specs.Boundaries.{Remainder, boundary, boundary_in, offsets, offsets_left, Stretch, remainder}
 use Rattle.seg_text.proofs.Cursors.{fewer-left}
 use Rattle.seg_text.proofs.Stretches.{text-later-nil, text-later-next}
 use Rattle.seg_machine.specs.Machine.{Machine, symbols_of}
-use Rattle.seg_machine.specs.Pick.{pick}
-use Rattle.seg_machine.specs.Segments.{machine_stretch}
+use Rattle.seg_machine.specs.Pick.{pick, machine_stretch}
 use Rattle.seg_machine.proofs.Segmentations.{machine-picks, machine-going}
 
 -- what a call owes that gives a boundary: it was the first that was left, and has its status

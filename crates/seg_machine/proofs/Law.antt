@@ -8,11 +8,10 @@ use Rattle.std.proofs.lemmas.Bool.{cases_lt, cases_eq, cond-true, cond-false, ne
 use Rattle.std.proofs.lemmas.Option.{none-some, same_Some, slice_get_within}
 use Rattle.seg_machine.specs.declared.provider.Acceptance.{Acceptance}
 use Rattle.seg_machine.specs.declared.provider.Acceptance.TheVariants.{Continue, Accept, Conditional}
-use Rattle.seg_machine.specs.Checked.{IsChecked}
+use Rattle.seg_machine.specs.MachineFaults.{IsChecked}
 use Rattle.seg_machine.specs.Machine.{Machine, IsTextSymbol, step, run, scan}
-use Rattle.seg_machine.specs.Pick.{later, last_step, acceptance_status, naming, condition, first_condition, pick}
+use Rattle.seg_machine.specs.Pick.{later, last_step, acceptance_status, naming, condition, first_condition, pick, AcceptsAt, NamesAt, HoldsAt, IsFirstHeld, NoneHolds, IsLastAccepted, IsPick}
 use Rattle.seg_machine.specs.Scan.{entries}
-use Rattle.seg_machine.specs.Law.{AcceptsAt, NamesAt, HoldsAt, IsFirstHeld, NoneHolds, IsLastAccepted, IsPick}
 use Rattle.seg_machine.proofs.Scanned.{first_condition-none, first_condition-some, first_condition-nil, run-more}
 
 -- the states before a seam, and the one behind it

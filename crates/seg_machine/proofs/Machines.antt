@@ -17,8 +17,7 @@ use Rattle.seg_machine.specs.declared.provider.Acceptance.{Acceptance}
 use Rattle.seg_machine.specs.declared.provider.Acceptance.TheVariants.{Continue, Accept, Conditional}
 use Rattle.seg_machine.specs.Machine.{Machine, MachineTailoring, Replacement, replaced, with_tailoring, IsSymbolOf, IsTextSymbol, symbol_and_script, symbol_count, step, state_at}
 use Rattle.seg_machine.specs.Pick.{IsStallFree}
-use Rattle.seg_machine.specs.MachineFaults.{HasMachineFault, HasEndCycle, IsStray, IsStrayReplacement, NamesPast}
-use Rattle.seg_machine.specs.Checked.{IsChecked}
+use Rattle.seg_machine.specs.MachineFaults.{HasMachineFault, HasEndCycle, IsStray, IsStrayReplacement, NamesPast, IsChecked}
 use Rattle.seg_machine.specs.Search.{IsBounded, bare}
 use Rattle.seg_machine.proofs.Transitions.{step-within}
 use Rattle.seg_machine.proofs.Walks.{ends-from}

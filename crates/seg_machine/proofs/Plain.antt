@@ -7,8 +7,8 @@ use Rattle.seg_text.specs.Items.{Text, code_points, start_of, rest_after}
 use Rattle.seg_machine.specs.declared.provider.Acceptance.{Acceptance}
 use Rattle.seg_machine.specs.declared.provider.Acceptance.TheVariants.{Continue, Accept, Conditional}
 use Rattle.seg_machine.specs.Machine.{Machine, symbols_of, step, state_at}
-use Rattle.seg_machine.specs.Checked.{IsChecked}
-use Rattle.seg_machine.specs.Scan.{condition_end, acceptance_after, future, places_after, IsAhead, Scanned}
+use Rattle.seg_machine.specs.MachineFaults.{IsChecked}
+use Rattle.seg_machine.specs.Scan.{condition_end, acceptance_after, future, places_after, IsSymbolAhead, Scanned}
 use Rattle.seg_machine.specs.Pick.{pick}
 use Rattle.seg_machine.proofs.Scanned.{BeginsBy, scanned-start, turn, turn-stop}
 
@@ -54,14 +54,14 @@ plain-turn m text state left last symbol rest to next place entry last-after che
 pub record IsRead (m : Machine) (text : Text) (state symbol : ℕ) (after : Text) (last : Option Boundary) (stood : ℕ) : Type 0 where
   pub left : Text
   pub scanned : Scanned m text state left [] last
-  pub ahead : IsAhead m left symbol after
+  pub ahead : IsSymbolAhead m left symbol after
   pub here : stood ≡ start_of left
 
 -- the states that are still to come then
 abbrev pub come : Machine → ℕ → ℕ → Text → List ℕ
 come m state symbol after = option_map_or {T = ℕ} {U = List ℕ} (λ next. next ∷ future m next after) (step m state symbol) []
 
-pub read-start : (m : Machine) (text : Text) (symbol : ℕ) (after : Text) → IsChecked m → m.num_lookaheads ≡ 0 → IsAhead m text symbol after
+pub read-start : (m : Machine) (text : Text) (symbol : ℕ) (after : Text) → IsChecked m → m.num_lookaheads ≡ 0 → IsSymbolAhead m text symbol after
     → IsRead m text 0 symbol after None (start_of text)
 read-start m text symbol after checked plain ahead = record {
   left = text;
@@ -78,17 +78,17 @@ read-stop m text state symbol after last stood to read value none =
 
 pub read-at : (m : Machine) (text : Text) (state symbol : ℕ) (after : Text) (last : Option Boundary) (stood : ℕ)
     → IsRead m text state symbol after last stood
-    → (k : ℕ) × (stood ≡ start_of (rest_after k text)) × IsAhead m (rest_after k text) symbol after
+    → (k : ℕ) × (stood ≡ start_of (rest_after k text)) × IsSymbolAhead m (rest_after k text) symbol after
 read-at m text state symbol after last stood read = (
   length read.scanned.entered,
   read.here ∙ ap start_of read.scanned.rest,
-  subst (λ (left : Text). IsAhead m left symbol after) read.scanned.rest read.ahead,
+  subst (λ (left : Text). IsSymbolAhead m left symbol after) read.scanned.rest read.ahead,
 )
 
 pub read-turn : (m : Machine) (text : Text) (state symbol : ℕ) (after : Text) (last : Option Boundary) (stood : ℕ)
     (to : Option ℕ) (next place : ℕ) (entry : Acceptance × Option ℕ) (last-after : Option Boundary) (then : ℕ) (rest : Text)
     → IsChecked m → IsRead m text state symbol after last stood → to ≡ step m state symbol → to ≡ Some next → next < length m.states
-    → place ≡ start_of after → entry ≡ state_at m next → last-after ≡ acceptance_after place entry last → IsAhead m after then rest
+    → place ≡ start_of after → entry ≡ state_at m next → last-after ≡ acceptance_after place entry last → IsSymbolAhead m after then rest
     → IsRead m text next then rest last-after place
 read-turn m text state symbol after last stood to next place entry last-after then rest checked read value leads bound p e l ahead = record {
   left = after;
@@ -98,7 +98,7 @@ read-turn m text state symbol after last stood to next place entry last-after th
 }
 
 pub read-smaller : (m : Machine) (state symbol : ℕ) (after : Text) (to : Option ℕ) (next then : ℕ) (rest : Text)
-    → to ≡ step m state symbol → to ≡ Some next → next < length m.states → IsAhead m after then rest
+    → to ≡ step m state symbol → to ≡ Some next → next < length m.states → IsSymbolAhead m after then rest
     → length (come m next then rest) < length (come m state symbol after)
 read-smaller m state symbol after to next then rest value leads bound ahead =
     let later : length (come m next then rest) ≡ length (future m next after) = ap length (sym (ahead.begins next bound)) in

@@ -7,9 +7,8 @@ use Rattle.std.proofs.lemmas.List.Elements.{All-push, All-contains, Contains-app
 use Rattle.seg_data.specs.declared.provider.ComplexScript.{ComplexScript}
 use Rattle.seg_data.specs.declared.provider.ComplexScript.TheVariants.{None as NoScript}
 use Rattle.seg_data.proofs.Anywhere.{contained-any}
-use Rattle.seg_machine.specs.Machine.{Replacement, replaced}
+use Rattle.seg_machine.specs.Machine.{Replacement, replaced, ArePlaced, placed_at}
 use Rattle.seg_machine.specs.MachineFaults.{HasTwice, NamesEnd}
-use Rattle.seg_machine.specs.Replacements.{ArePlaced, placed_at}
 
 -- the symbols that are replaced
 abbrev pub sources : List Replacement → List ℕ

@@ -12,8 +12,7 @@ use Rattle.seg_machine.specs.declared.provider.Acceptance.{Acceptance}
 use Rattle.seg_machine.specs.declared.provider.Acceptance.TheVariants.{Continue, Accept, Conditional}
 use Rattle.seg_machine.specs.Machine.{Machine, symbol_and_script, symbols_of, step, run, scan, state_at}
 use Rattle.seg_machine.specs.Pick.{last_step, acceptance_status, naming, condition, first_condition, picked_step, pick}
-use Rattle.seg_machine.specs.Checked.{IsChecked}
-use Rattle.seg_machine.specs.MachineFaults.{NamesPast}
+use Rattle.seg_machine.specs.MachineFaults.{IsChecked, NamesPast}
 use Rattle.seg_machine.proofs.Machines.{past-fewer}
 use Rattle.seg_machine.proofs.Segmentations.{symbols_of-text}
 use Rattle.seg_machine.specs.Scan.{future, entries, place_for, condition_end, acceptance_after, places_after, Remembered, Scanned}

@@ -5,11 +5,10 @@ use Rattle.std.specs.Option.{option_map_or}
 use Rattle.std.proofs.lemmas.Bool.{false≢true}
 use Rattle.std.proofs.lemmas.List.{get_or-map, length-map}
 use Rattle.seg_text.specs.declared.boundary.Boundary.{Boundary}
-use Rattle.seg_text.specs.Stretches.{Stretch, HasProgress, HasEndAlone, IsWithin}
+use Rattle.seg_text.specs.Boundaries.{Stretch, HasProgress, HasEndAlone, IsWithin}
 use Rattle.seg_machine.specs.Machine.{Machine, IsTextSymbol, symbol_and_script, symbols_of}
-use Rattle.seg_machine.specs.Pick.{pick}
-use Rattle.seg_machine.specs.Segments.{machine_stretch}
-use Rattle.seg_machine.specs.Checked.{IsChecked}
+use Rattle.seg_machine.specs.Pick.{pick, machine_stretch}
+use Rattle.seg_machine.specs.MachineFaults.{IsChecked}
 use Rattle.seg_machine.proofs.Picks.{pick-bounds}
 
 -- the symbols of code points are symbols of a text

@@ -1,13 +1,8 @@
 pub mod Machine
-pub mod Replacements
 pub mod Pick
-pub mod Segments
 pub mod MachineFaults
-pub mod Checked
 pub mod Search
-pub mod Unaligned
-pub mod Tailored
 pub mod Scan
-pub mod Law
+pub mod Tailored
 pub mod Rows
 pub mod Lemmas

@@ -1,5 +1,5 @@
 -- State machines over the symbols of code points.
-use Rattle.std.specs.Prelude.{ℕ, zero, suc, ◌+◌, ◌-◌, ◌*◌, ◌/◌, ◌<◌, ◌==◌, nat_lt, if◌then◌else◌, Option, Some, None, List, [], ◌∷◌, ◌++◌, length, map, replicate, slice_index, slice_index_or}
+use Rattle.std.specs.Prelude.{ℕ, zero, suc, ◌+◌, ◌-◌, ◌*◌, ◌/◌, ◌<◌, ◌==◌, nat_lt, if◌then◌else◌, Option, Some, None, List, [], ◌∷◌, ◌++◌, length, map, replicate, slice_index, slice_index_or, ◌≡◌}
 use Rattle.std.specs.Option.{option_map_or, option_and_then}
 use Rattle.seg_data.specs.declared.provider.ComplexScript.{ComplexScript}
 use Rattle.seg_data.specs.declared.provider.ComplexScript.TheVariants.{None as NoScript}
@@ -102,3 +102,30 @@ state_after_ends m state (suc steps) = option_and_then (λ next. state_after_end
 -- what a state accepts and names
 unfoldable pub state_at : Machine → ℕ → Acceptance × Option ℕ
 state_at m state = slice_index_or m.states state (Continue, None)
+
+-- What is in the place of symbols.
+
+-- what the table has at a symbol
+abbrev pub placed_at : List (ℕ × ComplexScript) → ℕ → ℕ × ComplexScript
+placed_at table symbol = slice_index_or table symbol (0, NoScript)
+
+-- symbol 0 stands for none
+abbrev pub shown_at : List (ℕ × ComplexScript) → ℕ → ℕ × ComplexScript
+shown_at table symbol = if (placed_at table symbol).0 == 0 then (symbol, NoScript) else placed_at table symbol
+
+-- the table has for each symbol what replaces it
+abbrev pub ArePlaced : List Replacement → List (ℕ × ComplexScript) → Type 0
+ArePlaced entries table = (symbol : ℕ) → symbol < 256 → replaced entries symbol ≡ shown_at table symbol
+
+-- what a tailoring, if there is one, puts in the place of symbols
+abbrev pub replacements_of : Option MachineTailoring → List Replacement
+replacements_of None = []
+replacements_of (Some t) = t.symbol_map
+
+-- the machine with this map of pseudo symbols, and with the symbols that a tailoring replaces, if there is one
+abbrev pub with_parts : Machine → List (ℕ × ComplexScript) → Option MachineTailoring → Machine
+with_parts m map replacing = with_tailoring m (Some (tailoring map (replacements_of replacing)))
+
+-- below this value nothing is a pseudo symbol or replaced
+abbrev pub ArePlainBelow : Machine → ℕ → Type 0
+ArePlainBelow m end = (value : ℕ) → value < end → (value < m.pseudo_symbol_shift) × (replaced m.symbol_map value ≡ (value, NoScript))

@@ -1,13 +1,13 @@
 -- The faults of machines and of their tailorings.
-use Rattle.std.specs.Prelude.{◌≡◌, ◌≢◌, ℕ, ◌+◌, ◌*◌, ◌<◌, ◌≤◌, ◌⊎◌, suc, Option, Some, List, [], ◌∷◌, length, map, IsSomeAnd, Any, Contains}
+use Rattle.std.specs.Prelude.{◌≡◌, ◌≢◌, ℕ, ◌+◌, ◌*◌, ◌<◌, ◌≤◌, ◌⊎◌, suc, Option, Some, List, [], ◌∷◌, length, map, IsSomeAnd, Any, Contains, replicate, IfSome}
 use Rattle.seg_data.specs.declared.provider.DataError.{DataError}
 use Rattle.seg_data.specs.declared.provider.DataError.TheVariants.{StateCount, TransitionSize, TransitionOutOfRange, SymbolOutOfRange, TooManyLookaheads, LookaheadOutOfRange, EndCycle, Stalls}
 use Rattle.seg_data.specs.declared.provider.ComplexScript.TheVariants.{None as NoScript}
 use Rattle.seg_data.specs.Table.{named_values}
 use Rattle.seg_machine.specs.declared.provider.Acceptance.{Acceptance}
 use Rattle.seg_machine.specs.declared.provider.Acceptance.TheVariants.{Continue, Accept, Conditional}
-use Rattle.seg_machine.specs.Machine.{Machine, MachineTailoring, Replacement, IsSymbolOf, IsTextSymbol, with_tailoring, symbol_and_script, symbol_count, state_after_ends}
-use Rattle.seg_machine.specs.Pick.{HasStall}
+use Rattle.seg_machine.specs.Machine.{Machine, MachineTailoring, Replacement, IsSymbolOf, IsTextSymbol, with_tailoring, symbol_and_script, symbol_count, state_after_ends, step, run, state_at}
+use Rattle.seg_machine.specs.Pick.{HasStall, IsStallFree}
 
 -- of so many symbols, with this shift and so many entries of the map, a value gives no symbol of a text
 abbrev pub IsStray : ℕ → ℕ → ℕ → ℕ → Type 0
@@ -81,3 +81,22 @@ HasTailoringFault m _ _ = ⊥
 -- a code point below U+0100, which Latin-1 has too, has a script
 abbrev pub HasComplexBelow0100 : Machine → Type 0
 HasComplexBelow0100 m = (code_point : ℕ) × (code_point < 0x100) × ((symbol_and_script m code_point).1 ≢ NoScript)
+
+-- What a checked machine keeps.
+
+-- each code point has a symbol of a text
+abbrev pub HasTextSymbols : Machine → Type 0
+HasTextSymbols m = (code_point : ℕ) → IsTextSymbol m (symbol_and_script m code_point).0
+
+pub record IsChecked (m : Machine) : Type 0 where
+  pub some_state : 0 < length m.states
+  pub few_states : length m.states ≤ 255
+  pub text_symbols : HasTextSymbols m
+  -- a step leads to a state
+  pub in_range : (state symbol : ℕ) → state < length m.states → symbol < symbol_count m → IfSome (step m state symbol) (λ next. next < length m.states)
+  -- there are at most 8 lookaheads, and each that a state names or asks for is one of them
+  pub few_lookaheads : m.num_lookaheads ≤ 8
+  pub lookaheads : (state : ℕ) → NamesPast m.num_lookaheads (state_at m state) → ⊥
+  -- symbol 0 goes round in no cycle: it leads on less often than there are states
+  pub ends : (state : ℕ) → state < length m.states → length (run m state (replicate (length m.states) 0)) < length m.states
+  pub stall_free : IsStallFree m

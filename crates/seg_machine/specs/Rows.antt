@@ -5,15 +5,15 @@ use Rattle.seg_machine.specs.declared.provider.Acceptance.{Acceptance}
 use Rattle.seg_machine.specs.declared.provider.Acceptance.TheVariants.{Continue, Accept, Conditional}
 use Rattle.seg_machine.specs.Machine.{Machine, machine}
 use Rattle.seg_text.specs.declared.boundary.Boundary.{Boundary}
-use Rattle.seg_machine.specs.Segments.{machine_boundaries}
+use Rattle.seg_machine.specs.Pick.{machine_boundaries}
 
 -- each code point has symbol 1; the transitions are those on symbol 0, state by state, and then those on symbol 1
 abbrev pub small : List (Acceptance × Option ℕ) → List ℕ → Machine
 small states transitions = machine (table [] 1) states transitions 1 5 []
 
 -- the boundaries of so many letters
-abbrev pub boundaries_of : Machine → ℕ → List Boundary
-boundaries_of m n = machine_boundaries m (replicate n 0x61)
+abbrev pub letter_boundaries : Machine → ℕ → List Boundary
+letter_boundaries m n = machine_boundaries m (replicate n 0x61)
 
 -- each letter names lookahead 0, and the end enters a condition on it
 abbrev pub condition_at_end : Machine

@@ -1,12 +1,12 @@
 -- What a scan keeps as it reads a text.
-use Rattle.std.specs.Prelude.{◌≡◌, ℕ, ◌<◌, ◌≤◌, Option, Some, None, List, [], ◌∷◌, ◌++◌, map, length, replicate, slice_set, slice_index_or}
+use Rattle.std.specs.Prelude.{◌≡◌, ℕ, ◌<◌, ◌≤◌, Option, Some, None, List, [], ◌∷◌, ◌++◌, map, length, replicate, slice_set, slice_index_or, ◌+◌, ◌*◌, ◌/◌, ◌%◌, ◌==◌, if◌then◌else◌}
 use Rattle.std.specs.Option.{option_map, option_map_or, option_or}
 use Rattle.seg_text.specs.declared.boundary.Boundary.{Boundary}
 use Rattle.seg_text.specs.Boundaries.{boundary, boundary_in}
 use Rattle.seg_text.specs.Items.{Text, code_points, start_of, rest_after}
 use Rattle.seg_machine.specs.Machine.{Machine, symbols_of, symbol_count, step, run, scan, state_at}
 use Rattle.seg_machine.specs.declared.provider.Acceptance.{Acceptance}
-use Rattle.seg_machine.specs.declared.provider.Acceptance.TheVariants.{Conditional}
+use Rattle.seg_machine.specs.declared.provider.Acceptance.TheVariants.{Conditional, Continue, Accept}
 use Rattle.seg_machine.specs.Pick.{acceptance_status, naming, last_step, first_condition, pick}
 
 -- the states that are still to come, from a state and what is left of the text
@@ -62,7 +62,7 @@ pub record Scanned
 
 -- the symbol of a text's first item, or that of the end, and what is left after that item: what is to come from any state
 -- begins with the step on it
-pub record IsAhead (m : Machine) (text : Text) (symbol : ℕ) (after : Text) : Type 0 where
+pub record IsSymbolAhead (m : Machine) (text : Text) (symbol : ℕ) (after : Text) : Type 0 where
   pub below : symbol < symbol_count m
   pub begins :
       (state : ℕ) → state < length m.states
@@ -73,3 +73,24 @@ pub record IsAhead (m : Machine) (text : Text) (symbol : ℕ) (after : Text) : T
 abbrev pub IsSegment : Machine → Text → Text → ℕ → Type 0
 IsSegment m text left status =
     (p : Boundary) × (pick m (symbols_of m (code_points text.items)) ≡ Some p) × (status ≡ p.status) × (left ≡ rest_after p.offset text)
+
+-- What states accept, as bytes: a condition's lookahead or 31 in the high five bits, a status in the low three.
+
+-- what a byte stands for
+abbrev pub acceptance_of : ℕ → Acceptance
+acceptance_of byte =
+    if byte / 8 == 31
+    then (if byte % 8 == 7 then Continue else Accept (byte % 8))
+    else Conditional (byte / 8) (byte % 8)
+
+-- the byte that stands for it
+abbrev pub byte_of : Acceptance → ℕ
+byte_of Continue = 255
+byte_of (Accept status) = 248 + status
+byte_of (Conditional lookahead status) = lookahead * 8 + status
+
+-- a byte stands for it
+abbrev pub HasByte : Acceptance → Type 0
+HasByte Continue = Unit {0}
+HasByte (Accept status) = status < 7
+HasByte (Conditional lookahead status) = (lookahead < 31) × (status < 8)

@@ -1,7 +1,6 @@
 -- What is seen of machines with their tailorings.
 use Rattle.std.specs.Option.{option_map}
-use Rattle.seg_machine.specs.Machine.{Machine, with_tailoring}
-use Rattle.seg_machine.specs.Replacements.{with_parts}
+use Rattle.seg_machine.specs.Machine.{Machine, with_tailoring, with_parts}
 use Rattle.seg_machine.specs.declared.tailored_machine.TailoredMachine.{TailoredMachine}
 use Rattle.seg_machine.specs.declared.tailored_machine.TailoredMachineBorrowed.{TailoredMachineBorrowed}
 

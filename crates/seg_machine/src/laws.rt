@@ -1,9 +1,8 @@
 //! Laws of picks.
 ghost use Rattle.std.specs.Prelude.{◌≡◌, ◌↔◌, ℕ, ◌+◌, Some, List, [], ◌∷◌, ◌++◌, length, replicate, All};
 ghost use Rattle.seg_machine.specs.Machine.{IsTextSymbol, run, scan};
-ghost use Rattle.seg_machine.specs.Pick.{pick};
-ghost use Rattle.seg_machine.specs.Law.{IsPick};
-ghost use Rattle.seg_machine.specs.Rows.{boundaries_of, condition_at_end, condition_on_own_name, accepted_two_past_end, accepted_from_start, start_accepts, named_past_end};
+ghost use Rattle.seg_machine.specs.Pick.{pick, IsPick};
+ghost use Rattle.seg_machine.specs.Rows.{letter_boundaries, condition_at_end, condition_on_own_name, accepted_two_past_end, accepted_from_start, start_accepts, named_past_end};
 ghost use Rattle.seg_machine.specs.Scan.{entries};
 ghost use Rattle.seg_machine.specs.Tailored.{machine_of};
 ghost use Rattle.seg_text.specs.Boundaries.{boundary};
@@ -23,12 +22,12 @@ pub fn picks_are_first_or_last(machine: TailoredMachineBorrowed<'_>)
 
 /// Law: the boundaries that small machines find.
 pub fn small_machines_find()
-    ensures condition_at_end { boundaries_of condition_at_end 3 ≡ boundary 0 0 ∷ boundary 3 1 ∷ [] }
-    ensures own_name_one { boundaries_of condition_on_own_name 1 ≡ boundary 0 0 ∷ boundary 1 0 ∷ [] }
-    ensures own_name_two { boundaries_of condition_on_own_name 2 ≡ boundary 0 0 ∷ boundary 1 1 ∷ boundary 2 0 ∷ [] }
-    ensures own_name_three { boundaries_of condition_on_own_name 3 ≡ boundary 0 0 ∷ boundary 1 1 ∷ boundary 2 1 ∷ boundary 3 0 ∷ [] }
-    ensures two_past_end { boundaries_of accepted_two_past_end 2 ≡ boundary 0 0 ∷ boundary 2 0 ∷ [] }
-    ensures from_start { boundaries_of accepted_from_start 3 ≡ boundary 0 0 ∷ boundary 3 0 ∷ [] }
-    ensures start { boundaries_of start_accepts 3 ≡ boundary 0 0 ∷ boundary 3 0 ∷ [] }
-    ensures named_past_end { boundaries_of named_past_end 2 ≡ boundary 0 0 ∷ boundary 2 1 ∷ [] }
+    ensures condition_at_end { letter_boundaries condition_at_end 3 ≡ boundary 0 0 ∷ boundary 3 1 ∷ [] }
+    ensures own_name_one { letter_boundaries condition_on_own_name 1 ≡ boundary 0 0 ∷ boundary 1 0 ∷ [] }
+    ensures own_name_two { letter_boundaries condition_on_own_name 2 ≡ boundary 0 0 ∷ boundary 1 1 ∷ boundary 2 0 ∷ [] }
+    ensures own_name_three { letter_boundaries condition_on_own_name 3 ≡ boundary 0 0 ∷ boundary 1 1 ∷ boundary 2 1 ∷ boundary 3 0 ∷ [] }
+    ensures two_past_end { letter_boundaries accepted_two_past_end 2 ≡ boundary 0 0 ∷ boundary 2 0 ∷ [] }
+    ensures from_start { letter_boundaries accepted_from_start 3 ≡ boundary 0 0 ∷ boundary 3 0 ∷ [] }
+    ensures start { letter_boundaries start_accepts 3 ≡ boundary 0 0 ∷ boundary 3 0 ∷ [] }
+    ensures named_past_end { letter_boundaries named_past_end 2 ≡ boundary 0 0 ∷ boundary 2 1 ∷ [] }
 {}

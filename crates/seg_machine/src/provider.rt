@@ -1,6 +1,6 @@
 //! State machines and their tailorings, each checked once, where it is made.
 ghost use Rattle.std.specs.Prelude.{◌≡◌};
-ghost use Rattle.seg_machine.specs.Unaligned.{HasByte, acceptance_of, byte_of};
+ghost use Rattle.seg_machine.specs.Scan.{HasByte, acceptance_of, byte_of};
 
 mod checks;
 mod cycles;

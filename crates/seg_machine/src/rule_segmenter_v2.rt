@@ -8,10 +8,9 @@ ghost use Rattle.seg_text.specs.declared.boundary.Boundary.{Boundary as AnyBound
 ghost use Rattle.seg_text.specs.Boundaries.{GivesNext, IsCover, boundaries_in, boundary_in, offsets_left};
 ghost use Rattle.seg_machine.specs.MachineFaults.{NamesPast};
 ghost use Rattle.seg_machine.specs.Machine.{symbols_of};
-ghost use Rattle.seg_machine.specs.Pick.{pick};
-ghost use Rattle.seg_machine.specs.Segments.{machine_boundaries};
+ghost use Rattle.seg_machine.specs.Pick.{pick, machine_boundaries};
 ghost use Rattle.seg_machine.specs.Tailored.{machine_of};
-ghost use Rattle.seg_machine.specs.Scan.{acceptance_after, condition_end, places_after, IsAhead, IsSegment};
+ghost use Rattle.seg_machine.specs.Scan.{acceptance_after, condition_end, places_after, IsSymbolAhead, IsSegment};
 
 use crate::provider::{Acceptance, Lookahead, SegmenterStateMachine, Symbol};
 use crate::tailored_machine::TailoredMachineBorrowed;
@@ -38,17 +37,16 @@ pub struct RuleBreakIterator<'data, I: Cursor> {
 impl<'data, I: Cursor> Model for RuleBreakIterator<'data, I> {
     ghost use Rattle.std.specs.Prelude.{◌≡◌, false};
     ghost use Rattle.seg_machine.specs.Tailored.{machine_of};
-    ghost use Rattle.seg_text.specs.Boundaries.{Remainder};
-    ghost use Rattle.seg_text.specs.Stretches.{remainder};
-    ghost use Rattle.seg_machine.specs.Scan.{IsAhead};
-    ghost use Rattle.seg_machine.specs.Segments.{machine_stretch};
+    ghost use Rattle.seg_text.specs.Boundaries.{Remainder, remainder};
+    ghost use Rattle.seg_machine.specs.Scan.{IsSymbolAhead};
+    ghost use Rattle.seg_machine.specs.Pick.{machine_stretch};
 
     ghost Value = { Remainder };
 
     ghost view = { λ s. remainder s.started (machine_stretch (machine_of s.machine)) (I.text s.rest) s.status };
 
     ghost invariant = { λ s. (s.started ≡ false → s.status ≡ 0)
-        × IsAhead (machine_of s.machine) (I.text s.rest) s.first (I.text s.ahead) };
+        × IsSymbolAhead (machine_of s.machine) (I.text s.rest) s.first (I.text s.ahead) };
 }
 
 impl<'data, I: Cursor> RuleBreakIterator<'data, I> {
@@ -143,9 +141,9 @@ fn next_segment<I: Cursor>(
     ahead: &mut I,
 ) -> u8
     requires some { (I.text rest.old).items ≢ [] }
-    requires ahead { IsAhead (machine_of machine.now) (I.text rest.old) first.old (I.text ahead.old) }
+    requires ahead { IsSymbolAhead (machine_of machine.now) (I.text rest.old) first.old (I.text ahead.old) }
     ensures segment { IsSegment (machine_of machine.now) (I.text rest.old) (I.text rest.new) result }
-    ensures ahead { IsAhead (machine_of machine.now) (I.text rest.new) first.new (I.text ahead.new) }
+    ensures ahead { IsSymbolAhead (machine_of machine.now) (I.text rest.new) first.new (I.text ahead.new) }
 {
     machine.facts();
     if machine.num_lookaheads() != 0 {
@@ -170,7 +168,7 @@ fn next_kept_segment<I: Cursor>(
 ) -> u8
     requires { (I.text rest.old).items ≢ [] }
     ensures segment { IsSegment (machine_of machine.now) (I.text rest.old) (I.text rest.new) result }
-    ensures ahead { IsAhead (machine_of machine.now) (I.text rest.new) first.new (I.text ahead.new) }
+    ensures ahead { IsSymbolAhead (machine_of machine.now) (I.text rest.new) first.new (I.text ahead.new) }
 {
     machine.facts();
     let Some(found) = scan(machine, rest) else {
@@ -189,7 +187,7 @@ fn read_first<I: Cursor>(
     first: &mut Symbol,
     ahead: &mut I,
 )
-    ensures { IsAhead (machine_of machine.now) (I.text rest.now) first.new (I.text ahead.new) }
+    ensures { IsSymbolAhead (machine_of machine.now) (I.text rest.now) first.new (I.text ahead.new) }
 {
     *ahead = rest.fork();
     *first = next_symbol(machine, ahead);
@@ -229,11 +227,11 @@ fn scan_plain<I: Cursor>(
     ahead: &mut I,
 ) -> (Option<Boundary>, usize)
     requires plain { (machine_of machine.now).num_lookaheads ≡ 0 }
-    requires ahead { IsAhead (machine_of machine.now) (I.text rest.now) first.old (I.text ahead.old) }
+    requires ahead { IsSymbolAhead (machine_of machine.now) (I.text rest.now) first.old (I.text ahead.old) }
     ensures pick { result.0 ≡ option_map (boundary_in (I.text rest.now))
         (pick (machine_of machine.now) (symbols_of (machine_of machine.now) (code_points (I.text rest.now).items))) }
     ensures stood { (k : ℕ) × (result.1 ≡ start_of (rest_after k (I.text rest.now)))
-        × IsAhead (machine_of machine.now) (rest_after k (I.text rest.now)) first.new (I.text ahead.new) }
+        × IsSymbolAhead (machine_of machine.now) (rest_after k (I.text rest.now)) first.new (I.text ahead.new) }
 {
     machine.facts();
     let mut last: Option<Boundary> = None;
@@ -260,7 +258,7 @@ fn scan_plain<I: Cursor>(
 /// The symbol of the next item; after the last one that of the end, as often as it is asked for.
 #[inline(always)]
 fn next_symbol<I: Cursor>(machine: &TailoredMachineBorrowed<'_>, iter: &mut I) -> Symbol
-    ensures { IsAhead (machine_of machine.now) (I.text iter.old) result (I.text iter.new) }
+    ensures { IsSymbolAhead (machine_of machine.now) (I.text iter.old) result (I.text iter.new) }
 {
     machine.facts();
     match iter.next_item() {

@@ -2,10 +2,8 @@
 ghost use Rattle.std.specs.Prelude.{◌≡◌, ◌↔◌, ℕ, ◌<◌, IsTrue, IfOk, IfErr, IfSome, Some, length};
 ghost use Rattle.std.specs.Option.{option_map};
 ghost use Rattle.seg_data.specs.Faults.{IsFaultless, IsLowestFault};
-ghost use Rattle.seg_machine.specs.Checked.{HasTextSymbols, IsChecked};
-ghost use Rattle.seg_machine.specs.MachineFaults.{HasComplexBelow0100, HasTailoringFault};
-ghost use Rattle.seg_machine.specs.Machine.{IsTextSymbol, replaced, state_at, step, symbol_and_script, symbol_count, with_tailoring};
-ghost use Rattle.seg_machine.specs.Replacements.{ArePlainBelow, replacements_of, with_parts};
+ghost use Rattle.seg_machine.specs.MachineFaults.{HasTextSymbols, IsChecked, HasComplexBelow0100, HasTailoringFault};
+ghost use Rattle.seg_machine.specs.Machine.{IsTextSymbol, replaced, state_at, step, symbol_and_script, symbol_count, with_tailoring, ArePlainBelow, replacements_of, with_parts};
 
 use crate::provider::{
     Acceptance, Lookahead, SegmenterStateMachine, SegmenterStateMachineOverride, State, Symbol,

@@ -12,9 +12,8 @@ use Rattle.seg_memo.specs.declared.configuration.Configuration.{Configuration}
 use Rattle.seg_memo.specs.declared.configuration.LookUp.TheVariants.{Leads, Ends}
 use Rattle.seg_memo.specs.declared.configuration.Outcome.TheVariants.{Nothing}
 use Rattle.seg_memo.specs.declared.table.Table.{Table}
-use Rattle.seg_memo.specs.Configurations.{Subject, configuration, reading, subject}
-use Rattle.seg_memo.specs.Outcomes.{look_up}
-use Rattle.seg_memo.specs.Grids.{GoesOn, IsAhead, IsAt, IsReadBy, IsWithin, StandsAt}
+use Rattle.seg_memo.specs.Configurations.{Subject, configuration, reading, subject, look_up}
+use Rattle.seg_memo.specs.Grids.{GoesOverItems, IsKeptSymbol, IsAt, IsReadBy, IsConfigurationOf, CursorStandsAt}
 use Rattle.seg_memo.proofs.Following.{leads-within}
 use Rattle.seg_memo.proofs.Memoised.{symbols-drop}
 use Rattle.seg_memo.proofs.Moves.{goes-on}
@@ -24,19 +23,19 @@ use Rattle.seg_memo.proofs.Reading.{Read, value-none}
 
 -- the first symbol of what is left
 pub ahead-first : (s : Subject) (m : Machine) (text copy left : Text) (place symbol next : ℕ) → copy ≡ text → symbol ≡ slice_index_or s.symbols place 0 → next ≡ min (suc place) (length s.symbols)
-    → IsAt s m next left.items → GoesOn copy place left next → IsAhead s m text place place symbol left
+    → IsAt s m next left.items → GoesOverItems copy place left next → IsKeptSymbol s m text place place symbol left
 ahead-first s m text copy left place symbol next same symbol_is past here goes = record {
   symbol_is = symbol_is;
-  goes = subst (λ (x : Text). GoesOn x place left (min (suc place) (length s.symbols))) same (subst (GoesOn copy place left) past goes);
+  goes = subst (λ (x : Text). GoesOverItems x place left (min (suc place) (length s.symbols))) same (subst (GoesOverItems copy place left) past goes);
   rest = subst (λ (n : ℕ). IsAt s m n left.items) past here;
 }
 
 -- the next symbol of a scan
-pub ahead-next : (s : Subject) (m : Machine) (text left new : Text) (start place symbol after read next : ℕ) → IsAhead s m text start place symbol left → after ≡ min (suc place) (length s.symbols)
-    → read ≡ slice_index_or s.symbols after 0 → next ≡ min (suc after) (length s.symbols) → IsAt s m next new.items → GoesOn left after new next → IsAhead s m text start after read new
+pub ahead-next : (s : Subject) (m : Machine) (text left new : Text) (start place symbol after read next : ℕ) → IsKeptSymbol s m text start place symbol left → after ≡ min (suc place) (length s.symbols)
+    → read ≡ slice_index_or s.symbols after 0 → next ≡ min (suc after) (length s.symbols) → IsAt s m next new.items → GoesOverItems left after new next → IsKeptSymbol s m text start after read new
 ahead-next s m text left new start place symbol after read next ahead is symbol_is past here goes = record {
   symbol_is = symbol_is;
-  goes = goes-on text left new start after (min (suc after) (length s.symbols)) (subst (GoesOn text start left) (sym is) ahead.goes) (subst (GoesOn left after new) past goes);
+  goes = goes-on text left new start after (min (suc after) (length s.symbols)) (subst (GoesOverItems text start left) (sym is) ahead.goes) (subst (GoesOverItems left after new) past goes);
   rest = subst (λ (n : ℕ). IsAt s m n new.items) past here;
 }
 
@@ -53,8 +52,8 @@ segment-at s m text new start found here (p, picks, is, after) =
     ∙ ap (λ (n : ℕ). drop n s.symbols) (sym (ap (λ (x : Boundary). x.offset) is))
 
 -- there the symbol is that of the next segment
-pub segment-ahead : (s : Subject) (m : Machine) (text new left : Text) (start place symbol : ℕ) (found : Boundary) → IsAhead s m text start place symbol left → EndsAt s text new start found
-    → found.offset ≤ length s.symbols → found.offset ≡ place → IsAhead s m new found.offset found.offset symbol left
+pub segment-ahead : (s : Subject) (m : Machine) (text new left : Text) (start place symbol : ℕ) (found : Boundary) → IsKeptSymbol s m text start place symbol left → EndsAt s text new start found
+    → found.offset ≤ length s.symbols → found.offset ≡ place → IsKeptSymbol s m new found.offset found.offset symbol left
 segment-ahead s m text new left start place symbol found ahead (p, picks, is, after) within same =
     let offset : found.offset ≡ start + p.offset = ap (λ (x : Boundary). x.offset) is in
     let count = ahead.goes.0 in
@@ -72,27 +71,27 @@ segment-ahead s m text new left start place symbol found ahead (p, picks, is, af
 
 -- another reader's machine has the same symbols
 pub other-ahead : (m : Machine) (before after code_points : List ℕ) (text left : Text) (place symbol : ℕ)
-    → IsAhead (subject (reading m before) (symbols_of (reading m before) code_points)) m text place place symbol left → place ≡ 0
-    → IsAhead (subject (reading m after) (symbols_of (reading m after) code_points)) m text 0 0 symbol left
+    → IsKeptSymbol (subject (reading m before) (symbols_of (reading m before) code_points)) m text place place symbol left → place ≡ 0
+    → IsKeptSymbol (subject (reading m after) (symbols_of (reading m after) code_points)) m text 0 0 symbol left
 unfolding symbol_and_script
 other-ahead m before after code_points text left place symbol ahead none =
     let s = subject (reading m after) (symbols_of (reading m after) code_points) in
-    subst (λ (n : ℕ). IsAhead s m text n n symbol left) none (record { symbol_is = ahead.symbol_is; goes = ahead.goes; rest = ahead.rest })
+    subst (λ (n : ℕ). IsKeptSymbol s m text n n symbol left) none (record { symbol_is = ahead.symbol_is; goes = ahead.goes; rest = ahead.rest })
 
 own-ahead : (m : Machine) (transitions code_points : List ℕ) (text left : Text) (symbol : ℕ)
-    → IsAhead (subject m (symbols_of m code_points)) m text 0 0 symbol left
-    → IsAhead (subject (reading m transitions) (symbols_of (reading m transitions) code_points)) m text 0 0 symbol left
+    → IsKeptSymbol (subject m (symbols_of m code_points)) m text 0 0 symbol left
+    → IsKeptSymbol (subject (reading m transitions) (symbols_of (reading m transitions) code_points)) m text 0 0 symbol left
 unfolding symbol_and_script
 own-ahead m transitions code_points text left symbol ahead = record { symbol_is = ahead.symbol_is; goes = ahead.goes; rest = ahead.rest }
 
 -- the first symbol of a whole text, of which there are two copies
 pub made-ahead : (m : Machine) (transitions : List ℕ) (text copy rest left : Text) (symbol next : ℕ) → copy ≡ text → rest ≡ text
     → let s = subject m (symbols_of m (code_points copy.items)) in
-    symbol ≡ slice_index_or s.symbols 0 0 → next ≡ min (suc 0) (length s.symbols) → IsAt s m next left.items → GoesOn copy 0 left next
-    → IsAhead (subject (reading m transitions) (symbols_of (reading m transitions) (code_points text.items))) m rest 0 0 symbol left
+    symbol ≡ slice_index_or s.symbols 0 0 → next ≡ min (suc 0) (length s.symbols) → IsAt s m next left.items → GoesOverItems copy 0 left next
+    → IsKeptSymbol (subject (reading m transitions) (symbols_of (reading m transitions) (code_points text.items))) m rest 0 0 symbol left
 made-ahead m transitions text copy rest left symbol next copies same symbol_is past here goes =
     own-ahead m transitions (code_points text.items) rest left symbol
-    (subst (λ (x : Text). IsAhead (subject m (symbols_of m (code_points x.items))) m rest 0 0 symbol left) copies
+    (subst (λ (x : Text). IsKeptSymbol (subject m (symbols_of m (code_points x.items))) m rest 0 0 symbol left) copies
     (ahead-first (subject m (symbols_of m (code_points copy.items))) m rest copy left 0 symbol next (copies ∙ sym same) symbol_is past here goes))
 
 -- a reading by a machine without lookaheads
@@ -101,7 +100,7 @@ pub still-read : (s : Subject) (m : Machine) (states after : ℕ) (transitions l
 still-read s m states after transitions later read same unchanged = rw (same, unchanged) read
 
 pub in-hand : (s : Subject) (m : Machine) (states : ℕ) (transitions : List ℕ) (t : Table) (text left : Text) (start state place symbol next counted : ℕ) (last : Option Boundary)
-    → IsReadBy s m states transitions → Turn s t start (configuration state place 0) last counted → IsAhead s m text start place symbol left → next ≡ slice_index transitions (state + symbol * states)
+    → IsReadBy s m states transitions → Turn s t start (configuration state place 0) last counted → IsKeptSymbol s m text start place symbol left → next ≡ slice_index transitions (state + symbol * states)
     → Read s m (configuration state place 0) states transitions symbol next
 in-hand s m states transitions t text left start state place symbol next counted last read turn ahead is = record {
   sound = turn.table.fit.sound;
@@ -113,7 +112,7 @@ in-hand s m states transitions t text left start state place symbol next counted
 
 -- it comes to nothing
 pub stops : (s : Subject) (m : Machine) (states : ℕ) (transitions : List ℕ) (t : Table) (text left : Text) (start state place symbol next counted : ℕ) (last : Option Boundary)
-    → IsReadBy s m states transitions → Turn s t start (configuration state place 0) last counted → IsAhead s m text start place symbol left → next ≡ slice_index transitions (state + symbol * states)
+    → IsReadBy s m states transitions → Turn s t start (configuration state place 0) last counted → IsKeptSymbol s m text start place symbol left → next ≡ slice_index transitions (state + symbol * states)
     → next ≡ 255 → look_up s (configuration state place 0) ≡ Ends Nothing
 stops s m states transitions t text left start state place symbol next counted last read turn ahead is none =
     sym (value-none s m (configuration state place 0) states transitions symbol next (in-hand s m states transitions t text left start state place symbol next counted last read turn ahead is) none)
@@ -121,10 +120,10 @@ stops s m states transitions t text left start state place symbol next counted l
 -- it leads on
 pub record Comes (s : Subject) (here next : Configuration) : Type 0 where
   pub leads : look_up s here ≡ Leads next
-  pub within : IsWithin s next
+  pub within : IsConfigurationOf s next
 
 pub comes : (s : Subject) (m : Machine) (states : ℕ) (transitions : List ℕ) (t : Table) (text left : Text) (start state place symbol next after counted : ℕ) (last : Option Boundary) → s.machine.num_lookaheads ≡ 0
-    → IsReadBy s m states transitions → Turn s t start (configuration state place 0) last counted → IsAhead s m text start place symbol left → after ≡ min (suc place) (length s.symbols)
+    → IsReadBy s m states transitions → Turn s t start (configuration state place 0) last counted → IsKeptSymbol s m text start place symbol left → after ≡ min (suc place) (length s.symbols)
     → next ≡ slice_index transitions (state + symbol * states) → (next ≡ 255 → ⊥) → Comes s (configuration state place 0) (configuration next after 0)
 comes s m states transitions t text left start state place symbol next after counted last plain read turn ahead past is some =
     let r = in-hand s m states transitions t text left start state place symbol next counted last read turn ahead is in
@@ -135,13 +134,13 @@ comes s m states transitions t text left start state place symbol next after cou
 pub turn-same : (s : Subject) (t after : Table) (start : ℕ) (here : Configuration) (last later : Option Boundary) (counted : ℕ) → Turn s t start here last counted → after ≡ t → later ≡ last → Turn s after start here later counted
 turn-same s t after start here last later counted turn same is = rw (same, is) turn
 
-pub stands-same : (text : Text) (start stood place : ℕ) (last later : Option Boundary) → StandsAt text start (floor start last) stood → later ≡ last → place ≡ stood → StandsAt text start (floor start later) place
+pub stands-same : (text : Text) (start stood place : ℕ) (last later : Option Boundary) → CursorStandsAt text start (floor start last) stood → later ≡ last → place ≡ stood → CursorStandsAt text start (floor start later) place
 stands-same text start stood place last later stands is same = rw (is, same) stands
 
-pub goes-after : (s : Subject) (m : Machine) (text left : Text) (start place symbol after : ℕ) → IsAhead s m text start place symbol left → after ≡ min (suc place) (length s.symbols) → GoesOn text start left after
-goes-after s m text left start place symbol after ahead is = subst (GoesOn text start left) (sym is) ahead.goes
+pub goes-after : (s : Subject) (m : Machine) (text left : Text) (start place symbol after : ℕ) → IsKeptSymbol s m text start place symbol left → after ≡ min (suc place) (length s.symbols) → GoesOverItems text start left after
+goes-after s m text left start place symbol after ahead is = subst (GoesOverItems text start left) (sym is) ahead.goes
 
-pub starts-ahead : (s : Subject) (m : Machine) (text left : Text) (start place symbol : ℕ) → IsAhead s m text start start symbol left → place ≡ start → IsAhead s m text start place symbol left
+pub starts-ahead : (s : Subject) (m : Machine) (text left : Text) (start place symbol : ℕ) → IsKeptSymbol s m text start start symbol left → place ≡ start → IsKeptSymbol s m text start place symbol left
 starts-ahead s m text left start place symbol ahead is = rw is ahead
 
 pub starts-after : (place start size : ℕ) → place ≡ start → start < size → place + 1 ≡ min (suc place) size

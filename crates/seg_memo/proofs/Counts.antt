@@ -6,7 +6,7 @@ use Rattle.seg_memo.specs.declared.configuration.Configuration.{Configuration}
 use Rattle.seg_memo.specs.declared.configuration.Cell.{Cell}
 use Rattle.seg_memo.specs.declared.configuration.Cell.TheVariants.{Unknown}
 use Rattle.seg_memo.specs.Configurations.{Subject}
-use Rattle.seg_memo.specs.Grids.{IsWithin, IsOn, number, has_number, count_below, is_filled, is_filled_at, filled}
+use Rattle.seg_memo.specs.Grids.{IsConfigurationOf, IsOn, number, has_number, count_below, is_filled, is_filled_at, filled_count}
 use Rattle.seg_memo.proofs.Numbers.{number-same}
 
 -- tests that agree count the same
@@ -54,7 +54,7 @@ fills-same cells k x below full = ap is_filled (get_or-set_same cells k x Unknow
 pub fills-other : (cells : List Cell) (k i : ℕ) (x : Cell) → i ≢ k → is_filled_at (set cells k x) i ≡ is_filled_at cells i
 fills-other cells k i x other = ap is_filled (get_or-set_other cells k i x Unknown other)
 
-pub filled-mark : (cells : List Cell) (k : ℕ) (x : Cell) → k < length cells → is_filled_at cells k ≡ false → is_filled x ≡ true → filled (set cells k x) ≡ suc (filled cells)
+pub filled-mark : (cells : List Cell) (k : ℕ) (x : Cell) → k < length cells → is_filled_at cells k ≡ false → is_filled x ≡ true → filled_count (set cells k x) ≡ suc (filled_count cells)
 filled-mark cells k x below off full =
     ap (count_below (is_filled_at (set cells k x))) (length-set cells k x)
     ∙ count-more (is_filled_at cells) (is_filled_at (set cells k x)) (length cells) k below off (fills-same cells k x below full) (λ i other. fills-other cells k i x other)
@@ -66,7 +66,7 @@ stays-filled cells k i x below on full =
       | inr other ↦ fills-other cells k i x other
     ]
 
-pub filled-stays : (cells : List Cell) (k : ℕ) (x : Cell) → k < length cells → is_filled_at cells k ≡ true → is_filled x ≡ true → filled (set cells k x) ≡ filled cells
+pub filled-stays : (cells : List Cell) (k : ℕ) (x : Cell) → k < length cells → is_filled_at cells k ≡ true → is_filled x ≡ true → filled_count (set cells k x) ≡ filled_count cells
 filled-stays cells k x below on full =
     ap (count_below (is_filled_at (set cells k x))) (length-set cells k x)
     ∙ count-same (is_filled_at (set cells k x)) (is_filled_at cells) (length cells) (λ i less. stays-filled cells k i x below on full)
@@ -119,9 +119,9 @@ has-on s c (d ∷ cs) on =
     ]
 
 abbrev pub AreWithin : Subject → List Configuration → Type 0
-AreWithin s cs = (d : Configuration) → IsOn d cs → IsWithin s d
+AreWithin s cs = (d : Configuration) → IsOn d cs → IsConfigurationOf s d
 
-pub on-has : (s : Subject) (c : Configuration) (cs : List Configuration) → IsWithin s c → AreWithin s cs → has_number s (number s c) cs ≡ true → IsOn c cs
+pub on-has : (s : Subject) (c : Configuration) (cs : List Configuration) → IsConfigurationOf s c → AreWithin s cs → has_number s (number s c) cs ≡ true → IsOn c cs
 on-has s c [] inside within has = absurd (false≢true (sym (has-nil s (number s c)) ∙ has))
 on-has s c (d ∷ cs) inside within has =
     elim (or-cases (number s d == number s c) (has_number s (number s c) cs) (sym (has-cons s (number s c) d cs) ∙ has)) [

@@ -3,7 +3,7 @@ use Rattle.std.proofs.Common.{◌≡◌, ◌≢◌, ℕ, suc, ◌≤◌, ◌⊎�
 use Rattle.std.proofs.lemmas.Bool.{cases_eq, cases_Bool, ne_eqb, false≢true}
 use Rattle.seg_memo.specs.declared.configuration.Configuration.{Configuration}
 use Rattle.seg_memo.specs.Configurations.{AreLookedUp, Subject, all_look_ups, configuration, configurations, different, is_in, is_same}
-use Rattle.seg_memo.specs.Grids.{Grid, IsMemo, IsWithin, count_below, filled, has_number, is_filled_at, number}
+use Rattle.seg_memo.specs.Grids.{Grid, IsMemo, IsConfigurationOf, count_below, filled_count, has_number, is_filled_at, number}
 use Rattle.seg_memo.proofs.Numbers.{number-below, number-same}
 use Rattle.seg_memo.proofs.Counts.{AreWithin, count-bound, count-more, count-none, count-same, eqb-true, has-cons, has-nil}
 use Rattle.seg_memo.proofs.Scanning.{all-within}
@@ -27,7 +27,7 @@ same-is : (c : Configuration) → is_same c c ≡ true
 same-is c = rw (eq-eqb c.state c.state refl, eq-eqb c.place c.place refl, eq-eqb c.kept c.kept refl) refl
 
 -- they are the same just where their numbers are
-same-numbers : (s : Subject) (c d : Configuration) → IsWithin s c → IsWithin s d → is_same c d ≡ (number s c == number s d)
+same-numbers : (s : Subject) (c d : Configuration) → IsConfigurationOf s c → IsConfigurationOf s d → is_same c d ≡ (number s c == number s d)
 same-numbers s c d inside within =
     elim (cases_eq (number s c) (number s d)) [
       | inl equal ↦
@@ -40,7 +40,7 @@ same-numbers s c d inside within =
           ]
     ]
 
-in-has : (s : Subject) (c : Configuration) (cs : List Configuration) → IsWithin s c → AreWithin s cs → is_in c cs ≡ has_number s (number s c) cs
+in-has : (s : Subject) (c : Configuration) (cs : List Configuration) → IsConfigurationOf s c → AreWithin s cs → is_in c cs ≡ has_number s (number s c) cs
 unfolding is_in has_number
 in-has s c [] inside within = refl
 in-has s c (d ∷ cs) inside within =
@@ -90,7 +90,7 @@ different-count s (c ∷ cs) within =
         has (has-own s c cs) (λ i other. has-other s c cs i other))
 
 -- the filled cells are those of the different look-ups
-pub looked-up : (s : Subject) (g : Grid) (place counted : ℕ) → IsMemo s g place → counted ≡ filled g.cells → AreLookedUp s place counted
+pub looked-up : (s : Subject) (g : Grid) (place counted : ℕ) → IsMemo s g place → counted ≡ filled_count g.cells → AreLookedUp s place counted
 looked-up s g place counted memo count = (
   memo.starts,
   memo.are,
@@ -101,8 +101,8 @@ looked-up s g place counted memo count = (
       ∙ sym (different-count s (all_look_ups s memo.starts) (all-within s memo.starts place memo.table.fit.sound memo.are memo.within)),
 )
 
-pub memo-bound : (s : Subject) (g : Grid) (place counted items : ℕ) → IsMemo s g place → counted ≡ filled g.cells → length s.symbols ≡ items → counted ≤ configurations s.machine items
+pub memo-bound : (s : Subject) (g : Grid) (place counted items : ℕ) → IsMemo s g place → counted ≡ filled_count g.cells → length s.symbols ≡ items → counted ≤ configurations s.machine items
 memo-bound s g place counted items memo count long =
-    let most : filled g.cells ≤ length g.cells = count-bound (is_filled_at g.cells) (length g.cells) in
+    let most : filled_count g.cells ≤ length g.cells = count-bound (is_filled_at g.cells) (length g.cells) in
     let size : length g.cells ≡ configurations s.machine items = memo.table.fit.size ∙ ap (configurations s.machine) long in
     omega (arith, count, most, size)

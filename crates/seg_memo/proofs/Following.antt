@@ -10,17 +10,15 @@ use Rattle.seg_text.specs.Boundaries.{boundary}
 use Rattle.seg_machine.specs.declared.provider.Acceptance.{Acceptance}
 use Rattle.seg_machine.specs.declared.provider.Acceptance.TheVariants.{Continue, Accept, Conditional}
 use Rattle.seg_machine.specs.Machine.{Machine, step, run, state_at}
-use Rattle.seg_machine.specs.MachineFaults.{NamesPast}
+use Rattle.seg_machine.specs.MachineFaults.{NamesPast, IsChecked}
 use Rattle.seg_machine.specs.Search.{keep}
-use Rattle.seg_machine.specs.Checked.{IsChecked}
 use Rattle.seg_machine.proofs.Scanned.{run-more}
 use Rattle.seg_memo.specs.declared.configuration.Configuration.{Configuration}
 use Rattle.seg_memo.specs.declared.configuration.Outcome.{Outcome}
 use Rattle.seg_memo.specs.declared.configuration.Outcome.TheVariants.{Nothing, Picked, Kept}
 use Rattle.seg_memo.specs.declared.configuration.LookUp.TheVariants.{Ends, Leads}
-use Rattle.seg_memo.specs.Configurations.{Subject, configuration, following, condition_held, entering, look_ups_on, look_ups}
-use Rattle.seg_memo.specs.Outcomes.{entered, at, outcome, outcome_at, arrival, look_up}
-use Rattle.seg_memo.specs.Grids.{IsSound, IsWithin}
+use Rattle.seg_memo.specs.Configurations.{Subject, configuration, following, condition_held, entering, look_ups_on, look_ups, entered, at, outcome, outcome_at, arrival, look_up}
+use Rattle.seg_memo.specs.Grids.{IsSound, IsConfigurationOf}
 
 -- a configuration comes after another
 pub record Follows (s : Subject) (before after : Configuration) : Type 0 where
@@ -55,7 +53,7 @@ begins-end s c checked state here =
     (sym (run-more s.machine (length s.machine.states) c.state (checked.ends c.state state))
     ∙ run-cons s.machine c.state 0 (replicate (length s.machine.states) 0))
 
-begins : (s : Subject) (c : Configuration) → IsChecked s.machine → IsWithin s c → BeginsBy s c (get_or s.symbols c.place 0)
+begins : (s : Subject) (c : Configuration) → IsChecked s.machine → IsConfigurationOf s c → BeginsBy s c (get_or s.symbols c.place 0)
 begins s c checked within =
     elim (cases_lt c.place (length s.symbols)) [
       | inl less ↦ begins-item s c less
@@ -64,10 +62,10 @@ begins s c checked within =
           rw (get_or_past s.symbols c.place 0 past) (begins-end s c checked within.state here)
     ]
 
-follows-none : (s : Subject) (c : Configuration) → IsChecked s.machine → IsWithin s c → step s.machine c.state (get_or s.symbols c.place 0) ≡ None → following s c ≡ []
+follows-none : (s : Subject) (c : Configuration) → IsChecked s.machine → IsConfigurationOf s c → step s.machine c.state (get_or s.symbols c.place 0) ≡ None → following s c ≡ []
 follows-none s c checked within none = begins s c checked within ∙ rw none refl
 
-follows-some : (s : Subject) (c d : Configuration) → IsChecked s.machine → IsWithin s c → step s.machine c.state (get_or s.symbols c.place 0) ≡ Some d.state
+follows-some : (s : Subject) (c d : Configuration) → IsChecked s.machine → IsConfigurationOf s c → step s.machine c.state (get_or s.symbols c.place 0) ≡ Some d.state
     → d.place ≡ min (suc c.place) (length s.symbols) → following s c ≡ d.state ∷ following s d
 unfolding following
 follows-some s c d checked within some place = begins s c checked within ∙ rw (some, place) refl
@@ -235,30 +233,30 @@ keep-below m kept next checked small = on (state_at m next) (checked.lookaheads 
         ]
 
 -- it leads on to a configuration of the text
-pub step-within : (s : Subject) (c : Configuration) (next : ℕ) → IsSound s → IsWithin s c → step s.machine c.state (get_or s.symbols c.place 0) ≡ Some next
+pub step-within : (s : Subject) (c : Configuration) (next : ℕ) → IsSound s → IsConfigurationOf s c → step s.machine c.state (get_or s.symbols c.place 0) ≡ Some next
     → next < length s.machine.states
 step-within s c next sound within is =
     subst (λ (found : Option ℕ). IfSome found (λ n. n < length s.machine.states)) is (sound.checked.in_range c.state (get_or s.symbols c.place 0) within.state (sound.own c.place))
 
-pub leads-within : (s : Subject) (c d : Configuration) → IsSound s → IsWithin s c → look_up s c ≡ Leads d → IsWithin s d
+pub leads-within : (s : Subject) (c d : Configuration) → IsSound s → IsConfigurationOf s c → look_up s c ≡ Leads d → IsConfigurationOf s d
 leads-within s c d sound within is = on (step s.machine c.state (get_or s.symbols c.place 0)) refl
   where
-    over : (next : ℕ) → step s.machine c.state (get_or s.symbols c.place 0) ≡ Some next → (held : Option (ℕ × ℕ)) → condition_held c.kept (state_at s.machine next) ≡ held → IsWithin s d
+    over : (next : ℕ) → step s.machine c.state (get_or s.symbols c.place 0) ≡ Some next → (held : Option (ℕ × ℕ)) → condition_held c.kept (state_at s.machine next) ≡ held → IsConfigurationOf s d
     over next some (Some f) holds = let never : Ends (Kept f.0 f.1) ≡ Leads d = sym (look-up-held s c next f some holds) ∙ is in cc
     over next some None free =
         let same : Leads (entering s c next) ≡ Leads d = sym (look-up-leads s c next some free) ∙ is in
         let one : entering s c next ≡ d = cc in
-        subst (IsWithin s) one (record {
+        subst (IsConfigurationOf s) one (record {
           state = step-within s c next sound within some;
           place = omega arith;
           kept = keep-below s.machine c.kept next sound.checked within.kept;
         })
 
-    on : (found : Option ℕ) → step s.machine c.state (get_or s.symbols c.place 0) ≡ found → IsWithin s d
+    on : (found : Option ℕ) → step s.machine c.state (get_or s.symbols c.place 0) ≡ found → IsConfigurationOf s d
     on None none = let never : Ends Nothing ≡ Leads d = sym (look-up-none s c none) ∙ is in cc
     on (Some next) some = over next some (condition_held c.kept (state_at s.machine next)) refl
 
-pub leads : (s : Subject) (c d : Configuration) → IsSound s → IsWithin s c → look_up s c ≡ Leads d → Follows s c d
+pub leads : (s : Subject) (c d : Configuration) → IsSound s → IsConfigurationOf s c → look_up s c ≡ Leads d → Follows s c d
 leads s c d sound within is = on (step s.machine c.state (get_or s.symbols c.place 0)) refl
   where
     over : (next : ℕ) → step s.machine c.state (get_or s.symbols c.place 0) ≡ Some next → (held : Option (ℕ × ℕ)) → condition_held c.kept (state_at s.machine next) ≡ held → Follows s c d
@@ -277,7 +275,7 @@ pub record IsLast (s : Subject) (c : Configuration) (o : Outcome) : Type 0 where
   pub outcome_is : outcome_at s c ≡ o
   pub alone : look_ups s c ≡ c ∷ []
 
-pub ends : (s : Subject) (c : Configuration) (o : Outcome) → IsSound s → IsWithin s c → look_up s c ≡ Ends o → IsLast s c o
+pub ends : (s : Subject) (c : Configuration) (o : Outcome) → IsSound s → IsConfigurationOf s c → look_up s c ≡ Ends o → IsLast s c o
 ends s c o sound within is = on (step s.machine c.state (get_or s.symbols c.place 0)) refl
   where
     over : (next : ℕ) → step s.machine c.state (get_or s.symbols c.place 0) ≡ Some next → (held : Option (ℕ × ℕ)) → condition_held c.kept (state_at s.machine next) ≡ held → IsLast s c o
@@ -296,17 +294,17 @@ ends s c o sound within is = on (step s.machine c.state (get_or s.symbols c.plac
         record { outcome_is = outcome-none s c stops ∙ one; alone = look-ups-none s c stops }
     on (Some next) some = over next some (condition_held c.kept (state_at s.machine next)) refl
 
-pub outcome-leads : (s : Subject) (c d : Configuration) → IsSound s → IsWithin s c → look_up s c ≡ Leads d → outcome_at s c ≡ entered d.place (state_at s.machine d.state) (outcome_at s d)
+pub outcome-leads : (s : Subject) (c d : Configuration) → IsSound s → IsConfigurationOf s c → look_up s c ≡ Leads d → outcome_at s c ≡ entered d.place (state_at s.machine d.state) (outcome_at s d)
 outcome-leads s c d sound within is = outcome-follows s c d (leads s c d sound within is)
 
-pub look-ups-leads : (s : Subject) (c d : Configuration) → IsSound s → IsWithin s c → look_up s c ≡ Leads d → look_ups s c ≡ c ∷ look_ups s d
+pub look-ups-leads : (s : Subject) (c d : Configuration) → IsSound s → IsConfigurationOf s c → look_up s c ≡ Leads d → look_ups s c ≡ c ∷ look_ups s d
 look-ups-leads s c d sound within is = look-ups-follows s c d (leads s c d sound within is)
 
-pub states-lead : (s : Subject) (c d : Configuration) → IsSound s → IsWithin s c → look_up s c ≡ Leads d → following s c ≡ d.state ∷ following s d
+pub states-lead : (s : Subject) (c d : Configuration) → IsSound s → IsConfigurationOf s c → look_up s c ≡ Leads d → following s c ≡ d.state ∷ following s d
 states-lead s c d sound within is = (leads s c d sound within is).states
 
 -- fewer states come after it
-pub fewer : (s : Subject) (c d : Configuration) → IsSound s → IsWithin s c → look_up s c ≡ Leads d → length (following s d) < length (following s c)
+pub fewer : (s : Subject) (c d : Configuration) → IsSound s → IsConfigurationOf s c → look_up s c ≡ Leads d → length (following s d) < length (following s c)
 fewer s c d sound within is = let e : length (following s c) ≡ suc (length (following s d)) = ap length (states-lead s c d sound within is) in omega arith
 
 -- and no more than there are symbols to read

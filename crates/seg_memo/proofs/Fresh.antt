@@ -7,14 +7,13 @@ use Rattle.std.specs.Prelude.{vec_capacity}
 use Rattle.seg_text.specs.Items.{IsRising, Item, Text, code_points, start_of}
 use Rattle.seg_text.proofs.Hints.{items-few}
 use Rattle.seg_machine.specs.declared.provider.Acceptance.{Acceptance}
-use Rattle.seg_machine.specs.Checked.{IsChecked}
+use Rattle.seg_machine.specs.MachineFaults.{IsChecked}
 use Rattle.seg_machine.specs.Machine.{Machine, symbol_and_script, symbol_count, symbols_of}
 use Rattle.seg_memo.specs.declared.configuration.Cell.{Cell}
 use Rattle.seg_memo.specs.declared.configuration.Cell.TheVariants.{Unknown, First, Way, KnownNothing, KnownKept}
 use Rattle.seg_memo.specs.Configurations.{AreStarts, Subject, all_look_ups, configurations, reading, subject}
-use Rattle.seg_memo.specs.Grids.{Grid, IsFit, IsMemo, IsRight, IsSound, cell, filled, has_number, is_filled, is_filled_at, number}
+use Rattle.seg_memo.specs.Grids.{Grid, IsFit, IsMemo, IsRight, IsSound, cell, filled_count, has_number, is_filled, is_filled_at, number, Has, lost_at}
 use Rattle.seg_memo.specs.declared.table.Table.{Table}
-use Rattle.seg_memo.specs.Windows.{Has, lost_at}
 use Rattle.seg_memo.proofs.Counts.{count-none, has-nil}
 use Rattle.seg_memo.proofs.Scanning.{all-nil}
 use Rattle.seg_memo.proofs.Memoised.{symbols-length}
@@ -61,7 +60,7 @@ fresh-memo s g fit none = record {
       ∙ has-nil s i);
 }
 
-pub fresh-count : (cells : List Cell) (counted : ℕ) → ((i : ℕ) → is_filled_at cells i ≡ false) → counted ≡ 0 → counted ≡ filled cells
+pub fresh-count : (cells : List Cell) (counted : ℕ) → ((i : ℕ) → is_filled_at cells i ≡ false) → counted ≡ 0 → counted ≡ filled_count cells
 fresh-count cells counted none is = is ∙ sym (count-none (is_filled_at cells) (length cells) none)
 
 unknown-at : (n i : ℕ) → get_or (replicate n Unknown) i Unknown ≡ Unknown
@@ -125,7 +124,7 @@ other-memo m before after place text g memo is checked =
     })
     (first-unfilled old g first)
 
-pub other-count : (s : Subject) (g : Grid) (place counted : ℕ) → IsMemo s g place → place ≡ 0 → counted ≡ 0 → counted ≡ filled g.cells
+pub other-count : (s : Subject) (g : Grid) (place counted : ℕ) → IsMemo s g place → place ≡ 0 → counted ≡ 0 → counted ≡ filled_count g.cells
 other-count s g place counted memo is none = fresh-count g.cells counted (first-unfilled s g (subst (IsMemo s g) is memo)) none
 
 -- what a table keeps that has no cell yet

@@ -13,10 +13,8 @@ use Rattle.seg_memo.specs.declared.configuration.LookUp.TheVariants.{Ends, Leads
 use Rattle.seg_memo.specs.declared.configuration.Cell.{Cell}
 use Rattle.seg_memo.specs.declared.configuration.Cell.TheVariants.{Unknown, First, Way}
 use Rattle.seg_memo.specs.declared.table.Table.{Table}
-use Rattle.seg_memo.specs.Configurations.{Subject, start_at}
-use Rattle.seg_memo.specs.Outcomes.{entered, look_up}
-use Rattle.seg_memo.specs.Grids.{Grid, IsAt, IsBegun, IsMemo, IsReadBy, IsScanned, IsWithin, Walking, Went, cell, with_cell, holding, known, came_from, way_from}
-use Rattle.seg_memo.specs.Windows.{Has, IsHeld, IsPart, IsWindow, Keeps, late, lost_at, none}
+use Rattle.seg_memo.specs.Configurations.{Subject, start_at, entered, look_up}
+use Rattle.seg_memo.specs.Grids.{Grid, IsAt, IsFreshPlace, IsMemo, IsReadBy, IsScanned, IsConfigurationOf, IsUnderWay, Went, cell, with_cell, holding, known, came_from, way_from, Has, IsHeld, IsPart, IsWindow, Keeps, late, lost_at, none}
 use Rattle.seg_memo.proofs.Following.{leads}
 use Rattle.seg_memo.proofs.Scanning.{start-within}
 use Rattle.seg_memo.proofs.Segments.{Segment, segment-found, segment-memo}
@@ -36,12 +34,12 @@ IsRead s t place c x = (whole : Grid) → IsWindow s t place whole → x ≡ cel
 
 -- the configuration that a scan begins in
 pub first-there : (s : Subject) (t : Table) (place counted : ℕ) (first : Configuration) → Keeps s t place counted (λ whole. IsMemo s whole place) → first ≡ start_at place
-    → IsHeld s t place × (IsWithin s first × (place ≤ first.place))
+    → IsHeld s t place × (IsConfigurationOf s first × (place ≤ first.place))
 first-there s t place counted first k is =
     ((none, k.whole, k.window), rw is (start-within s place k.is.table.fit.sound k.is.within, omega arith))
 
 pub begins : (s : Subject) (t : Table) (place counted : ℕ) (first : Configuration) (x : Cell) (is_known : Option Outcome) → Keeps s t place counted (λ whole. IsMemo s whole place)
-    → place < length s.symbols → first ≡ start_at place → IsRead s t place first x → is_known ≡ known x → is_known ≡ None → Keeps s t place counted (IsBegun s place)
+    → place < length s.symbols → first ≡ start_at place → IsRead s t place first x → is_known ≡ known x → is_known ≡ None → Keeps s t place counted (IsFreshPlace s place)
 begins s t place counted first x is_known k some is read e none = record {
   whole = k.whole;
   window = k.window;
@@ -55,11 +53,11 @@ begins s t place counted first x is_known k some is read e none = record {
   };
 }
 
-pub keeps-memo : (s : Subject) (t : Table) (place counted : ℕ) → Keeps s t place counted (IsBegun s place) → Keeps s t place counted (λ whole. IsMemo s whole place)
+pub keeps-memo : (s : Subject) (t : Table) (place counted : ℕ) → Keeps s t place counted (IsFreshPlace s place) → Keeps s t place counted (λ whole. IsMemo s whole place)
 keeps-memo s t place counted k = record { whole = k.whole; window = k.window; count = k.count; is = k.is.memo }
 
-pub keeps-start : (s : Subject) (old new : Table) (place counted : ℕ) (first : Configuration) → Keeps s old place counted (IsBegun s place) → place < length s.symbols → first ≡ start_at place
-    → IsWritten s old new place first First → Keeps s new place (counted + 1) (λ whole. Walking s whole place first)
+pub keeps-start : (s : Subject) (old new : Table) (place counted : ℕ) (first : Configuration) → Keeps s old place counted (IsFreshPlace s place) → place < length s.symbols → first ≡ start_at place
+    → IsWritten s old new place first First → Keeps s new place (counted + 1) (λ whole. IsUnderWay s whole place first)
 keeps-start s old new place counted first k some is written =
     let unknown : cell s k.whole first ≡ Unknown = ap (cell s k.whole) is ∙ k.is.unknown in
     record {
@@ -70,8 +68,8 @@ keeps-start s old new place counted first k some is written =
     }
 
 -- a configuration that a scan comes to
-pub next-there : (s : Subject) (t : Table) (place counted : ℕ) (here next : Configuration) (found : LookUp) → Keeps s t place counted (λ whole. Walking s whole place here)
-    → found ≡ look_up s here → found ≡ Leads next → IsWithin s next → IsHeld s t place × (IsWithin s next × (place ≤ next.place))
+pub next-there : (s : Subject) (t : Table) (place counted : ℕ) (here next : Configuration) (found : LookUp) → Keeps s t place counted (λ whole. IsUnderWay s whole place here)
+    → found ≡ look_up s here → found ≡ Leads next → IsConfigurationOf s next → IsHeld s t place × (IsConfigurationOf s next × (place ≤ next.place))
 next-there s t place counted here next found k value is inside =
     let sound = k.is.table.fit.sound in
     let here-inside = walk-inside s k.whole place here k.is in
@@ -80,8 +78,8 @@ next-there s t place counted here next found k value is inside =
     ((none, k.whole, k.window), (inside, omega (arith, past, here-inside.place, on)))
 
 pub keeps-next : (s : Subject) (old new : Table) (place counted count : ℕ) (here next : Configuration) (found : LookUp) (x marked : Cell) (is_known : Option Outcome)
-    → Keeps s old place (counted + 1) (λ whole. Walking s whole place here) → found ≡ look_up s here → found ≡ Leads next → IsWithin s next → IsRead s old place next x → is_known ≡ known x
-    → is_known ≡ None → marked ≡ way_from here next → IsWritten s old new place next marked → count ≡ counted + 1 → Keeps s new place (count + 1) (λ whole. Walking s whole place next)
+    → Keeps s old place (counted + 1) (λ whole. IsUnderWay s whole place here) → found ≡ look_up s here → found ≡ Leads next → IsConfigurationOf s next → IsRead s old place next x → is_known ≡ known x
+    → is_known ≡ None → marked ≡ way_from here next → IsWritten s old new place next marked → count ≡ counted + 1 → Keeps s new place (count + 1) (λ whole. IsUnderWay s whole place next)
 keeps-next s old new place counted count here next found x marked is_known k value is inside read e none marks written counts = record {
   whole = with_cell s k.whole next marked;
   window = written k.whole k.window;
@@ -89,7 +87,7 @@ keeps-next s old new place counted count here next found x marked is_known k val
   is = turn-next s k.whole (with_cell s k.whole next marked) place here next found x marked is_known k.is value is inside (read k.whole k.window) e none marks refl;
 }
 
-pub keeps-ends : (s : Subject) (t : Table) (place counted count : ℕ) (here : Configuration) (found : LookUp) (o : Outcome) → Keeps s t place (counted + 1) (λ whole. Walking s whole place here)
+pub keeps-ends : (s : Subject) (t : Table) (place counted count : ℕ) (here : Configuration) (found : LookUp) (o : Outcome) → Keeps s t place (counted + 1) (λ whole. IsUnderWay s whole place here)
     → found ≡ look_up s here → found ≡ Ends o → count ≡ counted + 1 → Keeps s t place count (λ whole. Went s whole place here o)
 keeps-ends s t place counted count here found o k value is counts = record {
   whole = k.whole;
@@ -100,7 +98,7 @@ keeps-ends s t place counted count here found o k value is counts = record {
 
 pub keeps-known : (s : Subject) (m : Machine) (states : ℕ) (transitions : List ℕ) (t : Table) (place counted count : ℕ) (here next : Configuration) (found : LookUp) (x : Cell) (is_known : Option Outcome)
     (o result : Outcome) (entry : Acceptance × Option ℕ)
-    → Keeps s t place (counted + 1) (λ whole. Walking s whole place here) → IsReadBy s m states transitions → found ≡ look_up s here → found ≡ Leads next → IsWithin s next → IsRead s t place next x
+    → Keeps s t place (counted + 1) (λ whole. IsUnderWay s whole place here) → IsReadBy s m states transitions → found ≡ look_up s here → found ≡ Leads next → IsConfigurationOf s next → IsRead s t place next x
     → is_known ≡ known x → is_known ≡ Some o → entry ≡ state_at m next.state → result ≡ entered next.place entry o → count ≡ counted + 1 → Keeps s t place count (λ whole. Went s whole place here result)
 keeps-known s m states transitions t place counted count here next found x is_known o result entry k reads value is inside read e some entry_is result_is counts = record {
   whole = k.whole;
@@ -112,7 +110,7 @@ keeps-known s m states transitions t place counted count here next found x is_kn
 -- back
 
 pub back-there : (s : Subject) (t : Table) (place counted : ℕ) (here : Configuration) (o : Outcome) → Keeps s t place counted (λ whole. Went s whole place here o)
-    → IsHeld s t place × (IsWithin s here × (place ≤ here.place))
+    → IsHeld s t place × (IsConfigurationOf s here × (place ≤ here.place))
 back-there s t place counted here o k =
     ((none, k.whole, k.window), (way-inside s k.whole (start_at place) here k.is.path k.is.way, way-past s k.whole (start_at place) here k.is.path k.is.table.fit.sound k.is.way))
 

@@ -6,12 +6,10 @@ use Rattle.std.specs.Prelude.{⊤}
 use Rattle.std.specs.Iterator.{MakesProgress, item_count}
 use Rattle.seg_text.specs.Items.{Item, Text, code_points, rest_after, start_of}
 use Rattle.seg_text.specs.declared.boundary.Boundary.{Boundary}
-use Rattle.seg_text.specs.Boundaries.{boundary, shift}
-use Rattle.seg_text.specs.Stretches.{remainder}
+use Rattle.seg_text.specs.Boundaries.{boundary, shift, remainder}
 use Rattle.seg_text.proofs.Cursors.{fewer-left}
 use Rattle.seg_machine.specs.Machine.{Machine, symbol_and_script, symbols_of}
-use Rattle.seg_machine.specs.Pick.{pick}
-use Rattle.seg_machine.specs.Segments.{machine_stretch}
+use Rattle.seg_machine.specs.Pick.{pick, machine_stretch}
 use Rattle.seg_machine.proofs.Engine.{end-left, gives-next}
 use Rattle.seg_machine.proofs.Scanned.{after-after}
 use Rattle.seg_memo.specs.Configurations.{reading, subject}

@@ -3,10 +3,10 @@ use Rattle.std.proofs.Common.{◌≡◌, ℕ, suc, ◌+◌, ◌*◌, ◌^◌, �
 use Rattle.std.proofs.lemmas.Nat.{mul-add-lt, same_from_place, mul-le, pow_pos}
 use Rattle.seg_memo.specs.declared.configuration.Configuration.{Configuration}
 use Rattle.seg_memo.specs.Configurations.{Subject, configurations}
-use Rattle.seg_memo.specs.Grids.{Grid, IsWithin, IsSound, IsFit, number}
+use Rattle.seg_memo.specs.Grids.{Grid, IsConfigurationOf, IsSound, IsFit, number}
 
 -- it is a place of the table
-pub number-below : (s : Subject) (c : Configuration) → IsWithin s c → number s c < configurations s.machine (length s.symbols)
+pub number-below : (s : Subject) (c : Configuration) → IsConfigurationOf s c → number s c < configurations s.machine (length s.symbols)
 unfolding number
 number-below s c within =
     let m = s.machine in
@@ -21,7 +21,7 @@ same c d s p k =
     ∙ ap (λ (x : ℕ). let r : Configuration = record { state = d.state; place = d.place; kept = x } in r) k
 
 -- and no other's
-pub number-same : (s : Subject) (c d : Configuration) → IsWithin s c → IsWithin s d → number s c ≡ number s d → c ≡ d
+pub number-same : (s : Subject) (c d : Configuration) → IsConfigurationOf s c → IsConfigurationOf s d → number s c ≡ number s d → c ≡ d
 unfolding number
 number-same s c d inside within is =
     let states = same_from_place _ c.state _ d.state (length s.machine.states) inside.state within.state is in
@@ -34,16 +34,16 @@ unfolding number
 number-is s g c fit = rw (fit.states, fit.sets) refl
 
 -- it fits a word, and so do its parts
-pub number-fits : (s : Subject) (g : Grid) (c : Configuration) → IsFit s g → IsWithin s c → (c.place * g.sets + c.kept) * g.states + c.state < 2 ^ 64
+pub number-fits : (s : Subject) (g : Grid) (c : Configuration) → IsFit s g → IsConfigurationOf s c → (c.place * g.sets + c.kept) * g.states + c.state < 2 ^ 64
 number-fits s g c fit within = omega (arith, number-is s g c fit, number-below s c within, fit.sound.room)
 
-pub sets-fit : (s : Subject) (g : Grid) (c : Configuration) → IsFit s g → IsWithin s c → c.place * g.sets + c.kept < 2 ^ 64
+pub sets-fit : (s : Subject) (g : Grid) (c : Configuration) → IsFit s g → IsConfigurationOf s c → c.place * g.sets + c.kept < 2 ^ 64
 sets-fit s g c fit within =
     let some : 0 < g.states = rw fit.states fit.sound.checked.some_state in
     let more : (c.place * g.sets + c.kept) * 1 ≤ (c.place * g.sets + c.kept) * g.states = mul-le (c.place * g.sets + c.kept) 1 (c.place * g.sets + c.kept) g.states (omega arith) (omega (arith, some)) in
     omega (arith, more, number-fits s g c fit within)
 
-pub number-in : (s : Subject) (g : Grid) (c : Configuration) → IsFit s g → IsWithin s c → number s c < length g.cells
+pub number-in : (s : Subject) (g : Grid) (c : Configuration) → IsFit s g → IsConfigurationOf s c → number s c < length g.cells
 number-in s g c fit within = omega (arith, number-below s c within, fit.size)
 
 -- so does one place more than there are

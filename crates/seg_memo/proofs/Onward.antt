@@ -15,10 +15,8 @@ use Rattle.seg_memo.specs.declared.configuration.LookUp.TheVariants.{Ends, Leads
 use Rattle.seg_memo.specs.declared.configuration.Cell.{Cell}
 use Rattle.seg_memo.specs.declared.configuration.Cell.TheVariants.{Unknown, KnownNothing}
 use Rattle.seg_memo.specs.declared.table.Table.{Table}
-use Rattle.seg_memo.specs.Configurations.{Subject, start_at, following, look_ups, all_look_ups, AreStarts}
-use Rattle.seg_memo.specs.Outcomes.{outcome_at, look_up, picked}
-use Rattle.seg_memo.specs.Grids.{Grid, AreFilled, IsAt, IsFit, IsMemo, IsOn, IsReadBy, IsRight, IsScanned, IsTable, IsWithin, cell, with_cell, has_number, is_filled, filled, number}
-use Rattle.seg_memo.specs.Windows.{Has, IsHeld, IsPart, late}
+use Rattle.seg_memo.specs.Configurations.{Subject, start_at, following, look_ups, all_look_ups, AreStarts, outcome_at, look_up, picked}
+use Rattle.seg_memo.specs.Grids.{Grid, AreFilled, IsAt, IsFit, IsMemo, IsOn, IsReadBy, IsRight, IsScanned, IsRightFrom, IsConfigurationOf, cell, with_cell, has_number, is_filled, filled_count, number, Has, IsHeld, IsPart, late}
 use Rattle.seg_memo.proofs.Numbers.{number-in, number-same}
 use Rattle.seg_memo.proofs.Following.{ends, fewer, leads, look-ups-leads}
 use Rattle.seg_memo.proofs.Reading.{state-read}
@@ -41,7 +39,7 @@ missing s start lost i = late s start i || has_number s i lost
 
 -- a configuration that the scan looked up before another
 pub record Before (s : Subject) (here d : Configuration) : Type 0 where
-  pub within : IsWithin s d
+  pub within : IsConfigurationOf s d
   pub place : d.place ≤ here.place
   pub longer : length (following s here) ≤ length (following s d)
 
@@ -50,21 +48,21 @@ pub record Turn (s : Subject) (t : Table) (start : ℕ) (here : Configuration) (
   pub whole : Grid
   pub lost : List Configuration
   pub window : IsPart s t (floor start last) (missing s start lost) whole
-  pub count : counted ≡ filled whole.cells
+  pub count : counted ≡ filled_count whole.cells
   pub starts : List ℕ
   pub are : AreStarts s starts start
   pub some : start < length s.symbols
   pub path : List Configuration
-  pub table : IsTable s whole start (here ∷ path)
+  pub table : IsRightFrom s whole start (here ∷ path)
   pub filling : AreFilled s whole starts (here ∷ path)
-  pub within : IsWithin s here
+  pub within : IsConfigurationOf s here
   pub covers : (i : ℕ) → has_number s i (look_ups s (start_at start)) ≡ (has_number s i path || has_number s i (look_ups s here))
   pub before : (d : Configuration) → IsOn d (here ∷ path) → Before s here d
   pub lost_on : (d : Configuration) → IsOn d lost → IsOn d (here ∷ path)
   pub floor_past : start ≤ floor start last
   pub floor_before : floor start last ≤ here.place
   pub lost_before : (b : Boundary) → last ≡ Some b → (d : Configuration) → IsOn d lost → d.place ≤ b.offset
-  pub right : (b : Boundary) → last ≡ Some b → b.offset < length s.symbols → outcome_at s here ≡ Nothing → (c : Configuration) → b.offset ≤ c.place → IsWithin s c → IsRight s c (cell s whole c)
+  pub right : (b : Boundary) → last ≡ Some b → b.offset < length s.symbols → outcome_at s here ≡ Nothing → (c : Configuration) → b.offset ≤ c.place → IsConfigurationOf s c → IsRight s c (cell s whole c)
   pub is : outcome_at s (start_at start) ≡ later last (outcome_at s here)
   pub picks : outcome_at s (start_at start) ≡ Nothing → ⊥
 
@@ -108,7 +106,7 @@ late-past s place i is =
 
 -- what is lost doesn't matter where the segment ends
 window-end : (s : Subject) (t : Table) (start : ℕ) (lost : List Configuration) (whole : Grid) (place : ℕ) → start ≤ place
-    → ((d : Configuration) → IsOn d lost → IsWithin s d) → ((d : Configuration) → IsOn d lost → d.place ≤ place)
+    → ((d : Configuration) → IsOn d lost → IsConfigurationOf s d) → ((d : Configuration) → IsOn d lost → d.place ≤ place)
     → IsPart s t place (missing s start lost) whole → IsPart s t place (late s place) whole
 window-end s t start lost whole place past within before w = record {
   fit = w.fit;
@@ -144,14 +142,14 @@ window-lose s t start place lost whole c x w =
 
 -- the configuration that comes
 pub record Next (s : Subject) (start : ℕ) (here next : Configuration) (path : List Configuration) : Type 0 where
-  pub within : IsWithin s next
+  pub within : IsConfigurationOf s next
   pub place : next.place ≡ min (suc here.place) (length s.symbols)
   pub past : suc start ≤ next.place
   pub fewer : length (following s next) < length (following s here)
   pub off : IsOn next (here ∷ path) → ⊥
   pub look_ups_are : look_ups s here ≡ here ∷ look_ups s next
 
-pub next-is : (s : Subject) (t : Table) (start : ℕ) (here next : Configuration) (last : Option Boundary) (counted : ℕ) → (w : Turn s t start here last counted) → look_up s here ≡ Leads next → IsWithin s next
+pub next-is : (s : Subject) (t : Table) (start : ℕ) (here next : Configuration) (last : Option Boundary) (counted : ℕ) → (w : Turn s t start here last counted) → look_up s here ≡ Leads next → IsConfigurationOf s next
     → Next s start here next w.path
 next-is s t start here next last counted w is inside =
     let sound = w.table.fit.sound in
@@ -206,7 +204,7 @@ first-free s t start here next counted plain w n passes =
     unfilled (cell s w.whole next) (λ full. w.picks (w.is ∙ passes ∙ right-nothing s next (cell s w.whole next) plain (next-right s t start here next None counted w n) full))
 
 -- its cell holds from now on that nothing comes: it is right where nothing does
-write-right : (s : Subject) (g : Grid) (next c : Configuration) → IsFit s g → IsWithin s next → outcome_at s next ≡ Nothing → IsWithin s c → ((c ≡ next → ⊥) → IsRight s c (cell s g c))
+write-right : (s : Subject) (g : Grid) (next c : Configuration) → IsFit s g → IsConfigurationOf s next → outcome_at s next ≡ Nothing → IsConfigurationOf s c → ((c ≡ next → ⊥) → IsRight s c (cell s g c))
     → IsRight s c (cell s (with_cell s g next KnownNothing) c)
 write-right s g next c fit inside none within right =
     elim (cases_eq (number s c) (number s next)) [
@@ -226,7 +224,7 @@ record Step (s : Subject) (t : Table) (start : ℕ) (next : Configuration) (last
   pub floor_past : start ≤ floor start last
   pub floor_before : floor start last ≤ next.place
   pub lost_before : (b : Boundary) → last ≡ Some b → (d : Configuration) → IsOn d lost → d.place ≤ b.offset
-  pub right : (b : Boundary) → last ≡ Some b → b.offset < length s.symbols → outcome_at s next ≡ Nothing → (c : Configuration) → b.offset ≤ c.place → IsWithin s c
+  pub right : (b : Boundary) → last ≡ Some b → b.offset < length s.symbols → outcome_at s next ≡ Nothing → (c : Configuration) → b.offset ≤ c.place → IsConfigurationOf s c
       → IsRight s c (cell s (with_cell s whole next KnownNothing) c)
   pub is : outcome_at s (start_at start) ≡ later last (outcome_at s next)
 
@@ -286,7 +284,7 @@ offset-is a b is = let same : a ≡ b = cc in ap (λ (x : Boundary). x.offset) s
 
 -- a state accepts
 pub turn-accepts : (s : Subject) (t : Table) (start : ℕ) (here next : Configuration) (last : Option Boundary) (counted count status : ℕ) (name : Option ℕ) → IsPlain s
-    → Turn s t start here last counted → look_up s here ≡ Leads next → IsWithin s next → state_at s.machine next.state ≡ (Accept status, name) → count ≡ counted
+    → Turn s t start here last counted → look_up s here ≡ Leads next → IsConfigurationOf s next → state_at s.machine next.state ≡ (Accept status, name) → count ≡ counted
     → Turn s t start next (Some (boundary next.place status)) (count + 1)
 turn-accepts s t start here next last counted count status name plain w leads inside accepts counts =
     let n = next-is s t start here next last counted w leads inside in
@@ -318,7 +316,7 @@ turn-accepts s t start here next last counted count status name plain w leads in
 
 -- none did so far
 pub turn-first : (s : Subject) (t : Table) (start : ℕ) (here next : Configuration) (counted count : ℕ) → IsPlain s
-    → Turn s t start here None counted → look_up s here ≡ Leads next → IsWithin s next → ((status : ℕ) → (state_at s.machine next.state).0 ≡ Accept status → ⊥) → count ≡ counted
+    → Turn s t start here None counted → look_up s here ≡ Leads next → IsConfigurationOf s next → ((status : ℕ) → (state_at s.machine next.state).0 ≡ Accept status → ⊥) → count ≡ counted
     → Turn s t start next None (count + 1)
 turn-first s t start here next counted count plain w leads inside not counts =
     let n = next-is s t start here next None counted w leads inside in
@@ -351,7 +349,7 @@ next-kept s t start here next last counted w n =
 
 -- one did before, and the configuration wasn't looked up
 pub turn-marks : (s : Subject) (old new : Table) (start : ℕ) (here next : Configuration) (b : Boundary) (known : Bool) (counted count : ℕ) → IsPlain s
-    → Turn s old start here (Some b) counted → look_up s here ≡ Leads next → IsWithin s next → ((status : ℕ) → (state_at s.machine next.state).0 ≡ Accept status → ⊥)
+    → Turn s old start here (Some b) counted → look_up s here ≡ Leads next → IsConfigurationOf s next → ((status : ℕ) → (state_at s.machine next.state).0 ≡ Accept status → ⊥)
     → IsMark s old new b.offset next known → known ≡ false → count ≡ counted → Turn s new start next (Some b) (count + 1)
 turn-marks s old new start here next b known counted count plain w leads inside not mark unknown counts =
     let n = next-is s old start here next (Some b) counted w leads inside in
@@ -398,7 +396,7 @@ done s old new start here b counted count w window none filling counts = record 
     picked-offset found b is = let same : b ≡ found = cc in ap (λ (x : Boundary). x.offset) (sym same)
 
 pub turn-known : (s : Subject) (old new : Table) (start : ℕ) (here next : Configuration) (b : Boundary) (known : Bool) (counted count : ℕ) → IsPlain s
-    → Turn s old start here (Some b) counted → look_up s here ≡ Leads next → IsWithin s next → ((status : ℕ) → (state_at s.machine next.state).0 ≡ Accept status → ⊥)
+    → Turn s old start here (Some b) counted → look_up s here ≡ Leads next → IsConfigurationOf s next → ((status : ℕ) → (state_at s.machine next.state).0 ≡ Accept status → ⊥)
     → IsMark s old new b.offset next known → known ≡ true → count ≡ counted → Has s new b.offset (late s b.offset) count (λ whole. IsScanned s whole start (Picked b))
 turn-known s old new start here next b known counted count plain w leads inside not mark is counts =
     let n = next-is s old start here next (Some b) counted w leads inside in
@@ -495,7 +493,7 @@ pub plain-turn : (s : Subject) (t : Table) (start : ℕ) (here : Configuration) 
 plain-turn s t start here last counted none w = record { sound = w.table.fit.sound; none = none }
 
 pub turn-held : (s : Subject) (t : Table) (start : ℕ) (here next : Configuration) (last : Option Boundary) (counted : ℕ) (b : Boundary) → Turn s t start here last counted → last ≡ Some b
-    → look_up s here ≡ Leads next → IsWithin s next → IsHeld s t b.offset × (IsWithin s next × (b.offset ≤ next.place))
+    → look_up s here ≡ Leads next → IsConfigurationOf s next → IsHeld s t b.offset × (IsConfigurationOf s next × (b.offset ≤ next.place))
 turn-held s t start here next last counted b w is leads inside =
     let n = next-is s t start here next last counted w leads inside in
     let place = n.place in

@@ -16,8 +16,7 @@ use Rattle.seg_machine.proofs.Sets.{has-none, has-keep}
 use Rattle.seg_machine.proofs.Steps.{at_step, last_step-push}
 use Rattle.seg_memo.specs.declared.configuration.Outcome.{Outcome}
 use Rattle.seg_memo.specs.declared.configuration.Outcome.TheVariants.{Nothing, Picked, Kept}
-use Rattle.seg_memo.specs.Configurations.{Subject, condition_held, following, start_at}
-use Rattle.seg_memo.specs.Outcomes.{entered, at, outcome, outcome_at, picked}
+use Rattle.seg_memo.specs.Configurations.{Subject, condition_held, following, start_at, entered, at, outcome, outcome_at, picked}
 
 -- a lookahead that an outcome names is in the set
 abbrev IsKept : ℕ → Outcome → Type 0

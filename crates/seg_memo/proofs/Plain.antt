@@ -16,9 +16,8 @@ use Rattle.seg_memo.specs.declared.configuration.Outcome.TheVariants.{Nothing, P
 use Rattle.seg_memo.specs.declared.configuration.LookUp.TheVariants.{Ends, Leads}
 use Rattle.seg_memo.specs.declared.configuration.Cell.{Cell}
 use Rattle.seg_memo.specs.declared.configuration.Cell.TheVariants.{Unknown, First, Way, KnownNothing, KnownKept}
-use Rattle.seg_memo.specs.Configurations.{Subject, configuration, condition_held, start_at, following, look_ups, all_look_ups, AreStarts}
-use Rattle.seg_memo.specs.Outcomes.{arrival, at, entered, outcome, outcome_at, look_up, picked}
-use Rattle.seg_memo.specs.Grids.{IsOn, IsRight, IsSound, IsWithin, is_filled}
+use Rattle.seg_memo.specs.Configurations.{Subject, configuration, condition_held, start_at, following, look_ups, all_look_ups, AreStarts, arrival, at, entered, outcome, outcome_at, look_up, picked}
+use Rattle.seg_memo.specs.Grids.{IsOn, IsRight, IsSound, IsConfigurationOf, is_filled}
 use Rattle.seg_memo.proofs.Following.{ends, leads-within, look-ups-leads, look-up-leads, look-up-none, outcome-at, outcome-cons, outcome-leads, outcome-nil, picked-past}
 use Rattle.seg_memo.proofs.Reading.{Read, state-read, value-some}
 use Rattle.seg_memo.proofs.Counts.{on-append}
@@ -116,7 +115,7 @@ accepted s c place status name plain = on (outcome_at s c) (λ lookahead kept. n
     on (Picked found) not = refl
     on (Kept lookahead kept) not = absurd (not lookahead kept refl)
 
-pub outcome-accepts : (s : Subject) (c e : Configuration) (status : ℕ) (name : Option ℕ) → IsPlain s → IsWithin s c → look_up s c ≡ Leads e → state_at s.machine e.state ≡ (Accept status, name)
+pub outcome-accepts : (s : Subject) (c e : Configuration) (status : ℕ) (name : Option ℕ) → IsPlain s → IsConfigurationOf s c → look_up s c ≡ Leads e → state_at s.machine e.state ≡ (Accept status, name)
     → outcome_at s c ≡ later (Some (boundary e.place status)) (outcome_at s e)
 outcome-accepts s c e status name plain within is accepts =
     outcome-leads s c e plain.sound within is ∙ ap (λ (x : Acceptance × Option ℕ). entered e.place x (outcome_at s e)) accepts ∙ accepted s e e.place status name plain
@@ -129,7 +128,7 @@ passed place (acceptance, name) (Picked found) not free = refl
 passed place (acceptance, name) (Kept lookahead kept) not free = absurd (free lookahead kept refl)
 
 -- another state passes it on
-pub outcome-passes : (s : Subject) (c e : Configuration) → IsPlain s → IsWithin s c → look_up s c ≡ Leads e → ((status : ℕ) → (state_at s.machine e.state).0 ≡ Accept status → ⊥)
+pub outcome-passes : (s : Subject) (c e : Configuration) → IsPlain s → IsConfigurationOf s c → look_up s c ≡ Leads e → ((status : ℕ) → (state_at s.machine e.state).0 ≡ Accept status → ⊥)
     → outcome_at s c ≡ outcome_at s e
 outcome-passes s c e plain within is not =
     outcome-leads s c e plain.sound within is ∙ passed e.place (state_at s.machine e.state) (outcome_at s e) not (λ lookahead kept. never-kept s e lookahead kept plain)
@@ -153,7 +152,7 @@ entered-picked place (acceptance, name) (Picked found) f is = is
 entered-picked place entry Nothing f is = cc
 entered-picked place entry (Kept lookahead status) f is = cc
 
-accept-later : (s : Subject) (c d : Configuration) → IsPlain s → IsWithin s c → Accepts s d → IsOn d (look_ups s c) → (d ≡ c) ⊎ Later s c d.place
+accept-later : (s : Subject) (c d : Configuration) → IsPlain s → IsConfigurationOf s c → Accepts s d → IsOn d (look_ups s c) → (d ≡ c) ⊎ Later s c d.place
 accept-later s c d plain within accepts on =
     along s (λ c. IsOn d (look_ups s c) → (d ≡ c) ⊎ Later s c d.place) plain.sound
     (λ c o inside is on. alone c (subst (IsOn d) (ends s c o plain.sound inside is).alone on))
@@ -163,13 +162,13 @@ accept-later s c d plain within accepts on =
     alone : (c : Configuration) → IsOn d (c ∷ []) → (d ≡ c) ⊎ Later s c d.place
     alone c on = elim on [ inl same ↦ inl same | inr none ↦ absurd none ]
 
-    one : (c e : Configuration) → IsWithin s c → look_up s c ≡ Leads e → d ≡ e → Later s c d.place
+    one : (c e : Configuration) → IsConfigurationOf s c → look_up s c ≡ Leads e → d ≡ e → Later s c d.place
     one c e inside is same =
         let at : state_at s.machine e.state ≡ (Accept accepts.0, accepts.1) = ap (λ (x : Configuration). state_at s.machine x.state) (sym same) ∙ accepts.2 in
         subst (λ (x : Configuration). Later s c x.place) (sym same)
         (later-picked s c e (boundary e.place accepts.0) plain (leads-within s c e plain.sound inside is).place (outcome-accepts s c e accepts.0 accepts.1 plain inside is at) refl)
 
-    further : (c e : Configuration) → IsWithin s c → look_up s c ≡ Leads e → (IsOn d (look_ups s e) → (d ≡ e) ⊎ Later s e d.place) → IsOn d (c ∷ look_ups s e) → (d ≡ c) ⊎ Later s c d.place
+    further : (c e : Configuration) → IsConfigurationOf s c → look_up s c ≡ Leads e → (IsOn d (look_ups s e) → (d ≡ e) ⊎ Later s e d.place) → IsOn d (c ∷ look_ups s e) → (d ≡ c) ⊎ Later s c d.place
     further c e inside is rest on =
         elim on [
           | inl same ↦ inl same

@@ -11,9 +11,8 @@ use Rattle.seg_memo.specs.declared.configuration.Configuration.{Configuration}
 use Rattle.seg_memo.specs.declared.configuration.Outcome.TheVariants.{Nothing}
 use Rattle.seg_memo.specs.declared.configuration.LookUp.{LookUp}
 use Rattle.seg_memo.specs.declared.configuration.LookUp.TheVariants.{Ends, Leads}
-use Rattle.seg_memo.specs.Configurations.{Subject, reading}
-use Rattle.seg_memo.specs.Outcomes.{arrival, look_up, IfLeads}
-use Rattle.seg_memo.specs.Grids.{IsAt, IsReadBy, IsSound, IsWithin}
+use Rattle.seg_memo.specs.Configurations.{Subject, reading, arrival, look_up, IfLeads}
+use Rattle.seg_memo.specs.Grids.{IsAt, IsReadBy, IsSound, IsConfigurationOf}
 use Rattle.seg_memo.proofs.Following.{leads-within, look-up-none, look-up-some, names-few, step-within}
 
 -- what is left of the text
@@ -64,7 +63,7 @@ state-read s m states transitions state read = ap (λ (x : Machine). state_at x 
 pub record Read (s : Subject) (m : Machine) (c : Configuration) (states : ℕ) (transitions : List ℕ) (symbol next : ℕ) : Type 0 where
   pub sound : IsSound s
   pub read : IsReadBy s m states transitions
-  pub within : IsWithin s c
+  pub within : IsConfigurationOf s c
   pub symbol_is : symbol ≡ get_or s.symbols c.place 0
   pub next_is : next ≡ slice_index transitions (c.state + symbol * states)
 
@@ -97,6 +96,6 @@ value-some s m c states transitions symbol next place entry result r some e p is
     ∙ ap (λ (x : ℕ). arrival (state_at s.machine next) next x c.kept) p
     ∙ sym (look-up-some s c next (leads-on s m c states transitions symbol next r some))
 
-pub result-within : (s : Subject) (c : Configuration) (result : LookUp) → IsSound s → IsWithin s c → result ≡ look_up s c → IfLeads result (IsWithin s)
+pub result-within : (s : Subject) (c : Configuration) (result : LookUp) → IsSound s → IsConfigurationOf s c → result ≡ look_up s c → IfLeads result (IsConfigurationOf s)
 result-within s c (Ends o) sound within is = tt
 result-within s c (Leads d) sound within is = leads-within s c d sound within (sym is)

@@ -4,8 +4,7 @@ use Rattle.seg_text.specs.Boundaries.{boundary}
 use Rattle.seg_machine.specs.Machine.{step, run, scan, state_at}
 use Rattle.seg_machine.specs.Pick.{last_step, first_condition, pick}
 use Rattle.seg_machine.specs.Rows.{condition_at_end, condition_on_own_name, accepted_two_past_end, accepted_from_start, start_accepts, named_past_end}
-use Rattle.seg_memo.specs.Configurations.{all_look_ups, different, following, is_in, look_ups, look_ups_on}
-use Rattle.seg_memo.specs.LookUpRows.{LooksUp}
+use Rattle.seg_memo.specs.Configurations.{all_look_ups, different, following, is_in, look_ups, look_ups_on, LooksUp}
 
 -- the rows
 pub record Rows : Type 0 where

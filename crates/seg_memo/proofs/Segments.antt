@@ -12,8 +12,7 @@ use Rattle.seg_machine.proofs.Picks.{pick-bounds}
 use Rattle.seg_machine.proofs.Scanned.{pick-some, after-after}
 use Rattle.seg_memo.specs.declared.configuration.Outcome.{Outcome}
 use Rattle.seg_memo.specs.declared.configuration.Outcome.TheVariants.{Nothing, Picked, Kept}
-use Rattle.seg_memo.specs.Configurations.{Subject, reading, start_at, look_ups, all_look_ups}
-use Rattle.seg_memo.specs.Outcomes.{outcome_at, picked}
+use Rattle.seg_memo.specs.Configurations.{Subject, reading, start_at, look_ups, all_look_ups, outcome_at, picked}
 use Rattle.seg_memo.specs.Grids.{Grid, IsAt, IsMemo, IsReadBy, IsScanned, IsSound, has_number}
 use Rattle.seg_memo.proofs.Counts.{has-append, has-nil}
 use Rattle.seg_memo.proofs.Scanning.{all-cons}

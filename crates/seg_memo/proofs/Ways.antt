@@ -10,9 +10,8 @@ use Rattle.seg_memo.specs.declared.configuration.Outcome.TheVariants.{Nothing, P
 use Rattle.seg_memo.specs.declared.configuration.LookUp.TheVariants.{Ends, Leads}
 use Rattle.seg_memo.specs.declared.configuration.Cell.{Cell}
 use Rattle.seg_memo.specs.declared.configuration.Cell.TheVariants.{Unknown, First, Way, KnownNothing, KnownKept}
-use Rattle.seg_memo.specs.Configurations.{Subject, configuration, start_at, following, look_ups, all_look_ups}
-use Rattle.seg_memo.specs.Outcomes.{entered, outcome_at, look_up}
-use Rattle.seg_memo.specs.Grids.{Grid, AreFilled, IsFit, IsMemo, IsOn, IsRight, IsScanned, IsSound, IsTable, IsWay, IsWithin, Walking, Went, cell, with_cell, has_number, holding, is_filled, is_filled_at, filled, known, number, came_from, way_from}
+use Rattle.seg_memo.specs.Configurations.{Subject, configuration, start_at, following, look_ups, all_look_ups, entered, outcome_at, look_up}
+use Rattle.seg_memo.specs.Grids.{Grid, AreFilled, IsFit, IsMemo, IsOn, IsRight, IsScanned, IsSound, IsRightFrom, IsWay, IsConfigurationOf, IsUnderWay, Went, cell, with_cell, has_number, holding, is_filled, is_filled_at, filled_count, known, number, came_from, way_from}
 use Rattle.seg_memo.proofs.Numbers.{number-in, number-same}
 use Rattle.seg_memo.proofs.Following.{ends, few, fewer, leads, look-ups-leads, outcome-leads, picked-past, same-picked}
 use Rattle.seg_memo.proofs.Counts.{AreWithin, count-bound, fills-other, fills-same, filled-mark, filled-stays, has-cons, has-nil, on-has, or-cases, stays-filled}
@@ -66,25 +65,25 @@ known-open (KnownKept lookahead status) o found is picks = cc
 
 -- a write changes one cell
 
-pub other-cell : (s : Subject) (g : Grid) (c d : Configuration) (x : Cell) → IsWithin s c → IsWithin s d → (d ≡ c → ⊥) → cell s (with_cell s g c x) d ≡ cell s g d
+pub other-cell : (s : Subject) (g : Grid) (c d : Configuration) (x : Cell) → IsConfigurationOf s c → IsConfigurationOf s d → (d ≡ c → ⊥) → cell s (with_cell s g c x) d ≡ cell s g d
 other-cell s g c d x inside within other = get_or-set_other g.cells (number s c) (number s d) x Unknown (λ is. other (number-same s d c within inside is))
 
-pub same-cell : (s : Subject) (g : Grid) (c : Configuration) (x : Cell) → IsFit s g → IsWithin s c → cell s (with_cell s g c x) c ≡ x
+pub same-cell : (s : Subject) (g : Grid) (c : Configuration) (x : Cell) → IsFit s g → IsConfigurationOf s c → cell s (with_cell s g c x) c ≡ x
 same-cell s g c x fit inside = get_or-set_same g.cells (number s c) x Unknown (number-in s g c fit inside)
 
 pub fit-write : (s : Subject) (g : Grid) (c : Configuration) (x : Cell) → IsFit s g → IsFit s (with_cell s g c x)
 fit-write s g c x fit = record { sound = fit.sound; states = fit.states; sets = fit.sets; size = length-set g.cells (number s c) x ∙ fit.size }
 
-pub table-mark : (s : Subject) (g : Grid) (place : ℕ) (path : List Configuration) (c : Configuration) (x : Cell) → IsTable s g place path → IsWithin s c
-    → IsTable s (with_cell s g c x) place (c ∷ path)
+pub table-mark : (s : Subject) (g : Grid) (place : ℕ) (path : List Configuration) (c : Configuration) (x : Cell) → IsRightFrom s g place path → IsConfigurationOf s c
+    → IsRightFrom s (with_cell s g c x) place (c ∷ path)
 table-mark s g place path c x table inside = record {
   fit = fit-write s g c x table.fit;
   right = λ some d past within off.
       subst (IsRight s d) (sym (other-cell s g c d x inside within (λ is. off (inl is)))) (table.right some d past within (λ on. off (inr on)));
 }
 
-table-fill : (s : Subject) (g : Grid) (place : ℕ) (path : List Configuration) (c : Configuration) (x : Cell) → IsTable s g place (c ∷ path) → IsWithin s c → IsRight s c x
-    → IsTable s (with_cell s g c x) place path
+table-fill : (s : Subject) (g : Grid) (place : ℕ) (path : List Configuration) (c : Configuration) (x : Cell) → IsRightFrom s g place (c ∷ path) → IsConfigurationOf s c → IsRight s c x
+    → IsRightFrom s (with_cell s g c x) place path
 table-fill s g place path c x table inside right = record {
   fit = fit-write s g c x table.fit;
   right = λ some d past within off.
@@ -99,7 +98,7 @@ table-fill s g place path c x table inside right = record {
 }
 
 pub filling-mark : (s : Subject) (g : Grid) (starts : List ℕ) (found : List Configuration) (c : Configuration) (x : Cell)
-    → AreFilled s g starts found → IsFit s g → IsWithin s c → is_filled x ≡ true → AreFilled s (with_cell s g c x) starts (c ∷ found)
+    → AreFilled s g starts found → IsFit s g → IsConfigurationOf s c → is_filled x ≡ true → AreFilled s (with_cell s g c x) starts (c ∷ found)
 filling-mark s g starts found c x are fit inside full i =
     elim (cases_eq i (number s c)) [
       | inl same ↦
@@ -115,12 +114,12 @@ filling-mark s g starts found c x are fit inside full i =
     ]
 
 filling-stays : (s : Subject) (g : Grid) (starts : List ℕ) (found : List Configuration) (c : Configuration) (x : Cell)
-    → AreFilled s g starts found → IsFit s g → IsWithin s c → is_filled (cell s g c) ≡ true → is_filled x ≡ true → AreFilled s (with_cell s g c x) starts found
+    → AreFilled s g starts found → IsFit s g → IsConfigurationOf s c → is_filled (cell s g c) ≡ true → is_filled x ≡ true → AreFilled s (with_cell s g c x) starts found
 filling-stays s g starts found c x are fit inside was full i = stays-filled g.cells (number s c) i x (number-in s g c fit inside) was full ∙ are i
 
 -- the way
 
-pub way-inside : (s : Subject) (g : Grid) (first here : Configuration) (path : List Configuration) → IsWay s g first here path → IsWithin s here
+pub way-inside : (s : Subject) (g : Grid) (first here : Configuration) (path : List Configuration) → IsWay s g first here path → IsConfigurationOf s here
 way-inside s g first here [] way = way.1
 way-inside s g first here (before ∷ path) way = way.1
 
@@ -130,10 +129,10 @@ way-filled s g first here (before ∷ path) way = ap is_filled way.2
 
 -- all of it is of the text
 way-within : (s : Subject) (g : Grid) (first here : Configuration) (path : List Configuration) → IsWay s g first here path → AreWithin s (here ∷ path)
-way-within s g first here [] way d on = elim on [ inl is ↦ subst (IsWithin s) (sym is) way.1 | inr none ↦ absurd none ]
+way-within s g first here [] way d on = elim on [ inl is ↦ subst (IsConfigurationOf s) (sym is) way.1 | inr none ↦ absurd none ]
 way-within s g first here (before ∷ path) way d on =
     elim on [
-      | inl is ↦ subst (IsWithin s) (sym is) way.1
+      | inl is ↦ subst (IsConfigurationOf s) (sym is) way.1
       | inr rest ↦ way-within s g first before path way.3 d rest
     ]
 
@@ -185,7 +184,7 @@ next-off-way s g first here next path sound way leads on =
       | inr further ↦ let more = way-shorter s g first here next path sound way further in omega (arith, less, more)
     ]
 
-way-write : (s : Subject) (g : Grid) (first here : Configuration) (path : List Configuration) (c : Configuration) (x : Cell) → IsWay s g first here path → IsWithin s c
+way-write : (s : Subject) (g : Grid) (first here : Configuration) (path : List Configuration) (c : Configuration) (x : Cell) → IsWay s g first here path → IsConfigurationOf s c
     → (IsOn c (here ∷ path) → ⊥) → IsWay s (with_cell s g c x) first here path
 way-write s g first here [] c x way inside off = (way.0, way.1, other-cell s g c here x inside way.1 (λ is. off (inl (sym is))) ∙ way.2)
 way-write s g first here (before ∷ path) c x way inside off =
@@ -211,7 +210,7 @@ way-covers s g first here (before ∷ path) i sound way =
 
 -- the scan goes on
 
-pub walk-start : (s : Subject) (g : Grid) (place : ℕ) → IsMemo s g place → place < length s.symbols → cell s g (start_at place) ≡ Unknown → Walking s (with_cell s g (start_at place) First) place (start_at place)
+pub walk-start : (s : Subject) (g : Grid) (place : ℕ) → IsMemo s g place → place < length s.symbols → cell s g (start_at place) ≡ Unknown → IsUnderWay s (with_cell s g (start_at place) First) place (start_at place)
 walk-start s g place memo some unknown =
     let inside = start-within s place memo.table.fit.sound memo.within in
     record {
@@ -224,26 +223,26 @@ walk-start s g place memo some unknown =
       filling = filling-mark s g memo.starts [] (start_at place) First memo.filling memo.table.fit inside refl;
     }
 
-pub count-start : (s : Subject) (g : Grid) (place counted : ℕ) → IsMemo s g place → cell s g (start_at place) ≡ Unknown → counted ≡ filled g.cells
-    → counted + 1 ≡ filled (with_cell s g (start_at place) First).cells
+pub count-start : (s : Subject) (g : Grid) (place counted : ℕ) → IsMemo s g place → cell s g (start_at place) ≡ Unknown → counted ≡ filled_count g.cells
+    → counted + 1 ≡ filled_count (with_cell s g (start_at place) First).cells
 count-start s g place counted memo unknown count =
     let inside = start-within s place memo.table.fit.sound memo.within in
     let more = filled-mark g.cells (number s (start_at place)) First (number-in s g (start_at place) memo.table.fit inside) (ap is_filled unknown) refl in
     omega (arith, count, more)
 
-next-right : (s : Subject) (g : Grid) (place : ℕ) (here next : Configuration) → Walking s g place here → look_up s here ≡ Leads next → IsWithin s next → IsRight s next (cell s g next)
+next-right : (s : Subject) (g : Grid) (place : ℕ) (here next : Configuration) → IsUnderWay s g place here → look_up s here ≡ Leads next → IsConfigurationOf s next → IsRight s next (cell s g next)
 next-right s g place here next w is inside =
     let here-inside = way-inside s g (start_at place) here w.path w.way in
     let past = way-past s g (start_at place) here w.path w.table.fit.sound w.way in
     let on : next.place ≡ min (suc here.place) (length s.symbols) = (leads s here next w.table.fit.sound here-inside is).place in
     w.table.right w.some next (omega (arith, past, here-inside.place, on)) inside (next-off-way s g (start_at place) here next w.path w.table.fit.sound w.way is)
 
-next-unknown : (s : Subject) (g : Grid) (place : ℕ) (here next : Configuration) → Walking s g place here → look_up s here ≡ Leads next → IsWithin s next → known (cell s g next) ≡ None
+next-unknown : (s : Subject) (g : Grid) (place : ℕ) (here next : Configuration) → IsUnderWay s g place here → look_up s here ≡ Leads next → IsConfigurationOf s next → known (cell s g next) ≡ None
     → cell s g next ≡ Unknown
 next-unknown s g place here next w leads inside none = right-unknown s next (cell s g next) (next-right s g place here next w leads inside) none
 
-pub walk-next : (s : Subject) (g : Grid) (place : ℕ) (here next : Configuration) → Walking s g place here → look_up s here ≡ Leads next → IsWithin s next → known (cell s g next) ≡ None
-    → Walking s (with_cell s g next (way_from here next)) place next
+pub walk-next : (s : Subject) (g : Grid) (place : ℕ) (here next : Configuration) → IsUnderWay s g place here → look_up s here ≡ Leads next → IsConfigurationOf s next → known (cell s g next) ≡ None
+    → IsUnderWay s (with_cell s g next (way_from here next)) place next
 walk-next s g place here next w leads inside none = record {
   starts = w.starts;
   are = w.are;
@@ -259,8 +258,8 @@ walk-next s g place here next w leads inside none = record {
   filling = filling-mark s g w.starts (here ∷ w.path) next (way_from here next) w.filling w.table.fit inside refl;
 }
 
-pub count-next : (s : Subject) (g : Grid) (place counted after : ℕ) (here next : Configuration) → Walking s g place here → look_up s here ≡ Leads next → IsWithin s next
-    → known (cell s g next) ≡ None → counted + 1 ≡ filled g.cells → after ≡ counted + 1 → after + 1 ≡ filled (with_cell s g next (way_from here next)).cells
+pub count-next : (s : Subject) (g : Grid) (place counted after : ℕ) (here next : Configuration) → IsUnderWay s g place here → look_up s here ≡ Leads next → IsConfigurationOf s next
+    → known (cell s g next) ≡ None → counted + 1 ≡ filled_count g.cells → after ≡ counted + 1 → after + 1 ≡ filled_count (with_cell s g next (way_from here next)).cells
 count-next s g place counted after here next w leads inside none count read =
     let more = filled-mark g.cells (number s next) (way_from here next) (number-in s g next w.table.fit inside) (ap is_filled (next-unknown s g place here next w leads inside none)) refl in
     omega (arith, count, read, more)
@@ -278,7 +277,7 @@ or-move true false = refl
 or-move false true = refl
 or-move false false = refl
 
-pub walk-ends : (s : Subject) (g : Grid) (place : ℕ) (here : Configuration) (o : Outcome) → Walking s g place here → look_up s here ≡ Ends o → Went s g place here o
+pub walk-ends : (s : Subject) (g : Grid) (place : ℕ) (here : Configuration) (o : Outcome) → IsUnderWay s g place here → look_up s here ≡ Ends o → Went s g place here o
 walk-ends s g place here o w is =
     let inside = way-inside s g (start_at place) here w.path w.way in
     let last = ends s here o w.table.fit.sound inside is in
@@ -308,7 +307,7 @@ or-part false true c p part = refl
 or-part false false false p part = refl
 or-part false false true p part = part refl
 
-next-before : (s : Subject) (g : Grid) (place : ℕ) (here next : Configuration) (o : Outcome) → (w : Walking s g place here) → look_up s here ≡ Leads next → IsWithin s next
+next-before : (s : Subject) (g : Grid) (place : ℕ) (here next : Configuration) (o : Outcome) → (w : IsUnderWay s g place here) → look_up s here ≡ Leads next → IsConfigurationOf s next
     → known (cell s g next) ≡ Some o → IsOn next (all_look_ups s w.starts)
 next-before s g place here next o w leads inside is =
     elim (or-cases (has_number s (number s next) (here ∷ w.path)) (has_number s (number s next) (all_look_ups s w.starts)) (sym (w.filling (number s next)) ∙ known-filled (cell s g next) o is)) [
@@ -318,7 +317,7 @@ next-before s g place here next o w leads inside is =
       | inr past ↦ on-has s next (all_look_ups s w.starts) inside (all-within s w.starts place w.table.fit.sound w.are (omega (arith, w.some))) past
     ]
 
-pub walk-known : (s : Subject) (g : Grid) (place : ℕ) (here next : Configuration) (o : Outcome) → Walking s g place here → look_up s here ≡ Leads next → IsWithin s next
+pub walk-known : (s : Subject) (g : Grid) (place : ℕ) (here next : Configuration) (o : Outcome) → IsUnderWay s g place here → look_up s here ≡ Leads next → IsConfigurationOf s next
     → known (cell s g next) ≡ Some o → Went s g place here (entered next.place (state_at s.machine next.state) o)
 walk-known s g place here next o w leads inside is =
     let here-inside = way-inside s g (start_at place) here w.path w.way in
@@ -365,11 +364,11 @@ scan-known s g place o memo some is =
 
 -- and back
 
-pub back-inside : (s : Subject) (g : Grid) (place : ℕ) (here : Configuration) (o : Outcome) → Went s g place here o → IsWithin s here
+pub back-inside : (s : Subject) (g : Grid) (place : ℕ) (here : Configuration) (o : Outcome) → Went s g place here o → IsConfigurationOf s here
 back-inside s g place here o w = way-inside s g (start_at place) here w.path w.way
 
 pub back-filled : (s : Subject) (g : Grid) (place : ℕ) (here : Configuration) (o : Outcome) (x : Cell) → Went s g place here o → holding o ≡ Some x
-    → filled (with_cell s g here x).cells ≡ filled g.cells
+    → filled_count (with_cell s g here x).cells ≡ filled_count g.cells
 back-filled s g place here o x w holds =
     filled-stays g.cells (number s here) x (number-in s g here w.table.fit (back-inside s g place here o w)) (way-filled s g (start_at place) here w.path w.way) (holding-filled o x holds)
 
@@ -391,7 +390,7 @@ place-before before here most false within is same =
       | inr other ↦ omega (arith, within, is, other)
     ]
 
-way-same : (s : Subject) (before here : Configuration) (state kept : ℕ) (stays : Bool) → IsSound s → IsWithin s before → look_up s before ≡ Leads here
+way-same : (s : Subject) (before here : Configuration) (state kept : ℕ) (stays : Bool) → IsSound s → IsConfigurationOf s before → look_up s before ≡ Leads here
     → way_from before here ≡ Way state kept stays → before ≡ came_from here state kept stays
 way-same s before here state kept stays sound inside is way =
     let states : before.state ≡ state = cc in
@@ -414,7 +413,7 @@ pub back-next : (s : Subject) (g : Grid) (place : ℕ) (here : Configuration) (o
     → cell s g here ≡ Way state kept stays → Went s (with_cell s g here x) place (came_from here state kept stays) (entered here.place (state_at s.machine here.state) o)
 back-next s g place here o x state kept stays w holds is = on w.path w.way w.table
   where
-    on : (path : List Configuration) → IsWay s g (start_at place) here path → IsTable s g place (here ∷ path)
+    on : (path : List Configuration) → IsWay s g (start_at place) here path → IsRightFrom s g place (here ∷ path)
         → Went s (with_cell s g here x) place (came_from here state kept stays) (entered here.place (state_at s.machine here.state) o)
     on [] way table = let never : First ≡ Way state kept stays = sym way.2 ∙ is in cc
     on (before ∷ path) way table =
@@ -460,7 +459,7 @@ back-picked s g place here o found w picks =
       fit = w.table.fit;
       table = λ end ends.
           let same : found ≡ end = same-picked found end (sym picks ∙ ends) in
-          subst (λ (b : Boundary). IsTable s g b.offset []) same (record {
+          subst (λ (b : Boundary). IsRightFrom s g b.offset []) same (record {
             fit = w.table.fit;
             right = λ some c past within off.
                 let begins : place < found.offset = picked-past s (start_at place) found some first in
@@ -492,5 +491,5 @@ back-fewer s g place here o state kept stays w is = on w.path w.way
         (omega (arith, few s before, fewer s before here w.table.fit.sound (way-inside s g (start_at place) before path way.3) way.0))
 
 -- the reader's count has room
-pub count-room : (s : Subject) (g : Grid) (counted : ℕ) → IsFit s g → counted + 1 ≡ filled g.cells → counted < 18446744073709551615
+pub count-room : (s : Subject) (g : Grid) (counted : ℕ) → IsFit s g → counted + 1 ≡ filled_count g.cells → counted < 18446744073709551615
 count-room s g counted fit count = omega (arith, count, count-bound (is_filled_at g.cells) (length g.cells), fit.size, fit.sound.room)

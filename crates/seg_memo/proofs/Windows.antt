@@ -10,8 +10,7 @@ use Rattle.seg_memo.specs.declared.configuration.Cell.{Cell}
 use Rattle.seg_memo.specs.declared.configuration.Cell.TheVariants.{Unknown, First, Way, KnownNothing, KnownKept}
 use Rattle.seg_memo.specs.declared.table.Table.{Table}
 use Rattle.seg_memo.specs.Configurations.{Subject, start_at}
-use Rattle.seg_memo.specs.Grids.{Grid, IsWithin, cell, is_filled, number, with_cell}
-use Rattle.seg_memo.specs.Windows.{IsHeld, IsPart}
+use Rattle.seg_memo.specs.Grids.{Grid, IsConfigurationOf, cell, is_filled, number, with_cell, IsHeld, IsPart}
 use Rattle.seg_memo.proofs.Numbers.{number-fits, number-in, number-is}
 use Rattle.seg_memo.proofs.Ways.{fit-write}
 
@@ -43,7 +42,7 @@ reached-by s t c n code is fits past room = record {
   fits = omega (arith, code, past, fits);
 }
 
-pub reached : (s : Subject) (t : Table) (place : ℕ) (c : Configuration) → IsHeld s t place → IsWithin s c → place ≤ c.place → Reached s t c
+pub reached : (s : Subject) (t : Table) (place : ℕ) (c : Configuration) → IsHeld s t place → IsConfigurationOf s c → place ≤ c.place → Reached s t c
 reached s t place c (lost, whole, w) within past =
     let code : (c.place * t.sets + c.kept) * t.states + c.state ≡ (c.place * whole.sets + c.kept) * whole.states + c.state = rw (w.states, w.sets) refl in
     let is = number-is s whole c w.fit in
@@ -55,7 +54,7 @@ reached s t place c (lost, whole, w) within past =
 
 -- a cell that is written
 pub window-write : (s : Subject) (t mid : Table) (place : ℕ) (lost : ℕ → Bool) (whole : Grid) (c : Configuration) (x : Cell) (index : ℕ)
-    → IsPart s t place lost whole → IsWithin s c → t.first + index ≡ number s c
+    → IsPart s t place lost whole → IsConfigurationOf s c → t.first + index ≡ number s c
     → mid.states ≡ t.states → mid.sets ≡ t.sets → mid.first ≡ t.first → vec_capacity t.cells ≤ vec_capacity mid.cells → index < length mid.cells.items
     → ((i : ℕ) → get_or mid.cells.items i Unknown ≡ get_or t.cells.items i Unknown)
     → IsPart s (record { states = mid.states; sets = mid.sets; first = mid.first; cells = with_item mid.cells index x }) place lost (with_cell s whole c x)
@@ -82,7 +81,7 @@ window-write s t mid place lost whole c x index w within is states sets first ca
 }
 
 -- a configuration before a place has a lesser number than those from there on
-pub number-before : (s : Subject) (c : Configuration) (place : ℕ) → IsWithin s c → c.place < place → number s c < number s (start_at place)
+pub number-before : (s : Subject) (c : Configuration) (place : ℕ) → IsConfigurationOf s c → c.place < place → number s c < number s (start_at place)
 unfolding number
 number-before s c place within before =
     let m = s.machine in
@@ -125,7 +124,7 @@ cell-read s t place lost whole c index was w kept is held read =
     ∙ w.held index (ap lost is ∙ kept)
     ∙ ap (λ (n : ℕ). get_or whole.cells n Unknown) is
 
-pub mark-unknown : (s : Subject) (t : Table) (place : ℕ) (lost : ℕ → Bool) (whole : Grid) (c : Configuration) (index : ℕ) (was : Cell) → IsPart s t place lost whole → IsWithin s c
+pub mark-unknown : (s : Subject) (t : Table) (place : ℕ) (lost : ℕ → Bool) (whole : Grid) (c : Configuration) (index : ℕ) (was : Cell) → IsPart s t place lost whole → IsConfigurationOf s c
     → lost (number s c) ≡ false → t.first + index ≡ number s c → number s c < t.first + length t.cells.items → was ≡ get_or t.cells.items index was → was ≡ Unknown
     → (false ≡ is_filled (cell s whole c)) × IsPart s (record { states = t.states; sets = t.sets; first = t.first; cells = with_item t.cells index KnownNothing }) place lost (with_cell s whole c KnownNothing)
 mark-unknown s t place lost whole c index was w within kept is held read unknown = (
@@ -140,7 +139,7 @@ filled-known (Way state kept stays) not = refl
 filled-known KnownNothing not = refl
 filled-known (KnownKept lookahead status) not = refl
 
-pub mark-known : (s : Subject) (t : Table) (place : ℕ) (lost : ℕ → Bool) (whole : Grid) (c : Configuration) (index : ℕ) (was : Cell) → IsPart s t place lost whole → IsWithin s c
+pub mark-known : (s : Subject) (t : Table) (place : ℕ) (lost : ℕ → Bool) (whole : Grid) (c : Configuration) (index : ℕ) (was : Cell) → IsPart s t place lost whole → IsConfigurationOf s c
     → lost (number s c) ≡ false → t.first + index ≡ number s c → number s c < t.first + length t.cells.items → was ≡ get_or t.cells.items index was → (was ≡ Unknown → ⊥)
     → (true ≡ is_filled (cell s whole c)) × IsPart s t place lost whole
 mark-known s t place lost whole c index was w within kept is held read known =

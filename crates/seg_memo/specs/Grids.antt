@@ -1,17 +1,17 @@
 -- The table of configurations.
-use Rattle.std.specs.Prelude.{◌≡◌, ℕ, zero, suc, ◌+◌, ◌-◌, ◌*◌, ◌^◌, ◌<◌, ◌≤◌, ◌⊎◌, ◌==◌, ◌||◌, Bool, true, false, if◌then◌else◌, Option, Some, None, List, [], ◌∷◌, drop, length, min, slice_index_or, slice_set}
+use Rattle.std.specs.Prelude.{◌≡◌, ℕ, zero, suc, ◌+◌, ◌-◌, ◌*◌, ◌^◌, ◌<◌, ◌≤◌, ◌⊎◌, ◌==◌, ◌||◌, Bool, true, false, if◌then◌else◌, Option, Some, None, List, [], ◌∷◌, drop, length, min, slice_index_or, slice_set, nat_lt, vec_capacity}
 use Rattle.seg_text.specs.declared.boundary.Boundary.{Boundary}
 use Rattle.seg_text.specs.Items.{Item, Text, code_points, rest_after, start_of}
 use Rattle.seg_machine.specs.Machine.{Machine, symbol_count, symbols_of}
-use Rattle.seg_machine.specs.Checked.{IsChecked}
+use Rattle.seg_machine.specs.MachineFaults.{IsChecked}
 use Rattle.seg_memo.specs.declared.configuration.Configuration.{Configuration}
 use Rattle.seg_memo.specs.declared.configuration.Outcome.{Outcome}
 use Rattle.seg_memo.specs.declared.configuration.Outcome.TheVariants.{Nothing, Picked, Kept}
 use Rattle.seg_memo.specs.declared.configuration.LookUp.TheVariants.{Leads}
 use Rattle.seg_memo.specs.declared.configuration.Cell.{Cell}
 use Rattle.seg_memo.specs.declared.configuration.Cell.TheVariants.{Unknown, First, Way, KnownNothing, KnownKept}
-use Rattle.seg_memo.specs.Configurations.{Subject, configuration, configurations, reading, look_ups, all_look_ups, start_at, AreStarts}
-use Rattle.seg_memo.specs.Outcomes.{outcome_at, look_up}
+use Rattle.seg_memo.specs.Configurations.{Subject, configuration, configurations, reading, look_ups, all_look_ups, start_at, AreStarts, outcome_at, look_up}
+use Rattle.seg_memo.specs.declared.table.Table.{Table}
 
 -- so many states, so many sets of lookaheads, and a cell for each of them at each place
 pub record Grid : Type 0 where
@@ -62,11 +62,11 @@ abbrev pub is_filled_at : List Cell → ℕ → Bool
 is_filled_at cells i = is_filled (slice_index_or cells i Unknown)
 
 -- how many cells are filled
-abbrev pub filled : List Cell → ℕ
-filled cells = count_below (is_filled_at cells) (length cells)
+abbrev pub filled_count : List Cell → ℕ
+filled_count cells = count_below (is_filled_at cells) (length cells)
 
 -- a configuration of a text
-pub record IsWithin (s : Subject) (c : Configuration) : Type 0 where
+pub record IsConfigurationOf (s : Subject) (c : Configuration) : Type 0 where
   pub state : c.state < length s.machine.states
   pub place : c.place ≤ length s.symbols
   pub kept : c.kept < 2 ^ s.machine.num_lookaheads
@@ -102,17 +102,17 @@ IsRight s c KnownNothing = Nothing ≡ outcome_at s c
 IsRight s c (KnownKept lookahead status) = Kept lookahead status ≡ outcome_at s c
 
 -- a cursor went on from a place over as many items of its text as its place did
-abbrev pub GoesOn : Text → ℕ → Text → ℕ → Type 0
-GoesOn before place after next = (count : ℕ) × (after ≡ rest_after count before) × (next ≡ place + count)
+abbrev pub GoesOverItems : Text → ℕ → Text → ℕ → Type 0
+GoesOverItems before place after next = (count : ℕ) × (after ≡ rest_after count before) × (next ≡ place + count)
 
 -- where a cursor stands that went on to a place from one where this was left of the text
-abbrev pub StandsAt : Text → ℕ → ℕ → ℕ → Type 0
-StandsAt text place next offset = (after : Text) × GoesOn text place after next × (offset ≡ start_of after)
+abbrev pub CursorStandsAt : Text → ℕ → ℕ → ℕ → Type 0
+CursorStandsAt text place next offset = (after : Text) × GoesOverItems text place after next × (offset ≡ start_of after)
 
 -- the symbol at a place of the text, or that of the end, is read, and this is left after it, of what was left from some place on
-pub record IsAhead (s : Subject) (m : Machine) (text : Text) (from place symbol : ℕ) (after : Text) : Type 0 where
+pub record IsKeptSymbol (s : Subject) (m : Machine) (text : Text) (from place symbol : ℕ) (after : Text) : Type 0 where
   pub symbol_is : symbol ≡ slice_index_or s.symbols place 0
-  pub goes : GoesOn text from after (min (suc place) (length s.symbols))
+  pub goes : GoesOverItems text from after (min (suc place) (length s.symbols))
   pub rest : IsAt s m (min (suc place) (length s.symbols)) after.items
 
 abbrev pub IsOn : Configuration → List Configuration → Type 0
@@ -120,9 +120,9 @@ IsOn c [] = ⊥
 IsOn c (d ∷ path) = (c ≡ d) ⊎ IsOn c path
 
 -- each cell from a place on is right, but for those on a path; at the end of the text none has to be
-pub record IsTable (s : Subject) (g : Grid) (place : ℕ) (path : List Configuration) : Type 0 where
+pub record IsRightFrom (s : Subject) (g : Grid) (place : ℕ) (path : List Configuration) : Type 0 where
   pub fit : IsFit s g
-  pub right : place < length s.symbols → (c : Configuration) → place ≤ c.place → IsWithin s c → (IsOn c path → ⊥) → IsRight s c (cell s g c)
+  pub right : place < length s.symbols → (c : Configuration) → place ≤ c.place → IsConfigurationOf s c → (IsOn c path → ⊥) → IsRight s c (cell s g c)
 
 -- does a configuration of a list have this number
 unfoldable pub has_number : Subject → ℕ → List Configuration → Bool
@@ -131,9 +131,9 @@ has_number s i (c ∷ cs) = number s c == i || has_number s i cs
 
 -- the cells hold the way back from a configuration to the first of its scan
 abbrev pub IsWay : Subject → Grid → Configuration → Configuration → List Configuration → Type 0
-IsWay s g first here [] = (here ≡ first) × IsWithin s here × (cell s g here ≡ First)
+IsWay s g first here [] = (here ≡ first) × IsConfigurationOf s here × (cell s g here ≡ First)
 IsWay s g first here (before ∷ path) =
-    (look_up s before ≡ Leads here) × IsWithin s here × (cell s g here ≡ way_from before here) × IsWay s g first before path
+    (look_up s before ≡ Leads here) × IsConfigurationOf s here × (cell s g here ≡ way_from before here) × IsWay s g first before path
 
 -- the cells of just these look-ups are filled, beside those of the scans before
 abbrev pub AreFilled : Subject → Grid → List ℕ → List Configuration → Type 0
@@ -145,22 +145,22 @@ pub record IsMemo (s : Subject) (g : Grid) (place : ℕ) : Type 0 where
   pub starts : List ℕ
   pub are : AreStarts s starts place
   pub within : place ≤ length s.symbols
-  pub table : IsTable s g place []
+  pub table : IsRightFrom s g place []
   pub filling : AreFilled s g starts []
 
 -- it is so, and that from this place is to begin: its first configuration was not looked up
-pub record IsBegun (s : Subject) (place : ℕ) (g : Grid) : Type 0 where
+pub record IsFreshPlace (s : Subject) (place : ℕ) (g : Grid) : Type 0 where
   pub memo : IsMemo s g place
   pub unknown : cell s g (start_at place) ≡ Unknown
 
 -- a scan is under way: it looked up the configurations of a path, and is to look up this one, whose cell is marked already
-pub record Walking (s : Subject) (g : Grid) (place : ℕ) (here : Configuration) : Type 0 where
+pub record IsUnderWay (s : Subject) (g : Grid) (place : ℕ) (here : Configuration) : Type 0 where
   pub starts : List ℕ
   pub are : AreStarts s starts place
   pub some : place < length s.symbols
   pub path : List Configuration
   pub way : IsWay s g (start_at place) here path
-  pub table : IsTable s g place (here ∷ path)
+  pub table : IsRightFrom s g place (here ∷ path)
   pub filling : AreFilled s g starts (here ∷ path)
 
 -- a scan went on to its last look-up, or goes back from there: the cells hold the way back, and this one's outcome is known
@@ -170,7 +170,7 @@ pub record Went (s : Subject) (g : Grid) (place : ℕ) (here : Configuration) (o
   pub some : place < length s.symbols
   pub path : List Configuration
   pub way : IsWay s g (start_at place) here path
-  pub table : IsTable s g place (here ∷ path)
+  pub table : IsRightFrom s g place (here ∷ path)
   pub filling : AreFilled s g starts (look_ups s (start_at place))
   pub is : o ≡ outcome_at s here
 
@@ -180,6 +180,49 @@ pub record IsScanned (s : Subject) (g : Grid) (place : ℕ) (o : Outcome) : Type
   pub are : AreStarts s starts place
   pub within : place ≤ length s.symbols
   pub fit : IsFit s g
-  pub table : (found : Boundary) → o ≡ Picked found → IsTable s g found.offset []
+  pub table : (found : Boundary) → o ≡ Picked found → IsRightFrom s g found.offset []
   pub filling : AreFilled s g starts (look_ups s (start_at place))
   pub is : o ≡ outcome_at s (start_at place)
+
+-- The cells that a table holds: a window of the whole grid.
+
+-- a table holds the cells of a grid from its first on, so many as it has, and those after them are unknown, but for some that
+-- are lost: of the configurations from a place on none comes before the first. There is room for all
+pub record IsPart (s : Subject) (t : Table) (place : ℕ) (lost : ℕ → Bool) (whole : Grid) : Type 0 where
+  pub fit : IsFit s whole
+  pub states : t.states ≡ whole.states
+  pub sets : t.sets ≡ whole.sets
+  pub begins : t.first ≤ number s (start_at place)
+  pub held : (i : ℕ) → lost (t.first + i) ≡ false → slice_index_or t.cells.items i Unknown ≡ slice_index_or whole.cells (t.first + i) Unknown
+  pub room : length whole.cells ≤ vec_capacity t.cells
+
+-- none is lost
+abbrev pub none : ℕ → Bool
+none i = false
+
+-- those up to a place are, that one's too: a scan by a machine without lookaheads reads only what comes after its start
+abbrev pub late : Subject → ℕ → ℕ → Bool
+late s place i = nat_lt i (number s (start_at (suc place)))
+
+-- what is lost where the scan from a place is to begin
+abbrev pub lost_at : Subject → ℕ → ℕ → Bool
+lost_at s place = if s.machine.num_lookaheads == 0 then late s place else none
+
+-- a table holds all cells of a grid from its first on
+abbrev pub IsWindow : Subject → Table → ℕ → Grid → Type 0
+IsWindow s t place whole = IsPart s t place none whole
+
+-- a table holds cells of some grid
+abbrev pub IsHeld : Subject → Table → ℕ → Type 0
+IsHeld s t place = (lost : ℕ → Bool) × (whole : Grid) × IsPart s t place lost whole
+
+-- it is so with a grid of which this is true, and which has as many filled cells as were counted
+pub record Has (s : Subject) (t : Table) (place : ℕ) (lost : ℕ → Bool) (counted : ℕ) (P : Grid → Type 0) : Type 0 where
+  pub whole : Grid
+  pub window : IsPart s t place lost whole
+  pub count : counted ≡ filled_count whole.cells
+  pub is : P whole
+
+-- and none is lost
+abbrev pub Keeps : Subject → Table → ℕ → ℕ → (Grid → Type 0) → Type 0
+Keeps s t place counted P = Has s t place none counted P

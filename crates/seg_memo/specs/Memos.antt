@@ -2,10 +2,9 @@
 use Rattle.std.specs.Prelude.{◌≡◌, ◌<◌, ◌≤◌, ◌^◌, ℕ, Bool, false, Option, Some, None, List, length}
 use Rattle.seg_text.specs.declared.boundary.Boundary.{Boundary}
 use Rattle.seg_text.specs.Items.{Text, code_points, rest_after}
-use Rattle.seg_text.specs.Boundaries.{Remainder, offsets_left}
-use Rattle.seg_text.specs.Stretches.{remainder}
+use Rattle.seg_text.specs.Boundaries.{Remainder, offsets_left, remainder}
 use Rattle.seg_machine.specs.Machine.{Machine, symbols_of}
-use Rattle.seg_machine.specs.Segments.{machine_stretch}
+use Rattle.seg_machine.specs.Pick.{machine_stretch}
 use Rattle.seg_memo.specs.declared.memo.MemoError.{MemoError}
 use Rattle.seg_memo.specs.declared.memo.MemoError.TheVariants.{Memory, NotNeo, HasDictionary, TooLarge}
 use Rattle.seg_memo.specs.Configurations.{Subject, configurations, subject}

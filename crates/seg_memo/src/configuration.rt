@@ -3,8 +3,7 @@
 ghost use Rattle.std.specs.Prelude.{◌≡◌, ℕ, ◌<◌, false, IfSome};
 ghost use Rattle.seg_machine.specs.MachineFaults.{NamesPast};
 ghost use Rattle.seg_machine.specs.Search.{keep};
-ghost use Rattle.seg_memo.specs.Configurations.{condition_held};
-ghost use Rattle.seg_memo.specs.Outcomes.{arrival, entered, picked};
+ghost use Rattle.seg_memo.specs.Configurations.{condition_held, arrival, entered, picked};
 ghost use Rattle.seg_memo.specs.Grids.{known, holding, way_from, came_from};
 
 use seg_machine::provider::{Acceptance, Lookahead, State};

@@ -2,8 +2,7 @@
 
 ghost use Rattle.std.specs.Prelude.{◌≡◌, ℕ, List};
 ghost use Rattle.seg_machine.specs.Rows.{condition_at_end, condition_on_own_name, accepted_two_past_end, accepted_from_start, start_accepts, named_past_end};
-ghost use Rattle.seg_memo.specs.Configurations.{AreLookedUp, AreStarts, Subject};
-ghost use Rattle.seg_memo.specs.LookUpRows.{LooksUp};
+ghost use Rattle.seg_memo.specs.Configurations.{AreLookedUp, AreStarts, Subject, LooksUp};
 
 /// Law: the segments up to a place begin at these places and no others, so their scans look up one number of different
 /// configurations.

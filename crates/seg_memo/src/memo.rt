@@ -2,11 +2,10 @@
 
 ghost use Rattle.std.specs.Prelude.{◌≡◌, ◌<◌, ◌≤◌, ◌+◌, ◌*◌, ◌^◌, ⊤, ℕ, false, Some, IfOk, IfErr, IfSome, IsNone, SomeIff, length};
 ghost use Rattle.std.specs.Iterator.{YieldsFirst, MakesProgress, item_count};
-ghost use Rattle.seg_text.specs.Boundaries.{GivesNext, boundaries_in};
+ghost use Rattle.seg_text.specs.Boundaries.{GivesNext, boundaries_in, remainder};
 ghost use Rattle.seg_text.specs.Items.{code_points, rest_after};
-ghost use Rattle.seg_text.specs.Stretches.{remainder};
-ghost use Rattle.seg_machine.specs.Checked.{IsChecked};
-ghost use Rattle.seg_machine.specs.Segments.{machine_boundaries, machine_stretch};
+ghost use Rattle.seg_machine.specs.MachineFaults.{IsChecked};
+ghost use Rattle.seg_machine.specs.Pick.{machine_boundaries, machine_stretch};
 ghost use Rattle.seg_machine.specs.Tailored.{machine_of};
 ghost use Rattle.seg_memo.specs.Configurations.{AreLookedUp, configurations, reading};
 ghost use Rattle.seg_memo.specs.Memos.{IsMemoRefusal, IsNewMemo, memo_places, subject_of};
@@ -62,9 +61,8 @@ impl<'data, I: Cursor, R: ReadTransitions> Model for MemoBreakIterator<'data, I,
     ghost use Rattle.seg_machine.specs.Machine.{symbols_of};
     ghost use Rattle.seg_machine.specs.Tailored.{machine_of};
     ghost use Rattle.seg_memo.specs.Configurations.{reading, subject};
-    ghost use Rattle.seg_memo.specs.Grids.{IsAhead, IsMemo, IsReadBy};
+    ghost use Rattle.seg_memo.specs.Grids.{IsKeptSymbol, IsMemo, IsReadBy, Has, lost_at};
     ghost use Rattle.seg_memo.specs.Memos.{Memo, memo};
-    ghost use Rattle.seg_memo.specs.Windows.{Has, lost_at};
 
     ghost Value = { Memo };
 
@@ -77,7 +75,7 @@ impl<'data, I: Cursor, R: ReadTransitions> Model for MemoBreakIterator<'data, I,
         × IsReadBy scanned (machine_of s.machine) (R.states s.reader) (R.transitions s.reader)
         × (I.text s.rest ≡ rest_after s.place (I.text s.text))
         × Has scanned s.table s.place (lost_at scanned s.place) (R.counted s.reader) (λ whole. IsMemo scanned whole s.place)
-        × IsAhead scanned (machine_of s.machine) (I.text s.rest) s.place s.place s.first (I.text s.ahead) };
+        × IsKeptSymbol scanned (machine_of s.machine) (I.text s.rest) s.place s.place s.first (I.text s.ahead) };
 }
 
 impl<'data, I: Cursor, R: ReadTransitions> MemoBreakIterator<'data, I, R> {

@@ -6,10 +6,8 @@ ghost use Rattle.seg_text.specs.Boundaries.{shift};
 ghost use Rattle.seg_text.specs.Items.{rest_after};
 ghost use Rattle.seg_machine.specs.Pick.{pick};
 ghost use Rattle.seg_machine.specs.Tailored.{machine_of};
-ghost use Rattle.seg_memo.specs.Configurations.{Scan, Subject, start_at};
-ghost use Rattle.seg_memo.specs.Outcomes.{look_up, IfLeads};
-ghost use Rattle.seg_memo.specs.Grids.{GoesOn, IsAhead, IsAt, IsBegun, IsMemo, IsReadBy, IsScanned, IsSound, IsWithin, StandsAt, Went};
-ghost use Rattle.seg_memo.specs.Windows.{Has, Keeps, late, lost_at};
+ghost use Rattle.seg_memo.specs.Configurations.{Scan, Subject, start_at, look_up, IfLeads};
+ghost use Rattle.seg_memo.specs.Grids.{GoesOverItems, IsKeptSymbol, IsAt, IsFreshPlace, IsMemo, IsReadBy, IsScanned, IsSound, IsConfigurationOf, CursorStandsAt, Went, Has, Keeps, late, lost_at};
 ghost use Rattle.seg_memo.specs.declared.configuration.Outcome.TheVariants.{Picked};
 
 use crate::configuration::{
@@ -37,7 +35,7 @@ pub(crate) fn next_symbol<I: Cursor>(
     ensures symbol { result.0 ≡ slice_index_or subject.symbols place 0 }
     ensures place { result.1 ≡ min (suc place) (length subject.symbols) }
     ensures rest { IsAt subject (machine_of machine.now) result.1 (I.text rest.new).items }
-    ensures goes { GoesOn (I.text rest.old) place (I.text rest.new) result.1 }
+    ensures goes { GoesOverItems (I.text rest.old) place (I.text rest.new) result.1 }
 {
     match rest.next_item() {
         Some((_, code_point)) => (machine.symbol(code_point), place + 1),
@@ -57,12 +55,12 @@ fn look_up<I: Cursor, R: ReadTransitions>(
     requires sound { IsSound subject }
     requires read { IsReadBy subject (machine_of machine.now) (R.states reader.old) (R.transitions reader.old) }
     requires count { R.counted reader.old < usize.MAX }
-    requires here { IsWithin subject here }
+    requires here { IsConfigurationOf subject here }
     requires rest { IsAt subject (machine_of machine.now) here.place (I.text rest.old).items }
     ensures value { result ≡ look_up subject here }
-    ensures within { IfLeads result (IsWithin subject) }
+    ensures within { IfLeads result (IsConfigurationOf subject) }
     ensures rest { IfLeads result (λ next. IsAt subject (machine_of machine.now) next.place (I.text rest.new).items) }
-    ensures goes { IfLeads result (λ next. GoesOn (I.text rest.old) here.place (I.text rest.new) next.place) }
+    ensures goes { IfLeads result (λ next. GoesOverItems (I.text rest.old) here.place (I.text rest.new) next.place) }
     ensures read { IsReadBy subject (machine_of machine.now) (R.states reader.new) (R.transitions reader.new) }
     ensures count { R.counted reader.new ≡ R.counted reader.old + 1 }
 {
@@ -86,13 +84,13 @@ fn go_forward<I: Cursor, R: ReadTransitions>(
 ) -> (Configuration, Outcome, usize)
     ghost scan: { Scan }
     requires read { IsReadBy scan.subject (machine_of machine.now) (R.states reader.old) (R.transitions reader.old) }
-    requires memo { Keeps scan.subject table.old scan.start (R.counted reader.old) (IsBegun scan.subject scan.start) }
+    requires memo { Keeps scan.subject table.old scan.start (R.counted reader.old) (IsFreshPlace scan.subject scan.start) }
     requires first { first ≡ start_at scan.start }
     requires rest { IsAt scan.subject (machine_of machine.now) scan.start (I.text rest.old).items }
     requires some { scan.start < length scan.subject.symbols }
     ensures read { IsReadBy scan.subject (machine_of machine.now) (R.states reader.new) (R.transitions reader.new) }
     ensures went { Keeps scan.subject table.new scan.start (R.counted reader.new) (λ whole. Went scan.subject whole scan.start result.0 result.1) }
-    ensures stands { StandsAt (I.text rest.old) scan.start result.0.place result.2 }
+    ensures stands { CursorStandsAt (I.text rest.old) scan.start result.0.place result.2 }
 {
     let mut here = first;
     table.write(here, Cell::First);
@@ -159,7 +157,7 @@ fn outcome_from<I: Cursor, R: ReadTransitions>(
     requires some { scan.start < length scan.subject.symbols }
     ensures read { IsReadBy scan.subject (machine_of machine.now) (R.states reader.new) (R.transitions reader.new) }
     ensures scanned { Keeps scan.subject table.new scan.start (R.counted reader.new) (λ whole. IsScanned scan.subject whole scan.start result.0) }
-    ensures stands { StandsAt (I.text rest.now) scan.start result.1 result.2 }
+    ensures stands { CursorStandsAt (I.text rest.now) scan.start result.1 result.2 }
 {
     let first = Configuration {
         state: SegmenterStateMachine::START_STATE,
@@ -196,11 +194,11 @@ fn scan_plain<I: Cursor, R: ReadTransitions>(
     requires start { start ≡ scan.start }
     requires rest { IsAt scan.subject (machine_of machine.now) scan.start (I.text rest.now).items }
     requires some { (I.text rest.now).items ≢ [] }
-    requires ahead { IsAhead scan.subject (machine_of machine.now) (I.text rest.now) scan.start scan.start first.old (I.text ahead.old) }
+    requires ahead { IsKeptSymbol scan.subject (machine_of machine.now) (I.text rest.now) scan.start scan.start first.old (I.text ahead.old) }
     ensures read { IsReadBy scan.subject (machine_of machine.now) (R.states reader.new) (R.transitions reader.new) }
     ensures scanned { Has scan.subject table.new result.0.offset (late scan.subject result.0.offset) (R.counted reader.new) (λ whole. IsScanned scan.subject whole scan.start (Picked result.0)) }
-    ensures stands { StandsAt (I.text rest.now) scan.start result.0.offset result.1 }
-    ensures ahead { IsAhead scan.subject (machine_of machine.now) (I.text rest.now) scan.start result.2 first.new (I.text ahead.new) }
+    ensures stands { CursorStandsAt (I.text rest.now) scan.start result.0.offset result.1 }
+    ensures ahead { IsKeptSymbol scan.subject (machine_of machine.now) (I.text rest.now) scan.start result.2 first.new (I.text ahead.new) }
 {
     let mut state = SegmenterStateMachine::START_STATE;
     let mut symbol = *first;
@@ -267,12 +265,12 @@ pub(crate) fn next_segment<I: Cursor, R: ReadTransitions>(
     requires memo { Has subject table.old start (lost_at subject start) (R.counted reader.old) (λ whole. IsMemo subject whole start) }
     requires rest { IsAt subject (machine_of machine.now) start (I.text rest.old).items }
     requires some { (I.text rest.old).items ≢ [] }
-    requires ahead { IsAhead subject (machine_of machine.now) (I.text rest.old) start start first.old (I.text ahead.old) }
+    requires ahead { IsKeptSymbol subject (machine_of machine.now) (I.text rest.old) start start first.old (I.text ahead.old) }
     ensures read { IsReadBy subject (machine_of machine.now) (R.states reader.new) (R.transitions reader.new) }
     ensures memo { Has subject table.new result.offset (lost_at subject result.offset) (R.counted reader.new) (λ whole. IsMemo subject whole result.offset) }
     ensures segment { (p : AnyBoundary) × (pick subject.machine (drop start subject.symbols) ≡ Some p) × (result ≡ shift start p)
         × (I.text rest.new ≡ rest_after p.offset (I.text rest.old)) }
-    ensures ahead { IsAhead subject (machine_of machine.now) (I.text rest.new) result.offset result.offset first.new (I.text ahead.new) }
+    ensures ahead { IsKeptSymbol subject (machine_of machine.now) (I.text rest.new) result.offset result.offset first.new (I.text ahead.new) }
 {
     if machine.num_lookaheads() != 0 {
         let found = next_kept_segment(machine, reader, table, rest, start);
@@ -335,7 +333,7 @@ fn read_first<I: Cursor>(
     requires rest { IsAt subject (machine_of machine.now) place (I.text rest.now).items }
     requires place { place ≤ length subject.symbols }
     requires room { suc (length subject.symbols) < 2 ^ 64 }
-    ensures { IsAhead subject (machine_of machine.now) (I.text rest.now) place place first.new (I.text ahead.new) }
+    ensures { IsKeptSymbol subject (machine_of machine.now) (I.text rest.now) place place first.new (I.text ahead.new) }
 {
     *ahead = rest.fork();
     let (symbol, _) = next_symbol(machine, ahead, place);

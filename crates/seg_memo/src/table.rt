@@ -3,8 +3,7 @@
 ghost use Rattle.std.specs.Prelude.{◌≡◌, ◌+◌, ◌<◌, ◌≤◌, ◌^◌, ℕ, Bool, false, if◌then◌else◌, length, slice_index_or, vec_capacity};
 ghost use Rattle.seg_memo.specs.Configurations.{Scan};
 ghost use Rattle.seg_memo.specs.declared.configuration.Cell.TheVariants.{Unknown, KnownNothing};
-ghost use Rattle.seg_memo.specs.Grids.{Grid, cell, with_cell, number, is_filled, IsWithin};
-ghost use Rattle.seg_memo.specs.Windows.{IsHeld, IsPart, IsWindow};
+ghost use Rattle.seg_memo.specs.Grids.{Grid, cell, with_cell, number, is_filled, IsConfigurationOf, IsHeld, IsPart, IsWindow};
 
 use crate::configuration::{Cell, Configuration};
 use seg_machine::provider::SegmenterStateMachine;
@@ -31,7 +30,7 @@ impl Table {
     fn index(&self, here: Configuration) -> usize
         ghost scan: { Scan }
         requires window { IsHeld scan.subject self.now scan.start }
-        requires here { IsWithin scan.subject here }
+        requires here { IsConfigurationOf scan.subject here }
         requires from { scan.start ≤ here.place }
         ensures number { self.now.first + result ≡ number scan.subject here }
         ensures room { result < vec_capacity self.now.cells }
@@ -46,7 +45,7 @@ impl Table {
     pub(crate) fn cell(&self, here: Configuration) -> Cell
         ghost scan: { Scan }
         requires window { IsHeld scan.subject self.now scan.start }
-        requires here { IsWithin scan.subject here }
+        requires here { IsConfigurationOf scan.subject here }
         requires from { scan.start ≤ here.place }
         ensures { (whole : Grid) → IsWindow scan.subject self.now scan.start whole → result ≡ cell scan.subject whole here }
     {
@@ -102,7 +101,7 @@ impl Table {
     pub(crate) fn write(&mut self, here: Configuration, cell: Cell)
         ghost scan: { Scan }
         requires window { IsHeld scan.subject self.old scan.start }
-        requires here { IsWithin scan.subject here }
+        requires here { IsConfigurationOf scan.subject here }
         requires from { scan.start ≤ here.place }
         ensures { (whole : Grid) → IsWindow scan.subject self.old scan.start whole
             → IsWindow scan.subject self.new scan.start (with_cell scan.subject whole here cell) }
@@ -117,7 +116,7 @@ impl Table {
     fn make_room(&mut self, here: Configuration, from: usize)
         ghost scan: { Scan }
         requires window { IsHeld scan.subject self.old scan.start }
-        requires here { IsWithin scan.subject here }
+        requires here { IsConfigurationOf scan.subject here }
         requires place { scan.start ≤ here.place }
         requires from { from ≡ scan.start }
         ensures window { (lost : ℕ → Bool) (whole : Grid) → IsPart scan.subject self.old scan.start lost whole → IsPart scan.subject self.new scan.start lost whole }
@@ -133,7 +132,7 @@ impl Table {
     fn hold(&mut self, here: Configuration, from: usize)
         ghost scan: { Scan }
         requires window { IsHeld scan.subject self.old scan.start }
-        requires here { IsWithin scan.subject here }
+        requires here { IsConfigurationOf scan.subject here }
         requires place { scan.start ≤ here.place }
         requires from { from ≡ scan.start }
         ensures window { (lost : ℕ → Bool) (whole : Grid) → IsPart scan.subject self.old scan.start lost whole → IsPart scan.subject self.new scan.start lost whole }
@@ -149,7 +148,7 @@ impl Table {
     pub(crate) fn mark(&mut self, here: Configuration, from: usize) -> bool
         ghost scan: { Scan }
         requires window { IsHeld scan.subject self.old scan.start }
-        requires here { IsWithin scan.subject here }
+        requires here { IsConfigurationOf scan.subject here }
         requires place { scan.start ≤ here.place }
         requires from { from ≡ scan.start }
         ensures { (lost : ℕ → Bool) (whole : Grid) → IsPart scan.subject self.old scan.start lost whole → lost (number scan.subject here) ≡ false

@@ -12,9 +12,8 @@ use Rattle.seg_data.proofs.Anywhere.{any-at, any-contained, contained-same}
 use Rattle.seg_data.proofs.Ranges.{value-named}
 use Rattle.seg_pair_data.specs.declared.provider.pairs.BreakState.{BreakState}
 use Rattle.seg_pair_data.specs.declared.provider.pairs.BreakState.TheVariants.{NoMatch}
-use Rattle.seg_pair_data.specs.BreakStates.{named_state}
-use Rattle.seg_pair_data.specs.PairFaults.{HasPairFault, HasPairDataFault, NamesStatePast, KeepsStart}
-use Rattle.seg_pair_data.specs.PairTable.{PairTable, IsPairTable, Names, Overrides, class_of, entry_of}
+use Rattle.seg_pair_data.specs.PairTable.{named_state, PairTable, IsPairTable, Names, Overrides, class_of, entry_of}
+use Rattle.seg_pair_data.specs.PairData.{HasPairFault, HasPairDataFault, NamesStatePast, KeepsStart}
 
 -- the place of an entry
 pub entry-within : (left right count : ℕ) → left < count → right < count → left * count + right < count * count

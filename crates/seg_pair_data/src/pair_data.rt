@@ -1,7 +1,6 @@
 //! Pair tables with their overrides, as engines read them. It isn't part of the library's surface.
 ghost use Rattle.std.specs.Prelude.{ℕ, ◌<◌};
-ghost use Rattle.seg_pair_data.specs.Overriding.{table_in};
-ghost use Rattle.seg_pair_data.specs.PairTable.{Overrides};
+ghost use Rattle.seg_pair_data.specs.PairTable.{table_in, Overrides};
 
 use crate::provider::pair_checks::{keeps_start_before, overrides, overrides_by, overrides_from};
 use crate::provider::{RuleBreakData, RuleBreakDataOverride};
@@ -21,8 +20,7 @@ impl PairData {
     ghost use Rattle.std.specs.Prelude.{◌≡◌, IfOk, IfErr};
     ghost use Rattle.seg_data.specs.declared.provider.DataError.TheVariants.{ClassOutOfRange};
     ghost use Rattle.seg_data.specs.Faults.{IsFaultless, IsLowestFault};
-    ghost use Rattle.seg_pair_data.specs.PairData.{pair_table_of, override_of, owned_pair_table, owned_override};
-    ghost use Rattle.seg_pair_data.specs.PairFaults.{HasPairDataFault};
+    ghost use Rattle.seg_pair_data.specs.PairData.{pair_table_of, override_of, owned_pair_table, owned_override, HasPairDataFault};
 
     /// A pair table with its override, if there is one, for texts in which no item may be complex:
     /// refused are `ClassOutOfRange`, `StartRowKeeps` and `ComplexItems` as by the borrowed form.
@@ -76,10 +74,8 @@ impl<'data> PairDataBorrowed<'data> {
     ghost use Rattle.std.specs.Prelude.{◌≡◌, ◌<◌, ◌↔◌, IsTrue, IfOk, IfErr, IsOkAnd, None};
     ghost use Rattle.seg_data.specs.declared.provider.DataError.TheVariants.{StartRowKeeps, ComplexItems, ClassOutOfRange};
     ghost use Rattle.seg_data.specs.Faults.{IsFaultless, IsLowestFault};
-    ghost use Rattle.seg_pair_data.specs.Overriding.{table_in};
-    ghost use Rattle.seg_pair_data.specs.PairData.{pair_table_of, override_of, class_by};
-    ghost use Rattle.seg_pair_data.specs.PairFaults.{HasPairDataFault, HasComplexClassBelow0100};
-    ghost use Rattle.seg_pair_data.specs.PairTable.{Names};
+    ghost use Rattle.seg_pair_data.specs.PairTable.{table_in, Names};
+    ghost use Rattle.seg_pair_data.specs.PairData.{pair_table_of, override_of, class_by, HasPairDataFault, HasComplexClassBelow0100};
 
     /// A pair table without an override.
     pub fn new(table: &'data RuleBreakData) -> Self

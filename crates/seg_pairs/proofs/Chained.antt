@@ -1,14 +1,12 @@
 -- Chains of verdicts, where those to go on are stretches without boundaries.
 use Rattle.std.proofs.Common.{◌≡◌, ℕ, zero, suc, ◌+◌, ◌<◌, ◌≤◌, List, [], ◌∷◌, ◌++◌, length, map, drop, refl, sym, ap, ◌∙◌, subst, arith}
 use Rattle.std.proofs.lemmas.List.{drop-drop, drop-map, length-map}
-use Rattle.seg_text.specs.Boundaries.{boundary, shift_all}
-use Rattle.seg_text.specs.Stretches.{Stretch, later_boundaries, HasProgress}
+use Rattle.seg_text.specs.Boundaries.{boundary, shift_all, Stretch, later_boundaries, HasProgress}
 use Rattle.seg_text.proofs.Stretches.{later-next}
 use Rattle.seg_text.proofs.Places.{shifted-none, shifted-twice}
-use Rattle.seg_pairs.specs.Verdict.{Verdict}
+use Rattle.seg_pairs.specs.Verdict.{Verdict, chain_within, chain, TakesOf, IsForward}
 use Rattle.seg_pairs.specs.Verdict.Verdict.{BreakAfter, GoAfter, RunBegins}
 use Rattle.seg_pairs.specs.Breaks.{status_of, stretch_of}
-use Rattle.seg_pairs.specs.Chains.{chain_within, chain, TakesOf, IsForward}
 use Rattle.seg_pairs.proofs.Chains.{left-after, go_on-same, chain-go, chain-break, chain-run}
 
 -- where a chain ends: all boundaries of the whole are those from there on

@@ -1,9 +1,8 @@
 -- Chains of verdicts.
 use Rattle.std.proofs.Common.{◌≡◌, ◌≢◌, ℕ, zero, suc, ◌+◌, ◌<◌, ◌≤◌, List, [], ◌∷◌, length, drop, refl, sym, ap, ◌∙◌, subst, arith}
 use Rattle.std.proofs.lemmas.List.{length-drop, drop-drop}
-use Rattle.seg_pairs.specs.Verdict.{Verdict}
+use Rattle.seg_pairs.specs.Verdict.{Verdict, go_on, chain_within, chain, TakesOf, IsForward, HasNoRun}
 use Rattle.seg_pairs.specs.Verdict.Verdict.{BreakAfter, GoAfter, RunBegins}
-use Rattle.seg_pairs.specs.Chains.{go_on, chain_within, chain, TakesOf, IsForward, HasNoRun}
 
 -- what is left after some, but not all
 pub record Left {X : Type 0} (n : ℕ) (xs : List X) : Type 0 where

@@ -5,11 +5,9 @@ use Rattle.std.specs.Iterator.{YieldsFirst, MakesProgress, item_count}
 use Rattle.std.proofs.lemmas.List.{drop-map, length-map}
 use Rattle.seg_text.specs.declared.boundary.Boundary.{Boundary}
 use Rattle.seg_text.specs.Items.{Item, Text, place_of, start_of, rest_after, code_points, IsRising}
-use Rattle.seg_text.specs.Boundaries.{Remainder, GivesNext, IsCover, boundary, start, boundary_in, boundaries_in, offsets, offsets_left, shift_all}
-use Rattle.seg_text.specs.Stretches.{Stretch, later_boundaries, list_boundaries, remainder, HasEndAlone, HasProgress, IsWithin}
+use Rattle.seg_text.specs.Boundaries.{Remainder, GivesNext, IsCover, boundary, start, boundary_in, boundaries_in, offsets, offsets_left, shift_all, Stretch, later_boundaries, list_boundaries, remainder, HasEndAlone, HasProgress, IsWithin, AreLeft}
 use Rattle.seg_text.proofs.Covers.{covers}
 use Rattle.seg_text.proofs.Cursors.{fewer-left}
-use Rattle.seg_text.specs.Reach.{AreLeft}
 use Rattle.seg_text.proofs.Hints.{stretches-left}
 use Rattle.seg_text.proofs.Places.{in-shift, IsRising-drop}
 use Rattle.seg_text.proofs.Stretches.{later-nil, later-map}
@@ -19,13 +17,10 @@ use Rattle.seg_pair_data.specs.PairData.{pair_table_of, override_of}
 use Rattle.seg_pair_data.specs.PairTable.{PairTable, class_of}
 use Rattle.seg_pairs.specs.declared.elements.Element.{Element}
 use Rattle.seg_pairs.specs.declared.verdicts.Outcome.TheVariants.{Break as BreakOut, Run as RunOut}
-use Rattle.seg_pairs.specs.Verdict.{Verdict, verdict}
+use Rattle.seg_pairs.specs.Verdict.{Verdict, verdict, chain, TakesOf, EndsIn, IsRest}
 use Rattle.seg_pairs.specs.Verdict.Verdict.{BreakAfter, GoAfter, RunBegins}
 use Rattle.seg_pairs.specs.Breaks.{status_of, stretch_of, class_stretch, classes_by, table_stretch, table_boundaries}
-use Rattle.seg_pairs.specs.Chains.{chain, TakesOf}
-use Rattle.seg_pairs.specs.Elements.{classes_of, class_text, onto, place_at}
-use Rattle.seg_pairs.specs.Items.{elements_of}
-use Rattle.seg_pairs.specs.Steps.{EndsIn, IsRest}
+use Rattle.seg_pairs.specs.Elements.{classes_of, class_text, onto, place_at, elements_of}
 use Rattle.seg_pairs.proofs.Chained.{chain-first}
 use Rattle.seg_pairs.proofs.Chains.{chain-no-run}
 use Rattle.seg_pairs.proofs.Forward.{verdict-forward, verdict-no-run, on-classes}

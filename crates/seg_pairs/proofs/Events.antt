@@ -5,9 +5,7 @@ use Rattle.std.specs.Iterator.{YieldsFirst}
 use Rattle.std.proofs.lemmas.List.{drop-drop, length-drop, length-take, drop-map, take-map}
 use Rattle.seg_text.specs.declared.boundary.Boundary.{Boundary}
 use Rattle.seg_text.specs.Items.{Item, Text, place_of, start_of, rest_after, text_before, code_points, prefix_length}
-use Rattle.seg_text.specs.Boundaries.{boundary, boundary_in, shift_all}
-use Rattle.seg_text.specs.Cuts.{Cuts, AreCutsOf, with_status, cut_places}
-use Rattle.seg_text.specs.Stretches.{Stretch, later_boundaries}
+use Rattle.seg_text.specs.Boundaries.{boundary, boundary_in, shift_all, Cuts, AreCutsOf, with_status, cut_places, Stretch, later_boundaries}
 use Rattle.seg_text.proofs.Places.{in-shift, code_points-drop, place-before}
 use Rattle.seg_text.proofs.Stretches.{text-later-next}
 use Rattle.seg_data.specs.Table.{Table}
@@ -16,15 +14,10 @@ use Rattle.seg_pairs.specs.declared.elements.Element.{Element}
 use Rattle.seg_pairs.specs.declared.verdicts.Outcome.TheVariants.{Break as BreakOut, Run as RunOut}
 use Rattle.seg_pair_data.specs.PairData.{pair_table_of, override_of}
 use Rattle.seg_pair_data.specs.PairTable.{PairTable, class_of}
-use Rattle.seg_pairs.specs.Elements.{classes_of, onto, place_at}
-use Rattle.seg_pairs.specs.Items.{element_of, elements_of}
-use Rattle.seg_pairs.specs.Verdict.{Verdict, complex_verdict}
+use Rattle.seg_pairs.specs.Elements.{classes_of, onto, place_at, element_of, elements_of, IsElementAhead}
+use Rattle.seg_pairs.specs.Verdict.{Verdict, complex_verdict, chain, TakesOf, EndsIn}
 use Rattle.seg_pairs.specs.Verdict.Verdict.{BreakAfter, GoAfter, RunBegins}
-use Rattle.seg_pairs.specs.Breaks.{status_of}
-use Rattle.seg_pairs.specs.Chains.{chain, TakesOf}
-use Rattle.seg_pairs.specs.Steps.{EndsIn}
-use Rattle.seg_pairs.specs.Runs.{GoesOn, is_complex, run_length, run_status, stretch_with_runs, complex_stretch, unread_by, unread_boundaries}
-use Rattle.seg_pairs.specs.Ahead.{IsAhead}
+use Rattle.seg_pairs.specs.Breaks.{status_of, GoesOnUnread, is_complex, run_length, run_status, stretch_with_runs, complex_stretch, unread_by, unread_boundaries}
 use Rattle.seg_pairs.proofs.Chained.{Chained, chain-map}
 use Rattle.seg_pairs.proofs.ComplexStretches.{point_verdict, point-forward, run-some, complex-going, complex-chained}
 use Rattle.seg_pairs.proofs.Engine.{read-onto, none-left, new-empty, items-codes, rest-is}
@@ -251,7 +244,7 @@ nothing-left pairs items next rest none empty is = none-left pairs items (sym is
 pub ahead-read : (pairs : PairDataBorrowed) (from text : Text) (next : Option Element) (rest_pairs : PairDataBorrowed) (rest : Text) → from ≡ text
     → YieldsFirst (λ (elements : List Element). elements) (elements_of pairs from.items) next (elements_of rest_pairs rest.items)
     → rest.end ≡ from.end → pair_table_of rest_pairs ≡ pair_table_of pairs → IfSome next (λ next. next.class < (pair_table_of pairs).property_count)
-    → IsAhead pairs text next rest_pairs rest
+    → IsElementAhead pairs text next rest_pairs rest
 ahead-read pairs from text next rest_pairs rest same gives end table below = record {
   same = sym (read-onto (λ (elements : List Element). elements) (elements_of pairs from.items) next (elements_of rest_pairs rest.items) gives) ∙ ap (λ (text : Text). elements_of pairs text.items) same;
   same_end = end ∙ ap (λ (text : Text). text.end) same;
@@ -262,7 +255,7 @@ ahead-read pairs from text next rest_pairs rest same gives end table below = rec
 
 -- what is left after an event
 pub goes-on : (pairs : PairDataBorrowed) (text after : Text) (n : ℕ) → after ≡ rest_after n text → length (drop n text.items) < length text.items
-    → GoesOn (unread_by pairs text) (unread_by pairs after)
+    → GoesOnUnread (unread_by pairs text) (unread_by pairs after)
 goes-on pairs text after n is fewer = rw is (record { table = refl; overriding = refl; end = refl; fewer = λ some. fewer })
 
 pub break-leads : (pairs : PairDataBorrowed) (text after : Text) (class place : ℕ) (elements : List Element) (b : HasBreak pairs text class elements)
@@ -279,6 +272,6 @@ pub run-leads : (pairs : PairDataBorrowed) (text left run after : Text) (place :
 run-leads pairs text left run after place r left_is run_is is = rw (is, run_is, left_is) r.leads
 
 pub run-goes : (pairs : PairDataBorrowed) (text left after : Text) (place : ℕ) (r : HasRun pairs text place) → left ≡ rest_after r.gone text
-    → after ≡ rest_after (run_extent pairs left) left → GoesOn (unread_by pairs text) (unread_by pairs after)
+    → after ≡ rest_after (run_extent pairs left) left → GoesOnUnread (unread_by pairs text) (unread_by pairs after)
 run-goes pairs text left after place r left_is is =
     rw (is, left_is) (record { table = refl; overriding = refl; end = refl; fewer = λ some. r.fewer })

@@ -4,19 +4,15 @@ use Rattle.std.proofs.lemmas.Bool.{ne_eqb}
 use Rattle.std.proofs.lemmas.List.{drop-map, drop-drop, length-drop}
 use Rattle.seg_pair_data.specs.declared.provider.pairs.BreakState.{BreakState}
 use Rattle.seg_pair_data.specs.declared.provider.pairs.BreakState.TheVariants.{Break as BreakEntry, Keep, NoMatch, Intermediate, Index}
-use Rattle.seg_pair_data.specs.PairTable.{PairTable, entry_of}
-use Rattle.seg_pair_data.specs.BreakStates.{named_state}
+use Rattle.seg_pair_data.specs.PairTable.{PairTable, entry_of, named_state}
 use Rattle.seg_pairs.specs.declared.elements.Element.{Element}
 use Rattle.seg_pairs.specs.Elements.{classes_of, onto}
 use Rattle.seg_pairs.specs.Walk.{Walk}
-use Rattle.seg_pairs.specs.Verdict.{Verdict, stop_verdict, end_verdict, walk_verdict, named_verdict, first_verdict, verdict, complex_verdict}
-use Rattle.seg_pairs.specs.Stop.{IsStop, class_at, walk_of}
+use Rattle.seg_pairs.specs.Verdict.{Verdict, stop_verdict, end_verdict, walk_verdict, named_verdict, first_verdict, verdict, complex_verdict, IsStop, class_at, walk_of, Lands, LandsOrWalks, EndsIn, IsRest, chain, TakesOf, IsForward}
 use Rattle.seg_pairs.specs.declared.verdicts.Step.{Step}
 use Rattle.seg_pairs.specs.declared.verdicts.Step.TheVariants.{Break, End, Go, Run, Walk as WalkOn}
-use Rattle.seg_pairs.specs.Steps.{Lands, LandsOrWalks, EndsIn, IsRest}
 use Rattle.seg_pairs.specs.declared.verdicts.Outcome.{Outcome}
 use Rattle.seg_pairs.specs.declared.verdicts.Outcome.TheVariants.{Break as BreakOut, Run as RunOut}
-use Rattle.seg_pairs.specs.Chains.{chain, TakesOf, IsForward}
 use Rattle.seg_pairs.proofs.Chains.{IsOnChain, chain-break, chain-run}
 use Rattle.seg_pairs.specs.Verdict.Verdict.{BreakAfter, GoAfter, RunBegins}
 use Rattle.seg_pairs.proofs.Walks.{drop-next}

@@ -2,8 +2,7 @@
 use Rattle.std.proofs.Common.{◌≡◌, [], ◌∷◌, refl}
 use Rattle.seg_pair_data.specs.declared.provider.pairs.BreakState.TheVariants.{Index, Intermediate}
 use Rattle.seg_pair_data.specs.PairTable.{entry_of}
-use Rattle.seg_text.specs.Boundaries.{boundary}
-use Rattle.seg_text.specs.Stretches.{later_boundaries, later_boundaries_within}
+use Rattle.seg_text.specs.Boundaries.{boundary, later_boundaries, later_boundaries_within}
 use Rattle.seg_pairs.specs.Breaks.{class_stretch}
 use Rattle.seg_pairs.specs.Rows.{breaks_of, retreat_table, composite_table}
 use Rattle.seg_pairs.specs.Verdict.{verdict, named_verdict}

@@ -7,12 +7,11 @@ use Rattle.std.proofs.lemmas.Grind.{reverse_onto}
 use Rattle.std.proofs.lemmas.List.{drop-drop}
 use Rattle.std.proofs.lemmas.List.Folds.{find-append}
 use Rattle.seg_pair_data.specs.declared.provider.pairs.BreakState.{BreakState}
-use Rattle.seg_pair_data.specs.BreakStates.{named_state, is_intermediate}
-use Rattle.seg_pair_data.specs.PairTable.{PairTable, entry_of}
+use Rattle.seg_pair_data.specs.PairTable.{named_state, is_intermediate, PairTable, entry_of}
 use Rattle.seg_pairs.specs.declared.elements.Element.{Element}
 use Rattle.seg_pairs.specs.Walk.{Naming, namings, Walk, walk, is_class, leaves_class, saves, last_or}
 use Rattle.seg_pairs.specs.Elements.{classes_of}
-use Rattle.seg_pairs.specs.Stop.{IsStop, class_at, walk_of}
+use Rattle.seg_pairs.specs.Verdict.{IsStop, class_at, walk_of}
 
 -- the last of a kind among the others, or else the first
 last_or-cons : (is : Naming → Bool) (has : Naming → ℕ) (naming : Naming) (namings : List Naming) (otherwise : ℕ)

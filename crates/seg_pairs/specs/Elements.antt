@@ -1,6 +1,8 @@
 -- Elements of a text.
-use Rattle.std.specs.Prelude.{ℕ, Option, Some, None, List, [], ◌∷◌, map}
-use Rattle.seg_text.specs.Items.{Text}
+use Rattle.std.specs.Prelude.{ℕ, Option, Some, None, List, [], ◌∷◌, map, true, false, ◌≡◌, ◌<◌, IfSome}
+use Rattle.seg_text.specs.Items.{Text, Item}
+use Rattle.seg_pair_data.specs.declared.pair_data.PairDataBorrowed.{PairDataBorrowed}
+use Rattle.seg_pair_data.specs.PairData.{class_by, pair_table_of}
 use Rattle.seg_pairs.specs.declared.elements.Element.{Element}
 
 abbrev pub classes_of : List Element → List ℕ
@@ -19,3 +21,28 @@ class_text elements end = record { items = map (λ (element : Element). (element
 abbrev pub place_at : List Element → ℕ → ℕ
 place_at [] end = end
 place_at (element ∷ elements) end = element.place
+
+-- The items of a text as elements.
+
+-- an item with the class of its code point
+abbrev pub element_of : PairDataBorrowed → Item → Element
+element_of pairs item = record {
+  class = class_by pairs item.1;
+  place = item.0;
+  code_point = item.1;
+  is_joined = false;
+  is_single = true;
+}
+
+abbrev pub elements_of : PairDataBorrowed → List Item → List Element
+elements_of pairs items = map (element_of pairs) items
+
+-- A text as items and as elements, of which the first is read already.
+
+-- the first element, where there is one, and the elements of the rest are those of the text
+pub record IsElementAhead (pairs : PairDataBorrowed) (text : Text) (next : Option Element) (rest_pairs : PairDataBorrowed) (rest : Text) : Type 0 where
+  pub same : onto next (elements_of rest_pairs rest.items) ≡ elements_of pairs text.items
+  pub same_end : rest.end ≡ text.end
+  pub same_table : pair_table_of rest_pairs ≡ pair_table_of pairs
+  pub empty : next ≡ None → rest.items ≡ []
+  pub below : IfSome next (λ next. next.class < (pair_table_of pairs).property_count)

@@ -1,11 +1,5 @@
 pub mod Elements
-pub mod Items
 pub mod Walk
 pub mod Verdict
 pub mod Breaks
-pub mod Chains
-pub mod Stop
-pub mod Steps
-pub mod Runs
-pub mod Ahead
 pub mod Rows

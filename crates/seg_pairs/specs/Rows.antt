@@ -1,7 +1,7 @@
 -- Small tables whose boundaries are known: class 1 is x and 2 is y, 3 and 4 are composites.
 use Rattle.std.specs.Prelude.{ℕ, List, [], ◌∷◌}
 use Rattle.seg_text.specs.declared.boundary.Boundary.{Boundary}
-use Rattle.seg_text.specs.Stretches.{later_boundaries}
+use Rattle.seg_text.specs.Boundaries.{later_boundaries}
 use Rattle.seg_data.specs.Table.{table}
 use Rattle.seg_pair_data.specs.declared.provider.pairs.BreakState.{BreakState}
 use Rattle.seg_pair_data.specs.declared.provider.pairs.BreakState.TheVariants.{Break, Keep, NoMatch, Index}

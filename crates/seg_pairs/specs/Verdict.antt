@@ -1,9 +1,16 @@
 -- The verdict of a pair table on the first of some elements, from their classes.
-use Rattle.std.specs.Prelude.{ℕ, ◌==◌, if◌then◌else◌, List, [], ◌∷◌, drop}
+use Rattle.std.specs.Prelude.{ℕ, ◌==◌, if◌then◌else◌, List, [], ◌∷◌, drop, ◌≡◌, suc, Option, Some, None, ◌≢◌, zero, ◌+◌, ◌<◌, ◌≤◌, length, IfSome}
+use Rattle.std.specs.Option.{option_map_or}
 use Rattle.seg_pair_data.specs.declared.provider.pairs.BreakState.{BreakState}
 use Rattle.seg_pair_data.specs.declared.provider.pairs.BreakState.TheVariants.{Break, Keep, NoMatch, Intermediate, Index}
-use Rattle.seg_pair_data.specs.PairTable.{PairTable, entry_of}
+use Rattle.seg_pair_data.specs.PairTable.{PairTable, entry_of, named_state}
 use Rattle.seg_pairs.specs.Walk.{Walk, walk}
+use Rattle.seg_pairs.specs.declared.elements.Element.{Element}
+use Rattle.seg_pairs.specs.Elements.{classes_of, onto}
+use Rattle.seg_pairs.specs.declared.verdicts.Step.{Step}
+use Rattle.seg_pairs.specs.declared.verdicts.Step.TheVariants as steps
+use Rattle.seg_pairs.specs.declared.verdicts.Outcome.{Outcome}
+use Rattle.seg_pairs.specs.declared.verdicts.Outcome.TheVariants.{Break as BreakOut, Run as RunOut}
 
 pub data Verdict : Type 0 where
   -- after so many elements stands a boundary, with a class
@@ -67,3 +74,99 @@ complex_verdict t (first ∷ second ∷ after) =
     if second == t.complex_property
     then (if first == t.complex_property then RunBegins else BreakAfter 1 first)
     else verdict t (first ∷ second ∷ after)
+
+-- Where a walk over elements stops.
+
+-- the class of the next element, or else of the end of the text
+abbrev pub class_at : PairTable → Option Element → ℕ
+class_at t next = option_map_or (λ (element : Element). element.class) next t.eot_property
+
+-- the walk of these elements, whose first two name a state
+abbrev pub walk_of : PairTable → ℕ → List Element → Walk
+walk_of t start [] = walk_from t start 0 []
+walk_of t start (first ∷ []) = walk_from t start first.class []
+walk_of t start (first ∷ second ∷ after) = walk_from t start first.class (classes_of after)
+
+-- the walk stops in this state before the elements that are left, where this entry names no state, or at the end; it
+-- was saved last before those, with this class; `before` and `saved_before` are the elements right before
+pub record IsStop
+    (t : PairTable) (start : ℕ) (elements : List Element) (state : ℕ) (entry : BreakState)
+    (before : Element) (next : Option Element) (left : List Element)
+    (saved_before saved : Element) (saved_left : List Element) (class : ℕ) : Type 0 where
+  pub passed : ℕ
+  pub stops : (walk_of t start elements).stop ≡ suc passed
+  pub left_after : before ∷ onto next left ≡ drop passed elements
+  pub in_state : (walk_of t start elements).state ≡ state
+  pub at_entry : entry ≡ entry_of t state (class_at t next)
+  pub names_none : (element : Element) → next ≡ Some element → named_state entry ≡ None
+  pub at_end : next ≡ None → left ≡ []
+  pub saved_passed : ℕ
+  pub saves : (walk_of t start elements).saved ≡ suc saved_passed
+  pub saved_after : saved_before ∷ saved ∷ saved_left ≡ drop saved_passed elements
+  pub saved_class : (walk_of t start elements).class ≡ class
+
+-- Chains of verdicts: where those to go on lead.
+
+-- where the verdicts to go on lead from the first of these elements, at most so many of them: how many elements they
+-- take, and the verdict there
+abbrev pub go_on : (ℕ → ℕ × Verdict) → Verdict → ℕ × Verdict
+go_on from (GoAfter taken) = (taken + (from taken).0, (from taken).1)
+go_on from (BreakAfter taken class) = (0, BreakAfter taken class)
+go_on from RunBegins = (0, RunBegins)
+
+unfoldable pub chain_within : {X : Type 0} → (List X → Verdict) → ℕ → List X → ℕ × Verdict
+chain_within verdict zero xs = (0, verdict xs)
+chain_within verdict (suc most) xs = go_on (λ taken. chain_within verdict most (drop taken xs)) (verdict xs)
+
+unfoldable pub chain : {X : Type 0} → (List X → Verdict) → List X → ℕ × Verdict
+chain verdict xs = chain_within verdict (length xs) xs
+
+-- a verdict takes some of the elements; to go on it leaves some
+abbrev pub TakesOf : ℕ → Verdict → Type 0
+TakesOf count (BreakAfter taken class) = (0 < taken) × (taken ≤ count)
+TakesOf count (GoAfter taken) = (0 < taken) × (taken < count)
+TakesOf count RunBegins = Unit {0}
+
+abbrev pub IsForward : {X : Type 0} → (List X → Verdict) → Type 0
+IsForward {X} verdict = (x : X) (xs : List X) → TakesOf (length (x ∷ xs)) (verdict (x ∷ xs))
+
+abbrev pub HasNoRun : {X : Type 0} → (List X → Verdict) → Type 0
+HasNoRun {X} verdict = (x : X) (xs : List X) → verdict (x ∷ xs) ≢ RunBegins
+
+-- Steps of an engine: what a verdict on the first of some elements leads to, and which are left.
+
+-- the next element, which was read already, and those after it; or none
+abbrev pub IsRest : Option Element → List Element → List Element → Type 0
+IsRest None left elements = (elements ≡ []) × (left ≡ [])
+IsRest (Some next) left elements = elements ≡ next ∷ left
+
+-- the step is what the verdict says, and leaves the elements after those that it takes
+abbrev pub Lands : Verdict → List Element → Step → List Element → Type 0
+Lands (BreakAfter taken with_class) elements (steps.Break next class) left = (class ≡ with_class) × (drop taken elements ≡ next ∷ left)
+Lands (BreakAfter taken with_class) elements (steps.End class) left = (class ≡ with_class) × (drop taken elements ≡ []) × (left ≡ [])
+Lands (GoAfter taken) elements (steps.Go next) left = drop taken elements ≡ next ∷ left
+Lands RunBegins elements (steps.Run second) left = drop 1 elements ≡ second ∷ left
+Lands verdict elements step left = ⊥
+
+-- the same, or the first two elements name a state, and the verdict is that of the walk from there
+abbrev pub LandsOrWalks : (ℕ → Verdict) → Verdict → List Element → Step → List Element → Type 0
+LandsOrWalks walk verdict elements (steps.Walk second state) left = (verdict ≡ walk state) × (drop 1 elements ≡ second ∷ left)
+LandsOrWalks walk verdict elements step left = Lands verdict elements step left
+
+-- the outcome is what the verdict at the end of a chain says, after the elements that the chain takes
+abbrev pub EndsIn : ℕ × Verdict → List Element → Outcome → List Element → Type 0
+EndsIn (gone, BreakAfter taken with_class) elements (BreakOut class next) left = (class ≡ with_class) × IsRest next left (drop (gone + taken) elements)
+EndsIn (gone, RunBegins) elements (RunOut first second) left = drop gone elements ≡ first ∷ second ∷ left
+EndsIn found elements outcome left = ⊥
+
+-- the class of the element that was read already is below this number, and so is the state of a walk
+abbrev pub IsStepBelow : ℕ → Step → Type 0
+IsStepBelow count (steps.Break next class) = next.class < count
+IsStepBelow count (steps.End class) = Unit {0}
+IsStepBelow count (steps.Go next) = next.class < count
+IsStepBelow count (steps.Run second) = second.class < count
+IsStepBelow count (steps.Walk second state) = (second.class < count) × (state < count)
+
+abbrev pub IsOutcomeBelow : ℕ → Outcome → Type 0
+IsOutcomeBelow count (BreakOut class next) = IfSome next (λ next. next.class < count)
+IsOutcomeBelow count (RunOut first second) = (first.class < count) × (second.class < count)

@@ -2,8 +2,7 @@
 use Rattle.std.specs.Prelude.{ℕ, suc, ◌+◌, nat_le, ◌||◌, Bool, true, Option, List, [], ◌∷◌, length, reverse, find}
 use Rattle.std.specs.Option.{option_map_or}
 use Rattle.seg_pair_data.specs.declared.provider.pairs.BreakState.{BreakState}
-use Rattle.seg_pair_data.specs.BreakStates.{named_state, is_intermediate}
-use Rattle.seg_pair_data.specs.PairTable.{PairTable, entry_of}
+use Rattle.seg_pair_data.specs.PairTable.{named_state, is_intermediate, PairTable, entry_of}
 
 -- an entry of a walk that names a state: which element it stands before, counted from 0, the state that the walk was
 -- in, the entry of this state and the element's class, and the state that it names

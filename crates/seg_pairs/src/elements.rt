@@ -63,7 +63,7 @@ pub struct Items<'data, I: Cursor> {
 
 impl<'data, I: Cursor> Elements for Items<'data, I> {
     ghost use Rattle.seg_pair_data.specs.PairData.{pair_table_of};
-    ghost use Rattle.seg_pairs.specs.Items.{elements_of};
+    ghost use Rattle.seg_pairs.specs.Elements.{elements_of};
 
     ghost left = { λ s. elements_of s.pairs (I.text s.cursor).items };
 

@@ -31,12 +31,10 @@ pub struct RuleBreakIterator<'data, I: Cursor> {
 impl<'data, I: Cursor> Model for RuleBreakIterator<'data, I> {
     ghost use Rattle.std.specs.Prelude.{◌≡◌, ◌<◌, false, None, [], IfSome};
     ghost use Rattle.seg_pair_data.specs.PairData.{pair_table_of};
-    ghost use Rattle.seg_text.specs.Boundaries.{Remainder};
+    ghost use Rattle.seg_text.specs.Boundaries.{Remainder, remainder};
     ghost use Rattle.seg_text.specs.Items.{IsRising};
-    ghost use Rattle.seg_text.specs.Stretches.{remainder};
     ghost use Rattle.seg_pairs.specs.Breaks.{class_stretch, status_of};
-    ghost use Rattle.seg_pairs.specs.Elements.{onto, class_text};
-    ghost use Rattle.seg_pairs.specs.Items.{elements_of};
+    ghost use Rattle.seg_pairs.specs.Elements.{onto, class_text, elements_of};
 
     ghost Value = { Remainder };
 

@@ -3,7 +3,7 @@
 
 ghost use Rattle.std.specs.Prelude.{◌≡◌, []};
 ghost use Rattle.seg_text.specs.Items.{start_of};
-ghost use Rattle.seg_pairs.specs.Runs.{LeadsTo, GoesOn, unread_by};
+ghost use Rattle.seg_pairs.specs.Breaks.{LeadsTo, GoesOnUnread, unread_by};
 
 use crate::elements::{Element, Elements, Items};
 use crate::rule_segmenter_v1::place_before;
@@ -33,7 +33,7 @@ struct ComplexTest<'data> {
 
 impl<'data> CodePointTest for ComplexTest<'data> {
     ghost use Rattle.seg_pair_data.specs.PairData.{pair_table_of, override_of};
-    ghost use Rattle.seg_pairs.specs.Runs.{is_complex};
+    ghost use Rattle.seg_pairs.specs.Breaks.{is_complex};
 
     ghost passes = { λ s code_point. is_complex (pair_table_of s.pairs) (override_of s.pairs) code_point };
 
@@ -54,14 +54,14 @@ pub struct Events<'data, I: Cursor> {
 }
 
 impl<'data, I: Cursor> Model for Events<'data, I> {
-    ghost use Rattle.seg_pairs.specs.Runs.{Unread, unread_by};
-    ghost use Rattle.seg_pairs.specs.Ahead.{IsAhead};
+    ghost use Rattle.seg_pairs.specs.Breaks.{Unread, unread_by};
+    ghost use Rattle.seg_pairs.specs.Elements.{IsElementAhead};
 
     ghost Value = { Unread };
 
     ghost view = { λ s. unread_by s.pairs (I.text s.here) };
 
-    ghost invariant = { λ s. IsAhead s.pairs (I.text s.here) s.next s.rest.pairs (I.text s.rest.cursor) };
+    ghost invariant = { λ s. IsElementAhead s.pairs (I.text s.here) s.next s.rest.pairs (I.text s.rest.cursor) };
 }
 
 impl<'data, I: Cursor> Events<'data, I> {
@@ -119,7 +119,7 @@ impl<'data, I: Cursor> Events<'data, I> {
     #[inline(always)]
     pub fn next_event(&mut self) -> Event<I>
         ensures leads { LeadsTo I.text self.old result self.new }
-        ensures goes { GoesOn self.old self.new }
+        ensures goes { GoesOnUnread self.old self.new }
     {
         let Some(left) = self.next else {
             return Event::End;

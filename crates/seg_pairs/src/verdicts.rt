@@ -3,9 +3,7 @@
 ghost use Rattle.std.specs.Prelude.{◌≡◌, ◌<◌, ℕ, List, ◌∷◌};
 ghost use Rattle.seg_pair_data.specs.PairTable.{PairTable};
 ghost use Rattle.seg_pairs.specs.Elements.{classes_of};
-ghost use Rattle.seg_pairs.specs.Steps.{Lands, LandsOrWalks, EndsIn, IsStepBelow, IsOutcomeBelow};
-ghost use Rattle.seg_pairs.specs.Verdict.{verdict, named_verdict, complex_verdict};
-ghost use Rattle.seg_pairs.specs.Chains.{chain, IsForward};
+ghost use Rattle.seg_pairs.specs.Verdict.{Lands, LandsOrWalks, EndsIn, IsStepBelow, IsOutcomeBelow, verdict, named_verdict, complex_verdict, chain, IsForward};
 
 use crate::elements::{Element, Elements};
 use crate::walk::{Stop, walk};

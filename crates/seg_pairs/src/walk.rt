@@ -1,9 +1,8 @@
 //! Walks through the states of a pair table.
 
 ghost use Rattle.std.specs.Prelude.{◌≡◌, ℕ, ◌<◌, ◌||◌, ◌⊎◌, Some, None, List, ◌∷◌, IfSome, MatchOption, if◌then◌else◌};
-ghost use Rattle.seg_pair_data.specs.BreakStates.{is_intermediate, named_state};
-ghost use Rattle.seg_pair_data.specs.PairTable.{entry_of};
-ghost use Rattle.seg_pairs.specs.Stop.{IsStop, class_at};
+ghost use Rattle.seg_pair_data.specs.PairTable.{is_intermediate, named_state, entry_of};
+ghost use Rattle.seg_pairs.specs.Verdict.{IsStop, class_at};
 ghost use Rattle.seg_pairs.specs.Walk.{is_class};
 
 use crate::elements::{Element, Elements};

@@ -3,13 +3,10 @@ use Rattle.std.proofs.Common.{◌≡◌, ℕ, zero, suc, ◌+◌, ◌-◌, ◌<�
 use Rattle.std.proofs.lemmas.List.{length-drop, length-map, drop-drop, drop_all}
 use Rattle.seg_text.specs.declared.boundary.Boundary.{Boundary}
 use Rattle.seg_text.specs.Items.{Item, Reader, Text, place_of, start_of, code_points, items_by, IsRising}
-use Rattle.seg_text.specs.Boundaries.{boundary_in, boundaries_in, shift_all, RisesTo, IsCover}
-use Rattle.seg_text.specs.Latin1.{read_latin1, latin1_items, latin1}
-use Rattle.seg_text.specs.Utf8.{read_utf8, utf8_items, utf8}
-use Rattle.seg_text.specs.Utf16.{read_utf16, utf16_items, utf16}
+use Rattle.seg_text.specs.Boundaries.{boundary_in, boundaries_in, shift_all, RisesTo, IsCover, Stretch, later_boundaries, list_boundaries, HasProgress, IsWithin}
+use Rattle.seg_text.specs.Decoding.{read_latin1, latin1_items, latin1, read_utf8, utf8_items, utf8, read_utf16, utf16_items, utf16}
 use Rattle.seg_text.specs.Lemmas.Readers.{IsReader, place_of-items_by}
 use Rattle.seg_text.specs.Lemmas.Rising.{read_latin1-reader, read_utf8-reader, read_utf16-reader}
-use Rattle.seg_text.specs.Stretches.{Stretch, later_boundaries, list_boundaries, HasProgress, IsWithin}
 use Rattle.seg_text.proofs.Places.{IsRising-drop, place_of-drop-lt, shifted-none, shifted-twice, shifted-append}
 use Rattle.seg_text.proofs.Stretches.{later-nil, later-next}
 

@@ -5,8 +5,7 @@ use Rattle.std.proofs.lemmas.Bool.{eq-eqb, ne_eqb}
 use Rattle.std.proofs.Math.Dec.{eqb-suc-zero}
 use Rattle.std.specs.Prelude.{Some, ⊤}
 use Rattle.std.specs.Iterator.{MakesProgress, item_count}
-use Rattle.seg_text.specs.Cursor.{Rest, GoesOn}
-use Rattle.seg_text.specs.Items.{Text, rest_after, place_of, items_by, Reader, Reading}
+use Rattle.seg_text.specs.Items.{Rest, GoesOn, Text, rest_after, place_of, items_by, Reader, Reading}
 use Rattle.seg_text.specs.Lemmas.Readers.{IsReader, items_by-nil, items_by-cons, place_of-items_by}
 
 -- the items after the first k are those of the units after the first so many

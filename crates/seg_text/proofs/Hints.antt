@@ -6,14 +6,12 @@ use Rattle.std.specs.Option.{SomeIff}
 use Rattle.std.specs.Iterator.{UpTo, item_count}
 use Rattle.std.specs.Iterator.SizeHint.{IsWithinCount}
 use Rattle.seg_text.specs.declared.boundary.Boundary.{Boundary}
-use Rattle.seg_text.specs.Boundaries.{Remainder, RisesTo, GivesNext, boundary, offsets_left}
+use Rattle.seg_text.specs.Boundaries.{Remainder, RisesTo, GivesNext, boundary, offsets_left, AreLeft, AreAhead, Stretch, IsWithin, remainder}
 use Rattle.seg_text.specs.Items.{Item, Text, IsRising, place_of, start_of}
 use Rattle.seg_text.specs.Lemmas.Encodings.{IsEncoding, text-rises}
-use Rattle.seg_text.specs.Utf8.{read_utf8, utf8_items}
+use Rattle.seg_text.specs.Decoding.{read_utf8, utf8_items}
 use Rattle.seg_text.specs.Lemmas.Readers.{items_by-cons, place_of-items_by}
 use Rattle.seg_text.specs.Lemmas.Rising.{read_utf8-reader, utf8_items-rises}
-use Rattle.seg_text.specs.Reach.{AreLeft, AreAhead}
-use Rattle.seg_text.specs.Stretches.{Stretch, IsWithin, remainder}
 use Rattle.seg_text.specs.declared.reach.Reach.{Reach}
 use Rattle.seg_text.proofs.Covers.{covers}
 use Rattle.seg_text.proofs.Encodings.{start-at}

@@ -1,6 +1,6 @@
 -- Latin-1's reader.
 use Rattle.std.proofs.Common.{◌≡◌, ℕ, ◌+◌, List, [], ◌∷◌, refl, ap}
-use Rattle.seg_text.specs.Latin1.{ReadsLatin1, read_latin1, latin1_items}
+use Rattle.seg_text.specs.Decoding.{ReadsLatin1, read_latin1, latin1_items}
 use Rattle.seg_text.specs.Items.{items_by, code_points}
 use Rattle.seg_text.specs.Lemmas.Readers.{items_by-nil, items_by-cons}
 use Rattle.seg_text.specs.Lemmas.Rising.{read_latin1-reader}

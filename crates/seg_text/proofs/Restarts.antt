@@ -5,8 +5,7 @@ use Rattle.std.specs.Option.{option_map}
 use Rattle.std.proofs.lemmas.List.{length-drop, drop-drop, drop-map}
 use Rattle.std.proofs.lemmas.Option.{slice_get-map, same_Some, none-some}
 use Rattle.seg_text.specs.declared.boundary.Boundary.{Boundary}
-use Rattle.seg_text.specs.Boundaries.{start, shift, shift_all, HasRestart, RestartsIn}
-use Rattle.seg_text.specs.Stretches.{Stretch, later_boundaries, list_boundaries, HasProgress, HasEndAlone}
+use Rattle.seg_text.specs.Boundaries.{start, shift, shift_all, HasRestart, RestartsIn, Stretch, later_boundaries, list_boundaries, HasProgress, HasEndAlone}
 use Rattle.seg_text.proofs.Places.{shifted-none, shifted-twice}
 use Rattle.seg_text.proofs.Stretches.{later-nil, later-next}
 

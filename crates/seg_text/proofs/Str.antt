@@ -11,7 +11,7 @@ use Rattle.std.proofs.Math.Utf8.{scalar, scalar_cases}
 use Rattle.seg_text.specs.Items.{IsTiling, place_of, items_by, code_points, Reading}
 use Rattle.seg_text.specs.Lemmas.Readers.{items_by-nil, items_by-cons, place_of-items_by}
 use Rattle.seg_text.specs.Lemmas.Rising.{read_utf8-reader}
-use Rattle.seg_text.specs.Utf8.{rows, trail, IsWellFormed, ReadsWellFormed, scalar_of, read_utf8, utf8_items, Range}
+use Rattle.seg_text.specs.Decoding.{rows, trail, IsWellFormed, ReadsWellFormed, scalar_of, read_utf8, utf8_items, Range}
 use Rattle.seg_text.specs.Lemmas.Utf8Stable.{read_utf8-stable}
 use Rattle.seg_text.proofs.Cursors.{seek-within, taken-within}
 use Rattle.seg_text.proofs.Slice.{up_to-found}

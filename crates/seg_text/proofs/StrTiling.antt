@@ -9,7 +9,7 @@ use Rattle.std.specs.Prelude.{slice_index_or}
 use Rattle.std.specs.Char.{IsScalar, encode_utf8}
 use Rattle.std.specs.Str.{IsUtf8}
 use Rattle.seg_text.specs.Items.{IsTiling, Item}
-use Rattle.seg_text.specs.Utf8.{rows, trail, Fits, IsWellFormed, ReadsWellFormed, Ranges, Range}
+use Rattle.seg_text.specs.Decoding.{rows, trail, Fits, IsWellFormed, ReadsWellFormed, Ranges, Range}
 
 -- what is below the surrogates, or above them, is a scalar value
 scalar-in : (c : ℕ) → (c < 0xD800) ⊎ ((0xE000 ≤ c) × (c < 0x11_0000)) → IsScalar c

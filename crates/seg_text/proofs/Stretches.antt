@@ -3,8 +3,7 @@ use Rattle.std.proofs.Common.{◌≡◌, ℕ, zero, suc, ◌<◌, ◌≤◌, Lis
 use Rattle.std.proofs.lemmas.List.{length-drop, length-map, drop-map}
 use Rattle.seg_text.specs.Items.{Item, Text, rest_after, code_points}
 use Rattle.seg_text.specs.declared.boundary.Boundary.{Boundary}
-use Rattle.seg_text.specs.Boundaries.{start, shift_all, boundary_in, boundaries_in, HasEqualOrdinals}
-use Rattle.seg_text.specs.Stretches.{Stretch, AreLaterBoundaries, later_boundaries_within, later_boundaries, HasOneAnswer, HasProgress}
+use Rattle.seg_text.specs.Boundaries.{start, shift_all, boundary_in, boundaries_in, HasEqualOrdinals, Stretch, AreLaterBoundaries, later_boundaries_within, later_boundaries, HasOneAnswer, HasProgress}
 use Rattle.seg_text.proofs.Places.{in-append, in-shift, code_points-drop}
 
 fewer : {X : Type 0} (n most : ℕ) (x : X) (xs : List X) → 0 < n → length (x ∷ xs) ≤ suc most → length (drop n (x ∷ xs)) ≤ most

@@ -1,6 +1,6 @@
 -- UTF-16's reader.
 use Rattle.std.proofs.Common.{◌≡◌, ℕ, suc, ◌<◌, ◌≤◌, inl, inr, List, [], ◌∷◌, length, get_or, refl, ap, sym, arith}
-use Rattle.seg_text.specs.Utf16.{IsHighSurrogate, IsLowSurrogate, IsPair, ReadsUtf16, pair_of, read_utf16}
+use Rattle.seg_text.specs.Decoding.{IsHighSurrogate, IsLowSurrogate, IsPair, ReadsUtf16, pair_of, read_utf16}
 use Rattle.seg_text.specs.Lemmas.Rising.{read_utf16-reader}
 use Rattle.seg_text.proofs.Items.{IsReaderOf}
 use Rattle.seg_text.specs.Lemmas.Utf16Stable.{Start, start, pair, single}

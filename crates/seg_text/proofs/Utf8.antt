@@ -3,7 +3,7 @@ use Rattle.std.proofs.Common.{◌≡◌, ◌≢◌, ℕ, zero, suc, ◌<◌, ◌
 use Rattle.std.specs.Prelude.{Option, Some, None, find, Contains, slice_index_or}
 use Rattle.std.proofs.lemmas.List.{length-take-le}
 use Rattle.std.proofs.lemmas.Bool.{eq-eqb, ne_eqb, cases_eq}
-use Rattle.seg_text.specs.Utf8.{rows, IsBeginning, IsWellFormed, ReadsUtf8, fitting, read_row, read_utf8, scalar_of, Ranges}
+use Rattle.seg_text.specs.Decoding.{rows, IsBeginning, IsWellFormed, ReadsUtf8, fitting, read_row, read_utf8, scalar_of, Ranges}
 use Rattle.seg_text.specs.Lemmas.Rising.{read_utf8-reader}
 use Rattle.seg_text.proofs.Items.{IsReaderOf}
 use Rattle.seg_text.proofs.Utf8Rows.{fitting-bounds, fitting-fits, fits-fitting, begins, find-belongs, found-belongs}

@@ -4,7 +4,7 @@ use Rattle.std.proofs.lemmas.List.{drop_more}
 use Rattle.std.proofs.lemmas.Bool.{cases_lt}
 use Rattle.std.specs.Prelude.{slice_index_or}
 use Rattle.seg_text.specs.Items.{Reading}
-use Rattle.seg_text.specs.Utf8.{rows, fitting, read_row, read_utf8, scalar_of, StandsAt, Ranges, Range}
+use Rattle.seg_text.specs.Decoding.{rows, fitting, read_row, read_utf8, scalar_of, StandsAt, Ranges, Range}
 use Rattle.seg_text.proofs.Utf8Rows.{head, fitting-step, fitting-stop, fitting-head}
 use Rattle.seg_text.proofs.Utf8.{read_row-part, read_row-whole, read_utf8-row, Row, has_row, has_none, row-of}
 

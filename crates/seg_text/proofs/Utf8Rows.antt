@@ -4,7 +4,7 @@ use Rattle.std.specs.Prelude.{◌&&◌, Some, find, Contains, slice_index_or}
 use Rattle.std.proofs.lemmas.List.{drop_all}
 use Rattle.std.proofs.lemmas.Bool.{le-leb, lt-leb, lt-ltb, leb-true, leb-false, ltb-true, ltb-false, and_parts, and_from, and_left, and_right}
 use Rattle.std.proofs.Math.Seq.{drop-cons}
-use Rattle.seg_text.specs.Utf8.{Fits, fitting, StandsAt, Ranges, Range}
+use Rattle.seg_text.specs.Decoding.{Fits, fitting, StandsAt, Ranges, Range}
 
 -- a byte of a row's range, and those of the rest of the row after it
 fitting-in : (range : Range) (row : Ranges) (byte : ℕ) (bytes : List ℕ) → range.0 ≤ byte → byte ≤ range.1

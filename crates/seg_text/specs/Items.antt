@@ -87,3 +87,16 @@ IsRising (item ∷ items) end = (item.0 < place_of items end) × IsRising items 
 -- the text that a reader finds from a place on
 abbrev pub text_by : {U : Type 0} → Reader U → ℕ → List U → Text
 text_by read place units = record { items = items_by read place units; end = place + length units }
+
+-- What is seen of a cursor over a text.
+
+-- the place that it is at, and the units that it hasn't read
+pub record Rest (U : Type 0) : Type 0 where
+  pub place : ℕ
+  pub units : List U
+
+-- `later` is where a cursor at `earlier` comes to in the same text, when it goes on
+abbrev pub GoesOn : {U : Type 0} → Rest U → Rest U → Type 0
+GoesOn earlier later =
+    (taken : ℕ) × (taken ≤ length earlier.units)
+    × (later.place ≡ earlier.place + taken) × (later.units ≡ drop taken earlier.units)

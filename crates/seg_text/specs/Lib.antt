@@ -1,10 +1,4 @@
 pub mod Items
-pub mod Latin1
-pub mod Utf8
-pub mod Utf16
-pub mod Cursor
+pub mod Decoding
 pub mod Boundaries
-pub mod Stretches
-pub mod Reach
-pub mod Cuts
 pub mod Lemmas

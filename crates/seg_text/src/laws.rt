@@ -3,9 +3,7 @@
 ghost use Rattle.std.specs.Prelude.{◌≡◌, ℕ, true, false, List, [], ◌∷◌};
 ghost use Rattle.std.specs.Str.{IsUtf8, chars};
 ghost use Rattle.seg_text.specs.Items.{Item, IsTiling, code_points};
-ghost use Rattle.seg_text.specs.Latin1.{ReadsLatin1, latin1_items};
-ghost use Rattle.seg_text.specs.Utf8.{ReadsUtf8, ReadsWellFormed, utf8_items};
-ghost use Rattle.seg_text.specs.Utf16.{ReadsUtf16, utf16_items};
+ghost use Rattle.seg_text.specs.Decoding.{ReadsLatin1, latin1_items, ReadsUtf8, ReadsWellFormed, utf8_items, ReadsUtf16, utf16_items};
 
 use crate::scaffold::{Encoding, Latin1, PotentiallyIllFormedUtf8, Utf8, Utf16};
 

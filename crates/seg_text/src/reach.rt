@@ -3,8 +3,7 @@
 ghost use Rattle.std.specs.Prelude.{◌≡◌, ◌≤◌, ⊤, ℕ, List, ◌∷◌, length, IfSome};
 ghost use Rattle.std.specs.Iterator.{YieldsFirst, MakesProgress, item_count};
 ghost use Rattle.seg_text.specs.declared.boundary.Boundary.{Boundary as AnyBoundary};
-ghost use Rattle.seg_text.specs.Boundaries.{GivesNext, IsCover, Remainder, boundary, offsets_left};
-ghost use Rattle.seg_text.specs.Reach.{AreAhead};
+ghost use Rattle.seg_text.specs.Boundaries.{GivesNext, IsCover, Remainder, boundary, offsets_left, AreAhead};
 
 use std::marker::Model;
 
@@ -71,8 +70,7 @@ pub struct HintedBoundaries<B: BoundarySource> {
 }
 
 impl<B: BoundarySource> Model for HintedBoundaries<B> {
-    ghost use Rattle.seg_text.specs.Boundaries.{Remainder};
-    ghost use Rattle.seg_text.specs.Reach.{AreAhead};
+    ghost use Rattle.seg_text.specs.Boundaries.{Remainder, AreAhead};
 
     ghost Value = { Remainder };
 

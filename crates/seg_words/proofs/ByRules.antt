@@ -2,25 +2,22 @@
 use Rattle.std.proofs.Common.{◌≡◌, ℕ, suc, List, ◌∷◌, drop, sym, ap, ◌∙◌}
 use Rattle.std.specs.Prelude.{Option, slice_get}
 use Rattle.seg_text.specs.declared.boundary.Boundary.{Boundary}
-use Rattle.seg_text.specs.Boundaries.{RestartsIn, start, shift_all}
-use Rattle.seg_text.specs.Stretches.{Stretch, HasOneAnswer, HasProgress, list_boundaries}
+use Rattle.seg_text.specs.Boundaries.{RestartsIn, start, shift_all, Stretch, HasOneAnswer, HasProgress, list_boundaries, Cuts}
 use Rattle.seg_text.proofs.Restarts.{restarts, restarts-as}
 use Rattle.seg_text.proofs.Stretches.{one-answer}
 use Rattle.seg_data.specs.Table.{Table}
-use Rattle.seg_machine.specs.Segments.{machine_stretch}
+use Rattle.seg_machine.specs.Pick.{machine_stretch}
 use Rattle.seg_machine.proofs.Segmentations.{machine-going, machine-alone}
 use Rattle.seg_pair_data.specs.PairTable.{PairTable}
-use Rattle.seg_pairs.specs.Breaks.{table_stretch}
-use Rattle.seg_pairs.specs.Runs.{HasComplexElement, complex_stretch}
+use Rattle.seg_pairs.specs.Breaks.{table_stretch, HasComplexElement, complex_stretch}
 use Rattle.seg_pairs.proofs.ComplexStretches.{complex-going, none-after, without-complex}
 use Rattle.seg_pairs.proofs.Engine.{table-going, table-alone}
 use Rattle.seg_clusters.specs.Rules.{Rules}
 use Rattle.seg_clusters.specs.Rules.Rules.{ByTable, ByMachine}
-use Rattle.seg_text.specs.Cuts.{Cuts}
 use Rattle.seg_data.specs.ScriptWords.{ScriptWords, AreSameWords}
 use Rattle.seg_complex.specs.Payloads.{Payloads, run_cuts_by}
 use Rattle.seg_complex.proofs.EqualWords.{same-run-cuts}
-use Rattle.seg_words.specs.WordRules.{HasNoRun, WordRules, first_word_stretch, span_stretch, stretch_by, with_words, word_boundaries_by}
+use Rattle.seg_words.specs.WordRules.{HasNoRunOfWords, WordRules, first_word_stretch, span_stretch, stretch_by, with_words, word_boundaries_by}
 use Rattle.seg_words.proofs.Spans.{spans-going, without-words}
 use Rattle.seg_words.proofs.EqualSpans.{same-spans}
 
@@ -36,7 +33,7 @@ same-without : (t : PairTable) (overriding : Option Table) (payloads : Payloads)
     → list_boundaries (stretch_by (ByTable t overriding) payloads) xs ≡ list_boundaries (table_stretch t overriding) xs
 same-without t overriding payloads xs none = ap (λ (later : List Boundary). start ∷ later) (without-complex (run_cuts_by payloads) t overriding xs none)
 
-restarts-with : (rules : Rules) (payloads : Payloads) (xs : List ℕ) → HasNoRun rules payloads.words xs → RestartsIn (list_boundaries (stretch_by rules payloads)) xs
+restarts-with : (rules : Rules) (payloads : Payloads) (xs : List ℕ) → HasNoRunOfWords rules payloads.words xs → RestartsIn (list_boundaries (stretch_by rules payloads)) xs
 restarts-with (ByMachine m) payloads xs none =
     restarts-as (list_boundaries (span_stretch m payloads)) (list_boundaries (machine_stretch m)) xs
     (λ n. without-words m payloads none (drop n xs)) (restarts (machine_stretch m) (machine-going m) (machine-alone m) xs)
@@ -44,7 +41,7 @@ restarts-with (ByTable t overriding) payloads xs none =
     restarts-as (list_boundaries (stretch_by (ByTable t overriding) payloads)) (list_boundaries (table_stretch t overriding)) xs
     (λ n. same-without t overriding payloads (drop n xs) (none-after t overriding n xs none)) (restarts (table_stretch t overriding) (table-going t overriding) (table-alone t overriding) xs)
 
-pub restarts-by : (words : WordRules) (xs : List ℕ) → HasNoRun words.rules words.payloads.words xs → RestartsIn (word_boundaries_by words) xs
+pub restarts-by : (words : WordRules) (xs : List ℕ) → HasNoRunOfWords words.rules words.payloads.words xs → RestartsIn (word_boundaries_by words) xs
 restarts-by words = restarts-with words.rules words.payloads
 
 -- the words of each script are a set

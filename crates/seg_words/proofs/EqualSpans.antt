@@ -1,7 +1,7 @@
 -- Sets of the same words make the same spans, whose boundaries are the same.
 use Rattle.std.proofs.Common.{◌≡◌, ℕ, List, refl, ap}
 use Rattle.std.specs.Prelude.{None, Some}
-use Rattle.seg_text.specs.Cuts.{with_status}
+use Rattle.seg_text.specs.Boundaries.{with_status}
 use Rattle.seg_data.specs.ScriptWords.{ScriptWords, AreSameWords}
 use Rattle.seg_clusters.specs.Rules.{boundaries_by}
 use Rattle.seg_machine.specs.Machine.{Machine}

@@ -7,8 +7,8 @@ use Rattle.seg_data.specs.Table.{Table}
 use Rattle.seg_machine.specs.Machine.{Machine}
 use Rattle.seg_machine.specs.MachineFaults.{HasComplexBelow0100}
 use Rattle.seg_pair_data.specs.PairTable.{PairTable}
-use Rattle.seg_pair_data.specs.PairFaults.{HasPairDataFault, HasComplexClassBelow0100}
-use Rattle.seg_words.specs.WordFaults.{HasOwnFault, HasWordTableFault, HasWordMachineFault}
+use Rattle.seg_pair_data.specs.PairData.{HasPairDataFault, HasComplexClassBelow0100}
+use Rattle.seg_words.specs.Words.{HasOwnFault, HasWordTableFault, HasWordMachineFault}
 
 own-cases : (t : PairTable) (o : Option Table) (fault : DataError) → HasOwnFault t o fault
     → ((fault ≡ ClassOutOfRange) × HasPairDataFault t o ClassOutOfRange)

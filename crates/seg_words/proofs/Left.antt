@@ -4,17 +4,15 @@ use Rattle.std.specs.Prelude.{Option}
 use Rattle.std.proofs.lemmas.List.{length-map}
 use Rattle.seg_text.specs.declared.boundary.Boundary.{Boundary}
 use Rattle.seg_text.specs.Items.{Item, Text, start_of, code_points, IsRising}
-use Rattle.seg_text.specs.Boundaries.{IsCover, RisesTo, boundary, boundaries_in}
-use Rattle.seg_text.specs.Cuts.{Cuts, AreCutsOf, with_status, cut_places}
-use Rattle.seg_text.specs.Stretches.{later_boundaries, list_boundaries}
+use Rattle.seg_text.specs.Boundaries.{IsCover, RisesTo, boundary, boundaries_in, Cuts, AreCutsOf, with_status, cut_places, later_boundaries, list_boundaries}
 use Rattle.seg_text.proofs.Covers.{covers}
 use Rattle.seg_text.proofs.Stretches.{text-later-nil}
 use Rattle.seg_data.specs.Table.{Table}
 use Rattle.seg_pairs.specs.declared.runs.Event.TheVariants.{Run}
 use Rattle.seg_pair_data.specs.PairTable.{PairTable}
-use Rattle.seg_pairs.specs.Runs.{Unread, LeadsTo, GoesOn, complex_stretch, run_status, unread_boundaries}
+use Rattle.seg_pairs.specs.Breaks.{Unread, LeadsTo, GoesOnUnread, complex_stretch, run_status, unread_boundaries}
 use Rattle.seg_pairs.proofs.ComplexStretches.{complex-within}
-use Rattle.seg_complex.specs.RunCuts.{PieceCuts, CoverPieces, run_cuts}
+use Rattle.seg_complex.specs.Scripts.{PieceCuts, CoverPieces, run_cuts}
 use Rattle.seg_complex.proofs.Cutting.{run-cuts-inside, cuts-nil}
 
 classic-cover : (cuts : Cuts) → ((run : List ℕ) → RisesTo 0 (with_status 0 (cuts run)) (length run)) → (t : PairTable) (overriding : Option Table) (text : Text)
@@ -49,7 +47,7 @@ left-cut status place before after unread left next is = sym is ∙ ap (λ (run 
 
 -- a run came next, with its cuts
 pub left-run : {I : Type 0} (text : I → Text) (cuts : PieceCuts) → CoverPieces cuts → (before after : Unread) (run : I) (found : List ℕ) (left : List Boundary)
-    → LeadsTo text before (Run run) after → GoesOn before after
+    → LeadsTo text before (Run run) after → GoesOnUnread before after
     → found ≡ cut_places (run_cuts cuts) (text run) → unread_boundaries (run_cuts cuts) before ≡ left
     → with_status (run_status after.table) found ++ unread_boundaries (run_cuts cuts) after ≡ left
 left-run text cuts cover before after run found left leads goes is same =
@@ -61,7 +59,7 @@ left-run text cuts cover before after run found left leads goes is same =
     inside = rw (length-map (text run).items (λ (item : Item). item.1)) at (run-cuts-inside cuts cover (code_points (text run).items))
 
 -- and it took something
-pub run-fewer : {I : Type 0} (text : I → Text) (before after : Unread) (run : I) → LeadsTo text before (Run run) after → GoesOn before after
+pub run-fewer : {I : Type 0} (text : I → Text) (before after : Unread) (run : I) → LeadsTo text before (Run run) after → GoesOnUnread before after
     → length after.text.items < length before.text.items
 run-fewer text before after run leads goes = goes.fewer (λ none. some (sym (leads one (omega arith, tt)) ∙ nothing-unread one before none))
   where

@@ -2,25 +2,22 @@
 use Rattle.std.proofs.Common.{◌≡◌, ℕ, List, [], ◌∷◌, ◌++◌, length, ap}
 use Rattle.std.specs.Char.{IsScalar}
 use Rattle.seg_text.specs.declared.boundary.Boundary.{Boundary}
-use Rattle.seg_text.specs.Boundaries.{IsCover, start}
-use Rattle.seg_text.specs.Stretches.{list_boundaries}
+use Rattle.seg_text.specs.Boundaries.{IsCover, start, list_boundaries}
 use Rattle.seg_text.proofs.Covers.{covers-list}
 use Rattle.seg_text.proofs.Stretches.{later-nil}
-use Rattle.seg_clusters.specs.Parted.{PartsBehind, PartsTexts}
-use Rattle.seg_clusters.specs.Rules.{boundaries_by}
+use Rattle.seg_clusters.specs.Rules.{PartsBehind, PartsTexts, boundaries_by}
 use Rattle.seg_clusters.specs.Rules.Rules.{ByMachine}
 use Rattle.seg_clusters.proofs.Joined.{later-joined}
 use Rattle.seg_clusters.proofs.PartedTexts.{texts-parted}
 use Rattle.seg_clusters.proofs.ResetScans.{ends-within}
-use Rattle.seg_machine.specs.Checked.{IsChecked}
+use Rattle.seg_machine.specs.MachineFaults.{IsChecked}
 use Rattle.seg_machine.specs.Machine.{Machine}
-use Rattle.seg_machine.specs.Segments.{machine_stretch}
+use Rattle.seg_machine.specs.Pick.{machine_stretch}
 use Rattle.seg_machine.proofs.Segmentations.{machine-going}
 use Rattle.seg_complex.specs.Payloads.{Payloads, piece_cuts_by}
-use Rattle.seg_complex.specs.RunCuts.{CoverPieces}
+use Rattle.seg_complex.specs.Scripts.{CoverPieces}
 use Rattle.seg_complex.proofs.PartedSpans.{spans-parted}
-use Rattle.seg_words.specs.WordResets.{WordsResetWith}
-use Rattle.seg_words.specs.WordRules.{span_boundaries, span_stretch, stretch_by}
+use Rattle.seg_words.specs.WordRules.{WordsResetWith, span_boundaries, span_stretch, stretch_by}
 use Rattle.seg_words.proofs.Spans.{spans-within}
 
 module _ (m : Machine) (payloads : Payloads) (checked : IsChecked m) (c : ℕ) (resets : WordsResetWith (ByMachine m) payloads.words c) where

@@ -5,24 +5,21 @@ use Rattle.std.specs.Option.{option_map}
 use Rattle.std.proofs.lemmas.List.{drop_all, take_all}
 use Rattle.seg_text.specs.declared.boundary.Boundary.{Boundary}
 use Rattle.seg_text.specs.Items.{Item, Text, start_of, rest_after, code_points, IsRising}
-use Rattle.seg_text.specs.Boundaries.{IsCover, RisesTo, boundary, boundary_in, boundaries_in, shift_all, start}
-use Rattle.seg_text.specs.Cuts.{with_status}
-use Rattle.seg_text.specs.Stretches.{Stretch, HasProgress, IsWithin, later_boundaries, list_boundaries}
+use Rattle.seg_text.specs.Boundaries.{IsCover, RisesTo, boundary, boundary_in, boundaries_in, shift_all, start, with_status, Stretch, HasProgress, IsWithin, later_boundaries, list_boundaries}
 use Rattle.seg_text.proofs.Covers.{covers, covers-list}
 use Rattle.seg_text.proofs.Stretches.{later-nil, later-next, text-later-nil}
 use Rattle.seg_data.specs.declared.provider.ComplexScript.{ComplexScript}
 use Rattle.seg_data.specs.declared.provider.dictionary.cursor.DictionaryCursor.{DictionaryCursor}
-use Rattle.seg_data.specs.Dictionary.{words_after}
-use Rattle.seg_data.specs.ScriptWords.{ScriptWords, no_words, words_in}
+use Rattle.seg_data.specs.ScriptWords.{words_after, ScriptWords, no_words, words_in}
 use Rattle.seg_data.specs.WordSets.{Words}
 use Rattle.seg_clusters.specs.Rules.{Rules, boundaries_by}
-use Rattle.seg_machine.specs.Checked.{IsChecked}
+use Rattle.seg_machine.specs.MachineFaults.{IsChecked}
 use Rattle.seg_machine.specs.Machine.{Machine}
-use Rattle.seg_machine.specs.Segments.{machine_stretch}
+use Rattle.seg_machine.specs.Pick.{machine_stretch}
 use Rattle.seg_machine.proofs.Segmentations.{machine-within}
 use Rattle.seg_complex.specs.DictionaryCuts.{Clusters, by_words}
 use Rattle.seg_complex.specs.Payloads.{Payloads, piece_cuts_by}
-use Rattle.seg_complex.specs.RunCuts.{CoverPieces}
+use Rattle.seg_complex.specs.Scripts.{CoverPieces}
 use Rattle.seg_complex.specs.Spans.{GivesSpan, span_length, span_words, worded_script}
 use Rattle.seg_complex.proofs.Cutting.{length-taken}
 use Rattle.seg_complex.proofs.SpanStretches.{AreInside, span-at, span-inside, span-some}

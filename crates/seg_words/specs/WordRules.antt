@@ -2,21 +2,19 @@
 use Rattle.std.specs.Prelude.{◌≡◌, ℕ, zero, suc, Bool, true, false, Option, None, Some, List, take}
 use Rattle.seg_text.specs.declared.boundary.Boundary.{Boundary}
 use Rattle.seg_text.specs.Items.{Text}
-use Rattle.seg_text.specs.Boundaries.{boundaries_in}
-use Rattle.seg_text.specs.Cuts.{with_status}
-use Rattle.seg_text.specs.Stretches.{Stretch, later_boundaries, list_boundaries}
+use Rattle.seg_text.specs.Boundaries.{boundaries_in, with_status, Stretch, later_boundaries, list_boundaries}
 use Rattle.seg_data.specs.Table.{Table}
-use Rattle.seg_machine.specs.Machine.{Machine}
-use Rattle.seg_machine.specs.Segments.{machine_stretch}
-use Rattle.seg_pair_data.specs.PairTable.{PairTable}
-use Rattle.seg_pairs.specs.Runs.{HasComplexElement, complex_stretch}
-use Rattle.seg_clusters.specs.Rules.{Rules, boundaries_by}
-use Rattle.seg_clusters.specs.Rules.Rules.{ByTable, ByMachine}
 use Rattle.seg_data.specs.ScriptWords.{ScriptWords, no_words}
 use Rattle.seg_data.specs.WordSets.{Words}
+use Rattle.seg_pair_data.specs.PairTable.{PairTable}
+use Rattle.seg_pairs.specs.Breaks.{HasComplexElement, complex_stretch}
+use Rattle.seg_machine.specs.Machine.{Machine}
+use Rattle.seg_machine.specs.Pick.{machine_stretch}
+use Rattle.seg_clusters.specs.Rules.{Rules, boundaries_by, ResetsAfter}
+use Rattle.seg_clusters.specs.Rules.Rules.{ByTable, ByMachine}
 use Rattle.seg_complex.specs.DictionaryCuts.{Clusters, dictionary_cuts}
 use Rattle.seg_complex.specs.Payloads.{Payloads, run_cuts_by}
-use Rattle.seg_complex.specs.Spans.{span_length, span_words}
+use Rattle.seg_complex.specs.Spans.{span_length, span_words, IsOutsideRuns}
 use Rattle.seg_words.specs.declared.word.WordType.{WordType}
 use Rattle.seg_words.specs.declared.word.WordType.TheVariants.{None as NoWord, Number, Letter}
 
@@ -75,9 +73,9 @@ abbrev pub word_boundaries_of : WordRules → Text → List Boundary
 word_boundaries_of words text = boundaries_in (word_boundaries_by words) text
 
 -- no code point is complex, or no script has words that a machine's spans are cut by
-abbrev pub HasNoRun : Rules → ScriptWords → List ℕ → Type 0
-HasNoRun (ByTable t overriding) words code_points = HasComplexElement t overriding code_points → ⊥
-HasNoRun (ByMachine m) words code_points = words ≡ no_words
+abbrev pub HasNoRunOfWords : Rules → ScriptWords → List ℕ → Type 0
+HasNoRunOfWords (ByTable t overriding) words code_points = HasComplexElement t overriding code_points → ⊥
+HasNoRunOfWords (ByMachine m) words code_points = words ≡ no_words
 
 -- the type of what ends at a boundary with a status
 abbrev pub type_of : ℕ → WordType
@@ -94,3 +92,13 @@ is_word_like Letter = true
 -- does a word end at the boundary
 abbrev pub ends_word : Boundary → Bool
 ends_word boundary = is_word_like (type_of boundary.status)
+
+-- Code points behind which the boundaries of words start afresh.
+
+-- by a machine no scan looks past the code point, and it stands in no run; of a pair table it is said of none
+abbrev pub WordsResetWith : Rules → ScriptWords → ℕ → Type 0
+WordsResetWith (ByTable t overriding) words code_point = ⊥
+WordsResetWith (ByMachine m) words code_point = ResetsAfter (ByMachine m) code_point × IsOutsideRuns m words code_point
+
+abbrev pub WordsResetAfter : WordRules → ℕ → Type 0
+WordsResetAfter words code_point = WordsResetWith words.rules words.payloads.words code_point

@@ -1,9 +1,16 @@
--- What is seen of the segmenters of words.
-use Rattle.std.specs.Prelude.{ℕ, List, map}
+-- The faults of the data of words: those of the words' own table or machine, and those of the pair table of clusters.
+use Rattle.std.specs.Prelude.{◌≡◌, ◌⊎◌, Option, None, ℕ, List, map}
 use Rattle.seg_text.specs.declared.boundary.Boundary.{Boundary}
-use Rattle.seg_text.specs.Boundaries.{offsets}
-use Rattle.seg_clusters.specs.Engine.{rules_of, owned_rules}
+use Rattle.seg_text.specs.Boundaries.{offsets, Remainder}
+use Rattle.seg_data.specs.declared.provider.DataError.{DataError}
+use Rattle.seg_data.specs.declared.provider.DataError.TheVariants.{ClassOutOfRange, StartRowKeeps, ComplexBelow0100}
+use Rattle.seg_data.specs.Table.{Table}
 use Rattle.seg_data.specs.ScriptWords.{script_words}
+use Rattle.seg_pair_data.specs.PairTable.{PairTable}
+use Rattle.seg_pair_data.specs.PairData.{HasPairDataFault, HasComplexClassBelow0100}
+use Rattle.seg_machine.specs.Machine.{Machine}
+use Rattle.seg_machine.specs.MachineFaults.{HasComplexBelow0100}
+use Rattle.seg_clusters.specs.Rules.{rules_of, owned_rules}
 use Rattle.seg_clusters.specs.Clusters.{owned_cluster_rules}
 use Rattle.seg_complex.specs.Payloads.{payloads_of}
 use Rattle.seg_words.specs.declared.word.WordType.{WordType}
@@ -12,6 +19,29 @@ use Rattle.seg_words.specs.declared.word.WordSegmenterBorrowed.{WordSegmenterBor
 use Rattle.seg_words.specs.declared.word.WordBreakIterator.{WordBreakIterator}
 use Rattle.seg_words.specs.declared.word.WordBreakIteratorWithWordType.{WordBreakIteratorWithWordType}
 use Rattle.seg_words.specs.WordRules.{WordRules, type_of}
+use Rattle.seg_words.specs.declared.boundaries.WordBoundaries.{WordBoundaries}
+use Rattle.seg_words.specs.declared.boundaries.WordBoundaries.TheVariants.{Classic, Neo, NeoWithWords}
+
+-- the faults of a pair table of words with its override
+abbrev pub HasOwnFault : PairTable → Option Table → DataError → Type 0
+-- a class that the override names isn't below the number of classes
+HasOwnFault t overriding ClassOutOfRange = HasPairDataFault t overriding ClassOutOfRange
+-- no boundary stands between the text's start and a class that the table or the override names
+HasOwnFault t overriding StartRowKeeps = HasPairDataFault t overriding StartRowKeeps
+-- a code point below U+0100 is complex
+HasOwnFault t overriding ComplexBelow0100 = HasComplexClassBelow0100 t overriding
+HasOwnFault t overriding _ = ⊥
+
+-- .. and those of clusters: no boundary stands between the text's start and some class, or some code points are complex
+abbrev pub HasWordTableFault : PairTable → Option Table → PairTable → DataError → Type 0
+HasWordTableFault t overriding clusters fault = HasOwnFault t overriding fault ⊎ HasPairDataFault clusters None fault
+
+-- the faults of a machine of words, which is that a code point below U+0100 has a script, and those of clusters
+abbrev pub HasWordMachineFault : Machine → PairTable → DataError → Type 0
+HasWordMachineFault m clusters fault =
+    ((fault ≡ ComplexBelow0100) × HasComplexBelow0100 m) ⊎ HasPairDataFault clusters None fault
+
+-- What is seen of the segmenters of words.
 
 -- what a segmenter finds boundaries by
 abbrev pub word_rules : WordSegmenterBorrowed → WordRules
@@ -47,3 +77,10 @@ word_finder iterator = word_rules iterator.segmenter
 
 abbrev pub words_source : {Y C I : Type 0} → WordBreakIterator Y C I → I
 words_source iterator = iterator.whole
+
+-- What either engine of words has still to give.
+
+abbrev pub word_remainder_by : {I : Type 0} → WordBoundaries I → Remainder
+word_remainder_by (Classic remainder) = remainder
+word_remainder_by (Neo remainder) = remainder
+word_remainder_by (NeoWithWords remainder) = remainder

@@ -3,10 +3,10 @@
 ghost use Rattle.std.specs.Prelude.{◌≡◌};
 ghost use Rattle.seg_text.specs.Items.{start_of};
 ghost use Rattle.seg_text.specs.Boundaries.{IsCover};
-ghost use Rattle.seg_clusters.specs.Engine.{rules_of};
+ghost use Rattle.seg_clusters.specs.Rules.{rules_of};
 ghost use Rattle.seg_clusters.specs.Rules.Rules.{ByMachine};
 ghost use Rattle.seg_machine.specs.Tailored.{machine_of};
-ghost use Rattle.seg_words.specs.Remainders.{remainder_by};
+ghost use Rattle.seg_words.specs.Words.{word_remainder_by};
 ghost use Rattle.seg_complex.specs.Payloads.{payloads_of};
 ghost use Rattle.seg_words.specs.WordRules.{word_boundaries_of};
 
@@ -33,9 +33,9 @@ pub(crate) enum WordBoundaries<'data, I: Cursor> {
 impl<'data, I: Cursor> WordBoundaries<'data, I> {
     /// Those of what is left of a text. Takes no memory.
     fn new(engine: Engine<'data>, payloads: ComplexPayloadsBorrowed<'data>, text: I) -> Self
-        ensures boundaries { (remainder_by result).left ≡ word_boundaries_of (record { rules = rules_of engine.entry; payloads = payloads_of payloads.entry }) (I.text text) }
-        ensures cover { IsCover (start_of (I.text text)) (I.text text).end (remainder_by result).left }
-        ensures status { (remainder_by result).status ≡ 0 }
+        ensures boundaries { (word_remainder_by result).left ≡ word_boundaries_of (record { rules = rules_of engine.entry; payloads = payloads_of payloads.entry }) (I.text text) }
+        ensures cover { IsCover (start_of (I.text text)) (I.text text).end (word_remainder_by result).left }
+        ensures status { (word_remainder_by result).status ≡ 0 }
     {
         match engine {
             Engine::Classic(pairs) => {
@@ -51,9 +51,9 @@ impl<'data, I: Cursor> WordBoundaries<'data, I> {
         payloads: ComplexPayloadsBorrowed<'data>,
         text: I,
     ) -> Self
-        ensures boundaries { (remainder_by result).left ≡ word_boundaries_of (record { rules = ByMachine (machine_of machine.entry); payloads = payloads_of payloads.entry }) (I.text text) }
-        ensures cover { IsCover (start_of (I.text text)) (I.text text).end (remainder_by result).left }
-        ensures status { (remainder_by result).status ≡ 0 }
+        ensures boundaries { (word_remainder_by result).left ≡ word_boundaries_of (record { rules = ByMachine (machine_of machine.entry); payloads = payloads_of payloads.entry }) (I.text text) }
+        ensures cover { IsCover (start_of (I.text text)) (I.text text).end (word_remainder_by result).left }
+        ensures status { (word_remainder_by result).status ≡ 0 }
     {
         if payloads.dictionaries.is_empty() {
             return WordBoundaries::Neo(RuleBreakIterator::new(machine, text));
@@ -77,7 +77,7 @@ pub(crate) fn boundaries<'data, I: Cursor>(
 }
 
 impl<'data, I: Cursor> BoundarySource for WordBoundaries<'data, I> {
-    ghost remainder = { remainder_by };
+    ghost remainder = { word_remainder_by };
 
     #[inline(always)]
     fn next_boundary(&mut self) -> Option<usize> {

@@ -3,8 +3,7 @@
 ghost use Rattle.std.specs.Prelude.{◌≡◌, ⊤};
 ghost use Rattle.std.specs.Iterator.{YieldsFirst, MakesProgress, item_count};
 ghost use Rattle.seg_text.specs.Items.{start_of};
-ghost use Rattle.seg_text.specs.Cuts.{cut_places};
-ghost use Rattle.seg_text.specs.Boundaries.{GivesNext, IsCover, offsets_left};
+ghost use Rattle.seg_text.specs.Boundaries.{cut_places, GivesNext, IsCover, offsets_left};
 ghost use Rattle.seg_pair_data.specs.PairData.{pair_table_of, override_of};
 ghost use Rattle.seg_clusters.specs.Rules.Rules.{ByTable};
 ghost use Rattle.seg_complex.specs.Payloads.{payloads_of, run_cuts_by};
@@ -93,7 +92,7 @@ impl<'data, I: Cursor> Model for ClassicBoundaries<'data, I> {
     ghost use Rattle.std.specs.Prelude.{◌≡◌, false, []};
     ghost use Rattle.seg_text.specs.Boundaries.{Remainder};
     ghost use Rattle.seg_complex.specs.Payloads.{payloads_of, run_cuts_by};
-    ghost use Rattle.seg_words.specs.Classic.{classic_remainder};
+    ghost use Rattle.seg_words.specs.WordsLeft.{classic_remainder};
 
     ghost Value = { Remainder };
 

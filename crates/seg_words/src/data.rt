@@ -2,10 +2,9 @@
 
 ghost use Rattle.std.specs.Prelude.{◌≡◌, None, IfOk, IfErr};
 ghost use Rattle.seg_data.specs.Faults.{IsFaultless, IsLowestFault};
-ghost use Rattle.seg_pair_data.specs.Overriding.{table_in};
-ghost use Rattle.seg_pair_data.specs.PairData.{pair_table_of, override_of};
-ghost use Rattle.seg_pair_data.specs.PairFaults.{HasPairDataFault};
-ghost use Rattle.seg_words.specs.WordFaults.{HasWordTableFault, HasWordMachineFault};
+ghost use Rattle.seg_pair_data.specs.PairTable.{table_in};
+ghost use Rattle.seg_pair_data.specs.PairData.{pair_table_of, override_of, HasPairDataFault};
+ghost use Rattle.seg_words.specs.Words.{HasWordTableFault, HasWordMachineFault};
 
 use seg_data::provider::DataError;
 use seg_machine::provider::SegmenterStateMachine;

@@ -2,12 +2,10 @@
 //! said of types.
 
 ghost use Rattle.std.specs.Prelude.{◌≡◌, ℕ, List};
-ghost use Rattle.seg_text.specs.Boundaries.{HasEqualOrdinals, RestartsIn};
-ghost use Rattle.seg_text.specs.Stretches.{HasOneAnswer};
+ghost use Rattle.seg_text.specs.Boundaries.{HasEqualOrdinals, RestartsIn, HasOneAnswer};
 ghost use Rattle.seg_data.specs.ScriptWords.{ScriptWords, AreSameWords};
-ghost use Rattle.seg_clusters.specs.Parted.{PartsTexts};
-ghost use Rattle.seg_words.specs.WordResets.{WordsResetAfter};
-ghost use Rattle.seg_words.specs.WordRules.{HasNoRun, WordRules, first_word_stretch, with_words, word_boundaries_by};
+ghost use Rattle.seg_clusters.specs.Rules.{PartsTexts};
+ghost use Rattle.seg_words.specs.WordRules.{WordsResetAfter, HasNoRunOfWords, WordRules, first_word_stretch, with_words, word_boundaries_by};
 ghost use Rattle.seg_words.specs.Words.{word_rules};
 
 use crate::word::WordSegmenterBorrowed;
@@ -40,7 +38,7 @@ pub fn equal_words()
 /// them are those of the rest taken alone, shifted, with the same statuses. By a machine so may every text, with no dictionary
 /// in any place.
 pub fn restart(segmenter: WordSegmenterBorrowed<'_>)
-    ensures { (code_points : List ℕ) → HasNoRun (word_rules segmenter.entry).rules (word_rules segmenter.entry).payloads.words code_points
+    ensures { (code_points : List ℕ) → HasNoRunOfWords (word_rules segmenter.entry).rules (word_rules segmenter.entry).payloads.words code_points
         → RestartsIn (word_boundaries_by (word_rules segmenter.entry)) code_points }
 {
     let _ = segmenter;

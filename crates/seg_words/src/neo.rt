@@ -31,7 +31,7 @@ impl<'data, I: Cursor> Model for NeoBoundaries<'data, I> {
     ghost use Rattle.seg_text.specs.Boundaries.{Remainder};
     ghost use Rattle.seg_complex.specs.Payloads.{payloads_of};
     ghost use Rattle.seg_machine.specs.Tailored.{machine_of};
-    ghost use Rattle.seg_words.specs.SpansLeft.{spans_left};
+    ghost use Rattle.seg_words.specs.WordsLeft.{spans_left};
 
     ghost Value = { Remainder };
 

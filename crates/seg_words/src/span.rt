@@ -6,10 +6,10 @@ ghost use Rattle.std.specs.Option.{option_map};
 ghost use Rattle.seg_text.specs.Items.{code_points};
 ghost use Rattle.seg_text.specs.Boundaries.{boundary_in};
 ghost use Rattle.seg_clusters.specs.Clusters.{cluster_rules};
-ghost use Rattle.seg_data.specs.Dictionary.{words_after};
+ghost use Rattle.seg_data.specs.ScriptWords.{words_after};
 ghost use Rattle.seg_clusters.specs.Rules.{boundaries_by};
 ghost use Rattle.seg_machine.specs.Tailored.{machine_of};
-ghost use Rattle.seg_words.specs.SpansLeft.{span_left};
+ghost use Rattle.seg_words.specs.WordsLeft.{span_left};
 ghost use Rattle.seg_words.specs.WordRules.{span_boundaries};
 
 use seg_clusters::grapheme::GraphemeClusterSegmenterBorrowed;

@@ -3,17 +3,14 @@
 ghost use Rattle.std.specs.Prelude.{◌≡◌, ◌≢◌, ◌↔◌, length, None, IfOk, IfErr, IsTrue};
 ghost use Rattle.std.specs.Iterator.{YieldsFirst, item_count};
 ghost use Rattle.seg_text.specs.Items.{start_of};
-ghost use Rattle.seg_text.specs.Latin1.{latin1};
-ghost use Rattle.seg_text.specs.Utf8.{utf8};
-ghost use Rattle.seg_text.specs.Utf16.{utf16};
+ghost use Rattle.seg_text.specs.Decoding.{latin1, utf8, utf16};
 ghost use Rattle.seg_text.specs.Boundaries.{IsCover};
 ghost use Rattle.seg_data.specs.Faults.{IsFaultless, IsLowestFault};
-ghost use Rattle.seg_pair_data.specs.Overriding.{table_in};
+ghost use Rattle.seg_pair_data.specs.PairTable.{table_in};
 ghost use Rattle.seg_clusters.specs.Rules.{machine_in};
 ghost use Rattle.seg_memo.specs.Memos.{IsMemoRefusal, IsNewMemo};
 ghost use Rattle.seg_data.specs.ScriptWords.{filled, lent_words, no_words, script_words};
-ghost use Rattle.seg_words.specs.WordResets.{WordsResetAfter};
-ghost use Rattle.seg_words.specs.WordRules.{is_word_like, machine_words, table_words, type_of, with_words, word_boundaries_of};
+ghost use Rattle.seg_words.specs.WordRules.{WordsResetAfter, is_word_like, machine_words, table_words, type_of, with_words, word_boundaries_of};
 ghost use Rattle.seg_words.specs.Words.{word_rules};
 ghost use Rattle.seg_words.specs.declared.word.WordType.TheVariants.{None as NoWord};
 
@@ -23,8 +20,8 @@ use seg_clusters::engine::{Engine, OwnedEngine};
 use seg_clusters::grapheme::{GraphemeClusterSegmenter, GraphemeClusterSegmenterBorrowed};
 use seg_complex::complex::ComplexPayloadsBorrowed;
 use seg_complex::spans::is_outside_runs;
-use seg_data::provider::{DataError, LanguageIdentifier};
 use seg_data::dictionaries::{Dictionaries, DictionariesBorrowed};
+use seg_data::provider::{DataError, LanguageIdentifier};
 use seg_machine::provider::SegmenterStateMachine;
 use seg_machine::tailored_machine::{TailoredMachine, TailoredMachineBorrowed};
 use seg_memo::memo::{MemoBreakIterator, MemoError};
@@ -272,8 +269,7 @@ pub struct WordSegmenter {
 }
 
 impl WordSegmenter {
-    ghost use Rattle.seg_words.specs.Words.{owned_word_rules};
-    ghost use Rattle.seg_words.specs.WordFaults.{HasWordTableFault, HasWordMachineFault};
+    ghost use Rattle.seg_words.specs.Words.{owned_word_rules, HasWordTableFault, HasWordMachineFault};
 
     /// A segmenter by a pair table and its override, if there is one; a run of complex characters (those of the class
     /// `complex_property`) is cut after each of its pieces of one script, until dictionaries are loaded. The pair table of
@@ -381,8 +377,7 @@ pub struct WordSegmenterBorrowed<'data> {
 }
 
 impl<'data> WordSegmenterBorrowed<'data> {
-    ghost use Rattle.seg_words.specs.Words.{word_finder, words_left, words_source, word_type};
-    ghost use Rattle.seg_words.specs.WordFaults.{HasWordTableFault, HasWordMachineFault};
+    ghost use Rattle.seg_words.specs.Words.{word_finder, words_left, words_source, word_type, HasWordTableFault, HasWordMachineFault};
 
     /// What `WordSegmenter::try_new_for_non_complex_scripts` makes, over lent data. The faults are the same. Takes no memory.
     pub fn new_for_non_complex_scripts(

@@ -7,7 +7,7 @@ use Rattle.std.proofs.lemmas.List.{append_assoc, append-nil, length-append, leng
 use Rattle.unicode_width.proofs.Rules.{width_or_zero-le}
 use Rattle.seg_text.specs.Items.{IsRising, Item, Text, code_points, start_of}
 use Rattle.seg_wrap.specs.declared.extent.Extent.{Extent}
-use Rattle.seg_wrap.specs.Measures.{IsMeasuring, extent_of, joined, total_of}
+use Rattle.seg_wrap.specs.Walk.{IsMeasuring, line_extent, joined_extents, total_of}
 use Rattle.seg_wrap.specs.Wrapping.{columns_of, hangs, shown, width_of}
 use Rattle.seg_wrap.proofs.Places.{few-items}
 
@@ -39,7 +39,7 @@ columns-append (x ∷ xs) ys =
     by false true w m t n = refl
     by false false w m t n = omega arith
 
-pub extent-append : (xs ys : List ℕ) → extent_of (xs ++ ys) ≡ joined (extent_of xs) (extent_of ys)
+pub extent-append : (xs ys : List ℕ) → line_extent (xs ++ ys) ≡ joined_extents (line_extent xs) (line_extent ys)
 extent-append xs ys = rw (columns-append xs ys, total-append xs ys, list_all-append hangs xs ys) refl
 
 pub columns-most : (cs : List ℕ) → columns_of cs ≤ total_of cs
@@ -68,7 +68,7 @@ total-most (c ∷ cs) = omega (arith, width_or_zero-le false (shown c), total-mo
 abbrev one_of : Bool → ℕ → Extent
 one_of b w = record { columns = if b then 0 else w; inner_columns = w; hangs = b }
 
-extent-one : (c : ℕ) → extent_of (c ∷ []) ≡ one_of (hangs c) (width_of c)
+extent-one : (c : ℕ) → line_extent (c ∷ []) ≡ one_of (hangs c) (width_of c)
 unfolding columns_of total_of
 extent-one c = by (hangs c) (width_of c)
   where
@@ -79,10 +79,10 @@ extent-one c = by (hangs c) (width_of c)
     by true w = ap (λ (n : ℕ). extent 0 n true) (omega arith)
     by false w = ap (λ (n : ℕ). extent n n false) (omega arith)
 
-extent-hanging : (c width : ℕ) → width ≡ width_of c → hangs c ≡ true → one_of true width ≡ extent_of (c ∷ [])
+extent-hanging : (c width : ℕ) → width ≡ width_of c → hangs c ≡ true → one_of true width ≡ line_extent (c ∷ [])
 extent-hanging c width is does = sym (extent-one c ∙ rw (does, is) refl)
 
-extent-standing : (c width : ℕ) → width ≡ width_of c → hangs c ≡ false → one_of false width ≡ extent_of (c ∷ [])
+extent-standing : (c width : ℕ) → width ≡ width_of c → hangs c ≡ false → one_of false width ≡ line_extent (c ∷ [])
 extent-standing c width is does = sym (extent-one c ∙ rw (does, is) refl)
 
 -- a character after others
@@ -90,19 +90,19 @@ abbrev extent : ℕ → ℕ → Bool → Extent
 extent columns inner_columns hangs = record { columns = columns; inner_columns = inner_columns; hangs = hangs }
 
 pub followed-hanging : (before : Extent) (c width : ℕ) → width ≡ width_of c → hangs c ≡ true
-    → extent before.columns (before.inner_columns + width) before.hangs ≡ joined before (extent_of (c ∷ []))
+    → extent before.columns (before.inner_columns + width) before.hangs ≡ joined_extents before (line_extent (c ∷ []))
 followed-hanging before c width is does =
-    ap (λ (b : Bool). extent before.columns (before.inner_columns + width) b) (same before.hangs) ∙ ap (λ (one : Extent). joined before one) (extent-hanging c width is does)
+    ap (λ (b : Bool). extent before.columns (before.inner_columns + width) b) (same before.hangs) ∙ ap (λ (one : Extent). joined_extents before one) (extent-hanging c width is does)
   where
     same : (b : Bool) → b ≡ (b && true)
     same true = refl
     same false = refl
 
 pub followed-standing : (before : Extent) (c width : ℕ) → width ≡ width_of c → hangs c ≡ false
-    → extent (before.inner_columns + width) (before.inner_columns + width) false ≡ joined before (extent_of (c ∷ []))
+    → extent (before.inner_columns + width) (before.inner_columns + width) false ≡ joined_extents before (line_extent (c ∷ []))
 followed-standing before c width is does =
     ap (λ (b : Bool). extent (before.inner_columns + width) (before.inner_columns + width) b) (none before.hangs)
-    ∙ ap (λ (one : Extent). joined before one) (extent-standing c width is does)
+    ∙ ap (λ (one : Extent). joined_extents before one) (extent-standing c width is does)
   where
     none : (b : Bool) → false ≡ (b && false)
     none true = refl
@@ -110,20 +110,20 @@ followed-standing before c width is does =
 
 -- ---- a text is read item by item
 
-pub measuring-start : (text : Text) (extent : Extent) → extent ≡ extent_of [] → IsMeasuring text text extent
+pub measuring-start : (text : Text) (extent : Extent) → extent ≡ line_extent [] → IsMeasuring text text extent
 measuring-start text extent none = record { read = []; measured = none; characters = refl }
 
 pub measuring-next : (text rest later : Text) (item : Item) (before after : Extent) → IsMeasuring text rest before → rest.items ≡ item ∷ later.items
-    → after ≡ joined before (extent_of (item.1 ∷ [])) → IsMeasuring text later after
+    → after ≡ joined_extents before (line_extent (item.1 ∷ [])) → IsMeasuring text later after
 measuring-next text rest later item before after is starts next = record {
   read = is.read ++ item.1 ∷ [];
   measured = rw (next, is.measured) (sym (extent-append is.read (item.1 ∷ [])));
   characters = is.characters ∙ ap (λ (items : List Item). is.read ++ code_points items) starts ∙ sym (append_assoc is.read (item.1 ∷ []) (code_points later.items));
 }
 
-pub measuring-end : (text rest : Text) (extent : Extent) → IsMeasuring text rest extent → rest.items ≡ [] → extent ≡ extent_of (code_points text.items)
+pub measuring-end : (text rest : Text) (extent : Extent) → IsMeasuring text rest extent → rest.items ≡ [] → extent ≡ line_extent (code_points text.items)
 measuring-end text rest extent is none =
-    is.measured ∙ ap extent_of (sym (is.characters ∙ ap (λ (items : List Item). is.read ++ code_points items) none ∙ append-nil is.read))
+    is.measured ∙ ap line_extent (sym (is.characters ∙ ap (λ (items : List Item). is.read ++ code_points items) none ∙ append-nil is.read))
 
 -- what was read takes few columns
 pub measuring-room : (text rest : Text) (extent : Extent) → IsRising text.items text.end → IsMeasuring text rest extent

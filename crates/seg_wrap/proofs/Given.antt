@@ -5,12 +5,12 @@ use Rattle.std.specs.Iterator.{MakesProgress, item_count}
 use Rattle.std.specs.Str.{IsCharBoundary, IsUtf8}
 use Rattle.std.proofs.lemmas.List.{drop-drop}
 use Rattle.seg_text.specs.Items.{IsRising, Text, rest_after, start_of}
-use Rattle.seg_text.specs.Utf8.{utf8, utf8_items}
+use Rattle.seg_text.specs.Decoding.{utf8, utf8_items}
 use Rattle.seg_text.specs.Lemmas.Rising.{utf8_items-rises}
 use Rattle.seg_text.proofs.Places.{IsRising-drop}
 use Rattle.seg_text.proofs.Str.{seek-boundary}
 use Rattle.seg_wrap.specs.declared.wrapping.Span.{Span}
-use Rattle.seg_wrap.specs.Walk.{GivesSpan, LinesLeft}
+use Rattle.seg_wrap.specs.Walk.{GivesLine, LinesLeft}
 use Rattle.seg_wrap.specs.Wrapping.{between, count_before, rest_from, text_lines}
 use Rattle.seg_wrap.proofs.Places.{place-grows, place-within, rest-at}
 
@@ -33,7 +33,7 @@ further bytes text taken is =
     let count : ℕ = count_before (start_of text) (utf8 bytes) in
     (_, ap (rest_after taken) is ∙ ap (λ (items : List _). record { items = items; end = (utf8 bytes).end }) (drop-drop taken count (utf8 bytes).items))
 
-pub rest-next : (bytes : List ℕ) (before after : LinesLeft) (result : Option Span) → IsRestOf bytes before.text → GivesSpan before result after
+pub rest-next : (bytes : List ℕ) (before after : LinesLeft) (result : Option Span) → IsRestOf bytes before.text → GivesLine before result after
     → IsRestOf bytes after.text
 rest-next bytes before after None is gives = rw gives.1 is
 rest-next bytes before after (Some span) is gives =
@@ -43,7 +43,7 @@ rest-next bytes before after (Some span) is gives =
 
 -- ---- the line that is given
 
-pub span-order : (bytes : List ℕ) (before after : LinesLeft) (span : Span) → IsRestOf bytes before.text → GivesSpan before (Some span) after → span.start ≤ span.end
+pub span-order : (bytes : List ℕ) (before after : LinesLeft) (span : Span) → IsRestOf bytes before.text → GivesLine before (Some span) after → span.start ≤ span.end
 span-order bytes before after span is gives =
     let rises : IsRising before.text.items before.text.end = rw is (IsRising-drop (utf8 bytes).items (utf8 bytes).end (count_before (start_of before.text) (utf8 bytes)) (utf8-rises bytes)) in
     omega (arith, gives.1.1.1.0, gives.1.1.1.1.0, ap start_of gives.1.1.0, place-grows before.text.items before.text.end (length gives.0.characters) rises)
@@ -52,29 +52,29 @@ pub place-boundary : (bytes : List ℕ) (place : ℕ) → IsUtf8 bytes → place
 unfolding utf8_items
 place-boundary bytes place utf8 is = seek-boundary (count_before place (record { items = utf8_items 0 bytes; end = 0 + length bytes })) place 0 bytes (omega arith) utf8 is
 
-pub start-place : (bytes : List ℕ) (before after : LinesLeft) (span : Span) → IsRestOf bytes before.text → GivesSpan before (Some span) after
+pub start-place : (bytes : List ℕ) (before after : LinesLeft) (span : Span) → IsRestOf bytes before.text → GivesLine before (Some span) after
     → span.start ≡ start_of (rest_from span.start (utf8 bytes))
 start-place bytes before after span is gives = rw gives.1.1.1.0 (ap start_of is)
 
-pub end-place : (bytes : List ℕ) (before after : LinesLeft) (span : Span) → IsRestOf bytes before.text → GivesSpan before (Some span) after
+pub end-place : (bytes : List ℕ) (before after : LinesLeft) (span : Span) → IsRestOf bytes before.text → GivesLine before (Some span) after
     → span.end ≡ start_of (rest_from span.end (utf8 bytes))
 end-place bytes before after span is gives = rw gives.1.1.1.1.0 (ap start_of (rest-next bytes before after (Some span) is gives))
 
-pub end-within : (bytes : List ℕ) (before after : LinesLeft) (span : Span) → IsRestOf bytes before.text → GivesSpan before (Some span) after
+pub end-within : (bytes : List ℕ) (before after : LinesLeft) (span : Span) → IsRestOf bytes before.text → GivesLine before (Some span) after
     → span.end ≤ length bytes
 end-within bytes before after span is gives =
     let left = rest-next bytes before after (Some span) is gives in
     let rises = IsRising-drop (utf8 bytes).items (utf8 bytes).end (count_before (start_of after.text) (utf8 bytes)) (utf8-rises bytes) in
     omega (arith, gives.1.1.1.1.0, ap start_of left, place-within (rest_from (start_of after.text) (utf8 bytes)).items (utf8 bytes).end rises)
 
-pub lines-next : (bytes : List ℕ) (before after : LinesLeft) (span : Span) → GivesSpan before (Some span) after
+pub lines-next : (bytes : List ℕ) (before after : LinesLeft) (span : Span) → GivesLine before (Some span) after
     → text_lines bytes before.text before.lines
     ≡ record { units = between span.start span.end bytes; columns = span.columns; is_mandatory = span.is_mandatory } ∷ text_lines bytes after.text after.lines
 unfolding text_lines
 lines-next bytes before after span (line, (lines, (rest, (start, (end, (columns, mark)))))) =
     rw (lines, start, end, columns, mark, rest) refl
 
-pub lines-none : (bytes : List ℕ) (before after : LinesLeft) → GivesSpan before None after
+pub lines-none : (bytes : List ℕ) (before after : LinesLeft) → GivesLine before None after
     → (text_lines bytes before.text before.lines ≡ []) × (text_lines bytes after.text after.lines ≡ [])
 unfolding text_lines
 lines-none bytes before after (lines, same) = (rw lines refl, rw (same, lines) refl)

@@ -3,8 +3,7 @@ use Rattle.std.proofs.Common.{◌≡◌, ℕ, ◌<◌, ◌≤◌, Bool, true, fa
 use Rattle.std.specs.Prelude.{if◌then◌else◌, ◌||◌}
 use Rattle.std.proofs.lemmas.Bool.{ltb-false, lt-ltb, ltb-true, le-ltb, true≢false}
 use Rattle.std.proofs.lemmas.List.{append_assoc, append-nil}
-use Rattle.seg_wrap.specs.Wrapping.{Segment, onto, columns_of, line_of, lines_from, ends_before}
-use Rattle.seg_wrap.specs.WrapLaw.{AreLines, HasOneWrapping, IsLine, IsUnbroken, Parts, lines_of, parts_of, whole, whole_of}
+use Rattle.seg_wrap.specs.Wrapping.{Segment, as_one, columns_of, line_of, lines_from, ends_before, AreLines, HasOneWrapping, IsLine, IsUnbroken, Parts, lines_of, parts_of, whole, whole_of}
 use Rattle.seg_wrap.proofs.Extents.{columns-grow}
 
 -- equal lists begin alike, and go on alike
@@ -31,15 +30,15 @@ parts_from limit line (next ∷ segments) =
     if ends_before limit (whole_of line) next then line ∷ parts_from limit (alone next) segments
     else parts_from limit (with_next line next) segments
 
-whole-next : (first : Segment) (others : List Segment) (next : Segment) → whole first (others ++ next ∷ []) ≡ onto (whole first others) next
+whole-next : (first : Segment) (others : List Segment) (next : Segment) → whole first (others ++ next ∷ []) ≡ as_one (whole first others) next
 unfolding whole
 whole-next first [] next = refl
-whole-next first (one ∷ others) next = whole-next (onto first one) others next
+whole-next first (one ∷ others) next = whole-next (as_one first one) others next
 
-whole-mark : (first next : Segment) (others : List Segment) → (whole (onto first next) others).is_mandatory ≡ (whole next others).is_mandatory
+whole-mark : (first next : Segment) (others : List Segment) → (whole (as_one first next) others).is_mandatory ≡ (whole next others).is_mandatory
 unfolding whole
 whole-mark first next [] = refl
-whole-mark first next (one ∷ others) = whole-mark (onto first next) one others ∙ sym (whole-mark next one others)
+whole-mark first next (one ∷ others) = whole-mark (as_one first next) one others ∙ sym (whole-mark next one others)
 
 -- a line that may go on, with one segment more
 unbroken-next : (first : Segment) (others : List Segment) (next : Segment) → IsUnbroken first others → (whole first others).is_mandatory ≡ false
@@ -60,12 +59,12 @@ whole-grow : (first : Segment) (others : List Segment) → columns_of first.char
 unfolding whole
 whole-grow first [] = omega arith
 whole-grow first (one ∷ others) =
-    omega (arith, columns-grow first.characters one.characters, whole-grow (onto first one) others)
+    omega (arith, columns-grow first.characters one.characters, whole-grow (as_one first one) others)
 
 whole-append : (first : Segment) (others later : List Segment) → whole first (others ++ later) ≡ whole (whole first others) later
 unfolding whole
 whole-append first [] later = refl
-whole-append first (one ∷ others) later = whole-append (onto first one) others later
+whole-append first (one ∷ others) later = whole-append (as_one first one) others later
 
 ends : (limit : ℕ) (line next : Segment) → (line.is_mandatory ≡ false → limit < columns_of (line.characters ++ next.characters)) → ends_before limit line next ≡ true
 ends limit line next full = on line.is_mandatory full
@@ -89,7 +88,7 @@ parts-wrapped limit line (next ∷ segments) =
     on : (b : Bool) → lines_of (parts_from limit (alone next) segments) ≡ lines_from limit (whole_of (alone next)) segments
         → lines_of (parts_from limit (with_next line next) segments) ≡ lines_from limit (whole_of (with_next line next)) segments
         → lines_of (if b then line ∷ parts_from limit (alone next) segments else parts_from limit (with_next line next) segments)
-        ≡ (if b then line_of (whole_of line) ∷ lines_from limit next segments else lines_from limit (onto (whole_of line) next) segments)
+        ≡ (if b then line_of (whole_of line) ∷ lines_from limit next segments else lines_from limit (as_one (whole_of line) next) segments)
     on true anew further = ap (λ lines. line_of (whole_of line) ∷ lines) anew
     on false anew further = rw (← whole-next line.first line.others next) further
 
@@ -102,11 +101,11 @@ unfolding parts_from whole
 parts-on limit first others [] after is fits = rw (append-nil others) refl
 parts-on limit first others (next ∷ extra) after is fits =
     let some : 0 < length (others ++ next ∷ extra) = omega (arith, length-append others (next ∷ extra)) in
-    let within : columns_of (whole (onto (whole first others) next) extra).characters ≤ limit = rw (← whole-append first others (next ∷ extra)) (fits some) in
+    let within : columns_of (whole (as_one (whole first others) next) extra).characters ≤ limit = rw (← whole-append first others (next ∷ extra)) (fits some) in
     let same : (others ++ next ∷ []) ++ extra ≡ others ++ next ∷ extra = append_assoc others (next ∷ []) extra in
     let further = parts-on limit first (others ++ next ∷ []) extra after (rw same is) (rw same fits) in
     rw (goes-on limit (whole first others) next (unbroken-goes first others next extra is)
-    (omega (arith, whole-grow (onto (whole first others) next) extra, within)))
+    (omega (arith, whole-grow (as_one (whole first others) next) extra, within)))
     (rw same at further)
 
 -- the greedy lines are the only ones

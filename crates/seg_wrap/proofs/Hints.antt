@@ -7,8 +7,8 @@ use Rattle.seg_text.specs.declared.boundary.Boundary.{Boundary}
 use Rattle.seg_text.specs.Items.{IsRising, Text, rest_after}
 use Rattle.seg_text.proofs.Places.{IsRising-drop}
 use Rattle.seg_wrap.specs.declared.wrapping.Piece.{Piece}
-use Rattle.seg_wrap.specs.Walk.{AreCuts, IsHeld, LinesLeft, lines_held, segment_at}
-use Rattle.seg_wrap.specs.Wrapping.{Line, Segment, count_before, ends_before, line_of, lines_from, onto, rest_from, segments_from, text_lines}
+use Rattle.seg_wrap.specs.Walk.{AreCuts, IsHeldPiece, LinesLeft, lines_held, segment_at}
+use Rattle.seg_wrap.specs.Wrapping.{Line, Segment, count_before, ends_before, line_of, lines_from, as_one, rest_from, segments_from, text_lines}
 use Rattle.seg_wrap.proofs.Places.{count-within, few-items, place-within}
 
 -- each break stands behind an item or more
@@ -34,29 +34,29 @@ lines-few : (limit : ℕ) (line : Segment) (segments : List Segment) → length 
 unfolding lines_from
 lines-few limit line [] = omega arith
 lines-few limit line (next ∷ segments) =
-    by (ends_before limit line next) (lines-few limit next segments) (lines-few limit (onto line next) segments)
+    by (ends_before limit line next) (lines-few limit next segments) (lines-few limit (as_one line next) segments)
   where
     by : (b : Bool) → length (lines_from limit next segments) ≤ 1 + length segments
-        → length (lines_from limit (onto line next) segments) ≤ 1 + length segments
-        → length (if b then line_of line ∷ lines_from limit next segments else lines_from limit (onto line next) segments) ≤ 1 + length (next ∷ segments)
+        → length (lines_from limit (as_one line next) segments) ≤ 1 + length segments
+        → length (if b then line_of line ∷ lines_from limit next segments else lines_from limit (as_one line next) segments) ≤ 1 + length (next ∷ segments)
     by true ends goes = omega (arith, ends)
     by false ends goes = omega (arith, goes)
 
 lines-some : (limit : ℕ) (line : Segment) (segments : List Segment) → 0 < length (lines_from limit line segments)
 unfolding lines_from
 lines-some limit line [] = omega arith
-lines-some limit line (next ∷ segments) = by (ends_before limit line next) (lines-some limit (onto line next) segments)
+lines-some limit line (next ∷ segments) = by (ends_before limit line next) (lines-some limit (as_one line next) segments)
   where
-    by : (b : Bool) → 0 < length (lines_from limit (onto line next) segments)
-        → 0 < length (if b then line_of line ∷ lines_from limit next segments else lines_from limit (onto line next) segments)
+    by : (b : Bool) → 0 < length (lines_from limit (as_one line next) segments)
+        → 0 < length (if b then line_of line ∷ lines_from limit next segments else lines_from limit (as_one line next) segments)
     by true goes = omega arith
     by false goes = goes
 
 -- the piece that is held ends in the text
 pub held-within : (text : Text) (held : Option Piece) (piece : Piece) (boundaries : List Boundary) → IsRising text.items text.end
-    → IsHeld text held boundaries → held ≡ Some piece → piece.end ≤ text.end
+    → IsHeldPiece text held boundaries → held ≡ Some piece → piece.end ≤ text.end
 held-within text held piece boundaries rises is some =
-    let held_is : IsHeld text (Some piece) boundaries = rw some at is in
+    let held_is : IsHeldPiece text (Some piece) boundaries = rw some at is in
     let later = IsRising-drop text.items text.end (count_before piece.end text) rises in
     omega (arith, held_is.0.at, place-within (rest_from piece.end text).items text.end later)
 
@@ -67,9 +67,9 @@ held-some limit text held piece boundaries some =
     rw some (lines-some limit (segment_at text piece) (segments_from (rest_from piece.end text) boundaries))
 
 pub held-few : (limit : ℕ) (text : Text) (held : Option Piece) (piece : Piece) (boundaries : List Boundary) → IsRising text.items text.end
-    → IsHeld text held boundaries → held ≡ Some piece → length (lines_held limit text held boundaries) ≤ 1 + (text.end - piece.end)
+    → IsHeldPiece text held boundaries → held ≡ Some piece → length (lines_held limit text held boundaries) ≤ 1 + (text.end - piece.end)
 held-few limit text held piece boundaries rises is some =
-    let held_is : IsHeld text (Some piece) boundaries = rw some at is in
+    let held_is : IsHeldPiece text (Some piece) boundaries = rw some at is in
     let rest = rest_from piece.end text in
     rw some
     (omega (

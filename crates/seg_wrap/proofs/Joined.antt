@@ -6,10 +6,10 @@ use Rattle.std.proofs.Math.Seq.{take-add}
 use Rattle.std.proofs.lemmas.List.{drop-drop, length-append, length-drop, nil_from_length, take_all}
 use Rattle.seg_text.specs.declared.boundary.Boundary.{Boundary}
 use Rattle.seg_text.specs.Items.{IsRising, Item, Text, place_of, rest_after, start_of}
-use Rattle.seg_text.specs.Utf8.{utf8}
+use Rattle.seg_text.specs.Decoding.{utf8}
 use Rattle.seg_text.proofs.Places.{IsRising-drop}
 use Rattle.seg_wrap.specs.Walk.{AreCuts}
-use Rattle.seg_wrap.specs.Wrapping.{Line, Segment, TextLine, between, count_before, ends_before, line_of, lines_from, onto, rest_from, segments_from, text_lines, wrapped_lines}
+use Rattle.seg_wrap.specs.Wrapping.{Line, Segment, TextLine, between, count_before, ends_before, line_of, lines_from, as_one, rest_from, segments_from, text_lines, wrapped_lines}
 use Rattle.seg_wrap.proofs.Given.{utf8-rises}
 use Rattle.seg_wrap.proofs.Starts.{start-utf8}
 use Rattle.seg_wrap.proofs.Places.{characters-length, count-within, place-grows, place-within}
@@ -34,11 +34,11 @@ length-of-lines : (limit : ℕ) (line : Segment) (segments : List Segment) → l
 unfolding lines_from lines_length segments_length
 length-of-lines limit line [] = refl
 length-of-lines limit line (next ∷ segments) =
-    on (ends_before limit line next) (length-of-lines limit next segments) (length-of-lines limit (onto line next) segments)
+    on (ends_before limit line next) (length-of-lines limit next segments) (length-of-lines limit (as_one line next) segments)
   where
     on : (b : Bool) → lines_length (lines_from limit next segments) ≡ length next.characters + segments_length segments
-        → lines_length (lines_from limit (onto line next) segments) ≡ length (line.characters ++ next.characters) + segments_length segments
-        → lines_length (if b then line_of line ∷ lines_from limit next segments else lines_from limit (onto line next) segments)
+        → lines_length (lines_from limit (as_one line next) segments) ≡ length (line.characters ++ next.characters) + segments_length segments
+        → lines_length (if b then line_of line ∷ lines_from limit next segments else lines_from limit (as_one line next) segments)
         ≡ length line.characters + (length next.characters + segments_length segments)
     on true anew further = ap (λ (n : ℕ). length line.characters + n) anew
     on false anew further = omega (arith, further, length-append line.characters next.characters)

@@ -4,7 +4,7 @@ use Rattle.std.specs.Prelude.{Option, Some, None}
 use Rattle.seg_text.specs.declared.boundary.Boundary.{Boundary}
 use Rattle.seg_text.specs.Boundaries.{GivesNext, IsCover, Remainder, RisesTo, boundaries_in, boundary_in}
 use Rattle.seg_text.specs.Items.{IsRising, Text, code_points, rest_after, start_of}
-use Rattle.seg_text.specs.Utf8.{utf8, utf8_items, read_utf8}
+use Rattle.seg_text.specs.Decoding.{utf8, utf8_items, read_utf8}
 use Rattle.seg_text.specs.Lemmas.Readers.{place_of-items_by}
 use Rattle.seg_text.specs.Lemmas.Rising.{read_utf8-reader}
 use Rattle.seg_text.proofs.Places.{IsRising-drop}

@@ -8,23 +8,22 @@ use Rattle.seg_text.specs.Boundaries.{boundary}
 use Rattle.seg_text.specs.Items.{Item, Text, code_points, rest_after, start_of, text_before}
 use Rattle.seg_wrap.specs.declared.extent.Extent.{Extent}
 use Rattle.seg_wrap.specs.declared.wrapping.Piece.{Piece}
-use Rattle.seg_wrap.specs.Measures.{extent_of, joined}
-use Rattle.seg_wrap.specs.Walk.{AreCuts, IsGrowing, IsHeld, IsPiece, lines_held, rest_held, segment_at, segments_held}
-use Rattle.seg_wrap.specs.Wrapping.{Line, Segment, characters_before, columns_of, count_before, line_of, lines_from, onto, rest_from, segments_from}
+use Rattle.seg_wrap.specs.Walk.{line_extent, joined_extents, AreCuts, IsGrowing, IsHeldPiece, IsFirstPiece, lines_held, rest_held, segment_at, segments_held}
+use Rattle.seg_wrap.specs.Wrapping.{Line, Segment, characters_before, columns_of, count_before, line_of, lines_from, as_one, rest_from, segments_from}
 use Rattle.seg_wrap.proofs.Extents.{columns-most, extent-append}
 use Rattle.seg_wrap.proofs.Places.{characters-on, count-before-on, first-before, rest-of-characters, rest-on, start-before}
 
 -- two pieces as one
 abbrev pub joined_piece : Piece → Piece → Piece
-joined_piece line piece = record { end = piece.end; extent = joined line.extent piece.extent; is_mandatory = piece.is_mandatory }
+joined_piece line piece = record { end = piece.end; extent = joined_extents line.extent piece.extent; is_mandatory = piece.is_mandatory }
 
 abbrev segment_with : Bool → List ℕ → Segment
 segment_with mark cs = record { characters = cs; is_mandatory = mark }
 
 -- a line, and the piece after it
 pub record IsPair (text : Text) (line piece : Piece) : Type 0 where
-  pub line_is : IsPiece text line
-  pub piece_is : IsPiece (rest_from line.end text) piece
+  pub line_is : IsFirstPiece text line
+  pub piece_is : IsFirstPiece (rest_from line.end text) piece
 
 ends-later : (text : Text) (line piece : Piece) → IsPair text line piece → line.end ≤ piece.end
 ends-later text line piece is =
@@ -36,22 +35,22 @@ characters-of-both : (text : Text) (line piece : Piece) → IsPair text line pie
 characters-of-both text line piece is = characters-on text line.end piece.end (ends-later text line piece is)
 
 extent-of-both : (text : Text) (line piece : Piece) → IsPair text line piece
-    → joined line.extent piece.extent ≡ extent_of (characters_before line.end text ++ characters_before piece.end (rest_from line.end text))
+    → joined_extents line.extent piece.extent ≡ line_extent (characters_before line.end text ++ characters_before piece.end (rest_from line.end text))
 extent-of-both text line piece is =
     rw (is.line_is.measured, is.piece_is.measured)
     (sym (extent-append (characters_before line.end text) (characters_before piece.end (rest_from line.end text))))
 
 columns-of-both : (text : Text) (line piece : Piece) → IsPair text line piece
-    → (joined line.extent piece.extent).columns ≡ columns_of (characters_before line.end text ++ characters_before piece.end (rest_from line.end text))
+    → (joined_extents line.extent piece.extent).columns ≡ columns_of (characters_before line.end text ++ characters_before piece.end (rest_from line.end text))
 columns-of-both text line piece is = ap (λ (extent : Extent). extent.columns) (extent-of-both text line piece is)
 
-piece-of-both : (text : Text) (line piece : Piece) → IsPair text line piece → IsPiece text (joined_piece line piece)
+piece-of-both : (text : Text) (line piece : Piece) → IsPair text line piece → IsFirstPiece text (joined_piece line piece)
 piece-of-both text line piece is =
     let within = ends-later text line piece is in
     record {
       some = omega (arith, count-before-on text line.end piece.end within, is.line_is.some);
       at = is.piece_is.at ∙ ap start_of (rest-on text line.end piece.end within);
-      measured = extent-of-both text line piece is ∙ ap extent_of (sym (characters-of-both text line piece is));
+      measured = extent-of-both text line piece is ∙ ap line_extent (sym (characters-of-both text line piece is));
       small = omega (arith, is.line_is.small, is.piece_is.small, is.line_is.at);
     }
 
@@ -61,12 +60,12 @@ rest-of-both text line piece is = rest-on text line.end piece.end (ends-later te
 -- ---- a line grows
 
 pub grow-start : (limit : ℕ) (text here after : Text) (first : Piece) (held : Option Piece) (before boundaries : List Boundary)
-    → IsPiece text first → here ≡ rest_from first.end text → segments_held here held boundaries ≡ segments_from here before
-    → IsHeld here held boundaries → after ≡ rest_held here held
+    → IsFirstPiece text first → here ≡ rest_from first.end text → segments_held here held boundaries ≡ segments_from here before
+    → IsHeldPiece here held boundaries → after ≡ rest_held here held
     → IsGrowing limit text (lines_from limit (segment_at text first) (segments_from (rest_from first.end text) before)) first held boundaries after
 grow-start limit text here after first held before boundaries is at segments held_is after_is = record {
   piece = is;
-  held_is = subst (λ (t : Text). IsHeld t held boundaries) at held_is;
+  held_is = subst (λ (t : Text). IsHeldPiece t held boundaries) at held_is;
   after_is = after_is ∙ ap (λ (t : Text). rest_held t held) at;
   lines = ap (lines_from limit (segment_at text first)) (subst (λ (t : Text). segments_held t held boundaries ≡ segments_from t before) at segments);
 }
@@ -77,8 +76,8 @@ pair-of limit text after owed line piece boundaries is = record { line_is = is.p
 
 grow-on : (limit : ℕ) (text here after : Text) (owed : List Line) (line piece : Piece) (before : List Boundary) (held : Option Piece) (boundaries : List Boundary)
     → IsGrowing limit text owed line (Some piece) before here
-    → (line.is_mandatory || nat_lt limit (joined line.extent piece.extent).columns) ≡ false
-    → segments_held here held boundaries ≡ segments_from here before → IsHeld here held boundaries → after ≡ rest_held here held
+    → (line.is_mandatory || nat_lt limit (joined_extents line.extent piece.extent).columns) ≡ false
+    → segments_held here held boundaries ≡ segments_from here before → IsHeldPiece here held boundaries → after ≡ rest_held here held
     → IsGrowing limit text owed (joined_piece line piece) held boundaries after
 unfolding lines_from
 grow-on limit text here after owed line piece before held boundaries is goes segments held_is after_is =
@@ -90,11 +89,11 @@ grow-on limit text here after owed line piece before held boundaries is goes seg
     let same : segments_held (rest_from piece.end text) held boundaries ≡ segments_from (rest_from piece.end (rest_from line.end text)) before
     = subst (λ (t : Text). segments_held t held boundaries ≡ segments_from here before) there segments
     ∙ ap (λ (t : Text). segments_from t before) is.after_is in
-    let segment : segment_at text (joined_piece line piece) ≡ onto (segment_at text line) (segment_at (rest_from line.end text) piece)
+    let segment : segment_at text (joined_piece line piece) ≡ as_one (segment_at text line) (segment_at (rest_from line.end text) piece)
     = ap (λ (cs : List ℕ). segment_with piece.is_mandatory cs) (characters-of-both text line piece pair) in
     record {
       piece = piece-of-both text line piece pair;
-      held_is = subst (λ (t : Text). IsHeld t held boundaries) there held_is;
+      held_is = subst (λ (t : Text). IsHeldPiece t held boundaries) there held_is;
       after_is = after_is ∙ ap (λ (t : Text). rest_held t held) there;
       lines = ap (lines_from limit (segment_at text (joined_piece line piece))) same
           ∙ ap (λ (s : Segment). lines_from limit s (segments_from (rest_from piece.end (rest_from line.end text)) before)) segment
@@ -103,7 +102,7 @@ grow-on limit text here after owed line piece before held boundaries is goes seg
 
 grow-stop : (limit : ℕ) (text here : Text) (owed : List Line) (line piece : Piece) (boundaries : List Boundary)
     → IsGrowing limit text owed line (Some piece) boundaries here
-    → (line.is_mandatory || nat_lt limit (joined line.extent piece.extent).columns) ≡ true
+    → (line.is_mandatory || nat_lt limit (joined_extents line.extent piece.extent).columns) ≡ true
     → owed ≡ line_of (segment_at text line) ∷ lines_held limit (rest_from line.end text) (Some piece) boundaries
 unfolding lines_from
 grow-stop limit text here owed line piece boundaries is stops =
@@ -129,11 +128,11 @@ unfolding segments_from
 none-segments text given before after empty none = rw (none, empty.0) refl
 
 pub none-held : (text : Text) (given : Option Piece) (before after : List Boundary) → AreCuts text before → (before ≡ []) × (after ≡ []) → given ≡ None
-    → IsHeld text given after
+    → IsHeldPiece text given after
 unfolding AreCuts
 none-held text given before after cuts empty none =
     let at_end : text.items ≡ [] = subst (AreCuts text) empty.0 cuts in
-    subst (λ (g : Option Piece). IsHeld text g after) (sym none) (at_end, empty.1)
+    subst (λ (g : Option Piece). IsHeldPiece text g after) (sym none) (at_end, empty.1)
 
 pub none-rest : (text : Text) (given : Option Piece) → given ≡ None → text ≡ rest_held text given
 none-rest text given none = rw none refl
@@ -156,9 +155,9 @@ unfolding segments_from
 read-segments text end mark extent before after is = rw (is.1.0, is.1.1) refl
 
 pub read-held : (text part : Text) (end : ℕ) (mark : Bool) (extent : Extent) (before after : List Boundary) → AreCuts text before → IsRead end mark before after
-    → part ≡ text_before (count_before end text) text → extent ≡ extent_of (code_points part.items)
+    → part ≡ text_before (count_before end text) text → extent ≡ line_extent (code_points part.items)
     → extent.inner_columns + 3 * start_of part ≤ 3 * part.end
-    → IsHeld text (Some (record { end = end; extent = extent; is_mandatory = mark })) after
+    → IsHeldPiece text (Some (record { end = end; extent = extent; is_mandatory = mark })) after
 read-held text part end mark extent before after cuts is part_is measured small =
     let parts = read-cuts text end mark before after cuts is in
     let count : ℕ = count_before end text in
@@ -167,7 +166,7 @@ read-held text part end mark extent before after cuts is part_is measured small 
       record {
         some = parts.0;
         at = parts.1.0;
-        measured = measured ∙ ap extent_of (ap (λ (t : Text). code_points t.items) part_is ∙ sym (take-map (λ (item : Item). item.1) count text.items));
+        measured = measured ∙ ap line_extent (ap (λ (t : Text). code_points t.items) part_is ∙ sym (take-map (λ (item : Item). item.1) count text.items));
         small = omega (arith, small, first, last);
       },
       parts.1.1,
@@ -201,11 +200,11 @@ turn-within limit text here owed line held piece boundaries is some =
 pub turn : (limit : ℕ) (text here after : Text) (owed : List Line) (line : Piece) (before : Option Piece) (piece : Piece) (extent : Extent) (left : List Boundary)
     (held : Option Piece) (boundaries : List Boundary)
     → IsGrowing limit text owed line before left here → before ≡ Some piece
-    → extent ≡ joined line.extent piece.extent → line.is_mandatory ≡ false → extent.columns ≤ limit
-    → segments_held here held boundaries ≡ segments_from here left → IsHeld here held boundaries → after ≡ rest_held here held
+    → extent ≡ joined_extents line.extent piece.extent → line.is_mandatory ≡ false → extent.columns ≤ limit
+    → segments_held here held boundaries ≡ segments_from here left → IsHeldPiece here held boundaries → after ≡ rest_held here held
     → IsGrowing limit text owed (record { end = piece.end; extent = extent; is_mandatory = piece.is_mandatory }) held boundaries after
 turn limit text here after owed line before piece extent left held boundaries is some both mark fits segments held_is after_is =
-    let goes : (line.is_mandatory || nat_lt limit (joined line.extent piece.extent).columns) ≡ false = rw mark (subst (λ (e : Extent). nat_lt limit e.columns ≡ false) both (le-ltb limit extent.columns fits)) in
+    let goes : (line.is_mandatory || nat_lt limit (joined_extents line.extent piece.extent).columns) ≡ false = rw mark (subst (λ (e : Extent). nat_lt limit e.columns ≡ false) both (le-ltb limit extent.columns fits)) in
     subst (λ (e : Extent). IsGrowing limit text owed (record { end = piece.end; extent = e; is_mandatory = piece.is_mandatory }) held boundaries after) (sym both)
     (grow-on limit text here after owed line piece left held boundaries (growing-at limit text here owed line before piece left is some) goes segments held_is after_is)
 
@@ -225,7 +224,7 @@ turn-fewer limit text here owed line before piece left held boundaries is some s
 
 pub turn-stop : (limit : ℕ) (text here : Text) (owed : List Line) (line : Piece) (held : Option Piece) (piece : Piece) (extent : Extent) (boundaries : List Boundary)
     → IsGrowing limit text owed line held boundaries here → held ≡ Some piece
-    → extent ≡ joined line.extent piece.extent → (line.is_mandatory || nat_lt limit extent.columns) ≡ true
+    → extent ≡ joined_extents line.extent piece.extent → (line.is_mandatory || nat_lt limit extent.columns) ≡ true
     → owed ≡ line_of (segment_at text line) ∷ lines_held limit (rest_from line.end text) (Some piece) boundaries
 turn-stop limit text here owed line held piece extent boundaries is some both stops =
     grow-stop limit text here owed line piece boundaries (growing-at limit text here owed line held piece boundaries is some)
@@ -239,7 +238,7 @@ turn-end limit text here owed line held boundaries is none =
 
 -- the line that is found is given
 pub given-span : (limit : ℕ) (text rest : Text) (held : Option Piece) (first line : Piece) (next : Option Piece) (left later : List Boundary)
-    → held ≡ Some first → IsPiece text line → rest ≡ rest_from line.end text
+    → held ≡ Some first → IsFirstPiece text line → rest ≡ rest_from line.end text
     → lines_from limit (segment_at text first) (segments_from (rest_from first.end text) left) ≡ line_of (segment_at text line) ∷ lines_held limit (rest_from line.end text) next later
     → (one : Line) × ((lines_held limit text held left ≡ one ∷ lines_held limit rest next later) × ((rest ≡ rest_after (length one.characters) text)
     × ((line.end ≡ start_of rest) × ((line.extent.columns ≡ one.columns) × (line.is_mandatory ≡ one.is_mandatory)))))

@@ -1,13 +1,38 @@
--- A wrapper on its way through a text.
-use Rattle.std.specs.Prelude.{◌≡◌, ℕ, ◌+◌, ◌*◌, ◌<◌, ◌≤◌, ◌==◌, List, [], ◌∷◌, length, Option, Some, None, MatchOption}
+-- What is known of some characters at a line's end or before it.
+use Rattle.std.specs.Prelude.{◌≡◌, ℕ, ◌+◌, ◌&&◌, List, [], ◌∷◌, ◌++◌, if◌then◌else◌, ◌*◌, ◌<◌, ◌≤◌, ◌==◌, length, Option, Some, None, MatchOption}
+use Rattle.std.specs.List.{list_all}
+use Rattle.seg_text.specs.Items.{Text, code_points, rest_after, start_of}
 use Rattle.seg_text.specs.declared.boundary.Boundary.{Boundary}
 use Rattle.seg_text.specs.Boundaries.{boundary}
-use Rattle.seg_text.specs.Items.{Text, rest_after, start_of}
+use Rattle.seg_wrap.specs.declared.extent.Extent.{Extent}
+use Rattle.seg_wrap.specs.Wrapping.{columns_of, hangs, width_of, Line, Segment, characters_before, count_before, lines_from, rest_from, segments_from}
 use Rattle.seg_wrap.specs.declared.breaks.Break.{Break}
 use Rattle.seg_wrap.specs.declared.wrapping.Piece.{Piece}
 use Rattle.seg_wrap.specs.declared.wrapping.Span.{Span}
-use Rattle.seg_wrap.specs.Measures.{extent_of}
-use Rattle.seg_wrap.specs.Wrapping.{Line, Segment, characters_before, count_before, lines_from, rest_from, segments_from}
+
+-- the columns of characters that others follow
+unfoldable pub total_of : List ℕ → ℕ
+total_of [] = 0
+total_of (c ∷ cs) = width_of c + total_of cs
+
+abbrev pub line_extent : List ℕ → Extent
+line_extent cs = record { columns = columns_of cs; inner_columns = total_of cs; hangs = list_all hangs cs }
+
+-- the extent of some characters and then others
+abbrev pub joined_extents : Extent → Extent → Extent
+joined_extents before after = record {
+  columns = if after.hangs then before.columns else before.inner_columns + after.columns;
+  inner_columns = before.inner_columns + after.inner_columns;
+  hangs = before.hangs && after.hangs;
+}
+
+-- a text was read up to what is left of it, and this is the extent of what was read
+pub record IsMeasuring (text rest : Text) (extent : Extent) : Type 0 where
+  pub read : List ℕ
+  pub measured : extent ≡ line_extent read
+  pub characters : code_points text.items ≡ read ++ code_points rest.items
+
+-- A wrapper on its way through a text.
 
 -- a break was read of these boundaries, if there is one
 abbrev pub ReadsBreak : List Boundary → Option Break → List Boundary → Type 0
@@ -27,10 +52,10 @@ abbrev pub segment_at : Text → Piece → Segment
 segment_at text piece = record { characters = characters_before piece.end text; is_mandatory = piece.is_mandatory }
 
 -- a text begins with this piece, and this is its extent
-pub record IsPiece (text : Text) (piece : Piece) : Type 0 where
+pub record IsFirstPiece (text : Text) (piece : Piece) : Type 0 where
   pub some : 0 < count_before piece.end text
   pub at : piece.end ≡ start_of (rest_from piece.end text)
-  pub measured : piece.extent ≡ extent_of (characters_before piece.end text)
+  pub measured : piece.extent ≡ line_extent (characters_before piece.end text)
   pub small : piece.extent.inner_columns + 3 * start_of text ≤ 3 * piece.end
 
 -- what follows a piece that was read already, if there is one
@@ -48,14 +73,14 @@ lines_held limit text None boundaries = []
 lines_held limit text (Some piece) boundaries = lines_from limit (segment_at text piece) (segments_from (rest_from piece.end text) boundaries)
 
 -- what is held is a piece, and the boundaries that follow stand after it
-abbrev pub IsHeld : Text → Option Piece → List Boundary → Type 0
-IsHeld text None boundaries = (text.items ≡ []) × (boundaries ≡ [])
-IsHeld text (Some piece) boundaries = IsPiece text piece × AreCuts (rest_from piece.end text) boundaries
+abbrev pub IsHeldPiece : Text → Option Piece → List Boundary → Type 0
+IsHeldPiece text None boundaries = (text.items ≡ []) × (boundaries ≡ [])
+IsHeldPiece text (Some piece) boundaries = IsFirstPiece text piece × AreCuts (rest_from piece.end text) boundaries
 
 -- a line that began with some segments, the piece after it, and what is left of the boundaries and of the text: the lines owed are those from here on
 pub record IsGrowing (limit : ℕ) (text : Text) (owed : List Line) (line : Piece) (held : Option Piece) (boundaries : List Boundary) (after : Text) : Type 0 where
-  pub piece : IsPiece text line
-  pub held_is : IsHeld (rest_from line.end text) held boundaries
+  pub piece : IsFirstPiece text line
+  pub held_is : IsHeldPiece (rest_from line.end text) held boundaries
   pub after_is : after ≡ rest_held (rest_from line.end text) held
   pub lines : lines_from limit (segment_at text line) (segments_held (rest_from line.end text) held boundaries) ≡ owed
 
@@ -65,8 +90,8 @@ pub record LinesLeft : Type 0 where
   pub lines : List Line
 
 -- the first of those lines was given, by the places where it begins and ends
-abbrev pub GivesSpan : LinesLeft → Option Span → LinesLeft → Type 0
-GivesSpan before result after =
+abbrev pub GivesLine : LinesLeft → Option Span → LinesLeft → Type 0
+GivesLine before result after =
     MatchOption result ((before.lines ≡ []) × (after ≡ before)) (λ span.
     (line : Line) × ((before.lines ≡ line ∷ after.lines) × ((after.text ≡ rest_after (length line.characters) before.text)
     × ((span.start ≡ start_of before.text) × ((span.end ≡ start_of after.text)

@@ -1,7 +1,7 @@
 -- What is seen of lines that are given, and of iterators over them.
 use Rattle.std.specs.Prelude.{ℕ, List}
 use Rattle.std.specs.List.{flat_map}
-use Rattle.seg_text.specs.Utf8.{utf8}
+use Rattle.seg_text.specs.Decoding.{utf8}
 use Rattle.seg_lines.specs.LineBreaks.{LineRules, line_boundaries_of}
 use Rattle.seg_lines.specs.Lines.{line_rules}
 use Rattle.seg_wrap.specs.declared.wrapper.LineWrapper.{LineWrapper}

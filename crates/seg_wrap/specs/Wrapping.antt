@@ -1,5 +1,5 @@
 -- Lines of a text, wrapped to so many columns.
-use Rattle.std.specs.Prelude.{ℕ, ◌+◌, ◌-◌, ◌==◌, ◌||◌, ◌&&◌, nat_lt, nat_le, Bool, false, List, [], ◌∷◌, ◌++◌, drop, take, length, if◌then◌else◌}
+use Rattle.std.specs.Prelude.{ℕ, ◌+◌, ◌-◌, ◌==◌, ◌||◌, ◌&&◌, nat_lt, nat_le, Bool, false, List, [], ◌∷◌, ◌++◌, drop, take, length, if◌then◌else◌, ◌≡◌, ◌<◌, ◌≤◌, map}
 use Rattle.std.specs.List.{list_all, prefix_len}
 use Rattle.std.specs.Option.{unwrap_or}
 use Rattle.unicode_width.specs.Width.{char_width}
@@ -33,8 +33,8 @@ pub record Segment : Type 0 where
   pub is_mandatory : Bool
 
 -- two segments as one: their characters joined, with the mark of the second
-abbrev pub onto : Segment → Segment → Segment
-onto line next = record { characters = line.characters ++ next.characters; is_mandatory = next.is_mandatory }
+abbrev pub as_one : Segment → Segment → Segment
+as_one line next = record { characters = line.characters ++ next.characters; is_mandatory = next.is_mandatory }
 
 -- how many items of a text begin before a place, their characters, and what is left of it from there on
 abbrev pub count_before : ℕ → Text → ℕ
@@ -75,7 +75,7 @@ unfoldable pub lines_from : ℕ → Segment → List Segment → List Line
 lines_from limit line [] = line_of line ∷ []
 lines_from limit line (next ∷ segments) =
     if ends_before limit line next then line_of line ∷ lines_from limit next segments
-    else lines_from limit (onto line next) segments
+    else lines_from limit (as_one line next) segments
 
 -- the lines of these segments, wrapped to so many columns
 abbrev pub wrapped_lines : ℕ → List Segment → List Line
@@ -101,3 +101,53 @@ text_lines units text (line ∷ lines) =
     let rest = rest_after (length line.characters) text in
     record { units = between (start_of text) (start_of rest) units; columns = line.columns; is_mandatory = line.is_mandatory }
     ∷ text_lines units rest lines
+
+-- Wrapped lines in their own words: which lists of lines there may be.
+
+-- the segments of a line as one
+unfoldable pub whole : Segment → List Segment → Segment
+whole first [] = first
+whole first (next ∷ segments) = whole (as_one first next) segments
+
+-- a line: one segment or more
+pub record Parts : Type 0 where
+  pub first : Segment
+  pub others : List Segment
+
+abbrev pub parts_of : Parts → List Segment
+parts_of line = line.first ∷ line.others
+
+abbrev pub whole_of : Parts → Segment
+whole_of line = whole line.first line.others
+
+-- none of these segments is mandatory but the last
+unfoldable pub IsUnbroken : Segment → List Segment → Type 0
+IsUnbroken first [] = Unit {0}
+IsUnbroken first (next ∷ segments) = (first.is_mandatory ≡ false) × IsUnbroken next segments
+
+-- what is asked of a line after which these segments follow
+pub record IsLine (limit : ℕ) (line : Parts) (after : List Segment) : Type 0 where
+  -- it ends at each place where it must
+  pub ends : IsUnbroken line.first line.others
+  -- where it has more than one segment it has at most these columns
+  pub fits : 0 < length line.others → columns_of (whole_of line).characters ≤ limit
+  -- where it ends at no such place, nor with the text, it would have more with the next segment
+  pub full : (next : Segment) (later : List Segment) → after ≡ next ∷ later → (whole_of line).is_mandatory ≡ false
+      → limit < columns_of ((whole_of line).characters ++ next.characters)
+
+-- lines that take all these segments, in order
+unfoldable pub AreLines : ℕ → List Segment → List Parts → Type 0
+AreLines limit segments [] = segments ≡ []
+AreLines limit segments (line ∷ lines) =
+    (after : List Segment) × ((segments ≡ parts_of line ++ after) × (IsLine limit line after × AreLines limit after lines))
+
+-- they are the wrapped lines
+abbrev pub lines_of : List Parts → List Line
+lines_of lines = map (λ line. line_of (whole_of line)) lines
+
+-- there is one such list of lines for each list of segments, and its lines are the wrapped lines
+pub record HasOneWrapping (limit : ℕ) (segments : List Segment) : Type 0 where
+  pub lines : List Parts
+  pub are : AreLines limit segments lines
+  pub wrapped : lines_of lines ≡ wrapped_lines limit segments
+  pub only : (others : List Parts) → AreLines limit segments others → others ≡ lines

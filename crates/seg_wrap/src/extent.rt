@@ -2,7 +2,7 @@
 
 ghost use Rattle.std.specs.Prelude.{◌≡◌, ◌+◌, ◌*◌, ◌≤◌, ◌<◌, ◌^◌, ◌∷◌, [], length};
 ghost use Rattle.seg_text.specs.Items.{code_points, start_of};
-ghost use Rattle.seg_wrap.specs.Measures.{extent_of, joined};
+ghost use Rattle.seg_wrap.specs.Walk.{line_extent, joined_extents};
 ghost use Rattle.seg_wrap.specs.Wrapping.{hangs, shown, width_of};
 
 use seg_text::cursor::Cursor;
@@ -47,7 +47,7 @@ pub(crate) struct Extent {
 impl Extent {
     /// That of no character.
     fn none() -> Self
-        ensures { result ≡ extent_of [] }
+        ensures { result ≡ line_extent [] }
     {
         Extent {
             columns: 0,
@@ -59,7 +59,7 @@ impl Extent {
     /// That of these characters and then one more.
     fn followed_by(self, code_point: u32) -> Self
         requires room { self.inner_columns + 3 < 2 ^ 128 }
-        ensures { result ≡ joined self (extent_of (code_point ∷ [])) }
+        ensures { result ≡ joined_extents self (line_extent (code_point ∷ [])) }
     {
         let inner_columns = self.inner_columns + width_of(code_point);
         if hangs(code_point) {
@@ -79,7 +79,7 @@ impl Extent {
     pub(crate) fn joined(self, after: Extent) -> Self
         requires room { self.inner_columns + after.inner_columns < 2 ^ 128 }
         requires within { after.columns ≤ after.inner_columns }
-        ensures { result ≡ joined self after }
+        ensures { result ≡ joined_extents self after }
     {
         Extent {
             columns: if after.hangs {
@@ -95,7 +95,7 @@ impl Extent {
     /// That of what is left of a text.
     pub(crate) fn of_text<I: Cursor>(mut text: I) -> Self
         requires { (I.text text).end < 2 ^ 64 }
-        ensures measured { result ≡ extent_of (code_points (I.text text).items) }
+        ensures measured { result ≡ line_extent (code_points (I.text text).items) }
         ensures small { result.inner_columns + 3 * start_of (I.text text) ≤ 3 * (I.text text).end }
     {
         let mut extent = Extent::none();

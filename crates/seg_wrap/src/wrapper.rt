@@ -3,10 +3,10 @@
 ghost use Rattle.std.specs.Prelude.{◌≡◌, ◌≤◌, ⊤, IfOk, OnErr};
 ghost use Rattle.std.specs.Iterator.{YieldsFirstBy, MakesProgress, item_count};
 ghost use Rattle.seg_text.specs.Items.{start_of};
-ghost use Rattle.seg_text.specs.Utf8.{utf8};
+ghost use Rattle.seg_text.specs.Decoding.{utf8};
 ghost use Rattle.seg_lines.specs.Lines.{line_rules};
 ghost use Rattle.seg_wrap.specs.Wrapping.{between, rest_from};
-ghost use Rattle.seg_lines.specs.Unmarked.{IsByPairTable};
+ghost use Rattle.seg_lines.specs.LineBreaks.{IsByPairTable};
 
 use crate::wrapping::Wrapping;
 use seg_lines::inner::is_neo;

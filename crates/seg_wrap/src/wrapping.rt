@@ -1,7 +1,7 @@
 //! Lines, wrapped to columns at any breaks.
 
 ghost use Rattle.std.specs.Prelude.{◌≡◌, ◌≤◌, ◌∷◌, length, IfSome};
-ghost use Rattle.seg_wrap.specs.Walk.{AreCuts, GivesSpan, IsHeld, IsPiece, lines_held, rest_held, segment_at, segments_held};
+ghost use Rattle.seg_wrap.specs.Walk.{AreCuts, GivesLine, IsHeldPiece, IsFirstPiece, lines_held, rest_held, segment_at, segments_held};
 ghost use Rattle.seg_wrap.specs.Wrapping.{line_of, lines_from, rest_from, segments_from, wrapped_lines};
 
 use crate::breaks::Breaks;
@@ -58,13 +58,13 @@ impl<I: Cursor, B: Breaks> Drop for Wrapping<I, B> {
 
 impl<I: Cursor, B: Breaks> Model for Wrapping<I, B> {
     ghost use Rattle.std.specs.Prelude.{◌≡◌};
-    ghost use Rattle.seg_wrap.specs.Walk.{IsHeld, LinesLeft, lines_held, rest_held};
+    ghost use Rattle.seg_wrap.specs.Walk.{IsHeldPiece, LinesLeft, lines_held, rest_held};
 
     ghost Value = { LinesLeft };
 
     ghost view = { λ s. record { text = I.text s.rest; lines = lines_held s.columns (I.text s.rest) s.held (B.left s.breaks) } };
 
-    ghost invariant = { λ s. IsHeld (I.text s.rest) s.held (B.left s.breaks) × (I.text s.after ≡ rest_held (I.text s.rest) s.held) };
+    ghost invariant = { λ s. IsHeldPiece (I.text s.rest) s.held (B.left s.breaks) × (I.text s.after ≡ rest_held (I.text s.rest) s.held) };
 }
 
 impl<I: Cursor, B: Breaks> Wrapping<I, B> {
@@ -111,7 +111,7 @@ impl<I: Cursor, B: Breaks> Wrapping<I, B> {
 
     /// The next line. None at the end, and from then on.
     pub(crate) fn next_span(&mut self) -> Option<Span>
-        ensures { GivesSpan self.old result self.new }
+        ensures { GivesLine self.old result self.new }
     {
         let first = self.held?;
         let (line, held) = next_line(
@@ -137,7 +137,7 @@ impl<I: Cursor, B: Breaks> Wrapping<I, B> {
 fn next_piece<I: Cursor, B: Breaks>(breaks: &mut B, after: &mut I) -> Option<Piece>
     requires { AreCuts (I.text after.old) (B.left breaks.old) }
     ensures segments { segments_held (I.text after.old) result (B.left breaks.new) ≡ segments_from (I.text after.old) (B.left breaks.old) }
-    ensures held { IsHeld (I.text after.old) result (B.left breaks.new) }
+    ensures held { IsHeldPiece (I.text after.old) result (B.left breaks.new) }
     ensures after { I.text after.new ≡ rest_held (I.text after.old) result }
 {
     let found = breaks.next_break()?;
@@ -159,13 +159,13 @@ fn next_line<I: Cursor, B: Breaks>(
     first: Piece,
     columns: u128,
 ) -> (Piece, Option<Piece>)
-    requires piece { IsPiece (I.text rest.now) first }
+    requires piece { IsFirstPiece (I.text rest.now) first }
     requires cuts { AreCuts (rest_from first.end (I.text rest.now)) (B.left breaks.old) }
     requires at { I.text after.old ≡ rest_from first.end (I.text rest.now) }
     ensures lines { lines_from columns (segment_at (I.text rest.now) first) (segments_from (rest_from first.end (I.text rest.now)) (B.left breaks.old))
         ≡ line_of (segment_at (I.text rest.now) result.0) ∷ lines_held columns (rest_from result.0.end (I.text rest.now)) result.1 (B.left breaks.new) }
-    ensures piece { IsPiece (I.text rest.now) result.0 }
-    ensures held { IsHeld (rest_from result.0.end (I.text rest.now)) result.1 (B.left breaks.new) }
+    ensures piece { IsFirstPiece (I.text rest.now) result.0 }
+    ensures held { IsHeldPiece (rest_from result.0.end (I.text rest.now)) result.1 (B.left breaks.new) }
     ensures after { I.text after.new ≡ rest_held (rest_from result.0.end (I.text rest.now)) result.1 }
 {
     let mut line = first;

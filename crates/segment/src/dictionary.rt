@@ -1,7 +1,6 @@
 //! Dictionaries from files.
 ghost use Rattle.std.specs.Prelude.{◌≡◌};
-ghost use Rattle.icu_segmenter.specs.Dictionary.{words_of};
-ghost use Rattle.icu_segmenter.specs.ScriptWords.{script_words};
+ghost use Rattle.icu_segmenter.specs.ScriptWords.{words_of, script_words};
 ghost use Rattle.segment.specs.Dictionaries.{words_with};
 
 use crate::command::script_of;

@@ -1,11 +1,10 @@
 -- Whatever the options, a machine finds the breaks of lines.
 use Rattle.std.proofs.Common.{◌≡◌, Bool, true, false, subst}
-use Rattle.icu_segmenter.specs.LineBreaks.{LineRules}
-use Rattle.icu_segmenter.specs.LineStyles.{style_of}
+use Rattle.icu_segmenter.specs.LineBreaks.{LineRules, IsByPairTable}
+use Rattle.icu_segmenter.specs.LineRules.{style_of}
 use Rattle.icu_segmenter.specs.Lines.{chosen_finder}
 use Rattle.icu_segmenter.specs.Options.{machine_for}
 use Rattle.icu_segmenter.specs.ScriptWords.{ScriptWords}
-use Rattle.icu_segmenter.specs.Unmarked.{IsByPairTable}
 use Rattle.icu_segmenter.specs.declared.options.LineBreakOptions.{LineBreakOptions}
 use Rattle.icu_segmenter.specs.declared.options.LineBreakStrictness.{LineBreakStrictness}
 use Rattle.icu_segmenter.specs.declared.options.LineBreakStrictness.TheVariants.{Loose, Normal, Strict, Anywhere}

@@ -4,13 +4,12 @@ use Rattle.std.specs.Iterator.{YieldsThen}
 use Rattle.std.specs.Io.KnownBytes.{Appends}
 use Rattle.icu_segmenter.specs.Boundary.{Boundary}
 use Rattle.icu_segmenter.specs.Configurations.{AreLookedUp, configurations}
-use Rattle.icu_segmenter.specs.Cursor.{Rest}
-use Rattle.icu_segmenter.specs.Items.{Text, code_points, rest_after}
+use Rattle.icu_segmenter.specs.Items.{Rest, Text, code_points, rest_after}
 use Rattle.icu_segmenter.specs.Machine.{Machine}
 use Rattle.icu_segmenter.specs.Memos.{Memo, IsNewMemo, subject_of}
-use Rattle.icu_segmenter.specs.Segments.{machine_stretch}
-use Rattle.icu_segmenter.specs.Stretches.{later_boundaries, remainder}
-use Rattle.icu_segmenter.specs.Utf8.{utf8, utf8_from}
+use Rattle.icu_segmenter.specs.Pick.{machine_stretch}
+use Rattle.icu_segmenter.specs.Boundaries.{later_boundaries, remainder}
+use Rattle.icu_segmenter.specs.Decoding.{utf8, utf8_from}
 use Rattle.segment_output.specs.Memo.{AreLookUps, IsPrinted, StepsMemo}
 use Rattle.segment_output.specs.Output.{Segment}
 use Rattle.segment_output.specs.declared.found.Found.{Found}

@@ -8,7 +8,7 @@ use Rattle.std.specs.List.{zip}
 use Rattle.icu_segmenter.specs.Boundary.{Boundary}
 use Rattle.icu_segmenter.specs.Boundaries.{IsCover, shift_all}
 use Rattle.icu_segmenter.specs.NearBoundaries.{line_feed}
-use Rattle.icu_segmenter.specs.Parted.{PartsBehind}
+use Rattle.icu_segmenter.specs.Rules.{PartsBehind}
 use Rattle.icu_segmenter.specs.TextSegments.{marked}
 use Rattle.segment_output.specs.Fault.{IsReadFault}
 use Rattle.segment_output.specs.Marks.{mark_of}

@@ -5,14 +5,13 @@ use Rattle.icu_segmenter.specs.Configurations.{AreLookedUp, configurations, subj
 use Rattle.icu_segmenter.specs.Items.{Text, code_points, rest_after}
 use Rattle.icu_segmenter.specs.LineBreaks.{machine_of_lines}
 use Rattle.icu_segmenter.specs.Lines.{owned_line_rules}
-use Rattle.icu_segmenter.specs.Clusters.{owned_cluster_rules}
+use Rattle.icu_segmenter.specs.Clusters.{owned_cluster_rules, owned_sentence_rules}
 use Rattle.icu_segmenter.specs.Machine.{Machine, symbols_of}
 use Rattle.icu_segmenter.specs.Memos.{Memo}
 use Rattle.icu_segmenter.specs.Rules.{machine_in}
-use Rattle.icu_segmenter.specs.Segments.{machine_stretch}
-use Rattle.icu_segmenter.specs.Sentences.{owned_sentence_rules}
-use Rattle.icu_segmenter.specs.Stretches.{later_boundaries}
-use Rattle.icu_segmenter.specs.Utf8.{utf8}
+use Rattle.icu_segmenter.specs.Pick.{machine_stretch}
+use Rattle.icu_segmenter.specs.Boundaries.{later_boundaries}
+use Rattle.icu_segmenter.specs.Decoding.{utf8}
 use Rattle.icu_segmenter.specs.Words.{owned_word_rules}
 use Rattle.segment_output.specs.Output.{Segment}
 use Rattle.segment_output.specs.Segmenter.{segments_by}

@@ -1,17 +1,16 @@
 -- The segments that each segmenter gives, and which one is made.
 use Rattle.std.specs.Prelude.{◌≡◌, ℕ, Bool, true, false, None, List}
 use Rattle.icu_segmenter.specs.Boundary.{Boundary}
-use Rattle.icu_segmenter.specs.Clusters.{owned_cluster_rules}
-use Rattle.icu_segmenter.specs.LineBreaks.{LineRules, line_boundaries_of, table_lines, turn_lines, with_words as lines_with_words}
-use Rattle.icu_segmenter.specs.LineStyles.{style_of}
+use Rattle.icu_segmenter.specs.Clusters.{owned_cluster_rules, owned_sentence_rules}
+use Rattle.icu_segmenter.specs.LineBreaks.{LineRules, line_boundaries_of, table_lines, turn_lines, lines_with_words}
+use Rattle.icu_segmenter.specs.LineRules.{style_of}
 use Rattle.icu_segmenter.specs.Lines.{chosen_rules, owned_line_rules, without_ja}
 use Rattle.icu_segmenter.specs.Options.{machine_choice}
 use Rattle.icu_segmenter.specs.Rules.{Rules, boundaries_of}
 use Rattle.icu_segmenter.specs.Rules.Rules.{ByTable, ByMachine}
 use Rattle.icu_segmenter.specs.ScriptWords.{ScriptWords, no_words}
-use Rattle.icu_segmenter.specs.Sentences.{owned_sentence_rules}
 use Rattle.icu_segmenter.specs.TextSegments.{marked}
-use Rattle.icu_segmenter.specs.Utf8.{utf8}
+use Rattle.icu_segmenter.specs.Decoding.{utf8}
 use Rattle.icu_segmenter.specs.WordRules.{WordRules, machine_words, table_words, word_boundaries_of}
 use Rattle.icu_segmenter.specs.Words.{owned_word_rules}
 use Rattle.icu_segmenter.specs.declared.options.LineBreakOptions.{LineBreakOptions}

@@ -1,7 +1,7 @@
 //! Segmenters of lines whose breaks a machine finds.
 ghost use Rattle.std.specs.Prelude.{◌≡◌, IfOk};
 ghost use Rattle.icu_segmenter.specs.Lines.{owned_line_rules};
-ghost use Rattle.icu_segmenter.specs.Unmarked.{IsByPairTable};
+ghost use Rattle.icu_segmenter.specs.LineBreaks.{IsByPairTable};
 
 use crate::segmenter::{Engine, line_segmenter};
 use icu_segmenter::LineSegmenter;

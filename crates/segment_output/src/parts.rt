@@ -3,7 +3,7 @@ ghost use Rattle.std.specs.Prelude.{◌≡◌, ◌+◌, ◌++◌, ◌⊎◌, ◌
 ghost use Rattle.std.specs.Io.{ReadsAtMost};
 ghost use Rattle.std.specs.Io.KnownBytes.{Appends, Consumes, IsAtEnd, Keeps, ReadConsumes};
 ghost use Rattle.icu_segmenter.specs.NearBoundaries.{line_feed};
-ghost use Rattle.icu_segmenter.specs.Parted.{PartsBehind};
+ghost use Rattle.icu_segmenter.specs.Rules.{PartsBehind};
 ghost use Rattle.segment_output.specs.Fault.{IsReadFault};
 ghost use Rattle.segment_output.specs.Output.{lines_of};
 ghost use Rattle.segment_output.specs.Parts.{IsAdded, IsBegun, IsPartWritten};

@@ -3,13 +3,12 @@ ghost use Rattle.std.specs.Prelude.{◌≡◌, length, IfOk, IsTrue};
 ghost use Rattle.std.specs.Io.KnownBytes.{Appends};
 ghost use Rattle.segment_output.specs.Output.{lines_at, lines_of, segments};
 ghost use Rattle.icu_segmenter.specs.Boundaries.{IsCover};
-ghost use Rattle.icu_segmenter.specs.Clusters.{owned_cluster_rules};
+ghost use Rattle.icu_segmenter.specs.Clusters.{owned_cluster_rules, owned_sentence_rules};
 ghost use Rattle.icu_segmenter.specs.Lines.{owned_line_rules};
 ghost use Rattle.icu_segmenter.specs.NearBoundaries.{line_feed};
-ghost use Rattle.icu_segmenter.specs.Parted.{PartsBehind};
+ghost use Rattle.icu_segmenter.specs.Rules.{PartsBehind};
 ghost use Rattle.icu_segmenter.specs.ScriptWords.{script_words};
 ghost use Rattle.icu_segmenter.specs.TextSegments.{marked};
-ghost use Rattle.icu_segmenter.specs.Sentences.{owned_sentence_rules};
 ghost use Rattle.icu_segmenter.specs.Words.{owned_word_rules};
 ghost use Rattle.segment_output.specs.Segmenter.{boundaries_by, cluster_rules_by, line_rules_by, line_rules_of, segments_by, sentence_rules_by, word_rules_by, IsAskedOf};
 

@@ -4,11 +4,10 @@ use Rattle.std.specs.Iterator.{YieldsFirst, Drains}
 use Rattle.icu_segmenter.proofs.Callers.{given-is_left}
 use Rattle.icu_segmenter.specs.Boundaries.{offsets}
 use Rattle.icu_segmenter.specs.Boundary.{Boundary}
-use Rattle.icu_segmenter.specs.Cursor.{Rest}
-use Rattle.icu_segmenter.specs.Items.{Text}
+use Rattle.icu_segmenter.specs.Items.{Rest, Text}
 use Rattle.icu_segmenter.specs.Machine.{Machine}
 use Rattle.icu_segmenter.specs.Memos.{IsNewMemo, Memo, memo_places}
-use Rattle.icu_segmenter.specs.Utf8.{utf8, utf8_from}
+use Rattle.icu_segmenter.specs.Decoding.{utf8, utf8_from}
 use Rattle.speed.specs.declared.tally.Tally.{Tally}
 use Rattle.speed.specs.Tally.{tally_of}
 

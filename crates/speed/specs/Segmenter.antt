@@ -1,7 +1,7 @@
 -- The boundaries that each engine finds with its data, and those that a segmenter gives.
 use Rattle.std.specs.Prelude.{ℕ, None, List}
 use Rattle.icu_segmenter.specs.Boundaries.{offsets}
-use Rattle.icu_segmenter.specs.Clusters.{owned_cluster_rules}
+use Rattle.icu_segmenter.specs.Clusters.{owned_cluster_rules, owned_sentence_rules}
 use Rattle.icu_segmenter.specs.Items.{Text}
 use Rattle.icu_segmenter.specs.LineBreaks.{LineRules, line_boundaries_of, machine_lines, table_lines, turn_lines}
 use Rattle.icu_segmenter.specs.LineRules.{default_rules}
@@ -9,8 +9,7 @@ use Rattle.icu_segmenter.specs.Lines.{owned_line_rules}
 use Rattle.icu_segmenter.specs.Rules.{Rules, boundaries_of}
 use Rattle.icu_segmenter.specs.Rules.Rules.{ByTable, ByMachine}
 use Rattle.icu_segmenter.specs.ScriptWords.{no_words}
-use Rattle.icu_segmenter.specs.Sentences.{owned_sentence_rules}
-use Rattle.icu_segmenter.specs.Utf8.{utf8}
+use Rattle.icu_segmenter.specs.Decoding.{utf8}
 use Rattle.icu_segmenter.specs.WordRules.{WordRules, machine_words, table_words, word_boundaries_of}
 use Rattle.icu_segmenter.specs.Words.{owned_word_rules}
 use Rattle.speed.specs.Data.{cluster_machine, cluster_table, line_17_table, line_machine, line_table, sentence_machine, sentence_table, word_machine, word_table}

@@ -1,16 +1,14 @@
 -- By default options the bench data of lines have no fault.
 use Rattle.std.proofs.Common.{◌≡◌, Some, None, inl, inr, refl}
 use Rattle.icu_segmenter.specs.declared.provider.DataError.{DataError}
-use Rattle.icu_segmenter.specs.LineTailorings.{MachineTailorings}
+use Rattle.icu_segmenter.specs.Options.{MachineTailorings, machine_choice}
 use Rattle.icu_segmenter.specs.declared.options.LineBreakOptions.{LineBreakOptions}
 use Rattle.icu_segmenter.specs.Machine.{Machine}
-use Rattle.icu_segmenter.specs.Options.{machine_choice}
 use Rattle.icu_segmenter.specs.Lines.{HasFaultWith, HasLineFault, chosen_rules, without_ja}
 use Rattle.icu_segmenter.specs.LineBreaks.{machine_lines, table_lines, turn_lines}
 use Rattle.icu_segmenter.specs.ScriptWords.{ScriptWords, AreSameWords, no_words}
 use Rattle.icu_segmenter.specs.declared.provider.ComplexScript.TheVariants.{None as NoScript, Myanmar, ChineseOrJapanese, Khmer, Lao, Thai}
-use Rattle.icu_segmenter.specs.LineRules.{default_rules}
-use Rattle.icu_segmenter.specs.LineStyles.{style_of}
+use Rattle.icu_segmenter.specs.LineRules.{default_rules, style_of}
 use Rattle.icu_segmenter.specs.PairTable.{PairTable}
 use Rattle.bench.specs.Lines.{line_machine}
 use Rattle.bench.proofs.Scripts.{lines-not_complex}

@@ -1,7 +1,7 @@
 -- The words of each command, and what it prints of a text.
 use Rattle.std.specs.Prelude.{◌≢◌, ℕ, None, List, [], ◌∷◌, map, codes}
 use Rattle.std.specs.Borrow.{Bor}
-use Rattle.icu_segmenter.specs.Utf8.{utf8}
+use Rattle.icu_segmenter.specs.Decoding.{utf8}
 use Rattle.icu_segmenter.specs.Boundaries.{offsets}
 use Rattle.icu_segmenter.specs.Items.{Text}
 use Rattle.icu_segmenter.specs.Rules.{boundaries_of}

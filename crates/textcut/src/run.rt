@@ -3,15 +3,13 @@ ghost use Rattle.std.specs.Prelude.{◌≡◌, ◌≢◌, ◌≤◌, ◌↔◌, 
 ghost use Rattle.std.specs.Iterator.{IsFinite, Drains};
 ghost use Rattle.std.specs.Io.KnownBytes.{Appends, IsAtEnd};
 ghost use Rattle.std.specs.Str.{IsUtf8};
-ghost use Rattle.icu_segmenter.specs.Utf8.{utf8};
+ghost use Rattle.icu_segmenter.specs.Decoding.{utf8};
 ghost use Rattle.icu_segmenter.specs.Items.{Text};
 ghost use Rattle.icu_segmenter.specs.Boundaries.{offsets};
 ghost use Rattle.icu_segmenter.specs.Rules.{boundaries_of};
-ghost use Rattle.icu_segmenter.specs.Clusters.{cluster_rules};
-ghost use Rattle.icu_segmenter.specs.Sentences.{sentence_rules};
-ghost use Rattle.icu_segmenter.specs.LineBreaks.{line_boundaries_of};
+ghost use Rattle.icu_segmenter.specs.Clusters.{cluster_rules, sentence_rules};
+ghost use Rattle.icu_segmenter.specs.LineBreaks.{line_boundaries_of, IsByPairTable};
 ghost use Rattle.icu_segmenter.specs.Lines.{line_rules, owned_line_rules};
-ghost use Rattle.icu_segmenter.specs.Unmarked.{IsByPairTable};
 ghost use Rattle.icu_segmenter.specs.Words.{word_rules};
 ghost use Rattle.icu_segmenter.specs.WordRules.{word_boundaries_of};
 ghost use Rattle.textcut.specs.Command.{texts, places_of, sample_lines};

@@ -1,6 +1,6 @@
 //! Cursors over the sentences of a text.
 
-ghost use Rattle.seg_clusters.specs.Sentences.{sentence_rules};
+ghost use Rattle.seg_clusters.specs.Clusters.{sentence_rules};
 ghost use Rattle.seg_clusters.specs.Rules.{boundaries_by};
 
 use crate::cursor::Segmenter;

@@ -2,9 +2,7 @@
 
 ghost use Rattle.std.specs.Prelude.{◌==◌};
 ghost use Rattle.std.specs.Iterator.{YieldsFirst};
-ghost use Rattle.seg_text.specs.Latin1.{latin1};
-ghost use Rattle.seg_text.specs.Utf8.{utf8};
-ghost use Rattle.seg_text.specs.Utf16.{utf16};
+ghost use Rattle.seg_text.specs.Decoding.{latin1, utf8, utf16};
 ghost use Rattle.seg_lines.specs.LineBreaks.{line_boundaries_by};
 ghost use Rattle.seg_lines.specs.Lines.{line_finder, lines_left, lines_source};
 ghost use Rattle.icu_segmenter.specs.TextSegments.{marked};

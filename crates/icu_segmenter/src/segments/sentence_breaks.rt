@@ -1,11 +1,9 @@
 //! The boundaries of sentences.
 
 ghost use Rattle.std.specs.Iterator.{YieldsFirst};
-ghost use Rattle.seg_text.specs.Latin1.{latin1};
-ghost use Rattle.seg_text.specs.Utf8.{utf8};
-ghost use Rattle.seg_text.specs.Utf16.{utf16};
+ghost use Rattle.seg_text.specs.Decoding.{latin1, utf8, utf16};
 ghost use Rattle.seg_clusters.specs.Rules.{boundaries_by};
-ghost use Rattle.seg_clusters.specs.Sentences.{sentence_finder, sentences_left, sentences_source};
+ghost use Rattle.seg_clusters.specs.Clusters.{sentence_finder, sentences_left, sentences_source};
 ghost use Rattle.icu_segmenter.specs.TextSegments.{marked, nothing};
 
 use crate::segments::{BreakIterator, copy_of};

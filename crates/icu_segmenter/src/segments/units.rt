@@ -1,7 +1,7 @@
 //! What texts stand in.
 
 ghost use Rattle.std.specs.Prelude.{◌≡◌, ℕ, ◌≤◌, ⊤, List, length};
-ghost use Rattle.seg_text.specs.Utf8.{utf8};
+ghost use Rattle.seg_text.specs.Decoding.{utf8};
 ghost use Rattle.seg_wrap.specs.Wrapping.{between};
 ghost use Rattle.icu_segmenter.specs.TextSegments.{IsPlace};
 

@@ -1,9 +1,7 @@
 //! The boundaries of words, each with the type of what ends there.
 
 ghost use Rattle.std.specs.Iterator.{YieldsFirst};
-ghost use Rattle.seg_text.specs.Latin1.{latin1};
-ghost use Rattle.seg_text.specs.Utf8.{utf8};
-ghost use Rattle.seg_text.specs.Utf16.{utf16};
+ghost use Rattle.seg_text.specs.Decoding.{latin1, utf8, utf16};
 ghost use Rattle.seg_words.specs.WordRules.{type_of, word_boundaries_by};
 ghost use Rattle.seg_words.specs.Words.{word_finder, words_left, words_source};
 ghost use Rattle.icu_segmenter.specs.TextSegments.{marked};

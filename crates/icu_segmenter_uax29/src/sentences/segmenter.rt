@@ -1,7 +1,7 @@
 //! A segmenter whose boundaries are the sentence boundaries of UAX #29.
 ghost use Rattle.std.specs.Prelude.{◌≡◌};
 ghost use Rattle.seg_clusters.specs.Rules.Rules.{ByMachine};
-ghost use Rattle.seg_clusters.specs.Sentences.{owned_sentence_rules};
+ghost use Rattle.seg_clusters.specs.Clusters.{owned_sentence_rules};
 ghost use Rattle.icu_segmenter_uax29.specs.Sentences.{sentence_machine};
 
 use crate::sentences::machine::sentence_machine;
@@ -25,10 +25,8 @@ impl SentenceSegmenter {
     ghost use Rattle.std.specs.Prelude.{IfErr};
     ghost use Rattle.seg_data.specs.declared.provider.DataError.TheVariants.{Memory};
     ghost use Rattle.unicode_segmentation.specs.Sentence.{sentence_bounds};
-    ghost use Rattle.seg_text.specs.Latin1.{latin1};
-    ghost use Rattle.seg_text.specs.Utf8.{utf8};
-    ghost use Rattle.seg_text.specs.Utf16.{utf16};
-    ghost use Rattle.seg_clusters.specs.Sentences.{sentence_rules, sentences_places};
+    ghost use Rattle.seg_text.specs.Decoding.{latin1, utf8, utf16};
+    ghost use Rattle.seg_clusters.specs.Clusters.{sentence_rules, sentences_places};
     ghost use Rattle.icu_segmenter_uax29.specs.Pieces.{parts_at, piece_bounds};
     ghost use Rattle.icu_segmenter_uax29.specs.Sentences.{sentence_places};
 

@@ -1,10 +1,7 @@
 //! A segmenter whose boundaries are the word boundaries of UAX #29.
 ghost use Rattle.std.specs.Prelude.{◌≡◌};
-ghost use Rattle.seg_text.specs.Latin1.{latin1};
-ghost use Rattle.seg_text.specs.Utf8.{utf8};
-ghost use Rattle.seg_text.specs.Utf16.{utf16};
-ghost use Rattle.seg_clusters.specs.Engine.{owned_rules, rules_of};
-ghost use Rattle.seg_clusters.specs.Rules.{boundaries_of};
+ghost use Rattle.seg_text.specs.Decoding.{latin1, utf8, utf16};
+ghost use Rattle.seg_clusters.specs.Rules.{owned_rules, rules_of, boundaries_of};
 ghost use Rattle.seg_clusters.specs.Rules.Rules.{ByMachine};
 ghost use Rattle.icu_segmenter_uax29.specs.Words.{word_machine};
 

@@ -1,12 +1,8 @@
 //! Laws of the boundaries of texts, whatever rules they are found by.
 
 ghost use Rattle.std.specs.Prelude.{ℕ, List, length};
-ghost use Rattle.seg_text.specs.Boundaries.{HasEqualOrdinals, HasRestart, IsCover};
-ghost use Rattle.seg_text.specs.Stretches.{HasOneAnswer};
-ghost use Rattle.seg_clusters.specs.Engine.{rules_of};
-ghost use Rattle.seg_clusters.specs.Parted.{PartsTexts};
-ghost use Rattle.seg_clusters.specs.Resets.{ResetsAfter};
-ghost use Rattle.seg_clusters.specs.Rules.{boundaries_by, first_stretch};
+ghost use Rattle.seg_text.specs.Boundaries.{HasEqualOrdinals, HasRestart, IsCover, HasOneAnswer};
+ghost use Rattle.seg_clusters.specs.Rules.{rules_of, PartsTexts, ResetsAfter, boundaries_by, first_stretch};
 
 use crate::engine::Engine;
 

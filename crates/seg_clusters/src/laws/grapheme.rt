@@ -1,12 +1,9 @@
 //! Laws of the boundaries of grapheme clusters.
 
 ghost use Rattle.std.specs.Prelude.{◌≡◌, ℕ, List, length};
-ghost use Rattle.seg_text.specs.Boundaries.{HasEqualOrdinals, HasRestart, IsCover};
-ghost use Rattle.seg_text.specs.Stretches.{HasOneAnswer};
-ghost use Rattle.seg_text.specs.Utf8.{utf8};
-ghost use Rattle.seg_clusters.specs.Parted.{PartsTexts};
-ghost use Rattle.seg_clusters.specs.Resets.{ResetsAfter};
-ghost use Rattle.seg_clusters.specs.Rules.{boundaries_by, boundaries_of, first_stretch};
+ghost use Rattle.seg_text.specs.Boundaries.{HasEqualOrdinals, HasRestart, IsCover, HasOneAnswer};
+ghost use Rattle.seg_text.specs.Decoding.{utf8};
+ghost use Rattle.seg_clusters.specs.Rules.{PartsTexts, ResetsAfter, boundaries_by, boundaries_of, first_stretch};
 ghost use Rattle.seg_clusters.specs.Clusters.{cluster_rules, clusters_left};
 
 use crate::grapheme::{GraphemeClusterBreakIterator, GraphemeClusterSegmenterBorrowed};

@@ -1,11 +1,8 @@
 //! Laws of the boundaries of sentences.
 
-ghost use Rattle.seg_text.specs.Boundaries.{HasEqualOrdinals, HasRestart};
-ghost use Rattle.seg_text.specs.Stretches.{HasOneAnswer};
-ghost use Rattle.seg_clusters.specs.Parted.{PartsTexts};
-ghost use Rattle.seg_clusters.specs.Resets.{ResetsAfter};
-ghost use Rattle.seg_clusters.specs.Rules.{boundaries_by, first_stretch};
-ghost use Rattle.seg_clusters.specs.Sentences.{sentence_rules};
+ghost use Rattle.seg_text.specs.Boundaries.{HasEqualOrdinals, HasRestart, HasOneAnswer};
+ghost use Rattle.seg_clusters.specs.Rules.{PartsTexts, ResetsAfter, boundaries_by, first_stretch};
+ghost use Rattle.seg_clusters.specs.Clusters.{sentence_rules};
 
 use crate::laws::engine;
 use crate::sentence::SentenceSegmenterBorrowed;

@@ -7,9 +7,9 @@ mod cursor;
 mod edges;
 mod sorting;
 
+use crate::provider::DataError;
 use building::Draft;
 pub use cursor::DictionaryCursor;
-use crate::provider::DataError;
 use sorting::sorted;
 use std::alloc::Global;
 
@@ -38,9 +38,8 @@ impl Drop for DictionaryBreakData {
 }
 
 impl DictionaryBreakData {
-    ghost use Rattle.seg_data.specs.Dictionary.{words_of};
-    ghost use Rattle.seg_data.specs.WordSets.{IsSameSet};
-    ghost use Rattle.seg_data.specs.Texts.{code_points};
+    ghost use Rattle.seg_data.specs.ScriptWords.{words_of};
+    ghost use Rattle.seg_data.specs.WordSets.{IsSameSet, code_points_of_each};
 
     /// The set of these words: their order says nothing, and a word that is there twice counts once.
     /// The empty word is a word as any other.
@@ -50,7 +49,7 @@ impl DictionaryBreakData {
     /// much. Beyond sorting the words, its time grows as their code points do.
     /// `Memory` where memory is missing, and for nothing else: the words are only read.
     pub fn try_from_words(alloc: Global, words: &[&str]) -> Result<Self, DataError>
-        ensures words { IfOk result (λ dictionary. IsSameSet (words_of dictionary) (code_points words.now)) }
+        ensures words { IfOk result (λ dictionary. IsSameSet (words_of dictionary) (code_points_of_each words.now)) }
         ensures refused { IfErr result (λ fault. fault ≡ DataError.Memory) }
     {
         let sorted = sorted(alloc, words)?;

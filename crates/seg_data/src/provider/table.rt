@@ -2,8 +2,7 @@
 ghost use Rattle.std.specs.Prelude.{◌≡◌, ℕ, ◌+◌, ◌*◌, ◌==◌, ◌<◌, ◌≤◌, ◌↔◌, IsTrue, IfOk, IfErr, OnOk, Any, length};
 ghost use Rattle.seg_data.specs.Faults.{HasOverlap, HasRangeFault, IsFaultless, IsLowestFault};
 ghost use Rattle.seg_data.specs.Lemmas.Same.{same_table, same_table-laws};
-ghost use Rattle.seg_data.specs.Pages.{AreAscii};
-ghost use Rattle.seg_data.specs.Table.{table, value_of};
+ghost use Rattle.seg_data.specs.Table.{AreAscii, table, value_of};
 
 mod pages;
 mod runs;
@@ -36,8 +35,7 @@ impl Model for ClassTable {
 
     ghost view = { λ t. record { ranges = t.ranges.items; default = t.default } };
 
-    ghost use Rattle.seg_data.specs.Pages.{AreAscii, ArePages};
-    ghost use Rattle.seg_data.specs.Table.{table};
+    ghost use Rattle.seg_data.specs.Table.{AreAscii, ArePages, table};
 
     ghost invariant = { λ t. IsFaultless (HasRangeFault t.ranges.items)
         × AreAscii (table t.ranges.items t.default) t.ascii

@@ -5,8 +5,7 @@ ghost use Rattle.seg_data.specs.Faults.{IsFaultless, IsLowestFault};
 ghost use Rattle.seg_machine.specs.Machine.{with_tailoring};
 ghost use Rattle.seg_machine.specs.Tailored.{machine_of, owned_machine};
 ghost use Rattle.seg_lines.specs.Lines.{line_machine_for, HasFaultWith};
-ghost use Rattle.seg_lines.specs.LineTailorings.{lent_tailorings};
-ghost use Rattle.seg_lines.specs.Tailorings.{tailoring_for};
+ghost use Rattle.seg_lines.specs.Options.{lent_tailorings, tailoring_for};
 
 use crate::line::options::Tailoring;
 use crate::line::tailorings::tailoring_for;

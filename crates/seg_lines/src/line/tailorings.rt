@@ -1,7 +1,7 @@
 //! The tailorings of machines of lines, by their names.
 ghost use Rattle.std.specs.Prelude.{◌≡◌, Some, None, IfOk, IfErr};
 ghost use Rattle.seg_data.specs.declared.provider.DataError.TheVariants.{MissingTailoring};
-ghost use Rattle.seg_lines.specs.Tailorings.{tailoring_named, tailoring_for};
+ghost use Rattle.seg_lines.specs.Options.{tailoring_named, tailoring_for};
 
 use crate::line::options::Tailoring;
 use crate::provider::TailoringsOf;

@@ -2,8 +2,7 @@
 ghost use Rattle.std.specs.Prelude.{◌≡◌, ℕ, ◌<◌, ◌↔◌, IsTrue, IfOk, IfErr, IfSome, Some, [], length};
 ghost use Rattle.seg_data.specs.declared.provider.DataError.TheVariants.{SymbolOutOfRange};
 ghost use Rattle.seg_data.specs.Faults.{IsFaultless, IsLowestFault};
-ghost use Rattle.seg_machine.specs.Checked.{IsChecked};
-ghost use Rattle.seg_machine.specs.MachineFaults.{HasMachineFault};
+ghost use Rattle.seg_machine.specs.MachineFaults.{IsChecked, HasMachineFault};
 ghost use Rattle.seg_machine.specs.Machine.{machine, step, symbol_count, with_tailoring};
 ghost use Rattle.seg_machine.specs.Pick.{IsStallFree};
 ghost use Rattle.seg_machine.specs.Lemmas.SameMachines.{same_machine, same_machine-laws};
@@ -34,7 +33,7 @@ impl Model for SegmenterStateMachine {
 
     ghost Value = { Machine };
 
-    ghost use Rattle.seg_machine.specs.Checked.{IsChecked};
+    ghost use Rattle.seg_machine.specs.MachineFaults.{IsChecked};
 
     ghost view = { λ m. machine m.symbols m.states.items m.transitions.items m.num_lookaheads m.pseudo_symbol_shift m.pseudo_symbol_map.items };
 

@@ -2,9 +2,8 @@
 ghost use Rattle.std.specs.Prelude.{◌≡◌, ◌↔◌, ◌⊎◌, IsTrue, IsNone, IfOk, IfErr, IfSome, Any, map};
 ghost use Rattle.std.specs.Option.{option_map};
 ghost use Rattle.seg_data.specs.Faults.{IsFaultless, IsLowestFault};
-ghost use Rattle.seg_machine.specs.Machine.{replaced, tailoring};
+ghost use Rattle.seg_machine.specs.Machine.{replaced, tailoring, ArePlaced, replacements_of};
 ghost use Rattle.seg_machine.specs.MachineFaults.{HasOverrideFault, HasTwice, NamesEnd};
-ghost use Rattle.seg_machine.specs.Replacements.{ArePlaced, replacements_of};
 ghost use Rattle.seg_machine.specs.Lemmas.SameMachines.{same_tailoring, same_tailoring-laws};
 
 use crate::provider::{SegmenterStateMachine, Symbol};
@@ -26,8 +25,7 @@ pub struct SegmenterStateMachineOverride {
 }
 
 impl Model for SegmenterStateMachineOverride {
-    ghost use Rattle.seg_machine.specs.Machine.{MachineTailoring, tailoring};
-    ghost use Rattle.seg_machine.specs.Replacements.{ArePlaced};
+    ghost use Rattle.seg_machine.specs.Machine.{MachineTailoring, tailoring, ArePlaced};
 
     ghost Value = { MachineTailoring };
 

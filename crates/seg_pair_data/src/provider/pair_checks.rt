@@ -2,10 +2,8 @@
 ghost use Rattle.std.specs.Prelude.{◌≡◌, ◌≢◌, ℕ, ◌+◌, ◌*◌, ◌<◌, ◌≤◌, ◌↔◌, ◌⊎◌, Any, IsTrue, IfErr, IsSomeAnd, OnOk, length};
 ghost use Rattle.seg_data.specs.Faults.{IsFaultless, IsLowestFault};
 ghost use Rattle.seg_data.specs.Table.{named_values};
-ghost use Rattle.seg_pair_data.specs.BreakStates.{named_state};
-ghost use Rattle.seg_pair_data.specs.Overriding.{table_in};
-ghost use Rattle.seg_pair_data.specs.PairFaults.{HasPartsFault, KeepsStart, NamesStatePast};
-ghost use Rattle.seg_pair_data.specs.PairTable.{Overrides};
+ghost use Rattle.seg_pair_data.specs.PairTable.{named_state, table_in, Overrides};
+ghost use Rattle.seg_pair_data.specs.PairData.{HasPartsFault, KeepsStart, NamesStatePast};
 
 use crate::provider::{BreakState, RuleBreakData, RuleBreakDataOverride};
 use seg_data::named_values::{names, names_from};

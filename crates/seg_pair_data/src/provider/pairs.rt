@@ -2,9 +2,8 @@
 ghost use Rattle.std.specs.Prelude.{◌≡◌, ℕ, ◌<◌, ◌↔◌, IsTrue, IfOk, IfErr, IsOkAnd};
 ghost use Rattle.seg_data.specs.Faults.{IsFaultless, IsLowestFault};
 ghost use Rattle.seg_data.specs.Lemmas.Same.{same_table, same_table-laws};
-ghost use Rattle.seg_pair_data.specs.BreakStates.{HasBreakByte, break_byte_of, break_state_of, named_state, is_intermediate};
-ghost use Rattle.seg_pair_data.specs.PairFaults.{HasPairFault};
-ghost use Rattle.seg_pair_data.specs.PairTable.{IsPairTable, entry_of, pair_table};
+ghost use Rattle.seg_pair_data.specs.PairTable.{HasBreakByte, break_byte_of, break_state_of, named_state, is_intermediate, IsPairTable, entry_of, pair_table};
+ghost use Rattle.seg_pair_data.specs.PairData.{HasPairFault};
 ghost use Rattle.seg_pair_data.specs.Lemmas.SamePairs.{same_pair_table, same_pair_table-laws};
 
 use crate::provider::pair_checks::check_pairs;

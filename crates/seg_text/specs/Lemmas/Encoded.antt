@@ -2,9 +2,7 @@
 use Rattle.std.proofs.Common.{ℕ, refl, sym}
 use Rattle.std.proofs.lemmas.List.{map-id}
 use Rattle.seg_text.specs.Items.{Reader, items_by, text_by}
-use Rattle.seg_text.specs.Latin1.{read_latin1, latin1_items, latin1_from}
-use Rattle.seg_text.specs.Utf8.{read_utf8, utf8_items, utf8_from}
-use Rattle.seg_text.specs.Utf16.{read_utf16, utf16_items, utf16_from}
+use Rattle.seg_text.specs.Decoding.{read_latin1, latin1_items, latin1_from, read_utf8, utf8_items, utf8_from, read_utf16, utf16_items, utf16_from}
 use Rattle.seg_text.specs.Lemmas.Encodings.{IsEncoding}
 use Rattle.seg_text.specs.Lemmas.Latin1Stable.{read_latin1-stable}
 use Rattle.seg_text.specs.Lemmas.Readers.{IsStable, items_by-nil, items_by-cons}

@@ -1,6 +1,6 @@
 -- What Latin-1's reader reads of an item stays the same where the bytes after the item are cut off.
 use Rattle.std.proofs.Common.{◌≡◌, ℕ, zero, suc, ◌≤◌, List, ◌∷◌, take, refl, arith}
-use Rattle.seg_text.specs.Latin1.{read_latin1}
+use Rattle.seg_text.specs.Decoding.{read_latin1}
 use Rattle.seg_text.specs.Lemmas.Rising.{read_latin1-reader}
 use Rattle.seg_text.specs.Lemmas.Readers.{IsStable}
 

@@ -4,9 +4,7 @@ use Rattle.std.proofs.lemmas.Bool.{ltb-true}
 use Rattle.std.specs.Prelude.{◌&&◌, ◌==◌, find, bit_and, if◌then◌else◌}
 use Rattle.std.specs.Option.{option_map_or}
 use Rattle.seg_text.specs.Items.{IsRising, Reading}
-use Rattle.seg_text.specs.Latin1.{read_latin1, latin1_items}
-use Rattle.seg_text.specs.Utf8.{rows, fitting, read_row, read_utf8, utf8_items, Ranges}
-use Rattle.seg_text.specs.Utf16.{pair_of, read_utf16, utf16_items}
+use Rattle.seg_text.specs.Decoding.{read_latin1, latin1_items, rows, fitting, read_row, read_utf8, utf8_items, Ranges, pair_of, read_utf16, utf16_items}
 use Rattle.seg_text.specs.Lemmas.Readers.{IsReader, items_by-rises}
 
 pub read_latin1-reader : IsReader read_latin1

@@ -2,7 +2,7 @@
 use Rattle.std.proofs.Common.{◌≡◌, ℕ, zero, suc, ◌≤◌, ◌⊎◌, inl, inr, List, [], ◌∷◌, take, refl, sym, arith}
 use Rattle.std.specs.Prelude.{◌==◌, bit_and}
 use Rattle.std.proofs.lemmas.Bool.{eq-eqb, ne_eqb, cases_eq, and_from, and_left, and_right}
-use Rattle.seg_text.specs.Utf16.{IsHighSurrogate, IsLowSurrogate, pair_of, read_utf16}
+use Rattle.seg_text.specs.Decoding.{IsHighSurrogate, IsLowSurrogate, pair_of, read_utf16}
 use Rattle.seg_text.specs.Lemmas.Rising.{read_utf16-reader}
 use Rattle.seg_text.specs.Lemmas.Readers.{IsStable}
 

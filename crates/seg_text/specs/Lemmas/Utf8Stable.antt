@@ -5,7 +5,7 @@ use Rattle.std.specs.Option.{option_map_or}
 use Rattle.std.proofs.lemmas.List.{take-take}
 use Rattle.std.proofs.lemmas.Bool.{lt-ltb, le-ltb, ltb-true, ltb-false}
 use Rattle.seg_text.specs.Items.{Reading}
-use Rattle.seg_text.specs.Utf8.{rows, fitting, read_row, read_utf8, Ranges}
+use Rattle.seg_text.specs.Decoding.{rows, fitting, read_row, read_utf8, Ranges}
 use Rattle.seg_text.specs.Lemmas.Rising.{read_utf8-reader}
 use Rattle.seg_text.specs.Lemmas.Readers.{IsStable}
 

@@ -1,6 +1,6 @@
 //! A cursor over Latin-1.
 
-ghost use Rattle.seg_text.specs.Latin1.{read_latin1, latin1_items, latin1_from};
+ghost use Rattle.seg_text.specs.Decoding.{read_latin1, latin1_items, latin1_from};
 ghost use Rattle.seg_text.specs.Lemmas.Encoded.{latin1-encoding};
 
 use crate::indices::units::{Indices, ReadsUnits};

@@ -2,8 +2,8 @@
 
 ghost use Rattle.std.specs.Prelude.{◌≡◌, ◌≤◌, ◌<◌, ℕ, ⊤, drop, length, ◌+◌, ◌==◌};
 ghost use Rattle.std.specs.Iterator.{YieldsFirst, item_count, MakesProgress};
-ghost use Rattle.seg_text.specs.Utf8.{utf8_items, utf8_from, read_utf8};
-ghost use Rattle.seg_text.specs.Cursor.{Rest, GoesOn};
+ghost use Rattle.seg_text.specs.Decoding.{utf8_items, utf8_from, read_utf8};
+ghost use Rattle.seg_text.specs.Items.{Rest, GoesOn};
 ghost use Rattle.seg_text.specs.Lemmas.Rising.{utf8_items-rises};
 
 use crate::cursor::Cursor;
@@ -22,7 +22,7 @@ pub struct StrCharIndices<'a> {
 impl<'a> Model for StrCharIndices<'a> {
     ghost use Rattle.std.specs.Prelude.{ℕ, ◌≤◌, drop, length};
     ghost use Rattle.std.specs.Str.{IsUtf8};
-    ghost use Rattle.seg_text.specs.Cursor.{Rest};
+    ghost use Rattle.seg_text.specs.Items.{Rest};
 
     ghost Value = { Rest ℕ };
 

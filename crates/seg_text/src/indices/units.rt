@@ -1,8 +1,7 @@
 //! A cursor over a slice of units, for each encoding that reads them.
 ghost use Rattle.std.specs.Prelude.{◌≡◌, ◌≤◌, ◌<◌, ℕ, ⊤, drop, length, ◌+◌, ◌==◌, List};
 ghost use Rattle.std.specs.Iterator.{YieldsFirst, item_count, MakesProgress};
-ghost use Rattle.seg_text.specs.Cursor.{Rest, GoesOn};
-ghost use Rattle.seg_text.specs.Items.{Text};
+ghost use Rattle.seg_text.specs.Items.{Rest, GoesOn, Text};
 ghost use Rattle.seg_text.specs.Lemmas.Encodings.{IsEncoding, text-rises};
 
 use crate::cursor::Cursor;
@@ -61,7 +60,7 @@ impl<'a, U: Copy, E: ReadsUnits<U>> Drop for Indices<'a, U, E> {
 
 impl<'a, U: Copy, E: ReadsUnits<U>> Model for Indices<'a, U, E> {
     ghost use Rattle.std.specs.Prelude.{◌≤◌, drop, length};
-    ghost use Rattle.seg_text.specs.Cursor.{Rest};
+    ghost use Rattle.seg_text.specs.Items.{Rest};
 
     ghost Value = { Rest U };
 

@@ -1,7 +1,7 @@
 //! A cursor over possibly ill-formed UTF-16.
 
 ghost use Rattle.std.specs.Prelude.{◌≡◌, ◌≤◌, ◌<◌, ℕ, ⊤, drop, length, ◌+◌, ◌==◌, slice_index};
-ghost use Rattle.seg_text.specs.Utf16.{utf16_items, utf16_from, read_utf16, IsHighSurrogate};
+ghost use Rattle.seg_text.specs.Decoding.{utf16_items, utf16_from, read_utf16, IsHighSurrogate};
 ghost use Rattle.seg_text.specs.Lemmas.Encoded.{utf16-encoding};
 
 use crate::indices::units::{Indices, ReadsUnits};

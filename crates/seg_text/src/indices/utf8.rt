@@ -2,7 +2,7 @@
 
 ghost use Rattle.std.specs.Prelude.{◌≡◌, ◌≤◌, ◌<◌, ℕ, ⊤, ◌↔◌, IsTrue, [], ◌∷◌, drop, length, ◌+◌, ◌==◌, slice_index};
 ghost use Rattle.std.specs.Char.{IsScalar};
-ghost use Rattle.seg_text.specs.Utf8.{utf8_items, utf8_from, read_utf8, read_row, trail, StandsAt, Range};
+ghost use Rattle.seg_text.specs.Decoding.{utf8_items, utf8_from, read_utf8, read_row, trail, StandsAt, Range};
 ghost use Rattle.seg_text.specs.Lemmas.Encoded.{utf8-encoding};
 
 use crate::indices::units::{Indices, ReadsUnits};

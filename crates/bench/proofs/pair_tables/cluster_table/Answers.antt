@@ -1,6 +1,6 @@
 use Rattle.std.proofs.Common.{◌≡◌, None, refl, sym, ◌∙◌, subst}
 use Rattle.seg_data.specs.Faults.{IsFaultless}
-use Rattle.seg_pair_data.specs.PairFaults.{HasPairDataFault}
+use Rattle.seg_pair_data.specs.PairData.{HasPairDataFault}
 use Rattle.seg_pair_data.specs.PairTable.{PairTable, pair_table}
 use Rattle.bench.specs.PairTables.{cluster_table}
 use Rattle.bench.proofs.PairFaults.{clusters-sound, clusters-never-refused}

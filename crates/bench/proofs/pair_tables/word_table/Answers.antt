@@ -1,7 +1,7 @@
 use Rattle.std.proofs.Common.{◌≡◌, None, refl, sym, ◌∙◌, subst}
 use Rattle.seg_data.specs.Faults.{IsFaultless}
 use Rattle.seg_pair_data.specs.PairTable.{PairTable, pair_table}
-use Rattle.seg_words.specs.WordFaults.{HasWordTableFault}
+use Rattle.seg_words.specs.Words.{HasWordTableFault}
 use Rattle.bench.specs.PairTables.{cluster_table, word_table}
 use Rattle.bench.proofs.PairFaults.{words-never-refused}
 use Rattle.bench.proofs.WordFaults.{words-sound}

@@ -1,5 +1,5 @@
 use Rattle.std.proofs.Common.{◌≡◌, refl, sym, ◌∙◌, subst}
-use Rattle.icu_segmenter.specs.TurnFaults.{HasTurnTableFault}
+use Rattle.icu_segmenter.specs.TurnRules.{HasTurnTableFault}
 use Rattle.seg_data.specs.Faults.{IsFaultless}
 use Rattle.seg_pair_data.specs.PairTable.{PairTable, pair_table}
 use Rattle.bench.specs.TurnTables.{turn_table}

@@ -1,7 +1,7 @@
 -- When the loop ends nothing is to come, so what was looked up is all.
 use Rattle.std.proofs.Common.{sym, ap, ◌∙◌}
 use Rattle.std.proofs.lemmas.Option.{same_Some}
-use Rattle.icu_segmenter.specs.Utf8.{utf8, utf8_from}
+use Rattle.icu_segmenter.specs.Decoding.{utf8, utf8_from}
 use Rattle.icu_segmenter.specs.Rules.{machine_in}
 use Rattle.icu_segmenter.specs.Configurations.{reading}
 use Rattle.callers.specs.Spaces.{spaces_machine}

@@ -1,6 +1,6 @@
 use Rattle.std.proofs.Common.{◌∙◌, sym, arith, eqb-true}
 use Rattle.std.proofs.lemmas.List.{nil_from_length}
-use Rattle.icu_segmenter.specs.Sentences.{sentence_rules}
+use Rattle.icu_segmenter.specs.Clusters.{sentence_rules}
 use Rattle.callers.proofs.Blocks.{all-counted, one-more, rest-count}
 use Rattle.callers.proofs.sentences.sentence_count_by_blocks.Goals as goal
 

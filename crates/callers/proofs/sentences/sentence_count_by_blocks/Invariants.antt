@@ -1,6 +1,6 @@
 -- The count so far and the sentences that are left make up all of them, modulo 2^64.
 use Rattle.std.proofs.Common.{◌≡◌, ◌+◌, ◌%◌, ◌^◌, length}
-use Rattle.icu_segmenter.specs.Sentences.{sentence_rules}
+use Rattle.icu_segmenter.specs.Clusters.{sentence_rules}
 use Rattle.callers.proofs.Blocks.{segment_count}
 use Rattle.callers.proofs.sentences.sentence_count_by_blocks.Given as goal
 

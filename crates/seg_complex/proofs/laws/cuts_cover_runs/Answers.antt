@@ -1,4 +1,4 @@
-use Rattle.seg_complex.specs.RunCuts.{at_end}
+use Rattle.seg_complex.specs.Scripts.{at_end}
 use Rattle.seg_complex.proofs.Cutting.{runs-covered, at_end-covers}
 use Rattle.seg_complex.proofs.laws.cuts_cover_runs.Goals as goal
 

@@ -1,5 +1,5 @@
 use Rattle.std.proofs.Common.{refl}
-use Rattle.seg_text.specs.Stretches.{later_boundaries_within, later_boundaries}
+use Rattle.seg_text.specs.Boundaries.{later_boundaries_within, later_boundaries}
 use Rattle.seg_complex.specs.DictionaryCuts.{is_end, end_from, longest_word, read_from, read_all, first_cut}
 use Rattle.seg_complex.proofs.laws.small_dictionaries_cut.Goals as goal
 

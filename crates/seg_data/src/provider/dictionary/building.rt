@@ -1,8 +1,7 @@
 //! How a packed trie is built from words in order, node by node.
 ghost use Rattle.std.specs.Prelude.{◌≡◌, ℕ, ◌+◌, ◌-◌, ◌<◌, ◌≤◌, ◌^◌, OnOk, IfOk, length, slice_index, slice_index_or};
 ghost use Rattle.seg_data.specs.Building.{AreAdded, AreLonger, IsBegun, IsDraft, IsGroup, IsRange, left, letter, word_at};
-ghost use Rattle.seg_data.specs.Sorting.{IsInOrder};
-ghost use Rattle.seg_data.specs.Texts.{held};
+ghost use Rattle.seg_data.specs.WordSets.{IsInOrder, held};
 ghost use Rattle.seg_data.specs.Trie.{trie, words_from, IsTrie};
 
 use std::alloc::{AllocError, Global};

@@ -16,7 +16,7 @@ pub struct DictionaryCursor<'data> {
 }
 
 impl DictionaryBreakData {
-    ghost use Rattle.seg_data.specs.Dictionary.{words_after, words_of, trie_of};
+    ghost use Rattle.seg_data.specs.ScriptWords.{words_after, words_of, trie_of};
     ghost use Rattle.seg_data.specs.Trie.{words_from};
     ghost use Rattle.seg_data.specs.WordSets.{has_empty, has_nonempty, tails_after};
     ghost use Rattle.std.specs.Option.{option_map_or};
@@ -62,7 +62,7 @@ impl DictionaryBreakData {
 }
 
 impl<'data> WordCursor for DictionaryCursor<'data> {
-    ghost use Rattle.seg_data.specs.Dictionary.{words_after};
+    ghost use Rattle.seg_data.specs.ScriptWords.{words_after};
 
     ghost tails = { words_after };
 

@@ -1,8 +1,7 @@
 //! The values of a table's code points, page by page, so that a look-up takes two reads.
 ghost use Rattle.std.specs.Prelude.{◌≡◌, ◌+◌, ◌/◌, ◌<◌, IfOk, IfSome, IsSome, OnOk, length};
 ghost use Rattle.seg_data.specs.Faults.{HasRangeFault, IsFaultless};
-ghost use Rattle.seg_data.specs.Pages.{AreBlocks, ArePages, HasGrown, IsFilled, IsPageAt, IsPlain};
-ghost use Rattle.seg_data.specs.Table.{Table, table, value_of};
+ghost use Rattle.seg_data.specs.Table.{AreBlocks, ArePages, HasGrown, IsFilled, IsPageAt, IsPlain, Table, table, value_of};
 
 use crate::provider::table::runs::run_from;
 use std::alloc::{AllocError, Global};

@@ -1,8 +1,7 @@
 //! Runs of code points that have the same value.
 ghost use Rattle.std.specs.Prelude.{◌≡◌, ◌≤◌};
 ghost use Rattle.seg_data.specs.Faults.{HasRangeFault, IsFaultless};
-ghost use Rattle.seg_data.specs.Pages.{IsFirstReaching, IsRun};
-ghost use Rattle.seg_data.specs.Table.{table, value_of};
+ghost use Rattle.seg_data.specs.Table.{IsFirstReaching, IsRun, table, value_of};
 
 /// The value of the range that holds a code point, or else the default, by halving ranges that are in order, each (first,
 /// last, value) with both ends in it. Any number is looked up, also one that is no code point. Takes no memory.

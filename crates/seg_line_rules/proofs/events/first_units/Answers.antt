@@ -1,5 +1,5 @@
-use Rattle.seg_line_rules.specs.ItemAhead.{text_from}
-use Rattle.seg_line_rules.specs.LinePairs.{rules_by}
+use Rattle.seg_line_rules.specs.LineEvents.{text_from}
+use Rattle.seg_line_rules.specs.LineBoundaries.{rules_by}
 use Rattle.seg_line_rules.proofs.LineEvents.{ahead-read, some-first}
 use Rattle.seg_line_rules.proofs.events.first_units.Goals as goal
 

@@ -1,6 +1,5 @@
 use Rattle.seg_text.proofs.Stretches.{one-answer}
-use Rattle.seg_line_rules.specs.LinePairs.{rules_by}
-use Rattle.seg_line_rules.specs.LineBoundaries.{line_stretch}
+use Rattle.seg_line_rules.specs.LineBoundaries.{rules_by, line_stretch}
 use Rattle.seg_line_rules.proofs.LineStretches.{line-going}
 use Rattle.seg_line_rules.proofs.laws.boundaries_are_one.Goals as goal
 

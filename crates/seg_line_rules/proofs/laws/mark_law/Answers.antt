@@ -1,5 +1,4 @@
-use Rattle.seg_line_rules.specs.LinePairs.{rules_by}
-use Rattle.seg_line_rules.specs.LineBoundaries.{inside}
+use Rattle.seg_line_rules.specs.LineBoundaries.{rules_by, inside}
 use Rattle.seg_line_rules.proofs.Inside.{inside-stand}
 use Rattle.seg_line_rules.proofs.MarkLaw.{line-keeps}
 use Rattle.seg_line_rules.proofs.Marks.{unnamed-apart}

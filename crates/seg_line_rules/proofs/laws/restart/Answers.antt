@@ -1,4 +1,4 @@
-use Rattle.seg_line_rules.specs.LinePairs.{rules_by}
+use Rattle.seg_line_rules.specs.LineBoundaries.{rules_by}
 use Rattle.seg_line_rules.proofs.LineRestarts.{line-restarts}
 use Rattle.seg_line_rules.proofs.laws.restart.Goals as goal
 

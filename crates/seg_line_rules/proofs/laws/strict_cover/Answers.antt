@@ -1,6 +1,5 @@
 use Rattle.seg_text.proofs.Covers.{covers-list}
-use Rattle.seg_line_rules.specs.LinePairs.{rules_by}
-use Rattle.seg_line_rules.specs.LineBoundaries.{inside, line_stretch}
+use Rattle.seg_line_rules.specs.LineBoundaries.{rules_by, inside, line_stretch}
 use Rattle.seg_line_rules.proofs.Inside.{inside-stand}
 use Rattle.seg_line_rules.proofs.LineStretches.{line-within}
 use Rattle.seg_line_rules.proofs.laws.strict_cover.Goals as goal

@@ -1,4 +1,4 @@
-use Rattle.seg_line_rules.specs.LinePairs.{rules_by}
+use Rattle.seg_line_rules.specs.LineBoundaries.{rules_by}
 use Rattle.seg_line_rules.proofs.UnitLists.{units-left}
 use Rattle.seg_line_rules.proofs.laws.units_of_the_rest.Goals as goal
 

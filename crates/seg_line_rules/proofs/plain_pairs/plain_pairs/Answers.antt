@@ -1,5 +1,5 @@
 use Rattle.std.proofs.Common.{sym, ap, ◌∙◌}
-use Rattle.seg_line_rules.specs.LinePairs.{rules_by}
+use Rattle.seg_line_rules.specs.LineBoundaries.{rules_by}
 use Rattle.seg_line_rules.proofs.PlainPairs.{passed-break, passed-go}
 use Rattle.seg_line_rules.proofs.plain_pairs.plain_pairs.Goals as goal
 

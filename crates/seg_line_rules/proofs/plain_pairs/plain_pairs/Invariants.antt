@@ -1,6 +1,6 @@
 use Rattle.std.proofs.Common.{false, length}
-use Rattle.seg_line_rules.specs.LinePairs.{rules_by}
-use Rattle.seg_line_rules.specs.PlainPairs.{IsPassed}
+use Rattle.seg_line_rules.specs.LineBoundaries.{rules_by}
+use Rattle.seg_line_rules.specs.LineEvents.{IsPassed}
 use Rattle.seg_line_rules.proofs.plain_pairs.plain_pairs.Given as goal
 
 abbrev pub invariant-loop-place : goal.invariant-loop-place

@@ -1,6 +1,6 @@
 use Rattle.std.proofs.Common.{◌∙◌, ap, sym}
 use Rattle.seg_pairs.specs.declared.elements.Element.{Element}
-use Rattle.seg_line_rules.specs.LinePairs.{rules_by}
+use Rattle.seg_line_rules.specs.LineBoundaries.{rules_by}
 use Rattle.seg_line_rules.proofs.UnitElements.{unit-ends, unit-stops, unit-goes}
 use Rattle.seg_line_rules.proofs.units.read_unit.Goals as goal
 

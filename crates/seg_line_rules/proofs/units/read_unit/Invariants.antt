@@ -1,6 +1,6 @@
 use Rattle.std.proofs.Common.{◌≡◌, length}
-use Rattle.seg_line_rules.specs.LinePairs.{rules_by}
-use Rattle.seg_line_rules.specs.UnitElements.{elements_from}
+use Rattle.seg_line_rules.specs.LineBoundaries.{rules_by}
+use Rattle.seg_line_rules.specs.LineUnits.{elements_from}
 use Rattle.seg_line_rules.proofs.units.read_unit.Given as goal
 
 abbrev pub invariant-loop-place : goal.invariant-loop-place

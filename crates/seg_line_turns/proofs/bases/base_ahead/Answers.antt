@@ -1,6 +1,6 @@
 use Rattle.std.proofs.Common.{Some, refl, sym, ap, ◌∙◌}
-use Rattle.seg_line_turns.specs.TurnPairs.{turn_rules_by}
-use Rattle.seg_line_turns.specs.TurnSets.{is_mark}
+use Rattle.seg_line_turns.specs.TurnBoundaries.{turn_rules_by}
+use Rattle.seg_line_turns.specs.TurnClasses.{is_mark}
 use Rattle.seg_line_turns.proofs.TurnPlaces.{looking-end, looking-found, looking-next}
 use Rattle.seg_line_turns.proofs.bases.base_ahead.Goals as goal
 

@@ -1,5 +1,5 @@
 use Rattle.std.proofs.Common.{length}
-use Rattle.seg_line_turns.specs.TurnPairs.{turn_rules_by}
+use Rattle.seg_line_turns.specs.TurnBoundaries.{turn_rules_by}
 use Rattle.seg_line_turns.proofs.TurnPlaces.{IsLooking}
 use Rattle.seg_line_turns.proofs.bases.base_ahead.Given as goal
 

@@ -1,6 +1,6 @@
 use Rattle.seg_line_rules.specs.LineBoundaries.{inside}
 use Rattle.seg_line_rules.proofs.Inside.{inside-stand}
-use Rattle.seg_line_turns.specs.TurnPairs.{turn_rules_by}
+use Rattle.seg_line_turns.specs.TurnBoundaries.{turn_rules_by}
 use Rattle.seg_line_turns.proofs.TurnMarks.{class-below-count, turns-keep}
 use Rattle.seg_line_turns.proofs.laws.mark_law.Goals as goal
 

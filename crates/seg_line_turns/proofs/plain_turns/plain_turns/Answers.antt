@@ -1,5 +1,5 @@
 use Rattle.std.proofs.Common.{sym, ap, ◌∙◌}
-use Rattle.seg_line_turns.specs.TurnPairs.{turn_rules_by}
+use Rattle.seg_line_turns.specs.TurnBoundaries.{turn_rules_by}
 use Rattle.seg_line_turns.proofs.PlainPairs.{passed-break, passed-go}
 use Rattle.seg_line_turns.proofs.plain_turns.plain_turns.Goals as goal
 

@@ -1,6 +1,6 @@
 use Rattle.std.proofs.Common.{false, length}
-use Rattle.seg_line_turns.specs.PlainPairs.{IsPassedByTurns}
-use Rattle.seg_line_turns.specs.TurnPairs.{turn_rules_by}
+use Rattle.seg_line_turns.specs.TurnEvents.{IsPassedByTurns}
+use Rattle.seg_line_turns.specs.TurnBoundaries.{turn_rules_by}
 use Rattle.seg_line_turns.proofs.plain_turns.plain_turns.Given as goal
 
 abbrev pub invariant-loop-place : goal.invariant-loop-place

@@ -1,6 +1,6 @@
 use Rattle.std.proofs.Common.{◌≡◌, ℕ, ◌<◌, false}
 use Rattle.seg_pair_data.specs.PairData.{class_by}
-use Rattle.seg_line_turns.specs.TurnSets.{is_complex}
+use Rattle.seg_line_turns.specs.TurnClasses.{is_complex}
 use Rattle.seg_line_turns.proofs.turn_pairs.has_complex_below_0100.Given as goal
 
 abbrev pub invariant-loop-code_point : goal.invariant-loop-code_point

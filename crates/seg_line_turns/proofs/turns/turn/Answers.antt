@@ -1,7 +1,7 @@
 use Rattle.std.proofs.Common.{◌≡◌, ◌||◌, ℕ, refl, ap, ◌∙◌}
-use Rattle.seg_line_turns.specs.TurnPairs.{turn_rules_by}
+use Rattle.seg_line_turns.specs.TurnBoundaries.{turn_rules_by}
 use Rattle.seg_line_turns.specs.TurnPlaces.{left_seen}
-use Rattle.seg_line_turns.specs.TurnReadings.{turn_class}
+use Rattle.seg_line_turns.specs.TurnRules.{turn_class}
 use Rattle.seg_line_turns.specs.Turns.{opens, is_taken}
 use Rattle.seg_line_turns.proofs.TurnReads.{or-first, or-second, turning-end, turning-right, turning-taken}
 use Rattle.seg_line_turns.proofs.turns.turn.Goals as goal

@@ -1,7 +1,6 @@
 use Rattle.std.proofs.Common.{sym, ap, ◌∙◌, subst}
 use Rattle.seg_complex.specs.Payloads.{payloads_of, run_cuts_by}
-use Rattle.seg_line_turns.specs.TurnMarks.{KeepsTurnMarks}
-use Rattle.seg_line_turns.specs.TurnPairs.{turn_rules_by}
+use Rattle.seg_line_turns.specs.TurnBoundaries.{KeepsTurnMarks, turn_rules_by}
 use Rattle.seg_lines.specs.declared.finder.Finder.{Finder}
 use Rattle.seg_lines.specs.LineBreaks.{boundaries_with}
 use Rattle.seg_lines.specs.Lines.{finder_of}

@@ -2,7 +2,7 @@ use Rattle.std.proofs.Common.{ℕ, ap, sym, ◌∙◌}
 use Rattle.std.proofs.lemmas.Bool.{ltb-true}
 use Rattle.std.specs.Option.{option_map}
 use Rattle.seg_data.specs.declared.provider.ComplexScript.{ComplexScript}
-use Rattle.seg_machine.specs.Replacements.{with_parts}
+use Rattle.seg_machine.specs.Machine.{with_parts}
 use Rattle.seg_machine.proofs.Machines.{symbol-below, entry-read, entry-none}
 use Rattle.seg_machine.proofs.tailored_machine.script_of.Goals as goal
 

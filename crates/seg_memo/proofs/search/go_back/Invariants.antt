@@ -1,7 +1,6 @@
 use Rattle.std.proofs.Common.{ℕ, ◌+◌, ◌-◌, length}
 use Rattle.seg_memo.specs.Configurations.{following}
-use Rattle.seg_memo.specs.Grids.{Went}
-use Rattle.seg_memo.specs.Windows.{Keeps}
+use Rattle.seg_memo.specs.Grids.{Went, Keeps}
 use Rattle.seg_memo.proofs.search.go_back.Given as goal
 
 abbrev pub ghost-cell : goal.ghost-cell

@@ -1,5 +1,5 @@
 use Rattle.std.proofs.Common.{refl, sym}
-use Rattle.seg_memo.specs.Windows.{lost_at}
+use Rattle.seg_memo.specs.Grids.{lost_at}
 use Rattle.seg_memo.proofs.Segments.{segment-found, segment-memo, segment-some, segment-rest, skip-next, some-left}
 use Rattle.seg_memo.proofs.Moves.{segment-sought}
 use Rattle.seg_memo.proofs.Held.{has-lost, keeps-left, keeps-on, lost-none, segment-on}

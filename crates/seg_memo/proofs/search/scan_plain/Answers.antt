@@ -2,7 +2,7 @@ use Rattle.std.proofs.Common.{◌∙◌, ap, refl, subst, sym}
 use Rattle.std.specs.Prelude.{Option}
 use Rattle.seg_text.specs.declared.boundary.Boundary.{Boundary}
 use Rattle.seg_memo.specs.Configurations.{start_at}
-use Rattle.seg_memo.specs.Grids.{StandsAt}
+use Rattle.seg_memo.specs.Grids.{CursorStandsAt}
 use Rattle.seg_memo.proofs.Ahead.{ahead-next, comes, goes-after, in-hand, stands-same, starts-after, starts-ahead, still-read, stops, turn-same}
 use Rattle.seg_memo.proofs.Following.{fewer}
 use Rattle.seg_memo.proofs.Ways.{count-room}
@@ -55,7 +55,7 @@ returns-then-mark g c =
     record {
       read = still-read _ _ _ _ _ _ c.scan.invariant.read c.read-next.ensures.states c.read-next.ensures.transitions;
       scanned = turn-known _ _ _ _ _ _ _ _ _ _ (plain-turn _ _ _ _ _ _ c.requires.1.1.0 c.scan.invariant.turn) (turn-last _ _ _ _ _ _ _ c.scan.invariant.turn c.in-Some-last.is) k.leads k.within (entry-not _ _ _ _ _ _ c.scan.invariant.read c.entry.ensures c.in_default-0₀.not-Accept) c.mark.ensures c.if-mark.true c.read-next.ensures.counted;
-      stands = subst (λ (x : Option Boundary). StandsAt (g.I.Cursor.text c.args.rest.now) g.scan.start (floor g.scan.start x) c.scan.stood) c.in-Some-last.is c.scan.invariant.stands;
+      stands = subst (λ (x : Option Boundary). CursorStandsAt (g.I.Cursor.text c.args.rest.now) g.scan.start (floor g.scan.start x) c.scan.stood) c.in-Some-last.is c.scan.invariant.stands;
       ahead = c.scan.invariant.ahead;
     }
 

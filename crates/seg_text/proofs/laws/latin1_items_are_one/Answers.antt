@@ -1,4 +1,4 @@
-use Rattle.seg_text.specs.Latin1.{ReadsLatin1, read_latin1, latin1_items}
+use Rattle.seg_text.specs.Decoding.{ReadsLatin1, read_latin1, latin1_items}
 use Rattle.seg_text.proofs.Items.{items_by-tile, items_by-only}
 use Rattle.seg_text.proofs.Latin1.{read_latin1-of}
 use Rattle.seg_text.proofs.laws.latin1_items_are_one.Goals as goal

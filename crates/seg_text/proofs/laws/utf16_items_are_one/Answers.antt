@@ -1,4 +1,4 @@
-use Rattle.seg_text.specs.Utf16.{ReadsUtf16, read_utf16, utf16_items}
+use Rattle.seg_text.specs.Decoding.{ReadsUtf16, read_utf16, utf16_items}
 use Rattle.seg_text.proofs.Items.{items_by-tile, items_by-only}
 use Rattle.seg_text.proofs.Utf16.{read_utf16-of}
 use Rattle.seg_text.proofs.laws.utf16_items_are_one.Goals as goal

@@ -1,4 +1,4 @@
-use Rattle.seg_text.specs.Utf8.{ReadsUtf8, read_utf8, utf8_items}
+use Rattle.seg_text.specs.Decoding.{ReadsUtf8, read_utf8, utf8_items}
 use Rattle.seg_text.proofs.Items.{items_by-tile, items_by-only}
 use Rattle.seg_text.proofs.Utf8.{read_utf8-of}
 use Rattle.seg_text.proofs.laws.utf8_items_are_one.Goals as goal

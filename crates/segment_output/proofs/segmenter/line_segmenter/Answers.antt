@@ -1,6 +1,6 @@
 -- The segmenter has the words of the dictionaries, and had none before.
 use Rattle.std.proofs.Common.{◌≡◌, refl, ap, ◌∙◌}
-use Rattle.icu_segmenter.specs.LineBreaks.{LineRules, with_words}
+use Rattle.icu_segmenter.specs.LineBreaks.{LineRules, lines_with_words}
 use Rattle.icu_segmenter.specs.Lines.{without_ja}
 use Rattle.icu_segmenter.specs.ScriptWords.{ScriptWords, filled, no_words, script_words}
 use Rattle.icu_segmenter.specs.declared.options.LineBreakOptions.{LineBreakOptions}
@@ -19,5 +19,5 @@ pub returns : goal.returns
 returns c =
     let words = without_ja (script_words c.args.dictionaries) in
     c.load_dictionary.ensures
-    ∙ ap (λ (rules : LineRules). with_words rules (filled rules.payloads.words words)) c.in_ok-lines.ensures
-    ∙ ap (λ (before : ScriptWords). with_words (line_rules_of c.args.engine c.args.options) (filled before words)) (had-none c.args.engine c.args.options)
+    ∙ ap (λ (rules : LineRules). lines_with_words rules (filled rules.payloads.words words)) c.in_ok-lines.ensures
+    ∙ ap (λ (before : ScriptWords). lines_with_words (line_rules_of c.args.engine c.args.options) (filled before words)) (had-none c.args.engine c.args.options)

@@ -1,11 +1,10 @@
 -- The dictionaries have the words that the definition names, in whatever order they keep them.
 use Rattle.std.proofs.Common.{◌≡◌, sym, ap, subst, ◌∙◌}
 use Rattle.icu_segmenter.specs.Items.{Text}
-use Rattle.icu_segmenter.specs.LineBreaks.{LineRules, line_boundaries_of, machine_lines, with_words}
+use Rattle.icu_segmenter.specs.LineBreaks.{LineRules, line_boundaries_of, machine_lines, lines_with_words, IsByPairTable}
 use Rattle.icu_segmenter.specs.Lines.{owned_line_rules, without_ja}
 use Rattle.icu_segmenter.specs.Machine.{Machine}
 use Rattle.icu_segmenter.specs.ScriptWords.{filled, no_words, script_words}
-use Rattle.icu_segmenter.specs.Unmarked.{IsByPairTable}
 use Rattle.icu_segmenter.proofs.Callers.{line-words-are-sets}
 use Rattle.bench.specs.Clusters.{cluster_machine}
 use Rattle.bench.specs.Dictionaries.{dictionary_words}
@@ -27,7 +26,7 @@ returns c =
     ∙ ap (λ (clusters : Machine). machine_lines line_machine clusters no_words) c.in_ok-clusters.ensures in
     let rules : owned_line_rules c.load_dictionary.new.self ≡ machine_lines line_machine cluster_machine words =
     c.load_dictionary.ensures
-    ∙ ap (λ (made : LineRules). with_words made (filled made.payloads.words words)) made in
+    ∙ ap (λ (made : LineRules). lines_with_words made (filled made.payloads.words words)) made in
     record {
       breaks = λ (text : Text). ap (λ (rules : LineRules). line_boundaries_of rules text) rules
           ∙ sym (line-words-are-sets (machine_lines line_machine cluster_machine words) (without_ja dictionary_words) (same-without_ja _ _ c.in_ok-dictionaries.ensures) text);

@@ -3,7 +3,7 @@ use Rattle.std.proofs.Common.{List, ℕ, OnOk, ap, subst, ◌∙◌}
 use Rattle.std.specs.Io.KnownBytes.{Appends}
 use Rattle.icu_segmenter.specs.Boundaries.{offsets}
 use Rattle.icu_segmenter.specs.LineBreaks.{LineRules, line_boundaries_of}
-use Rattle.icu_segmenter.specs.Utf8.{utf8}
+use Rattle.icu_segmenter.specs.Decoding.{utf8}
 use Rattle.textcut.specs.Lines.{lines_of}
 use Rattle.textcut.proofs.run.print_line_breaks_by_machine.Goals as goal
 

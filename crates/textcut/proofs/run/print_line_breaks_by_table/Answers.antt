@@ -4,11 +4,10 @@ use Rattle.std.specs.Io.KnownBytes.{Appends}
 use Rattle.icu_segmenter.specs.Boundaries.{offsets}
 use Rattle.icu_segmenter.specs.LineBreaks.{LineRules, line_boundaries_of, table_lines}
 use Rattle.icu_segmenter.specs.Lines.{line_rules, without_ja}
-use Rattle.icu_segmenter.specs.LineRules.{default_rules}
-use Rattle.icu_segmenter.specs.LineStyles.{style_of}
+use Rattle.icu_segmenter.specs.LineRules.{default_rules, style_of}
 use Rattle.icu_segmenter.specs.PairTable.{PairTable}
 use Rattle.icu_segmenter.specs.ScriptWords.{ScriptWords, script_words}
-use Rattle.icu_segmenter.specs.Utf8.{utf8}
+use Rattle.icu_segmenter.specs.Decoding.{utf8}
 use Rattle.icu_segmenter.proofs.Callers.{line-words-are-sets}
 use Rattle.bench.specs.Dictionaries.{dictionary_words}
 use Rattle.bench.specs.LineTables.{line_table}

@@ -2,12 +2,12 @@
 use Rattle.std.proofs.Common.{◌≡◌, ℕ, List, OnOk, sym, ap, subst, ◌∙◌}
 use Rattle.std.specs.Io.KnownBytes.{Appends}
 use Rattle.icu_segmenter.specs.Boundaries.{offsets}
-use Rattle.icu_segmenter.specs.LineBreaks.{LineRules, line_boundaries_of, turn_lines, with_words}
+use Rattle.icu_segmenter.specs.LineBreaks.{LineRules, line_boundaries_of, turn_lines, lines_with_words}
 use Rattle.icu_segmenter.specs.LineRules.{default_rules}
 use Rattle.icu_segmenter.specs.Lines.{line_rules, without_ja}
 use Rattle.icu_segmenter.specs.PairTable.{PairTable}
 use Rattle.icu_segmenter.specs.ScriptWords.{ScriptWords, filled, no_words, script_words}
-use Rattle.icu_segmenter.specs.Utf8.{utf8}
+use Rattle.icu_segmenter.specs.Decoding.{utf8}
 use Rattle.icu_segmenter.proofs.Callers.{line-words-are-sets}
 use Rattle.bench.specs.Dictionaries.{dictionary_words}
 use Rattle.bench.specs.PairTables.{cluster_table}
@@ -26,8 +26,8 @@ returns-clause-printed g c =
     ∙ ap (λ (clusters : PairTable). turn_lines (default_rules turn_table) clusters no_words) c.in_ok-clusters.ensures.value in
     let rules : line_rules c.load_dictionary.new.self ≡ turn_lines (default_rules turn_table) cluster_table words =
     c.load_dictionary.ensures
-    ∙ ap (λ (lent : ScriptWords). with_words (line_rules c.in-Ok.lines) (filled (line_rules c.in-Ok.lines).payloads.words (without_ja lent))) c.as_borrowed.ensures
-    ∙ ap (λ (made : LineRules). with_words made (filled made.payloads.words words)) made in
+    ∙ ap (λ (lent : ScriptWords). lines_with_words (line_rules c.in-Ok.lines) (filled (line_rules c.in-Ok.lines).payloads.words (without_ja lent))) c.as_borrowed.ensures
+    ∙ ap (λ (made : LineRules). lines_with_words made (filled made.payloads.words words)) made in
     let text = utf8 c.args.text.now in
     let places =
     ap (λ (rules : LineRules). offsets (line_boundaries_of rules text)) rules

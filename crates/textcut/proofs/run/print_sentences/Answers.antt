@@ -1,7 +1,7 @@
 -- The iterator has all the boundaries left when it is made.
 use Rattle.std.proofs.Common.{ap}
 use Rattle.icu_segmenter.specs.Boundaries.{offsets}
-use Rattle.icu_segmenter.specs.Sentences.{sentences_places}
+use Rattle.icu_segmenter.specs.Clusters.{sentences_places}
 use Rattle.textcut.proofs.Printed.{lines-are_left}
 use Rattle.textcut.proofs.run.print_sentences.Goals as goal
 

@@ -5,7 +5,7 @@ use Rattle.icu_segmenter.specs.Boundaries.{offsets}
 use Rattle.icu_segmenter.specs.Machine.{Machine}
 use Rattle.icu_segmenter.specs.PairTable.{PairTable}
 use Rattle.icu_segmenter.specs.ScriptWords.{ScriptWords, filled, no_words, script_words}
-use Rattle.icu_segmenter.specs.Utf8.{utf8}
+use Rattle.icu_segmenter.specs.Decoding.{utf8}
 use Rattle.icu_segmenter.specs.WordRules.{WordRules, machine_words, with_words, word_boundaries_of}
 use Rattle.icu_segmenter.specs.Words.{word_rules}
 use Rattle.icu_segmenter.proofs.Callers.{words-are-sets}

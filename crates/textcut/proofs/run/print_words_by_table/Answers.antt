@@ -5,7 +5,7 @@ use Rattle.std.specs.Io.KnownBytes.{Appends}
 use Rattle.icu_segmenter.specs.Boundaries.{offsets}
 use Rattle.icu_segmenter.specs.PairTable.{PairTable}
 use Rattle.icu_segmenter.specs.ScriptWords.{ScriptWords, script_words}
-use Rattle.icu_segmenter.specs.Utf8.{utf8}
+use Rattle.icu_segmenter.specs.Decoding.{utf8}
 use Rattle.icu_segmenter.specs.WordRules.{WordRules, table_words, word_boundaries_of}
 use Rattle.icu_segmenter.specs.Words.{word_rules}
 use Rattle.icu_segmenter.proofs.Callers.{words-are-sets}

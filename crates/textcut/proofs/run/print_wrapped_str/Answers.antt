@@ -2,9 +2,8 @@
 use Rattle.std.proofs.Common.{◌≡◌, List, OnOk, ap, subst, ◌∙◌}
 use Rattle.std.specs.Io.KnownBytes.{Appends}
 use Rattle.icu_segmenter.specs.Boundary.{Boundary}
-use Rattle.icu_segmenter.specs.LineBreaks.{LineRules}
-use Rattle.icu_segmenter.specs.Unmarked.{IsByPairTable}
-use Rattle.icu_segmenter.specs.Utf8.{utf8}
+use Rattle.icu_segmenter.specs.LineBreaks.{LineRules, IsByPairTable}
+use Rattle.icu_segmenter.specs.Decoding.{utf8}
 use Rattle.icu_segmenter.specs.Wrapping.{TextLine, segments_of, text_lines, wrapped_lines}
 use Rattle.icu_segmenter.specs.WrappedLines.{lines_to_come, wrapped_text}
 use Rattle.textcut.specs.Command.{sample_lines}

@@ -1,7 +1,7 @@
 use Rattle.std.proofs.Common.{true, ap, ◌∙◌}
 use Rattle.unicode_segmentation.specs.Grapheme.{is_grapheme_break}
 use Rattle.seg_text.specs.Boundaries.{offsets}
-use Rattle.seg_text.specs.Utf8.{utf8}
+use Rattle.seg_text.specs.Decoding.{utf8}
 use Rattle.icu_segmenter_uax29.specs.Clusters.{cluster_machine}
 use Rattle.icu_segmenter_uax29.proofs.Clusters.{clusters-are}
 use Rattle.icu_segmenter_uax29.proofs.Segments.{text-places}

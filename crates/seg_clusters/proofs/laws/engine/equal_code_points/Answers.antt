@@ -1,6 +1,5 @@
 use Rattle.seg_text.proofs.Stretches.{equal-ordinals}
-use Rattle.seg_clusters.specs.Engine.{rules_of}
-use Rattle.seg_clusters.specs.Rules.{boundaries_by}
+use Rattle.seg_clusters.specs.Rules.{rules_of, boundaries_by}
 use Rattle.seg_clusters.proofs.laws.engine.equal_code_points.Goals as goal
 
 pub returns : goal.returns

@@ -1,11 +1,11 @@
 use Rattle.std.proofs.Common.{◌≡◌, ◌++◌, [], length}
 use Rattle.std.specs.Prelude.{None}
 use Rattle.std.specs.Option.{option_to_list}
-use Rattle.seg_text.specs.Cuts.{cut_places}
+use Rattle.seg_text.specs.Boundaries.{cut_places}
 use Rattle.seg_machine.specs.Tailored.{machine_of}
-use Rattle.seg_complex.specs.InnerCuts.{inner_cuts, inside}
+use Rattle.seg_complex.specs.Spans.{inner_cuts, but_the_last}
 use Rattle.seg_complex.specs.Payloads.{payloads_of, piece_cuts_by, piece_left}
-use Rattle.seg_complex.specs.RunCuts.{CoverPieces}
+use Rattle.seg_complex.specs.Scripts.{CoverPieces}
 use Rattle.seg_complex.proofs.inner.InnerCutsIterator.next.Given as goal
 
 abbrev pub invariant-loop-place : goal.invariant-loop-place
@@ -13,7 +13,7 @@ invariant-loop-place g l =
     let s = l.self-inside in record {
       cover : CoverPieces (piece_cuts_by (payloads_of s.payloads));
       held : s.held ≡ None → piece_left s.run ≡ [];
-      left : inside (option_to_list s.held ++ piece_left s.run) ++ cut_places (inner_cuts (machine_of s.machine) (payloads_of s.payloads)) (g.I.Cursor.text s.rest) ≡ l.fn.self;
+      left : but_the_last (option_to_list s.held ++ piece_left s.run) ++ cut_places (inner_cuts (machine_of s.machine) (payloads_of s.payloads)) (g.I.Cursor.text s.rest) ≡ l.fn.self;
     }
 
 abbrev pub decreases-loop-place : goal.decreases-loop-place

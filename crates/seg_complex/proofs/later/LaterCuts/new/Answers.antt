@@ -1,4 +1,4 @@
-use Rattle.seg_data.specs.Dictionary.{words_after}
+use Rattle.seg_data.specs.ScriptWords.{words_after}
 use Rattle.seg_clusters.specs.Rules.{boundaries_by}
 use Rattle.seg_clusters.specs.Clusters.{cluster_rules}
 use Rattle.seg_complex.specs.DictionaryCuts.{dictionary_cuts}

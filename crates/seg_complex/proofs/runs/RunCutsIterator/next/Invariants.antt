@@ -1,8 +1,7 @@
 use Rattle.std.proofs.Common.{◌≡◌, ◌++◌, length}
-use Rattle.seg_text.specs.Cuts.{cut_places}
-use Rattle.seg_complex.specs.Payloads.{payloads_of, piece_left, run_cuts_by}
-use Rattle.seg_complex.specs.RunCuts.{CoverPieces}
-use Rattle.seg_complex.specs.Payloads.{piece_cuts_by}
+use Rattle.seg_text.specs.Boundaries.{cut_places}
+use Rattle.seg_complex.specs.Payloads.{payloads_of, piece_left, run_cuts_by, piece_cuts_by}
+use Rattle.seg_complex.specs.Scripts.{CoverPieces}
 use Rattle.seg_complex.proofs.runs.RunCutsIterator.next.Given as goal
 
 abbrev pub invariant-loop-place : goal.invariant-loop-place

@@ -1,10 +1,8 @@
 use Rattle.std.proofs.Common.{ap, ◌∙◌}
-use Rattle.seg_text.specs.Boundaries.{boundaries_in}
-use Rattle.seg_text.specs.Stretches.{list_boundaries}
+use Rattle.seg_text.specs.Boundaries.{boundaries_in, list_boundaries}
 use Rattle.seg_complex.specs.Payloads.{payloads_of, piece_cuts_by, run_cuts_by}
-use Rattle.seg_line_rules.specs.LineBoundaries.{inside, line_stretch}
+use Rattle.seg_line_rules.specs.LineBoundaries.{inside, line_stretch, rules_by}
 use Rattle.seg_line_rules.specs.LineEvents.{UnreadLines}
-use Rattle.seg_line_rules.specs.LinePairs.{rules_by}
 use Rattle.seg_line_rules.proofs.LinesLeft.{lines-cover, no-inside}
 use Rattle.seg_line_rules.proofs.boundaries.ClassicLines.new.Goals as goal
 

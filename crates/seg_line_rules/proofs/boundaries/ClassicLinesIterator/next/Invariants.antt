@@ -1,5 +1,5 @@
 use Rattle.std.proofs.Common.{◌≡◌, ◌++◌, true, length}
-use Rattle.seg_text.specs.Cuts.{with_status}
+use Rattle.seg_text.specs.Boundaries.{with_status}
 use Rattle.seg_complex.specs.Payloads.{payloads_of, run_cuts_by}
 use Rattle.seg_line_rules.specs.LineBoundaries.{inside}
 use Rattle.seg_line_rules.specs.LineEvents.{unread_lines}

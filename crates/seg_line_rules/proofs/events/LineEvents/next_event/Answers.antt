@@ -1,6 +1,6 @@
 use Rattle.std.proofs.Common.{Some, refl, ◌∙◌}
 use Rattle.seg_pairs.specs.Elements.{onto}
-use Rattle.seg_line_rules.specs.LinePairs.{rules_by}
+use Rattle.seg_line_rules.specs.LineBoundaries.{rules_by}
 use Rattle.seg_line_rules.proofs.LineEvents.{break-of, run-of, place-after, ahead-here, ahead-none, break-leads, run-leads, goes-on, run-goes}
 use Rattle.seg_line_rules.proofs.events.LineEvents.next_event.Goals as goal
 

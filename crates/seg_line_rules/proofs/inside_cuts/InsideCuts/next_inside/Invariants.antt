@@ -1,5 +1,5 @@
 use Rattle.std.proofs.Common.{◌≡◌, length}
-use Rattle.seg_line_rules.specs.LinesLeft.{places_before}
+use Rattle.seg_line_rules.specs.LineEvents.{places_before}
 use Rattle.seg_line_rules.proofs.inside_cuts.InsideCuts.next_inside.Given as goal
 
 abbrev pub invariant-loop-place : goal.invariant-loop-place

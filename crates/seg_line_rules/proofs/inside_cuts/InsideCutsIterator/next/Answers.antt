@@ -1,5 +1,5 @@
 use Rattle.std.proofs.Common.{◌∙◌, ap}
-use Rattle.seg_line_rules.specs.LinesLeft.{places_before}
+use Rattle.seg_line_rules.specs.LineEvents.{places_before}
 use Rattle.seg_line_rules.proofs.LinesLeft.{none-before-zero}
 use Rattle.seg_line_rules.proofs.inside_cuts.InsideCutsIterator.next.Goals as goal
 

@@ -1,7 +1,7 @@
 use Rattle.std.proofs.Common.{◌∙◌, ap}
 use Rattle.seg_pairs.specs.declared.elements.Element.{Element}
-use Rattle.seg_line_rules.specs.LinePairs.{rules_by}
-use Rattle.seg_line_rules.specs.UnitElements.{UnitsLeft, base_element, elements_from}
+use Rattle.seg_line_rules.specs.LineBoundaries.{rules_by}
+use Rattle.seg_line_rules.specs.LineUnits.{UnitsLeft, base_element, elements_from}
 use Rattle.seg_line_rules.proofs.units.Units.from_item.Goals as goal
 
 pub returns : goal.returns

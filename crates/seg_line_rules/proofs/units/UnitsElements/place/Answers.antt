@@ -2,8 +2,8 @@ use Rattle.std.proofs.Common.{◌∙◌, ap, sym}
 use Rattle.std.specs.Prelude.{Option}
 use Rattle.seg_pairs.specs.declared.elements.Element.{Element}
 use Rattle.seg_pairs.specs.Elements.{place_at}
-use Rattle.seg_line_rules.specs.LinePairs.{rules_by}
-use Rattle.seg_line_rules.specs.UnitElements.{elements_after}
+use Rattle.seg_line_rules.specs.LineBoundaries.{rules_by}
+use Rattle.seg_line_rules.specs.LineUnits.{elements_after}
 use Rattle.seg_line_rules.proofs.UnitElements.{from-place}
 use Rattle.seg_line_rules.proofs.units.UnitsElements.place.Goals as goal
 

@@ -1,4 +1,4 @@
-use Rattle.seg_line_rules.specs.LinePairs.{rules_by}
+use Rattle.seg_line_rules.specs.LineBoundaries.{rules_by}
 use Rattle.seg_line_rules.specs.LineVerdict.{unit_verdict}
 use Rattle.seg_line_rules.proofs.UnitElements.{on-units}
 use Rattle.seg_line_rules.proofs.UnitVerdicts.{unit-forward}

@@ -1,5 +1,5 @@
 use Rattle.std.proofs.Common.{◌∙◌, refl, sym}
-use Rattle.seg_line_rules.specs.LinePairs.{rules_by}
+use Rattle.seg_line_rules.specs.LineBoundaries.{rules_by}
 use Rattle.seg_line_rules.proofs.UnitLandings.{unit-last, unit-case, unit-table}
 use Rattle.seg_line_rules.proofs.verdicts.LineVerdictsVerdicts.step.Goals as goal
 

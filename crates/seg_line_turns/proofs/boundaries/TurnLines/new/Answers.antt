@@ -1,15 +1,13 @@
-use Rattle.std.proofs.Common.{sym, subst}
+use Rattle.std.proofs.Common.{sym, subst, List, ◌∙◌}
 use Rattle.seg_text.specs.declared.boundary.Boundary.{Boundary}
-use Rattle.std.proofs.Common.{List}
 use Rattle.seg_text.specs.Boundaries.{IsCover}
 use Rattle.seg_text.specs.Items.{start_of}
 use Rattle.seg_complex.specs.Payloads.{payloads_of, piece_cuts_by, run_cuts_by}
 use Rattle.seg_line_rules.specs.LineBoundaries.{inside}
 use Rattle.seg_line_rules.proofs.LinesLeft.{no-inside}
-use Rattle.seg_line_turns.specs.TurnPairs.{turn_rules_by}
+use Rattle.seg_line_turns.specs.TurnBoundaries.{turn_rules_by}
 use Rattle.seg_line_turns.proofs.TurnsLeft.{turns-text-cover, turns-whole}
 use Rattle.seg_line_turns.proofs.boundaries.TurnLines.new.Goals as goal
-use Rattle.std.proofs.Common.{◌∙◌}
 
 pub returns-clause-boundaries : goal.returns-clause-boundaries
 returns-clause-boundaries g c =

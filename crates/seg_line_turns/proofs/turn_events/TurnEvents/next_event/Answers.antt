@@ -1,5 +1,5 @@
 use Rattle.std.proofs.Common.{refl}
-use Rattle.seg_line_turns.specs.TurnPairs.{turn_rules_by}
+use Rattle.seg_line_turns.specs.TurnBoundaries.{turn_rules_by}
 use Rattle.seg_line_turns.proofs.TurnEvents.{break-leads, break-of, ahead-none, ends-here, first-of, go-leads, go-of, goes-on, not-empty, run-goes, run-leads-to, run-of}
 use Rattle.seg_line_turns.proofs.turn_events.TurnEvents.next_event.Goals as goal
 

@@ -1,5 +1,5 @@
 use Rattle.std.proofs.Common.{refl}
-use Rattle.seg_line_turns.specs.TurnReadings.{turn_class}
+use Rattle.seg_line_turns.specs.TurnRules.{turn_class}
 use Rattle.seg_line_turns.proofs.turn_pairs.TurnPairs.strict_class.Goals as goal
 
 pub returns-clause-value : goal.returns-clause-value

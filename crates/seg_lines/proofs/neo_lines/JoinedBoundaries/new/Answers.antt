@@ -2,14 +2,12 @@ use Rattle.std.proofs.Common.{◌≡◌, ℕ, List, ◌++◌, sym, ap, ◌∙◌
 use Rattle.std.specs.Option.{option_to_list}
 use Rattle.seg_text.specs.declared.boundary.Boundary.{Boundary}
 use Rattle.seg_text.specs.Items.{start_of}
-use Rattle.seg_text.specs.Boundaries.{IsCover, boundaries_in, offsets}
-use Rattle.seg_text.specs.Cuts.{cut_places}
-use Rattle.seg_machine.specs.Segments.{machine_boundaries}
+use Rattle.seg_text.specs.Boundaries.{IsCover, boundaries_in, offsets, cut_places}
+use Rattle.seg_machine.specs.Pick.{machine_boundaries}
 use Rattle.seg_machine.specs.Tailored.{machine_of}
-use Rattle.seg_complex.specs.InnerCuts.{inner_cuts}
+use Rattle.seg_complex.specs.Spans.{inner_cuts}
 use Rattle.seg_complex.specs.Payloads.{payloads_of}
-use Rattle.seg_lines.specs.Joined.{AreRising, joined}
-use Rattle.seg_lines.specs.JoinedLeft.{all_left}
+use Rattle.seg_lines.specs.LineBreaks.{AreRising, joined, all_left}
 use Rattle.seg_lines.proofs.JoinCover.{cover-rising, cut-places-rising, text-cover, text-joined}
 use Rattle.seg_complex.proofs.InnerCuts.{first-taken, no-more}
 use Rattle.seg_lines.proofs.neo_lines.JoinedBoundaries.new.Goals as goal

@@ -1,6 +1,6 @@
 use Rattle.std.proofs.Common.{ap}
 use Rattle.seg_text.specs.Boundaries.{offsets}
-use Rattle.seg_lines.specs.JoinedLeft.{all_left}
+use Rattle.seg_lines.specs.LineBreaks.{all_left}
 use Rattle.seg_lines.proofs.Joins.{boundary-step, both-step, cut-step, progress}
 use Rattle.seg_lines.proofs.neo_lines.JoinedBoundariesIterator.next.Goals as goal
 

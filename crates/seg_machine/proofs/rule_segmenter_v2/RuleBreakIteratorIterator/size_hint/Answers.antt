@@ -1,6 +1,6 @@
-use Rattle.seg_text.specs.Stretches.{remainder}
+use Rattle.seg_text.specs.Boundaries.{remainder}
 use Rattle.seg_text.proofs.Hints.{hint-lower, hint-upper, stretches-left}
-use Rattle.seg_machine.specs.Segments.{machine_stretch}
+use Rattle.seg_machine.specs.Pick.{machine_stretch}
 use Rattle.seg_machine.specs.Tailored.{machine_of}
 use Rattle.seg_machine.proofs.Segmentations.{machine-within}
 use Rattle.seg_machine.proofs.rule_segmenter_v2.RuleBreakIteratorIterator.size_hint.Goals as goal

@@ -1,6 +1,6 @@
 use Rattle.std.proofs.Common.{ℕ, ◌∙◌, ap, length, refl, subst, sym}
 use Rattle.seg_text.specs.Items.{rest_after}
-use Rattle.seg_machine.specs.Checked.{IsChecked}
+use Rattle.seg_machine.specs.MachineFaults.{IsChecked}
 use Rattle.seg_machine.specs.Tailored.{machine_of}
 use Rattle.seg_memo.specs.Configurations.{reading}
 use Rattle.seg_memo.specs.Memos.{Memo}

@@ -1,6 +1,6 @@
 use Rattle.std.proofs.Common.{◌∙◌, sym, ap}
 use Rattle.std.proofs.lemmas.Bool.{iff_false}
-use Rattle.seg_pair_data.specs.Overriding.{table_in}
+use Rattle.seg_pair_data.specs.PairTable.{table_in}
 use Rattle.seg_pair_data.proofs.Pairs.{class-table, class-override, class-zero, class-below, override-below, not-other}
 use Rattle.seg_pair_data.proofs.pair_data.PairDataBorrowed.class.Goals as goal
 

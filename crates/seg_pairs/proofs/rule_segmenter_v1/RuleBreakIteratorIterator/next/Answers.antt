@@ -3,9 +3,8 @@ use Rattle.std.proofs.lemmas.Bool.{both_ways}
 use Rattle.seg_text.specs.Boundaries.{offsets}
 use Rattle.seg_pair_data.specs.PairData.{pair_table_of}
 use Rattle.seg_pair_data.specs.PairTable.{PairTable}
-use Rattle.seg_pairs.specs.Chains.{chain}
-use Rattle.seg_pairs.specs.Items.{elements_of}
-use Rattle.seg_pairs.specs.Steps.{EndsIn}
+use Rattle.seg_pairs.specs.Verdict.{chain, EndsIn}
+use Rattle.seg_pairs.specs.Elements.{elements_of}
 use Rattle.seg_pairs.specs.declared.verdicts.Outcome.TheVariants.{Break}
 use Rattle.seg_pairs.proofs.Engine.{element_verdict, gives-next, end-left, run-never, rest-empty, none-left, next-rising, below-of}
 use Rattle.seg_pairs.proofs.rule_segmenter_v1.RuleBreakIteratorIterator.next.Goals as goal

@@ -1,8 +1,8 @@
 use Rattle.std.proofs.Common.{◌∷◌, List, refl, sym, ap, ◌∙◌}
 use Rattle.seg_text.specs.Items.{Text}
 use Rattle.seg_pair_data.specs.PairData.{pair_table_of}
-use Rattle.seg_pairs.specs.Items.{elements_of}
-use Rattle.seg_pairs.specs.Chains.{chain}
+use Rattle.seg_pairs.specs.Elements.{elements_of}
+use Rattle.seg_pairs.specs.Verdict.{chain}
 use Rattle.seg_pairs.specs.declared.elements.Element.{Element}
 use Rattle.seg_pairs.proofs.Engine.{rest-empty, none-left, below-of}
 use Rattle.seg_pairs.proofs.Events.{element_verdict, break-of, run-of, place-after, nothing-left, ahead-read, break-leads, run-leads, goes-on, run-goes}

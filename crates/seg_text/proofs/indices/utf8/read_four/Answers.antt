@@ -1,5 +1,5 @@
 use Rattle.std.proofs.lemmas.Bool.{iff_false}
-use Rattle.seg_text.specs.Utf8.{trail}
+use Rattle.seg_text.specs.Decoding.{trail}
 use Rattle.seg_text.proofs.Utf8Reads.{part-one, part-two, part-three, whole-four}
 use Rattle.seg_text.proofs.indices.utf8.read_four.Goals as goal
 

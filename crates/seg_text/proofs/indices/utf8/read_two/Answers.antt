@@ -1,5 +1,5 @@
 use Rattle.std.proofs.lemmas.Bool.{iff_false}
-use Rattle.seg_text.specs.Utf8.{trail}
+use Rattle.seg_text.specs.Decoding.{trail}
 use Rattle.seg_text.proofs.Utf8Reads.{part-one, whole-two}
 use Rattle.seg_text.proofs.indices.utf8.read_two.Goals as goal
 

@@ -1,9 +1,8 @@
 use Rattle.std.proofs.Common.{Option, map, sym, ap, ◌∙◌}
 use Rattle.seg_text.specs.Items.{code_points}
-use Rattle.seg_text.specs.Boundaries.{boundary_in}
-use Rattle.seg_text.specs.Cuts.{with_status}
+use Rattle.seg_text.specs.Boundaries.{boundary_in, with_status}
 use Rattle.seg_clusters.specs.Clusters.{cluster_rules}
-use Rattle.seg_data.specs.Dictionary.{words_after}
+use Rattle.seg_data.specs.ScriptWords.{words_after}
 use Rattle.seg_data.specs.WordSets.{Words}
 use Rattle.std.specs.Option.{option_map}
 use Rattle.seg_clusters.specs.Rules.{boundaries_by}

@@ -1,5 +1,5 @@
 use Rattle.std.proofs.Common.{length}
-use Rattle.seg_wrap.specs.Measures.{IsMeasuring}
+use Rattle.seg_wrap.specs.Walk.{IsMeasuring}
 use Rattle.seg_wrap.proofs.extent.Extent.of_text.Given as goal
 
 abbrev pub invariant-items : goal.invariant-items

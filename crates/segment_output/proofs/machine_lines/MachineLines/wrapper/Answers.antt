@@ -1,6 +1,5 @@
 use Rattle.std.proofs.Common.{subst, ◌∙◌}
-use Rattle.icu_segmenter.specs.LineBreaks.{LineRules}
-use Rattle.icu_segmenter.specs.Unmarked.{IsByPairTable}
+use Rattle.icu_segmenter.specs.LineBreaks.{LineRules, IsByPairTable}
 use Rattle.segment_output.proofs.machine_lines.MachineLines.wrapper.Goals as goal
 
 pub unreachable-requires : goal.unreachable-requires

@@ -2,7 +2,7 @@
 use Rattle.std.proofs.Common.{true, false, ap, ◌∙◌}
 use Rattle.icu_segmenter.specs.LineBreaks.{LineRules, line_boundaries_of}
 use Rattle.icu_segmenter.specs.Rules.{Rules, boundaries_of}
-use Rattle.icu_segmenter.specs.Utf8.{utf8}
+use Rattle.icu_segmenter.specs.Decoding.{utf8}
 use Rattle.icu_segmenter.specs.WordRules.{WordRules, word_boundaries_of}
 use Rattle.segment_output.specs.Marks.{mark_of}
 use Rattle.segment_output.specs.Output.{lines_at}

@@ -1,9 +1,8 @@
 -- The iterator has all the boundaries left when it is made.
-use Rattle.icu_segmenter.specs.Clusters.{clusters_left}
+use Rattle.icu_segmenter.specs.Clusters.{clusters_left, sentences_left}
 use Rattle.icu_segmenter.specs.LineBreaks.{line_boundaries_of}
 use Rattle.icu_segmenter.specs.Lines.{lines_left}
 use Rattle.icu_segmenter.specs.Rules.{boundaries_of}
-use Rattle.icu_segmenter.specs.Sentences.{sentences_left}
 use Rattle.icu_segmenter.specs.WordRules.{word_boundaries_of}
 use Rattle.icu_segmenter.specs.Words.{words_left}
 use Rattle.speed.proofs.Counted.{tally-is_whole}

@@ -1,7 +1,7 @@
 use Rattle.std.proofs.Common.{ap, ◌∙◌}
 use Rattle.unicode_segmentation.specs.Sentence.{is_sentence_break}
 use Rattle.seg_text.specs.Boundaries.{offsets}
-use Rattle.seg_text.specs.Utf8.{utf8}
+use Rattle.seg_text.specs.Decoding.{utf8}
 use Rattle.icu_segmenter_uax29.specs.Sentences.{sentence_machine}
 use Rattle.icu_segmenter_uax29.proofs.SentenceWalks.{sentences-are}
 use Rattle.icu_segmenter_uax29.proofs.Segments.{text-places}

@@ -1,7 +1,7 @@
 use Rattle.std.proofs.Common.{ap, ◌∙◌}
 use Rattle.unicode_segmentation.specs.Word.{is_word_break}
 use Rattle.seg_text.specs.Boundaries.{offsets}
-use Rattle.seg_text.specs.Latin1.{latin1}
+use Rattle.seg_text.specs.Decoding.{latin1}
 use Rattle.icu_segmenter_uax29.specs.Words.{word_machine}
 use Rattle.icu_segmenter_uax29.proofs.Segments.{text-places}
 use Rattle.icu_segmenter_uax29.proofs.WordWalks.{words-are}

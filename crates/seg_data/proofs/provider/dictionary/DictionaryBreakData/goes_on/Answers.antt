@@ -1,4 +1,4 @@
-use Rattle.seg_data.specs.Dictionary.{trie_of}
+use Rattle.seg_data.specs.ScriptWords.{trie_of}
 use Rattle.seg_data.proofs.Tries.{node-tests}
 use Rattle.seg_data.proofs.provider.dictionary.DictionaryBreakData.goes_on.Goals as goal
 

@@ -1,6 +1,6 @@
 use Rattle.std.proofs.Common.{false, ◌∙◌}
 use Rattle.std.proofs.lemmas.List.{get_or_read}
-use Rattle.seg_data.specs.Dictionary.{trie_of}
+use Rattle.seg_data.specs.ScriptWords.{trie_of}
 use Rattle.seg_data.proofs.Tries.{node-is-word}
 use Rattle.seg_data.proofs.provider.dictionary.DictionaryBreakData.is_word.Goals as goal
 

@@ -1,5 +1,5 @@
 use Rattle.std.proofs.Common.{◌-◌, take, drop, ap}
-use Rattle.seg_data.specs.Dictionary.{trie_of}
+use Rattle.seg_data.specs.ScriptWords.{trie_of}
 use Rattle.seg_data.specs.Trie.{words_from}
 use Rattle.seg_data.proofs.Tries.{node-target}
 use Rattle.seg_data.proofs.provider.dictionary.DictionaryBreakData.target.Goals as goal

@@ -1,6 +1,6 @@
 use Rattle.std.proofs.Common.{◌≡◌, ℕ, ◌-◌, ◌<◌, ◌≤◌}
 use Rattle.seg_data.specs.Building.{letter}
-use Rattle.seg_data.specs.Texts.{held}
+use Rattle.seg_data.specs.WordSets.{held}
 use Rattle.seg_data.proofs.provider.dictionary.building.group_end.Given as goal
 
 -- the words up to here have the first one's code point

@@ -1,6 +1,5 @@
 use Rattle.std.proofs.Common.{◌+◌}
-use Rattle.seg_data.specs.Pages.{HasGrown, IsFilled, IsRun}
-use Rattle.seg_data.specs.Table.{table}
+use Rattle.seg_data.specs.Table.{HasGrown, IsFilled, IsRun, table}
 use Rattle.seg_data.proofs.provider.table.pages.push_values.Given as goal
 
 -- the values up to here stand, and the run goes on from here

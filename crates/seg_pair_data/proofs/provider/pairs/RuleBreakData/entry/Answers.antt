@@ -1,5 +1,5 @@
 use Rattle.std.proofs.Common.{◌∙◌, ap, sym}
-use Rattle.seg_pair_data.specs.BreakStates.{named_state}
+use Rattle.seg_pair_data.specs.PairTable.{named_state}
 use Rattle.seg_pair_data.proofs.Pairs.{entry-read}
 use Rattle.seg_pair_data.proofs.provider.pairs.RuleBreakData.entry.Goals as goal
 

@@ -1,4 +1,4 @@
-use Rattle.seg_text.specs.Utf8.{read_utf8, utf8_items}
+use Rattle.seg_text.specs.Decoding.{read_utf8, utf8_items}
 use Rattle.seg_text.proofs.Cursors.{at-end}
 use Rattle.seg_text.specs.Lemmas.Rising.{read_utf8-reader}
 use Rattle.seg_text.proofs.indices.str.StrCharIndicesCursor.is_at_end.Goals as goal

@@ -1,4 +1,4 @@
-use Rattle.seg_text.specs.Utf8.{read_utf8, utf8_items}
+use Rattle.seg_text.specs.Decoding.{read_utf8, utf8_items}
 use Rattle.seg_text.proofs.Cursors.{seek-within, seek-text}
 use Rattle.seg_text.proofs.Str.{seek-utf8}
 use Rattle.seg_text.specs.Lemmas.Rising.{read_utf8-reader}

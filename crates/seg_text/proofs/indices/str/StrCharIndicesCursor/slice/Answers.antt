@@ -1,5 +1,5 @@
 use Rattle.std.proofs.Common.{◌+◌}
-use Rattle.seg_text.specs.Utf8.{read_utf8, utf8_items}
+use Rattle.seg_text.specs.Decoding.{read_utf8, utf8_items}
 use Rattle.seg_text.proofs.Slice.{slice-order, slice-text}
 use Rattle.seg_text.proofs.Str.{seek-boundary}
 use Rattle.seg_text.specs.Lemmas.Utf8Stable.{read_utf8-stable}

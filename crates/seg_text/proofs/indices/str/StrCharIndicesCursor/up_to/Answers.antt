@@ -1,5 +1,5 @@
 use Rattle.std.proofs.Common.{◌≡◌, ◌-◌, arith}
-use Rattle.seg_text.specs.Utf8.{read_utf8, utf8_items}
+use Rattle.seg_text.specs.Decoding.{read_utf8, utf8_items}
 use Rattle.seg_text.specs.Lemmas.Utf8Stable.{read_utf8-stable}
 use Rattle.seg_text.proofs.Slice.{up_to-found}
 use Rattle.seg_text.proofs.Str.{seek-boundary, up_to-utf8}

@@ -1,6 +1,6 @@
 use Rattle.std.proofs.Common.{arith}
 use Rattle.std.proofs.lemmas.Str.{IsCharBoundary-from_drop}
-use Rattle.seg_text.specs.Utf8.{read_utf8, utf8_items}
+use Rattle.seg_text.specs.Decoding.{read_utf8, utf8_items}
 use Rattle.seg_text.specs.Lemmas.Rising.{read_utf8-reader}
 use Rattle.seg_text.proofs.Cursors.{next-item, goes-on, stays, nothing-left, fewer-left, taken-within}
 use Rattle.seg_text.proofs.Str.{next-utf8, ascii-read}

@@ -1,6 +1,6 @@
 use Rattle.std.proofs.Common.{◌≡◌, ◌-◌}
 use Rattle.seg_data.specs.Building.{AreAdded}
-use Rattle.seg_data.specs.Texts.{held}
+use Rattle.seg_data.specs.WordSets.{held}
 use Rattle.seg_data.proofs.provider.dictionary.building.Draft.add_edges.Given as goal
 
 abbrev pub invariant-loop-first : goal.invariant-loop-first

@@ -1,6 +1,6 @@
 use Rattle.std.proofs.Common.{◌≡◌, [], ◌∷◌, ◌++◌, length, get_or, sym, ap, ◌∙◌, arith}
 use Rattle.std.proofs.lemmas.List.{get_or_read}
-use Rattle.seg_data.specs.Texts.{held}
+use Rattle.seg_data.specs.WordSets.{held}
 use Rattle.seg_data.proofs.Drafts.{IsNext, node-added, node-owes}
 use Rattle.seg_data.proofs.provider.dictionary.building.Draft.add_node.Goals as goal
 

@@ -1,6 +1,6 @@
 use Rattle.std.proofs.Common.{length}
 use Rattle.seg_data.specs.Building.{IsDraft, left}
-use Rattle.seg_data.specs.Texts.{held}
+use Rattle.seg_data.specs.WordSets.{held}
 use Rattle.seg_data.specs.Trie.{trie}
 use Rattle.seg_data.proofs.provider.dictionary.building.Draft.whole.Given as goal
 

@@ -1,6 +1,5 @@
 use Rattle.std.proofs.Common.{◌≡◌, length}
-use Rattle.seg_data.specs.Pages.{AreBlocks, ArePages, IsPlain}
-use Rattle.seg_data.specs.Table.{table}
+use Rattle.seg_data.specs.Table.{AreBlocks, ArePages, IsPlain, table}
 use Rattle.seg_data.proofs.provider.table.pages.Pages.add_pages.Given as goal
 
 -- the pages up to here stand
