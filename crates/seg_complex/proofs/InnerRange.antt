@@ -80,11 +80,11 @@ module _ (m : Machine) (payloads : Payloads) (cover : CoverPieces (piece_cuts_by
       let left = drop n (first ∷ rest) in
       let later : List Boundary = later_boundaries (inner_stretch m payloads) left in
       let bound : n ≤ length (first ∷ rest) = span-inside m payloads.words (first ∷ rest) in
-      let whole : n + length left ≡ length (first ∷ rest) = omega (arith, length-drop n (first ∷ rest), but_the_last) in
+      let whole : n + length left ≡ length (first ∷ rest) = omega (arith, length-drop n (first ∷ rest), bound) in
       let none : n + 0 ≡ n = omega arith in
       let after : AreBetween n (offsets (shift_all n later)) (length (first ∷ rest)) = rw (none, whole) at (between-shift n later 0 (length left) between) in
       rw (later-next (inner_stretch m payloads) (λ first rest. span-some m payloads.words first rest) first rest, offsets-append (inner_stretch m payloads (first ∷ rest)).boundaries (shift_all n later))
-      (between-append _ _ 0 n (length (first ∷ rest)) (omega arith) but_the_last (stretch-between first rest) after)
+      (between-append _ _ 0 n (length (first ∷ rest)) (omega arith) bound (stretch-between first rest) after)
 
   stretches-between : (most : ℕ) (code_points : List ℕ) → length code_points ≤ most → AreBetween 0 (inner_cuts m payloads code_points) (length code_points)
   stretches-between most [] bound = rw (later-nil (inner_stretch m payloads)) tt
