@@ -1,5 +1,5 @@
 -- Turns by the classes and the table alone.
-use Rattle.std.proofs.Common.{◌≡◌, ℕ, suc, ◌&&◌, ◌||◌, not, Bool, true, false, cond, Option, None, List, [], ◌∷◌, ◌++◌, map, refl, sym, ap, ◌∙◌}
+use Rattle.std.proofs.Common.{◌≡◌, ℕ, suc, ◌&&◌, ◌||◌, not, Bool, true, false, Option, None, List, [], ◌∷◌, ◌++◌, map, refl, sym, ap, ◌∙◌}
 use Rattle.std.proofs.lemmas.Bool.{eqb-true}
 use Rattle.seg_text.specs.declared.boundary.Boundary.{Boundary}
 use Rattle.seg_text.specs.Boundaries.{boundary, boundary_in, boundaries_in, Cuts}
@@ -7,10 +7,7 @@ use Rattle.seg_text.specs.Items.{Item, Text, start_of, rest_after, code_points}
 use Rattle.seg_pair_data.specs.declared.provider.pairs.BreakState.{BreakState}
 use Rattle.seg_pair_data.specs.declared.provider.pairs.BreakState.TheVariants as entries
 use Rattle.seg_pair_data.specs.PairTable.{entry_of}
-use Rattle.seg_line_rules.specs.declared.options.LineBreakStrictness.{LineBreakStrictness}
-use Rattle.seg_line_rules.specs.declared.options.LineBreakStrictness.TheVariants as strictness
 use Rattle.seg_line_rules.specs.declared.options.LineStyle.{LineStyle}
-use Rattle.seg_line_rules.specs.LineLists.{LooseRow, listed_by}
 use Rattle.seg_line_rules.specs.LineRules.{TableRules, is_among, is_keep_all}
 use Rattle.seg_line_rules.specs.LineEvents.{asks_more, text_from}
 use Rattle.seg_line_rules.specs.declared.plain_pairs.PlainPair.{PlainPair}

@@ -3,7 +3,7 @@ use Rattle.std.proofs.Common.{◌≡◌, ℕ, ◌<◌, ◌≤◌, ◌&&◌, Bool
 use Rattle.std.proofs.lemmas.List.{length-map}
 use Rattle.seg_text.specs.declared.boundary.Boundary.{Boundary}
 use Rattle.seg_text.specs.Items.{Item, Text, start_of, code_points, IsRising}
-use Rattle.seg_text.specs.Boundaries.{IsCover, boundary, boundaries_in, offsets, Cuts, AreCutsOf, with_status, cut_places}
+use Rattle.seg_text.specs.Boundaries.{IsCover, boundary, boundaries_in, Cuts, AreCutsOf, with_status, cut_places}
 use Rattle.seg_text.proofs.Covers.{covers-in}
 use Rattle.seg_line_rules.specs.LineBoundaries.{CutsCover, inside}
 use Rattle.seg_line_rules.specs.LineRules.{TableRules}
