@@ -1,7 +1,8 @@
 -- The bench pair table of lines has no fault.
 use Rattle.std.proofs.Common.{◌≡◌, ℕ, inl, inr, true, [], ◌∷◌, ◌==◌, ◌||◌, refl, arith}
-use Rattle.icu_segmenter.specs.LineClasses.{BA, BK, CJ, CR, EX, HY, ID, IN, LF, NL, NS, SP, ZW}
-use Rattle.icu_segmenter.specs.LineRules.{HasLineTableFault, is_among}
+use Rattle.icu_segmenter.specs.LineClasses.{classic}
+use Rattle.icu_segmenter.specs.LineClasses.LineClass.{BA, BK, CJ, CR, EX, HY, ID, IN, LF, NL, NS, SP, ZW}
+use Rattle.icu_segmenter.specs.LineRules.{HasLineTableFault, is_one_of}
 use Rattle.seg_data.specs.declared.provider.DataError.{DataError}
 use Rattle.seg_data.specs.declared.provider.DataError.TheVariants.{Memory, RangeOrder, RangePast10FFFF, TableSize, ClassOutOfRange, StateOutOfRange, StartRowKeeps, ComplexItems, ComplexBelow0100, ComplexClassNamed, StateCount, TransitionSize, TransitionOutOfRange, SymbolOutOfRange, TooManyLookaheads, LookaheadOutOfRange, EndCycle, Stalls, MissingTailoring}
 use Rattle.seg_data.specs.Faults.{IsFaultless, IsLowestFault}
@@ -18,11 +19,11 @@ use Rattle.bench.proofs.Scripts.{line_table-not_complex}
 entry-passes : (left right : ℕ) → names_below 57 (line_entry left right) ≡ true
 unfolding names_below
 entry-passes left right =
-    chosen 57 (is_among (BK ∷ LF ∷ NL ∷ []) left) _ _ refl
-    (chosen 57 (left == CR) _ _ (chosen 57 (right == LF) _ _ refl refl)
-    (chosen 57 (is_among (BK ∷ CR ∷ LF ∷ NL ∷ SP ∷ ZW ∷ EX ∷ []) right) _ _ refl
-    (chosen 57 (is_among (SP ∷ ZW ∷ HY ∷ []) left) _ _ refl
-    (chosen 57 (left == ID || right == ID) _ _ (chosen 57 (is_among (NS ∷ IN ∷ BA ∷ CJ ∷ HY ∷ []) right) _ _ refl refl) refl))))
+    chosen 57 (is_one_of classic (BK ∷ LF ∷ NL ∷ []) left) _ _ refl
+    (chosen 57 (left == classic CR) _ _ (chosen 57 (right == classic LF) _ _ refl refl)
+    (chosen 57 (is_one_of classic (BK ∷ CR ∷ LF ∷ NL ∷ SP ∷ ZW ∷ EX ∷ []) right) _ _ refl
+    (chosen 57 (is_one_of classic (SP ∷ ZW ∷ HY ∷ []) left) _ _ refl
+    (chosen 57 (left == classic ID || right == classic ID) _ _ (chosen 57 (is_one_of classic (NS ∷ IN ∷ BA ∷ CJ ∷ HY ∷ []) right) _ _ refl refl) refl))))
 
 lines-pass : Passes line_table
 lines-pass = record { some = refl; square = rows-length line_entry 57 57; classes = refl; sot = refl; eot = refl; states = rows-pass line_entry 57 entry-passes 57 }

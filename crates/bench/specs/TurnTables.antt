@@ -2,18 +2,12 @@
 use Rattle.std.specs.Prelude.{ℕ, ◌==◌, ◌||◌, if◌then◌else◌, [], ◌∷◌}
 use Rattle.seg_pair_data.specs.declared.provider.pairs.BreakState.{BreakState}
 use Rattle.seg_pair_data.specs.declared.provider.pairs.BreakState.TheVariants.{Break, Keep}
-use Rattle.icu_segmenter.specs.LineRules.{is_among}
+use Rattle.icu_segmenter.specs.LineRules.{is_one_of}
 use Rattle.icu_segmenter.specs.PairTable.{PairTable, pair_table}
 use Rattle.icu_segmenter.specs.Table.{Table}
-use Rattle.icu_segmenter.specs.TurnClasses.{BK, CJ, CR, EX, EX_EASTASIAN, HY, ID, ID_EASTASIAN, IN, IN_EASTASIAN, LF, NL, NS, NS_EASTASIAN, SP, ZW}
+use Rattle.icu_segmenter.specs.LineClasses.{seventeen}
+use Rattle.icu_segmenter.specs.LineClasses.LineClass.{BA, BA_EASTASIAN, BK, CJ, CR, EX, EX_EASTASIAN, HY, ID, ID_EASTASIAN, IN, IN_EASTASIAN, LF, NL, NS, NS_EASTASIAN, SP, ZW}
 use Rattle.bench.specs.Rows.{rows}
-
--- no rule of the engine names these two
-abbrev pub BA : ℕ
-BA = 10
-
-abbrev pub BA_EASTASIAN : ℕ
-BA_EASTASIAN = 11
 
 -- 43 LF, 21 CR, 60 SP, 25 EX, 33 HY, 39 IS, 47 NU, 4 AL, 18 CM, 58 SA, of Thai and Myanmar, which are complex, 68 ZWJ, 46 NS_EASTASIAN,
 -- 15 CJ, 36 ID_EASTASIAN, 1 AI; 65, XX, any other character
@@ -31,12 +25,12 @@ turn_classes = record {
 -- what stands between a class and the next: the first line that applies
 abbrev pub turn_entry : ℕ → ℕ → BreakState
 turn_entry left right =
-    if is_among (BK ∷ LF ∷ NL ∷ []) left then Break else
-    if left == CR then (if right == LF then Keep else Break) else
-    if is_among (BK ∷ CR ∷ LF ∷ NL ∷ SP ∷ ZW ∷ EX ∷ EX_EASTASIAN ∷ []) right then Keep else
-    if is_among (SP ∷ ZW ∷ HY ∷ []) left then Break else
-    if is_among (ID ∷ ID_EASTASIAN ∷ []) left || is_among (ID ∷ ID_EASTASIAN ∷ []) right
-    then (if is_among (NS ∷ NS_EASTASIAN ∷ IN ∷ IN_EASTASIAN ∷ BA ∷ BA_EASTASIAN ∷ CJ ∷ HY ∷ []) right then Keep else Break) else
+    if is_one_of seventeen (BK ∷ LF ∷ NL ∷ []) left then Break else
+    if left == seventeen CR then (if right == seventeen LF then Keep else Break) else
+    if is_one_of seventeen (BK ∷ CR ∷ LF ∷ NL ∷ SP ∷ ZW ∷ EX ∷ EX_EASTASIAN ∷ []) right then Keep else
+    if is_one_of seventeen (SP ∷ ZW ∷ HY ∷ []) left then Break else
+    if is_one_of seventeen (ID ∷ ID_EASTASIAN ∷ []) left || is_one_of seventeen (ID ∷ ID_EASTASIAN ∷ []) right
+    then (if is_one_of seventeen (NS ∷ NS_EASTASIAN ∷ IN ∷ IN_EASTASIAN ∷ BA ∷ BA_EASTASIAN ∷ CJ ∷ HY ∷ []) right then Keep else Break) else
     Keep
 
 abbrev pub turn_table : PairTable

@@ -1,16 +1,17 @@
 -- What stands between two units, whatever the table says. Both engines of lines have these rows, each with classes of its own.
-use Rattle.std.specs.Prelude.{ℕ, ◌&&◌, ◌||◌, not, Bool, true, false, if◌then◌else◌, Option, Some, None, List, [], ◌∷◌}
+use Rattle.std.specs.Prelude.{ℕ, ◌&&◌, ◌||◌, not, Bool, true, false, if◌then◌else◌, Option, Some, None, List, [], ◌∷◌, map}
 use Rattle.std.specs.Option.{option_map, option_map_or}
 use Rattle.seg_line_rules.specs.declared.options.LineBreakStrictness.{LineBreakStrictness}
 use Rattle.seg_line_rules.specs.declared.options.LineBreakStrictness.TheVariants as strictness
 use Rattle.seg_line_rules.specs.declared.options.LineStyle.{LineStyle}
-use Rattle.seg_line_rules.specs.LineClasses.{AI, AL, BA, CJ, EX, H2, H3, HY, ID, IN, JL, JT, JV, NS, NU, PO_EAW, PR_EAW}
-use Rattle.seg_line_rules.specs.LineRules.{is_among, is_keep_all}
+use Rattle.seg_line_rules.specs.LineClasses.{classic}
+use Rattle.seg_line_rules.specs.LineClasses.LineClass.{AI, AL, BA, CJ, EX, H2, H3, HY, ID, IN, JL, JT, JV, NS, NU, PO_EASTASIAN, PR_EASTASIAN}
+use Rattle.seg_line_rules.specs.LineRules.{is_among, is_keep_all, is_one_of}
 use Rattle.seg_line_rules.specs.LineUnits.{LineUnit}
 
 -- under KeepAll no boundary stands between two of these
 abbrev pub is_kept : ℕ → Bool
-is_kept class = is_among (AI ∷ AL ∷ ID ∷ NU ∷ HY ∷ H2 ∷ H3 ∷ JL ∷ JV ∷ JT ∷ CJ ∷ []) class
+is_kept class = is_one_of classic (AI ∷ AL ∷ ID ∷ NU ∷ HY ∷ H2 ∷ H3 ∷ JL ∷ JV ∷ JT ∷ CJ ∷ []) class
 
 abbrev pub keeps : LineStyle → LineUnit → LineUnit → Bool
 keeps style left right = is_keep_all style.word_option && is_kept left.class && is_kept right.class
@@ -64,14 +65,14 @@ prefix_row prefix code_points = loose_row None None (Some (prefix ∷ [])) code_
 -- those of pair tables, in their order
 unfoldable pub loose_rows : List LooseRow
 loose_rows =
-    hyphen_row (Some (BA ∷ [])) (ID ∷ [])
-    ∷ wave_row (NS ∷ [])
-    ∷ iteration_row (NS ∷ [])
-    ∷ middle_dot_row (NS ∷ [])
-    ∷ leader_row (IN ∷ [])
-    ∷ exclamation_row (EX ∷ [])
-    ∷ postfix_row PO_EAW None
-    ∷ prefix_row PR_EAW None
+    hyphen_row (Some (map classic (BA ∷ []))) (map classic (ID ∷ []))
+    ∷ wave_row (map classic (NS ∷ []))
+    ∷ iteration_row (map classic (NS ∷ []))
+    ∷ middle_dot_row (map classic (NS ∷ []))
+    ∷ leader_row (map classic (IN ∷ []))
+    ∷ exclamation_row (map classic (EX ∷ []))
+    ∷ postfix_row (classic PO_EASTASIAN) None
+    ∷ prefix_row (classic PR_EASTASIAN) None
     ∷ []
 
 abbrev pub is_any_of : Option (List ℕ) → ℕ → Bool

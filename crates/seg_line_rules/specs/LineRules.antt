@@ -1,5 +1,5 @@
 -- What options say of lines, where those that aren't given have their defaults.
-use Rattle.std.specs.Prelude.{ℕ, Bool, true, false, ◌||◌, List, codes, ◌==◌, ◌&&◌, if◌then◌else◌, None, [], ◌∷◌, ◌≡◌, nat_le, ◌≤◌, ◌⊎◌}
+use Rattle.std.specs.Prelude.{ℕ, Bool, true, false, ◌||◌, List, codes, ◌==◌, ◌&&◌, if◌then◌else◌, None, [], ◌∷◌, ◌≡◌, nat_le, ◌≤◌, ◌⊎◌, map}
 use Rattle.std.specs.Option.{option_map_or, unwrap_or}
 use Rattle.std.specs.Str.{bytes_eq}
 use Rattle.seg_data.specs.declared.provider.DataError.{DataError}
@@ -12,7 +12,8 @@ use Rattle.seg_line_rules.specs.declared.options.LineBreakStrictness.TheVariants
 use Rattle.seg_line_rules.specs.declared.options.LineBreakWordOption.{LineBreakWordOption}
 use Rattle.seg_line_rules.specs.declared.options.LineBreakWordOption.TheVariants as word_option
 use Rattle.seg_line_rules.specs.declared.options.LineStyle.{LineStyle}
-use Rattle.seg_line_rules.specs.LineClasses.{AL, CJ, ID, NU}
+use Rattle.seg_line_rules.specs.LineClasses.{LineClass, classic}
+use Rattle.seg_line_rules.specs.LineClasses.LineClass.{AL, CJ, ID, NU}
 
 -- a language is Japanese or Chinese
 abbrev pub is_ja_or_zh : List ℕ → Bool
@@ -61,14 +62,18 @@ abbrev pub is_among : List ℕ → ℕ → Bool
 is_among [] number = false
 is_among (one ∷ others) number = number == one || is_among others number
 
+-- .. or that of one of these classes
+abbrev pub is_one_of : (LineClass → ℕ) → List LineClass → ℕ → Bool
+is_one_of numbers classes number = is_among (map numbers classes) number
+
 -- a class that the options read as ID: CJ under BreakAll, Loose or Normal; complex, AL and NU under BreakAll
 abbrev pub is_read_as_id : LineStyle → ℕ → ℕ → Bool
 is_read_as_id style complex class =
-    (is_among (CJ ∷ []) class && (is_break_all style.word_option || is_loose_or_normal style.strictness))
-    || (is_among (complex ∷ AL ∷ NU ∷ []) class && is_break_all style.word_option)
+    (is_one_of classic (CJ ∷ []) class && (is_break_all style.word_option || is_loose_or_normal style.strictness))
+    || (is_among (complex ∷ map classic (AL ∷ NU ∷ [])) class && is_break_all style.word_option)
 
 abbrev pub class_read : LineStyle → ℕ → ℕ → ℕ
-class_read style complex class = if is_read_as_id style complex class then ID else class
+class_read style complex class = if is_read_as_id style complex class then classic ID else class
 
 -- the class of a code point, as the options read it
 unfoldable pub line_class : TableRules → ℕ → ℕ
@@ -90,7 +95,7 @@ is_named_class class = (nat_le 1 class && nat_le class 45) || (nat_le 47 class &
 -- the faults of a pair table of lines: it has no class ID, a code point below U+0100 is complex, before the options read its
 -- class, or the complex class is one that has a name
 abbrev pub HasOwnLineFault : PairTable → DataError → Type 0
-HasOwnLineFault t ClassOutOfRange = t.property_count ≤ ID
+HasOwnLineFault t ClassOutOfRange = t.property_count ≤ classic ID
 HasOwnLineFault t ComplexBelow0100 = HasComplexClassBelow0100 t None
 HasOwnLineFault t ComplexClassNamed = is_named_class t.complex_property ≡ true
 HasOwnLineFault t _ = ⊥

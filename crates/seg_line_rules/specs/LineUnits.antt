@@ -2,8 +2,9 @@
 use Rattle.std.specs.Prelude.{ℕ, zero, suc, ◌+◌, ◌==◌, ◌&&◌, not, Bool, true, false, if◌then◌else◌, List, [], ◌∷◌, map, ◌≡◌, ◌<◌, Option, Some, None, IfSome}
 use Rattle.seg_text.specs.Items.{Item}
 use Rattle.seg_pairs.specs.declared.elements.Element.{Element}
-use Rattle.seg_line_rules.specs.LineClasses.{BK, CM, CR, LF, NL, SP, ZW, ZWJ}
-use Rattle.seg_line_rules.specs.LineRules.{TableRules, is_among, line_class}
+use Rattle.seg_line_rules.specs.LineClasses.{classic}
+use Rattle.seg_line_rules.specs.LineClasses.LineClass.{BK, CM, CR, LF, NL, SP, ZW, ZWJ}
+use Rattle.seg_line_rules.specs.LineRules.{TableRules, line_class, is_one_of}
 
 -- a code point that isn't glued, which is its base, and the marks after it: the class of the base and its code point,
 -- whether the last of them is ZWJ, and whether there are no marks
@@ -14,17 +15,17 @@ pub record LineUnit : Type 0 where
   pub is_single : Bool
 
 abbrev pub is_mark : ℕ → Bool
-is_mark class = is_among (CM ∷ ZWJ ∷ []) class
+is_mark class = is_one_of classic (CM ∷ ZWJ ∷ []) class
 
 -- a mark after a base of this class stands alone
 abbrev pub bears_none : ℕ → Bool
-bears_none class = is_among (BK ∷ CR ∷ LF ∷ NL ∷ SP ∷ ZW ∷ []) class
+bears_none class = is_one_of classic (BK ∷ CR ∷ LF ∷ NL ∷ SP ∷ ZW ∷ []) class
 
 abbrev pub is_glued : ℕ → ℕ → Bool
 is_glued base class = is_mark class && not (bears_none base)
 
 abbrev pub is_joiner : ℕ → Bool
-is_joiner class = class == ZWJ
+is_joiner class = class == classic ZWJ
 
 -- a code point alone, and a unit with one mark more
 abbrev pub base_unit : TableRules → ℕ → LineUnit

@@ -1,7 +1,8 @@
 //! What stands between two units of lines, whatever the table says.
-ghost use Rattle.std.specs.Prelude.{◌≡◌, [], ◌∷◌, Bool, ◌&&◌, not, true, Some, None, if◌then◌else◌};
+ghost use Rattle.std.specs.Prelude.{◌≡◌, [], ◌∷◌, Bool, ◌&&◌, not, true, Some, None, if◌then◌else◌, map};
 ghost use Rattle.std.specs.Option.{option_map};
-ghost use Rattle.seg_line_rules.specs.LineClasses.{BA, EX, ID, IN, NS, PO_EAW, PR_EAW};
+ghost use Rattle.seg_line_rules.specs.LineClasses.{classic};
+ghost use Rattle.seg_line_rules.specs.LineClasses.LineClass.{BA, EX, ID, IN, NS, PO_EASTASIAN, PR_EASTASIAN};
 ghost use Rattle.seg_line_rules.specs.LineLists.{fits, is_kept, is_normal_listed, keeps, listed, loose_list, loose_rows, hyphen_row, wave_row, iteration_row, middle_dot_row, leader_row, exclamation_row, postfix_row, prefix_row};
 ghost use Rattle.seg_line_rules.specs.LineRules.{is_among};
 ghost use Rattle.seg_line_rules.specs.LineUnits.{unit_seen};
@@ -109,7 +110,7 @@ pub fn by_row(fits: bool, breaks: bool, otherwise: Option<bool>) -> Option<bool>
 
 /// Whether the row of hyphens fits.
 fn fits_hyphen(pair: Neighbours) -> bool
-    ensures { result ≡ fits pair.left pair.left_code_point pair.right pair.right_code_point (hyphen_row (Some (BA ∷ [])) (ID ∷ [])) }
+    ensures { result ≡ fits pair.left pair.left_code_point pair.right pair.right_code_point (hyphen_row (Some (map classic (BA ∷ []))) (map classic (ID ∷ []))) }
 {
     pair.right == RuleBreakData::LINE_PROPERTY_BA
         && is_hyphen(pair.right_code_point)
@@ -118,49 +119,49 @@ fn fits_hyphen(pair: Neighbours) -> bool
 
 /// Whether the row of wave dashes fits.
 fn fits_wave(pair: Neighbours) -> bool
-    ensures { result ≡ fits pair.left pair.left_code_point pair.right pair.right_code_point (wave_row (NS ∷ [])) }
+    ensures { result ≡ fits pair.left pair.left_code_point pair.right pair.right_code_point (wave_row (map classic (NS ∷ []))) }
 {
     pair.right == RuleBreakData::LINE_PROPERTY_NS && is_wave(pair.right_code_point)
 }
 
 /// Whether the row of iteration marks fits.
 fn fits_iteration(pair: Neighbours) -> bool
-    ensures { result ≡ fits pair.left pair.left_code_point pair.right pair.right_code_point (iteration_row (NS ∷ [])) }
+    ensures { result ≡ fits pair.left pair.left_code_point pair.right pair.right_code_point (iteration_row (map classic (NS ∷ []))) }
 {
     pair.right == RuleBreakData::LINE_PROPERTY_NS && is_iteration(pair.right_code_point)
 }
 
 /// Whether the row of middle dots, colons and doubled signs fits.
 fn fits_middle_dot(pair: Neighbours) -> bool
-    ensures { result ≡ fits pair.left pair.left_code_point pair.right pair.right_code_point (middle_dot_row (NS ∷ [])) }
+    ensures { result ≡ fits pair.left pair.left_code_point pair.right pair.right_code_point (middle_dot_row (map classic (NS ∷ []))) }
 {
     pair.right == RuleBreakData::LINE_PROPERTY_NS && is_middle_dot(pair.right_code_point)
 }
 
 /// Whether the row of leaders fits.
 fn fits_leader(pair: Neighbours) -> bool
-    ensures { result ≡ fits pair.left pair.left_code_point pair.right pair.right_code_point (leader_row (IN ∷ [])) }
+    ensures { result ≡ fits pair.left pair.left_code_point pair.right pair.right_code_point (leader_row (map classic (IN ∷ []))) }
 {
     pair.right == RuleBreakData::LINE_PROPERTY_IN && pair.left == RuleBreakData::LINE_PROPERTY_IN
 }
 
 /// Whether the row of exclamation and question marks fits.
 fn fits_exclamation(pair: Neighbours) -> bool
-    ensures { result ≡ fits pair.left pair.left_code_point pair.right pair.right_code_point (exclamation_row (EX ∷ [])) }
+    ensures { result ≡ fits pair.left pair.left_code_point pair.right pair.right_code_point (exclamation_row (map classic (EX ∷ []))) }
 {
     pair.right == RuleBreakData::LINE_PROPERTY_EX && is_exclamation(pair.right_code_point)
 }
 
 /// Whether the row of wide signs after numbers fits.
 fn fits_postfix(pair: Neighbours) -> bool
-    ensures { result ≡ fits pair.left pair.left_code_point pair.right pair.right_code_point (postfix_row PO_EAW None) }
+    ensures { result ≡ fits pair.left pair.left_code_point pair.right pair.right_code_point (postfix_row (classic PO_EASTASIAN) None) }
 {
     pair.right == RuleBreakData::LINE_PROPERTY_PO_EAW
 }
 
 /// Whether the row of wide signs before numbers fits.
 fn fits_prefix(pair: Neighbours) -> bool
-    ensures { result ≡ fits pair.left pair.left_code_point pair.right pair.right_code_point (prefix_row PR_EAW None) }
+    ensures { result ≡ fits pair.left pair.left_code_point pair.right pair.right_code_point (prefix_row (classic PR_EASTASIAN) None) }
 {
     pair.left == RuleBreakData::LINE_PROPERTY_PR_EAW
 }

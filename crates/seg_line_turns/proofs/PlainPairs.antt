@@ -8,14 +8,16 @@ use Rattle.seg_pair_data.specs.declared.provider.pairs.BreakState.{BreakState}
 use Rattle.seg_pair_data.specs.declared.provider.pairs.BreakState.TheVariants as entries
 use Rattle.seg_pair_data.specs.PairTable.{entry_of}
 use Rattle.seg_line_rules.specs.declared.options.LineStyle.{LineStyle}
-use Rattle.seg_line_rules.specs.LineRules.{TableRules, is_among, is_keep_all}
+use Rattle.seg_line_rules.specs.LineRules.{TableRules, is_keep_all, is_one_of}
 use Rattle.seg_line_rules.specs.LineEvents.{asks_more, text_from}
 use Rattle.seg_line_rules.specs.declared.plain_pairs.PlainPair.{PlainPair}
 use Rattle.seg_line_rules.specs.declared.plain_pairs.PlainPair.TheVariants as plain
 use Rattle.seg_line_rules.specs.declared.plain_pairs.ClassedItem.{ClassedItem}
 use Rattle.seg_line_turns.specs.TurnEvents.{IsPassedByTurns, entry_turn, going_text, is_asked, is_plain, is_unanswered, passed_turns, plain_turn, HasTurnClass, unread_turns}
 use Rattle.seg_line_turns.specs.TurnBoundaries.{later_turns, turn_stretch_of}
-use Rattle.seg_line_turns.specs.TurnClasses.{CM, CM_EASTASIAN, HH, HY, IS, QU_PF, SA, SA_MC_MN, SP, ZWJ, is_before_hyphen, is_before_quote, is_complex, is_glue, is_hyphen, is_infix, is_opening, is_quote, is_space}
+use Rattle.seg_line_rules.specs.LineClasses.{seventeen}
+use Rattle.seg_line_rules.specs.LineClasses.LineClass.{CM, CM_EASTASIAN, HH, HY, IS, QU_PF, SA, SA_MC_MN, SP, ZWJ}
+use Rattle.seg_line_turns.specs.TurnClasses.{is_before_hyphen, is_before_quote, is_complex, is_glue, is_hyphen, is_infix, is_opening, is_quote, is_space}
 use Rattle.seg_line_turns.specs.TurnRules.{keeps, listed, turn_rows, turn_class, LeftUnit, is_joined, left_unit}
 use Rattle.seg_line_turns.specs.Turns.{Turn, class_turn, list_turn, right_turn, table_turn, turn}
 use Rattle.seg_line_turns.specs.Turns.Turn.{BreakAt, GoTo}
@@ -42,7 +44,7 @@ or-off false b off = off
 -- classes of which no rule asks on the right
 
 unasked : ℕ → Bool
-unasked class = not (is_among (CM ∷ CM_EASTASIAN ∷ HH ∷ HY ∷ IS ∷ QU_PF ∷ SA ∷ SA_MC_MN ∷ SP ∷ ZWJ ∷ []) class)
+unasked class = not (is_one_of seventeen (CM ∷ CM_EASTASIAN ∷ HH ∷ HY ∷ IS ∷ QU_PF ∷ SA ∷ SA_MC_MN ∷ SP ∷ ZWJ ∷ []) class)
 
 -- where no rule asks of a class, it is none of those that such a test finds
 not-among : (test : ℕ → Bool) (class : ℕ) → (test class ≡ true → unasked class ≡ false) → is_asked class ≡ false → test class ≡ false
@@ -58,27 +60,27 @@ not-among test class asked none = on (test class) refl
 
 glue-asked : (class : ℕ) → is_glue class ≡ true → unasked class ≡ false
 unfolding is_glue unasked
-glue-asked class among = none-among unasked (CM ∷ CM_EASTASIAN ∷ SA_MC_MN ∷ ZWJ ∷ []) class (refl, (refl, (refl, (refl, tt)))) among
+glue-asked class among = none-among unasked (map seventeen (CM ∷ CM_EASTASIAN ∷ SA_MC_MN ∷ ZWJ ∷ [])) class (refl, (refl, (refl, (refl, tt)))) among
 
 complex-asked : (class : ℕ) → is_complex class ≡ true → unasked class ≡ false
 unfolding is_complex unasked
-complex-asked class among = none-among unasked (SA ∷ SA_MC_MN ∷ []) class (refl, (refl, tt)) among
+complex-asked class among = none-among unasked (map seventeen (SA ∷ SA_MC_MN ∷ [])) class (refl, (refl, tt)) among
 
 hyphen-asked : (class : ℕ) → is_hyphen class ≡ true → unasked class ≡ false
 unfolding is_hyphen unasked
-hyphen-asked class among = none-among unasked (HH ∷ HY ∷ []) class (refl, (refl, tt)) among
+hyphen-asked class among = none-among unasked (map seventeen (HH ∷ HY ∷ [])) class (refl, (refl, tt)) among
 
 space-asked : (class : ℕ) → is_space class ≡ true → unasked class ≡ false
 unfolding unasked
-space-asked class is = let same : class ≡ SP = eqb-true class SP is in rw same refl
+space-asked class is = let same : class ≡ seventeen SP = eqb-true class (seventeen SP) is in rw same refl
 
 infix-asked : (class : ℕ) → is_infix class ≡ true → unasked class ≡ false
 unfolding unasked
-infix-asked class is = let same : class ≡ IS = eqb-true class IS is in rw same refl
+infix-asked class is = let same : class ≡ seventeen IS = eqb-true class (seventeen IS) is in rw same refl
 
 quote-asked : (class : ℕ) → is_quote class ≡ true → unasked class ≡ false
 unfolding unasked
-quote-asked class is = let same : class ≡ QU_PF = eqb-true class QU_PF is in rw same refl
+quote-asked class is = let same : class ≡ seventeen QU_PF = eqb-true class (seventeen QU_PF) is in rw same refl
 
 -- no rule that asks of the right class finds on the left what it asks of
 record Unanswered (left right : ℕ) : Type 0 where

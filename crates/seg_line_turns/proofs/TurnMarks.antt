@@ -18,7 +18,9 @@ use Rattle.seg_line_rules.proofs.Inside.{rises-le}
 use Rattle.seg_line_rules.proofs.LineStretches.{StandInside}
 use Rattle.seg_line_rules.proofs.MarkLaw.{get-drop}
 use Rattle.seg_line_turns.specs.TurnBoundaries.{is_complex_point, turn_run_length, run_of, turn_stretch_of, turn_stretch, later_turns, turn_boundaries, KeepsTurnMarks, StartsBear}
-use Rattle.seg_line_turns.specs.TurnClasses.{ID, is_mark, is_glue, is_glued, bears_none, is_complex, is_complex_mark, is_letter, is_hyphen, is_start, is_before_quote, is_after_quote, is_before_hyphen, is_joiner, is_space, is_zero_space, is_infix, is_digit, is_quote, is_contingent}
+use Rattle.seg_line_rules.specs.LineClasses.{seventeen}
+use Rattle.seg_line_rules.specs.LineClasses.LineClass.{ID}
+use Rattle.seg_line_turns.specs.TurnClasses.{is_mark, is_glue, is_glued, bears_none, is_complex, is_complex_mark, is_letter, is_hyphen, is_start, is_before_quote, is_after_quote, is_before_hyphen, is_joiner, is_space, is_zero_space, is_infix, is_digit, is_quote, is_contingent}
 use Rattle.seg_line_turns.specs.TurnRules.{keeps, listed, is_read_as_id, turn_class, LeftUnit, with_item, is_joined, left_unit}
 use Rattle.seg_line_turns.specs.Turns.{comes, to_base, sticks, Turn, Walking, turn_unless, walk_end_turn, walk_back_turn, walk_stop_turn, walk_begin, WalkStep, walk_step, walk_by, walk_turn, table_turn, quote_turn, begins_marked, list_turn, right_turn, is_taken, opens, turn, start_unit, first_unit}
 use Rattle.seg_line_turns.specs.Turns.Turn.{BreakAt, GoTo, RunAt}
@@ -34,7 +36,7 @@ false-not : false ≡ true → ⊥
 false-not is = cc
 
 -- each code point's class is one of the table's, read as ID or not
-pub class-below-count : (rules : TableRules) → IsPairTable rules.table → ID < rules.table.property_count → (code_point : ℕ)
+pub class-below-count : (rules : TableRules) → IsPairTable rules.table → seventeen ID < rules.table.property_count → (code_point : ℕ)
     → turn_class rules code_point < rules.table.property_count
 unfolding turn_class
 class-below-count rules checked has_id code_point = on (is_read_as_id rules.style class)
@@ -42,7 +44,7 @@ class-below-count rules checked has_id code_point = on (is_read_as_id rules.styl
     class : ℕ
     class = class_of rules.table None code_point
 
-    on : (is_id : Bool) → (if is_id then ID else class) < rules.table.property_count
+    on : (is_id : Bool) → (if is_id then seventeen ID else class) < rules.table.property_count
     on true = has_id
     on false = class-below rules.table code_point class checked (class-table rules.table None code_point refl)
 

@@ -6,11 +6,13 @@ use Rattle.seg_pairs.specs.Verdict.{Verdict, unasked}
 use Rattle.seg_pairs.specs.Verdict.Verdict.{BreakAfter, GoAfter, RunBegins}
 use Rattle.seg_line_rules.specs.declared.verdicts.Case.{Case}
 use Rattle.seg_line_rules.specs.declared.verdicts.Case.TheVariants.{Run, Together}
-use Rattle.seg_line_rules.specs.LineRules.{TableRules, is_among}
+use Rattle.seg_line_rules.specs.LineRules.{TableRules, is_one_of}
 use Rattle.seg_line_rules.specs.LineUnits.{LineUnit}
 use Rattle.seg_line_rules.specs.LineVerdict.{case_verdict, list_case}
 use Rattle.seg_line_turns.specs.TurnBoundaries.{turn_run_length, run_of}
-use Rattle.seg_line_turns.specs.TurnClasses.{HH, HY, IS, QU, QU_PF, QU_PI, SA, SA_MC_MN, is_complex, is_glued, is_opening, is_space}
+use Rattle.seg_line_rules.specs.LineClasses.{seventeen}
+use Rattle.seg_line_rules.specs.LineClasses.LineClass.{HH, HY, IS, QU, QU_PF, QU_PI, SA, SA_MC_MN}
+use Rattle.seg_line_turns.specs.TurnClasses.{is_complex, is_glued, is_opening, is_space}
 use Rattle.seg_line_turns.specs.TurnRules.{keeps, listed, turn_class, LeftUnit, left_unit, with_item, is_joined}
 
 -- a unit, and the code point of its base
@@ -90,7 +92,7 @@ plain_boundaries cuts rules code_points = list_boundaries (plain_stretch cuts ru
 
 -- no quotes, hyphens, infix separators and complex characters
 unfoldable pub is_quoting : ℕ → Bool
-is_quoting class = is_among (IS ∷ HY ∷ HH ∷ QU ∷ QU_PI ∷ QU_PF ∷ SA ∷ SA_MC_MN ∷ []) class
+is_quoting class = is_one_of seventeen (IS ∷ HY ∷ HH ∷ QU ∷ QU_PI ∷ QU_PF ∷ SA ∷ SA_MC_MN ∷ []) class
 
 abbrev pub ArePlain : TableRules → List ℕ → Type 0
 ArePlain rules [] = Unit {0}

@@ -8,14 +8,16 @@ use Rattle.seg_pair_data.specs.declared.provider.pairs.BreakState.TheVariants as
 use Rattle.seg_pair_data.specs.PairTable.{PairTable, entry_of}
 use Rattle.seg_line_rules.specs.declared.plain_pairs.ClassedItem.{ClassedItem}
 use Rattle.seg_line_rules.specs.LineEvents.{HasClassBy, IsAheadBy, text_from}
-use Rattle.seg_line_rules.specs.LineRules.{TableRules, is_among}
+use Rattle.seg_line_rules.specs.LineRules.{TableRules, is_one_of}
 use Rattle.seg_line_rules.specs.declared.plain_pairs.PlainPair.{PlainPair}
 use Rattle.seg_line_rules.specs.declared.plain_pairs.PlainPair.TheVariants as plain
 use Rattle.seg_line_turns.specs.TurnRules.{turn_class}
 use Rattle.seg_line_turns.specs.declared.turn_events.TurnEvent.{TurnEvent}
 use Rattle.seg_line_turns.specs.declared.turn_events.TurnEvent.TheVariants.{End, Go, Break, Run}
 use Rattle.seg_line_turns.specs.TurnBoundaries.{later_turns, has_none}
-use Rattle.seg_line_turns.specs.TurnClasses.{CM, CM_EASTASIAN, HH, HY, IS, QU_PF, SA, SA_MC_MN, SP, ZWJ, is_before_hyphen, is_before_quote, is_complex, is_glue, is_hyphen, is_infix, is_joiner, is_opening, is_quote, is_space}
+use Rattle.seg_line_rules.specs.LineClasses.{seventeen}
+use Rattle.seg_line_rules.specs.LineClasses.LineClass.{CM, CM_EASTASIAN, HH, HY, IS, QU_PF, SA, SA_MC_MN, SP, ZWJ}
+use Rattle.seg_line_turns.specs.TurnClasses.{is_before_hyphen, is_before_quote, is_complex, is_glue, is_hyphen, is_infix, is_joiner, is_opening, is_quote, is_space}
 
 abbrev pub HasTurnClass : TableRules → ClassedItem → Type 0
 HasTurnClass rules item = HasClassBy rules.table (turn_class rules) item
@@ -81,7 +83,7 @@ turn_remainder cuts started run unread = record {
 
 -- a rule asks of such a class on the right
 unfoldable pub is_asked : ℕ → Bool
-is_asked class = is_among (CM ∷ CM_EASTASIAN ∷ HH ∷ HY ∷ IS ∷ QU_PF ∷ SA ∷ SA_MC_MN ∷ SP ∷ ZWJ ∷ []) class
+is_asked class = is_one_of seventeen (CM ∷ CM_EASTASIAN ∷ HH ∷ HY ∷ IS ∷ QU_PF ∷ SA ∷ SA_MC_MN ∷ SP ∷ ZWJ ∷ []) class
 
 -- signs, and the classes before them that a rule of signs asks of
 abbrev pub is_sign : ℕ → Bool

@@ -1,22 +1,24 @@
 -- The classes that code points have for the engine 17.
-use Rattle.std.specs.Prelude.{ℕ, ◌&&◌, ◌||◌, Bool, if◌then◌else◌, None, [], ◌∷◌, suc, Option, Some, List, ◌≡◌, ◌≢◌, ◌<◌, ◌≤◌, ◌⊎◌, true}
+use Rattle.std.specs.Prelude.{ℕ, ◌&&◌, ◌||◌, Bool, if◌then◌else◌, None, [], ◌∷◌, suc, Option, Some, List, ◌≡◌, ◌≢◌, ◌<◌, ◌≤◌, ◌⊎◌, true, map}
 use Rattle.seg_data.specs.declared.provider.DataError.{DataError}
 use Rattle.seg_data.specs.declared.provider.DataError.TheVariants.{ClassOutOfRange, ComplexBelow0100, ComplexClassNamed}
 use Rattle.seg_pair_data.specs.PairTable.{class_of, PairTable}
 use Rattle.seg_pair_data.specs.PairData.{HasPairDataFault}
 use Rattle.seg_line_rules.specs.declared.options.LineStyle.{LineStyle}
-use Rattle.seg_line_rules.specs.LineRules.{TableRules, is_among, is_break_all, is_loose_or_normal, is_keep_all}
+use Rattle.seg_line_rules.specs.LineRules.{TableRules, is_break_all, is_loose_or_normal, is_keep_all, is_one_of}
 use Rattle.seg_line_rules.specs.LineLists.{LooseRow, hyphen_row, wave_row, iteration_row, middle_dot_row, leader_row, exclamation_row, postfix_row, prefix_row, listed_by}
-use Rattle.seg_line_turns.specs.TurnClasses.{AL, AL_DOTTED_CIRCLE, AL_EASTASIAN, CJ, ID, NU, SA, is_joiner, AI, AI_EASTASIAN, EX, EX_EASTASIAN, H2, H3, HY, ID_EASTASIAN, IN, IN_EASTASIAN, JL, JT, JV, NS, NS_EASTASIAN, PO, PO_EASTASIAN, PR, PR_EASTASIAN, is_complex}
+use Rattle.seg_line_rules.specs.LineClasses.{seventeen}
+use Rattle.seg_line_rules.specs.LineClasses.LineClass.{AI, AI_EASTASIAN, AL, AL_DOTTED_CIRCLE, AL_EASTASIAN, CJ, EX, EX_EASTASIAN, H2, H3, HY, ID, ID_EASTASIAN, IN, IN_EASTASIAN, JL, JT, JV, NS, NS_EASTASIAN, NU, PO, PO_EASTASIAN, PR, PR_EASTASIAN, SA}
+use Rattle.seg_line_turns.specs.TurnClasses.{is_joiner, is_complex}
 
 -- a class that the options read as ID: CJ under BreakAll, Loose or Normal; SA, numbers and the letters of class AL under BreakAll
 abbrev pub is_read_as_id : LineStyle → ℕ → Bool
 is_read_as_id style class =
-    (is_among (CJ ∷ []) class && (is_break_all style.word_option || is_loose_or_normal style.strictness))
-    || (is_among (SA ∷ AL ∷ AL_DOTTED_CIRCLE ∷ AL_EASTASIAN ∷ NU ∷ []) class && is_break_all style.word_option)
+    (is_one_of seventeen (CJ ∷ []) class && (is_break_all style.word_option || is_loose_or_normal style.strictness))
+    || (is_one_of seventeen (SA ∷ AL ∷ AL_DOTTED_CIRCLE ∷ AL_EASTASIAN ∷ NU ∷ []) class && is_break_all style.word_option)
 
 abbrev pub class_read : LineStyle → ℕ → ℕ
-class_read style class = if is_read_as_id style class then ID else class
+class_read style class = if is_read_as_id style class then seventeen ID else class
 
 -- the class of a code point, as the options read it
 unfoldable pub turn_class : TableRules → ℕ → ℕ
@@ -53,7 +55,7 @@ is_joined unit = is_joiner unit.last_class
 -- under KeepAll no boundary stands between two of these
 unfoldable pub is_kept : ℕ → Bool
 is_kept class =
-    is_among (AI ∷ AI_EASTASIAN ∷ AL ∷ AL_DOTTED_CIRCLE ∷ AL_EASTASIAN ∷ ID ∷ ID_EASTASIAN ∷ NU ∷ HY ∷ H2 ∷ H3 ∷ JL ∷ JV ∷ JT ∷ CJ ∷ []) class
+    is_one_of seventeen (AI ∷ AI_EASTASIAN ∷ AL ∷ AL_DOTTED_CIRCLE ∷ AL_EASTASIAN ∷ ID ∷ ID_EASTASIAN ∷ NU ∷ HY ∷ H2 ∷ H3 ∷ JL ∷ JV ∷ JT ∷ CJ ∷ []) class
 
 unfoldable pub keeps : LineStyle → ℕ → ℕ → Bool
 keeps style left right = is_keep_all style.word_option && is_kept left && is_kept right
@@ -61,16 +63,16 @@ keeps style left right = is_keep_all style.word_option && is_kept left && is_kep
 -- the rows of the Loose list, in their order. Those of hyphens before any class, and of signs that aren't wide, are its own
 unfoldable pub turn_rows : List LooseRow
 turn_rows =
-    hyphen_row None (ID ∷ ID_EASTASIAN ∷ [])
-    ∷ wave_row (NS ∷ NS_EASTASIAN ∷ [])
-    ∷ iteration_row (NS ∷ NS_EASTASIAN ∷ [])
-    ∷ middle_dot_row (NS ∷ NS_EASTASIAN ∷ [])
-    ∷ leader_row (IN ∷ IN_EASTASIAN ∷ [])
-    ∷ exclamation_row (EX ∷ EX_EASTASIAN ∷ [])
-    ∷ postfix_row PO_EASTASIAN None
-    ∷ postfix_row PO (Some (0x00B0 ∷ 0x2030 ∷ 0x2032 ∷ 0x2033 ∷ 0x2035 ∷ 0x2103 ∷ 0x2109 ∷ []))
-    ∷ prefix_row PR_EASTASIAN None
-    ∷ prefix_row PR (Some (0x00A4 ∷ 0x00B1 ∷ 0x20AC ∷ 0x2116 ∷ []))
+    hyphen_row None (map seventeen (ID ∷ ID_EASTASIAN ∷ []))
+    ∷ wave_row (map seventeen (NS ∷ NS_EASTASIAN ∷ []))
+    ∷ iteration_row (map seventeen (NS ∷ NS_EASTASIAN ∷ []))
+    ∷ middle_dot_row (map seventeen (NS ∷ NS_EASTASIAN ∷ []))
+    ∷ leader_row (map seventeen (IN ∷ IN_EASTASIAN ∷ []))
+    ∷ exclamation_row (map seventeen (EX ∷ EX_EASTASIAN ∷ []))
+    ∷ postfix_row (seventeen PO_EASTASIAN) None
+    ∷ postfix_row (seventeen PO) (Some (0x00B0 ∷ 0x2030 ∷ 0x2032 ∷ 0x2033 ∷ 0x2035 ∷ 0x2103 ∷ 0x2109 ∷ []))
+    ∷ prefix_row (seventeen PR_EASTASIAN) None
+    ∷ prefix_row (seventeen PR) (Some (0x00A4 ∷ 0x00B1 ∷ 0x20AC ∷ 0x2116 ∷ []))
     ∷ []
 
 -- whether a boundary stands between a left unit, which may end with ZWJ, and the right item by the list of the strictness, where it
@@ -84,9 +86,9 @@ listed style is_joined left left_code_point right right_code_point =
 -- the faults of a pair table of lines of the engine 17: it has no class ID, a code point below U+0100 has class SA or SA_MC_MN, before the
 -- options read its class, or its complex class isn't SA
 abbrev pub HasOwnTurnFault : PairTable → DataError → Type 0
-HasOwnTurnFault t ClassOutOfRange = t.property_count ≤ ID
+HasOwnTurnFault t ClassOutOfRange = t.property_count ≤ seventeen ID
 HasOwnTurnFault t ComplexBelow0100 = (code_point : ℕ) × (code_point < 0x100) × (is_complex (class_of t None code_point) ≡ true)
-HasOwnTurnFault t ComplexClassNamed = t.complex_property ≢ SA
+HasOwnTurnFault t ComplexClassNamed = t.complex_property ≢ seventeen SA
 HasOwnTurnFault t _ = ⊥
 
 -- .. and those of the pair table of clusters

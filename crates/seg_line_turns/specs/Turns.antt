@@ -6,7 +6,9 @@ use Rattle.seg_pair_data.specs.declared.provider.pairs.BreakState.TheVariants.{B
 use Rattle.seg_pair_data.specs.PairTable.{named_state, is_intermediate, PairTable, entry_of}
 use Rattle.seg_pairs.specs.Walk.{is_class}
 use Rattle.seg_line_rules.specs.LineRules.{TableRules}
-use Rattle.seg_line_turns.specs.TurnClasses.{AL, is_mark, is_glue, bears_none, is_complex, is_complex_mark, is_letter, is_hyphen, is_opening, is_start, is_before_quote, is_after_quote, is_before_hyphen, is_joiner, is_space, is_zero_space, is_infix, is_digit, is_quote, is_contingent}
+use Rattle.seg_line_rules.specs.LineClasses.{seventeen}
+use Rattle.seg_line_rules.specs.LineClasses.LineClass.{AL}
+use Rattle.seg_line_turns.specs.TurnClasses.{is_mark, is_glue, bears_none, is_complex, is_complex_mark, is_letter, is_hyphen, is_opening, is_start, is_before_quote, is_after_quote, is_before_hyphen, is_joiner, is_space, is_zero_space, is_infix, is_digit, is_quote, is_contingent}
 use Rattle.seg_line_turns.specs.TurnRules.{keeps, listed, turn_class, LeftUnit, left_unit, with_item, is_joined}
 
 -- the code points after an item: how many marks stand first, and the class of the base after them, where there is one
@@ -57,7 +59,7 @@ is_keep (Intermediate state) = false
 
 -- the state stays with a letter
 abbrev pub sticks : PairTable → ℕ → Bool
-sticks t state = is_keep (entry_of t state AL)
+sticks t state = is_keep (entry_of t state (seventeen AL))
 
 -- the end of the text
 abbrev pub walk_end_turn : Walking → ℕ → BreakState → Turn

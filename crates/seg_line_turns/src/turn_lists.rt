@@ -1,8 +1,9 @@
 //! What stands between a left unit and a right item, whatever the table says. The left code point is that of the unit's last item.
-ghost use Rattle.std.specs.Prelude.{◌≡◌, [], ◌∷◌, Some, None};
+ghost use Rattle.std.specs.Prelude.{◌≡◌, [], ◌∷◌, Some, None, map};
 ghost use Rattle.seg_line_rules.specs.LineLists.{fits, loose_list, hyphen_row, wave_row, iteration_row, middle_dot_row, leader_row, exclamation_row, postfix_row, prefix_row};
-ghost use Rattle.seg_line_rules.specs.LineRules.{is_among};
-ghost use Rattle.seg_line_turns.specs.TurnClasses.{EX, EX_EASTASIAN, ID, ID_EASTASIAN, IN, IN_EASTASIAN, NS, NS_EASTASIAN, PO, PO_EASTASIAN, PR, PR_EASTASIAN};
+ghost use Rattle.seg_line_rules.specs.LineRules.{is_one_of};
+ghost use Rattle.seg_line_rules.specs.LineClasses.{seventeen};
+ghost use Rattle.seg_line_rules.specs.LineClasses.LineClass.{EX, EX_EASTASIAN, ID, ID_EASTASIAN, IN, IN_EASTASIAN, NS, NS_EASTASIAN, PO, PO_EASTASIAN, PR, PR_EASTASIAN};
 ghost use Rattle.seg_line_turns.specs.TurnRules.{is_kept, keeps, listed, turn_rows};
 
 use seg_line_rules::lists::{
@@ -73,7 +74,7 @@ fn loose(is_ja_or_zh: bool, pair: Neighbours) -> Option<bool>
 
 /// Whether the row of hyphens fits.
 fn fits_hyphens(pair: Neighbours) -> bool
-    ensures { result ≡ fits pair.left pair.left_code_point pair.right pair.right_code_point (hyphen_row None (ID ∷ ID_EASTASIAN ∷ [])) }
+    ensures { result ≡ fits pair.left pair.left_code_point pair.right pair.right_code_point (hyphen_row None (map seventeen (ID ∷ ID_EASTASIAN ∷ []))) }
 {
     is_hyphen(pair.right_code_point)
         && (pair.left == RuleBreakData::LINE_V3_PROPERTY_ID
@@ -82,28 +83,28 @@ fn fits_hyphens(pair: Neighbours) -> bool
 
 /// Whether the row of wave dashes fits.
 fn fits_waves(pair: Neighbours) -> bool
-    ensures { result ≡ fits pair.left pair.left_code_point pair.right pair.right_code_point (wave_row (NS ∷ NS_EASTASIAN ∷ [])) }
+    ensures { result ≡ fits pair.left pair.left_code_point pair.right pair.right_code_point (wave_row (map seventeen (NS ∷ NS_EASTASIAN ∷ []))) }
 {
     is_nonstarter(pair.right) && is_wave(pair.right_code_point)
 }
 
 /// Whether the row of iteration marks fits.
 fn fits_iterations(pair: Neighbours) -> bool
-    ensures { result ≡ fits pair.left pair.left_code_point pair.right pair.right_code_point (iteration_row (NS ∷ NS_EASTASIAN ∷ [])) }
+    ensures { result ≡ fits pair.left pair.left_code_point pair.right pair.right_code_point (iteration_row (map seventeen (NS ∷ NS_EASTASIAN ∷ []))) }
 {
     is_nonstarter(pair.right) && is_iteration(pair.right_code_point)
 }
 
 /// Whether the row of middle dots, colons and doubled signs fits.
 fn fits_middle_dots(pair: Neighbours) -> bool
-    ensures { result ≡ fits pair.left pair.left_code_point pair.right pair.right_code_point (middle_dot_row (NS ∷ NS_EASTASIAN ∷ [])) }
+    ensures { result ≡ fits pair.left pair.left_code_point pair.right pair.right_code_point (middle_dot_row (map seventeen (NS ∷ NS_EASTASIAN ∷ []))) }
 {
     is_nonstarter(pair.right) && is_middle_dot(pair.right_code_point)
 }
 
 /// Whether the row of leaders fits.
 fn fits_leaders(pair: Neighbours) -> bool
-    ensures { result ≡ fits pair.left pair.left_code_point pair.right pair.right_code_point (leader_row (IN ∷ IN_EASTASIAN ∷ [])) }
+    ensures { result ≡ fits pair.left pair.left_code_point pair.right pair.right_code_point (leader_row (map seventeen (IN ∷ IN_EASTASIAN ∷ []))) }
 {
     (pair.right == RuleBreakData::LINE_V3_PROPERTY_IN
         || pair.right == RuleBreakData::LINE_V3_PROPERTY_IN_EASTASIAN)
@@ -113,7 +114,7 @@ fn fits_leaders(pair: Neighbours) -> bool
 
 /// Whether the row of exclamation and question marks fits.
 fn fits_exclamations(pair: Neighbours) -> bool
-    ensures { result ≡ fits pair.left pair.left_code_point pair.right pair.right_code_point (exclamation_row (EX ∷ EX_EASTASIAN ∷ [])) }
+    ensures { result ≡ fits pair.left pair.left_code_point pair.right pair.right_code_point (exclamation_row (map seventeen (EX ∷ EX_EASTASIAN ∷ []))) }
 {
     (pair.right == RuleBreakData::LINE_V3_PROPERTY_EX
         || pair.right == RuleBreakData::LINE_V3_PROPERTY_EX_EASTASIAN)
@@ -122,14 +123,14 @@ fn fits_exclamations(pair: Neighbours) -> bool
 
 /// Whether the row of wide signs after numbers fits.
 fn fits_wide_postfixes(pair: Neighbours) -> bool
-    ensures { result ≡ fits pair.left pair.left_code_point pair.right pair.right_code_point (postfix_row PO_EASTASIAN None) }
+    ensures { result ≡ fits pair.left pair.left_code_point pair.right pair.right_code_point (postfix_row (seventeen PO_EASTASIAN) None) }
 {
     pair.right == RuleBreakData::LINE_V3_PROPERTY_PO_EASTASIAN
 }
 
 /// Whether the row of signs after numbers fits.
 fn fits_postfixes(pair: Neighbours) -> bool
-    ensures { result ≡ fits pair.left pair.left_code_point pair.right pair.right_code_point (postfix_row PO (Some (0x00B0 ∷ 0x2030 ∷ 0x2032 ∷ 0x2033 ∷ 0x2035 ∷ 0x2103 ∷ 0x2109 ∷ []))) }
+    ensures { result ≡ fits pair.left pair.left_code_point pair.right pair.right_code_point (postfix_row (seventeen PO) (Some (0x00B0 ∷ 0x2030 ∷ 0x2032 ∷ 0x2033 ∷ 0x2035 ∷ 0x2103 ∷ 0x2109 ∷ []))) }
 {
     pair.right == RuleBreakData::LINE_V3_PROPERTY_PO
         && (pair.right_code_point == 0x00B0
@@ -143,14 +144,14 @@ fn fits_postfixes(pair: Neighbours) -> bool
 
 /// Whether the row of wide signs before numbers fits.
 fn fits_wide_prefixes(pair: Neighbours) -> bool
-    ensures { result ≡ fits pair.left pair.left_code_point pair.right pair.right_code_point (prefix_row PR_EASTASIAN None) }
+    ensures { result ≡ fits pair.left pair.left_code_point pair.right pair.right_code_point (prefix_row (seventeen PR_EASTASIAN) None) }
 {
     pair.left == RuleBreakData::LINE_V3_PROPERTY_PR_EASTASIAN
 }
 
 /// Whether the row of signs before numbers fits.
 fn fits_prefixes(pair: Neighbours) -> bool
-    ensures { result ≡ fits pair.left pair.left_code_point pair.right pair.right_code_point (prefix_row PR (Some (0x00A4 ∷ 0x00B1 ∷ 0x20AC ∷ 0x2116 ∷ []))) }
+    ensures { result ≡ fits pair.left pair.left_code_point pair.right pair.right_code_point (prefix_row (seventeen PR) (Some (0x00A4 ∷ 0x00B1 ∷ 0x20AC ∷ 0x2116 ∷ []))) }
 {
     pair.left == RuleBreakData::LINE_V3_PROPERTY_PR
         && (pair.left_code_point == 0x00A4
@@ -161,7 +162,7 @@ fn fits_prefixes(pair: Neighbours) -> bool
 
 /// Whether the class is one of those that don't begin a line.
 fn is_nonstarter(class: u8) -> bool
-    ensures { result ≡ is_among (NS ∷ NS_EASTASIAN ∷ []) class }
+    ensures { result ≡ is_one_of seventeen (NS ∷ NS_EASTASIAN ∷ []) class }
 {
     class == RuleBreakData::LINE_V3_PROPERTY_NS
         || class == RuleBreakData::LINE_V3_PROPERTY_NS_EASTASIAN

@@ -3,7 +3,8 @@ ghost use Rattle.std.specs.Prelude.{◌≡◌, ℕ, ◌<◌, ◌↔◌, true, fa
 ghost use Rattle.seg_data.specs.declared.provider.DataError.TheVariants.{ComplexBelow0100};
 ghost use Rattle.seg_data.specs.Faults.{IsFaultless, IsLowestFault};
 ghost use Rattle.seg_line_rules.specs.LineRules.{is_loose_or_normal};
-ghost use Rattle.seg_line_turns.specs.TurnClasses.{ID};
+ghost use Rattle.seg_line_rules.specs.LineClasses.{seventeen};
+ghost use Rattle.seg_line_rules.specs.LineClasses.LineClass.{ID};
 ghost use Rattle.seg_line_turns.specs.TurnRules.{HasOwnTurnFault, class_read, is_read_as_id};
 
 use crate::classes::is_complex;
@@ -18,7 +19,7 @@ use seg_pair_data::provider::RuleBreakData;
 pub struct OwnedTurnPairs {
     table: RuleBreakData,
     style: LineStyle,
-    ghost has_id: { ID < table.property_count },
+    ghost has_id: { seventeen ID < table.property_count },
 }
 
 impl OwnedTurnPairs {
@@ -55,7 +56,7 @@ impl OwnedTurnPairs {
 pub struct TurnPairs<'data> {
     table: &'data RuleBreakData,
     style: LineStyle,
-    ghost has_id: { ID < table.now.property_count },
+    ghost has_id: { seventeen ID < table.now.property_count },
 }
 
 impl<'data> TurnPairs<'data> {
@@ -90,7 +91,7 @@ impl<'data> TurnPairs<'data> {
     /// The pair table, which has a class ID.
     pub fn table(self) -> &'data RuleBreakData
         ensures value { result.now ≡ (turn_rules_by self.entry).table }
-        ensures has_id { ID < (turn_rules_by self.entry).table.property_count }
+        ensures has_id { seventeen ID < (turn_rules_by self.entry).table.property_count }
     {
         self.table
     }
