@@ -1,5 +1,5 @@
 -- Spans of a text by a machine: the runs of one script that has words, and the pieces between them.
-use Rattle.std.specs.Prelude.{◌≡◌, ℕ, ◌<◌, ◌==◌, Bool, Option, None as Nothing, Some, List, [], ◌∷◌, MatchOption, None, take, ◌++◌, length}
+use Rattle.std.specs.Prelude.{◌≡◌, ℕ, ◌<◌, ◌==◌, Bool, Option, Some, List, [], ◌∷◌, MatchOption, None, take, ◌++◌, length}
 use Rattle.std.specs.List.{prefix_len}
 use Rattle.std.specs.Option.{option_map}
 use Rattle.seg_text.specs.Items.{Text, rest_after, text_before, code_points}
@@ -18,7 +18,7 @@ use Rattle.seg_complex.specs.Payloads.{Payloads}
 -- a script if it has words, or else none
 abbrev pub if_worded : Option Words → ComplexScript → ComplexScript
 if_worded (Some words) script = script
-if_worded Nothing script = scripts.None
+if_worded None script = scripts.None
 
 -- the script of a code point by a machine, if it has words
 abbrev pub worded_script : Machine → ScriptWords → ℕ → ComplexScript
@@ -35,7 +35,7 @@ span_length m words (first ∷ rest) = prefix_len (has_worded_script m words (wo
 
 -- the words of its script, if it is a run
 abbrev pub span_words : Machine → ScriptWords → List ℕ → Option Words
-span_words m words [] = Nothing
+span_words m words [] = None
 span_words m words (first ∷ rest) = words_in words (worded_script m words first)
 
 -- the first span of a text was given as a text of its own, with the words of its script, and what comes after it is left;

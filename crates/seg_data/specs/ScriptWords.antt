@@ -1,4 +1,4 @@
--- What is seen of dictionaries and their cursors.
+-- Dictionaries, and the words of scripts.
 use Rattle.std.specs.Prelude.{[], Option, None as Nothing, Some}
 use Rattle.std.specs.Option.{option_map_or, option_or, option_map}
 use Rattle.seg_data.specs.WordSets.{Words, IsSameSet}
@@ -9,6 +9,8 @@ use Rattle.seg_data.specs.declared.provider.ComplexScript.{ComplexScript}
 use Rattle.seg_data.specs.declared.provider.ComplexScript.TheVariants.{None, Myanmar, ChineseOrJapanese, Khmer, Lao, Thai}
 use Rattle.seg_data.specs.declared.dictionaries.Dictionaries.{Dictionaries}
 use Rattle.seg_data.specs.declared.dictionaries.DictionariesBorrowed.{DictionariesBorrowed}
+
+-- What is seen of dictionaries and their cursors.
 
 abbrev pub trie_of : DictionaryBreakData → Trie
 trie_of dictionary = trie dictionary.flags.items dictionary.starts.items dictionary.edges.items

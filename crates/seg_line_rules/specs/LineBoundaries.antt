@@ -1,4 +1,4 @@
--- What is seen of the data of lines.
+-- Lines by a pair table: their boundaries, and where none stands before a mark.
 use Rattle.std.specs.Prelude.{ℕ, ◌-◌, nat_lt, List, [], ◌∷◌, length, take, filter, Contains, map, ◌≡◌, suc, true, Some, slice_get}
 use Rattle.std.specs.List.{prefix_len}
 use Rattle.seg_text.specs.declared.boundary.Boundary.{Boundary}
@@ -11,6 +11,8 @@ use Rattle.seg_line_rules.specs.declared.line_pairs.OwnedLinePairs.{OwnedLinePai
 use Rattle.seg_line_rules.specs.LineRules.{TableRules, line_class, is_complex}
 use Rattle.seg_line_rules.specs.LineUnits.{CountedUnit, counted_units, units_of, extent_of, is_mark, bears_none}
 use Rattle.seg_line_rules.specs.LineVerdict.{unit_verdict}
+
+-- What is seen of the data of lines.
 
 abbrev pub rules_by : LinePairs → TableRules
 rules_by pairs = record { table = pairs.table.now; style = pairs.style }

@@ -1,4 +1,4 @@
--- An item that is read ahead of a text, with its class.
+-- A text whose lines are found one after another: what is read ahead, what comes next, and what is left.
 use Rattle.std.specs.Prelude.{◌≡◌, ◌<◌, ℕ, Option, Some, None, [], ◌∷◌, ◌≢◌, ◌≤◌, List, ◌++◌, length, IfSome, ◌==◌, ◌&&◌, ◌||◌, not, Bool, true, false, if◌then◌else◌, nat_lt, filter}
 use Rattle.seg_text.specs.Items.{Text, code_points, rest_after}
 use Rattle.seg_text.specs.declared.boundary.Boundary.{Boundary}
@@ -17,6 +17,8 @@ use Rattle.seg_line_rules.specs.LineUnits.{UnitsLeft, line_elements, is_joiner, 
 use Rattle.seg_line_rules.specs.declared.options.LineStyle.{LineStyle}
 use Rattle.seg_line_rules.specs.declared.plain_pairs.PlainPair.{PlainPair}
 use Rattle.seg_line_rules.specs.declared.plain_pairs.PlainPair.TheVariants as plain
+
+-- An item that is read ahead of a text, with its class.
 
 -- the text that begins with this item, and goes on with those
 abbrev pub text_from : ClassedItem → Text → Text

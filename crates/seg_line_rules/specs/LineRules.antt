@@ -1,4 +1,4 @@
--- What options say of lines, where those that aren't given have their defaults.
+-- What the boundaries of lines are found by: options, classes as they are read, and the faults of data.
 use Rattle.std.specs.Prelude.{ℕ, Bool, true, false, ◌||◌, List, codes, ◌==◌, ◌&&◌, if◌then◌else◌, None, [], ◌∷◌, ◌≡◌, nat_le, ◌≤◌, ◌⊎◌, map}
 use Rattle.std.specs.Option.{option_map_or, unwrap_or}
 use Rattle.std.specs.Str.{bytes_eq}
@@ -14,6 +14,8 @@ use Rattle.seg_line_rules.specs.declared.options.LineBreakWordOption.TheVariants
 use Rattle.seg_line_rules.specs.declared.options.LineStyle.{LineStyle}
 use Rattle.seg_line_rules.specs.LineClasses.{LineClass, classic}
 use Rattle.seg_line_rules.specs.LineClasses.LineClass.{AL, CJ, ID, NU}
+
+-- What options say of lines, where those that aren't given have their defaults.
 
 -- a language is Japanese or Chinese
 abbrev pub is_ja_or_zh : List ℕ → Bool

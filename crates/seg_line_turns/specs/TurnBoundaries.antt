@@ -1,4 +1,4 @@
--- What is seen of the data of lines of the engine 17.
+-- Lines by the engine 17: their boundaries, and where none stands before a mark.
 use Rattle.std.specs.Prelude.{◌≡◌, ℕ, zero, suc, ◌+◌, ◌-◌, ◌&&◌, Bool, true, false, List, [], ◌∷◌, ◌++◌, length, drop, take, ◌<◌, Some, slice_get, Contains}
 use Rattle.std.specs.List.{prefix_len}
 use Rattle.seg_text.specs.declared.boundary.Boundary.{Boundary}
@@ -14,6 +14,8 @@ use Rattle.seg_line_turns.specs.TurnRules.{turn_class}
 use Rattle.seg_line_turns.specs.TurnClasses.{is_complex, is_mark, bears_none}
 use Rattle.seg_line_turns.specs.Turns.{Turn, turn, first_unit}
 use Rattle.seg_line_turns.specs.Turns.Turn.{BreakAt, GoTo, RunAt}
+
+-- What is seen of the data of lines of the engine 17.
 
 abbrev pub turn_rules_by : TurnPairs → TableRules
 turn_rules_by pairs = record { table = pairs.table.now; style = pairs.style }

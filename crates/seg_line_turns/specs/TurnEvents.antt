@@ -1,4 +1,4 @@
--- An item that is read ahead of a text, with its class for the engine 17.
+-- A text whose lines are found turn by turn: what is read ahead, what comes next, and what is left.
 use Rattle.std.specs.Prelude.{Option, ◌≡◌, ◌≢◌, ◌<◌, ◌≤◌, ◌&&◌, ℕ, Bool, true, false, if◌then◌else◌, Some, None, List, [], ◌∷◌, ◌++◌, length, ◌||◌, not}
 use Rattle.seg_text.specs.Items.{Text, code_points, start_of, rest_after}
 use Rattle.seg_text.specs.declared.boundary.Boundary.{Boundary}
@@ -18,6 +18,8 @@ use Rattle.seg_line_turns.specs.TurnBoundaries.{later_turns, has_none}
 use Rattle.seg_line_rules.specs.LineClasses.{seventeen}
 use Rattle.seg_line_rules.specs.LineClasses.LineClass.{CM, CM_EASTASIAN, HH, HY, IS, QU_PF, SA, SA_MC_MN, SP, ZWJ}
 use Rattle.seg_line_turns.specs.TurnClasses.{is_before_hyphen, is_before_quote, is_complex, is_glue, is_hyphen, is_infix, is_joiner, is_opening, is_quote, is_space}
+
+-- An item that is read ahead of a text, with its class for the engine 17.
 
 abbrev pub HasTurnClass : TableRules → ClassedItem → Type 0
 HasTurnClass rules item = HasClassBy rules.table (turn_class rules) item

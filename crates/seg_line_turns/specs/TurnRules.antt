@@ -1,4 +1,4 @@
--- The classes that code points have for the engine 17.
+-- What turns look at: classes as they are read, units and lists; and the faults of data.
 use Rattle.std.specs.Prelude.{ℕ, ◌&&◌, ◌||◌, Bool, if◌then◌else◌, None, [], ◌∷◌, suc, Option, Some, List, ◌≡◌, ◌≢◌, ◌<◌, ◌≤◌, ◌⊎◌, true, map}
 use Rattle.seg_data.specs.declared.provider.DataError.{DataError}
 use Rattle.seg_data.specs.declared.provider.DataError.TheVariants.{ClassOutOfRange, ComplexBelow0100, ComplexClassNamed}
@@ -10,6 +10,8 @@ use Rattle.seg_line_rules.specs.LineLists.{LooseRow, hyphen_row, wave_row, itera
 use Rattle.seg_line_rules.specs.LineClasses.{seventeen}
 use Rattle.seg_line_rules.specs.LineClasses.LineClass.{AI, AI_EASTASIAN, AL, AL_DOTTED_CIRCLE, AL_EASTASIAN, CJ, EX, EX_EASTASIAN, H2, H3, HY, ID, ID_EASTASIAN, IN, IN_EASTASIAN, JL, JT, JV, NS, NS_EASTASIAN, NU, PO, PO_EASTASIAN, PR, PR_EASTASIAN, SA}
 use Rattle.seg_line_turns.specs.TurnClasses.{is_joiner, is_complex}
+
+-- The classes that code points have for the engine 17.
 
 -- a class that the options read as ID: CJ under BreakAll, Loose or Normal; SA, numbers and the letters of class AL under BreakAll
 abbrev pub is_read_as_id : LineStyle → ℕ → Bool

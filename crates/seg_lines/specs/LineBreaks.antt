@@ -1,7 +1,7 @@
--- Boundaries joined with cuts, as a set of places: a boundary keeps its status, and a cut where none stands has status 0.
+-- Lines: their boundaries, by whatever finds them.
 use Rattle.std.specs.Prelude.{◌≡◌, ◌⊎◌, ◌↔◌, ℕ, ◌<◌, ◌==◌, nat_lt, if◌then◌else◌, List, [], ◌∷◌, Option, None, Some, IfSome, slice_get}
 use Rattle.std.specs.List.{Contains}
-use Rattle.seg_text.specs.declared.boundary.Boundary.{Boundary, Boundary as AnyBoundary}
+use Rattle.seg_text.specs.declared.boundary.Boundary.{Boundary}
 use Rattle.seg_text.specs.Boundaries.{boundary, offsets, boundaries_in, AreBoundaries, AreLaterBoundaries, Stretch, list_boundaries, with_status, Remainder}
 use Rattle.seg_text.specs.Items.{Text}
 use Rattle.seg_data.specs.ScriptWords.{ScriptWords, no_words}
@@ -9,7 +9,7 @@ use Rattle.seg_pair_data.specs.PairTable.{PairTable}
 use Rattle.seg_machine.specs.Machine.{Machine}
 use Rattle.seg_machine.specs.Pick.{machine_stretch}
 use Rattle.seg_clusters.specs.Rules.{boundaries_by, first_stretch, machine_in, ResetsAfter}
-use Rattle.seg_clusters.specs.Rules.Rules.{ByMachine as ByClusterMachine, ByTable as ByClusterTable, ByMachine as ByRuleMachine}
+use Rattle.seg_clusters.specs.Rules.Rules.{ByMachine as ByClusterMachine, ByTable as ByClusterTable}
 use Rattle.seg_complex.specs.Spans.{inner_cuts, inner_stretch, IsOutsideRuns}
 use Rattle.seg_complex.specs.Payloads.{Payloads, run_cuts_by}
 use Rattle.seg_line_rules.specs.declared.options.LineBreakStrictness.{LineBreakStrictness}
@@ -19,6 +19,8 @@ use Rattle.seg_line_rules.specs.LineRules.{TableRules}
 use Rattle.seg_line_turns.specs.TurnBoundaries.{AreTurnBoundaries, turn_boundaries}
 use Rattle.seg_lines.specs.declared.joined.First.{First}
 use Rattle.seg_lines.specs.declared.joined.First.TheVariants as firsts
+
+-- Boundaries joined with cuts, as a set of places: a boundary keeps its status, and a cut where none stands has status 0.
 
 -- boundaries that rise, and one cut
 abbrev pub with_cut : ℕ → List Boundary → List Boundary
@@ -53,7 +55,7 @@ pub record IsJoin (boundaries : List Boundary) (cuts : List ℕ) (found : List B
 
 -- What comes first of the next boundary and the next cut.
 
-abbrev pub ComesFirst : Option AnyBoundary → Option ℕ → First → Type 0
+abbrev pub ComesFirst : Option Boundary → Option ℕ → First → Type 0
 ComesFirst found cut firsts.Nothing = (found ≡ None) × (cut ≡ None)
 ComesFirst found cut (firsts.Cut place) = (cut ≡ Some place) × IfSome found (λ boundary. place < boundary.offset)
 ComesFirst found cut (firsts.Boundary boundary) = (found ≡ Some boundary) × IfSome cut (λ place. boundary.offset < place)
@@ -174,7 +176,7 @@ LinesResetWith ByClusters payloads code_point = ResetsAfter payloads.clusters co
 LinesResetWith ByPlaces payloads code_point = ResetsAfter payloads.clusters code_point
 LinesResetWith (ByTable rules) payloads code_point = ⊥
 LinesResetWith (ByTurns rules) payloads code_point = ⊥
-LinesResetWith (ByMachine m) payloads code_point = ResetsAfter (ByRuleMachine m) code_point × IsOutsideRuns m payloads.words code_point
+LinesResetWith (ByMachine m) payloads code_point = ResetsAfter (ByClusterMachine m) code_point × IsOutsideRuns m payloads.words code_point
 
 abbrev pub LinesResetAfter : LineRules → ℕ → Type 0
 LinesResetAfter rules code_point = LinesResetWith rules.finder rules.payloads code_point

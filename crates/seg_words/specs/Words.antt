@@ -1,4 +1,4 @@
--- The faults of the data of words: those of the words' own table or machine, and those of the pair table of clusters.
+-- Words: the faults of their data, and what is seen of segmenters and iterators.
 use Rattle.std.specs.Prelude.{◌≡◌, ◌⊎◌, Option, None, ℕ, List, map}
 use Rattle.seg_text.specs.declared.boundary.Boundary.{Boundary}
 use Rattle.seg_text.specs.Boundaries.{offsets, Remainder}
@@ -21,6 +21,8 @@ use Rattle.seg_words.specs.declared.word.WordBreakIteratorWithWordType.{WordBrea
 use Rattle.seg_words.specs.WordRules.{WordRules, type_of}
 use Rattle.seg_words.specs.declared.boundaries.WordBoundaries.{WordBoundaries}
 use Rattle.seg_words.specs.declared.boundaries.WordBoundaries.TheVariants.{Classic, Neo, NeoWithWords}
+
+-- The faults of the data of words: those of the words' own table or machine, and those of the pair table of clusters.
 
 -- the faults of a pair table of words with its override
 abbrev pub HasOwnFault : PairTable → Option Table → DataError → Type 0

@@ -1,4 +1,4 @@
--- What is left of a text by a pair table, whose runs are cut in some way.
+-- What is left of a text of words, by a pair table or by a machine.
 use Rattle.std.specs.Prelude.{ℕ, Bool, if◌then◌else◌, List, ◌++◌, None, Some, [], ◌∷◌}
 use Rattle.seg_text.specs.Boundaries.{Remainder, boundaries_in, list_boundaries, Cuts, with_status, boundary, later_boundaries}
 use Rattle.seg_text.specs.declared.boundary.Boundary.{Boundary}
@@ -9,6 +9,8 @@ use Rattle.seg_complex.specs.Payloads.{Payloads}
 use Rattle.seg_words.specs.declared.span.Span.{Span}
 use Rattle.seg_words.specs.declared.span.Span.TheVariants.{Start, Piece, Run}
 use Rattle.seg_words.specs.WordRules.{letters, span_stretch}
+
+-- What is left of a text by a pair table, whose runs are cut in some way.
 
 -- all boundaries of the text, or where it has started the cuts that are left of a run, and then the boundaries of what isn't
 -- read; and the status of the class of the boundary that was given last

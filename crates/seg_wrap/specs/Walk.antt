@@ -1,4 +1,4 @@
--- What is known of some characters at a line's end or before it.
+-- A wrapper on its way through a text, and what it measures.
 use Rattle.std.specs.Prelude.{◌≡◌, ℕ, ◌+◌, ◌&&◌, List, [], ◌∷◌, ◌++◌, if◌then◌else◌, ◌*◌, ◌<◌, ◌≤◌, ◌==◌, length, Option, Some, None, MatchOption}
 use Rattle.std.specs.List.{list_all}
 use Rattle.seg_text.specs.Items.{Text, code_points, rest_after, start_of}
@@ -9,6 +9,8 @@ use Rattle.seg_wrap.specs.Wrapping.{columns_of, hangs, width_of, Line, Segment, 
 use Rattle.seg_wrap.specs.declared.breaks.Break.{Break}
 use Rattle.seg_wrap.specs.declared.wrapping.Piece.{Piece}
 use Rattle.seg_wrap.specs.declared.wrapping.Span.{Span}
+
+-- What is known of some characters at a line's end or before it.
 
 -- the columns of characters that others follow
 unfoldable pub total_of : List ℕ → ℕ
