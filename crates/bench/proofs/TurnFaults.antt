@@ -9,7 +9,7 @@ use Rattle.seg_data.specs.declared.provider.DataError.TheVariants.{Memory, Range
 use Rattle.seg_data.specs.Faults.{IsFaultless, IsLowestFault}
 use Rattle.seg_pair_data.specs.PairData.{HasPairFault}
 use Rattle.seg_pair_data.specs.PairTable.{PairTable}
-use Rattle.bench.specs.TurnTables.{BA, BA_EASTASIAN, turn_entry, turn_table}
+use Rattle.bench.specs.TurnTables.{turn_entry, turn_table}
 use Rattle.bench.specs.PairTables.{cluster_table}
 use Rattle.bench.proofs.PairFaults.{Passes, clusters-sound, faultless, names_below}
 use Rattle.bench.proofs.Rows.{chosen, rows-length, rows-pass}

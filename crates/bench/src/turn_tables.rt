@@ -3,7 +3,7 @@
 ghost use Rattle.std.specs.Prelude.{◌≡◌, [], ◌∷◌, ◌++◌, IfOk, OnOk};
 ghost use Rattle.bench.specs.PairTables.{cluster_table};
 ghost use Rattle.bench.specs.Rows.{row, rows};
-ghost use Rattle.bench.specs.TurnTables.{BA, BA_EASTASIAN, turn_entry, turn_table};
+ghost use Rattle.bench.specs.TurnTables.{turn_entry, turn_table};
 ghost use Rattle.icu_segmenter.specs.Faults.{IsFaultless};
 ghost use Rattle.icu_segmenter.specs.LineRules.{is_one_of};
 ghost use Rattle.icu_segmenter.specs.LineClasses.{seventeen};
