@@ -4,6 +4,7 @@ pub mod UnitVerdicts
 pub mod LineStretches
 pub mod Inside
 pub mod LineRestarts
+pub mod MarkParts
 pub mod MarkLaw
 pub mod UnitLandings
 pub mod UnitElements

@@ -8,6 +8,7 @@ use Rattle.seg_pairs.specs.Verdict.{Verdict, go_on, chain, TakesOf, IsForward}
 use Rattle.seg_pairs.specs.Verdict.Verdict.{BreakAfter, GoAfter, RunBegins}
 use Rattle.seg_pairs.proofs.Chained.{chain-map}
 use Rattle.seg_pairs.proofs.Chains.{left-after, chain-go, chain-break, chain-run}
+use Rattle.seg_line_rules.specs.LineClasses.LineEngine.{Classic}
 use Rattle.seg_line_rules.specs.LineRules.{TableRules, line_class}
 use Rattle.seg_line_rules.specs.LineUnits.{LineUnit, CountedUnit, is_glued, units_from, counted_units, units_of, extent_of, unit_seen, units_seen, base_of, marked_element, elements_from, line_elements}
 use Rattle.seg_line_rules.specs.LineVerdict.{unit_verdict}
@@ -23,7 +24,7 @@ chain-step v forward x xs (BreakAfter n class) is = chain-break v forward x xs n
 chain-step v forward x xs (GoAfter n) is = chain-go v forward x xs n is
 chain-step v forward x xs RunBegins is = chain-run v forward x xs is
 
-module _ (rules : TableRules) where
+module _ (rules : TableRules Classic) where
   -- the elements of a text are its units
 
   seen-from : (element : Element) (extent : ℕ) (items : List Item)
@@ -31,11 +32,11 @@ module _ (rules : TableRules) where
   unfolding elements_from units_from
   seen-from element extent [] = refl
   seen-from element extent (item ∷ items) =
-      on (is_glued element.class (line_class rules item.1)) refl
+      on (is_glued Classic element.class (line_class rules item.1)) refl
       (seen-from (marked_element element (line_class rules item.1)) (suc extent) items)
       (ap (λ (seen : List LineUnit). unit_seen element ∷ seen) (seen-from (base_of rules item) 1 items))
     where
-      on : (b : Bool) → is_glued element.class (line_class rules item.1) ≡ b
+      on : (b : Bool) → is_glued Classic element.class (line_class rules item.1) ≡ b
           → units_seen (elements_from rules (marked_element element (line_class rules item.1)) items)
           ≡ units_of (units_from rules (record { extent = suc extent; unit = unit_seen (marked_element element (line_class rules item.1)) }) (code_points items))
           → unit_seen element ∷ units_seen (elements_from rules (base_of rules item) items)
@@ -64,9 +65,9 @@ module _ (rules : TableRules) where
       let none : extent + 0 ≡ extent = omega arith in
       record { marks = 0; whole = element; is = refl; units_is = rw none refl }
   first-element element extent (item ∷ items) =
-      on (is_glued element.class (line_class rules item.1)) refl (first-element (marked_element element (line_class rules item.1)) (suc extent) items)
+      on (is_glued Classic element.class (line_class rules item.1)) refl (first-element (marked_element element (line_class rules item.1)) (suc extent) items)
     where
-      on : (b : Bool) → is_glued element.class (line_class rules item.1) ≡ b
+      on : (b : Bool) → is_glued Classic element.class (line_class rules item.1) ≡ b
           → FirstElement (marked_element element (line_class rules item.1)) (suc extent) items → FirstElement element extent (item ∷ items)
       on true glued later =
           let more : extent + suc later.marks ≡ suc extent + later.marks = omega arith in

@@ -17,6 +17,7 @@ use Rattle.seg_pairs.specs.Verdict.Verdict.{BreakAfter, GoAfter, RunBegins}
 use Rattle.seg_pairs.proofs.Chained.{Chained, chained}
 use Rattle.seg_pairs.proofs.Engine.{read-onto, rest-is}
 use Rattle.seg_pairs.proofs.Events.{cuts-placed}
+use Rattle.seg_line_rules.specs.LineClasses.LineEngine.{Classic}
 use Rattle.seg_line_rules.specs.declared.plain_pairs.ClassedItem.{ClassedItem}
 use Rattle.seg_line_rules.specs.LineEvents.{IsItemAhead, text_from, UnreadLines, unread_lines, GoesOnLines, AreUnitsAhead}
 use Rattle.seg_line_rules.specs.LineBoundaries.{line_verdict, complex_length, line_stretch_of, line_stretch}
@@ -27,26 +28,26 @@ use Rattle.seg_line_rules.proofs.LineChains.{elements-chain, elements-left, elem
 use Rattle.seg_line_rules.proofs.LineStretches.{line-forward, line-going, line-run, run-two}
 use Rattle.seg_line_rules.proofs.UnitLists.{units, extent-sum}
 
-abbrev unread : TableRules → Text → UnreadLines
+abbrev unread : TableRules Classic → Text → UnreadLines
 unread rules text = record { rules = rules; text = text }
 
 -- the verdict on the first of some elements
-abbrev pub element_verdict : TableRules → List Element → Verdict
+abbrev pub element_verdict : TableRules Classic → List Element → Verdict
 element_verdict rules elements = unit_verdict rules (units_seen elements)
 
 -- how many items of a text are complex before the first that isn't
-abbrev pub run_extent : TableRules → Text → ℕ
+abbrev pub run_extent : TableRules Classic → Text → ℕ
 run_extent rules text = complex_length rules (code_points text.items)
 
 -- a boundary comes next, so many items on
-pub record HasBreak (rules : TableRules) (text : Text) (after : List Element) : Type 0 where
+pub record HasBreak (rules : TableRules Classic) (text : Text) (after : List Element) : Type 0 where
   pub taken : ℕ
   pub rest : after ≡ line_elements rules (drop taken text.items)
   pub fewer : length (drop taken text.items) < length text.items
   pub leads : (cuts : Cuts) → unread_lines cuts (unread rules text) ≡ boundary (start_of (rest_after taken text)) 0 ∷ unread_lines cuts (unread rules (rest_after taken text))
 
 -- a run comes next, so many items on; what is left begins with its last
-pub record HasRun (rules : TableRules) (text : Text) (place : ℕ) : Type 0 where
+pub record HasRun (rules : TableRules Classic) (text : Text) (place : ℕ) : Type 0 where
   pub gone : ℕ
   pub here : place ≡ start_of (rest_after gone text)
   pub fewer : let left = rest_after gone text in length (drop (run_extent rules left - 1) left.items) < length text.items
@@ -54,7 +55,7 @@ pub record HasRun (rules : TableRules) (text : Text) (place : ℕ) : Type 0 wher
       AreCutsOf (length run.items) (cuts (code_points run.items))
       → unread_lines cuts (unread rules text) ≡ with_status 0 (cut_places cuts run) ++ unread_lines cuts (unread rules (rest_after (run_extent rules left - 1) left))
 
-module _ (rules : TableRules) where
+module _ (rules : TableRules Classic) where
   -- the first stretch of a text, and what is left after it
   pub first-stretch : (cuts : Cuts) (items : List Item) (end first : ℕ) (others : List ℕ) (s : Stretch) → code_points items ≡ first ∷ others
       → line_stretch cuts rules (code_points items) ≡ s
@@ -191,7 +192,7 @@ module _ (rules : TableRules) where
 
 -- the same of what a call has at hand: the first element, and the elements after it
 
-pub break-of : (rules : TableRules) (text : Text) (next : Option Element) (left : Element) (rest : List Element) (class : ℕ) (after : Option Element) (later : List Element)
+pub break-of : (rules : TableRules Classic) (text : Text) (next : Option Element) (left : Element) (rest : List Element) (class : ℕ) (after : Option Element) (later : List Element)
     → next ≡ Some left → onto next rest ≡ line_elements rules text.items
     → EndsIn (chain (element_verdict rules) (left ∷ rest)) (left ∷ rest) (BreakOut class after) later
     → HasBreak rules text (onto after later)
@@ -203,7 +204,7 @@ break-of rules text next left rest class after later here is ends =
     on (item ∷ items) is =
         break-in rules item items text.end class after later (subst (λ (es : List Element). EndsIn (chain (element_verdict rules) es) es (BreakOut class after) later) is ends)
 
-pub run-of : (rules : TableRules) (text : Text) (next : Option Element) (left : Element) (rest : List Element) (first second : Element) (later : List Element)
+pub run-of : (rules : TableRules Classic) (text : Text) (next : Option Element) (left : Element) (rest : List Element) (first second : Element) (later : List Element)
     → next ≡ Some left → onto next rest ≡ line_elements rules text.items
     → EndsIn (chain (element_verdict rules) (left ∷ rest)) (left ∷ rest) (RunOut first second) later
     → HasRun rules text first.place
@@ -215,12 +216,12 @@ run-of rules text next left rest first second later here is ends =
     on (item ∷ items) is =
         run-in rules item items text.end first second later (subst (λ (es : List Element). EndsIn (chain (element_verdict rules) es) es (RunOut first second) later) is ends)
 
-pub place-after : (rules : TableRules) (text : Text) (n place end : ℕ) (after : List Element) → place ≡ place_at after end → after ≡ line_elements rules (drop n text.items)
+pub place-after : (rules : TableRules Classic) (text : Text) (n place end : ℕ) (after : List Element) → place ≡ place_at after end → after ≡ line_elements rules (drop n text.items)
     → end ≡ text.end → place ≡ start_of (rest_after n text)
 place-after rules text n place end after is same stays = is ∙ rw (same, stays) (elements-place rules (drop n text.items) text.end)
 
 -- the first unit of a text is read
-pub ahead-read : (rules : TableRules) (text : Text) (from : UnitsLeft) (next : Option Element) (rest : UnitsLeft)
+pub ahead-read : (rules : TableRules Classic) (text : Text) (from : UnitsLeft) (next : Option Element) (rest : UnitsLeft)
     → from ≡ record { rules = rules; left = line_elements rules text.items; end = text.end }
     → YieldsFirst (λ (left : UnitsLeft). left.left) from next rest
     → rest.end ≡ from.end → rest.rules.table ≡ from.rules.table → IfSome next (λ next. next.class < from.rules.table.property_count)
@@ -233,7 +234,7 @@ ahead-read rules text from next rest is gives end table below = record {
 }
 
 -- a text with a first item has a unit
-pub some-first : (rules : TableRules) (first : ClassedItem) (rest : Text) (units : UnitsLeft)
+pub some-first : (rules : TableRules Classic) (first : ClassedItem) (rest : Text) (units : UnitsLeft)
     → units ≡ record { rules = rules; left = line_elements rules (text_from first rest).items; end = rest.end } → units.left ≡ [] → ⊥
 some-first rules first rest units is none = never (no-elements rules (text_from first rest).items (sym (ap (λ (left : UnitsLeft). left.left) is) ∙ none))
   where
@@ -241,7 +242,7 @@ some-first rules first rest units is none = never (no-elements rules (text_from 
     never is = cc
 
 -- the first unit of a text whose first item is read, and those after it
-pub ahead-here : {I : Type 0} (text : I → Text) (rules : TableRules) (here : Text) (next : Option ClassedItem) (first : ClassedItem) (rest copy : I) (left : Element) (units : UnitsLeft)
+pub ahead-here : {I : Type 0} (text : I → Text) (rules : TableRules Classic) (here : Text) (next : Option ClassedItem) (first : ClassedItem) (rest copy : I) (left : Element) (units : UnitsLeft)
     → next ≡ Some first → IsItemAhead rules here next (text rest) → copy ≡ rest → AreUnitsAhead rules (text_from first (text copy)) (Some left) units
     → AreUnitsAhead rules here (Some left) units
 ahead-here text rules here next first rest copy left units is ahead same read =
@@ -249,26 +250,26 @@ ahead-here text rules here next first rest copy left units is ahead same read =
     subst (λ (t : Text). AreUnitsAhead rules t (Some left) units) (ap (λ i. text_from first (text i)) same ∙ sym some.0) read
 
 -- nothing is left
-pub ahead-none : (rules : TableRules) (here : Text) (next : Option ClassedItem) (rest : Text) → next ≡ None → IsItemAhead rules here next rest → here.items ≡ []
+pub ahead-none : (rules : TableRules Classic) (here : Text) (next : Option ClassedItem) (rest : Text) → next ≡ None → IsItemAhead rules here next rest → here.items ≡ []
 ahead-none rules here next rest is ahead = subst (λ (next : Option ClassedItem). IsItemAhead rules here next rest) is ahead
 
 -- what is left after an event
-pub goes-on : (rules : TableRules) (text after : Text) (n : ℕ) → after ≡ rest_after n text → length (drop n text.items) < length text.items
+pub goes-on : (rules : TableRules Classic) (text after : Text) (n : ℕ) → after ≡ rest_after n text → length (drop n text.items) < length text.items
     → GoesOnLines (unread rules text) (unread rules after)
 goes-on rules text after n is fewer = rw is (record { rules = refl; end = refl; fewer = λ some. fewer })
 
-pub break-leads : (rules : TableRules) (text after : Text) (place : ℕ) (elements : List Element) (b : HasBreak rules text elements)
+pub break-leads : (rules : TableRules Classic) (text after : Text) (place : ℕ) (elements : List Element) (b : HasBreak rules text elements)
     → place ≡ start_of (rest_after b.taken text) → after ≡ rest_after b.taken text → (cuts : Cuts)
     → unread_lines cuts (unread rules text) ≡ boundary place 0 ∷ unread_lines cuts (unread rules after)
 break-leads rules text after place elements b place_is is cuts = rw (place_is, is) (b.leads cuts)
 
-pub run-leads : (rules : TableRules) (text left run after : Text) (place : ℕ) (r : HasRun rules text place) → left ≡ rest_after r.gone text
+pub run-leads : (rules : TableRules Classic) (text left run after : Text) (place : ℕ) (r : HasRun rules text place) → left ≡ rest_after r.gone text
     → run ≡ text_before (run_extent rules left) left → after ≡ rest_after (run_extent rules left - 1) left
     → (cuts : Cuts) → AreCutsOf (length run.items) (cuts (code_points run.items))
     → unread_lines cuts (unread rules text) ≡ with_status 0 (cut_places cuts run) ++ unread_lines cuts (unread rules after)
 run-leads rules text left run after place r left_is run_is is = rw (is, run_is, left_is) r.leads
 
-pub run-goes : (rules : TableRules) (text left after : Text) (place : ℕ) (r : HasRun rules text place) → left ≡ rest_after r.gone text
+pub run-goes : (rules : TableRules Classic) (text left after : Text) (place : ℕ) (r : HasRun rules text place) → left ≡ rest_after r.gone text
     → after ≡ rest_after (run_extent rules left - 1) left → GoesOnLines (unread rules text) (unread rules after)
 run-goes rules text left after place r left_is is =
     rw (is, left_is) (record { rules = refl; end = refl; fewer = λ some. r.fewer })

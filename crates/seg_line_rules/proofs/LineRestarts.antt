@@ -8,6 +8,7 @@ use Rattle.seg_text.proofs.Restarts.{restarts}
 use Rattle.seg_pairs.specs.Verdict.{Verdict}
 use Rattle.seg_pairs.specs.Verdict.Verdict.{BreakAfter, GoAfter, RunBegins}
 use Rattle.seg_pairs.proofs.ComplexStretches.{later-same}
+use Rattle.seg_line_rules.specs.LineClasses.LineEngine.{Classic}
 use Rattle.seg_line_rules.specs.LineRules.{TableRules}
 use Rattle.seg_line_rules.specs.LineBoundaries.{HasComplexCodePoint, line_verdict, line_stretch_of, line_stretch, line_boundaries}
 use Rattle.seg_line_rules.proofs.LineStretches.{line-going, line-run}
@@ -16,7 +17,7 @@ use Rattle.seg_line_rules.proofs.LineStretches.{line-going, line-run}
 uncut : Cuts
 uncut run = []
 
-module _ (rules : TableRules) where
+module _ (rules : TableRules Classic) where
   abbrev NoComplex : List ℕ → Type 0
   NoComplex code_points = HasComplexCodePoint rules code_points → ⊥
 

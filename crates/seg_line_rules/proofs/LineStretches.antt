@@ -6,6 +6,7 @@ use Rattle.std.proofs.lemmas.List.Sums.{prefix_len-le-length}
 use Rattle.seg_text.specs.Boundaries.{RisesTo, Cuts, with_status, HasProgress, IsWithin}
 use Rattle.seg_pairs.specs.Verdict.{Verdict, TakesOf, IsForward}
 use Rattle.seg_pairs.specs.Verdict.Verdict.{BreakAfter, GoAfter, RunBegins}
+use Rattle.seg_line_rules.specs.LineClasses.{LineEngine}
 use Rattle.seg_line_rules.specs.LineRules.{TableRules, line_class, is_complex, is_complex_class}
 use Rattle.seg_line_rules.specs.LineUnits.{LineUnit, CountedUnit, units_of}
 use Rattle.seg_line_rules.specs.LineVerdict.{unit_verdict}
@@ -19,7 +20,7 @@ StandInside cuts =
     (first : ℕ) (rest : List ℕ)
     → (end : ℕ) × (end < length (first ∷ rest)) × RisesTo 0 (with_status 0 (cuts (first ∷ rest))) end
 
-module _ (rules : TableRules) where
+module _ {engine : LineEngine} (rules : TableRules engine) where
   takes-units : (us later : List CountedUnit) (head : CountedUnit) → us ≡ head ∷ later → TakesOf (length us) (unit_verdict rules (units_of us))
   takes-units us later head is =
       let Takes : List CountedUnit → Type 0 = λ us. TakesOf (length us) (unit_verdict rules (units_of us)) in

@@ -9,6 +9,7 @@ use Rattle.seg_text.specs.Boundaries.{IsCover, boundary, boundaries_in, offsets,
 use Rattle.seg_text.proofs.Covers.{covers, place-between}
 use Rattle.seg_text.proofs.Stretches.{later-nil, text-later-nil}
 use Rattle.seg_complex.specs.Scripts.{PieceCuts, piece_stretch, run_cuts}
+use Rattle.seg_line_rules.specs.LineClasses.LineEngine.{Classic}
 use Rattle.seg_line_rules.specs.declared.events.LineEvent.TheVariants.{Run}
 use Rattle.seg_line_rules.specs.LineBoundaries.{CutsCover, inside, line_stretch}
 use Rattle.seg_line_rules.specs.LineEvents.{UnreadLines, LeadsToLines, GoesOnLines, unread_lines, places_before}
@@ -79,7 +80,7 @@ next-past end place before after is past = rw (is, past) refl
 
 -- a new engine
 
-pub lines-cover : (cuts : Cuts) → CutsCover cuts → (rules : TableRules) (text : Text) (unread : UnreadLines) → unread ≡ record { rules = rules; text = text }
+pub lines-cover : (cuts : Cuts) → CutsCover cuts → (rules : TableRules Classic) (text : Text) (unread : UnreadLines) → unread ≡ record { rules = rules; text = text }
     → IsRising text.items text.end → IsCover (start_of text) text.end (boundaries_in (list_boundaries (line_stretch (inside cuts) unread.rules)) unread.text)
 lines-cover cuts cover rules text unread is rising =
     subst (λ (u : UnreadLines). IsCover (start_of text) text.end (boundaries_in (list_boundaries (line_stretch (inside cuts) u.rules)) u.text)) (sym is)

@@ -1,7 +1,10 @@
 -- Which classes are marks, and which bear them.
-use Rattle.std.proofs.Common.{◌≡◌, ℕ, ◌==◌, ◌||◌, ◌&&◌, not, Bool, true, false, List, [], ◌∷◌, refl, sym, ap, ◌∙◌}
+use Rattle.std.proofs.Common.{◌≡◌, ℕ, ◌==◌, ◌||◌, ◌&&◌, not, Bool, true, false, List, [], ◌∷◌, refl, sym, ap, ◌∙◌, map}
 use Rattle.std.proofs.lemmas.Bool.{eqb-true}
-use Rattle.seg_line_rules.specs.LineRules.{is_among, is_named_class}
+use Rattle.seg_line_rules.specs.LineClasses.{LineEngine, number}
+use Rattle.seg_line_rules.specs.LineClasses.LineClass.{BK, CM, CM_EASTASIAN, CR, LF, NL, SP, ZW, ZWJ}
+use Rattle.seg_line_rules.specs.LineClasses.LineEngine.{Classic, Seventeen}
+use Rattle.seg_line_rules.specs.LineRules.{is_among, is_named_class, is_one_of}
 use Rattle.seg_line_rules.specs.LineUnits.{is_mark, bears_none, is_glued}
 
 abbrev Fails : (ℕ → Bool) → List ℕ → Type 0
@@ -17,34 +20,41 @@ none-among test (one ∷ others) class fails among = on (class == one) refl (λ 
     on true is later among = let same : class ≡ one = eqb-true class one is in rw same fails.0
     on false is later among = later among
 
+-- the six that bear none
+six : LineEngine → ℕ → Bool
+six engine class = is_one_of engine (BK ∷ CR ∷ LF ∷ NL ∷ SP ∷ ZW ∷ []) class
+
 -- a mark bears marks
-pub mark-bears : (class : ℕ) → is_mark class ≡ true → bears_none class ≡ false
-mark-bears class is = none-among bears_none (14 ∷ 54 ∷ []) class (refl, (refl, tt)) is
+pub mark-bears : (engine : LineEngine) (class : ℕ) → is_mark engine class ≡ true → bears_none engine class ≡ false
+unfolding is_mark bears_none six
+mark-bears Classic class is = none-among (six Classic) (map (number Classic) (CM ∷ CM_EASTASIAN ∷ ZWJ ∷ [])) class (refl, (refl, (refl, tt))) is
+mark-bears Seventeen class is = none-among (six Seventeen) (map (number Seventeen) (CM ∷ CM_EASTASIAN ∷ ZWJ ∷ [])) class (refl, (refl, (refl, tt))) is
 
 -- a class without a name is no mark
-pub unnamed-apart : (class : ℕ) → is_named_class class ≡ false → is_mark class ≡ false
-unnamed-apart class unnamed = on (is_mark class) refl
+pub unnamed-apart : (class : ℕ) → is_named_class class ≡ false → is_mark Classic class ≡ false
+unfolding is_mark
+unnamed-apart class unnamed = on (is_mark Classic class) refl
   where
-    on : (b : Bool) → is_mark class ≡ b → b ≡ false
+    on : (b : Bool) → is_mark Classic class ≡ b → b ≡ false
     on false is = refl
     on true is =
-        let named : not (is_named_class class) ≡ false = none-among (λ class. not (is_named_class class)) (14 ∷ 54 ∷ []) class (refl, (refl, tt)) is in
+        let named : not (is_named_class class) ≡ false = none-among (λ class. not (is_named_class class)) (14 ∷ 14 ∷ 54 ∷ []) class (refl, (refl, (refl, tt))) is in
         let other : true ≡ not (is_named_class class) = sym (ap not unnamed) in
         other ∙ named
 
 -- what is glued is a mark, and its base bears it
-pub glued-bears : (base class : ℕ) → is_glued base class ≡ true → (is_mark class ≡ true) × (bears_none base ≡ false)
-glued-bears base class is = on (is_mark class) (bears_none base) refl refl is
+pub glued-bears : (engine : LineEngine) (base class : ℕ) → is_glued engine base class ≡ true → (is_mark engine class ≡ true) × (bears_none engine base ≡ false)
+glued-bears engine base class is = on (is_mark engine class) (bears_none engine base) refl refl is
   where
-    on : (m n : Bool) → is_mark class ≡ m → bears_none base ≡ n → (m && not n) ≡ true → (is_mark class ≡ true) × (bears_none base ≡ false)
+    on : (m n : Bool) → is_mark engine class ≡ m → bears_none engine base ≡ n → (m && not n) ≡ true → (is_mark engine class ≡ true) × (bears_none engine base ≡ false)
     on true false mark bears is = (mark, bears)
     on true true mark bears is = cc
     on false n mark bears is = cc
 
 -- a mark that isn't stands after a base that bears none
-pub unglued-bears : (base class : ℕ) → is_glued base class ≡ false → is_mark class ≡ true → bears_none base ≡ true
-unglued-bears base class is mark = on (bears_none base) refl
+pub unglued-bears : (engine : LineEngine) (base class : ℕ) → is_glued engine base class ≡ false → is_mark engine class ≡ true → bears_none engine base ≡ true
+unglued-bears engine base class is mark = on (bears_none engine base) refl
   where
-    on : (n : Bool) → bears_none base ≡ n → n ≡ true
+    on : (n : Bool) → bears_none engine base ≡ n → n ≡ true
     on true bears = refl
-    on false bears = let glued : is_glued base class ≡ true = rw (mark, bears) refl in sym is ∙ glued
+    on false bears = let glued : is_glued engine base class ≡ true = rw (mark, bears) refl in sym is ∙ glued

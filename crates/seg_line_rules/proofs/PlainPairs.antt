@@ -8,6 +8,8 @@ use Rattle.seg_pair_data.specs.declared.provider.pairs.BreakState.TheVariants as
 use Rattle.seg_pair_data.specs.PairTable.{entry_of}
 use Rattle.seg_pairs.specs.Verdict.{Verdict}
 use Rattle.seg_pairs.specs.Verdict.Verdict.{BreakAfter, GoAfter}
+use Rattle.seg_line_rules.specs.LineClasses.{LineEngine}
+use Rattle.seg_line_rules.specs.LineClasses.LineEngine.{Classic}
 use Rattle.seg_line_rules.specs.declared.options.LineBreakStrictness.{LineBreakStrictness}
 use Rattle.seg_line_rules.specs.declared.options.LineBreakStrictness.TheVariants as strictness
 use Rattle.seg_line_rules.specs.declared.options.LineStyle.{LineStyle}
@@ -58,19 +60,22 @@ with-single false b off = refl
 
 -- options that ask for no more
 
-keeps-off : (style : LineStyle) (left right : LineUnit) → asks_more style ≡ false → keeps style left right ≡ false
-keeps-off style left right few = three-off (is_keep_all style.word_option) _ _ (or-neither (is_keep_all style.word_option) _ few).0
+pub keeps-off : (engine : LineEngine) (style : LineStyle) (left right : ℕ) → asks_more style ≡ false → keeps engine style left right ≡ false
+unfolding keeps
+keeps-off engine style left right few = three-off (is_keep_all style.word_option) _ _ (or-neither (is_keep_all style.word_option) _ few).0
 
-pub listed-by-off : (strictness : LineBreakStrictness) (rows : List LooseRow) (style : LineStyle) (joined : Bool) (left left_point right right_point : ℕ)
+listed-by-off : (strictness : LineBreakStrictness) (rows : List LooseRow) (style : LineStyle) (joined : Bool) (left left_point right right_point : ℕ)
     → is_loose_or_normal strictness ≡ false → listed_by strictness rows style joined left left_point right right_point ≡ None
 listed-by-off strictness.Loose rows style joined left left_point right right_point none = cc
 listed-by-off strictness.Normal rows style joined left left_point right right_point none = cc
 listed-by-off strictness.Strict rows style joined left left_point right right_point none = refl
 listed-by-off strictness.Anywhere rows style joined left left_point right right_point none = refl
 
-listed-off : (style : LineStyle) (left right : LineUnit) → asks_more style ≡ false → listed style left right ≡ None
-listed-off style left right few =
-    listed-by-off style.strictness loose_rows style left.is_joined left.class left.code_point right.class right.code_point
+pub listed-off : (engine : LineEngine) (style : LineStyle) (joined : Bool) (left left_point right right_point : ℕ) → asks_more style ≡ false
+    → listed engine style joined left left_point right right_point ≡ None
+unfolding listed
+listed-off engine style joined left left_point right right_point few =
+    listed-by-off style.strictness (loose_rows engine) style joined left left_point right right_point
     (or-neither (is_keep_all style.word_option) _ few).1
 
 -- what a plain pair says of the table's entry
@@ -93,7 +98,7 @@ entry-go joined (entries.Index state) is = cc
 entry-go joined (entries.Intermediate state) is = cc
 
 -- the verdict on the first of some code points, where the table decides between it and the second
-module _ (rules : TableRules) (left right : ℕ) (after : List ℕ) where
+module _ (rules : TableRules Classic) (left right : ℕ) (after : List ℕ) where
   abbrev unit : LineUnit
   unit = base_unit rules left
 
@@ -101,23 +106,23 @@ module _ (rules : TableRules) (left right : ℕ) (after : List ℕ) where
   class = line_class rules right
 
   -- the two are bases of units
-  not-glued : is_plain rules.table.complex_property unit.class class ≡ true → is_glued unit.class class ≡ false
-  not-glued is = and-off (is_mark class) _ (not-true (is_mark class) (and-first (not (is_mark class)) _ is))
+  not-glued : is_plain rules.table.complex_property unit.class class ≡ true → is_glued Classic unit.class class ≡ false
+  not-glued is = and-off (is_mark Classic class) _ (not-true (is_mark Classic class) (and-first (not (is_mark Classic class)) _ is))
 
-  two-units : is_glued unit.class class ≡ false → counted_units rules (left ∷ right ∷ after) ≡ counted 1 unit ∷ counted_units rules (right ∷ after)
+  two-units : is_glued Classic unit.class class ≡ false → counted_units rules (left ∷ right ∷ after) ≡ counted 1 unit ∷ counted_units rules (right ∷ after)
   unfolding counted_units units_from
   two-units other = rw other refl
 
   no-run : (second : LineUnit) → second.class ≡ class → is_plain rules.table.complex_property unit.class class ≡ true → begins_run rules unit second ≡ false
   no-run second same is =
       rw same (with-single (unit.class == rules.table.complex_property) (class == rules.table.complex_property)
-      (not-true _ (and-last (not (is_mark class)) _ is)))
+      (not-true _ (and-last (not (is_mark Classic class)) _ is)))
 
   by-table : (second : LineUnit) → second.class ≡ class → asks_more rules.style ≡ false → is_plain rules.table.complex_property unit.class class ≡ true
       → case_of rules unit second ≡ Table
   by-table second same few is =
-      if-off (begins_run rules unit second) _ _ (no-run second same is) ∙ if-off (keeps rules.style unit second) _ _ (keeps-off rules.style unit second few)
-      ∙ ap list_case (listed-off rules.style unit second few)
+      if-off (begins_run rules unit second) _ _ (no-run second same is) ∙ if-off (keeps Classic rules.style unit.class second.class) _ _ (keeps-off Classic rules.style unit.class second.class few)
+      ∙ ap list_case (listed-off Classic rules.style unit.is_joined unit.class unit.left_code_point second.class second.code_point few)
 
   by-entry : (units : List LineUnit) (second : LineUnit) → second.class ≡ class → asks_more rules.style ≡ false
       → is_plain rules.table.complex_property unit.class class ≡ true
@@ -184,7 +189,7 @@ module _ (rules : TableRules) (left right : ℕ) (after : List ℕ) where
       break-by few said.0 unit.is_joined refl (entry_of rules.table unit.class class) refl said.1
 
 -- one item more
-module _ (rules : TableRules) (left right : ClassedItem) (rest after : Text) (few : asks_more rules.style ≡ false)
+module _ (rules : TableRules Classic) (left right : ClassedItem) (rest after : Text) (few : asks_more rules.style ≡ false)
     (left_class : HasClass rules left) (right_class : HasClass rules right)
     (items : rest.items ≡ (right.place, right.code_point) ∷ after.items) (end : after.end ≡ rest.end) where
   rest-is : rest ≡ text_from right after

@@ -12,6 +12,7 @@ use Rattle.seg_pairs.specs.Verdict.{Lands, LandsOrWalks, IsStepBelow, IsStop, cl
 use Rattle.seg_pairs.specs.Verdict.Verdict.{BreakAfter, GoAfter}
 use Rattle.seg_pairs.specs.Walk.{Walk, is_class}
 use Rattle.seg_pairs.proofs.Landings.{rest-at, saved-at}
+use Rattle.seg_line_rules.specs.LineClasses.LineEngine.{Classic}
 use Rattle.seg_line_rules.specs.declared.verdicts.Case.{Case}
 use Rattle.seg_line_rules.specs.declared.verdicts.Case.TheVariants.{Table}
 use Rattle.seg_line_rules.specs.LineRules.{TableRules}
@@ -174,12 +175,12 @@ first-between walk t left right after entry is none other =
 
 -- the step from a unit
 
-pub unit-last : (rules : TableRules) (left : Element) (after rest : List Element) → after ≡ [] → rest ≡ []
+pub unit-last : (rules : TableRules Classic) (left : Element) (after rest : List Element) → after ≡ [] → rest ≡ []
     → Lands (unit_verdict rules (units_seen (left ∷ after))) (left ∷ after) (End 0) rest
 unfolding unit_verdict
 unit-last rules left after rest is none = rw is (refl, refl, none)
 
-pub unit-case : (rules : TableRules) (left right : Element) (after more : List Element) (case : Case) (step : Step) (rest : List Element)
+pub unit-case : (rules : TableRules Classic) (left right : Element) (after more : List Element) (case : Case) (step : Step) (rest : List Element)
     → after ≡ right ∷ more → case ≡ case_of rules (unit_seen left) (unit_seen right)
     → Lands (case_verdict rules.table (unit_seen left) (unit_seen right) (units_seen (left ∷ right ∷ more)) case) (left ∷ right ∷ more) step rest
     → Lands (unit_verdict rules (units_seen (left ∷ after))) (left ∷ after) step rest
@@ -191,7 +192,7 @@ unit-case rules left right after more case step rest is which lands =
 abbrev walk-of : PairTable → Element → List Element → ℕ → Verdict
 walk-of t left elements state = unit_named_verdict t state (unit_seen left) (units_seen elements)
 
-pub unit-table : (rules : TableRules) (t : PairTable) (left right : Element) (after more : List Element) (step : Step) (rest : List Element)
+pub unit-table : (rules : TableRules Classic) (t : PairTable) (left right : Element) (after more : List Element) (step : Step) (rest : List Element)
     → after ≡ right ∷ more → Table ≡ case_of rules (unit_seen left) (unit_seen right) → t ≡ rules.table
     → LandsOrWalks (walk-of t left (left ∷ right ∷ more)) (first-verdict t left right more (entry_of t left.class right.class)) (left ∷ right ∷ more) step rest
     → LandsOrWalks (walk-of rules.table left (left ∷ after)) (unit_verdict rules (units_seen (left ∷ after))) (left ∷ after) step rest

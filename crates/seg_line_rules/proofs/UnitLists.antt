@@ -4,20 +4,21 @@ use Rattle.std.specs.Prelude.{slice_get}
 use Rattle.std.proofs.lemmas.Bool.{false≢true}
 use Rattle.std.proofs.lemmas.List.{length-drop, drop-drop}
 use Rattle.std.proofs.lemmas.Option.{same_Some, none-some}
+use Rattle.seg_line_rules.specs.LineClasses.{LineEngine}
 use Rattle.seg_line_rules.specs.LineRules.{TableRules, line_class}
 use Rattle.seg_line_rules.specs.LineUnits.{LineUnit, CountedUnit, is_mark, bears_none, is_glued, base_unit, with_mark, units_from, counted_units, extent_of}
 use Rattle.seg_line_rules.proofs.Marks.{mark-bears, glued-bears, unglued-bears}
 
 -- where the code point after so many and one more is a mark, these end with what bears none
-abbrev pub PartsAfter : TableRules → List ℕ → ℕ → Type 0
-PartsAfter rules code_points k =
+abbrev pub PartsAfter : {engine : LineEngine} → TableRules engine → List ℕ → ℕ → Type 0
+PartsAfter {engine} rules code_points k =
     (before mark : ℕ) → slice_get code_points k ≡ Some before → slice_get code_points (suc k) ≡ Some mark
-    → is_mark (line_class rules mark) ≡ true → bears_none (line_class rules before) ≡ true
+    → is_mark engine (line_class rules mark) ≡ true → bears_none engine (line_class rules before) ≡ true
 
 abbrev pub counted : ℕ → LineUnit → CountedUnit
 counted extent unit = record { extent = extent; unit = unit }
 
-module _ (rules : TableRules) where
+module _ {engine : LineEngine} (rules : TableRules engine) where
   -- the first unit, which begins with so many code points and has some of these too
   record FirstFrom (extent : ℕ) (unit : LineUnit) (code_points : List ℕ) : Type 0 where
     marks : ℕ
@@ -26,7 +27,7 @@ module _ (rules : TableRules) where
     within : marks ≤ length code_points
     class : whole.class ≡ unit.class
     single : whole.is_single ≡ true → (marks ≡ 0) × (unit.is_single ≡ true)
-    parts : (last : ℕ) → bears_none (line_class rules last) ≡ bears_none unit.class → PartsAfter rules (last ∷ code_points) marks
+    parts : (last : ℕ) → bears_none engine (line_class rules last) ≡ bears_none engine unit.class → PartsAfter rules (last ∷ code_points) marks
 
   first-from : (extent : ℕ) (unit : LineUnit) (code_points : List ℕ) → FirstFrom extent unit code_points
   unfolding units_from counted_units
@@ -42,12 +43,12 @@ module _ (rules : TableRules) where
         parts = λ last bears before mark here there. absurd (none-some mark there);
       }
   first-from extent unit (code_point ∷ code_points) =
-      on (is_glued unit.class (line_class rules code_point)) refl (first-from (suc extent) (with_mark rules unit code_point) code_points)
+      on (is_glued engine unit.class (line_class rules code_point)) refl (first-from (suc extent) (with_mark rules unit code_point) code_points)
     where
-      on : (b : Bool) → is_glued unit.class (line_class rules code_point) ≡ b → FirstFrom (suc extent) (with_mark rules unit code_point) code_points
+      on : (b : Bool) → is_glued engine unit.class (line_class rules code_point) ≡ b → FirstFrom (suc extent) (with_mark rules unit code_point) code_points
           → FirstFrom extent unit (code_point ∷ code_points)
       on true glued later =
-          let bears = glued-bears unit.class (line_class rules code_point) glued in
+          let bears = glued-bears engine unit.class (line_class rules code_point) glued in
           let more : extent + suc later.marks ≡ suc extent + later.marks = omega arith in
           record {
             marks = suc later.marks;
@@ -57,7 +58,7 @@ module _ (rules : TableRules) where
             class = later.class;
             single = λ single. absurd (false≢true (later.single single).1);
             parts = λ last alike before mark here there.
-                later.parts code_point (mark-bears (line_class rules code_point) bears.0 ∙ sym bears.1) before mark here there;
+                later.parts code_point (mark-bears engine (line_class rules code_point) bears.0 ∙ sym bears.1) before mark here there;
           }
       on false glued later =
           let none : extent + 0 ≡ extent = omega arith in
@@ -71,7 +72,7 @@ module _ (rules : TableRules) where
             parts = λ last alike before mark here there is_mark.
                 let same : last ≡ before = same_Some last before here in
                 let other : code_point ≡ mark = same_Some code_point mark there in
-                rw (← same) (alike ∙ unglued-bears unit.class (line_class rules code_point) glued (rw other is_mark));
+                rw (← same) (alike ∙ unglued-bears engine unit.class (line_class rules code_point) glued (rw other is_mark));
           }
 
   -- the first unit of some code points: how many marks it has, and what is left

@@ -8,6 +8,7 @@ use Rattle.seg_pairs.specs.Walk.{Walk, walk}
 use Rattle.seg_pairs.specs.Verdict.Verdict.{RunBegins}
 use Rattle.seg_pairs.specs.Verdict.{TakesOf, IsForward}
 use Rattle.seg_pairs.proofs.Forward.{Within, walk-within}
+use Rattle.seg_line_rules.specs.LineClasses.{LineEngine}
 use Rattle.seg_line_rules.specs.declared.verdicts.Case.{Case}
 use Rattle.seg_line_rules.specs.declared.verdicts.Case.TheVariants.{Run, Together, Apart, Table}
 use Rattle.seg_line_rules.specs.LineLists.{keeps, listed}
@@ -102,7 +103,7 @@ case-takes t left right after Together = (omega arith, omega arith)
 case-takes t left right after Apart = (omega arith, omega arith)
 case-takes t left right after Table = first-takes t left right after (entry_of t left.class right.class)
 
-pub unit-forward : (rules : TableRules) → IsForward (unit_verdict rules)
+pub unit-forward : {engine : LineEngine} (rules : TableRules engine) → IsForward (unit_verdict rules)
 unfolding unit_verdict
 unit-forward rules left [] = (omega arith, omega arith)
 unit-forward rules left (right ∷ after) = case-takes rules.table left right after (case_of rules left right)
@@ -120,19 +121,19 @@ list-no-run (Some true) is = cc
 list-no-run (Some false) is = cc
 list-no-run None is = cc
 
-begins-of : (rules : TableRules) (left right : LineUnit) → case_of rules left right ≡ Run → begins_run rules left right ≡ true
-begins-of rules left right is = outer (begins_run rules left right) refl is
+begins-of : {engine : LineEngine} (rules : TableRules engine) (left right : LineUnit) → case_of rules left right ≡ Run → begins_run rules left right ≡ true
+begins-of {engine} rules left right is = outer (begins_run rules left right) refl is
   where
-    inner : (b : Bool) → cond b Together (list_case (listed rules.style left right)) ≡ Run → begins_run rules left right ≡ true
+    inner : (b : Bool) → cond b Together (list_case (listed engine rules.style left.is_joined left.class left.left_code_point right.class right.code_point)) ≡ Run → begins_run rules left right ≡ true
     inner true is = cc
-    inner false is = absurd (list-no-run (listed rules.style left right) is)
+    inner false is = absurd (list-no-run (listed engine rules.style left.is_joined left.class left.left_code_point right.class right.code_point) is)
 
-    outer : (b : Bool) → begins_run rules left right ≡ b → cond b Run (cond (keeps rules.style left right) Together (list_case (listed rules.style left right))) ≡ Run
+    outer : (b : Bool) → begins_run rules left right ≡ b → cond b Run (cond (keeps engine rules.style left.class right.class) Together (list_case (listed engine rules.style left.is_joined left.class left.left_code_point right.class right.code_point))) ≡ Run
         → begins_run rules left right ≡ true
     outer true begins is = begins
-    outer false begins is = inner (keeps rules.style left right) is
+    outer false begins is = inner (keeps engine rules.style left.class right.class) is
 
-pub record BeginsRun (rules : TableRules) (left : LineUnit) (others : List LineUnit) : Type 0 where
+pub record BeginsRun {engine : LineEngine} (rules : TableRules engine) (left : LineUnit) (others : List LineUnit) : Type 0 where
   pub right : LineUnit
   pub after : List LineUnit
   pub two : others ≡ right ∷ after
@@ -140,7 +141,7 @@ pub record BeginsRun (rules : TableRules) (left : LineUnit) (others : List LineU
   pub left_single : left.is_single ≡ true
   pub right_complex : is_complex_class rules right.class ≡ true
 
-pub unit-run : (rules : TableRules) (left : LineUnit) (others : List LineUnit) → unit_verdict rules (left ∷ others) ≡ RunBegins → BeginsRun rules left others
+pub unit-run : {engine : LineEngine} (rules : TableRules engine) (left : LineUnit) (others : List LineUnit) → unit_verdict rules (left ∷ others) ≡ RunBegins → BeginsRun rules left others
 unfolding unit_verdict
 unit-run rules left [] is = cc
 unit-run rules left (right ∷ after) is =

@@ -8,16 +8,18 @@ use Rattle.seg_pairs.specs.Verdict.{Verdict}
 use Rattle.seg_pairs.specs.Verdict.Verdict.{BreakAfter, GoAfter, RunBegins}
 use Rattle.seg_line_rules.specs.declared.line_pairs.LinePairs.{LinePairs}
 use Rattle.seg_line_rules.specs.declared.line_pairs.OwnedLinePairs.{OwnedLinePairs}
+use Rattle.seg_line_rules.specs.LineClasses.{LineEngine}
+use Rattle.seg_line_rules.specs.LineClasses.LineEngine.{Classic}
 use Rattle.seg_line_rules.specs.LineRules.{TableRules, line_class, is_complex}
 use Rattle.seg_line_rules.specs.LineUnits.{CountedUnit, counted_units, units_of, extent_of, is_mark, bears_none}
 use Rattle.seg_line_rules.specs.LineVerdict.{unit_verdict}
 
 -- What is seen of the data of lines.
 
-abbrev pub rules_by : LinePairs → TableRules
+abbrev pub rules_by : LinePairs → TableRules Classic
 rules_by pairs = record { table = pairs.table.now; style = pairs.style }
 
-abbrev pub owned_rules_by : OwnedLinePairs → TableRules
+abbrev pub owned_rules_by : OwnedLinePairs → TableRules Classic
 owned_rules_by pairs = record { table = pairs.table; style = pairs.style }
 
 -- The boundaries of lines in a list of code points: verdict by verdict on the units of what is left.
@@ -29,28 +31,28 @@ in_code_points counted (GoAfter taken) = GoAfter (extent_of taken counted)
 in_code_points counted RunBegins = RunBegins
 
 -- the verdict on the first unit of some code points
-unfoldable pub line_verdict : TableRules → List ℕ → Verdict
+unfoldable pub line_verdict : {engine : LineEngine} → TableRules engine → List ℕ → Verdict
 line_verdict rules code_points =
     in_code_points (counted_units rules code_points) (unit_verdict rules (units_of (counted_units rules code_points)))
 
 -- how many complex code points stand first
-abbrev pub complex_length : TableRules → List ℕ → ℕ
+abbrev pub complex_length : {engine : LineEngine} → TableRules engine → List ℕ → ℕ
 complex_length rules code_points = prefix_len (is_complex rules) code_points
 
 -- the first stretch of some code points by the verdict on their first unit. A run is cut in some way, and takes all its code
 -- points but the last, which the next verdict is on
-abbrev pub line_stretch_of : Cuts → TableRules → List ℕ → Verdict → Stretch
+abbrev pub line_stretch_of : {engine : LineEngine} → Cuts → TableRules engine → List ℕ → Verdict → Stretch
 line_stretch_of cuts rules code_points (BreakAfter taken class) = record { extent = taken; boundaries = boundary taken 0 ∷ [] }
 line_stretch_of cuts rules code_points (GoAfter taken) = record { extent = taken; boundaries = [] }
 line_stretch_of cuts rules code_points RunBegins =
     let extent = complex_length rules code_points in
     record { extent = extent - 1; boundaries = with_status 0 (cuts (take extent code_points)) }
 
-abbrev pub line_stretch : Cuts → TableRules → List ℕ → Stretch
+abbrev pub line_stretch : {engine : LineEngine} → Cuts → TableRules engine → List ℕ → Stretch
 line_stretch cuts rules code_points = line_stretch_of cuts rules code_points (line_verdict rules code_points)
 
 -- the boundaries of lines, where runs have these cuts
-abbrev pub line_boundaries : Cuts → TableRules → List ℕ → List Boundary
+abbrev pub line_boundaries : {engine : LineEngine} → Cuts → TableRules engine → List ℕ → List Boundary
 line_boundaries cuts rules code_points = list_boundaries (line_stretch cuts rules) code_points
 
 -- those cuts that stand strictly inside
@@ -62,18 +64,18 @@ abbrev pub CutsCover : Cuts → Type 0
 CutsCover cuts = (run : List ℕ) → RisesTo 0 (with_status 0 (cuts run)) (length run)
 
 -- the boundaries of a text of lines: those of its code points, at the places of its items
-abbrev pub table_line_boundaries_of : Cuts → TableRules → Text → List Boundary
+abbrev pub table_line_boundaries_of : Cuts → TableRules Classic → Text → List Boundary
 table_line_boundaries_of cuts rules text = boundaries_in (line_boundaries (inside cuts) rules) text
 
 -- some code points are complex, as the options read them
-abbrev pub HasComplexCodePoint : TableRules → List ℕ → Type 0
+abbrev pub HasComplexCodePoint : TableRules Classic → List ℕ → Type 0
 HasComplexCodePoint rules code_points = Contains (map (line_class rules) code_points) rules.table.complex_property
 
 -- No boundary of lines but the first stands before a mark, except after what bears none.
 
 -- where a boundary stands between two code points of which the second is a mark, the first bears none
-abbrev pub KeepsMarks : TableRules → List ℕ → List Boundary → Type 0
-KeepsMarks rules code_points found =
+abbrev pub KeepsMarks : {engine : LineEngine} → TableRules engine → List ℕ → List Boundary → Type 0
+KeepsMarks {engine} rules code_points found =
     (k before mark : ℕ) → Contains (offsets found) (suc k)
     → slice_get code_points k ≡ Some before → slice_get code_points (suc k) ≡ Some mark
-    → is_mark (line_class rules mark) ≡ true → bears_none (line_class rules before) ≡ true
+    → is_mark engine (line_class rules mark) ≡ true → bears_none engine (line_class rules before) ≡ true

@@ -9,6 +9,8 @@ use Rattle.seg_pair_data.specs.declared.provider.pairs.BreakState.TheVariants as
 use Rattle.seg_pairs.specs.declared.elements.Element.{Element}
 use Rattle.seg_pairs.specs.Elements.{onto}
 use Rattle.seg_line_rules.specs.declared.plain_pairs.ClassedItem.{ClassedItem}
+use Rattle.seg_line_rules.specs.LineClasses.{LineEngine}
+use Rattle.seg_line_rules.specs.LineClasses.LineEngine.{Classic}
 use Rattle.seg_line_rules.specs.LineRules.{TableRules, line_class, is_keep_all, is_loose_or_normal}
 use Rattle.seg_line_rules.specs.declared.events.LineEvent.{LineEvent}
 use Rattle.seg_line_rules.specs.declared.events.LineEvent.TheVariants.{End, Break, Run}
@@ -34,18 +36,18 @@ abbrev pub IsAheadBy : PairTable → (ℕ → ℕ) → Text → Option ClassedIt
 IsAheadBy t class_of here None rest = here.items ≡ []
 IsAheadBy t class_of here (Some next) rest = (here ≡ text_from next rest) × HasClassBy t class_of next
 
--- the same by the rules of lines by a pair table
-abbrev pub HasClass : TableRules → ClassedItem → Type 0
+-- the same by the rules of lines
+abbrev pub HasClass : {engine : LineEngine} → TableRules engine → ClassedItem → Type 0
 HasClass rules item = HasClassBy rules.table (line_class rules) item
 
-abbrev pub IsItemAhead : TableRules → Text → Option ClassedItem → Text → Type 0
+abbrev pub IsItemAhead : {engine : LineEngine} → TableRules engine → Text → Option ClassedItem → Text → Type 0
 IsItemAhead rules here next rest = IsAheadBy rules.table (line_class rules) here next rest
 
 -- What comes next of a text that is read line by line.
 
 -- a text that is being read, and what its lines are found by
 pub record UnreadLines : Type 0 where
-  pub rules : TableRules
+  pub rules : TableRules Classic
   pub text : Text
 
 -- the boundaries of an unread text but that at its start
@@ -75,7 +77,7 @@ pub record GoesOnLines (before after : UnreadLines) : Type 0 where
   pub fewer : before.text.items ≢ [] → length after.text.items < length before.text.items
 
 -- the first unit, where there is one, and the others are those of the text
-pub record AreUnitsAhead (rules : TableRules) (text : Text) (next : Option Element) (rest : UnitsLeft) : Type 0 where
+pub record AreUnitsAhead (rules : TableRules Classic) (text : Text) (next : Option Element) (rest : UnitsLeft) : Type 0 where
   pub same : onto next rest.left ≡ line_elements rules text.items
   pub same_end : rest.end ≡ text.end
   pub same_table : rest.rules.table ≡ rules.table
@@ -89,7 +91,7 @@ asks_more style = is_keep_all style.word_option || is_loose_or_normal style.stri
 
 -- the table alone decides between an item with no marks and the next: that is no mark, and no run begins
 abbrev pub is_plain : ℕ → ℕ → ℕ → Bool
-is_plain complex left right = not (is_mark right) && not (left == complex && right == complex)
+is_plain complex left right = not (is_mark Classic right) && not (left == complex && right == complex)
 
 abbrev pub entry_pair : Bool → BreakState → PlainPair
 entry_pair joined entries.Keep = plain.Go
@@ -99,19 +101,19 @@ entry_pair joined (entries.Index state) = plain.Other
 entry_pair joined (entries.Intermediate state) = plain.Other
 
 abbrev pub plain_pair : PairTable → ℕ → ℕ → PlainPair
-plain_pair t left right = if is_plain t.complex_property left right then entry_pair (is_joiner left) (entry_of t left right) else plain.Other
+plain_pair t left right = if is_plain t.complex_property left right then entry_pair (is_joiner Classic left) (entry_of t left right) else plain.Other
 
 -- a text that is being read
-abbrev pub unread_from : TableRules → ClassedItem → Text → UnreadLines
+abbrev pub unread_from : TableRules Classic → ClassedItem → Text → UnreadLines
 unread_from rules next rest = record { rules = rules; text = text_from next rest }
 
 -- the boundaries from this item on, and one before it or not
-abbrev pub passed_lines : Cuts → TableRules → (is_break : Bool) → ClassedItem → Text → List Boundary
+abbrev pub passed_lines : Cuts → TableRules Classic → (is_break : Bool) → ClassedItem → Text → List Boundary
 passed_lines cuts rules true next rest = boundary next.place 0 ∷ unread_lines cuts (unread_from rules next rest)
 passed_lines cuts rules false next rest = unread_lines cuts (unread_from rules next rest)
 
 -- plain pairs lead from one item, with those after it, to another
-pub record IsPassed (rules : TableRules) (first : ClassedItem) (start : Text) (next : ClassedItem) (rest : Text) (is_break : Bool) : Type 0 where
+pub record IsPassed (rules : TableRules Classic) (first : ClassedItem) (start : Text) (next : ClassedItem) (rest : Text) (is_break : Bool) : Type 0 where
   pub taken : ℕ
   pub text_is : text_from next rest ≡ rest_after taken (text_from first start)
   pub class : HasClass rules next

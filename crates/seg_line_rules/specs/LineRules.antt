@@ -12,8 +12,9 @@ use Rattle.seg_line_rules.specs.declared.options.LineBreakStrictness.TheVariants
 use Rattle.seg_line_rules.specs.declared.options.LineBreakWordOption.{LineBreakWordOption}
 use Rattle.seg_line_rules.specs.declared.options.LineBreakWordOption.TheVariants as word_option
 use Rattle.seg_line_rules.specs.declared.options.LineStyle.{LineStyle}
-use Rattle.seg_line_rules.specs.LineClasses.{LineClass, classic}
-use Rattle.seg_line_rules.specs.LineClasses.LineClass.{AL, CJ, ID, NU}
+use Rattle.seg_line_rules.specs.LineClasses.{LineClass, LineEngine, number}
+use Rattle.seg_line_rules.specs.LineClasses.LineClass.{AL, AL_DOTTED_CIRCLE, AL_EASTASIAN, CJ, ID, NU, SA, SA_MC_MN}
+use Rattle.seg_line_rules.specs.LineClasses.LineEngine.{Classic, Seventeen}
 
 -- What options say of lines, where those that aren't given have their defaults.
 
@@ -47,13 +48,13 @@ is_loose_or_normal strictness.Anywhere = false
 
 -- What the boundaries of lines are found by, and the classes that code points have by it.
 
--- a pair table, and what options say
-pub record TableRules : Type 0 where
+-- a pair table of an engine, and what options say
+pub record TableRules (engine : LineEngine) : Type 0 where
   pub table : PairTable
   pub style : LineStyle
 
 -- the table, and what the default options say
-abbrev pub default_rules : PairTable → TableRules
+abbrev pub default_rules : {engine : LineEngine} → PairTable → TableRules engine
 default_rules table = record {
   table = table;
   style = record { strictness = strictness.Strict; word_option = word_option.Normal; is_ja_or_zh = false };
@@ -65,27 +66,40 @@ is_among [] number = false
 is_among (one ∷ others) number = number == one || is_among others number
 
 -- .. or that of one of these classes
-abbrev pub is_one_of : (LineClass → ℕ) → List LineClass → ℕ → Bool
-is_one_of numbers classes number = is_among (map numbers classes) number
+abbrev pub is_one_of : LineEngine → List LineClass → ℕ → Bool
+is_one_of engine classes class = is_among (map (number engine) classes) class
 
--- a class that the options read as ID: CJ under BreakAll, Loose or Normal; complex, AL and NU under BreakAll
-abbrev pub is_read_as_id : LineStyle → ℕ → ℕ → Bool
-is_read_as_id style complex class =
-    (is_one_of classic (CJ ∷ []) class && (is_break_all style.word_option || is_loose_or_normal style.strictness))
-    || (is_among (complex ∷ map classic (AL ∷ NU ∷ [])) class && is_break_all style.word_option)
+-- letters that no other class has: the engine 17 tells the wide ones and the dotted circle apart
+abbrev pub letters : LineEngine → List LineClass
+letters Classic = AL ∷ []
+letters Seventeen = AL ∷ AL_DOTTED_CIRCLE ∷ AL_EASTASIAN ∷ []
 
-abbrev pub class_read : LineStyle → ℕ → ℕ → ℕ
-class_read style complex class = if is_read_as_id style complex class then classic ID else class
+-- a class that the options read as ID: CJ under BreakAll, Loose or Normal; complex, digits and letters under BreakAll
+abbrev pub is_read_as_id : LineEngine → LineStyle → ℕ → ℕ → Bool
+is_read_as_id engine style complex class =
+    (is_one_of engine (CJ ∷ []) class && (is_break_all style.word_option || is_loose_or_normal style.strictness))
+    || (is_among (complex ∷ map (number engine) (NU ∷ letters engine)) class && is_break_all style.word_option)
+
+abbrev pub class_read : LineEngine → LineStyle → ℕ → ℕ → ℕ
+class_read engine style complex class = if is_read_as_id engine style complex class then number engine ID else class
 
 -- the class of a code point, as the options read it
-unfoldable pub line_class : TableRules → ℕ → ℕ
-line_class rules code_point = class_read rules.style rules.table.complex_property (class_of rules.table None code_point)
+unfoldable pub line_class : {engine : LineEngine} → TableRules engine → ℕ → ℕ
+line_class {engine} rules code_point = class_read engine rules.style rules.table.complex_property (class_of rules.table None code_point)
 
--- the class is complex, and so is the code point
-abbrev pub is_complex_class : TableRules → ℕ → Bool
-is_complex_class rules class = class == rules.table.complex_property
+-- SA, Complex_Context, and its marks
+unfoldable pub is_complex_context : ℕ → Bool
+is_complex_context class = is_one_of Seventeen (SA ∷ SA_MC_MN ∷ []) class
 
-abbrev pub is_complex : TableRules → ℕ → Bool
+-- the class is complex, and so is the code point: the table names one, the engine 17 has these two
+abbrev pub is_complex_by : LineEngine → PairTable → ℕ → Bool
+is_complex_by Classic t class = class == t.complex_property
+is_complex_by Seventeen t class = is_complex_context class
+
+abbrev pub is_complex_class : {engine : LineEngine} → TableRules engine → ℕ → Bool
+is_complex_class {engine} rules class = is_complex_by engine rules.table class
+
+abbrev pub is_complex : {engine : LineEngine} → TableRules engine → ℕ → Bool
 is_complex rules code_point = is_complex_class rules (line_class rules code_point)
 
 -- The faults of the data of lines.
@@ -97,7 +111,7 @@ is_named_class class = (nat_le 1 class && nat_le class 45) || (nat_le 47 class &
 -- the faults of a pair table of lines: it has no class ID, a code point below U+0100 is complex, before the options read its
 -- class, or the complex class is one that has a name
 abbrev pub HasOwnLineFault : PairTable → DataError → Type 0
-HasOwnLineFault t ClassOutOfRange = t.property_count ≤ classic ID
+HasOwnLineFault t ClassOutOfRange = t.property_count ≤ number Classic ID
 HasOwnLineFault t ComplexBelow0100 = HasComplexClassBelow0100 t None
 HasOwnLineFault t ComplexClassNamed = is_named_class t.complex_property ≡ true
 HasOwnLineFault t _ = ⊥

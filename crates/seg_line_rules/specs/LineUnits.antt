@@ -2,45 +2,53 @@
 use Rattle.std.specs.Prelude.{ℕ, zero, suc, ◌+◌, ◌==◌, ◌&&◌, not, Bool, true, false, if◌then◌else◌, List, [], ◌∷◌, map, ◌≡◌, ◌<◌, Option, Some, None, IfSome}
 use Rattle.seg_text.specs.Items.{Item}
 use Rattle.seg_pairs.specs.declared.elements.Element.{Element}
-use Rattle.seg_line_rules.specs.LineClasses.{classic}
-use Rattle.seg_line_rules.specs.LineClasses.LineClass.{BK, CM, CR, LF, NL, SP, ZW, ZWJ}
+use Rattle.seg_line_rules.specs.LineClasses.{LineEngine, number}
+use Rattle.seg_line_rules.specs.LineClasses.LineClass.{BK, CM, CM_EASTASIAN, CR, LF, NL, SP, ZW, ZWJ}
+use Rattle.seg_line_rules.specs.LineClasses.LineEngine.{Classic, Seventeen}
 use Rattle.seg_line_rules.specs.LineRules.{TableRules, line_class, is_one_of}
 
--- a code point that isn't glued, which is its base, and the marks after it: the class of the base and its code point,
--- whether the last of them is ZWJ, and whether there are no marks
+-- a code point that isn't glued, which is its base, and the marks after it: the class of the base and its code point, that which lists
+-- look at where the unit stands on the left, whether the last of them is ZWJ, and whether there are no marks
 pub record LineUnit : Type 0 where
   pub class : ℕ
   pub code_point : ℕ
+  pub left_code_point : ℕ
   pub is_joined : Bool
   pub is_single : Bool
 
-abbrev pub is_mark : ℕ → Bool
-is_mark class = is_one_of classic (CM ∷ ZWJ ∷ []) class
+unfoldable pub is_mark : LineEngine → ℕ → Bool
+is_mark engine class = is_one_of engine (CM ∷ CM_EASTASIAN ∷ ZWJ ∷ []) class
 
--- a mark after a base of this class stands alone
-abbrev pub bears_none : ℕ → Bool
-bears_none class = is_one_of classic (BK ∷ CR ∷ LF ∷ NL ∷ SP ∷ ZW ∷ []) class
+-- a mark after a base of one of these six classes stands alone
+unfoldable pub bears_none : LineEngine → ℕ → Bool
+bears_none engine class = is_one_of engine (BK ∷ CR ∷ LF ∷ NL ∷ SP ∷ ZW ∷ []) class
 
-abbrev pub is_glued : ℕ → ℕ → Bool
-is_glued base class = is_mark class && not (bears_none base)
+abbrev pub is_glued : LineEngine → ℕ → ℕ → Bool
+is_glued engine base class = is_mark engine class && not (bears_none engine base)
 
-abbrev pub is_joiner : ℕ → Bool
-is_joiner class = class == classic ZWJ
+abbrev pub is_joiner : LineEngine → ℕ → Bool
+is_joiner engine class = class == number engine ZWJ
 
--- a code point alone, and a unit with one mark more
-abbrev pub base_unit : TableRules → ℕ → LineUnit
-base_unit rules code_point = record {
+-- a code point alone, and a unit with one mark more: lists look at the base on the left, those of the engine 17 at the last code point
+abbrev pub base_unit : {engine : LineEngine} → TableRules engine → ℕ → LineUnit
+base_unit {engine} rules code_point = record {
   class = line_class rules code_point;
   code_point = code_point;
-  is_joined = is_joiner (line_class rules code_point);
+  left_code_point = code_point;
+  is_joined = is_joiner engine (line_class rules code_point);
   is_single = true;
 }
 
-abbrev pub with_mark : TableRules → LineUnit → ℕ → LineUnit
-with_mark rules unit mark = record {
+abbrev pub left_after : LineEngine → ℕ → ℕ → ℕ
+left_after Classic before mark = before
+left_after Seventeen before mark = mark
+
+abbrev pub with_mark : {engine : LineEngine} → TableRules engine → LineUnit → ℕ → LineUnit
+with_mark {engine} rules unit mark = record {
   class = unit.class;
   code_point = unit.code_point;
-  is_joined = is_joiner (line_class rules mark);
+  left_code_point = left_after engine unit.left_code_point mark;
+  is_joined = is_joiner engine (line_class rules mark);
   is_single = false;
 }
 
@@ -50,14 +58,14 @@ pub record CountedUnit : Type 0 where
   pub unit : LineUnit
 
 -- the units of a list that begins with this one, or with its first code points
-unfoldable pub units_from : TableRules → CountedUnit → List ℕ → List CountedUnit
+unfoldable pub units_from : {engine : LineEngine} → TableRules engine → CountedUnit → List ℕ → List CountedUnit
 units_from rules counted [] = counted ∷ []
-units_from rules counted (code_point ∷ code_points) =
-    if is_glued counted.unit.class (line_class rules code_point)
+units_from {engine} rules counted (code_point ∷ code_points) =
+    if is_glued engine counted.unit.class (line_class rules code_point)
     then units_from rules (record { extent = suc counted.extent; unit = with_mark rules counted.unit code_point }) code_points
     else counted ∷ units_from rules (record { extent = 1; unit = base_unit rules code_point }) code_points
 
-unfoldable pub counted_units : TableRules → List ℕ → List CountedUnit
+unfoldable pub counted_units : {engine : LineEngine} → TableRules engine → List ℕ → List CountedUnit
 counted_units rules [] = []
 counted_units rules (code_point ∷ code_points) = units_from rules (record { extent = 1; unit = base_unit rules code_point }) code_points
 
@@ -70,13 +78,14 @@ extent_of zero counted = 0
 extent_of (suc n) [] = 0
 extent_of (suc n) (one ∷ counted) = one.extent + extent_of n counted
 
--- Units of lines as elements of a text.
+-- Units of lines as elements of a text, by the classic engine.
 
 -- what a verdict looks at of an element
 abbrev pub unit_seen : Element → LineUnit
 unit_seen element = record {
   class = element.class;
   code_point = element.code_point;
+  left_code_point = element.code_point;
   is_joined = element.is_joined;
   is_single = element.is_single;
 }
@@ -90,7 +99,7 @@ base_element place code_point class = record {
   class = class;
   place = place;
   code_point = code_point;
-  is_joined = is_joiner class;
+  is_joined = is_joiner Classic class;
   is_single = true;
 }
 
@@ -99,37 +108,37 @@ marked_element element class = record {
   class = element.class;
   place = element.place;
   code_point = element.code_point;
-  is_joined = is_joiner class;
+  is_joined = is_joiner Classic class;
   is_single = false;
 }
 
-abbrev pub base_of : TableRules → Item → Element
+abbrev pub base_of : TableRules Classic → Item → Element
 base_of rules item = base_element item.0 item.1 (line_class rules item.1)
 
 -- the elements of a text that begins with this one, or with its first items
-unfoldable pub elements_from : TableRules → Element → List Item → List Element
+unfoldable pub elements_from : TableRules Classic → Element → List Item → List Element
 elements_from rules element [] = element ∷ []
 elements_from rules element (item ∷ items) =
-    if is_glued element.class (line_class rules item.1)
+    if is_glued Classic element.class (line_class rules item.1)
     then elements_from rules (marked_element element (line_class rules item.1)) items
     else element ∷ elements_from rules (base_of rules item) items
 
 -- those of a text whose first item was read already, where there was one
-abbrev pub elements_after : TableRules → Option Element → List Item → List Element
+abbrev pub elements_after : TableRules Classic → Option Element → List Item → List Element
 elements_after rules None items = []
 elements_after rules (Some first) items = elements_from rules first items
 
-abbrev pub line_elements : TableRules → List Item → List Element
+abbrev pub line_elements : TableRules Classic → List Item → List Element
 line_elements rules [] = []
 line_elements rules (item ∷ items) = elements_from rules (base_of rules item) items
 
 -- what isn't read yet of the units of a text
 pub record UnitsLeft : Type 0 where
-  pub rules : TableRules
+  pub rules : TableRules Classic
   pub left : List Element
   pub end : ℕ
 
 -- the first item is a base by the rules, and where there is none no item is left
-pub record IsFirst (rules : TableRules) (first : Option Element) (items : List Item) : Type 0 where
+pub record IsFirst (rules : TableRules Classic) (first : Option Element) (items : List Item) : Type 0 where
   pub none : first ≡ None → items ≡ []
   pub below : IfSome first (λ first. first.class < rules.table.property_count)

@@ -11,6 +11,7 @@ use Rattle.seg_pairs.specs.declared.verdicts.Step.{Step}
 use Rattle.seg_pairs.specs.declared.verdicts.Step.TheVariants as steps
 use Rattle.seg_line_rules.specs.declared.verdicts.Case.{Case}
 use Rattle.seg_line_rules.specs.declared.verdicts.Case.TheVariants.{Run, Together, Apart, Table}
+use Rattle.seg_line_rules.specs.LineClasses.{LineEngine}
 use Rattle.seg_line_rules.specs.LineRules.{TableRules, is_complex_class}
 use Rattle.seg_line_rules.specs.LineLists.{keeps, listed}
 use Rattle.seg_line_rules.specs.LineUnits.{LineUnit}
@@ -82,7 +83,7 @@ unit_first_verdict t left units (Index state) = unit_named_verdict t state left 
 unit_first_verdict t left units (Intermediate state) = unit_named_verdict t state left units
 
 -- a run begins where one complex code point stands alone before a complex base
-abbrev pub begins_run : TableRules → LineUnit → LineUnit → Bool
+abbrev pub begins_run : {engine : LineEngine} → TableRules engine → LineUnit → LineUnit → Bool
 begins_run rules left right = is_complex_class rules left.class && left.is_single && is_complex_class rules right.class
 
 abbrev pub list_case : Option Bool → Case
@@ -91,11 +92,11 @@ list_case (Some false) = Together
 list_case None = Table
 
 -- the first case that applies: a run, KeepAll, the lists, and else the table
-abbrev pub case_of : TableRules → LineUnit → LineUnit → Case
-case_of rules left right =
+abbrev pub case_of : {engine : LineEngine} → TableRules engine → LineUnit → LineUnit → Case
+case_of {engine} rules left right =
     if begins_run rules left right then Run
-    else if keeps rules.style left right then Together
-    else list_case (listed rules.style left right)
+    else if keeps engine rules.style left.class right.class then Together
+    else list_case (listed engine rules.style left.is_joined left.class left.left_code_point right.class right.code_point)
 
 abbrev pub case_verdict : PairTable → LineUnit → LineUnit → List LineUnit → Case → Verdict
 case_verdict t left right units Run = RunBegins
@@ -103,7 +104,7 @@ case_verdict t left right units Together = GoAfter 1
 case_verdict t left right units Apart = BreakAfter 1 0
 case_verdict t left right units Table = unit_first_verdict t left units (entry_of t left.class right.class)
 
-unfoldable pub unit_verdict : TableRules → List LineUnit → Verdict
+unfoldable pub unit_verdict : {engine : LineEngine} → TableRules engine → List LineUnit → Verdict
 unit_verdict rules [] = unasked
 unit_verdict rules (left ∷ []) = BreakAfter 1 0
 unit_verdict rules (left ∷ right ∷ after) =

@@ -2,8 +2,9 @@
 ghost use Rattle.std.specs.Prelude.{◌≡◌, ◌<◌, false, None, IfOk, IfErr};
 ghost use Rattle.seg_data.specs.Faults.{IsFaultless, IsLowestFault};
 ghost use Rattle.seg_pair_data.specs.PairData.{HasPairDataFault};
-ghost use Rattle.seg_line_rules.specs.LineClasses.{classic};
+ghost use Rattle.seg_line_rules.specs.LineClasses.{number};
 ghost use Rattle.seg_line_rules.specs.LineClasses.LineClass.{ID};
+ghost use Rattle.seg_line_rules.specs.LineClasses.LineEngine.{Classic};
 ghost use Rattle.seg_line_rules.specs.LineRules.{is_named_class, class_read, is_read_as_id, is_loose_or_normal};
 
 use crate::options::LineStyle;
@@ -16,7 +17,7 @@ use seg_pair_data::provider::RuleBreakData;
 pub struct OwnedLinePairs {
     table: RuleBreakData,
     style: LineStyle,
-    ghost has_id: { classic ID < table.property_count },
+    ghost has_id: { number Classic ID < table.property_count },
     ghost complex_apart: { is_named_class table.complex_property ≡ false },
 }
 
@@ -54,7 +55,7 @@ impl OwnedLinePairs {
 pub struct LinePairs<'data> {
     table: &'data RuleBreakData,
     style: LineStyle,
-    ghost has_id: { classic ID < table.now.property_count },
+    ghost has_id: { number Classic ID < table.now.property_count },
     ghost complex_apart: { is_named_class table.now.complex_property ≡ false },
 }
 
@@ -142,7 +143,7 @@ fn is_named(class: u8) -> bool
 
 /// A class as the options read it.
 fn class_read(style: LineStyle, complex: u8, class: u8) -> u8
-    ensures { result ≡ class_read style complex class }
+    ensures { result ≡ class_read Classic style complex class }
 {
     if is_read_as_id(style, complex, class) {
         RuleBreakData::LINE_PROPERTY_ID
@@ -155,7 +156,7 @@ fn class_read(style: LineStyle, complex: u8, class: u8) -> u8
 #[inline(always)]
 fn strict_read(style: LineStyle, complex: u8, class: u8) -> u8
     requires { is_loose_or_normal style.strictness ≡ false }
-    ensures { result ≡ class_read style complex class }
+    ensures { result ≡ class_read Classic style complex class }
 {
     if style.word_option.is_break_all() {
         class_read(style, complex, class)
@@ -166,7 +167,7 @@ fn strict_read(style: LineStyle, complex: u8, class: u8) -> u8
 
 /// Whether the options read a class as ID.
 fn is_read_as_id(style: LineStyle, complex: u8, class: u8) -> bool
-    ensures { result ≡ is_read_as_id style complex class }
+    ensures { result ≡ is_read_as_id Classic style complex class }
 {
     if class == RuleBreakData::LINE_PROPERTY_CJ {
         return style.word_option.is_break_all() || style.strictness.is_loose_or_normal();

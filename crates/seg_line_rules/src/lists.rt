@@ -1,11 +1,9 @@
 //! What stands between two units of lines, whatever the table says.
-ghost use Rattle.std.specs.Prelude.{◌≡◌, [], ◌∷◌, Bool, ◌&&◌, not, true, Some, None, if◌then◌else◌, map};
+ghost use Rattle.std.specs.Prelude.{◌≡◌, [], ◌∷◌, Bool, ◌&&◌, not, true, Some, None, if◌then◌else◌};
 ghost use Rattle.std.specs.Option.{option_map};
-ghost use Rattle.seg_line_rules.specs.LineClasses.{classic};
-ghost use Rattle.seg_line_rules.specs.LineClasses.LineClass.{BA, EX, ID, IN, NS, PO_EASTASIAN, PR_EASTASIAN};
-ghost use Rattle.seg_line_rules.specs.LineLists.{fits, is_kept, is_normal_listed, keeps, listed, loose_list, loose_rows, hyphen_row, wave_row, iteration_row, middle_dot_row, leader_row, exclamation_row, postfix_row, prefix_row};
+ghost use Rattle.seg_line_rules.specs.LineClasses.LineEngine.{Classic};
+ghost use Rattle.seg_line_rules.specs.LineLists.{fits, is_kept, is_normal_listed, keeps, listed, loose_list, loose_rows, hyphen_row, wave_row, iteration_row, middle_dot_row, leader_row, exclamation_row, wide_postfix_row, wide_prefix_row};
 ghost use Rattle.seg_line_rules.specs.LineRules.{is_among};
-ghost use Rattle.seg_line_rules.specs.LineUnits.{unit_seen};
 
 use crate::options::{LineBreakStrictness, LineStyle};
 use seg_pair_data::provider::RuleBreakData;
@@ -25,15 +23,17 @@ pub struct Neighbours {
 }
 
 /// Whether no boundary stands between two units under `KeepAll`.
+#[tactic(auto, unfolding(crate::specs::LineLists::keeps))]
 pub(crate) fn keeps(style: LineStyle, left: Element, right: Element) -> bool
-    ensures { result ≡ keeps style (unit_seen left) (unit_seen right) }
+    ensures { result ≡ keeps Classic style left.class right.class }
 {
     style.word_option.is_keep_all() && is_kept(left.class) && is_kept(right.class)
 }
 
 /// Whether the class is one that `KeepAll` keeps together.
+#[tactic(auto, unfolding(crate::specs::LineLists::is_kept))]
 fn is_kept(class: u8) -> bool
-    ensures { result ≡ is_kept class }
+    ensures { result ≡ is_kept Classic class }
 {
     class == RuleBreakData::LINE_PROPERTY_AI
         || class == RuleBreakData::LINE_PROPERTY_AL
@@ -49,8 +49,9 @@ fn is_kept(class: u8) -> bool
 }
 
 /// Whether a boundary stands between two units by the list of the strictness, where it decides.
+#[tactic(auto, unfolding(crate::specs::LineLists::listed))]
 pub(crate) fn listed(style: LineStyle, left: Element, right: Element) -> Option<bool>
-    ensures { result ≡ listed style (unit_seen left) (unit_seen right) }
+    ensures { result ≡ listed Classic style left.is_joined left.class left.code_point right.class right.code_point }
 {
     let pair = Neighbours {
         left: left.class,
@@ -89,7 +90,7 @@ pub fn unless_joined(is_joined: bool, breaks: Option<bool>) -> Option<bool>
 /// What the first row of the loose list says that fits, if one fits.
 #[tactic(auto, unfolding(crate::specs::LineLists::loose_list, crate::specs::LineLists::loose_rows))]
 fn loose(is_ja_or_zh: bool, pair: Neighbours) -> Option<bool>
-    ensures { result ≡ loose_list loose_rows is_ja_or_zh pair.left pair.left_code_point pair.right pair.right_code_point }
+    ensures { result ≡ loose_list (loose_rows Classic) is_ja_or_zh pair.left pair.left_code_point pair.right pair.right_code_point }
 {
     let from_prefix = by_row(fits_prefix(pair), is_ja_or_zh, None);
     let from_postfix = by_row(fits_postfix(pair), is_ja_or_zh, from_prefix);
@@ -110,7 +111,7 @@ pub fn by_row(fits: bool, breaks: bool, otherwise: Option<bool>) -> Option<bool>
 
 /// Whether the row of hyphens fits.
 fn fits_hyphen(pair: Neighbours) -> bool
-    ensures { result ≡ fits pair.left pair.left_code_point pair.right pair.right_code_point (hyphen_row (Some (map classic (BA ∷ []))) (map classic (ID ∷ []))) }
+    ensures { result ≡ fits pair.left pair.left_code_point pair.right pair.right_code_point (hyphen_row Classic) }
 {
     pair.right == RuleBreakData::LINE_PROPERTY_BA
         && is_hyphen(pair.right_code_point)
@@ -119,49 +120,49 @@ fn fits_hyphen(pair: Neighbours) -> bool
 
 /// Whether the row of wave dashes fits.
 fn fits_wave(pair: Neighbours) -> bool
-    ensures { result ≡ fits pair.left pair.left_code_point pair.right pair.right_code_point (wave_row (map classic (NS ∷ []))) }
+    ensures { result ≡ fits pair.left pair.left_code_point pair.right pair.right_code_point (wave_row Classic) }
 {
     pair.right == RuleBreakData::LINE_PROPERTY_NS && is_wave(pair.right_code_point)
 }
 
 /// Whether the row of iteration marks fits.
 fn fits_iteration(pair: Neighbours) -> bool
-    ensures { result ≡ fits pair.left pair.left_code_point pair.right pair.right_code_point (iteration_row (map classic (NS ∷ []))) }
+    ensures { result ≡ fits pair.left pair.left_code_point pair.right pair.right_code_point (iteration_row Classic) }
 {
     pair.right == RuleBreakData::LINE_PROPERTY_NS && is_iteration(pair.right_code_point)
 }
 
 /// Whether the row of middle dots, colons and doubled signs fits.
 fn fits_middle_dot(pair: Neighbours) -> bool
-    ensures { result ≡ fits pair.left pair.left_code_point pair.right pair.right_code_point (middle_dot_row (map classic (NS ∷ []))) }
+    ensures { result ≡ fits pair.left pair.left_code_point pair.right pair.right_code_point (middle_dot_row Classic) }
 {
     pair.right == RuleBreakData::LINE_PROPERTY_NS && is_middle_dot(pair.right_code_point)
 }
 
 /// Whether the row of leaders fits.
 fn fits_leader(pair: Neighbours) -> bool
-    ensures { result ≡ fits pair.left pair.left_code_point pair.right pair.right_code_point (leader_row (map classic (IN ∷ []))) }
+    ensures { result ≡ fits pair.left pair.left_code_point pair.right pair.right_code_point (leader_row Classic) }
 {
     pair.right == RuleBreakData::LINE_PROPERTY_IN && pair.left == RuleBreakData::LINE_PROPERTY_IN
 }
 
 /// Whether the row of exclamation and question marks fits.
 fn fits_exclamation(pair: Neighbours) -> bool
-    ensures { result ≡ fits pair.left pair.left_code_point pair.right pair.right_code_point (exclamation_row (map classic (EX ∷ []))) }
+    ensures { result ≡ fits pair.left pair.left_code_point pair.right pair.right_code_point (exclamation_row Classic) }
 {
     pair.right == RuleBreakData::LINE_PROPERTY_EX && is_exclamation(pair.right_code_point)
 }
 
 /// Whether the row of wide signs after numbers fits.
 fn fits_postfix(pair: Neighbours) -> bool
-    ensures { result ≡ fits pair.left pair.left_code_point pair.right pair.right_code_point (postfix_row (classic PO_EASTASIAN) None) }
+    ensures { result ≡ fits pair.left pair.left_code_point pair.right pair.right_code_point (wide_postfix_row Classic) }
 {
     pair.right == RuleBreakData::LINE_PROPERTY_PO_EAW
 }
 
 /// Whether the row of wide signs before numbers fits.
 fn fits_prefix(pair: Neighbours) -> bool
-    ensures { result ≡ fits pair.left pair.left_code_point pair.right pair.right_code_point (prefix_row (classic PR_EASTASIAN) None) }
+    ensures { result ≡ fits pair.left pair.left_code_point pair.right pair.right_code_point (wide_prefix_row Classic) }
 {
     pair.left == RuleBreakData::LINE_PROPERTY_PR_EAW
 }

@@ -1,5 +1,6 @@
 //! Units of one item each, between which the table alone decides: most of them.
 ghost use Rattle.std.specs.Prelude.{◌≡◌, ◌<◌, false};
+ghost use Rattle.seg_line_rules.specs.LineClasses.LineEngine.{Classic};
 ghost use Rattle.seg_line_rules.specs.LineEvents.{HasClass, IsPassed, asks_more, is_plain, plain_pair};
 ghost use Rattle.seg_line_rules.specs.LineBoundaries.{rules_by};
 ghost use Rattle.seg_line_rules.specs.LineUnits.{is_joiner};
@@ -133,7 +134,7 @@ fn is_plain(complex: u8, left: u8, right: u8) -> bool
 
 /// Whether the class is that of ZWJ.
 fn is_joiner(class: u8) -> bool
-    ensures { result ≡ is_joiner class }
+    ensures { result ≡ is_joiner Classic class }
 {
     class == RuleBreakData::LINE_PROPERTY_ZWJ
 }

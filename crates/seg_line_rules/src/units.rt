@@ -1,6 +1,7 @@
 //! The units of a text of lines, each read once.
 
 ghost use Rattle.std.specs.Prelude.{◌≡◌, ◌<◌, ◌∷◌, [], None, IfSome};
+ghost use Rattle.seg_line_rules.specs.LineClasses.LineEngine.{Classic};
 ghost use Rattle.seg_line_rules.specs.LineEvents.{HasClass, text_from};
 ghost use Rattle.seg_line_rules.specs.LineBoundaries.{rules_by};
 ghost use Rattle.seg_line_rules.specs.LineUnits.{bears_none, is_glued, is_mark, base_element, base_of, elements_after, elements_from, line_elements, marked_element};
@@ -164,21 +165,23 @@ fn marked_element(unit: Element, class: u8) -> Element
 
 /// Whether an item of this class is glued to a unit whose base has that class.
 fn is_glued(base: u8, class: u8) -> bool
-    ensures { result ≡ is_glued base class }
+    ensures { result ≡ is_glued Classic base class }
 {
     is_mark(class) && !bears_none(base)
 }
 
 /// Whether the class is one of marks.
+#[tactic(auto, unfolding(crate::specs::LineUnits::is_mark))]
 pub(crate) fn is_mark(class: u8) -> bool
-    ensures { result ≡ is_mark class }
+    ensures { result ≡ is_mark Classic class }
 {
     class == RuleBreakData::LINE_PROPERTY_CM || class == RuleBreakData::LINE_PROPERTY_ZWJ
 }
 
 /// Whether a mark after a base of this class stands alone.
+#[tactic(auto, unfolding(crate::specs::LineUnits::bears_none))]
 fn bears_none(class: u8) -> bool
-    ensures { result ≡ bears_none class }
+    ensures { result ≡ bears_none Classic class }
 {
     class == RuleBreakData::LINE_PROPERTY_BK
         || class == RuleBreakData::LINE_PROPERTY_CR

@@ -1,5 +1,5 @@
 -- Turns by the classes and the table alone.
-use Rattle.std.proofs.Common.{◌≡◌, ℕ, suc, ◌&&◌, ◌||◌, not, Bool, true, false, Option, None, List, [], ◌∷◌, ◌++◌, map, refl, sym, ap, ◌∙◌}
+use Rattle.std.proofs.Common.{◌≡◌, ℕ, suc, ◌&&◌, ◌||◌, not, Bool, true, false, Option, List, [], ◌∷◌, ◌++◌, map, refl, sym, ap, ◌∙◌}
 use Rattle.std.proofs.lemmas.Bool.{eqb-true}
 use Rattle.seg_text.specs.declared.boundary.Boundary.{Boundary}
 use Rattle.seg_text.specs.Boundaries.{boundary, boundary_in, boundaries_in, Cuts}
@@ -7,25 +7,25 @@ use Rattle.seg_text.specs.Items.{Item, Text, start_of, rest_after, code_points}
 use Rattle.seg_pair_data.specs.declared.provider.pairs.BreakState.{BreakState}
 use Rattle.seg_pair_data.specs.declared.provider.pairs.BreakState.TheVariants as entries
 use Rattle.seg_pair_data.specs.PairTable.{entry_of}
-use Rattle.seg_line_rules.specs.declared.options.LineStyle.{LineStyle}
-use Rattle.seg_line_rules.specs.LineRules.{TableRules, is_keep_all, is_one_of}
-use Rattle.seg_line_rules.specs.LineEvents.{asks_more, text_from}
+use Rattle.seg_line_rules.specs.LineRules.{TableRules, is_one_of, is_complex_context, line_class}
+use Rattle.seg_line_rules.specs.LineEvents.{asks_more, text_from, HasClass}
 use Rattle.seg_line_rules.specs.declared.plain_pairs.PlainPair.{PlainPair}
 use Rattle.seg_line_rules.specs.declared.plain_pairs.PlainPair.TheVariants as plain
 use Rattle.seg_line_rules.specs.declared.plain_pairs.ClassedItem.{ClassedItem}
-use Rattle.seg_line_turns.specs.TurnEvents.{IsPassedByTurns, entry_turn, going_text, is_asked, is_plain, is_unanswered, passed_turns, plain_turn, HasTurnClass, unread_turns}
+use Rattle.seg_line_turns.specs.TurnEvents.{IsPassedByTurns, entry_turn, going_text, is_asked, is_plain, is_unanswered, passed_turns, plain_turn, unread_turns}
 use Rattle.seg_line_turns.specs.TurnBoundaries.{later_turns, turn_stretch_of}
-use Rattle.seg_line_rules.specs.LineClasses.{seventeen}
+use Rattle.seg_line_rules.specs.LineClasses.{number}
 use Rattle.seg_line_rules.specs.LineClasses.LineClass.{CM, CM_EASTASIAN, HH, HY, IS, QU_PF, SA, SA_MC_MN, SP, ZWJ}
-use Rattle.seg_line_turns.specs.TurnClasses.{is_before_hyphen, is_before_quote, is_complex, is_glue, is_hyphen, is_infix, is_opening, is_quote, is_space}
-use Rattle.seg_line_turns.specs.TurnRules.{keeps, listed, turn_rows, turn_class, LeftUnit, is_joined, left_unit}
+use Rattle.seg_line_turns.specs.TurnClasses.{is_before_hyphen, is_before_quote, is_glue, is_hyphen, is_infix, is_opening, is_quote, is_space}
+use Rattle.seg_line_turns.specs.TurnRules.{LeftUnit, is_joined, left_unit}
 use Rattle.seg_line_turns.specs.Turns.{Turn, class_turn, list_turn, right_turn, table_turn, turn}
 use Rattle.seg_line_turns.specs.Turns.Turn.{BreakAt, GoTo}
-use Rattle.seg_line_rules.proofs.PlainPairs.{and-first, and-last, and-off, if-off, listed-by-off, not-true, or-neither, said-break, said-go}
+use Rattle.seg_line_rules.proofs.PlainPairs.{and-first, and-last, and-off, if-off, keeps-off, listed-off, not-true, said-break, said-go}
 use Rattle.seg_line_turns.proofs.TurnEvents.{turn-next}
 use Rattle.seg_line_turns.proofs.TurnPlaces.{next-of}
 use Rattle.seg_line_turns.proofs.TurnReads.{turn-cons}
 use Rattle.seg_line_turns.proofs.TurnSets.{none-among}
+use Rattle.seg_line_rules.specs.LineClasses.LineEngine.{Seventeen}
 
 and-off-last : (a b : Bool) → b ≡ false → (a && b) ≡ false
 and-off-last true b off = off
@@ -44,7 +44,7 @@ or-off false b off = off
 -- classes of which no rule asks on the right
 
 unasked : ℕ → Bool
-unasked class = not (is_one_of seventeen (CM ∷ CM_EASTASIAN ∷ HH ∷ HY ∷ IS ∷ QU_PF ∷ SA ∷ SA_MC_MN ∷ SP ∷ ZWJ ∷ []) class)
+unasked class = not (is_one_of Seventeen (CM ∷ CM_EASTASIAN ∷ HH ∷ HY ∷ IS ∷ QU_PF ∷ SA ∷ SA_MC_MN ∷ SP ∷ ZWJ ∷ []) class)
 
 -- where no rule asks of a class, it is none of those that such a test finds
 not-among : (test : ℕ → Bool) (class : ℕ) → (test class ≡ true → unasked class ≡ false) → is_asked class ≡ false → test class ≡ false
@@ -60,33 +60,33 @@ not-among test class asked none = on (test class) refl
 
 glue-asked : (class : ℕ) → is_glue class ≡ true → unasked class ≡ false
 unfolding is_glue unasked
-glue-asked class among = none-among unasked (map seventeen (CM ∷ CM_EASTASIAN ∷ SA_MC_MN ∷ ZWJ ∷ [])) class (refl, (refl, (refl, (refl, tt)))) among
+glue-asked class among = none-among unasked (map (number Seventeen) (CM ∷ CM_EASTASIAN ∷ SA_MC_MN ∷ ZWJ ∷ [])) class (refl, (refl, (refl, (refl, tt)))) among
 
-complex-asked : (class : ℕ) → is_complex class ≡ true → unasked class ≡ false
-unfolding is_complex unasked
-complex-asked class among = none-among unasked (map seventeen (SA ∷ SA_MC_MN ∷ [])) class (refl, (refl, tt)) among
+complex-asked : (class : ℕ) → is_complex_context class ≡ true → unasked class ≡ false
+unfolding is_complex_context unasked
+complex-asked class among = none-among unasked (map (number Seventeen) (SA ∷ SA_MC_MN ∷ [])) class (refl, (refl, tt)) among
 
 hyphen-asked : (class : ℕ) → is_hyphen class ≡ true → unasked class ≡ false
 unfolding is_hyphen unasked
-hyphen-asked class among = none-among unasked (map seventeen (HH ∷ HY ∷ [])) class (refl, (refl, tt)) among
+hyphen-asked class among = none-among unasked (map (number Seventeen) (HH ∷ HY ∷ [])) class (refl, (refl, tt)) among
 
 space-asked : (class : ℕ) → is_space class ≡ true → unasked class ≡ false
 unfolding unasked
-space-asked class is = let same : class ≡ seventeen SP = eqb-true class (seventeen SP) is in rw same refl
+space-asked class is = let same : class ≡ number Seventeen SP = eqb-true class (number Seventeen SP) is in rw same refl
 
 infix-asked : (class : ℕ) → is_infix class ≡ true → unasked class ≡ false
 unfolding unasked
-infix-asked class is = let same : class ≡ seventeen IS = eqb-true class (seventeen IS) is in rw same refl
+infix-asked class is = let same : class ≡ number Seventeen IS = eqb-true class (number Seventeen IS) is in rw same refl
 
 quote-asked : (class : ℕ) → is_quote class ≡ true → unasked class ≡ false
 unfolding unasked
-quote-asked class is = let same : class ≡ seventeen QU_PF = eqb-true class (seventeen QU_PF) is in rw same refl
+quote-asked class is = let same : class ≡ number Seventeen QU_PF = eqb-true class (number Seventeen QU_PF) is in rw same refl
 
 -- no rule that asks of the right class finds on the left what it asks of
 record Unanswered (left right : ℕ) : Type 0 where
   pub glue : is_glue right ≡ false
   pub opens : (is_opening left && is_space right) ≡ false
-  pub complex : (is_complex left && is_complex right) ≡ false
+  pub complex : (is_complex_context left && is_complex_context right) ≡ false
   pub separator : (is_space left && is_infix right) ≡ false
   pub before : (is_quote right && is_before_quote left) ≡ false
   pub after : (is_quote right && is_space left) ≡ false
@@ -134,7 +134,7 @@ unanswered left right is =
     record {
       glue = not-true _ (and-first _ _ two);
       opens = swapped (is_space right) (is_opening left) (not-true _ (and-last _ _ two));
-      complex = swapped (is_complex right) (is_complex left) (not-true _ (and-last _ _ three));
+      complex = swapped (is_complex_context right) (is_complex_context left) (not-true _ (and-last _ _ three));
       separator = sign-infix (is_infix right) (is_quote right) (is_hyphen right) (is_space left) (is_before_quote left) (is_before_hyphen left) signs;
       before = sign-before (is_infix right) (is_quote right) (is_hyphen right) (is_space left) (is_before_quote left) (is_before_hyphen left) signs;
       after = sign-after (is_infix right) (is_quote right) (is_hyphen right) (is_space left) (is_before_quote left) (is_before_hyphen left) signs;
@@ -150,30 +150,20 @@ plain-unanswered left right is = on (is_asked right) refl is
         record {
           glue = not-among is_glue right (glue-asked right) none;
           opens = and-off-last (is_opening left) _ (not-among is_space right (space-asked right) none);
-          complex = and-off-last (is_complex left) _ (not-among is_complex right (complex-asked right) none);
+          complex = and-off-last (is_complex_context left) _ (not-among is_complex_context right (complex-asked right) none);
           separator = and-off-last (is_space left) _ (not-among is_infix right (infix-asked right) none);
           before = and-off _ (is_before_quote left) (not-among is_quote right (quote-asked right) none);
           after = and-off _ (is_space left) (not-among is_quote right (quote-asked right) none);
           hyphen = and-off-last (is_before_hyphen left) _ (not-among is_hyphen right (hyphen-asked right) none);
         }
 
--- options that ask for no more
-keeps-off : (style : LineStyle) (left right : ℕ) → asks_more style ≡ false → keeps style left right ≡ false
-unfolding keeps
-keeps-off style left right none = and-off _ _ (and-off (is_keep_all style.word_option) _ (or-neither (is_keep_all style.word_option) _ none).0)
-
-listed-off : (style : LineStyle) (joined : Bool) (left left_point right right_point : ℕ) → asks_more style ≡ false → listed style joined left left_point right right_point ≡ None
-unfolding listed
-listed-off style joined left left_point right right_point none =
-    listed-by-off style.strictness turn_rows style joined left left_point right right_point (or-neither (is_keep_all style.word_option) _ none).1
-
 -- the turn is the table's
-module _ (rules : TableRules) (opened : Bool) (left right : ℕ) (after : List ℕ) where
+module _ (rules : TableRules Seventeen) (opened : Bool) (left right : ℕ) (after : List ℕ) where
   abbrev unit : LeftUnit
   unit = left_unit rules left
 
   abbrev class : ℕ
-  class = turn_class rules right
+  class = line_class rules right
 
   abbrev by_table : Turn
   by_table = table_turn rules opened unit class after (entry_of rules.table unit.class class)
@@ -185,9 +175,9 @@ module _ (rules : TableRules) (opened : Bool) (left right : ℕ) (after : List �
 
   right-plain : asks_more rules.style ≡ false → Unanswered unit.class class → right_turn rules opened unit right after ≡ by_table
   right-plain few none =
-      if-off _ _ _ (keeps-off rules.style unit.class class few)
+      if-off _ _ _ (keeps-off Seventeen rules.style unit.class class few)
       ∙ ap (λ (said : Option Bool). list_turn said (suc unit.last) opened (class_turn rules opened unit class after))
-      (listed-off rules.style (is_joined unit) unit.class unit.last_code_point class right few)
+      (listed-off Seventeen rules.style (is_joined unit) unit.class unit.last_code_point class right few)
       ∙ class-plain none
 
   turn-plain : asks_more rules.style ≡ false → is_plain unit.class class ≡ true → turn rules opened unit (right ∷ after) ≡ by_table
@@ -225,8 +215,8 @@ module _ (rules : TableRules) (opened : Bool) (left right : ℕ) (after : List �
       turn-plain few said.0 ∙ ap (table_turn rules opened unit class after) both.1 ∙ if-off _ _ _ both.0
 
 -- one item more
-module _ (rules : TableRules) (left right : ClassedItem) (rest after : Text) (few : asks_more rules.style ≡ false)
-    (left_class : HasTurnClass rules left) (right_class : HasTurnClass rules right)
+module _ (rules : TableRules Seventeen) (left right : ClassedItem) (rest after : Text) (few : asks_more rules.style ≡ false)
+    (left_class : HasClass rules left) (right_class : HasClass rules right)
     (items : rest.items ≡ (right.place, right.code_point) ∷ after.items) (end : after.end ≡ rest.end) where
   rest-is : rest ≡ text_from right after
   rest-is =
@@ -234,9 +224,9 @@ module _ (rules : TableRules) (left right : ClassedItem) (rest after : Text) (fe
       ∙ ap (λ (end : ℕ). record { items = (right.place, right.code_point) ∷ after.items; end = end }) (sym end)
 
   same-said : (said : PlainPair) → said ≡ plain_turn rules.table left.class right.class
-      → plain_turn rules.table (turn_class rules left.code_point) (turn_class rules right.code_point) ≡ said
+      → plain_turn rules.table (line_class rules left.code_point) (line_class rules right.code_point) ≡ said
   same-said said is =
-      ap (λ class. plain_turn rules.table class (turn_class rules right.code_point)) (sym left_class.is)
+      ap (λ class. plain_turn rules.table class (line_class rules right.code_point)) (sym left_class.is)
       ∙ ap (plain_turn rules.table left.class) (sym right_class.is) ∙ sym is
 
   points : code_points rest.items ≡ right.code_point ∷ code_points after.items

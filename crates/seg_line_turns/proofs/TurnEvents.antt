@@ -7,22 +7,24 @@ use Rattle.seg_text.specs.Items.{Item, Text, start_of, rest_after, text_before, 
 use Rattle.seg_text.specs.Boundaries.{boundary, boundary_in, boundaries_in, shift_all, Cuts, AreCutsOf, with_status, cut_places}
 use Rattle.seg_text.proofs.Places.{in-append, in-shift, code_points-drop}
 use Rattle.seg_pairs.proofs.Events.{cuts-placed}
-use Rattle.seg_line_rules.specs.LineRules.{TableRules}
+use Rattle.seg_line_rules.specs.LineRules.{TableRules, is_complex}
 use Rattle.seg_line_turns.specs.declared.turn_units.Left.{Left}
 use Rattle.seg_line_rules.specs.declared.plain_pairs.ClassedItem.{ClassedItem}
 use Rattle.seg_line_turns.specs.declared.turn_units.TurnOutcome.{TurnOutcome}
 use Rattle.seg_line_turns.specs.declared.turn_units.TurnOutcome.TheVariants.{Break, Go, Run}
-use Rattle.seg_line_rules.specs.LineEvents.{text_from}
-use Rattle.seg_line_turns.specs.TurnEvents.{HasTurnClass, IsTurnAhead, UnreadTurns, GoesOnTurns, unread_turns, after_cuts}
-use Rattle.seg_line_turns.specs.TurnBoundaries.{is_complex_point, turn_run_length, has_none, turn_stretch_of, turn_stretch, later_turns}
+use Rattle.seg_line_rules.specs.LineEvents.{text_from, HasClass, IsItemAhead}
+use Rattle.seg_line_turns.specs.TurnEvents.{UnreadTurns, GoesOnTurns, unread_turns, after_cuts}
+use Rattle.seg_line_turns.specs.TurnBoundaries.{has_none, turn_stretch_of, turn_stretch, later_turns}
 use Rattle.seg_line_turns.specs.TurnPlaces.{item_place, placed, left_seen, FindsFrom}
 use Rattle.seg_line_turns.specs.Turns.{Turn, turn, first_unit}
 use Rattle.seg_line_turns.specs.Turns.Turn.{BreakAt, GoTo, RunAt}
 use Rattle.seg_line_turns.proofs.TurnForward.{IsTurnOf, first-forward}
 use Rattle.seg_line_turns.proofs.TurnPlaces.{next-of}
 use Rattle.seg_line_turns.proofs.TurnStretches.{turns-next}
+use Rattle.seg_line_rules.specs.LineBoundaries.{complex_length}
+use Rattle.seg_line_rules.specs.LineClasses.LineEngine.{Seventeen}
 
-module _ (rules : TableRules) where
+module _ (rules : TableRules Seventeen) where
   abbrev unread : Cuts → (starts opened : Bool) → Text → List Boundary
   unread cuts starts opened text = boundaries_in (later_turns cuts rules starts opened) text
 
@@ -121,7 +123,7 @@ module _ (rules : TableRules) where
 
   -- a run
   abbrev extent : Text → ℕ
-  extent left = prefix_length (is_complex_point rules) left
+  extent left = prefix_length (is_complex rules) left
 
   pub record ToRun (starts opened : Bool) (here : Text) (place : ℕ) (after : Bool) : Type 0 where
     pub first : ℕ
@@ -149,8 +151,8 @@ module _ (rules : TableRules) where
       ∙ cuts-placed left n 0 (length (take n left.items)) (cuts (code_points run.items)) (omega (arith, length-take n left.items)) are in
       let none : has_none cut ≡ has_none (cut_places cuts run) = ap has_none inner ∙ sym (has_none-map (λ cut. start_of (rest_after cut run)) (cuts (code_points run.items))) in
       let rest : rest_after (first + (n - 1)) here ≡ rest_after (n - 1) left = ap (λ (items : List Item). record { items = items; end = here.end }) (sym (drop-drop (n - 1) first here.items)) in
-      ap (λ (xs : List ℕ). map (boundary_in here) (shift_all first (with_status 0 (cuts (take (turn_run_length rules xs) xs))))
-      ++ unread cuts false (after && has_none (cuts (take (turn_run_length rules xs) xs))) (rest_after (first + (turn_run_length rules xs - 1)) here)) points
+      ap (λ (xs : List ℕ). map (boundary_in here) (shift_all first (with_status 0 (cuts (take (complex_length rules xs) xs))))
+      ++ unread cuts false (after && has_none (cuts (take (complex_length rules xs) xs))) (rest_after (first + (complex_length rules xs - 1)) here)) points
       ∙ ap (λ (bs : List Boundary). bs ++ unread cuts false (after && has_none cut) (rest_after (first + (n - 1)) here)) places
       ∙ ap (λ b. with_status 0 (cut_places cuts run) ++ unread cuts false (after && b) (rest_after (first + (n - 1)) here)) none
       ∙ ap (λ (text : Text). with_status 0 (cut_places cuts run) ++ unread cuts false (after && has_none (cut_places cuts run)) text) rest
@@ -161,8 +163,8 @@ module _ (rules : TableRules) where
       let both : (place, after) ≡ (item_place at here, wide) = ap go-in is in
       let left : Text = rest_after at here in
       let points : drop at (code_points here.items) ≡ code_points left.items = sym (code_points-drop at here.items) in
-      let two : 1 < extent left = subst (λ (xs : List ℕ). 1 < turn_run_length rules xs) points turns.forward in
-      let most = prefix_len-le-length (is_complex_point rules) (code_points left.items) in
+      let two : 1 < extent left = subst (λ (xs : List ℕ). 1 < complex_length rules xs) points turns.forward in
+      let most = prefix_len-le-length (is_complex rules) (code_points left.items) in
       let long = length-map left.items (λ (item : Item). item.1) in
       record {
         first = at;
@@ -177,7 +179,7 @@ module _ (rules : TableRules) where
   to-run starts opened here (GoTo place wide) at after turns is = cc
 
 -- the same of what a call has at hand: the first item, its unit, what the turn found, and what is left after it
-module _ (rules : TableRules) (starts opened : Bool) (here after : Text) (item : Item) (first : Left) (result : TurnOutcome)
+module _ (rules : TableRules Seventeen) (starts opened : Bool) (here after : Text) (item : Item) (first : Left) (result : TurnOutcome)
     (items : here.items ≡ item ∷ after.items) (end : after.end ≡ here.end)
     (unit : left_seen 0 first ≡ first_unit rules starts item.1) (place_is : first.last_place ≡ item.0)
     (finds : FindsFrom first after result (λ unit. turn rules opened unit (code_points after.items))) where
@@ -205,7 +207,7 @@ module _ (rules : TableRules) (starts opened : Bool) (here after : Text) (item :
       to-run rules starts opened here _ place wide (turn-next rules starts opened here after item items)
       (sym is ∙ turn-found rules starts opened here after item first result items end unit place_is finds)
 
-abbrev pub unread_by : TableRules → (starts opened : Bool) → Text → UnreadTurns
+abbrev pub unread_by : TableRules Seventeen → (starts opened : Bool) → Text → UnreadTurns
 unread_by rules starts opened text = record { rules = rules; starts = starts; opened = opened; text = text }
 
 -- the first item of a text, and what is left after it
@@ -213,15 +215,15 @@ pub record FirstOf (here after : Text) (item : Item) : Type 0 where
   pub items : here.items ≡ item ∷ after.items
   pub end : after.end ≡ here.end
 
-pub ahead-some : (rules : TableRules) (here : Text) (next : Option ClassedItem) (one : ClassedItem) (rest : Text) → next ≡ Some one → IsTurnAhead rules here next rest
-    → (here ≡ text_from one rest) × HasTurnClass rules one
-ahead-some rules here next one rest is ahead = subst (λ (next : Option ClassedItem). IsTurnAhead rules here next rest) is ahead
+pub ahead-some : (rules : TableRules Seventeen) (here : Text) (next : Option ClassedItem) (one : ClassedItem) (rest : Text) → next ≡ Some one → IsItemAhead rules here next rest
+    → (here ≡ text_from one rest) × HasClass rules one
+ahead-some rules here next one rest is ahead = subst (λ (next : Option ClassedItem). IsItemAhead rules here next rest) is ahead
 
-pub ahead-none : (rules : TableRules) (here : Text) (next : Option ClassedItem) (rest : Text) → next ≡ None → IsTurnAhead rules here next rest → here.items ≡ []
-ahead-none rules here next rest is ahead = subst (λ (next : Option ClassedItem). IsTurnAhead rules here next rest) is ahead
+pub ahead-none : (rules : TableRules Seventeen) (here : Text) (next : Option ClassedItem) (rest : Text) → next ≡ None → IsItemAhead rules here next rest → here.items ≡ []
+ahead-none rules here next rest is ahead = subst (λ (next : Option ClassedItem). IsItemAhead rules here next rest) is ahead
 
-pub first-of : {I : Type 0} (text : I → Text) (rules : TableRules) (here : Text) (next : Option ClassedItem) (one : ClassedItem) (rest copy : I) → next ≡ Some one
-    → IsTurnAhead rules here next (text rest) → copy ≡ rest → FirstOf here (text copy) (one.place, one.code_point)
+pub first-of : {I : Type 0} (text : I → Text) (rules : TableRules Seventeen) (here : Text) (next : Option ClassedItem) (one : ClassedItem) (rest copy : I) → next ≡ Some one
+    → IsItemAhead rules here next (text rest) → copy ≡ rest → FirstOf here (text copy) (one.place, one.code_point)
 first-of text rules here next one rest copy is ahead same =
     let from = (ahead-some rules here next one (text rest) is ahead).0 in
     record {
@@ -230,29 +232,29 @@ first-of text rules here next one rest copy is ahead same =
     }
 
 -- nothing is left
-pub ends-here : (rules : TableRules) (starts opened : Bool) (here : Text) → here.items ≡ []
+pub ends-here : (rules : TableRules Seventeen) (starts opened : Bool) (here : Text) → here.items ≡ []
     → GoesOnTurns (unread_by rules starts opened here) (unread_by rules starts opened here)
 ends-here rules starts opened here none = record { rules = refl; end = refl; fewer = λ some. absurd (some none) }
 
-pub goes-on : (rules : TableRules) (starts opened wide : Bool) (here after : Text) (n : ℕ) → after ≡ rest_after n here → length (drop n here.items) < length here.items
+pub goes-on : (rules : TableRules Seventeen) (starts opened wide : Bool) (here after : Text) (n : ℕ) → after ≡ rest_after n here → length (drop n here.items) < length here.items
     → GoesOnTurns (unread_by rules starts opened here) (unread_by rules false wide after)
 goes-on rules starts opened wide here after n is fewer = rw is (record { rules = refl; end = refl; fewer = λ some. fewer })
 
-pub break-leads : (rules : TableRules) (starts opened : Bool) (here after : Text) (place resume : ℕ) → (b : ToBreak rules starts opened here place resume) → after ≡ rest_after b.taken here
+pub break-leads : (rules : TableRules Seventeen) (starts opened : Bool) (here after : Text) (place resume : ℕ) → (b : ToBreak rules starts opened here place resume) → after ≡ rest_after b.taken here
     → (cuts : Cuts) → unread_turns cuts (unread_by rules starts opened here) ≡ boundary place 0 ∷ unread_turns cuts (unread_by rules false false after)
 break-leads rules starts opened here after place resume b is cuts = rw is (b.leads cuts)
 
-pub go-leads : (rules : TableRules) (starts opened wide : Bool) (here after : Text) (place : ℕ) → (b : ToGo rules starts opened here place wide) → after ≡ rest_after b.taken here
+pub go-leads : (rules : TableRules Seventeen) (starts opened wide : Bool) (here after : Text) (place : ℕ) → (b : ToGo rules starts opened here place wide) → after ≡ rest_after b.taken here
     → (cuts : Cuts) → unread_turns cuts (unread_by rules starts opened here) ≡ unread_turns cuts (unread_by rules false wide after)
 go-leads rules starts opened wide here after place b is cuts = rw is (b.leads cuts)
 
-pub run-leads-to : (rules : TableRules) (starts opened wide : Bool) (here left run after : Text) (place : ℕ) → (r : ToRun rules starts opened here place wide) → left ≡ rest_after r.first here
-    → run ≡ text_before (prefix_length (is_complex_point rules) left) left → after ≡ rest_after (prefix_length (is_complex_point rules) left - 1) left
+pub run-leads-to : (rules : TableRules Seventeen) (starts opened wide : Bool) (here left run after : Text) (place : ℕ) → (r : ToRun rules starts opened here place wide) → left ≡ rest_after r.first here
+    → run ≡ text_before (prefix_length (is_complex rules) left) left → after ≡ rest_after (prefix_length (is_complex rules) left - 1) left
     → (cuts : Cuts) → AreCutsOf (length run.items) (cuts (code_points run.items))
     → unread_turns cuts (unread_by rules starts opened here) ≡ with_status 0 (cut_places cuts run) ++ unread_turns cuts (after_cuts (cut_places cuts run) (unread_by rules false wide after))
 run-leads-to rules starts opened wide here left run after place r left_is run_is is = rw (is, run_is, left_is) r.leads
 
-pub run-goes : (rules : TableRules) (starts opened wide : Bool) (here left after : Text) (place : ℕ) (r : ToRun rules starts opened here place wide) → left ≡ rest_after r.first here
-    → after ≡ rest_after (prefix_length (is_complex_point rules) left - 1) left → GoesOnTurns (unread_by rules starts opened here) (unread_by rules false wide after)
+pub run-goes : (rules : TableRules Seventeen) (starts opened wide : Bool) (here left after : Text) (place : ℕ) (r : ToRun rules starts opened here place wide) → left ≡ rest_after r.first here
+    → after ≡ rest_after (prefix_length (is_complex rules) left - 1) left → GoesOnTurns (unread_by rules starts opened here) (unread_by rules false wide after)
 run-goes rules starts opened wide here left after place r left_is is =
     rw (is, left_is) (record { rules = refl; end = refl; fewer = λ some. r.fewer })

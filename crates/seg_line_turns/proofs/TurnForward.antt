@@ -6,20 +6,23 @@ use Rattle.seg_pair_data.specs.declared.provider.pairs.BreakState.{BreakState}
 use Rattle.seg_pair_data.specs.declared.provider.pairs.BreakState.TheVariants.{Break, Keep, NoMatch, Intermediate, Index}
 use Rattle.seg_pair_data.specs.PairTable.{named_state, is_intermediate, entry_of}
 use Rattle.seg_pairs.specs.Walk.{is_class}
-use Rattle.seg_line_rules.specs.LineRules.{TableRules}
-use Rattle.seg_line_turns.specs.TurnBoundaries.{turn_run_length}
-use Rattle.seg_line_turns.specs.TurnRules.{keeps, listed, turn_class, LeftUnit, with_item, is_joined, left_unit}
-use Rattle.seg_line_turns.specs.TurnClasses.{is_mark, is_glue, bears_none, is_complex, is_letter, is_hyphen, is_before_quote, is_after_quote, is_before_hyphen, is_joiner, is_space, is_zero_space, is_infix, is_digit, is_quote, is_contingent}
+use Rattle.seg_line_rules.specs.LineRules.{TableRules, line_class, is_complex_context}
+use Rattle.seg_line_turns.specs.TurnRules.{LeftUnit, with_item, is_joined, left_unit}
+use Rattle.seg_line_turns.specs.TurnClasses.{is_glue, is_letter, is_hyphen, is_before_quote, is_after_quote, is_before_hyphen, is_space, is_zero_space, is_infix, is_digit, is_quote, is_contingent}
 use Rattle.seg_line_turns.specs.Turns.{next_base, comes, to_base, sticks, Turn, Walking, turn_unless, walk_end_turn, walk_back_turn, walk_stop_turn, walk_begin, WalkStep, walk_step, walk_by, walk_turn, table_turn, quote_turn, list_turn, class_turn, right_turn, is_taken, opens, turn, start_unit, first_unit}
 use Rattle.seg_line_turns.specs.Turns.Turn.{BreakAt, GoTo, RunAt}
 use Rattle.seg_line_turns.specs.Turns.WalkStep.{Stops, GoesOn}
+use Rattle.seg_line_rules.specs.LineBoundaries.{complex_length}
+use Rattle.seg_line_rules.specs.LineLists.{keeps, listed}
+use Rattle.seg_line_rules.specs.LineUnits.{is_mark, bears_none, is_joiner}
+use Rattle.seg_line_rules.specs.LineClasses.LineEngine.{Seventeen}
 
 -- of this list a turn takes some items. Where it begins a run, two complex items stand
-abbrev pub IsTurnOf : TableRules → List ℕ → Turn → Type 0
+abbrev pub IsTurnOf : TableRules Seventeen → List ℕ → Turn → Type 0
 IsTurnOf rules whole (BreakAt place resume) =
     (0 < place) × (place ≤ resume) × ((resume < length whole) ⊎ ((place ≡ length whole) × (resume ≡ length whole)))
 IsTurnOf rules whole (GoTo place opened) = (0 < place) × (place < length whole)
-IsTurnOf rules whole (RunAt first opened) = 1 < turn_run_length rules (drop first whole)
+IsTurnOf rules whole (RunAt first opened) = 1 < complex_length rules (drop first whole)
 
 and-first : (a b : Bool) → (a && b) ≡ true → a ≡ true
 and-first true b is = refl
@@ -30,18 +33,18 @@ and-last true b is = is
 and-last false b is = cc
 
 -- the items after so many, of which the last has this class
-pub record StandsAt (rules : TableRules) (whole : List ℕ) (last class : ℕ) (items : List ℕ) : Type 0 where
+pub record StandsAt (rules : TableRules Seventeen) (whole : List ℕ) (last class : ℕ) (items : List ℕ) : Type 0 where
   pub item : ℕ
   pub here : drop last whole ≡ item ∷ items
-  pub is_class : turn_class rules item ≡ class
+  pub is_class : line_class rules item ≡ class
 
-pub stands-sum : (rules : TableRules) (whole : List ℕ) (last class : ℕ) (items : List ℕ) → StandsAt rules whole last class items
+pub stands-sum : (rules : TableRules Seventeen) (whole : List ℕ) (last class : ℕ) (items : List ℕ) → StandsAt rules whole last class items
     → suc last + length items ≡ length whole
 stands-sum rules whole last class items at =
     let long = ap length at.here in let dropped = length-drop last whole in omega (arith, long, dropped)
 
-pub stands-next : (rules : TableRules) (whole : List ℕ) (last class next : ℕ) (items : List ℕ) → StandsAt rules whole last class (next ∷ items)
-    → StandsAt rules whole (suc last) (turn_class rules next) items
+pub stands-next : (rules : TableRules Seventeen) (whole : List ℕ) (last class next : ℕ) (items : List ℕ) → StandsAt rules whole last class (next ∷ items)
+    → StandsAt rules whole (suc last) (line_class rules next) items
 stands-next rules whole last class next items at =
     let more : last + 1 ≡ suc last = omega arith in
     record {
@@ -50,7 +53,7 @@ stands-next rules whole last class next items at =
       is_class = refl;
     }
 
-module _ (rules : TableRules) (whole : List ℕ) where
+module _ (rules : TableRules Seventeen) (whole : List ℕ) where
   if-forward : (b : Bool) (x y : Turn) → (b ≡ true → IsTurnOf rules whole x) → IsTurnOf rules whole y → IsTurnOf rules whole (cond b x y)
   if-forward true x y some other = some refl
   if-forward false x y some other = other
@@ -59,12 +62,12 @@ module _ (rules : TableRules) (whole : List ℕ) where
   base-inside : (passes : ℕ → Bool) (items : List ℕ) → comes rules passes items ≡ true → to_base rules items < length items
   unfolding next_base
   base-inside passes [] there = cc
-  base-inside passes (item ∷ items) there = on (is_mark (turn_class rules item)) (next_base rules items) refl there (base-inside passes items)
+  base-inside passes (item ∷ items) there = on (is_mark Seventeen (line_class rules item)) (next_base rules items) refl there (base-inside passes items)
     where
       on : (b : Bool) (found : Option (ℕ × ℕ)) → next_base rules items ≡ found
-          → option_map_or (λ (found : ℕ × ℕ). passes found.1) (cond b (option_map_or (λ (found : ℕ × ℕ). Some (suc found.0, found.1)) found None) (Some (0, turn_class rules item))) false ≡ true
+          → option_map_or (λ (found : ℕ × ℕ). passes found.1) (cond b (option_map_or (λ (found : ℕ × ℕ). Some (suc found.0, found.1)) found None) (Some (0, line_class rules item))) false ≡ true
           → (comes rules passes items ≡ true → to_base rules items < length items)
-          → option_map_or (λ (found : ℕ × ℕ). found.0) (cond b (option_map_or (λ (found : ℕ × ℕ). Some (suc found.0, found.1)) found None) (Some (0, turn_class rules item))) (length (item ∷ items) - 1) < length (item ∷ items)
+          → option_map_or (λ (found : ℕ × ℕ). found.0) (cond b (option_map_or (λ (found : ℕ × ℕ). Some (suc found.0, found.1)) found None) (Some (0, line_class rules item))) (length (item ∷ items) - 1) < length (item ∷ items)
       on false found at there later = omega arith
       on true None at there later = cc
       on true (Some (k, class)) at there later =
@@ -124,7 +127,7 @@ module _ (rules : TableRules) (whole : List ℕ) where
   step-forward w place class after some less more sum =
       let within : place < length whole = omega (arith, sum) in
       let u : Walking = record w { opened = w.opened && is_space class } in
-      if-step (is_glue class && not (bears_none w.before)) _ _ (λ glued. (some, less))
+      if-step (is_glue class && not (bears_none Seventeen w.before)) _ _ (λ glued. (some, less))
       (if-step (w.opened && not (is_space class) && not (is_hyphen class)) _ _ (λ is. (more, within))
       (if-step (is_space w.before && not (is_zero_space w.state) && is_infix class && not (sticks rules.table w.state)) _ _ (λ is. (some, less))
       (if-step (is_quote class && is_space w.before && not (is_class rules.table w.state)) _ _
@@ -136,7 +139,7 @@ module _ (rules : TableRules) (whole : List ℕ) where
       if-forward (sticks rules.table w.state) _ _ (λ is. (omega arith, omega (arith, inside, sum))) (more, omega arith, inl (omega (arith, inside, sum))))
       (option-step _ (named_state (entry_of rules.table w.state class)) _
       (λ state. cond-inside (is_intermediate (entry_of rules.table w.state class) || is_class rules.table w.state) place w.saved (more, within) (some, less))
-      (stop-forward u (is_joiner w.before) place (entry_of rules.table w.state class) some less more within))))))
+      (stop-forward u (is_joiner Seventeen w.before) place (entry_of rules.table w.state class) some less more within))))))
 
   by-forward : (s : WalkStep) (later : Walking → Turn) → IsStepOf s → ((w : Walking) → 0 < w.saved → w.saved < length whole → IsTurnOf rules whole (later w))
       → IsTurnOf rules whole (walk_by s later)
@@ -149,7 +152,7 @@ module _ (rules : TableRules) (whole : List ℕ) where
   walk-forward w place [] some less more sum =
       end-forward w place (entry_of rules.table w.state rules.table.eot_property) some less more (omega (arith, sum))
   walk-forward w place (item ∷ items) some less more sum =
-      by-forward (walk_step rules w place (turn_class rules item) items) _ (step-forward w place (turn_class rules item) items some less more sum)
+      by-forward (walk_step rules w place (line_class rules item) items) _ (step-forward w place (line_class rules item) items some less more sum)
       (λ next some less. walk-forward next (suc place) items some less (omega arith) (omega (arith, sum)))
 
   list-forward : (found : Option Bool) (place : ℕ) (opened : Bool) (x : Turn) → 0 < place → place < length whole → IsTurnOf rules whole x
@@ -164,7 +167,7 @@ module _ (rules : TableRules) (whole : List ℕ) where
   quote-forward place (item ∷ items) some sum =
       let within = base-within item items in
       if-forward (comes rules is_hyphen (item ∷ items)) (BreakAt place place) _ (λ is. (some, omega arith, inl (omega (arith, sum))))
-      (if-forward (is_mark (turn_class rules item)) (BreakAt place (place + suc (to_base rules (item ∷ items)))) (BreakAt place place)
+      (if-forward (is_mark Seventeen (line_class rules item)) (BreakAt place (place + suc (to_base rules (item ∷ items)))) (BreakAt place place)
       (λ is. (some, omega arith, inl (omega (arith, sum, within)))) (some, omega arith, inl (omega (arith, sum))))
 
   table-forward : (opened : Bool) (left : LeftUnit) (right : ℕ) (after : List ℕ) (entry : BreakState) → suc left.last + suc (length after) ≡ length whole
@@ -178,18 +181,18 @@ module _ (rules : TableRules) (whole : List ℕ) where
       walk-forward (walk_begin rules.table (is_joined left) opened (suc left.last) right state) (suc (suc left.last)) after (omega arith) (omega (arith, sum)) (omega arith) (omega (arith, sum))
 
   -- two complex items begin a run of two at least
-  run-two : (last class next : ℕ) (items : List ℕ) → StandsAt rules whole last class (next ∷ items) → (is_complex class && is_complex (turn_class rules next)) ≡ true
-      → 1 < turn_run_length rules (drop last whole)
+  run-two : (last class next : ℕ) (items : List ℕ) → StandsAt rules whole last class (next ∷ items) → (is_complex_context class && is_complex_context (line_class rules next)) ≡ true
+      → 1 < complex_length rules (drop last whole)
   run-two last class next items at both =
-      let one : is_complex (turn_class rules at.item) ≡ true = ap is_complex at.is_class ∙ and-first (is_complex class) (is_complex (turn_class rules next)) both in
-      let two = and-last (is_complex class) (is_complex (turn_class rules next)) both in
+      let one : is_complex_context (line_class rules at.item) ≡ true = ap is_complex_context at.is_class ∙ and-first (is_complex_context class) (is_complex_context (line_class rules next)) both in
+      let two = and-last (is_complex_context class) (is_complex_context (line_class rules next)) both in
       rw at.here (rw one (rw two (omega arith)))
 
   class-forward : (opened : Bool) (left : LeftUnit) (right : ℕ) (after : List ℕ) → StandsAt rules whole left.last left.last_class (right ∷ after)
-      → IsTurnOf rules whole (class_turn rules opened left (turn_class rules right) after)
+      → IsTurnOf rules whole (class_turn rules opened left (line_class rules right) after)
   class-forward opened left right after at =
-      let class : ℕ = turn_class rules right in
-      if-forward (is_complex left.last_class && is_complex class) _ _ (λ is. run-two left.last left.last_class right after at is)
+      let class : ℕ = line_class rules right in
+      if-forward (is_complex_context left.last_class && is_complex_context class) _ _ (λ is. run-two left.last left.last_class right after at is)
       (if-forward (is_space left.class && is_infix class && comes rules is_digit after) _ _ (λ is. (some, omega arith, inl less))
       (if-forward (is_quote class && is_before_quote left.class) _ _ (λ is. quote-forward (suc left.last) after some sum)
       (if-forward (is_quote class && is_space left.class && opened) _ _ (λ is. (some, less))
@@ -220,8 +223,8 @@ module _ (rules : TableRules) (whole : List ℕ) where
   right-forward opened left right after at =
       let sum = stands-sum rules whole left.last left.last_class (right ∷ after) at in
       let less : suc left.last < length whole = omega (arith, sum) in
-      if-forward (keeps rules.style left.class (turn_class rules right)) _ _ (λ is. (omega arith, less))
-      (list-forward (listed rules.style (is_joined left) left.class left.last_code_point (turn_class rules right) right) (suc left.last) opened _ (omega arith) less
+      if-forward (keeps Seventeen rules.style left.class (line_class rules right)) _ _ (λ is. (omega arith, less))
+      (list-forward (listed Seventeen rules.style (is_joined left) left.class left.last_code_point (line_class rules right) right) (suc left.last) opened _ (omega arith) less
       (class-forward opened left right after at))
 
   pub turn-forward : (opened : Bool) (left : LeftUnit) (items : List ℕ) → StandsAt rules whole left.last left.last_class items
@@ -231,9 +234,9 @@ module _ (rules : TableRules) (whole : List ℕ) where
       let sum = stands-sum rules whole left.last left.last_class [] at in
       (omega arith, omega arith, inr (omega (arith, sum), omega (arith, sum)))
   turn-forward opened left (right ∷ after) at =
-      if-forward (is_taken left (turn_class rules right)) _ _
+      if-forward (is_taken left (line_class rules right)) _ _
       (λ taken. turn-forward opened (with_item rules left right) after (stands-next rules whole left.last left.last_class right after at))
-      (right-forward (opened || opens left (turn_class rules right)) left right after at)
+      (right-forward (opened || opens left (line_class rules right)) left right after at)
 
 start-last : (unit : LeftUnit) (entry : BreakState) → ((start_unit unit entry).last ≡ unit.last) × ((start_unit unit entry).last_class ≡ unit.last_class)
 start-last unit (Index state) = (refl, refl)
@@ -243,18 +246,18 @@ start-last unit Keep = (refl, refl)
 start-last unit NoMatch = (refl, refl)
 
 -- the first unit is its item alone, whatever it is read as
-pub first-last : (rules : TableRules) (starts : Bool) (code_point : ℕ)
-    → ((first_unit rules starts code_point).last ≡ 0) × ((first_unit rules starts code_point).last_class ≡ turn_class rules code_point)
+pub first-last : (rules : TableRules Seventeen) (starts : Bool) (code_point : ℕ)
+    → ((first_unit rules starts code_point).last ≡ 0) × ((first_unit rules starts code_point).last_class ≡ line_class rules code_point)
 first-last rules starts code_point =
     let unit = left_unit rules code_point in on (starts && Rattle.seg_line_turns.specs.TurnClasses.is_start unit.class)
   where
     on : (b : Bool)
-        → ((cond b (start_unit (left_unit rules code_point) (entry_of rules.table rules.table.sot_property (turn_class rules code_point))) (left_unit rules code_point)).last ≡ 0)
-        × ((cond b (start_unit (left_unit rules code_point) (entry_of rules.table rules.table.sot_property (turn_class rules code_point))) (left_unit rules code_point)).last_class ≡ turn_class rules code_point)
-    on true = start-last (left_unit rules code_point) (entry_of rules.table rules.table.sot_property (turn_class rules code_point))
+        → ((cond b (start_unit (left_unit rules code_point) (entry_of rules.table rules.table.sot_property (line_class rules code_point))) (left_unit rules code_point)).last ≡ 0)
+        × ((cond b (start_unit (left_unit rules code_point) (entry_of rules.table rules.table.sot_property (line_class rules code_point))) (left_unit rules code_point)).last_class ≡ line_class rules code_point)
+    on true = start-last (left_unit rules code_point) (entry_of rules.table rules.table.sot_property (line_class rules code_point))
     on false = (refl, refl)
 
-pub first-forward : (rules : TableRules) (starts opened : Bool) (code_point : ℕ) (code_points : List ℕ)
+pub first-forward : (rules : TableRules Seventeen) (starts opened : Bool) (code_point : ℕ) (code_points : List ℕ)
     → IsTurnOf rules (code_point ∷ code_points) (turn rules opened (first_unit rules starts code_point) code_points)
 first-forward rules starts opened code_point code_points =
     let first = first-last rules starts code_point in

@@ -3,12 +3,13 @@ use Rattle.std.proofs.Common.{◌≡◌, ℕ, suc, ◌+◌, ◌-◌, true, false
 use Rattle.std.proofs.lemmas.List.{drop-drop}
 use Rattle.std.specs.Option.{option_map, option_map_or}
 use Rattle.seg_text.specs.Items.{Item, Text, start_of, rest_after, code_points}
-use Rattle.seg_line_rules.specs.LineRules.{TableRules}
+use Rattle.seg_line_rules.specs.LineRules.{TableRules, line_class}
 use Rattle.seg_line_turns.specs.declared.bases.BaseAhead.{BaseAhead}
 use Rattle.seg_line_turns.specs.TurnPlaces.{item_place, IsBaseOf}
-use Rattle.seg_line_turns.specs.TurnRules.{turn_class}
-use Rattle.seg_line_turns.specs.TurnClasses.{is_mark}
 use Rattle.seg_line_turns.specs.Turns.{next_base}
+use Rattle.seg_line_rules.specs.LineUnits.{is_mark}
+use Rattle.seg_line_rules.specs.LineClasses.LineEngine.{Seventeen}
+use Rattle.seg_line_rules.specs.LineClasses.{number}
 
 -- the next item of what is left, and what is left after it
 pub record NextOf (whole after : Text) (number place : ℕ) : Type 0 where
@@ -43,7 +44,7 @@ base-past whole rest number more place at is =
     let sum : suc number + more ≡ number + suc more = omega arith in
     at ∙ place-past whole rest (suc number) more is ∙ ap (λ n. item_place n whole) sum
 
-module _ (rules : TableRules) (whole : Text) where
+module _ (rules : TableRules Seventeen) (whole : Text) where
   -- marks were read, and what is left has the base
   pub record IsLooking (ahead : Text) (last : ℕ) : Type 0 where
     pub passed : ℕ
@@ -60,7 +61,7 @@ module _ (rules : TableRules) (whole : Text) where
   pub looking-start : (last : ℕ) → last ≡ start_of whole → IsLooking whole last
   looking-start last is = record { passed = 0; rest = refl; last_is = is; base = same-option (next_base rules (code_points whole.items)); sum = omega arith }
 
-  mark-base : (item : ℕ) (items : List ℕ) → is_mark (turn_class rules item) ≡ true
+  mark-base : (item : ℕ) (items : List ℕ) → is_mark Seventeen (line_class rules item) ≡ true
       → next_base rules (item ∷ items) ≡ option_map {U = ℕ × ℕ} (λ (found : ℕ × ℕ). (suc found.0, found.1)) (next_base rules items)
   unfolding next_base
   mark-base item items mark = rw mark (on (next_base rules items))
@@ -69,7 +70,7 @@ module _ (rules : TableRules) (whole : Text) where
       on None = refl
       on (Some found) = refl
 
-  other-base : (item : ℕ) (items : List ℕ) → is_mark (turn_class rules item) ≡ false → next_base rules (item ∷ items) ≡ Some (0, turn_class rules item)
+  other-base : (item : ℕ) (items : List ℕ) → is_mark Seventeen (line_class rules item) ≡ false → next_base rules (item ∷ items) ≡ Some (0, line_class rules item)
   unfolding next_base
   other-base item items other = rw other refl
 
@@ -84,7 +85,7 @@ module _ (rules : TableRules) (whole : Text) where
   twice passed (Some (k, class)) = let more : passed + suc k ≡ suc passed + k = omega arith in ap (λ n. Some (n, class)) more
 
   pub looking-next : (ahead after : Text) (item : Item) (last : ℕ) → IsLooking ahead last → ahead.items ≡ item ∷ after.items → after.end ≡ ahead.end
-      → is_mark (turn_class rules item.1) ≡ true → IsLooking after item.0
+      → is_mark Seventeen (line_class rules item.1) ≡ true → IsLooking after item.0
   looking-next ahead after item last looking items end mark =
       let next = next-of whole ahead after looking.passed item looking.rest items end in
       let before : looking.passed ≡ suc looking.passed - 1 = omega arith in
@@ -101,10 +102,10 @@ module _ (rules : TableRules) (whole : Text) where
       }
 
   pub looking-found : (ahead after : Text) (item : Item) (last : ℕ) (found : BaseAhead) → IsLooking ahead last → ahead.items ≡ item ∷ after.items → after.end ≡ ahead.end
-      → is_mark (turn_class rules item.1) ≡ false → found.class ≡ Some (turn_class rules item.1) → found.place ≡ item.0 → IsBaseOf rules whole found
+      → is_mark Seventeen (line_class rules item.1) ≡ false → found.class ≡ Some (line_class rules item.1) → found.place ≡ item.0 → IsBaseOf rules whole found
   looking-found ahead after item last found looking items end other class place =
       let next = next-of whole ahead after looking.passed item looking.rest items end in
-      let base : next_base rules (code_points whole.items) ≡ Some (looking.passed + 0, turn_class rules item.1) =
+      let base : next_base rules (code_points whole.items) ≡ Some (looking.passed + 0, line_class rules item.1) =
       looking.base
       ∙ ap (option_map {U = ℕ × ℕ} (λ (found : ℕ × ℕ). (looking.passed + found.0, found.1))) (ap (next_base rules) (ap code_points items) ∙ other-base item.1 (code_points after.items) other) in
       let none : looking.passed ≡ looking.passed + 0 = omega arith in

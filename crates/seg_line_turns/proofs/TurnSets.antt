@@ -1,10 +1,12 @@
 -- What the sets of classes have to do with one another.
 use Rattle.std.proofs.Common.{◌≡◌, ℕ, ◌==◌, ◌||◌, Bool, true, false, List, [], ◌∷◌, refl, sym, ◌∙◌, map}
 use Rattle.std.proofs.lemmas.Bool.{eqb-true}
-use Rattle.seg_line_rules.specs.LineRules.{is_among, is_one_of}
-use Rattle.seg_line_rules.specs.LineClasses.{seventeen}
+use Rattle.seg_line_rules.specs.LineRules.{is_among, is_one_of, is_complex_context}
+use Rattle.seg_line_rules.specs.LineClasses.{number}
 use Rattle.seg_line_rules.specs.LineClasses.LineClass.{BK, CM, CM_EASTASIAN, CR, HH, HY, LF, NL, QU, QU_PF, QU_PI, SA, SA_MC_MN, SP, ZW, ZWJ}
-use Rattle.seg_line_turns.specs.TurnClasses.{is_mark, is_glue, bears_none, is_complex, is_complex_mark, is_start}
+use Rattle.seg_line_turns.specs.TurnClasses.{is_glue, is_complex_mark, is_start}
+use Rattle.seg_line_rules.specs.LineUnits.{is_mark, bears_none}
+use Rattle.seg_line_rules.specs.LineClasses.LineEngine.{Seventeen}
 
 abbrev pub Each : (ℕ → Bool) → List ℕ → Type 0
 Each test [] = Unit {0}
@@ -20,39 +22,35 @@ none-among test (one ∷ others) class each among = on (class == one) refl (λ a
     on false is later among = later among
 
 bears : ℕ → Bool
-bears class = is_one_of seventeen (BK ∷ CR ∷ LF ∷ NL ∷ SP ∷ ZW ∷ []) class
+bears class = is_one_of Seventeen (BK ∷ CR ∷ LF ∷ NL ∷ SP ∷ ZW ∷ []) class
 
-pub marks-bear : (class : ℕ) → is_mark class ≡ true → bears_none class ≡ false
-unfolding is_mark bears_none bears
-marks-bear class among = none-among bears (map seventeen (CM ∷ CM_EASTASIAN ∷ ZWJ ∷ [])) class (refl, (refl, (refl, tt))) among
+pub complex-bear : (class : ℕ) → is_complex_context class ≡ true → bears_none Seventeen class ≡ false
+unfolding is_complex_context bears_none bears
+complex-bear class among = none-among bears (map (number Seventeen) (SA ∷ SA_MC_MN ∷ [])) class (refl, (refl, tt)) among
 
-pub complex-bear : (class : ℕ) → is_complex class ≡ true → bears_none class ≡ false
-unfolding is_complex bears_none bears
-complex-bear class among = none-among bears (map seventeen (SA ∷ SA_MC_MN ∷ [])) class (refl, (refl, tt)) among
-
-pub starts-bear : (class : ℕ) → is_start class ≡ true → bears_none class ≡ false
+pub starts-bear : (class : ℕ) → is_start class ≡ true → bears_none Seventeen class ≡ false
 unfolding is_start bears_none bears
-starts-bear class among = none-among bears (map seventeen (HY ∷ HH ∷ QU_PI ∷ QU_PF ∷ QU ∷ [])) class (refl, (refl, (refl, (refl, (refl, tt))))) among
+starts-bear class among = none-among bears (map (number Seventeen) (HY ∷ HH ∷ QU_PI ∷ QU_PF ∷ QU ∷ [])) class (refl, (refl, (refl, (refl, (refl, tt))))) among
 
 marks : ℕ → Bool
-marks class = is_one_of seventeen (CM ∷ CM_EASTASIAN ∷ ZWJ ∷ []) class
+marks class = is_one_of Seventeen (CM ∷ CM_EASTASIAN ∷ ZWJ ∷ []) class
 
-pub complex-apart : (class : ℕ) → is_complex class ≡ true → is_mark class ≡ false
-unfolding is_complex is_mark marks
-complex-apart class among = none-among marks (map seventeen (SA ∷ SA_MC_MN ∷ [])) class (refl, (refl, tt)) among
+pub complex-apart : (class : ℕ) → is_complex_context class ≡ true → is_mark Seventeen class ≡ false
+unfolding is_complex_context is_mark marks
+complex-apart class among = none-among marks (map (number Seventeen) (SA ∷ SA_MC_MN ∷ [])) class (refl, (refl, tt)) among
 
 or-true : (b : Bool) → (b || true) ≡ true
 or-true true = refl
 or-true false = refl
 
-pub complex-is : (class : ℕ) → is_complex_mark class ≡ true → is_complex class ≡ true
-unfolding is_complex
-complex-is class is = rw is (or-true (class == seventeen SA))
+pub complex-is : (class : ℕ) → is_complex_mark class ≡ true → is_complex_context class ≡ true
+unfolding is_complex_context
+complex-is class is = rw is (or-true (class == number Seventeen SA))
 
 -- glue is a mark, or one that is complex
-pub glue-is : (class : ℕ) → is_glue class ≡ (is_mark class || is_complex_mark class)
+pub glue-is : (class : ℕ) → is_glue class ≡ (is_mark Seventeen class || is_complex_mark class)
 unfolding is_glue is_mark
-glue-is class = on (class == seventeen CM) (class == seventeen CM_EASTASIAN) (class == seventeen SA_MC_MN) (class == seventeen ZWJ)
+glue-is class = on (class == number Seventeen CM) (class == number Seventeen CM_EASTASIAN) (class == number Seventeen SA_MC_MN) (class == number Seventeen ZWJ)
   where
     on : (a b m z : Bool) → (a || (b || (m || (z || false)))) ≡ ((a || (b || (z || false))) || m)
     on true b m z = refl
@@ -62,7 +60,7 @@ glue-is class = on (class == seventeen CM) (class == seventeen CM_EASTASIAN) (cl
     on false false false true = refl
     on false false false false = refl
 
-pub mark-apart : (class : ℕ) → is_mark class ≡ true → is_complex_mark class ≡ false
+pub mark-apart : (class : ℕ) → is_mark Seventeen class ≡ true → is_complex_mark class ≡ false
 mark-apart class mark = on (is_complex_mark class) refl
   where
     no : false ≡ true → ⊥

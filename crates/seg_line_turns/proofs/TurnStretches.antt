@@ -7,18 +7,20 @@ use Rattle.seg_text.specs.declared.boundary.Boundary.{Boundary}
 use Rattle.seg_text.specs.Boundaries.{RisesTo, IsCover, shift_all, start, Cuts, with_status, Stretch, IsWithin}
 use Rattle.seg_text.proofs.Places.{shifted-none, shifted-twice, shifted-append}
 use Rattle.seg_text.proofs.Covers.{rises-le}
-use Rattle.seg_line_rules.specs.LineRules.{TableRules}
+use Rattle.seg_line_rules.specs.LineRules.{TableRules, is_complex}
 use Rattle.seg_line_rules.proofs.LineStretches.{StandInside}
-use Rattle.seg_line_turns.specs.TurnBoundaries.{TurnStretch, is_complex_point, turn_run_length, run_of, turn_stretch_of, turn_stretch, AreTurns, turns_within, later_turns, turn_boundaries, HasOneTurnList}
+use Rattle.seg_line_turns.specs.TurnBoundaries.{TurnStretch, run_of, turn_stretch_of, turn_stretch, AreTurns, turns_within, later_turns, turn_boundaries, HasOneTurnList}
 use Rattle.seg_line_turns.specs.Turns.{Turn, turn, first_unit}
 use Rattle.seg_line_turns.specs.Turns.Turn.{BreakAt, GoTo, RunAt}
 use Rattle.seg_line_turns.proofs.TurnForward.{IsTurnOf, first-forward}
+use Rattle.seg_line_rules.specs.LineBoundaries.{complex_length}
+use Rattle.seg_line_rules.specs.LineClasses.LineEngine.{Seventeen}
 
 -- what a turn takes, whatever it finds of openings
 abbrev plain_stretch : TurnStretch → Stretch
 plain_stretch s = record { extent = s.extent; boundaries = s.boundaries }
 
-module _ (cuts : Cuts) (rules : TableRules) where
+module _ (cuts : Cuts) (rules : TableRules Seventeen) where
   some-of : (whole : List ℕ) (found : Turn) → IsTurnOf rules whole found → 0 < (turn_stretch_of cuts rules whole found).extent
   some-of whole (BreakAt place resume) (some, most, inside) = omega (arith, some, most)
   some-of whole (GoTo place opened) (some, inside) = some
@@ -99,7 +101,7 @@ from-start first end (boundary ∷ found) rises =
     let most = rises-le found boundary.offset end rises.1 in
     (end, omega arith, (omega (arith, rises.0), rises.1))
 
-module _ (cuts : Cuts) (inside : StandInside cuts) (rules : TableRules) where
+module _ (cuts : Cuts) (inside : StandInside cuts) (rules : TableRules Seventeen) where
   stands : (run : List ℕ) → 0 < length run → (end : ℕ) × (end < length run) × RisesTo 0 (with_status 0 (cuts run)) end
   stands [] some = absurd (omega (arith, some))
   stands (first ∷ rest) some = inside first rest
@@ -125,9 +127,9 @@ module _ (cuts : Cuts) (inside : StandInside cuts) (rules : TableRules) where
   }
   within-of whole (RunAt first opened) two =
       let rest : List ℕ = drop first whole in
-      let n : ℕ = turn_run_length rules rest in
-      let most = prefix_len-le-length (is_complex_point rules) rest in
-      let long = length-prefix_len (is_complex_point rules) rest in
+      let n : ℕ = complex_length rules rest in
+      let most = prefix_len-le-length (is_complex rules) rest in
+      let long = length-prefix_len (is_complex rules) rest in
       let dropped = length-drop first whole in
       let there = stands (run_of rules rest) (omega (arith, long, two)) in
       let shifted = shifted-rises first 0 there.0 (with_status 0 (cuts (run_of rules rest))) there.2 in

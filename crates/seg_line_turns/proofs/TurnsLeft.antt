@@ -13,6 +13,7 @@ use Rattle.seg_line_turns.specs.declared.turn_events.TurnEvent.TheVariants.{Run}
 use Rattle.seg_line_turns.specs.TurnBoundaries.{later_turns, turn_boundaries}
 use Rattle.seg_line_turns.specs.TurnEvents.{UnreadTurns, LeadsToTurns, unread_turns, after_cuts, whole_text}
 use Rattle.seg_line_turns.proofs.TurnStretches.{turns-cover, turns-nil}
+use Rattle.seg_line_rules.specs.LineClasses.LineEngine.{Seventeen}
 
 and-true : (b : Bool) → (b && true) ≡ b
 and-true true = refl
@@ -34,13 +35,13 @@ fewer-still after passed before less most = omega (arith, less, most)
 
 -- a new engine
 
-pub turns-whole : (cuts : Cuts) (rules : TableRules) (text : Text) (unread : UnreadTurns) (run : List ℕ) → unread ≡ whole_text rules text → run ≡ []
+pub turns-whole : (cuts : Cuts) (rules : TableRules Seventeen) (text : Text) (unread : UnreadTurns) (run : List ℕ) → unread ≡ whole_text rules text → run ≡ []
     → boundary (start_of unread.text) 0 ∷ (with_status 0 run ++ unread_turns cuts (after_cuts run unread)) ≡ boundaries_in (turn_boundaries cuts rules) text
 turns-whole cuts rules text unread run is none =
     ap (λ (run : List ℕ). boundary (start_of unread.text) 0 ∷ (with_status 0 run ++ unread_turns cuts (after_cuts run unread))) none
     ∙ ap (λ (u : UnreadTurns). boundary (start_of u.text) 0 ∷ unread_turns cuts (after_cuts [] u)) is
 
-pub turns-text-cover : (cuts : Cuts) → CutsCover cuts → (rules : TableRules) (text : Text) → IsRising text.items text.end
+pub turns-text-cover : (cuts : Cuts) → CutsCover cuts → (rules : TableRules Seventeen) (text : Text) → IsRising text.items text.end
     → IsCover (start_of text) text.end (boundaries_in (turn_boundaries (inside cuts) rules) text)
 turns-text-cover cuts cover rules text rising =
     let counted = turns-cover (inside cuts) (inside-stand cuts cover) rules (code_points text.items) in

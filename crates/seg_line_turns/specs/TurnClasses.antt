@@ -1,76 +1,59 @@
 -- The sets of classes that the rules of the engine 17 speak of.
-use Rattle.std.specs.Prelude.{ℕ, ◌==◌, ◌&&◌, not, Bool, [], ◌∷◌}
-use Rattle.seg_line_rules.specs.LineClasses.{seventeen}
-use Rattle.seg_line_rules.specs.LineClasses.LineClass.{AI, AI_EASTASIAN, AL, AL_DOTTED_CIRCLE, AL_EASTASIAN, BK, CB, CL, CL_EASTASIAN, CM, CM_EASTASIAN, CP, CR, EX, EX_EASTASIAN, GL, GL_EASTASIAN, HH, HL, HY, IS, LF, NL, NU, OP, OP_EASTASIAN, QU, QU_PF, QU_PI, SA, SA_MC_MN, SP, SY, WJ, XX, XX_EXTPICT, ZW, ZWJ}
+use Rattle.std.specs.Prelude.{ℕ, ◌==◌, Bool, [], ◌∷◌}
+use Rattle.seg_line_rules.specs.LineClasses.{number}
+use Rattle.seg_line_rules.specs.LineClasses.LineClass.{AI, AI_EASTASIAN, AL, AL_DOTTED_CIRCLE, AL_EASTASIAN, BK, CB, CL, CL_EASTASIAN, CM, CM_EASTASIAN, CP, CR, EX, EX_EASTASIAN, GL, GL_EASTASIAN, HH, HL, HY, IS, LF, NL, NU, OP, OP_EASTASIAN, QU, QU_PF, QU_PI, SA_MC_MN, SP, SY, WJ, XX, XX_EXTPICT, ZW, ZWJ}
 use Rattle.seg_line_rules.specs.LineRules.{is_one_of}
-
--- a mark
-unfoldable pub is_mark : ℕ → Bool
-is_mark class = is_one_of seventeen (CM ∷ CM_EASTASIAN ∷ ZWJ ∷ []) class
+use Rattle.seg_line_rules.specs.LineClasses.LineEngine.{Seventeen}
 
 -- a mark, or one that is complex
 unfoldable pub is_glue : ℕ → Bool
-is_glue class = is_one_of seventeen (CM ∷ CM_EASTASIAN ∷ SA_MC_MN ∷ ZWJ ∷ []) class
-
--- a mark after one of these six stands alone
-unfoldable pub bears_none : ℕ → Bool
-bears_none class = is_one_of seventeen (BK ∷ CR ∷ LF ∷ NL ∷ SP ∷ ZW ∷ []) class
-
-unfoldable pub is_complex : ℕ → Bool
-is_complex class = is_one_of seventeen (SA ∷ SA_MC_MN ∷ []) class
+is_glue class = is_one_of Seventeen (CM ∷ CM_EASTASIAN ∷ SA_MC_MN ∷ ZWJ ∷ []) class
 
 unfoldable pub is_letter : ℕ → Bool
-is_letter class = is_one_of seventeen (AL ∷ AL_EASTASIAN ∷ AL_DOTTED_CIRCLE ∷ HL ∷ AI ∷ AI_EASTASIAN ∷ XX ∷ XX_EXTPICT ∷ []) class
+is_letter class = is_one_of Seventeen (AL ∷ AL_EASTASIAN ∷ AL_DOTTED_CIRCLE ∷ HL ∷ AI ∷ AI_EASTASIAN ∷ XX ∷ XX_EXTPICT ∷ []) class
 
 unfoldable pub is_hyphen : ℕ → Bool
-is_hyphen class = is_one_of seventeen (HH ∷ HY ∷ []) class
+is_hyphen class = is_one_of Seventeen (HH ∷ HY ∷ []) class
 
 unfoldable pub is_opening : ℕ → Bool
-is_opening class = is_one_of seventeen (OP ∷ OP_EASTASIAN ∷ []) class
+is_opening class = is_one_of Seventeen (OP ∷ OP_EASTASIAN ∷ []) class
 
 -- at the start of a text the table may say what such a class is read as
 unfoldable pub is_start : ℕ → Bool
-is_start class = is_one_of seventeen (HY ∷ HH ∷ QU_PI ∷ QU_PF ∷ QU ∷ []) class
+is_start class = is_one_of Seventeen (HY ∷ HH ∷ QU_PI ∷ QU_PF ∷ QU ∷ []) class
 
 -- a boundary stands between one of these and a closing quote
 unfoldable pub is_before_quote : ℕ → Bool
-is_before_quote class = is_one_of seventeen (BK ∷ CR ∷ LF ∷ NL ∷ ZW ∷ []) class
+is_before_quote class = is_one_of Seventeen (BK ∷ CR ∷ LF ∷ NL ∷ ZW ∷ []) class
 
 -- a closing quote after a space stays with one of these
 unfoldable pub is_after_quote : ℕ → Bool
 is_after_quote class =
-    is_one_of seventeen (SP ∷ GL ∷ GL_EASTASIAN ∷ WJ ∷ CL ∷ CL_EASTASIAN ∷ QU ∷ QU_PI ∷ QU_PF ∷ CP ∷ EX ∷ EX_EASTASIAN ∷ IS ∷ SY ∷ BK ∷ CR ∷ LF ∷ NL ∷ ZW ∷ []) class
+    is_one_of Seventeen (SP ∷ GL ∷ GL_EASTASIAN ∷ WJ ∷ CL ∷ CL_EASTASIAN ∷ QU ∷ QU_PI ∷ QU_PF ∷ CP ∷ EX ∷ EX_EASTASIAN ∷ IS ∷ SY ∷ BK ∷ CR ∷ LF ∷ NL ∷ ZW ∷ []) class
 
 -- a hyphen after one of these begins a word
 unfoldable pub is_before_hyphen : ℕ → Bool
-is_before_hyphen class = is_one_of seventeen (BK ∷ CB ∷ CR ∷ LF ∷ NL ∷ SP ∷ ZW ∷ []) class
-
--- a mark is glued to an item of this class
-abbrev pub is_glued : ℕ → ℕ → Bool
-is_glued before class = is_mark class && not (bears_none before)
+is_before_hyphen class = is_one_of Seventeen (BK ∷ CB ∷ CR ∷ LF ∷ NL ∷ SP ∷ ZW ∷ []) class
 
 -- classes alone
 
-abbrev pub is_joiner : ℕ → Bool
-is_joiner class = class == seventeen ZWJ
-
 abbrev pub is_complex_mark : ℕ → Bool
-is_complex_mark class = class == seventeen SA_MC_MN
+is_complex_mark class = class == number Seventeen SA_MC_MN
 
 abbrev pub is_space : ℕ → Bool
-is_space class = class == seventeen SP
+is_space class = class == number Seventeen SP
 
 abbrev pub is_zero_space : ℕ → Bool
-is_zero_space class = class == seventeen ZW
+is_zero_space class = class == number Seventeen ZW
 
 abbrev pub is_infix : ℕ → Bool
-is_infix class = class == seventeen IS
+is_infix class = class == number Seventeen IS
 
 abbrev pub is_digit : ℕ → Bool
-is_digit class = class == seventeen NU
+is_digit class = class == number Seventeen NU
 
 abbrev pub is_quote : ℕ → Bool
-is_quote class = class == seventeen QU_PF
+is_quote class = class == number Seventeen QU_PF
 
 abbrev pub is_contingent : ℕ → Bool
-is_contingent class = class == seventeen CB
+is_contingent class = class == number Seventeen CB

@@ -7,32 +7,24 @@ use Rattle.seg_pair_data.specs.declared.provider.pairs.BreakState.{BreakState}
 use Rattle.seg_pair_data.specs.declared.provider.pairs.BreakState.TheVariants as entries
 use Rattle.seg_pair_data.specs.PairTable.{PairTable, entry_of}
 use Rattle.seg_line_rules.specs.declared.plain_pairs.ClassedItem.{ClassedItem}
-use Rattle.seg_line_rules.specs.LineEvents.{HasClassBy, IsAheadBy, text_from}
-use Rattle.seg_line_rules.specs.LineRules.{TableRules, is_one_of}
+use Rattle.seg_line_rules.specs.LineEvents.{text_from, HasClass}
+use Rattle.seg_line_rules.specs.LineRules.{TableRules, is_one_of, is_complex_context}
 use Rattle.seg_line_rules.specs.declared.plain_pairs.PlainPair.{PlainPair}
 use Rattle.seg_line_rules.specs.declared.plain_pairs.PlainPair.TheVariants as plain
-use Rattle.seg_line_turns.specs.TurnRules.{turn_class}
 use Rattle.seg_line_turns.specs.declared.turn_events.TurnEvent.{TurnEvent}
 use Rattle.seg_line_turns.specs.declared.turn_events.TurnEvent.TheVariants.{End, Go, Break, Run}
 use Rattle.seg_line_turns.specs.TurnBoundaries.{later_turns, has_none}
-use Rattle.seg_line_rules.specs.LineClasses.{seventeen}
 use Rattle.seg_line_rules.specs.LineClasses.LineClass.{CM, CM_EASTASIAN, HH, HY, IS, QU_PF, SA, SA_MC_MN, SP, ZWJ}
-use Rattle.seg_line_turns.specs.TurnClasses.{is_before_hyphen, is_before_quote, is_complex, is_glue, is_hyphen, is_infix, is_joiner, is_opening, is_quote, is_space}
-
--- An item that is read ahead of a text, with its class for the engine 17.
-
-abbrev pub HasTurnClass : TableRules → ClassedItem → Type 0
-HasTurnClass rules item = HasClassBy rules.table (turn_class rules) item
-
-abbrev pub IsTurnAhead : TableRules → Text → Option ClassedItem → Text → Type 0
-IsTurnAhead rules here next rest = IsAheadBy rules.table (turn_class rules) here next rest
+use Rattle.seg_line_turns.specs.TurnClasses.{is_before_hyphen, is_before_quote, is_glue, is_hyphen, is_infix, is_opening, is_quote, is_space}
+use Rattle.seg_line_rules.specs.LineUnits.{is_joiner}
+use Rattle.seg_line_rules.specs.LineClasses.LineEngine.{Seventeen}
 
 -- What comes next of a text that is read turn by turn.
 
 -- a text that is being read: what its lines are found by, whether nothing was read yet, and whether a space after an opening was met since
 -- the last boundary
 pub record UnreadTurns : Type 0 where
-  pub rules : TableRules
+  pub rules : TableRules Seventeen
   pub starts : Bool
   pub opened : Bool
   pub text : Text
@@ -69,7 +61,7 @@ LeadsToTurnBreak before None after =
     ((cuts : Cuts) → unread_turns cuts before ≡ unread_turns cuts after) × (length after.text.items ≤ length before.text.items)
 
 -- a text that nothing was read of
-abbrev pub whole_text : TableRules → Text → UnreadTurns
+abbrev pub whole_text : TableRules Seventeen → Text → UnreadTurns
 whole_text rules text = record { rules = rules; starts = true; opened = false; text = text }
 
 -- the boundary at the start, where it isn't given yet, the cuts that are left of a run, and then the boundaries of what isn't read
@@ -85,7 +77,7 @@ turn_remainder cuts started run unread = record {
 
 -- a rule asks of such a class on the right
 unfoldable pub is_asked : ℕ → Bool
-is_asked class = is_one_of seventeen (CM ∷ CM_EASTASIAN ∷ HH ∷ HY ∷ IS ∷ QU_PF ∷ SA ∷ SA_MC_MN ∷ SP ∷ ZWJ ∷ []) class
+is_asked class = is_one_of Seventeen (CM ∷ CM_EASTASIAN ∷ HH ∷ HY ∷ IS ∷ QU_PF ∷ SA ∷ SA_MC_MN ∷ SP ∷ ZWJ ∷ []) class
 
 -- signs, and the classes before them that a rule of signs asks of
 abbrev pub is_sign : ℕ → Bool
@@ -97,7 +89,7 @@ is_before_sign class = is_space class || is_before_quote class || is_before_hyph
 -- no rule that asks of the right class finds on the left what it asks of
 abbrev pub is_unanswered : ℕ → ℕ → Bool
 is_unanswered left right =
-    not (is_glue right) && not (is_space right && is_opening left) && not (is_complex right && is_complex left)
+    not (is_glue right) && not (is_space right && is_opening left) && not (is_complex_context right && is_complex_context left)
     && not (is_sign right && is_before_sign left)
 
 -- the table alone decides between an item with no marks and the next
@@ -112,21 +104,21 @@ entry_turn joined (entries.Index state) = plain.Other
 entry_turn joined (entries.Intermediate state) = plain.Other
 
 abbrev pub plain_turn : PairTable → ℕ → ℕ → PlainPair
-plain_turn t left right = if is_plain left right then entry_turn (is_joiner left) (entry_of t left right) else plain.Other
+plain_turn t left right = if is_plain left right then entry_turn (is_joiner Seventeen left) (entry_of t left right) else plain.Other
 
 -- a text that is being read, not from its start
-abbrev pub going_text : TableRules → Bool → Text → UnreadTurns
+abbrev pub going_text : TableRules Seventeen → Bool → Text → UnreadTurns
 going_text rules opened text = record { rules = rules; starts = false; opened = opened; text = text }
 
 -- the boundaries from this item on, and one before it or not
-abbrev pub passed_turns : Cuts → TableRules → (opened is_break : Bool) → ClassedItem → Text → List Boundary
+abbrev pub passed_turns : Cuts → TableRules Seventeen → (opened is_break : Bool) → ClassedItem → Text → List Boundary
 passed_turns cuts rules opened true next rest = boundary next.place 0 ∷ unread_turns cuts (going_text rules false (text_from next rest))
 passed_turns cuts rules opened false next rest = unread_turns cuts (going_text rules opened (text_from next rest))
 
 -- plain turns lead from one item, with those after it, to another
-pub record IsPassedByTurns (rules : TableRules) (first : ClassedItem) (start : Text) (next : ClassedItem) (rest : Text) (is_break : Bool) : Type 0 where
+pub record IsPassedByTurns (rules : TableRules Seventeen) (first : ClassedItem) (start : Text) (next : ClassedItem) (rest : Text) (is_break : Bool) : Type 0 where
   pub taken : ℕ
   pub text_is : text_from next rest ≡ rest_after taken (text_from first start)
-  pub class : HasTurnClass rules next
+  pub class : HasClass rules next
   pub leads : (opened : Bool) (cuts : Cuts)
       → unread_turns cuts (going_text rules opened (text_from first start)) ≡ passed_turns cuts rules opened is_break next rest

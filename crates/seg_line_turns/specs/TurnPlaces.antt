@@ -13,11 +13,14 @@ use Rattle.seg_line_turns.specs.declared.turn_walk.WalkOutcome.{WalkOutcome}
 use Rattle.seg_line_turns.specs.declared.turn_walk.WalkOutcome.TheVariants as outcome
 use Rattle.seg_line_turns.specs.declared.turn_units.TurnOutcome.{TurnOutcome}
 use Rattle.seg_line_turns.specs.declared.turn_units.TurnOutcome.TheVariants.{Break, Go, Run}
-use Rattle.seg_line_turns.specs.TurnClasses.{is_contingent, is_joiner}
+use Rattle.seg_line_turns.specs.TurnClasses.{is_contingent}
 use Rattle.seg_line_turns.specs.TurnRules.{LeftUnit}
 use Rattle.seg_line_turns.specs.Turns.{Turn, Walking, WalkStep, next_base, to_base}
 use Rattle.seg_line_turns.specs.Turns.Turn.{BreakAt, GoTo, RunAt}
 use Rattle.seg_line_turns.specs.Turns.WalkStep.{Stops, GoesOn}
+use Rattle.seg_line_rules.specs.LineUnits.{is_joiner}
+use Rattle.seg_line_rules.specs.LineClasses.LineEngine.{Seventeen}
+use Rattle.seg_line_rules.specs.LineClasses.{number}
 
 -- where the item with this number begins
 abbrev pub item_place : ℕ → Text → ℕ
@@ -43,7 +46,7 @@ class_at_start class entries.Break = class
 -- the turn at a hyphen that begins a word, at this place and before an item at that one
 abbrev pub hyphen_outcome : Left → Bool → ℕ → ℕ → TurnOutcome
 hyphen_outcome left opened place next =
-    if is_contingent left.class && is_joiner left.last_class then Go next opened else Break place next
+    if is_contingent left.class && is_joiner Seventeen left.last_class then Go next opened else Break place next
 
 -- a unit of which so many items come after the first
 abbrev pub left_seen : ℕ → Left → LeftUnit
@@ -105,7 +108,7 @@ pub record IsWalkAt (whole : Text) (number saved : ℕ) (walker : Walker) (rest 
   pub after : rest ≡ rest_after number whole
 
 -- the base after some items: its class, where there is one, and its place, or else that of the last item
-pub record IsBaseOf (rules : TableRules) (rest : Text) (found : BaseAhead) : Type 0 where
+pub record IsBaseOf (rules : TableRules Seventeen) (rest : Text) (found : BaseAhead) : Type 0 where
   pub class : found.class ≡ option_map (λ (base : ℕ × ℕ). base.1) (next_base rules (code_points rest.items))
   pub place : found.place ≡ item_place (to_base rules (code_points rest.items)) rest
 

@@ -5,26 +5,29 @@ use Rattle.seg_pair_data.specs.declared.provider.pairs.BreakState.{BreakState}
 use Rattle.seg_pair_data.specs.declared.provider.pairs.BreakState.TheVariants.{Break, Keep, NoMatch, Intermediate, Index}
 use Rattle.seg_pair_data.specs.PairTable.{named_state, is_intermediate, PairTable, entry_of}
 use Rattle.seg_pairs.specs.Walk.{is_class}
-use Rattle.seg_line_rules.specs.LineRules.{TableRules}
-use Rattle.seg_line_rules.specs.LineClasses.{seventeen}
+use Rattle.seg_line_rules.specs.LineRules.{TableRules, is_complex_context, line_class}
+use Rattle.seg_line_rules.specs.LineClasses.{number}
 use Rattle.seg_line_rules.specs.LineClasses.LineClass.{AL}
-use Rattle.seg_line_turns.specs.TurnClasses.{is_mark, is_glue, bears_none, is_complex, is_complex_mark, is_letter, is_hyphen, is_opening, is_start, is_before_quote, is_after_quote, is_before_hyphen, is_joiner, is_space, is_zero_space, is_infix, is_digit, is_quote, is_contingent}
-use Rattle.seg_line_turns.specs.TurnRules.{keeps, listed, turn_class, LeftUnit, left_unit, with_item, is_joined}
+use Rattle.seg_line_turns.specs.TurnClasses.{is_glue, is_complex_mark, is_letter, is_hyphen, is_opening, is_start, is_before_quote, is_after_quote, is_before_hyphen, is_space, is_zero_space, is_infix, is_digit, is_quote, is_contingent}
+use Rattle.seg_line_turns.specs.TurnRules.{LeftUnit, left_unit, with_item, is_joined}
+use Rattle.seg_line_rules.specs.LineUnits.{is_mark, bears_none, is_joiner}
+use Rattle.seg_line_rules.specs.LineLists.{keeps, listed}
+use Rattle.seg_line_rules.specs.LineClasses.LineEngine.{Seventeen}
 
 -- the code points after an item: how many marks stand first, and the class of the base after them, where there is one
-unfoldable pub next_base : TableRules → List ℕ → Option (ℕ × ℕ)
+unfoldable pub next_base : TableRules Seventeen → List ℕ → Option (ℕ × ℕ)
 next_base rules [] = None
 next_base rules (code_point ∷ code_points) =
-    if is_mark (turn_class rules code_point)
+    if is_mark Seventeen (line_class rules code_point)
     then option_map_or (λ (found : ℕ × ℕ). Some (suc found.0, found.1)) (next_base rules code_points) None
-    else Some (0, turn_class rules code_point)
+    else Some (0, line_class rules code_point)
 
 -- a base comes, and its class passes
-abbrev pub comes : TableRules → (ℕ → Bool) → List ℕ → Bool
+abbrev pub comes : TableRules Seventeen → (ℕ → Bool) → List ℕ → Bool
 comes rules passes code_points = option_map_or (λ (found : ℕ × ℕ). passes found.1) (next_base rules code_points) false
 
 -- how many code points stand before it, or before the last one where no base comes
-abbrev pub to_base : TableRules → List ℕ → ℕ
+abbrev pub to_base : TableRules Seventeen → List ℕ → ℕ
 to_base rules code_points = option_map_or (λ (found : ℕ × ℕ). found.0) (next_base rules code_points) (length code_points - 1)
 
 -- what a turn finds. Items are counted from the first of the left unit on
@@ -59,7 +62,7 @@ is_keep (Intermediate state) = false
 
 -- the state stays with a letter
 abbrev pub sticks : PairTable → ℕ → Bool
-sticks t state = is_keep (entry_of t state (seventeen AL))
+sticks t state = is_keep (entry_of t state (number Seventeen AL))
 
 -- the end of the text
 abbrev pub walk_end_turn : Walking → ℕ → BreakState → Turn
@@ -86,7 +89,7 @@ walk_on t w place class next =
     record {
       state = next;
       saved = if saves then place else w.saved;
-      is_saved_joined = if saves then is_joiner w.before else w.is_saved_joined;
+      is_saved_joined = if saves then is_joiner Seventeen w.before else w.is_saved_joined;
       before = class;
       is_composite_first = w.is_composite_first;
       opened = w.opened;
@@ -98,12 +101,12 @@ pub data WalkStep : Type 0 where
   GoesOn : Walking → WalkStep
 
 -- what the entry of the state and the class says
-abbrev pub walk_entry_step : TableRules → Walking → ℕ → ℕ → BreakState → WalkStep
+abbrev pub walk_entry_step : TableRules Seventeen → Walking → ℕ → ℕ → BreakState → WalkStep
 walk_entry_step rules w place class entry =
-    option_map_or (λ next. GoesOn (walk_on rules.table w place class next)) (named_state entry) (Stops (walk_stop_turn w (is_joiner w.before) place entry))
+    option_map_or (λ next. GoesOn (walk_on rules.table w place class next)) (named_state entry) (Stops (walk_stop_turn w (is_joiner Seventeen w.before) place entry))
 
 -- an item that isn't glued: after a space some classes decide, and else the table
-abbrev pub space_step : TableRules → Walking → ℕ → ℕ → List ℕ → WalkStep
+abbrev pub space_step : TableRules Seventeen → Walking → ℕ → ℕ → List ℕ → WalkStep
 space_step rules w place class after =
     if is_space w.before && not (is_zero_space w.state) && is_infix class && not (sticks rules.table w.state) then Stops (GoTo w.saved w.opened)
     else if is_quote class && is_space w.before && not (is_class rules.table w.state)
@@ -113,9 +116,9 @@ space_step rules w place class after =
     else walk_entry_step rules w place class (entry_of rules.table w.state class)
 
 -- the item with this number and class: the cases of a walk, in their order
-abbrev pub walk_step : TableRules → Walking → ℕ → ℕ → List ℕ → WalkStep
+abbrev pub walk_step : TableRules Seventeen → Walking → ℕ → ℕ → List ℕ → WalkStep
 walk_step rules w place class after =
-    if is_glue class && not (bears_none w.before) then GoesOn (record w { before = class })
+    if is_glue class && not (bears_none Seventeen w.before) then GoesOn (record w { before = class })
     else if w.opened && not (is_space class) && not (is_hyphen class) then Stops (GoTo place false)
     else space_step rules (record w { opened = w.opened && is_space class }) place class after
 
@@ -124,10 +127,10 @@ walk_by (Stops turn) later = turn
 walk_by (GoesOn w) later = later w
 
 -- the walk goes on before the item with this number
-unfoldable pub walk_turn : TableRules → Walking → ℕ → List ℕ → Turn
+unfoldable pub walk_turn : TableRules Seventeen → Walking → ℕ → List ℕ → Turn
 walk_turn rules w place [] = walk_end_turn w place (entry_of rules.table w.state rules.table.eot_property)
 walk_turn rules w place (code_point ∷ after) =
-    walk_by (walk_step rules w place (turn_class rules code_point) after) (λ w. walk_turn rules w (suc place) after)
+    walk_by (walk_step rules w place (line_class rules code_point) after) (λ w. walk_turn rules w (suc place) after)
 
 -- a walk that begins after the right item, which has this number
 abbrev pub walk_begin : PairTable → Bool → Bool → ℕ → ℕ → ℕ → Walking
@@ -141,7 +144,7 @@ walk_begin t joined opened place class state = record {
 }
 
 -- the table's entry of the left class and the right class
-abbrev pub table_turn : TableRules → Bool → LeftUnit → ℕ → List ℕ → BreakState → Turn
+abbrev pub table_turn : TableRules Seventeen → Bool → LeftUnit → ℕ → List ℕ → BreakState → Turn
 table_turn rules opened left right after Keep = GoTo (suc left.last) opened
 table_turn rules opened left right after Break = turn_unless (is_joined left) opened (suc left.last)
 table_turn rules opened left right after NoMatch = turn_unless (is_joined left) opened (suc left.last)
@@ -150,12 +153,12 @@ table_turn rules opened left right after (Index state) =
 table_turn rules opened left right after (Intermediate state) =
     walk_turn rules (walk_begin rules.table (is_joined left) opened (suc left.last) right state) (suc (suc left.last)) after
 
-abbrev pub begins_marked : TableRules → List ℕ → Bool
+abbrev pub begins_marked : TableRules Seventeen → List ℕ → Bool
 begins_marked rules [] = false
-begins_marked rules (code_point ∷ code_points) = is_mark (turn_class rules code_point)
+begins_marked rules (code_point ∷ code_points) = is_mark Seventeen (line_class rules code_point)
 
 -- a closing quote after the end of a line, or after ZW
-abbrev pub quote_turn : TableRules → ℕ → List ℕ → Turn
+abbrev pub quote_turn : TableRules Seventeen → ℕ → List ℕ → Turn
 quote_turn rules place after =
     if comes rules is_hyphen after then BreakAt place place
     else if begins_marked rules after then BreakAt place (place + suc (to_base rules after))
@@ -167,10 +170,10 @@ list_turn (Some false) place opened otherwise = GoTo place opened
 list_turn None place opened otherwise = otherwise
 
 -- where no list decides, and then where no class decides
-abbrev pub class_turn : TableRules → Bool → LeftUnit → ℕ → List ℕ → Turn
+abbrev pub class_turn : TableRules Seventeen → Bool → LeftUnit → ℕ → List ℕ → Turn
 class_turn rules opened left class after =
     let place = suc left.last in
-    if is_complex left.last_class && is_complex class then RunAt left.last opened
+    if is_complex_context left.last_class && is_complex_context class then RunAt left.last opened
     else if is_space left.class && is_infix class && comes rules is_digit after then BreakAt place place
     else if is_quote class && is_before_quote left.class then quote_turn rules place after
     else if is_quote class && is_space left.class && opened then GoTo place opened
@@ -182,27 +185,27 @@ class_turn rules opened left class after =
     else table_turn rules opened left class after (entry_of rules.table left.class class)
 
 -- the right item isn't glued: KeepAll, the list of the strictness, classes, and the table
-abbrev pub right_turn : TableRules → Bool → LeftUnit → ℕ → List ℕ → Turn
+abbrev pub right_turn : TableRules Seventeen → Bool → LeftUnit → ℕ → List ℕ → Turn
 right_turn rules opened left right after =
-    let class = turn_class rules right in
-    if keeps rules.style left.class class then GoTo (suc left.last) opened
-    else list_turn (listed rules.style (is_joined left) left.class left.last_code_point class right) (suc left.last) opened
+    let class = line_class rules right in
+    if keeps Seventeen rules.style left.class class then GoTo (suc left.last) opened
+    else list_turn (listed Seventeen rules.style (is_joined left) left.class left.last_code_point class right) (suc left.last) opened
     (class_turn rules opened left class after)
 
 -- an item of this class is glued to the left unit
 abbrev pub is_taken : LeftUnit → ℕ → Bool
-is_taken left class = is_glue class && not (bears_none left.class) && not (is_complex left.class && is_complex_mark class)
+is_taken left class = is_glue class && not (bears_none Seventeen left.class) && not (is_complex_context left.class && is_complex_mark class)
 
 -- a space comes after an opening
 abbrev pub opens : LeftUnit → ℕ → Bool
 opens left class = is_opening left.class && is_space class
 
 -- the turn from a left unit, and the code points after it
-unfoldable pub turn : TableRules → Bool → LeftUnit → List ℕ → Turn
+unfoldable pub turn : TableRules Seventeen → Bool → LeftUnit → List ℕ → Turn
 turn rules opened left [] = BreakAt (suc left.last) (suc left.last)
 turn rules opened left (right ∷ after) =
-    if is_taken left (turn_class rules right) then turn rules opened (with_item rules left right) after
-    else right_turn rules (opened || opens left (turn_class rules right)) left right after
+    if is_taken left (line_class rules right) then turn rules opened (with_item rules left right) after
+    else right_turn rules (opened || opens left (line_class rules right)) left right after
 
 -- the left unit that a turn begins with: at the start of a text the table says what some classes are read as
 abbrev pub start_unit : LeftUnit → BreakState → LeftUnit
@@ -212,7 +215,7 @@ start_unit unit Break = unit
 start_unit unit Keep = unit
 start_unit unit NoMatch = unit
 
-abbrev pub first_unit : TableRules → Bool → ℕ → LeftUnit
+abbrev pub first_unit : TableRules Seventeen → Bool → ℕ → LeftUnit
 first_unit rules starts code_point =
     let unit = left_unit rules code_point in
     if starts && is_start unit.class then start_unit unit (entry_of rules.table rules.table.sot_property unit.class) else unit

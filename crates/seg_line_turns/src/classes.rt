@@ -1,13 +1,16 @@
 //! The sets of classes that the rules of the engine 17 speak of.
 ghost use Rattle.std.specs.Prelude.{◌≡◌};
-ghost use Rattle.seg_line_turns.specs.TurnClasses.{bears_none, is_after_quote, is_before_hyphen, is_before_quote, is_complex, is_glue, is_hyphen, is_letter, is_mark, is_opening, is_start};
+ghost use Rattle.seg_line_rules.specs.LineClasses.LineEngine.{Seventeen};
+ghost use Rattle.seg_line_rules.specs.LineRules.{is_complex_context};
+ghost use Rattle.seg_line_rules.specs.LineUnits.{bears_none, is_mark};
+ghost use Rattle.seg_line_turns.specs.TurnClasses.{is_after_quote, is_before_hyphen, is_before_quote, is_glue, is_hyphen, is_letter, is_opening, is_start};
 
 use seg_pair_data::provider::RuleBreakData;
 
 /// Whether the class is one of marks.
-#[tactic(auto, unfolding(crate::specs::TurnClasses::is_mark))]
+#[tactic(auto, unfolding(seg_line_rules::specs::LineUnits::is_mark))]
 pub(crate) fn is_mark(class: u8) -> bool
-    ensures { result ≡ is_mark class }
+    ensures { result ≡ is_mark Seventeen class }
 {
     class == RuleBreakData::LINE_V3_PROPERTY_CM
         || class == RuleBreakData::LINE_V3_PROPERTY_CM_EASTASIAN
@@ -26,9 +29,9 @@ pub(crate) fn is_glue(class: u8) -> bool
 }
 
 /// Whether a mark after a base of this class stands alone.
-#[tactic(auto, unfolding(crate::specs::TurnClasses::bears_none))]
+#[tactic(auto, unfolding(seg_line_rules::specs::LineUnits::bears_none))]
 pub(crate) fn bears_none(class: u8) -> bool
-    ensures { result ≡ bears_none class }
+    ensures { result ≡ bears_none Seventeen class }
 {
     class == RuleBreakData::LINE_V3_PROPERTY_BK
         || class == RuleBreakData::LINE_V3_PROPERTY_CR
@@ -39,9 +42,9 @@ pub(crate) fn bears_none(class: u8) -> bool
 }
 
 /// Whether the class is one of complex code points.
-#[tactic(auto, unfolding(crate::specs::TurnClasses::is_complex))]
+#[tactic(auto, unfolding(seg_line_rules::specs::LineRules::is_complex_context))]
 pub(crate) fn is_complex(class: u8) -> bool
-    ensures { result ≡ is_complex class }
+    ensures { result ≡ is_complex_context class }
 {
     class == RuleBreakData::LINE_V3_PROPERTY_SA || class == RuleBreakData::LINE_V3_PROPERTY_SA_MC_MN
 }

@@ -3,36 +3,38 @@
 //! opening are seen from afar, as by the sample data in a space, a hyphen and a letter.
 ghost use Rattle.std.specs.Prelude.{◌≡◌, ℕ, List, length};
 ghost use Rattle.seg_text.specs.Boundaries.{HasEqualOrdinals, IsCover, Cuts};
-ghost use Rattle.seg_line_rules.specs.LineBoundaries.{CutsCover, inside};
+ghost use Rattle.seg_line_rules.specs.LineBoundaries.{CutsCover, KeepsMarks, inside, line_boundaries};
+ghost use Rattle.seg_line_rules.specs.LineUnits.{counted_units, units_of};
+ghost use Rattle.seg_line_rules.specs.LineClasses.LineEngine.{Seventeen};
 ghost use Rattle.seg_line_rules.specs.LineRules.{TableRules};
-ghost use Rattle.seg_line_turns.specs.PlainTexts.{ArePlain, HasNoOpening, plain_boundaries, turn_units};
-ghost use Rattle.seg_line_turns.specs.TurnBoundaries.{HasOneTurnList, turn_boundaries, KeepsTurnMarks, StartsBear, turn_rules_by};
+ghost use Rattle.seg_line_turns.specs.PlainTexts.{ArePlain, HasNoOpening};
+ghost use Rattle.seg_line_turns.specs.TurnBoundaries.{HasOneTurnList, turn_boundaries, StartsBear, turn_rules_by};
 
 use crate::turn_pairs::TurnPairs;
 
 /// Law: a list of code points has exactly one list of boundaries: the first is at its start, and the others come from the first turn of what
 /// is left, again and again.
 pub fn boundaries_are_one()
-    ensures { (cuts : Cuts) (rules : TableRules) → HasOneTurnList cuts rules }
+    ensures { (cuts : Cuts) (rules : TableRules Seventeen) → HasOneTurnList cuts rules }
 {}
 
 /// Law: the boundaries rise strictly from 0 to the number of the code points.
 pub fn strict_cover()
-    ensures { (cuts : Cuts) (rules : TableRules) → CutsCover cuts → (code_points : List ℕ)
+    ensures { (cuts : Cuts) (rules : TableRules Seventeen) → CutsCover cuts → (code_points : List ℕ)
         → IsCover 0 (length code_points) (turn_boundaries (inside cuts) rules code_points) }
 {}
 
 /// Law: two texts with equal code points, in whatever encodings, have the same boundaries, counted in code points: one function of the
 /// rules and of the decoded list, which names no place, length or encoding.
 pub fn equal_code_points()
-    ensures { (cuts : Cuts) (rules : TableRules) → HasEqualOrdinals (turn_boundaries cuts rules) }
+    ensures { (cuts : Cuts) (rules : TableRules Seventeen) → HasEqualOrdinals (turn_boundaries cuts rules) }
 {}
 
 /// Law: no boundary but that at 0 stands before a code point of class CM, CM_EASTASIAN or ZWJ, except after one of class BK, CR, LF, NL, SP or
 /// ZW, provided that the table reads no class at the start of a text as one of these six.
 pub fn mark_law(pairs: TurnPairs<'_>)
     ensures { (cuts : Cuts) → CutsCover cuts → StartsBear (turn_rules_by pairs.entry).table → (code_points : List ℕ)
-        → KeepsTurnMarks (turn_rules_by pairs.entry) code_points (turn_boundaries (inside cuts) (turn_rules_by pairs.entry) code_points) }
+        → KeepsMarks (turn_rules_by pairs.entry) code_points (turn_boundaries (inside cuts) (turn_rules_by pairs.entry) code_points) }
 {
     pairs.table().facts();
 }
@@ -42,6 +44,6 @@ pub fn mark_law(pairs: TurnPairs<'_>)
 /// A text is plain where no code point has class IS, HY, HH, QU, QU_PI, QU_PF, SA or SA_MC_MN and no opening unit stands directly before a
 /// space.
 pub fn plain_texts()
-    ensures { (cuts : Cuts) (rules : TableRules) (code_points : List ℕ) → ArePlain rules code_points → HasNoOpening (turn_units rules code_points)
-        → turn_boundaries cuts rules code_points ≡ plain_boundaries cuts rules code_points }
+    ensures { (cuts : Cuts) (rules : TableRules Seventeen) (code_points : List ℕ) → ArePlain rules code_points → HasNoOpening (units_of (counted_units rules code_points))
+        → turn_boundaries cuts rules code_points ≡ line_boundaries cuts rules code_points }
 {}

@@ -1,7 +1,7 @@
 //! Turns by pairs of classes alone: most of them.
 ghost use Rattle.std.specs.Prelude.{◌≡◌, ◌<◌, false};
-ghost use Rattle.seg_line_rules.specs.LineEvents.{asks_more};
-ghost use Rattle.seg_line_turns.specs.TurnEvents.{IsPassedByTurns, is_asked, is_before_sign, is_plain, is_sign, is_unanswered, plain_turn, HasTurnClass};
+ghost use Rattle.seg_line_rules.specs.LineEvents.{HasClass, asks_more};
+ghost use Rattle.seg_line_turns.specs.TurnEvents.{IsPassedByTurns, is_asked, is_before_sign, is_plain, is_sign, is_unanswered, plain_turn};
 ghost use Rattle.seg_line_turns.specs.TurnBoundaries.{turn_rules_by};
 
 use crate::classes::{
@@ -18,7 +18,7 @@ use seg_text::cursor::Cursor;
 /// items after the one.
 #[inline(always)]
 pub(crate) fn plain_turns<I: Cursor>(pairs: TurnPairs<'_>, first: ClassedItem, rest: I) -> Passed<I>
-    requires class { HasTurnClass (turn_rules_by pairs) first }
+    requires class { HasClass (turn_rules_by pairs) first }
     requires plain { asks_more (turn_rules_by pairs).style ≡ false }
     ensures { IsPassedByTurns (turn_rules_by pairs.entry) first (I.text rest) result.next (I.text result.rest) result.is_break }
 {

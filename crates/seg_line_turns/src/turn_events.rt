@@ -2,8 +2,10 @@
 //! other way.
 ghost use Rattle.std.specs.Prelude.{◌≡◌, ◌-◌, false, []};
 ghost use Rattle.seg_text.specs.Items.{prefix_length, rest_after, start_of, text_before};
-ghost use Rattle.seg_line_turns.specs.TurnEvents.{HasTurnClass, IsTurnAhead, GoesOnTurns, LeadsToTurnBreak, LeadsToTurns, whole_text};
-ghost use Rattle.seg_line_turns.specs.TurnBoundaries.{is_complex_point, turn_rules_by};
+ghost use Rattle.seg_line_rules.specs.LineEvents.{HasClass, IsItemAhead};
+ghost use Rattle.seg_line_rules.specs.LineRules.{is_complex};
+ghost use Rattle.seg_line_turns.specs.TurnEvents.{GoesOnTurns, LeadsToTurnBreak, LeadsToTurns, whole_text};
+ghost use Rattle.seg_line_turns.specs.TurnBoundaries.{turn_rules_by};
 
 use crate::classes::is_complex;
 use crate::plain_turns::plain_turns;
@@ -36,9 +38,10 @@ struct ComplexPoints<'data> {
 }
 
 impl<'data> CodePointTest for ComplexPoints<'data> {
-    ghost use Rattle.seg_line_turns.specs.TurnBoundaries.{is_complex_point, turn_rules_by};
+    ghost use Rattle.seg_line_rules.specs.LineRules.{is_complex};
+    ghost use Rattle.seg_line_turns.specs.TurnBoundaries.{turn_rules_by};
 
-    ghost passes = { λ test code_point. is_complex_point (turn_rules_by test.pairs) code_point };
+    ghost passes = { λ test code_point. is_complex (turn_rules_by test.pairs) code_point };
 
     fn accepts(&self, code_point: u32) -> bool {
         is_complex(self.pairs.class(code_point))
@@ -62,14 +65,15 @@ pub struct TurnEvents<'data, I: Cursor> {
 }
 
 impl<'data, I: Cursor> Model for TurnEvents<'data, I> {
-    ghost use Rattle.seg_line_turns.specs.TurnEvents.{IsTurnAhead, UnreadTurns};
+    ghost use Rattle.seg_line_rules.specs.LineEvents.{IsItemAhead};
+    ghost use Rattle.seg_line_turns.specs.TurnEvents.{UnreadTurns};
     ghost use Rattle.seg_line_turns.specs.TurnBoundaries.{turn_rules_by};
 
     ghost Value = { UnreadTurns };
 
     ghost view = { λ s. record { rules = turn_rules_by s.pairs; starts = s.starts; opened = s.opened; text = I.text s.here } };
 
-    ghost invariant = { λ s. IsTurnAhead (turn_rules_by s.pairs) (I.text s.here) s.next (I.text s.rest) };
+    ghost invariant = { λ s. IsItemAhead (turn_rules_by s.pairs) (I.text s.here) s.next (I.text s.rest) };
 }
 
 impl<'data, I: Cursor> TurnEvents<'data, I> {
@@ -176,16 +180,16 @@ impl<'data, I: Cursor> TurnEvents<'data, I> {
 /// The run of complex items that a text begins with. `rest` goes on at the last of them. Apart, so that its loop has the registers.
 #[inline(never)]
 fn complex_run<I: Cursor>(pairs: TurnPairs<'_>, rest: &mut I) -> (I, usize)
-    ensures run { I.text result.0 ≡ text_before (prefix_length (is_complex_point (turn_rules_by pairs.entry)) (I.text rest.old)) (I.text rest.old) }
+    ensures run { I.text result.0 ≡ text_before (prefix_length (is_complex (turn_rules_by pairs.entry)) (I.text rest.old)) (I.text rest.old) }
     ensures end { result.1 ≡ (I.text result.0).end }
-    ensures rest { I.text rest.new ≡ rest_after (prefix_length (is_complex_point (turn_rules_by pairs.entry)) (I.text rest.old) - 1) (I.text rest.old) }
+    ensures rest { I.text rest.new ≡ rest_after (prefix_length (is_complex (turn_rules_by pairs.entry)) (I.text rest.old) - 1) (I.text rest.old) }
 {
     take_run(rest, &ComplexPoints { pairs })
 }
 
 /// The next item, with its class.
 fn next_classed<I: Cursor>(pairs: TurnPairs<'_>, rest: &mut I) -> Option<ClassedItem>
-    ensures { IsTurnAhead (turn_rules_by pairs.entry) (I.text rest.old) result (I.text rest.new) }
+    ensures { IsItemAhead (turn_rules_by pairs.entry) (I.text rest.old) result (I.text rest.new) }
 {
     let Some((place, code_point)) = rest.next_item() else {
         return None;

@@ -1,10 +1,9 @@
 //! What stands between a left unit and a right item, whatever the table says. The left code point is that of the unit's last item.
 ghost use Rattle.std.specs.Prelude.{◌≡◌, [], ◌∷◌, Some, None, map};
-ghost use Rattle.seg_line_rules.specs.LineLists.{fits, loose_list, hyphen_row, wave_row, iteration_row, middle_dot_row, leader_row, exclamation_row, postfix_row, prefix_row};
+ghost use Rattle.seg_line_rules.specs.LineLists.{fits, is_kept, keeps, listed, loose_list, loose_rows, hyphen_row, wave_row, iteration_row, middle_dot_row, leader_row, exclamation_row, wide_postfix_row, postfix_row, wide_prefix_row, prefix_row};
 ghost use Rattle.seg_line_rules.specs.LineRules.{is_one_of};
-ghost use Rattle.seg_line_rules.specs.LineClasses.{seventeen};
-ghost use Rattle.seg_line_rules.specs.LineClasses.LineClass.{EX, EX_EASTASIAN, ID, ID_EASTASIAN, IN, IN_EASTASIAN, NS, NS_EASTASIAN, PO, PO_EASTASIAN, PR, PR_EASTASIAN};
-ghost use Rattle.seg_line_turns.specs.TurnRules.{is_kept, keeps, listed, turn_rows};
+ghost use Rattle.seg_line_rules.specs.LineClasses.LineEngine.{Seventeen};
+ghost use Rattle.seg_line_rules.specs.LineClasses.LineClass.{NS, NS_EASTASIAN};
 
 use seg_line_rules::lists::{
     Neighbours, by_normal_list, by_row, is_exclamation, is_hyphen, is_iteration, is_middle_dot,
@@ -14,17 +13,17 @@ use seg_line_rules::options::{LineBreakStrictness, LineStyle};
 use seg_pair_data::provider::RuleBreakData;
 
 /// Whether no boundary stands between two classes under `KeepAll`.
-#[tactic(auto, unfolding(crate::specs::TurnRules::keeps))]
+#[tactic(auto, unfolding(seg_line_rules::specs::LineLists::keeps))]
 pub(crate) fn keeps(style: LineStyle, left: u8, right: u8) -> bool
-    ensures { result ≡ keeps style left right }
+    ensures { result ≡ keeps Seventeen style left right }
 {
     style.keeps_all() && is_kept(left) && is_kept(right)
 }
 
 /// Whether the class is one that `KeepAll` keeps together.
-#[tactic(auto, unfolding(crate::specs::TurnRules::is_kept))]
+#[tactic(auto, unfolding(seg_line_rules::specs::LineLists::is_kept))]
 fn is_kept(class: u8) -> bool
-    ensures { result ≡ is_kept class }
+    ensures { result ≡ is_kept Seventeen class }
 {
     class == RuleBreakData::LINE_V3_PROPERTY_AI
         || class == RuleBreakData::LINE_V3_PROPERTY_AI_EASTASIAN
@@ -44,9 +43,9 @@ fn is_kept(class: u8) -> bool
 }
 
 /// Whether a boundary stands between the two by the list of the strictness, where it decides. `is_joined`: the left unit ends with ZWJ.
-#[tactic(auto, unfolding(crate::specs::TurnRules::listed))]
+#[tactic(auto, unfolding(seg_line_rules::specs::LineLists::listed))]
 pub(crate) fn listed(style: LineStyle, is_joined: bool, pair: Neighbours) -> Option<bool>
-    ensures { result ≡ listed style is_joined pair.left pair.left_code_point pair.right pair.right_code_point }
+    ensures { result ≡ listed Seventeen style is_joined pair.left pair.left_code_point pair.right pair.right_code_point }
 {
     match style.strictness {
         LineBreakStrictness::Normal => by_normal_list(style, is_joined, pair.right_code_point),
@@ -56,9 +55,9 @@ pub(crate) fn listed(style: LineStyle, is_joined: bool, pair: Neighbours) -> Opt
 }
 
 /// What the first row of the loose list says that fits, if one fits.
-#[tactic(auto, unfolding(seg_line_rules::specs::LineLists::loose_list, crate::specs::TurnRules::turn_rows))]
+#[tactic(auto, unfolding(seg_line_rules::specs::LineLists::loose_list, seg_line_rules::specs::LineLists::loose_rows))]
 fn loose(is_ja_or_zh: bool, pair: Neighbours) -> Option<bool>
-    ensures { result ≡ loose_list turn_rows is_ja_or_zh pair.left pair.left_code_point pair.right pair.right_code_point }
+    ensures { result ≡ loose_list (loose_rows Seventeen) is_ja_or_zh pair.left pair.left_code_point pair.right pair.right_code_point }
 {
     let from_prefixes = by_row(fits_prefixes(pair), is_ja_or_zh, None);
     let from_wide_prefixes = by_row(fits_wide_prefixes(pair), is_ja_or_zh, from_prefixes);
@@ -74,7 +73,7 @@ fn loose(is_ja_or_zh: bool, pair: Neighbours) -> Option<bool>
 
 /// Whether the row of hyphens fits.
 fn fits_hyphens(pair: Neighbours) -> bool
-    ensures { result ≡ fits pair.left pair.left_code_point pair.right pair.right_code_point (hyphen_row None (map seventeen (ID ∷ ID_EASTASIAN ∷ []))) }
+    ensures { result ≡ fits pair.left pair.left_code_point pair.right pair.right_code_point (hyphen_row Seventeen) }
 {
     is_hyphen(pair.right_code_point)
         && (pair.left == RuleBreakData::LINE_V3_PROPERTY_ID
@@ -83,28 +82,28 @@ fn fits_hyphens(pair: Neighbours) -> bool
 
 /// Whether the row of wave dashes fits.
 fn fits_waves(pair: Neighbours) -> bool
-    ensures { result ≡ fits pair.left pair.left_code_point pair.right pair.right_code_point (wave_row (map seventeen (NS ∷ NS_EASTASIAN ∷ []))) }
+    ensures { result ≡ fits pair.left pair.left_code_point pair.right pair.right_code_point (wave_row Seventeen) }
 {
     is_nonstarter(pair.right) && is_wave(pair.right_code_point)
 }
 
 /// Whether the row of iteration marks fits.
 fn fits_iterations(pair: Neighbours) -> bool
-    ensures { result ≡ fits pair.left pair.left_code_point pair.right pair.right_code_point (iteration_row (map seventeen (NS ∷ NS_EASTASIAN ∷ []))) }
+    ensures { result ≡ fits pair.left pair.left_code_point pair.right pair.right_code_point (iteration_row Seventeen) }
 {
     is_nonstarter(pair.right) && is_iteration(pair.right_code_point)
 }
 
 /// Whether the row of middle dots, colons and doubled signs fits.
 fn fits_middle_dots(pair: Neighbours) -> bool
-    ensures { result ≡ fits pair.left pair.left_code_point pair.right pair.right_code_point (middle_dot_row (map seventeen (NS ∷ NS_EASTASIAN ∷ []))) }
+    ensures { result ≡ fits pair.left pair.left_code_point pair.right pair.right_code_point (middle_dot_row Seventeen) }
 {
     is_nonstarter(pair.right) && is_middle_dot(pair.right_code_point)
 }
 
 /// Whether the row of leaders fits.
 fn fits_leaders(pair: Neighbours) -> bool
-    ensures { result ≡ fits pair.left pair.left_code_point pair.right pair.right_code_point (leader_row (map seventeen (IN ∷ IN_EASTASIAN ∷ []))) }
+    ensures { result ≡ fits pair.left pair.left_code_point pair.right pair.right_code_point (leader_row Seventeen) }
 {
     (pair.right == RuleBreakData::LINE_V3_PROPERTY_IN
         || pair.right == RuleBreakData::LINE_V3_PROPERTY_IN_EASTASIAN)
@@ -114,7 +113,7 @@ fn fits_leaders(pair: Neighbours) -> bool
 
 /// Whether the row of exclamation and question marks fits.
 fn fits_exclamations(pair: Neighbours) -> bool
-    ensures { result ≡ fits pair.left pair.left_code_point pair.right pair.right_code_point (exclamation_row (map seventeen (EX ∷ EX_EASTASIAN ∷ []))) }
+    ensures { result ≡ fits pair.left pair.left_code_point pair.right pair.right_code_point (exclamation_row Seventeen) }
 {
     (pair.right == RuleBreakData::LINE_V3_PROPERTY_EX
         || pair.right == RuleBreakData::LINE_V3_PROPERTY_EX_EASTASIAN)
@@ -123,14 +122,14 @@ fn fits_exclamations(pair: Neighbours) -> bool
 
 /// Whether the row of wide signs after numbers fits.
 fn fits_wide_postfixes(pair: Neighbours) -> bool
-    ensures { result ≡ fits pair.left pair.left_code_point pair.right pair.right_code_point (postfix_row (seventeen PO_EASTASIAN) None) }
+    ensures { result ≡ fits pair.left pair.left_code_point pair.right pair.right_code_point (wide_postfix_row Seventeen) }
 {
     pair.right == RuleBreakData::LINE_V3_PROPERTY_PO_EASTASIAN
 }
 
 /// Whether the row of signs after numbers fits.
 fn fits_postfixes(pair: Neighbours) -> bool
-    ensures { result ≡ fits pair.left pair.left_code_point pair.right pair.right_code_point (postfix_row (seventeen PO) (Some (0x00B0 ∷ 0x2030 ∷ 0x2032 ∷ 0x2033 ∷ 0x2035 ∷ 0x2103 ∷ 0x2109 ∷ []))) }
+    ensures { result ≡ fits pair.left pair.left_code_point pair.right pair.right_code_point postfix_row }
 {
     pair.right == RuleBreakData::LINE_V3_PROPERTY_PO
         && (pair.right_code_point == 0x00B0
@@ -144,14 +143,14 @@ fn fits_postfixes(pair: Neighbours) -> bool
 
 /// Whether the row of wide signs before numbers fits.
 fn fits_wide_prefixes(pair: Neighbours) -> bool
-    ensures { result ≡ fits pair.left pair.left_code_point pair.right pair.right_code_point (prefix_row (seventeen PR_EASTASIAN) None) }
+    ensures { result ≡ fits pair.left pair.left_code_point pair.right pair.right_code_point (wide_prefix_row Seventeen) }
 {
     pair.left == RuleBreakData::LINE_V3_PROPERTY_PR_EASTASIAN
 }
 
 /// Whether the row of signs before numbers fits.
 fn fits_prefixes(pair: Neighbours) -> bool
-    ensures { result ≡ fits pair.left pair.left_code_point pair.right pair.right_code_point (prefix_row (seventeen PR) (Some (0x00A4 ∷ 0x00B1 ∷ 0x20AC ∷ 0x2116 ∷ []))) }
+    ensures { result ≡ fits pair.left pair.left_code_point pair.right pair.right_code_point prefix_row }
 {
     pair.left == RuleBreakData::LINE_V3_PROPERTY_PR
         && (pair.left_code_point == 0x00A4
@@ -162,7 +161,7 @@ fn fits_prefixes(pair: Neighbours) -> bool
 
 /// Whether the class is one of those that don't begin a line.
 fn is_nonstarter(class: u8) -> bool
-    ensures { result ≡ is_one_of seventeen (NS ∷ NS_EASTASIAN ∷ []) class }
+    ensures { result ≡ is_one_of Seventeen (NS ∷ NS_EASTASIAN ∷ []) class }
 {
     class == RuleBreakData::LINE_V3_PROPERTY_NS
         || class == RuleBreakData::LINE_V3_PROPERTY_NS_EASTASIAN

@@ -2,10 +2,11 @@
 ghost use Rattle.std.specs.Prelude.{◌≡◌, ℕ, ◌<◌, ◌↔◌, true, false, None, IsTrue, IfOk, IfErr};
 ghost use Rattle.seg_data.specs.declared.provider.DataError.TheVariants.{ComplexBelow0100};
 ghost use Rattle.seg_data.specs.Faults.{IsFaultless, IsLowestFault};
-ghost use Rattle.seg_line_rules.specs.LineRules.{is_loose_or_normal};
-ghost use Rattle.seg_line_rules.specs.LineClasses.{seventeen};
+ghost use Rattle.seg_line_rules.specs.LineRules.{class_read, is_loose_or_normal, is_read_as_id};
+ghost use Rattle.seg_line_rules.specs.LineClasses.{number};
+ghost use Rattle.seg_line_rules.specs.LineClasses.LineEngine.{Seventeen};
 ghost use Rattle.seg_line_rules.specs.LineClasses.LineClass.{ID};
-ghost use Rattle.seg_line_turns.specs.TurnRules.{HasOwnTurnFault, class_read, is_read_as_id};
+ghost use Rattle.seg_line_turns.specs.TurnRules.{HasOwnTurnFault};
 
 use crate::classes::is_complex;
 use seg_data::provider::DataError;
@@ -19,7 +20,7 @@ use seg_pair_data::provider::RuleBreakData;
 pub struct OwnedTurnPairs {
     table: RuleBreakData,
     style: LineStyle,
-    ghost has_id: { seventeen ID < table.property_count },
+    ghost has_id: { number Seventeen ID < table.property_count },
 }
 
 impl OwnedTurnPairs {
@@ -56,11 +57,12 @@ impl OwnedTurnPairs {
 pub struct TurnPairs<'data> {
     table: &'data RuleBreakData,
     style: LineStyle,
-    ghost has_id: { seventeen ID < table.now.property_count },
+    ghost has_id: { number Seventeen ID < table.now.property_count },
 }
 
 impl<'data> TurnPairs<'data> {
-    ghost use Rattle.seg_line_turns.specs.TurnRules.{HasTurnTableFault, turn_class};
+    ghost use Rattle.seg_line_rules.specs.LineRules.{line_class};
+    ghost use Rattle.seg_line_turns.specs.TurnRules.{HasTurnTableFault};
     ghost use Rattle.seg_line_turns.specs.TurnBoundaries.{turn_rules_by};
 
     /// A pair table of lines, with what options say, and checked with the pair table of clusters: `ClassOutOfRange` where the table has no
@@ -91,7 +93,7 @@ impl<'data> TurnPairs<'data> {
     /// The pair table, which has a class ID.
     pub fn table(self) -> &'data RuleBreakData
         ensures value { result.now ≡ (turn_rules_by self.entry).table }
-        ensures has_id { seventeen ID < (turn_rules_by self.entry).table.property_count }
+        ensures has_id { number Seventeen ID < (turn_rules_by self.entry).table.property_count }
     {
         self.table
     }
@@ -106,24 +108,22 @@ impl<'data> TurnPairs<'data> {
     /// The class of a code point, as the options read it.
     #[inline(always)]
     pub fn class(self, code_point: u32) -> u8
-        ensures value { result ≡ turn_class (turn_rules_by self.entry) code_point }
+        ensures value { result ≡ line_class (turn_rules_by self.entry) code_point }
         ensures below { result < (turn_rules_by self.entry).table.property_count }
     {
-        class_read(
-            self.style,
-            PairDataBorrowed::new(self.table).class(code_point),
-        )
+        let class = PairDataBorrowed::new(self.table).class(code_point);
+        class_read(self.style, self.table.complex_property(), class)
     }
 
     /// The same where the strictness reads no class, so that the word option alone is asked.
     #[inline(always)]
     pub(crate) fn strict_class(self, code_point: u32) -> u8
         requires { is_loose_or_normal (turn_rules_by self).style.strictness ≡ false }
-        ensures value { result ≡ turn_class (turn_rules_by self.entry) code_point }
+        ensures value { result ≡ line_class (turn_rules_by self.entry) code_point }
         ensures below { result < (turn_rules_by self.entry).table.property_count }
     {
         let class = PairDataBorrowed::new(self.table).class(code_point);
-        strict_read(self.style, class)
+        strict_read(self.style, self.table.complex_property(), class)
     }
 }
 
@@ -141,10 +141,10 @@ fn has_complex_below_0100(table: &RuleBreakData) -> bool
 }
 
 /// A class as the options read it.
-fn class_read(style: LineStyle, class: u8) -> u8
-    ensures { result ≡ class_read style class }
+fn class_read(style: LineStyle, complex: u8, class: u8) -> u8
+    ensures { result ≡ class_read Seventeen style complex class }
 {
-    if is_read_as_id(style, class) {
+    if is_read_as_id(style, complex, class) {
         RuleBreakData::LINE_V3_PROPERTY_ID
     } else {
         class
@@ -153,26 +153,26 @@ fn class_read(style: LineStyle, class: u8) -> u8
 
 /// The same where the strictness reads no class.
 #[inline(always)]
-fn strict_read(style: LineStyle, class: u8) -> u8
+fn strict_read(style: LineStyle, complex: u8, class: u8) -> u8
     requires { is_loose_or_normal style.strictness ≡ false }
-    ensures { result ≡ class_read style class }
+    ensures { result ≡ class_read Seventeen style complex class }
 {
     if style.breaks_all() {
-        class_read(style, class)
+        class_read(style, complex, class)
     } else {
         class
     }
 }
 
 /// Whether the options read a class as ID.
-fn is_read_as_id(style: LineStyle, class: u8) -> bool
-    ensures { result ≡ is_read_as_id style class }
+fn is_read_as_id(style: LineStyle, complex: u8, class: u8) -> bool
+    ensures { result ≡ is_read_as_id Seventeen style complex class }
 {
     if class == RuleBreakData::LINE_V3_PROPERTY_CJ {
         return style.breaks_all() || style.is_loose_or_normal();
     }
     style.breaks_all()
-        && (class == RuleBreakData::LINE_V3_PROPERTY_SA
+        && (class == complex
             || class == RuleBreakData::LINE_V3_PROPERTY_AL
             || class == RuleBreakData::LINE_V3_PROPERTY_AL_DOTTED_CIRCLE
             || class == RuleBreakData::LINE_V3_PROPERTY_AL_EASTASIAN

@@ -1,7 +1,8 @@
 //! The left unit of a turn, and what a turn finds.
 ghost use Rattle.std.specs.Prelude.{◌≡◌};
 ghost use Rattle.seg_line_turns.specs.TurnPlaces.{outcome_unless};
-ghost use Rattle.seg_line_turns.specs.TurnClasses.{is_joiner};
+ghost use Rattle.seg_line_rules.specs.LineClasses.LineEngine.{Seventeen};
+ghost use Rattle.seg_line_rules.specs.LineUnits.{is_joiner};
 
 use seg_pair_data::provider::RuleBreakData;
 
@@ -43,7 +44,7 @@ pub(crate) fn unless(joined: bool, opened: bool, place: usize) -> TurnOutcome
 
 /// Whether the class is that of ZWJ.
 pub(crate) fn is_joiner(class: u8) -> bool
-    ensures { result ≡ is_joiner class }
+    ensures { result ≡ is_joiner Seventeen class }
 {
     class == RuleBreakData::LINE_V3_PROPERTY_ZWJ
 }

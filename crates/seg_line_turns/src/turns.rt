@@ -2,10 +2,10 @@
 ghost use Rattle.std.specs.Prelude.{◌≡◌, ◌<◌, ℕ, suc};
 ghost use Rattle.seg_text.specs.Items.{Text, code_points, rest_after};
 ghost use Rattle.seg_pair_data.specs.PairTable.{entry_of};
-ghost use Rattle.seg_line_turns.specs.TurnEvents.{HasTurnClass};
+ghost use Rattle.seg_line_rules.specs.LineEvents.{HasClass};
+ghost use Rattle.seg_line_rules.specs.LineRules.{line_class};
 ghost use Rattle.seg_line_turns.specs.TurnBoundaries.{turn_rules_by};
 ghost use Rattle.seg_line_turns.specs.TurnPlaces.{FindsBetween, FindsFrom, class_at_start, hyphen_outcome, item_place, left_seen, placed};
-ghost use Rattle.seg_line_turns.specs.TurnRules.{turn_class};
 ghost use Rattle.seg_line_turns.specs.Turns.{class_turn, first_unit, is_taken, opens, quote_turn, right_turn, table_turn, turn};
 
 use crate::bases::{
@@ -62,7 +62,7 @@ pub(crate) fn turn<I: Cursor>(
 
 /// The left unit that a turn begins with, which is this item, the first of the text or not.
 pub(crate) fn first_unit(pairs: TurnPairs<'_>, starts: bool, item: ClassedItem) -> Left
-    requires { HasTurnClass (turn_rules_by pairs) item }
+    requires { HasClass (turn_rules_by pairs) item }
     ensures unit { left_seen 0 result ≡ first_unit (turn_rules_by pairs.entry) starts item.code_point }
     ensures place { result.last_place ≡ item.place }
     ensures class { result.class < (turn_rules_by pairs.entry).table.property_count }
@@ -117,7 +117,7 @@ fn right_turn<I: Cursor>(
 ) -> TurnOutcome
     requires left { left.class < (turn_rules_by pairs).table.property_count }
     requires right { right.class < (turn_rules_by pairs).table.property_count }
-    requires class { right.class ≡ turn_class (turn_rules_by pairs) right.code_point }
+    requires class { right.class ≡ line_class (turn_rules_by pairs) right.code_point }
     ensures { FindsBetween left right.place (I.text rest) result (λ unit. right_turn (turn_rules_by pairs.entry) opened unit right.code_point (code_points (I.text rest).items)) }
 {
     let style = pairs.style();

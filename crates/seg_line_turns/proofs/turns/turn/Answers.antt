@@ -1,11 +1,11 @@
 use Rattle.std.proofs.Common.{◌≡◌, ◌||◌, ℕ, refl, ap, ◌∙◌}
 use Rattle.seg_line_turns.specs.TurnBoundaries.{turn_rules_by}
 use Rattle.seg_line_turns.specs.TurnPlaces.{left_seen}
-use Rattle.seg_line_turns.specs.TurnRules.{turn_class}
 use Rattle.seg_line_turns.specs.Turns.{opens, is_taken}
 use Rattle.seg_line_turns.proofs.TurnReads.{or-first, or-second, turning-end, turning-right, turning-taken}
 use Rattle.seg_line_turns.proofs.turns.turn.Goals as goal
 use Rattle.seg_line_turns.proofs.turns.turn.Goals.{then-opened, else-opened}
+use Rattle.seg_line_rules.specs.LineRules.{line_class}
 
 pub returns-in_default : goal.returns-in_default
 returns-in_default g c = λ whole last at.
@@ -19,7 +19,7 @@ returns-then-not-is_taken g c = λ whole last at.
     (λ last. c.is_taken.ensures last ∙ ap (is_taken (left_seen last c.loop-place.left)) c.class.ensures.value) c.if-not-is_taken.true
     (λ last. opened_is last) c.right_turn.ensures
   where
-    opened_is : (last : ℕ) → c.if-opened.opened ≡ (c.args.opened || opens (left_seen last c.loop-place.left) (turn_class (turn_rules_by c.args.pairs) c.in-Some.code_point))
+    opened_is : (last : ℕ) → c.if-opened.opened ≡ (c.args.opened || opens (left_seen last c.loop-place.left) (line_class (turn_rules_by c.args.pairs) c.in-Some.code_point))
     opened_is last =
         elim c.if-opened.branch [
           | then-opened w ↦ or-first _ _ _ w.opened-is w.if-opened.true
