@@ -1,7 +1,8 @@
 -- The bench pair table of lines of the engine 17 has no fault.
 use Rattle.std.proofs.Common.{◌≡◌, ℕ, inl, inr, true, [], ◌∷◌, ◌==◌, ◌||◌, refl, arith}
 use Rattle.icu_segmenter.specs.LineRules.{is_one_of}
-use Rattle.icu_segmenter.specs.LineClasses.{seventeen}
+use Rattle.icu_segmenter.specs.LineClasses.{number}
+use Rattle.icu_segmenter.specs.LineClasses.LineEngine.{Seventeen}
 use Rattle.icu_segmenter.specs.LineClasses.LineClass.{BA, BA_EASTASIAN, BK, CJ, CR, EX, EX_EASTASIAN, HY, ID, ID_EASTASIAN, IN, IN_EASTASIAN, LF, NL, NS, NS_EASTASIAN, SP, ZW}
 use Rattle.icu_segmenter.specs.TurnRules.{HasTurnTableFault}
 use Rattle.seg_data.specs.declared.provider.DataError.{DataError}
@@ -20,11 +21,11 @@ use Rattle.bench.proofs.Scripts.{turn_table-not_complex}
 entry-passes : (left right : ℕ) → names_below 71 (turn_entry left right) ≡ true
 unfolding names_below
 entry-passes left right =
-    chosen 71 (is_one_of seventeen (BK ∷ LF ∷ NL ∷ []) left) _ _ refl
-    (chosen 71 (left == seventeen CR) _ _ (chosen 71 (right == seventeen LF) _ _ refl refl)
-    (chosen 71 (is_one_of seventeen (BK ∷ CR ∷ LF ∷ NL ∷ SP ∷ ZW ∷ EX ∷ EX_EASTASIAN ∷ []) right) _ _ refl
-    (chosen 71 (is_one_of seventeen (SP ∷ ZW ∷ HY ∷ []) left) _ _ refl
-    (chosen 71 (is_one_of seventeen (ID ∷ ID_EASTASIAN ∷ []) left || is_one_of seventeen (ID ∷ ID_EASTASIAN ∷ []) right) _ _ (chosen 71 (is_one_of seventeen (NS ∷ NS_EASTASIAN ∷ IN ∷ IN_EASTASIAN ∷ BA ∷ BA_EASTASIAN ∷ CJ ∷ HY ∷ []) right) _ _ refl refl) refl))))
+    chosen 71 (is_one_of Seventeen (BK ∷ LF ∷ NL ∷ []) left) _ _ refl
+    (chosen 71 (left == number Seventeen CR) _ _ (chosen 71 (right == number Seventeen LF) _ _ refl refl)
+    (chosen 71 (is_one_of Seventeen (BK ∷ CR ∷ LF ∷ NL ∷ SP ∷ ZW ∷ EX ∷ EX_EASTASIAN ∷ []) right) _ _ refl
+    (chosen 71 (is_one_of Seventeen (SP ∷ ZW ∷ HY ∷ []) left) _ _ refl
+    (chosen 71 (is_one_of Seventeen (ID ∷ ID_EASTASIAN ∷ []) left || is_one_of Seventeen (ID ∷ ID_EASTASIAN ∷ []) right) _ _ (chosen 71 (is_one_of Seventeen (NS ∷ NS_EASTASIAN ∷ IN ∷ IN_EASTASIAN ∷ BA ∷ BA_EASTASIAN ∷ CJ ∷ HY ∷ []) right) _ _ refl refl) refl))))
 
 turns-pass : Passes turn_table
 turns-pass = record { some = refl; square = rows-length turn_entry 71 71; classes = refl; sot = refl; eot = refl; states = rows-pass turn_entry 71 entry-passes 71 }

@@ -2,7 +2,8 @@
 use Rattle.std.specs.Prelude.{ℕ, ◌==◌, ◌||◌, if◌then◌else◌, [], ◌∷◌}
 use Rattle.seg_pair_data.specs.declared.provider.pairs.BreakState.{BreakState}
 use Rattle.seg_pair_data.specs.declared.provider.pairs.BreakState.TheVariants.{Break, Keep}
-use Rattle.icu_segmenter.specs.LineClasses.{classic}
+use Rattle.icu_segmenter.specs.LineClasses.{number}
+use Rattle.icu_segmenter.specs.LineClasses.LineEngine.{Classic}
 use Rattle.icu_segmenter.specs.LineClasses.LineClass.{BA, BK, CJ, CR, EX, HY, ID, IN, LF, NL, NS, SP, ZW}
 use Rattle.icu_segmenter.specs.LineRules.{is_one_of}
 use Rattle.icu_segmenter.specs.PairTable.{PairTable, pair_table}
@@ -25,11 +26,11 @@ line_classes = record {
 -- what stands between a class and the next: the first line that applies
 abbrev pub line_entry : ℕ → ℕ → BreakState
 line_entry left right =
-    if is_one_of classic (BK ∷ LF ∷ NL ∷ []) left then Break else
-    if left == classic CR then (if right == classic LF then Keep else Break) else
-    if is_one_of classic (BK ∷ CR ∷ LF ∷ NL ∷ SP ∷ ZW ∷ EX ∷ []) right then Keep else
-    if is_one_of classic (SP ∷ ZW ∷ HY ∷ []) left then Break else
-    if left == classic ID || right == classic ID then (if is_one_of classic (NS ∷ IN ∷ BA ∷ CJ ∷ HY ∷ []) right then Keep else Break) else
+    if is_one_of Classic (BK ∷ LF ∷ NL ∷ []) left then Break else
+    if left == number Classic CR then (if right == number Classic LF then Keep else Break) else
+    if is_one_of Classic (BK ∷ CR ∷ LF ∷ NL ∷ SP ∷ ZW ∷ EX ∷ []) right then Keep else
+    if is_one_of Classic (SP ∷ ZW ∷ HY ∷ []) left then Break else
+    if left == number Classic ID || right == number Classic ID then (if is_one_of Classic (NS ∷ IN ∷ BA ∷ CJ ∷ HY ∷ []) right then Keep else Break) else
     Keep
 
 abbrev pub line_table : PairTable

@@ -6,7 +6,7 @@ ghost use Rattle.bench.specs.LineTables.{line_entry, line_table};
 ghost use Rattle.bench.specs.PairTables.{cluster_table};
 ghost use Rattle.bench.specs.Rows.{row, rows};
 ghost use Rattle.icu_segmenter.specs.Faults.{IsFaultless};
-ghost use Rattle.icu_segmenter.specs.LineClasses.{classic};
+ghost use Rattle.icu_segmenter.specs.LineClasses.LineEngine.{Classic};
 ghost use Rattle.icu_segmenter.specs.LineClasses.LineClass.{BA, BK, CJ, CR, EX, HY, IN, LF, NL, NS, SP, ZW};
 ghost use Rattle.icu_segmenter.specs.LineRules.{HasLineTableFault, is_one_of};
 
@@ -115,7 +115,7 @@ pub(crate) fn keep_if(keeps: bool) -> BreakState
 
 /// Whether a line ends after the class, whatever follows.
 fn ends_a_line(class: u8) -> bool
-    ensures { result ≡ is_one_of classic (BK ∷ LF ∷ NL ∷ []) class }
+    ensures { result ≡ is_one_of Classic (BK ∷ LF ∷ NL ∷ []) class }
 {
     class == RuleBreakData::LINE_PROPERTY_BK
         || class == RuleBreakData::LINE_PROPERTY_LF
@@ -124,7 +124,7 @@ fn ends_a_line(class: u8) -> bool
 
 /// Whether no line begins with the class: line ends, spaces and the exclamation mark.
 fn never_begins_a_line(class: u8) -> bool
-    ensures { result ≡ is_one_of classic (BK ∷ CR ∷ LF ∷ NL ∷ SP ∷ ZW ∷ EX ∷ []) class }
+    ensures { result ≡ is_one_of Classic (BK ∷ CR ∷ LF ∷ NL ∷ SP ∷ ZW ∷ EX ∷ []) class }
 {
     class == RuleBreakData::LINE_PROPERTY_BK
         || class == RuleBreakData::LINE_PROPERTY_CR
@@ -137,7 +137,7 @@ fn never_begins_a_line(class: u8) -> bool
 
 /// Whether a line may be broken after the class: spaces and the hyphen.
 fn allows_a_break(class: u8) -> bool
-    ensures { result ≡ is_one_of classic (SP ∷ ZW ∷ HY ∷ []) class }
+    ensures { result ≡ is_one_of Classic (SP ∷ ZW ∷ HY ∷ []) class }
 {
     class == RuleBreakData::LINE_PROPERTY_SP
         || class == RuleBreakData::LINE_PROPERTY_ZW
@@ -146,7 +146,7 @@ fn allows_a_break(class: u8) -> bool
 
 /// Whether the class stays with an ideograph before it.
 fn clings_to_ideographs(class: u8) -> bool
-    ensures { result ≡ is_one_of classic (NS ∷ IN ∷ BA ∷ CJ ∷ HY ∷ []) class }
+    ensures { result ≡ is_one_of Classic (NS ∷ IN ∷ BA ∷ CJ ∷ HY ∷ []) class }
 {
     class == RuleBreakData::LINE_PROPERTY_NS
         || class == RuleBreakData::LINE_PROPERTY_IN

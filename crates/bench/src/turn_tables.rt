@@ -6,7 +6,7 @@ ghost use Rattle.bench.specs.Rows.{row, rows};
 ghost use Rattle.bench.specs.TurnTables.{turn_entry, turn_table};
 ghost use Rattle.icu_segmenter.specs.Faults.{IsFaultless};
 ghost use Rattle.icu_segmenter.specs.LineRules.{is_one_of};
-ghost use Rattle.icu_segmenter.specs.LineClasses.{seventeen};
+ghost use Rattle.icu_segmenter.specs.LineClasses.LineEngine.{Seventeen};
 ghost use Rattle.icu_segmenter.specs.LineClasses.LineClass.{BA, BA_EASTASIAN, BK, CJ, CR, EX, EX_EASTASIAN, HY, ID, ID_EASTASIAN, IN, IN_EASTASIAN, LF, NL, NS, NS_EASTASIAN, SP, ZW};
 ghost use Rattle.icu_segmenter.specs.TurnRules.{HasTurnTableFault};
 
@@ -104,7 +104,7 @@ fn turn_entry(left: u8, right: u8) -> BreakState
 
 /// Whether a line ends after the class, whatever follows.
 fn ends_a_line(class: u8) -> bool
-    ensures { result ≡ is_one_of seventeen (BK ∷ LF ∷ NL ∷ []) class }
+    ensures { result ≡ is_one_of Seventeen (BK ∷ LF ∷ NL ∷ []) class }
 {
     class == RuleBreakData::LINE_V3_PROPERTY_BK
         || class == RuleBreakData::LINE_V3_PROPERTY_LF
@@ -113,7 +113,7 @@ fn ends_a_line(class: u8) -> bool
 
 /// Whether no line begins with the class: line ends, spaces and the exclamation mark.
 fn never_begins_a_line(class: u8) -> bool
-    ensures { result ≡ is_one_of seventeen (BK ∷ CR ∷ LF ∷ NL ∷ SP ∷ ZW ∷ EX ∷ EX_EASTASIAN ∷ []) class }
+    ensures { result ≡ is_one_of Seventeen (BK ∷ CR ∷ LF ∷ NL ∷ SP ∷ ZW ∷ EX ∷ EX_EASTASIAN ∷ []) class }
 {
     class == RuleBreakData::LINE_V3_PROPERTY_BK
         || class == RuleBreakData::LINE_V3_PROPERTY_CR
@@ -127,7 +127,7 @@ fn never_begins_a_line(class: u8) -> bool
 
 /// Whether a line may be broken after the class: spaces and the hyphen.
 fn allows_a_break(class: u8) -> bool
-    ensures { result ≡ is_one_of seventeen (SP ∷ ZW ∷ HY ∷ []) class }
+    ensures { result ≡ is_one_of Seventeen (SP ∷ ZW ∷ HY ∷ []) class }
 {
     class == RuleBreakData::LINE_V3_PROPERTY_SP
         || class == RuleBreakData::LINE_V3_PROPERTY_ZW
@@ -136,7 +136,7 @@ fn allows_a_break(class: u8) -> bool
 
 /// Whether the class is that of ideographs.
 fn is_ideographic(class: u8) -> bool
-    ensures { result ≡ is_one_of seventeen (ID ∷ ID_EASTASIAN ∷ []) class }
+    ensures { result ≡ is_one_of Seventeen (ID ∷ ID_EASTASIAN ∷ []) class }
 {
     class == RuleBreakData::LINE_V3_PROPERTY_ID
         || class == RuleBreakData::LINE_V3_PROPERTY_ID_EASTASIAN
@@ -144,7 +144,7 @@ fn is_ideographic(class: u8) -> bool
 
 /// Whether the class stays with an ideograph before it.
 fn clings_to_ideographs(class: u8) -> bool
-    ensures { result ≡ is_one_of seventeen (NS ∷ NS_EASTASIAN ∷ IN ∷ IN_EASTASIAN ∷ BA ∷ BA_EASTASIAN ∷ CJ ∷ HY ∷ []) class }
+    ensures { result ≡ is_one_of Seventeen (NS ∷ NS_EASTASIAN ∷ IN ∷ IN_EASTASIAN ∷ BA ∷ BA_EASTASIAN ∷ CJ ∷ HY ∷ []) class }
 {
     class == RuleBreakData::LINE_V3_PROPERTY_NS
         || class == RuleBreakData::LINE_V3_PROPERTY_NS_EASTASIAN

@@ -24,7 +24,7 @@ use Rattle.seg_line_rules.specs.LineBoundaries.{inside, line_boundaries, line_st
 use Rattle.seg_line_rules.specs.LineRules.{TableRules}
 use Rattle.seg_line_rules.proofs.LineRestarts.{line-restarts}
 use Rattle.seg_line_rules.proofs.LineStretches.{line-going}
-use Rattle.seg_line_turns.specs.TurnBoundaries.{turn_boundaries, KeepsTurnMarks, StartsBear, turn_rules_by}
+use Rattle.seg_line_turns.specs.TurnBoundaries.{turn_boundaries, StartsBear, turn_rules_by}
 use Rattle.seg_line_turns.proofs.TurnStretches.{one-list}
 use Rattle.seg_lines.specs.LineBreaks.{joined, AreBoundariesWith, HasOneList, LineFinder, LineRules, MayRestart, boundaries_with, line_boundaries_by, lines_with_words}
 use Rattle.seg_lines.specs.LineBreaks.LineFinder.{ByClusters, ByPlaces, ByTable, ByTurns, ByMachine}
@@ -35,6 +35,8 @@ use Rattle.seg_machine.specs.declared.tailored_machine.TailoredMachineBorrowed.{
 use Rattle.seg_lines.proofs.JoinCover.{cuts-rising, plain-rising}
 use Rattle.seg_lines.proofs.JoinMembers.{is-join, one-join}
 use Rattle.seg_lines.proofs.PlainBoundaries.{restarts-plain}
+use Rattle.seg_line_rules.specs.LineLists.{keeps}
+use Rattle.seg_line_rules.specs.LineClasses.LineEngine.{Seventeen, Classic}
 
 -- by clusters
 
@@ -52,13 +54,13 @@ one-by-places payloads =
       only = λ code_points found are. are.1.1 ∙ ap (λ (found : List Boundary). with_status 0 (offsets found)) (clusters.only code_points are.0 are.1.0);
     }
 
-pub one-by-table : (rules : TableRules) (payloads : Payloads) → HasOneList (record { finder = ByTable rules; payloads = payloads })
+pub one-by-table : (rules : TableRules Classic) (payloads : Payloads) → HasOneList (record { finder = ByTable rules; payloads = payloads })
 one-by-table rules payloads =
     let stretch = line_stretch (inside (run_cuts_by payloads)) rules in
     let one = one-answer stretch (line-going rules (inside (run_cuts_by payloads))) in
     record { exists = one.exists; only = one.only }
 
-pub one-by-turns : (rules : TableRules) (payloads : Payloads) → HasOneList (record { finder = ByTurns rules; payloads = payloads })
+pub one-by-turns : (rules : TableRules Seventeen) (payloads : Payloads) → HasOneList (record { finder = ByTurns rules; payloads = payloads })
 one-by-turns rules payloads =
     let one = one-list (inside (run_cuts_by payloads)) rules in
     record { exists = one.exists; only = one.only }
@@ -132,35 +134,42 @@ equal-words rules others same = same-with rules.finder rules.payloads others sam
 
 -- marks
 
-rules-in : LineFinder → TableRules → TableRules
-rules-in ByClusters other = other
-rules-in ByPlaces other = other
-rules-in (ByTable rules) other = rules
-rules-in (ByTurns rules) other = rules
-rules-in (ByMachine m) other = other
+table-in : LineFinder → TableRules Classic → TableRules Classic
+table-in (ByTable rules) other = rules
+table-in ByClusters other = other
+table-in ByPlaces other = other
+table-in (ByTurns rules) other = other
+table-in (ByMachine m) other = other
 
-pub marks-by-table : (own rules : TableRules) (payloads : Payloads) (code_points : List ℕ) → ByTable own ≡ ByTable rules
+turns-in : LineFinder → TableRules Seventeen → TableRules Seventeen
+turns-in (ByTurns rules) other = rules
+turns-in ByClusters other = other
+turns-in ByPlaces other = other
+turns-in (ByTable rules) other = other
+turns-in (ByMachine m) other = other
+
+pub marks-by-table : (own rules : TableRules Classic) (payloads : Payloads) (code_points : List ℕ) → ByTable own ≡ ByTable rules
     → KeepsMarks own code_points (boundaries_with (ByTable own) payloads code_points) → KeepsMarks rules code_points (boundaries_with (ByTable own) payloads code_points)
-unfolding rules-in
+unfolding table-in
 marks-by-table own rules payloads code_points is keeps =
-    subst (λ (rules : TableRules). KeepsMarks rules code_points (boundaries_with (ByTable own) payloads code_points)) (ap (λ (finder : LineFinder). rules-in finder own) is) keeps
+    subst (λ (rules : TableRules Classic). KeepsMarks rules code_points (boundaries_with (ByTable own) payloads code_points)) (ap (λ (finder : LineFinder). table-in finder own) is) keeps
 
-pub no-table : (finder : Finder) (rules : TableRules) → ((pairs : LinePairs) → finder ≡ Table pairs → ⊥) → finder_of finder ≡ ByTable rules → ⊥
+pub no-table : (finder : Finder) (rules : TableRules Classic) → ((pairs : LinePairs) → finder ≡ Table pairs → ⊥) → finder_of finder ≡ ByTable rules → ⊥
 no-table Clusters rules none is = absurd cc
 no-table Places rules none is = absurd cc
 no-table (Turns pairs) rules none is = absurd cc
 no-table (Machine machine) rules none is = absurd cc
 no-table (Table pairs) rules none is = none pairs refl
 
-pub marks-by-turns : (own rules : TableRules) (payloads : Payloads) (code_points : List ℕ) → ByTurns own ≡ ByTurns rules
-    → (StartsBear own.table → KeepsTurnMarks own code_points (boundaries_with (ByTurns own) payloads code_points))
-    → StartsBear rules.table → KeepsTurnMarks rules code_points (boundaries_with (ByTurns own) payloads code_points)
-unfolding rules-in
+pub marks-by-turns : (own rules : TableRules Seventeen) (payloads : Payloads) (code_points : List ℕ) → ByTurns own ≡ ByTurns rules
+    → (StartsBear own.table → KeepsMarks own code_points (boundaries_with (ByTurns own) payloads code_points))
+    → StartsBear rules.table → KeepsMarks rules code_points (boundaries_with (ByTurns own) payloads code_points)
+unfolding turns-in
 marks-by-turns own rules payloads code_points is keeps =
-    subst (λ (rules : TableRules). StartsBear rules.table → KeepsTurnMarks rules code_points (boundaries_with (ByTurns own) payloads code_points))
-    (ap (λ (finder : LineFinder). rules-in finder own) is) keeps
+    subst (λ (rules : TableRules Seventeen). StartsBear rules.table → KeepsMarks rules code_points (boundaries_with (ByTurns own) payloads code_points))
+    (ap (λ (finder : LineFinder). turns-in finder own) is) keeps
 
-pub no-turns : (finder : Finder) (rules : TableRules) → ((pairs : TurnPairs) → finder ≡ Turns pairs → ⊥) → finder_of finder ≡ ByTurns rules → ⊥
+pub no-turns : (finder : Finder) (rules : TableRules Seventeen) → ((pairs : TurnPairs) → finder ≡ Turns pairs → ⊥) → finder_of finder ≡ ByTurns rules → ⊥
 no-turns Clusters rules none is = absurd cc
 no-turns Places rules none is = absurd cc
 no-turns (Table pairs) rules none is = absurd cc

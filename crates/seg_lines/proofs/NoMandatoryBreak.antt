@@ -15,6 +15,7 @@ use Rattle.seg_line_turns.specs.Turns.{Turn, first_unit, turn}
 use Rattle.seg_line_turns.specs.Turns.Turn.{BreakAt, GoTo, RunAt}
 use Rattle.seg_lines.specs.LineBreaks.{LineFinder, boundaries_with, HasNoMandatoryBreak, IsByPairTable}
 use Rattle.seg_lines.specs.LineBreaks.LineFinder.{ByClusters, ByPlaces, ByTable, ByTurns, ByMachine}
+use Rattle.seg_line_rules.specs.LineClasses.LineEngine.{Seventeen, Classic}
 
 AreUnmarked : List Boundary → Type 0
 AreUnmarked [] = Unit {0}
@@ -56,22 +57,22 @@ module _ (first : List ℕ → Stretch) (unmarked : (code_points : List ℕ) →
   unfolding later_boundaries
   later code_points = within (length code_points) code_points
 
-by-verdict : (cuts : Cuts) (rules : TableRules) (code_points : List ℕ) (verdict : Verdict) → AreUnmarked (line_stretch_of cuts rules code_points verdict).boundaries
+by-verdict : (cuts : Cuts) (rules : TableRules Classic) (code_points : List ℕ) (verdict : Verdict) → AreUnmarked (line_stretch_of cuts rules code_points verdict).boundaries
 unfolding AreUnmarked
 by-verdict cuts rules code_points (BreakAfter taken class) = (refl, tt)
 by-verdict cuts rules code_points (GoAfter taken) = tt
 by-verdict cuts rules code_points RunBegins = unmarked-at _
 
-in-lines : (cuts : Cuts) (rules : TableRules) (code_points : List ℕ) → AreUnmarked (later_boundaries (line_stretch cuts rules) code_points)
+in-lines : (cuts : Cuts) (rules : TableRules Classic) (code_points : List ℕ) → AreUnmarked (later_boundaries (line_stretch cuts rules) code_points)
 in-lines cuts rules = later (line_stretch cuts rules) (λ code_points. by-verdict cuts rules code_points (line_verdict rules code_points))
 
-by-turn : (cuts : Cuts) (rules : TableRules) (code_points : List ℕ) (found : Turn) → AreUnmarked (turn_stretch_of cuts rules code_points found).boundaries
+by-turn : (cuts : Cuts) (rules : TableRules Seventeen) (code_points : List ℕ) (found : Turn) → AreUnmarked (turn_stretch_of cuts rules code_points found).boundaries
 unfolding AreUnmarked
 by-turn cuts rules code_points (BreakAt place resume) = (refl, tt)
 by-turn cuts rules code_points (GoTo place opened) = tt
 by-turn cuts rules code_points (RunAt first opened) = unmarked-later first _ (unmarked-at _)
 
-within-turns : (cuts : Cuts) (rules : TableRules) (most : ℕ) (starts opened : Bool) (code_points : List ℕ)
+within-turns : (cuts : Cuts) (rules : TableRules Seventeen) (most : ℕ) (starts opened : Bool) (code_points : List ℕ)
     → AreUnmarked (turns_within cuts rules most starts opened code_points)
 unfolding turns_within AreUnmarked
 within-turns cuts rules zero starts opened code_points = tt
@@ -84,7 +85,7 @@ within-turns cuts rules (suc most) starts opened (c ∷ code_points) =
     (by-turn cuts rules (c ∷ code_points) (turn rules opened (first_unit rules starts c) code_points))
     (unmarked-later stretch.extent later (within-turns cuts rules most false stretch.opened rest))
 
-in-turns : (cuts : Cuts) (rules : TableRules) (code_points : List ℕ) → AreUnmarked (later_turns cuts rules true false code_points)
+in-turns : (cuts : Cuts) (rules : TableRules Seventeen) (code_points : List ℕ) → AreUnmarked (later_turns cuts rules true false code_points)
 unfolding later_turns
 in-turns cuts rules code_points = within-turns cuts rules (length code_points) true false code_points
 

@@ -19,6 +19,7 @@ use Rattle.seg_line_rules.specs.LineRules.{TableRules}
 use Rattle.seg_line_turns.specs.TurnBoundaries.{AreTurnBoundaries, turn_boundaries}
 use Rattle.seg_lines.specs.declared.joined.First.{First}
 use Rattle.seg_lines.specs.declared.joined.First.TheVariants as firsts
+use Rattle.seg_line_rules.specs.LineClasses.LineEngine.{Seventeen, Classic}
 
 -- Boundaries joined with cuts, as a set of places: a boundary keeps its status, and a cut where none stands has status 0.
 
@@ -71,9 +72,9 @@ pub data LineFinder : Type 0 where
   -- the places of clusters alone, none of them mandatory
   ByPlaces : LineFinder
   -- a pair table of lines, with what options say, whose complex class tells the runs
-  ByTable : TableRules → LineFinder
+  ByTable : TableRules Classic → LineFinder
   -- a pair table of lines of the engine 17, with what options say, gone through turn by turn; classes SA and SA_MC_MN tell the runs
-  ByTurns : TableRules → LineFinder
+  ByTurns : TableRules Seventeen → LineFinder
   -- a machine of lines, whose scripts tell the runs
   ByMachine : Machine → LineFinder
 
@@ -90,14 +91,14 @@ unless_anywhere strictness.Normal finder = finder
 unless_anywhere strictness.Strict finder = finder
 
 -- by a pair table of lines, with what options say, a pair table of clusters and the words of scripts
-abbrev pub table_lines : TableRules → PairTable → ScriptWords → LineRules
+abbrev pub table_lines : TableRules Classic → PairTable → ScriptWords → LineRules
 table_lines rules clusters words = record {
   finder = unless_anywhere rules.style.strictness (ByTable rules);
   payloads = record { words = words; clusters = ByClusterTable clusters None };
 }
 
 -- the same by the rules of the engine 17
-abbrev pub turn_lines : TableRules → PairTable → ScriptWords → LineRules
+abbrev pub turn_lines : TableRules Seventeen → PairTable → ScriptWords → LineRules
 turn_lines rules clusters words = record {
   finder = unless_anywhere rules.style.strictness (ByTurns rules);
   payloads = record { words = words; clusters = ByClusterTable clusters None };

@@ -5,10 +5,12 @@ ghost use Rattle.seg_text.specs.Boundaries.{HasEqualOrdinals, RestartsIn};
 ghost use Rattle.seg_data.specs.ScriptWords.{ScriptWords, AreSameWords};
 ghost use Rattle.seg_clusters.specs.Rules.{PartsTexts};
 ghost use Rattle.seg_complex.specs.Payloads.{run_cuts_by};
-ghost use Rattle.seg_line_rules.specs.LineBoundaries.{inside, KeepsMarks};
+ghost use Rattle.seg_line_rules.specs.LineBoundaries.{inside, line_boundaries, KeepsMarks};
+ghost use Rattle.seg_line_rules.specs.LineClasses.LineEngine.{Classic, Seventeen};
 ghost use Rattle.seg_line_rules.specs.LineRules.{TableRules};
-ghost use Rattle.seg_line_turns.specs.PlainTexts.{ArePlain, HasNoOpening, plain_boundaries, turn_units};
-ghost use Rattle.seg_line_turns.specs.TurnBoundaries.{KeepsTurnMarks, StartsBear};
+ghost use Rattle.seg_line_rules.specs.LineUnits.{counted_units, units_of};
+ghost use Rattle.seg_line_turns.specs.PlainTexts.{ArePlain, HasNoOpening};
+ghost use Rattle.seg_line_turns.specs.TurnBoundaries.{StartsBear};
 ghost use Rattle.seg_lines.specs.LineBreaks.LineFinder.{ByTable, ByTurns};
 ghost use Rattle.seg_lines.specs.LineBreaks.{HasOneList, LineRules, MayRestart, line_boundaries_by, lines_with_words, LinesResetAfter, HasNoMandatoryBreak, IsByPairTable};
 ghost use Rattle.seg_lines.specs.Lines.{line_rules};
@@ -83,7 +85,7 @@ pub fn no_mandatory_break(segmenter: LineSegmenterBorrowed<'_>)
 /// Law: by a pair table, under every strictness but `Anywhere`, no boundary but that at 0 stands before a code point of class CM
 /// or ZWJ, except after one of class BK, CR, LF, NL, SP or ZW.
 pub fn mark_law(segmenter: LineSegmenterBorrowed<'_>)
-    ensures { (rules : TableRules) → (line_rules segmenter.entry).finder ≡ ByTable rules → (code_points : List ℕ)
+    ensures { (rules : TableRules Classic) → (line_rules segmenter.entry).finder ≡ ByTable rules → (code_points : List ℕ)
         → KeepsMarks rules code_points (line_boundaries_by (line_rules segmenter.entry) code_points) }
 {
     segmenter.payloads.facts();
@@ -96,8 +98,8 @@ pub fn mark_law(segmenter: LineSegmenterBorrowed<'_>)
 /// CM_EASTASIAN or ZWJ, except after one of class BK, CR, LF, NL, SP or ZW, provided that the table reads no class at the start of a text as one of
 /// these six.
 pub fn mark_law_17(segmenter: LineSegmenterBorrowed<'_>)
-    ensures { (rules : TableRules) → (line_rules segmenter.entry).finder ≡ ByTurns rules → StartsBear rules.table → (code_points : List ℕ)
-        → KeepsTurnMarks rules code_points (line_boundaries_by (line_rules segmenter.entry) code_points) }
+    ensures { (rules : TableRules Seventeen) → (line_rules segmenter.entry).finder ≡ ByTurns rules → StartsBear rules.table → (code_points : List ℕ)
+        → KeepsMarks rules code_points (line_boundaries_by (line_rules segmenter.entry) code_points) }
 {
     segmenter.payloads.facts();
     if let Finder::Turns(pairs) = segmenter.finder {
@@ -109,9 +111,9 @@ pub fn mark_law_17(segmenter: LineSegmenterBorrowed<'_>)
 /// a pair table are found, with the classes, readings, KeepAll set and lists of the engine 17. A text is plain where no code point has class IS, HY,
 /// HH, QU, QU_PI, QU_PF, SA or SA_MC_MN and no opening unit stands directly before a space.
 pub fn plain_texts(segmenter: LineSegmenterBorrowed<'_>)
-    ensures { (rules : TableRules) → (line_rules segmenter.entry).finder ≡ ByTurns rules → (code_points : List ℕ)
-        → ArePlain rules code_points → HasNoOpening (turn_units rules code_points)
-        → line_boundaries_by (line_rules segmenter.entry) code_points ≡ plain_boundaries (inside (run_cuts_by (line_rules segmenter.entry).payloads)) rules code_points }
+    ensures { (rules : TableRules Seventeen) → (line_rules segmenter.entry).finder ≡ ByTurns rules → (code_points : List ℕ)
+        → ArePlain rules code_points → HasNoOpening (units_of (counted_units rules code_points))
+        → line_boundaries_by (line_rules segmenter.entry) code_points ≡ line_boundaries (inside (run_cuts_by (line_rules segmenter.entry).payloads)) rules code_points }
 {
     let _ = segmenter;
     turn_laws::plain_texts();
