@@ -104,9 +104,9 @@ pub struct Boundaries<'data, I: Cursor> {
 /// Which engine gives them.
 #[derive(Debug, Drop)]
 enum BoundariesBy<'data, I: Cursor> {
-    /// That of a pair table.
+    /// Those of a pair table.
     Classic(rule_segmenter_v1::RuleBreakIterator<'data, I>),
-    /// That of a state machine.
+    /// Those of a state machine.
     Neo(rule_segmenter_v2::RuleBreakIterator<'data, I>),
 }
 

@@ -1,5 +1,5 @@
 -- What comes next of a text whose lines are found event by event.
-use Rattle.std.proofs.Common.{◌≡◌, ℕ, ◌+◌, ◌-◌, ◌<◌, Option, Some, None, List, [], ◌∷◌, ◌++◌, length, map, take, drop, refl, sym, ap, ◌∙◌, subst, arith}
+use Rattle.std.proofs.Common.{◌≡◌, ◌≢◌, ℕ, ◌+◌, ◌-◌, ◌<◌, Option, Some, None, List, [], ◌∷◌, ◌++◌, length, map, take, drop, refl, sym, ap, ◌∙◌, subst, arith}
 use Rattle.std.specs.Prelude.{IfSome}
 use Rattle.std.specs.Iterator.{YieldsFirst}
 use Rattle.std.proofs.lemmas.List.{drop-drop, length-drop, length-take, take-map}
@@ -19,7 +19,7 @@ use Rattle.seg_pairs.proofs.Engine.{read-onto, rest-is}
 use Rattle.seg_pairs.proofs.Events.{cuts-placed}
 use Rattle.seg_line_rules.specs.LineClasses.LineEngine.{Classic}
 use Rattle.seg_line_rules.specs.declared.plain_pairs.ClassedItem.{ClassedItem}
-use Rattle.seg_line_rules.specs.LineEvents.{IsItemAhead, text_from, UnreadLines, unread_lines, GoesOnLines, AreUnitsAhead}
+use Rattle.seg_line_rules.specs.LineEvents.{IsItemAhead, text_from, UnreadLines, unread_lines, lines_unread, GoesOn, AreUnitsAhead}
 use Rattle.seg_line_rules.specs.LineBoundaries.{line_verdict, complex_length, line_stretch_of, line_stretch}
 use Rattle.seg_line_rules.specs.LineRules.{TableRules}
 use Rattle.seg_line_rules.specs.LineUnits.{CountedUnit, extent_of, UnitsLeft, units_seen, line_elements}
@@ -253,10 +253,20 @@ ahead-here text rules here next first rest copy left units is ahead same read =
 pub ahead-none : (rules : TableRules Classic) (here : Text) (next : Option ClassedItem) (rest : Text) → next ≡ None → IsItemAhead rules here next rest → here.items ≡ []
 ahead-none rules here next rest is ahead = subst (λ (next : Option ClassedItem). IsItemAhead rules here next rest) is ahead
 
+-- a text with a first item isn't empty
+pub not-empty : (rules : TableRules Classic) (here : Text) (next : Option ClassedItem) (first : ClassedItem) (rest : Text) → next ≡ Some first → IsItemAhead rules here next rest
+    → here.items ≢ []
+not-empty rules here next first rest is ahead none =
+    let some : IsItemAhead rules here (Some first) rest = subst (λ (next : Option ClassedItem). IsItemAhead rules here next rest) is ahead in
+    never (ap (λ (t : Text). t.items) (sym some.0) ∙ none)
+  where
+    never : (text_from first rest).items ≡ [] → ⊥
+    never is = cc
+
 -- what is left after an event
 pub goes-on : (rules : TableRules Classic) (text after : Text) (n : ℕ) → after ≡ rest_after n text → length (drop n text.items) < length text.items
-    → GoesOnLines (unread rules text) (unread rules after)
-goes-on rules text after n is fewer = rw is (record { rules = refl; end = refl; fewer = λ some. fewer })
+    → GoesOn (lines_unread (unread rules text)) (lines_unread (unread rules after))
+goes-on rules text after n is fewer = rw is (record { end = refl; fewer = λ some. fewer })
 
 pub break-leads : (rules : TableRules Classic) (text after : Text) (place : ℕ) (elements : List Element) (b : HasBreak rules text elements)
     → place ≡ start_of (rest_after b.taken text) → after ≡ rest_after b.taken text → (cuts : Cuts)
@@ -270,9 +280,9 @@ pub run-leads : (rules : TableRules Classic) (text left run after : Text) (place
 run-leads rules text left run after place r left_is run_is is = rw (is, run_is, left_is) r.leads
 
 pub run-goes : (rules : TableRules Classic) (text left after : Text) (place : ℕ) (r : HasRun rules text place) → left ≡ rest_after r.gone text
-    → after ≡ rest_after (run_extent rules left - 1) left → GoesOnLines (unread rules text) (unread rules after)
+    → after ≡ rest_after (run_extent rules left - 1) left → GoesOn (lines_unread (unread rules text)) (lines_unread (unread rules after))
 run-goes rules text left after place r left_is is =
-    rw (is, left_is) (record { rules = refl; end = refl; fewer = λ some. r.fewer })
+    rw (is, left_is) (record { end = refl; fewer = λ some. r.fewer })
 
 -- the outcome leaves nothing where there is no next unit, and the next one's class is below
 pub below-of : (t u : PairTable) (next : Option Element) → t ≡ u → IfSome next (λ next. next.class < t.property_count) → IfSome next (λ next. next.class < u.property_count)

@@ -1,5 +1,5 @@
 -- What is left of a text of lines.
-use Rattle.std.proofs.Common.{◌≡◌, ◌≢◌, ℕ, ◌<◌, ◌≤◌, nat_lt, Bool, true, false, List, [], ◌∷◌, ◌++◌, length, map, drop, refl, sym, ap, ◌∙◌, subst, inl, inr, arith}
+use Rattle.std.proofs.Common.{◌≡◌, ℕ, ◌<◌, ◌≤◌, nat_lt, Bool, true, false, List, [], ◌∷◌, ◌++◌, length, map, drop, refl, sym, ap, ◌∙◌, subst, inl, inr, arith}
 use Rattle.std.specs.Prelude.{filter}
 use Rattle.std.proofs.lemmas.Bool.{cases_lt, lt-ltb, ltb-true, false_from_ne_true}
 use Rattle.std.proofs.lemmas.List.{length-map, drop_all}
@@ -12,7 +12,7 @@ use Rattle.seg_complex.specs.Scripts.{PieceCuts, piece_stretch, run_cuts}
 use Rattle.seg_line_rules.specs.LineClasses.LineEngine.{Classic}
 use Rattle.seg_line_rules.specs.declared.events.LineEvent.TheVariants.{Run}
 use Rattle.seg_line_rules.specs.LineBoundaries.{CutsCover, inside, line_stretch}
-use Rattle.seg_line_rules.specs.LineEvents.{UnreadLines, LeadsToLines, GoesOnLines, unread_lines, places_before}
+use Rattle.seg_line_rules.specs.LineEvents.{Unread, UnreadLines, LeadsTo, later_of, unread_lines, places_before}
 use Rattle.seg_line_rules.specs.LineRules.{TableRules}
 use Rattle.seg_line_rules.proofs.Inside.{inside-stand}
 use Rattle.seg_line_rules.proofs.LineStretches.{line-within}
@@ -70,20 +70,12 @@ inside-cuts count (cut ∷ cuts) = on (nat_lt cut count) refl (inside-cuts count
     on true is later = rw is (omega (arith, ltb-true cut count is), later)
     on false is later = rw is later
 
--- the next place that is before the end
-
-pub next-before : (end place : ℕ) (before after : List ℕ) → before ≡ place ∷ after → nat_lt place end ≡ true → places_before end before ≡ place ∷ places_before end after
-next-before end place before after is less = rw (is, less) refl
-
-pub next-past : (end place : ℕ) (before after : List ℕ) → before ≡ place ∷ after → nat_lt place end ≡ false → places_before end before ≡ places_before end after
-next-past end place before after is past = rw (is, past) refl
-
 -- a new engine
 
-pub lines-cover : (cuts : Cuts) → CutsCover cuts → (rules : TableRules Classic) (text : Text) (unread : UnreadLines) → unread ≡ record { rules = rules; text = text }
-    → IsRising text.items text.end → IsCover (start_of text) text.end (boundaries_in (list_boundaries (line_stretch (inside cuts) unread.rules)) unread.text)
-lines-cover cuts cover rules text unread is rising =
-    subst (λ (u : UnreadLines). IsCover (start_of text) text.end (boundaries_in (list_boundaries (line_stretch (inside cuts) u.rules)) u.text)) (sym is)
+pub lines-cover : (cuts : Cuts) → CutsCover cuts → (rules : TableRules Classic) (text : Text) (found : List Boundary)
+    → found ≡ boundaries_in (list_boundaries (line_stretch (inside cuts) rules)) text → IsRising text.items text.end → IsCover (start_of text) text.end found
+lines-cover cuts cover rules text found is rising =
+    subst (λ (found : List Boundary). IsCover (start_of text) text.end found) (sym is)
     (covers (line_stretch (inside cuts) rules) (line-within rules (inside cuts) (inside-stand cuts cover)) text rising)
 
 -- a run in which nothing is left has no cuts
@@ -94,54 +86,41 @@ no-inside cuts run end is = ap (cut_places (inside (run_cuts cuts))) is ∙ ap (
     none cuts = ap offsets (later-nil (piece_stretch cuts))
 
 -- nothing is left of a text
-nothing-unread : (cuts : Cuts) (unread : UnreadLines) → unread.text.items ≡ [] → unread_lines cuts unread ≡ []
+pub nothing-unread : (cuts : Cuts) (unread : UnreadLines) → unread.text.items ≡ [] → unread_lines cuts unread ≡ []
 nothing-unread cuts unread none =
     ap (λ (items : List Item). boundaries_in (later_boundaries (line_stretch cuts unread.rules)) (record { items = items; end = unread.text.end })) none
     ∙ text-later-nil (line_stretch cuts unread.rules) unread.text.end
 
+-- What is left after cuts of a run, by either engine.
+
 -- no cut is left of a run
-pub none-of : (run : List ℕ) (unread left : List Boundary) → run ≡ [] → with_status 0 run ++ unread ≡ left → unread ≡ left
-none-of run unread left none is = ap (λ (run : List ℕ). with_status 0 run ++ unread) (sym none) ∙ is
+pub none-of : (later : List ℕ → List Boundary) (run : List ℕ) (left : List Boundary) → run ≡ [] → with_status 0 run ++ later run ≡ left → later [] ≡ left
+none-of later run left none is = ap (λ (run : List ℕ). with_status 0 run ++ later run) (sym none) ∙ is
 
--- plain pairs led to no boundary
-pub passed-none : (cuts : Cuts) (run : List ℕ) (before after : UnreadLines) (left : List Boundary) → unread_lines cuts before ≡ unread_lines cuts after
-    → with_status 0 run ++ unread_lines cuts before ≡ left → with_status 0 run ++ unread_lines cuts after ≡ left
-passed-none cuts run before after left same is = ap (λ (unread : List Boundary). with_status 0 run ++ unread) (sym same) ∙ is
-
--- the next cut of a run
-pub next-of : (place : ℕ) (before after : List ℕ) (unread left : List Boundary) → before ≡ place ∷ after → with_status 0 before ++ unread ≡ left
-    → left ≡ boundary place 0 ∷ (with_status 0 after ++ unread)
-next-of place before after unread left next is = sym is ∙ ap (λ (run : List ℕ). with_status 0 run ++ unread) next
+-- where no cut is left, what is left is unread
+pub with-none : (later : List ℕ → List Boundary) (run : List ℕ) (left : List Boundary) → run ≡ [] → later [] ≡ left → with_status 0 run ++ later run ≡ left
+with-none later run left none is = ap (λ (run : List ℕ). with_status 0 run ++ later run) none ∙ is
 
 -- a run came next, with its cuts
-pub lines-run : {I : Type 0} (text : I → Text) (cuts : Cuts) (before after : UnreadLines) (run : I) (end : ℕ) (found : List ℕ) (left : List Boundary)
-    → LeadsToLines text before (Run run end) after → found ≡ cut_places (inside cuts) (text run) → unread_lines (inside cuts) before ≡ left
-    → with_status 0 found ++ unread_lines (inside cuts) after ≡ left
-lines-run text cuts before after run end found left leads is same =
-    ap (λ (found : List ℕ). with_status 0 found ++ unread_lines (inside cuts) after) is
-    ∙ sym (leads.1 (inside cuts) stay) ∙ same
+pub run-next : {I : Type 0} (text : I → Text) (cuts : Cuts) (before after : Unread) (run : I) (end : ℕ) (found : List ℕ) (left : List Boundary)
+    → LeadsTo text before (Run run end) after → found ≡ cut_places (inside cuts) (text run) → later_of (inside cuts) before ≡ left
+    → with_status 0 found ++ after.later (inside cuts) found ≡ left
+run-next text cuts before after run end found left leads is same =
+    ap (λ (found : List ℕ). with_status 0 found ++ after.later (inside cuts) found) is
+    ∙ sym (leads.2 (inside cuts) stay) ∙ same
   where
     stay : AreCutsOf (length (text run).items) (inside cuts (code_points (text run).items))
     stay = rw (length-map (text run).items (λ (item : Item). item.1)) (inside-cuts (length (text run).items) (cuts (code_points (text run).items)))
 
--- and it took something, so that less is left than there was before
-pub lines-fewer : {I : Type 0} (text : I → Text) (before after : UnreadLines) (run : I) (end most : ℕ) → LeadsToLines text before (Run run end) after → GoesOnLines before after
-    → length before.text.items ≤ most → length after.text.items < most
-lines-fewer text before after run end most leads goes bound = omega (arith, less, bound)
-  where
-    one : Cuts
-    one code_points = 0 ∷ []
-
-    some : with_status 0 (cut_places one (text run)) ++ unread_lines one after ≢ []
-    some is = cc
-
-    less : length after.text.items < length before.text.items
-    less = goes.fewer (λ none. some (sym (leads.1 one (omega arith, tt)) ∙ nothing-unread one before none))
+pub fewer-still : (after passed before : ℕ) → after < passed → passed ≤ before → after < before
+fewer-still after passed before less most = omega (arith, less, most)
 
 -- nothing is left, before and after the end was read
-pub lines-end : (cuts : Cuts) (run later : List ℕ) (before after : UnreadLines) (left : List Boundary) → run ≡ [] → later ≡ [] → before.text.items ≡ [] → after ≡ before
-    → with_status 0 run ++ unread_lines cuts before ≡ left → (left ≡ []) × (with_status 0 later ++ unread_lines cuts after ≡ [])
-lines-end cuts run later before after left none empty nothing same is = (
-  sym is ∙ ap (λ (run : List ℕ). with_status 0 run ++ unread_lines cuts before) none ∙ nothing-unread cuts before nothing,
-  ap (λ (run : List ℕ). with_status 0 run ++ unread_lines cuts after) empty ∙ nothing-unread cuts after (ap (λ (u : UnreadLines). u.text.items) same ∙ nothing),
-)
+pub end-next : (later after : List ℕ → List Boundary) (run rest : List ℕ) (left : List Boundary) → run ≡ [] → rest ≡ [] → later [] ≡ left → later [] ≡ [] → after [] ≡ []
+    → (left ≡ []) × (with_status 0 rest ++ after rest ≡ [])
+end-next later after run rest left none empty same nothing still = (sym same ∙ nothing, with-none after rest [] empty still)
+
+-- the first is at the start of a text
+pub starts-at : (cuts : Cuts) (rules : TableRules Classic) (text : Text) (unread : UnreadLines) → unread ≡ record { rules = rules; text = text }
+    → boundary (start_of unread.text) 0 ∷ unread_lines cuts unread ≡ boundaries_in (list_boundaries (line_stretch cuts rules)) text
+starts-at cuts rules text unread is = ap (λ (unread : UnreadLines). boundary (start_of unread.text) 0 ∷ unread_lines cuts unread) is

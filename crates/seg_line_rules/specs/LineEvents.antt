@@ -1,8 +1,8 @@
 -- A text whose lines are found one after another: what is read ahead, what comes next, and what is left.
 use Rattle.std.specs.Prelude.{◌≡◌, ◌<◌, ℕ, Option, Some, None, [], ◌∷◌, ◌≢◌, ◌≤◌, List, ◌++◌, length, IfSome, ◌==◌, ◌&&◌, ◌||◌, not, Bool, true, false, if◌then◌else◌, nat_lt, filter}
-use Rattle.seg_text.specs.Items.{Text, code_points, rest_after}
+use Rattle.seg_text.specs.Items.{Text, code_points, rest_after, start_of}
 use Rattle.seg_text.specs.declared.boundary.Boundary.{Boundary}
-use Rattle.seg_text.specs.Boundaries.{boundary, boundaries_in, Cuts, AreCutsOf, with_status, cut_places, later_boundaries, Remainder, list_boundaries}
+use Rattle.seg_text.specs.Boundaries.{boundary, boundaries_in, Cuts, AreCutsOf, with_status, cut_places, later_boundaries, Remainder}
 use Rattle.seg_pair_data.specs.PairTable.{PairTable, entry_of}
 use Rattle.seg_pair_data.specs.declared.provider.pairs.BreakState.{BreakState}
 use Rattle.seg_pair_data.specs.declared.provider.pairs.BreakState.TheVariants as entries
@@ -13,7 +13,7 @@ use Rattle.seg_line_rules.specs.LineClasses.{LineEngine}
 use Rattle.seg_line_rules.specs.LineClasses.LineEngine.{Classic}
 use Rattle.seg_line_rules.specs.LineRules.{TableRules, line_class, is_keep_all, is_loose_or_normal}
 use Rattle.seg_line_rules.specs.declared.events.LineEvent.{LineEvent}
-use Rattle.seg_line_rules.specs.declared.events.LineEvent.TheVariants.{End, Break, Run}
+use Rattle.seg_line_rules.specs.declared.events.LineEvent.TheVariants.{End, Go, Break, Run}
 use Rattle.seg_line_rules.specs.LineBoundaries.{line_stretch}
 use Rattle.seg_line_rules.specs.LineUnits.{UnitsLeft, line_elements, is_joiner, is_mark}
 use Rattle.seg_line_rules.specs.declared.options.LineStyle.{LineStyle}
@@ -43,7 +43,50 @@ HasClass rules item = HasClassBy rules.table (line_class rules) item
 abbrev pub IsItemAhead : {engine : LineEngine} → TableRules engine → Text → Option ClassedItem → Text → Type 0
 IsItemAhead rules here next rest = IsAheadBy rules.table (line_class rules) here next rest
 
--- What comes next of a text that is read line by line.
+-- What comes next of a text that is read line by line, by either engine.
+
+-- a text that isn't read yet, and its boundaries but that at its start, by how runs are cut and by the cuts that are left of a run before it
+pub record Unread : Type 0 where
+  pub text : Text
+  pub later : Cuts → List ℕ → List Boundary
+
+-- .. where no cut is left of a run
+abbrev pub later_of : Cuts → Unread → List Boundary
+later_of cuts unread = unread.later cuts []
+
+-- what comes next, however runs are cut: the end, nothing, a boundary, or a run with its cuts
+abbrev pub LeadsTo : {I : Type 0} → (I → Text) → Unread → LineEvent I → Unread → Type 0
+LeadsTo text before End after = (before.text.items ≡ []) × ((after ≡ before) × ((cuts : Cuts) → later_of cuts before ≡ []))
+LeadsTo text before Go after = (before.text.items ≢ []) × ((cuts : Cuts) → later_of cuts before ≡ later_of cuts after)
+LeadsTo text before (Break place) after = (cuts : Cuts) → later_of cuts before ≡ boundary place 0 ∷ later_of cuts after
+LeadsTo text before (Run run end) after =
+    (before.text.items ≢ []) × (end ≡ (text run).end)
+    × ((cuts : Cuts) → AreCutsOf (length (text run).items) (cuts (code_points (text run).items))
+    → later_of cuts before ≡ with_status 0 (cut_places cuts (text run)) ++ after.later cuts (cut_places cuts (text run)))
+
+-- plain pairs lead to a boundary, or to none
+abbrev pub LeadsToBreak : Unread → Option ℕ → Unread → Type 0
+LeadsToBreak before (Some place) after = (cuts : Cuts) → later_of cuts before ≡ boundary place 0 ∷ later_of cuts after
+LeadsToBreak before None after =
+    ((cuts : Cuts) → later_of cuts before ≡ later_of cuts after) × (length after.text.items ≤ length before.text.items)
+
+-- less of the text is left
+pub record GoesOn (before after : Unread) : Type 0 where
+  pub end : after.text.end ≡ before.text.end
+  pub fewer : before.text.items ≢ [] → length after.text.items < length before.text.items
+
+-- what is left of a text of lines: the boundary at its start, where it isn't given yet, the cuts that are left of a run, and then the
+-- boundaries of what isn't read; no status of a boundary of lines is other than 0
+abbrev pub line_remainder : Cuts → Bool → List ℕ → Unread → Remainder
+line_remainder cuts started run unread =
+    let rest = with_status 0 run ++ unread.later cuts run in
+    record { left = if started then rest else boundary (start_of unread.text) 0 ∷ rest; status = 0 }
+
+-- the places before an end
+abbrev pub places_before : ℕ → List ℕ → List ℕ
+places_before end places = filter (λ place. nat_lt place end) places
+
+-- What comes next by the classic engine.
 
 -- a text that is being read, and what its lines are found by
 pub record UnreadLines : Type 0 where
@@ -54,27 +97,8 @@ pub record UnreadLines : Type 0 where
 abbrev pub unread_lines : Cuts → UnreadLines → List Boundary
 unread_lines cuts unread = boundaries_in (later_boundaries (line_stretch cuts unread.rules)) unread.text
 
--- what comes next, however runs are cut: the end, a boundary, or a run with its cuts
-abbrev pub LeadsToLines : {I : Type 0} → (I → Text) → UnreadLines → LineEvent I → UnreadLines → Type 0
-LeadsToLines text before End after = (before.text.items ≡ []) × (after ≡ before)
-LeadsToLines text before (Break place) after =
-    (cuts : Cuts) → unread_lines cuts before ≡ boundary place 0 ∷ unread_lines cuts after
-LeadsToLines text before (Run run end) after =
-    (end ≡ (text run).end)
-    × ((cuts : Cuts) → AreCutsOf (length (text run).items) (cuts (code_points (text run).items))
-    → unread_lines cuts before ≡ with_status 0 (cut_places cuts (text run)) ++ unread_lines cuts after)
-
--- plain pairs lead to a boundary, or to none
-abbrev pub LeadsToBreak : UnreadLines → Option ℕ → UnreadLines → Type 0
-LeadsToBreak before (Some place) after = (cuts : Cuts) → unread_lines cuts before ≡ boundary place 0 ∷ unread_lines cuts after
-LeadsToBreak before None after =
-    ((cuts : Cuts) → unread_lines cuts before ≡ unread_lines cuts after) × (length after.text.items ≤ length before.text.items)
-
--- the text goes on by the same rules, and less of it is left
-pub record GoesOnLines (before after : UnreadLines) : Type 0 where
-  pub rules : after.rules ≡ before.rules
-  pub end : after.text.end ≡ before.text.end
-  pub fewer : before.text.items ≢ [] → length after.text.items < length before.text.items
+abbrev pub lines_unread : UnreadLines → Unread
+lines_unread unread = record { text = unread.text; later = λ cuts run. unread_lines cuts unread }
 
 -- the first unit, where there is one, and the others are those of the text
 pub record AreUnitsAhead (rules : TableRules Classic) (text : Text) (next : Option Element) (rest : UnitsLeft) : Type 0 where
@@ -118,19 +142,3 @@ pub record IsPassed (rules : TableRules Classic) (first : ClassedItem) (start : 
   pub text_is : text_from next rest ≡ rest_after taken (text_from first start)
   pub class : HasClass rules next
   pub leads : (cuts : Cuts) → unread_lines cuts (unread_from rules first start) ≡ passed_lines cuts rules is_break next rest
-
--- What is left of a text of lines, and of its runs.
-
--- the places before an end
-abbrev pub places_before : ℕ → List ℕ → List ℕ
-places_before end places = filter (λ place. nat_lt place end) places
-
--- all boundaries of the text, or where it has started the cuts that are left of a run, and then the boundaries of what isn't
--- read; no status of a boundary of lines is other than 0
-abbrev pub line_remainder : Cuts → Bool → List ℕ → UnreadLines → Remainder
-line_remainder cuts started run unread = record {
-  left = if started
-      then with_status 0 run ++ unread_lines cuts unread
-      else boundaries_in (list_boundaries (line_stretch cuts unread.rules)) unread.text;
-  status = 0;
-}

@@ -1,13 +1,13 @@
-//! The boundaries of lines of a text by a pair table: those that the table finds, and the cuts strictly inside runs of complex code points.
+//! The boundaries of lines of a text by a pair table: those that either engine finds, and the cuts strictly inside runs of complex code points.
 
-ghost use Rattle.std.specs.Prelude.{◌≡◌, ⊤};
+ghost use Rattle.std.specs.Prelude.{◌≡◌, ⊤, [], ◌∷◌};
 ghost use Rattle.std.specs.Iterator.{YieldsFirst, MakesProgress, item_count};
 ghost use Rattle.seg_text.specs.Items.{start_of};
-ghost use Rattle.seg_text.specs.Boundaries.{GivesNext, IsCover, offsets_left};
+ghost use Rattle.seg_text.specs.Boundaries.{GivesNext, IsCover, boundary, offsets_left};
 ghost use Rattle.seg_complex.specs.Payloads.{payloads_of, run_cuts_by};
-ghost use Rattle.seg_line_rules.specs.LineBoundaries.{table_line_boundaries_of, rules_by};
+ghost use Rattle.seg_line_rules.specs.LineBoundaries.{inside, table_line_boundaries_of, rules_by};
 
-use crate::events::{LineEvent, LineEvents};
+use crate::events::{LineEvent, LineEvents, LineSource};
 use crate::inside_cuts::InsideCuts;
 use crate::line_pairs::LinePairs;
 use seg_complex::complex::ComplexPayloadsBorrowed;
@@ -16,17 +16,16 @@ use std::marker::Model;
 
 /// The boundaries of lines in a text, as places. No status of one is other than 0.
 #[derive(Debug, Drop)]
-pub struct ClassicLines<'data, I: Cursor> {
-    // What the table hasn't read yet.
-    events: LineEvents<'data, I>,
+pub struct TableLines<'data, I: Cursor, S: LineSource<I>> {
+    // What isn't read yet.
+    source: S,
     // What is left of the run that came last.
     run: InsideCuts<'data, I>,
     payloads: ComplexPayloadsBorrowed<'data>,
     started: bool,
 }
 
-impl<'data, I: Cursor> Model for ClassicLines<'data, I> {
-    ghost use Rattle.std.specs.Prelude.{◌≡◌, false, []};
+impl<'data, I: Cursor, S: LineSource<I>> Model for TableLines<'data, I, S> {
     ghost use Rattle.seg_text.specs.Boundaries.{Remainder};
     ghost use Rattle.seg_complex.specs.Payloads.{payloads_of, run_cuts_by};
     ghost use Rattle.seg_line_rules.specs.LineBoundaries.{inside};
@@ -34,24 +33,19 @@ impl<'data, I: Cursor> Model for ClassicLines<'data, I> {
 
     ghost Value = { Remainder };
 
-    ghost view = { λ s. line_remainder (inside (run_cuts_by (payloads_of s.payloads))) s.started s.run s.events };
-
-    ghost invariant = { λ s. s.started ≡ false → s.run ≡ [] };
+    ghost view = { λ s. line_remainder (inside (run_cuts_by (payloads_of s.payloads))) s.started s.run (S.unread s.source) };
 }
 
-impl<'data, I: Cursor> ClassicLines<'data, I> {
+impl<'data, I: Cursor, S: LineSource<I>> TableLines<'data, I, S> {
     /// The boundaries of what is left of a text. Takes no memory.
-    pub fn new(pairs: LinePairs<'data>, payloads: ComplexPayloadsBorrowed<'data>, text: I) -> Self
-        ensures boundaries { result.left ≡ table_line_boundaries_of (run_cuts_by (payloads_of payloads.entry)) (rules_by pairs.entry) (I.text text) }
-        ensures cover { IsCover (start_of (I.text text)) (I.text text).end result.left }
+    pub fn new(source: S, payloads: ComplexPayloadsBorrowed<'data>) -> Self
+        ensures boundaries { result.left ≡ boundary (start_of (S.unread source).text) 0 ∷ (S.unread source).later (inside (run_cuts_by (payloads_of payloads.entry))) [] }
         ensures status { result.status ≡ 0 }
     {
-        payloads.facts();
-        let events = LineEvents::new(pairs, text);
-        ClassicLines {
-            run: InsideCuts::new(payloads, events.nothing(), events.place()),
+        TableLines {
+            run: InsideCuts::new(payloads, source.nothing(), source.place()),
             payloads,
-            events,
+            source,
             started: false,
         }
     }
@@ -63,9 +57,21 @@ impl<'data, I: Cursor> ClassicLines<'data, I> {
         let _ = &self.started;
         0
     }
+
+    /// The same boundaries once more, from the same one on. Takes no memory.
+    pub fn fork(&self) -> Self
+        ensures { result ≡ self.now }
+    {
+        TableLines {
+            source: self.source.fork(),
+            run: self.run.fork(),
+            payloads: self.payloads,
+            started: self.started,
+        }
+    }
 }
 
-impl<'data, I: Cursor> Iterator for ClassicLines<'data, I> {
+impl<'data, I: Cursor, S: LineSource<I>> Iterator for TableLines<'data, I, S> {
     type Item = usize;
 
     ghost next_gives = { YieldsFirst offsets_left };
@@ -78,17 +84,19 @@ impl<'data, I: Cursor> Iterator for ClassicLines<'data, I> {
     {
         if !self.started {
             self.started = true;
-            return Some(self.events.place());
+            return Some(self.source.place());
         }
         loop {
             if let Some(place) = self.run.next() {
+                self.source.note_cut();
                 return Some(place);
             }
-            if let Some(place) = self.events.plain_break() {
+            if let Some(place) = self.source.plain_break() {
                 return Some(place);
             }
-            match self.events.next_event() {
+            match self.source.next_event() {
                 LineEvent::End => return None,
+                LineEvent::Go => {}
                 LineEvent::Break(place) => return Some(place),
                 LineEvent::Run(run, end) => self.run = InsideCuts::new(self.payloads, run, end),
             }
@@ -96,16 +104,16 @@ impl<'data, I: Cursor> Iterator for ClassicLines<'data, I> {
     }
 }
 
-impl<'data, I: Cursor> ClassicLines<'data, I> {
-    /// The same boundaries once more, from the same one on. Takes no memory.
-    pub fn fork(&self) -> Self
-        ensures { result ≡ self.now }
-    {
-        ClassicLines {
-            events: self.events.fork(),
-            run: self.run.fork(),
-            payloads: self.payloads,
-            started: self.started,
-        }
-    }
+/// The boundaries of lines in what is left of a text by the classic engine. Takes no memory.
+pub fn classic_lines<'data, I: Cursor>(
+    pairs: LinePairs<'data>,
+    payloads: ComplexPayloadsBorrowed<'data>,
+    text: I,
+) -> TableLines<'data, I, LineEvents<'data, I>>
+    ensures boundaries { result.left ≡ table_line_boundaries_of (run_cuts_by (payloads_of payloads.entry)) (rules_by pairs.entry) (I.text text) }
+    ensures cover { IsCover (start_of (I.text text)) (I.text text).end result.left }
+    ensures status { result.status ≡ 0 }
+{
+    payloads.facts();
+    TableLines::new(LineEvents::new(pairs, text), payloads)
 }

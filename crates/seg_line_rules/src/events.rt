@@ -1,10 +1,11 @@
 //! The boundaries of lines of a text, as far as the table finds them: runs of complex code points are given as texts of their own, to be cut in
 //! some other way.
 
-ghost use Rattle.std.specs.Prelude.{◌≡◌, ◌-◌, Some, []};
+ghost use Rattle.std.specs.Prelude.{◌≡◌, ◌-◌, ℕ, List, Some, [], ◌∷◌};
 ghost use Rattle.seg_text.specs.Items.{prefix_length, rest_after, start_of, text_before};
 ghost use Rattle.seg_pairs.specs.Elements.{onto, place_at};
-ghost use Rattle.seg_line_rules.specs.LineEvents.{HasClass, IsItemAhead, text_from, AreUnitsAhead, LeadsToBreak, LeadsToLines, GoesOnLines};
+ghost use Rattle.seg_text.specs.Boundaries.{Cuts};
+ghost use Rattle.seg_line_rules.specs.LineEvents.{HasClass, IsItemAhead, text_from, AreUnitsAhead, LeadsTo, LeadsToBreak, GoesOn};
 ghost use Rattle.seg_line_rules.specs.LineBoundaries.{rules_by};
 ghost use Rattle.seg_line_rules.specs.LineRules.{is_complex};
 
@@ -23,10 +24,46 @@ use std::marker::Model;
 pub enum LineEvent<I: Cursor> {
     /// Its end.
     End,
+    /// No boundary, but less of the text is left.
+    Go,
     /// A boundary at this place.
     Break(usize),
     /// A run of complex items, as a text whose places are those of the whole, and the place where it ends.
     Run(I, usize),
+}
+
+/// A text whose lines are found one after another, by either engine.
+pub trait LineSource<I: Cursor>: Drop {
+    ghost use Rattle.seg_line_rules.specs.LineEvents.{Unread};
+
+    /// What isn't read yet.
+    ghost unread: { Self → Unread };
+
+    /// Where the text that is left begins.
+    fn place(&self) -> usize
+        ensures { result ≡ start_of (unread self.now).text };
+
+    /// A text of its own in which nothing is left, at the place where the text that is left begins.
+    fn nothing(&self) -> I
+        ensures { I.text result ≡ record { items = []; end = start_of (unread self.now).text } };
+
+    /// Notes a cut before the text that is left.
+    fn note_cut(&mut self)
+        ensures text { (unread self.new).text ≡ (unread self.old).text }
+        ensures cut { (cuts : Cuts) (place : ℕ) (places : List ℕ) → (unread self.old).later cuts (place ∷ places) ≡ (unread self.new).later cuts places };
+
+    /// The next boundary, where plain pairs alone come to it. Where they don't, they are passed: what comes then is an event.
+    fn plain_break(&mut self) -> Option<usize>
+        ensures leads { LeadsToBreak (unread self.old) result (unread self.new) };
+
+    /// What comes next. After the end it is the end for ever.
+    fn next_event(&mut self) -> LineEvent<I>
+        ensures leads { LeadsTo I.text (unread self.old) result (unread self.new) }
+        ensures goes { GoesOn (unread self.old) (unread self.new) };
+
+    /// The same text once more, from the same place on. Takes no memory.
+    fn fork(&self) -> Self
+        ensures { result ≡ self.now };
 }
 
 /// A text whose lines are found event by event.
@@ -66,26 +103,25 @@ impl<'data, I: Cursor> LineEvents<'data, I> {
             rest,
         }
     }
+}
 
-    /// Where the text that is left begins.
-    pub fn place(&self) -> usize
-        ensures { result ≡ start_of self.now.text }
-    {
+impl<'data, I: Cursor> LineSource<I> for LineEvents<'data, I> {
+    ghost use Rattle.seg_line_rules.specs.LineEvents.{lines_unread};
+
+    ghost unread = { lines_unread };
+
+    fn place(&self) -> usize {
         self.here.place()
     }
 
-    /// A text of its own in which nothing is left, at the place where the text that is left begins.
-    pub fn nothing(&self) -> I
-        ensures { I.text result ≡ record { items = []; end = start_of self.now.text } }
-    {
+    fn nothing(&self) -> I {
         self.here.up_to(self.here.place())
     }
 
-    /// The next boundary, where plain pairs alone come to it. Where they don't, they are passed: what comes then is an event.
+    fn note_cut(&mut self) {}
+
     #[inline(always)]
-    pub fn plain_break(&mut self) -> Option<usize>
-        ensures leads { LeadsToBreak self.old result self.new }
-    {
+    fn plain_break(&mut self) -> Option<usize> {
         let Some(next) = self.next else {
             return None;
         };
@@ -102,12 +138,8 @@ impl<'data, I: Cursor> LineEvents<'data, I> {
         Some(passed.next.place)
     }
 
-    /// What comes next. After the end it is the end for ever.
     #[inline(never)]
-    pub fn next_event(&mut self) -> LineEvent<I>
-        ensures leads { LeadsToLines I.text self.old result self.new }
-        ensures goes { GoesOnLines self.old self.new }
-    {
+    fn next_event(&mut self) -> LineEvent<I> {
         let Some(first) = self.next else {
             return LineEvent::End;
         };
@@ -128,6 +160,15 @@ impl<'data, I: Cursor> LineEvents<'data, I> {
                 self.next = next_classed(self.pairs, &mut self.rest);
                 LineEvent::Run(run, end)
             }
+        }
+    }
+
+    fn fork(&self) -> Self {
+        LineEvents {
+            pairs: self.pairs,
+            here: self.here.fork(),
+            next: self.next,
+            rest: self.rest.fork(),
         }
     }
 }
@@ -238,18 +279,4 @@ fn is_complex(pairs: LinePairs<'_>, code_point: u32) -> bool
     ensures { result ≡ is_complex (rules_by pairs.entry) code_point }
 {
     pairs.class(code_point) == pairs.table().complex_property()
-}
-
-impl<'data, I: Cursor> LineEvents<'data, I> {
-    /// The same events once more, from the same place on. Takes no memory.
-    pub fn fork(&self) -> Self
-        ensures { result ≡ self.now }
-    {
-        LineEvents {
-            pairs: self.pairs,
-            here: self.here.fork(),
-            next: self.next,
-            rest: self.rest.fork(),
-        }
-    }
 }

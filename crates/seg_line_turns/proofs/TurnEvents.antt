@@ -12,8 +12,8 @@ use Rattle.seg_line_turns.specs.declared.turn_units.Left.{Left}
 use Rattle.seg_line_rules.specs.declared.plain_pairs.ClassedItem.{ClassedItem}
 use Rattle.seg_line_turns.specs.declared.turn_units.TurnOutcome.{TurnOutcome}
 use Rattle.seg_line_turns.specs.declared.turn_units.TurnOutcome.TheVariants.{Break, Go, Run}
-use Rattle.seg_line_rules.specs.LineEvents.{text_from, HasClass, IsItemAhead}
-use Rattle.seg_line_turns.specs.TurnEvents.{UnreadTurns, GoesOnTurns, unread_turns, after_cuts}
+use Rattle.seg_line_rules.specs.LineEvents.{GoesOn, text_from, HasClass, IsItemAhead}
+use Rattle.seg_line_turns.specs.TurnEvents.{UnreadTurns, turns_unread, unread_turns, after_cuts}
 use Rattle.seg_line_turns.specs.TurnBoundaries.{has_none, turn_stretch_of, turn_stretch, later_turns}
 use Rattle.seg_line_turns.specs.TurnPlaces.{item_place, placed, left_seen, FindsFrom}
 use Rattle.seg_line_turns.specs.Turns.{Turn, turn, first_unit}
@@ -132,13 +132,13 @@ module _ (rules : TableRules Seventeen) where
     pub leads : (cuts : Cuts) → let left = rest_after first here in let run = text_before (extent left) left in
         AreCutsOf (length run.items) (cuts (code_points run.items))
         → unread cuts starts opened here
-        ≡ with_status 0 (cut_places cuts run) ++ unread cuts false (after && has_none (cut_places cuts run)) (rest_after (extent left - 1) left)
+        ≡ with_status 0 (cut_places cuts run) ++ unread cuts false (has_none (cut_places cuts run) && after) (rest_after (extent left - 1) left)
 
   run-leads : (cuts : Cuts) (here : Text) (first : ℕ) (after : Bool) → let left = rest_after first here in let run = text_before (extent left) left in
       let s = turn_stretch_of cuts rules (code_points here.items) (RunAt first after) in
       AreCutsOf (length run.items) (cuts (code_points run.items))
       → map (boundary_in here) s.boundaries ++ unread cuts false s.opened (rest_after s.extent here)
-      ≡ with_status 0 (cut_places cuts run) ++ unread cuts false (after && has_none (cut_places cuts run)) (rest_after (extent left - 1) left)
+      ≡ with_status 0 (cut_places cuts run) ++ unread cuts false (has_none (cut_places cuts run) && after) (rest_after (extent left - 1) left)
   run-leads cuts here first after are =
       let left : Text = rest_after first here in
       let n : ℕ = extent left in
@@ -152,10 +152,10 @@ module _ (rules : TableRules Seventeen) where
       let none : has_none cut ≡ has_none (cut_places cuts run) = ap has_none inner ∙ sym (has_none-map (λ cut. start_of (rest_after cut run)) (cuts (code_points run.items))) in
       let rest : rest_after (first + (n - 1)) here ≡ rest_after (n - 1) left = ap (λ (items : List Item). record { items = items; end = here.end }) (sym (drop-drop (n - 1) first here.items)) in
       ap (λ (xs : List ℕ). map (boundary_in here) (shift_all first (with_status 0 (cuts (take (complex_length rules xs) xs))))
-      ++ unread cuts false (after && has_none (cuts (take (complex_length rules xs) xs))) (rest_after (first + (complex_length rules xs - 1)) here)) points
-      ∙ ap (λ (bs : List Boundary). bs ++ unread cuts false (after && has_none cut) (rest_after (first + (n - 1)) here)) places
-      ∙ ap (λ b. with_status 0 (cut_places cuts run) ++ unread cuts false (after && b) (rest_after (first + (n - 1)) here)) none
-      ∙ ap (λ (text : Text). with_status 0 (cut_places cuts run) ++ unread cuts false (after && has_none (cut_places cuts run)) text) rest
+      ++ unread cuts false (has_none (cuts (take (complex_length rules xs) xs)) && after) (rest_after (first + (complex_length rules xs - 1)) here)) points
+      ∙ ap (λ (bs : List Boundary). bs ++ unread cuts false (has_none cut && after) (rest_after (first + (n - 1)) here)) places
+      ∙ ap (λ b. with_status 0 (cut_places cuts run) ++ unread cuts false (b && after) (rest_after (first + (n - 1)) here)) none
+      ∙ ap (λ (text : Text). with_status 0 (cut_places cuts run) ++ unread cuts false (has_none (cut_places cuts run) && after) text) rest
 
   pub to-run : (starts opened : Bool) (here : Text) (found : Turn) (place : ℕ) (after : Bool) → TurnsTo starts opened here found
       → Run place after ≡ placed here found → ToRun starts opened here place after
@@ -172,7 +172,7 @@ module _ (rules : TableRules Seventeen) where
         fewer = omega (arith, two, most, long, length-drop at here.items, length-drop (extent left - 1) left.items);
         leads = λ cuts are.
             turns.leads cuts ∙ run-leads cuts here at wide are
-            ∙ ap (λ b. let run = text_before (extent left) left in with_status 0 (cut_places cuts run) ++ unread cuts false (b && has_none (cut_places cuts run)) (rest_after (extent left - 1) left))
+            ∙ ap (λ b. let run = text_before (extent left) left in with_status 0 (cut_places cuts run) ++ unread cuts false (has_none (cut_places cuts run) && b) (rest_after (extent left - 1) left))
             (sym (ap (λ (both : ℕ × Bool). both.1) both));
       }
   to-run starts opened here (BreakAt place resume) at after turns is = cc
@@ -233,12 +233,12 @@ first-of text rules here next one rest copy is ahead same =
 
 -- nothing is left
 pub ends-here : (rules : TableRules Seventeen) (starts opened : Bool) (here : Text) → here.items ≡ []
-    → GoesOnTurns (unread_by rules starts opened here) (unread_by rules starts opened here)
-ends-here rules starts opened here none = record { rules = refl; end = refl; fewer = λ some. absurd (some none) }
+    → GoesOn (turns_unread (unread_by rules starts opened here)) (turns_unread (unread_by rules starts opened here))
+ends-here rules starts opened here none = record { end = refl; fewer = λ some. absurd (some none) }
 
 pub goes-on : (rules : TableRules Seventeen) (starts opened wide : Bool) (here after : Text) (n : ℕ) → after ≡ rest_after n here → length (drop n here.items) < length here.items
-    → GoesOnTurns (unread_by rules starts opened here) (unread_by rules false wide after)
-goes-on rules starts opened wide here after n is fewer = rw is (record { rules = refl; end = refl; fewer = λ some. fewer })
+    → GoesOn (turns_unread (unread_by rules starts opened here)) (turns_unread (unread_by rules false wide after))
+goes-on rules starts opened wide here after n is fewer = rw is (record { end = refl; fewer = λ some. fewer })
 
 pub break-leads : (rules : TableRules Seventeen) (starts opened : Bool) (here after : Text) (place resume : ℕ) → (b : ToBreak rules starts opened here place resume) → after ≡ rest_after b.taken here
     → (cuts : Cuts) → unread_turns cuts (unread_by rules starts opened here) ≡ boundary place 0 ∷ unread_turns cuts (unread_by rules false false after)
@@ -255,6 +255,6 @@ pub run-leads-to : (rules : TableRules Seventeen) (starts opened wide : Bool) (h
 run-leads-to rules starts opened wide here left run after place r left_is run_is is = rw (is, run_is, left_is) r.leads
 
 pub run-goes : (rules : TableRules Seventeen) (starts opened wide : Bool) (here left after : Text) (place : ℕ) (r : ToRun rules starts opened here place wide) → left ≡ rest_after r.first here
-    → after ≡ rest_after (prefix_length (is_complex rules) left - 1) left → GoesOnTurns (unread_by rules starts opened here) (unread_by rules false wide after)
+    → after ≡ rest_after (prefix_length (is_complex rules) left - 1) left → GoesOn (turns_unread (unread_by rules starts opened here)) (turns_unread (unread_by rules false wide after))
 run-goes rules starts opened wide here left after place r left_is is =
-    rw (is, left_is) (record { rules = refl; end = refl; fewer = λ some. r.fewer })
+    rw (is, left_is) (record { end = refl; fewer = λ some. r.fewer })

@@ -48,7 +48,7 @@ turn_stretch_of cuts rules code_points (RunAt first opened) =
     record {
       extent = first + (complex_length rules (drop first code_points) - 1);
       boundaries = shift_all first (with_status 0 inside);
-      opened = opened && has_none inside;
+      opened = has_none inside && opened;
     }
 
 -- the first turn of some code points, of which the first starts the text or not

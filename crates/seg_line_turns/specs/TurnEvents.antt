@@ -1,18 +1,16 @@
 -- A text whose lines are found turn by turn: what is read ahead, what comes next, and what is left.
-use Rattle.std.specs.Prelude.{Option, ◌≡◌, ◌≢◌, ◌<◌, ◌≤◌, ◌&&◌, ℕ, Bool, true, false, if◌then◌else◌, Some, None, List, [], ◌∷◌, ◌++◌, length, ◌||◌, not}
-use Rattle.seg_text.specs.Items.{Text, code_points, start_of, rest_after}
+use Rattle.std.specs.Prelude.{◌≡◌, ◌&&◌, ℕ, Bool, true, false, if◌then◌else◌, List, [], ◌∷◌, ◌||◌, not}
+use Rattle.seg_text.specs.Items.{Text, rest_after}
 use Rattle.seg_text.specs.declared.boundary.Boundary.{Boundary}
-use Rattle.seg_text.specs.Boundaries.{Remainder, boundary, boundaries_in, Cuts, AreCutsOf, with_status, cut_places}
+use Rattle.seg_text.specs.Boundaries.{boundary, boundaries_in, Cuts}
 use Rattle.seg_pair_data.specs.declared.provider.pairs.BreakState.{BreakState}
 use Rattle.seg_pair_data.specs.declared.provider.pairs.BreakState.TheVariants as entries
 use Rattle.seg_pair_data.specs.PairTable.{PairTable, entry_of}
 use Rattle.seg_line_rules.specs.declared.plain_pairs.ClassedItem.{ClassedItem}
-use Rattle.seg_line_rules.specs.LineEvents.{text_from, HasClass}
+use Rattle.seg_line_rules.specs.LineEvents.{text_from, HasClass, Unread}
 use Rattle.seg_line_rules.specs.LineRules.{TableRules, is_one_of, is_complex_context}
 use Rattle.seg_line_rules.specs.declared.plain_pairs.PlainPair.{PlainPair}
 use Rattle.seg_line_rules.specs.declared.plain_pairs.PlainPair.TheVariants as plain
-use Rattle.seg_line_turns.specs.declared.turn_events.TurnEvent.{TurnEvent}
-use Rattle.seg_line_turns.specs.declared.turn_events.TurnEvent.TheVariants.{End, Go, Break, Run}
 use Rattle.seg_line_turns.specs.TurnBoundaries.{later_turns, has_none}
 use Rattle.seg_line_rules.specs.LineClasses.LineClass.{CM, CM_EASTASIAN, HH, HY, IS, QU_PF, SA, SA_MC_MN, SP, ZWJ}
 use Rattle.seg_line_turns.specs.TurnClasses.{is_before_hyphen, is_before_quote, is_glue, is_hyphen, is_infix, is_opening, is_quote, is_space}
@@ -35,43 +33,14 @@ unread_turns cuts unread = boundaries_in (later_turns cuts unread.rules unread.s
 
 -- the same text, where these boundaries are found before it
 abbrev pub after_cuts : List ℕ → UnreadTurns → UnreadTurns
-after_cuts places unread = record unread { opened = unread.opened && has_none places }
+after_cuts places unread = record unread { opened = has_none places && unread.opened }
 
--- what comes next, however runs are cut: the end, nothing, a boundary, or a run with its cuts
-abbrev pub LeadsToTurns : {I : Type 0} → (I → Text) → UnreadTurns → TurnEvent I → UnreadTurns → Type 0
-LeadsToTurns text before End after = (before.text.items ≡ []) × (after ≡ before)
-LeadsToTurns text before Go after = (before.text.items ≢ []) × ((cuts : Cuts) → unread_turns cuts before ≡ unread_turns cuts after)
-LeadsToTurns text before (Break place) after =
-    (cuts : Cuts) → unread_turns cuts before ≡ boundary place 0 ∷ unread_turns cuts after
-LeadsToTurns text before (Run run end) after =
-    (before.text.items ≢ []) × (end ≡ (text run).end)
-    × ((cuts : Cuts) → AreCutsOf (length (text run).items) (cuts (code_points (text run).items))
-    → unread_turns cuts before ≡ with_status 0 (cut_places cuts (text run)) ++ unread_turns cuts (after_cuts (cut_places cuts (text run)) after))
-
--- the text goes on by the same rules, and less of it is left
-pub record GoesOnTurns (before after : UnreadTurns) : Type 0 where
-  pub rules : after.rules ≡ before.rules
-  pub end : after.text.end ≡ before.text.end
-  pub fewer : before.text.items ≢ [] → length after.text.items < length before.text.items
-
--- plain turns lead to a boundary, or to none
-abbrev pub LeadsToTurnBreak : UnreadTurns → Option ℕ → UnreadTurns → Type 0
-LeadsToTurnBreak before (Some place) after = (cuts : Cuts) → unread_turns cuts before ≡ boundary place 0 ∷ unread_turns cuts after
-LeadsToTurnBreak before None after =
-    ((cuts : Cuts) → unread_turns cuts before ≡ unread_turns cuts after) × (length after.text.items ≤ length before.text.items)
+abbrev pub turns_unread : UnreadTurns → Unread
+turns_unread unread = record { text = unread.text; later = λ cuts run. unread_turns cuts (after_cuts run unread) }
 
 -- a text that nothing was read of
 abbrev pub whole_text : TableRules Seventeen → Text → UnreadTurns
 whole_text rules text = record { rules = rules; starts = true; opened = false; text = text }
-
--- the boundary at the start, where it isn't given yet, the cuts that are left of a run, and then the boundaries of what isn't read
-abbrev pub turn_remainder : Cuts → Bool → List ℕ → UnreadTurns → Remainder
-turn_remainder cuts started run unread = record {
-  left = if started
-      then with_status 0 run ++ unread_turns cuts (after_cuts run unread)
-      else boundary (start_of unread.text) 0 ∷ (with_status 0 run ++ unread_turns cuts (after_cuts run unread));
-  status = 0;
-}
 
 -- Pairs of classes between which the table alone decides, and the turns by them.
 

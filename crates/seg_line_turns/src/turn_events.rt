@@ -4,7 +4,7 @@ ghost use Rattle.std.specs.Prelude.{◌≡◌, ◌-◌, false, []};
 ghost use Rattle.seg_text.specs.Items.{prefix_length, rest_after, start_of, text_before};
 ghost use Rattle.seg_line_rules.specs.LineEvents.{HasClass, IsItemAhead};
 ghost use Rattle.seg_line_rules.specs.LineRules.{is_complex};
-ghost use Rattle.seg_line_turns.specs.TurnEvents.{GoesOnTurns, LeadsToTurnBreak, LeadsToTurns, whole_text};
+ghost use Rattle.seg_line_turns.specs.TurnEvents.{whole_text};
 ghost use Rattle.seg_line_turns.specs.TurnBoundaries.{turn_rules_by};
 
 use crate::classes::is_complex;
@@ -12,24 +12,11 @@ use crate::plain_turns::plain_turns;
 use crate::turn_pairs::TurnPairs;
 use crate::turn_units::TurnOutcome;
 use crate::turns::{first_unit, turn};
-use seg_line_rules::events::take_run;
+use seg_line_rules::events::{LineEvent, LineSource, take_run};
 use seg_line_rules::plain_pairs::{ClassedItem, asks_more};
 use seg_text::cursor::Cursor;
 use seg_text::prefixes::CodePointTest;
 use std::marker::Model;
-
-/// What comes next of a text.
-#[derive(Debug, Drop)]
-pub enum TurnEvent<I: Cursor> {
-    /// Its end.
-    End,
-    /// A turn that finds no boundary.
-    Go,
-    /// A boundary at this place.
-    Break(usize),
-    /// A run of complex items, as a text whose places are those of the whole, and the place where it ends.
-    Run(I, usize),
-}
 
 /// Which code points are complex.
 #[derive(Clone, Copy, Debug)]
@@ -92,33 +79,27 @@ impl<'data, I: Cursor> TurnEvents<'data, I> {
             opened: false,
         }
     }
+}
 
-    /// Where the text that is left begins.
-    pub fn place(&self) -> usize
-        ensures { result ≡ start_of self.now.text }
-    {
+impl<'data, I: Cursor> LineSource<I> for TurnEvents<'data, I> {
+    ghost use Rattle.seg_line_turns.specs.TurnEvents.{turns_unread};
+
+    ghost unread = { turns_unread };
+
+    fn place(&self) -> usize {
         self.here.place()
     }
 
-    /// A text of its own in which nothing is left, at the place where the text that is left begins.
-    pub fn nothing(&self) -> I
-        ensures { I.text result ≡ record { items = []; end = start_of self.now.text } }
-    {
+    fn nothing(&self) -> I {
         self.here.up_to(self.here.place())
     }
 
-    /// Notes a boundary before the text that is left.
-    pub fn note_boundary(&mut self)
-        ensures { self.new ≡ record self.old { opened = false } }
-    {
+    fn note_cut(&mut self) {
         self.opened = false;
     }
 
-    /// The next boundary, where turns by classes and pairs alone come to it. Where they don't, they are passed: what comes then is an event.
     #[inline(always)]
-    pub fn plain_break(&mut self) -> Option<usize>
-        ensures leads { LeadsToTurnBreak self.old result self.new }
-    {
+    fn plain_break(&mut self) -> Option<usize> {
         let Some(next) = self.next else {
             return None;
         };
@@ -139,14 +120,10 @@ impl<'data, I: Cursor> TurnEvents<'data, I> {
         Some(passed.next.place)
     }
 
-    /// What comes next. After the end it is the end for ever.
     #[inline(never)]
-    pub fn next_event(&mut self) -> TurnEvent<I>
-        ensures leads { LeadsToTurns I.text self.old result self.new }
-        ensures goes { GoesOnTurns self.old self.new }
-    {
+    fn next_event(&mut self) -> LineEvent<I> {
         let Some(next) = self.next else {
-            return TurnEvent::End;
+            return LineEvent::End;
         };
         let first = first_unit(self.pairs, self.starts, next);
         self.starts = false;
@@ -156,14 +133,14 @@ impl<'data, I: Cursor> TurnEvents<'data, I> {
                 self.here.seek(resume);
                 self.rest = self.here.fork();
                 self.next = next_classed(self.pairs, &mut self.rest);
-                TurnEvent::Break(place)
+                LineEvent::Break(place)
             }
             TurnOutcome::Go(place, opened) => {
                 self.opened = opened;
                 self.here.seek(place);
                 self.rest = self.here.fork();
                 self.next = next_classed(self.pairs, &mut self.rest);
-                TurnEvent::Go
+                LineEvent::Go
             }
             TurnOutcome::Run(place, opened) => {
                 self.opened = opened;
@@ -171,8 +148,19 @@ impl<'data, I: Cursor> TurnEvents<'data, I> {
                 let (run, end) = complex_run(self.pairs, &mut self.here);
                 self.rest = self.here.fork();
                 self.next = next_classed(self.pairs, &mut self.rest);
-                TurnEvent::Run(run, end)
+                LineEvent::Run(run, end)
             }
+        }
+    }
+
+    fn fork(&self) -> Self {
+        TurnEvents {
+            pairs: self.pairs,
+            here: self.here.fork(),
+            next: self.next,
+            rest: self.rest.fork(),
+            starts: self.starts,
+            opened: self.opened,
         }
     }
 }
@@ -199,20 +187,4 @@ fn next_classed<I: Cursor>(pairs: TurnPairs<'_>, rest: &mut I) -> Option<Classed
         code_point,
         place,
     })
-}
-
-impl<'data, I: Cursor> TurnEvents<'data, I> {
-    /// The same events once more, from the same place on. Takes no memory.
-    pub fn fork(&self) -> Self
-        ensures { result ≡ self.now }
-    {
-        TurnEvents {
-            pairs: self.pairs,
-            here: self.here.fork(),
-            next: self.next,
-            rest: self.rest.fork(),
-            starts: self.starts,
-            opened: self.opened,
-        }
-    }
 }

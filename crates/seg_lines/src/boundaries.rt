@@ -15,8 +15,10 @@ use crate::neo_lines::JoinedBoundaries;
 use crate::unmarked::UnmarkedBoundaries;
 use seg_clusters::engine::{self, Engine};
 use seg_complex::complex::ComplexPayloadsBorrowed;
-use seg_line_rules::boundaries::ClassicLines;
-use seg_line_turns::boundaries::TurnLines;
+use seg_line_rules::boundaries::{TableLines, classic_lines};
+use seg_line_rules::events::LineEvents;
+use seg_line_turns::boundaries::turn_lines;
+use seg_line_turns::turn_events::TurnEvents;
 use seg_machine::tailored_machine::TailoredMachineBorrowed;
 use seg_text::cursor::Cursor;
 use seg_text::reach::{BoundarySource, HintedBoundaries};
@@ -24,15 +26,15 @@ use seg_text::reach::{BoundarySource, HintedBoundaries};
 /// The boundaries of lines in a text, as places.
 #[derive(Debug, Drop)]
 pub(crate) enum LineBoundaries<'data, I: Cursor> {
-    /// That of clusters, or of a machine where no script has words.
+    /// Those of clusters, or of a machine where no script has words.
     Plain(engine::Boundaries<'data, I>),
-    /// That of clusters, without their statuses.
+    /// Those of clusters, without their statuses.
     Unmarked(UnmarkedBoundaries<'data, I>),
-    /// That of a pair table.
-    Classic(ClassicLines<'data, I>),
-    /// That of a pair table of the engine 17.
-    Turns(TurnLines<'data, I>),
-    /// That of a machine, joined with the cuts inside runs.
+    /// Those of a pair table.
+    Classic(TableLines<'data, I, LineEvents<'data, I>>),
+    /// Those of a pair table of the engine 17.
+    Turns(TableLines<'data, I, TurnEvents<'data, I>>),
+    /// Those of a machine, joined with the cuts inside runs.
     Joined(JoinedBoundaries<'data, I>),
 }
 
@@ -48,10 +50,8 @@ impl<'data, I: Cursor> LineBoundaries<'data, I> {
             Finder::Places => LineBoundaries::Unmarked(UnmarkedBoundaries::new(
                 payloads.clusters.boundaries(text),
             )),
-            Finder::Table(pairs) => {
-                LineBoundaries::Classic(ClassicLines::new(pairs, payloads, text))
-            }
-            Finder::Turns(pairs) => LineBoundaries::Turns(TurnLines::new(pairs, payloads, text)),
+            Finder::Table(pairs) => LineBoundaries::Classic(classic_lines(pairs, payloads, text)),
+            Finder::Turns(pairs) => LineBoundaries::Turns(turn_lines(pairs, payloads, text)),
             Finder::Machine(machine) => LineBoundaries::by_machine(machine, payloads, text),
         }
     }

@@ -22,11 +22,11 @@ use seg_text::reach::{BoundarySource, HintedBoundaries};
 /// The boundaries of words in a text, as places.
 #[derive(Debug, Drop)]
 pub(crate) enum WordBoundaries<'data, I: Cursor> {
-    /// That of a pair table.
+    /// Those of a pair table.
     Classic(ClassicBoundaries<'data, I>),
-    /// That of a state machine.
+    /// Those of a state machine.
     Neo(RuleBreakIterator<'data, I>),
-    /// That of a state machine, and dictionaries.
+    /// Those of a state machine, and dictionaries.
     NeoWithWords(NeoBoundaries<'data, I>),
 }
 

@@ -1,20 +1,21 @@
 use Rattle.std.proofs.Common.{Some, refl, ◌∙◌}
 use Rattle.seg_pairs.specs.Elements.{onto}
 use Rattle.seg_line_rules.specs.LineBoundaries.{rules_by}
-use Rattle.seg_line_rules.proofs.LineEvents.{break-of, run-of, place-after, ahead-here, ahead-none, break-leads, run-leads, goes-on, run-goes}
-use Rattle.seg_line_rules.proofs.events.LineEvents.next_event.Goals as goal
+use Rattle.seg_line_rules.proofs.LineEvents.{break-of, run-of, place-after, ahead-here, ahead-none, break-leads, run-leads, goes-on, run-goes, not-empty}
+use Rattle.seg_line_rules.proofs.LinesLeft.{nothing-unread}
+use Rattle.seg_line_rules.proofs.events.LineEventsLineSource.next_event.Goals as goal
 
 pub returns-in_default-clause-leads : goal.returns-in_default-clause-leads
 returns-in_default-clause-leads g c =
     let s = c.self.inside in
     let none = ahead-none (rules_by s.pairs) (g.I.Cursor.text s.here) s.next _ c.in_default.is c.self.invariant in
-    rw (← c.self.view_is) (none, refl)
+    rw (← c.self.view_is) (none, (refl, λ cuts. nothing-unread cuts (record { rules = rules_by s.pairs; text = g.I.Cursor.text s.here }) none))
 
 pub returns-in_default-clause-goes : goal.returns-in_default-clause-goes
 returns-in_default-clause-goes g c =
     let s = c.self.inside in
     let none = ahead-none (rules_by s.pairs) (g.I.Cursor.text s.here) s.next _ c.in_default.is c.self.invariant in
-    rw (← c.self.view_is) (record { rules = refl; end = refl; fewer = λ some. absurd (some none) })
+    rw (← c.self.view_is) (record { end = refl; fewer = λ some. absurd (some none) })
 
 pub seek-requires : goal.seek-requires
 seek-requires g c =
@@ -55,6 +56,7 @@ returns-clause-leads g c =
     let text = g.I.Cursor.text s.here in
     let r = run-of (rules_by s.pairs) text (Some c.first_units-units.result.0) c.first_units-units.result.0 c.first_units-units.result.1.left c.in-Run.first c.in-Run._second c.next_break.new.rest.left refl a.same c.in-Run.ensures.ends in
     rw (← c.self.view_is) (
+      not-empty (rules_by s.pairs) text s.next c.in-Some.first _ c.in-Some.is c.self.invariant,
       c.complex_run-run.ensures.end,
       run-leads (rules_by s.pairs) text (g.I.Cursor.text c.seek-in-Run.new.self) (g.I.Cursor.text c.complex_run-run.result.0) (g.I.Cursor.text c.complex_run-run.new.rest) _ r
           (c.seek-in-Run.ensures r.gone r.here) c.complex_run-run.ensures.run c.complex_run-run.ensures.rest,

@@ -2,12 +2,12 @@ use Rattle.std.proofs.Common.{ap, ◌∙◌}
 use Rattle.seg_complex.specs.Payloads.{payloads_of, run_cuts_by}
 use Rattle.seg_line_rules.specs.LineBoundaries.{inside}
 use Rattle.seg_line_rules.specs.LineEvents.{line_remainder}
-use Rattle.seg_line_rules.proofs.boundaries.ClassicLines.fork.Goals as goal
+use Rattle.seg_line_rules.proofs.boundaries.TableLines.fork.Goals as goal
 
 pub returns : goal.returns
 returns g c =
     let s = c.self.inside in
     let cut = inside (run_cuts_by (payloads_of s.payloads)) in
-    ap (λ events. line_remainder cut s.started c.fork-2.result events) c.fork.ensures
-    ∙ ap (λ run. line_remainder cut s.started run s.events) c.fork-2.ensures
+    ap (λ source. line_remainder cut s.started c.fork-2.result (g.S.LineSource.unread source)) c.fork.ensures
+    ∙ ap (λ run. line_remainder cut s.started run (g.S.LineSource.unread s.source)) c.fork-2.ensures
     ∙ c.self.view_is

@@ -1,7 +1,8 @@
 use Rattle.std.proofs.Common.{refl}
 use Rattle.seg_line_turns.specs.TurnBoundaries.{turn_rules_by}
-use Rattle.seg_line_turns.proofs.TurnEvents.{break-leads, break-of, ahead-none, ends-here, first-of, go-leads, go-of, goes-on, not-empty, run-goes, run-leads-to, run-of}
-use Rattle.seg_line_turns.proofs.turn_events.TurnEvents.next_event.Goals as goal
+use Rattle.seg_line_turns.proofs.TurnEvents.{break-leads, break-of, ahead-none, ends-here, first-of, go-leads, go-of, goes-on, not-empty, run-goes, run-leads-to, run-of, unread_by}
+use Rattle.seg_line_turns.proofs.TurnsLeft.{nothing-unread}
+use Rattle.seg_line_turns.proofs.turn_events.TurnEventsLineSource.next_event.Goals as goal
 
 pub seek-requires : goal.seek-requires
 seek-requires g c =
@@ -108,7 +109,9 @@ returns-in-Run-clause-goes g c =
 pub returns-in_default-clause-leads : goal.returns-in_default-clause-leads
 returns-in_default-clause-leads g c =
     let s = c.self.inside in
-    rw (← c.self.view_is) (ahead-none (turn_rules_by s.pairs) (g.I.Cursor.text s.here) s.next _ c.in_default.is c.self.invariant, refl)
+    let rules = turn_rules_by s.pairs in
+    let none = ahead-none rules (g.I.Cursor.text s.here) s.next _ c.in_default.is c.self.invariant in
+    rw (← c.self.view_is) (none, (refl, λ cuts. nothing-unread cuts (unread_by rules s.starts s.opened (g.I.Cursor.text s.here)) none))
 
 pub returns-in_default-clause-goes : goal.returns-in_default-clause-goes
 returns-in_default-clause-goes g c =
