@@ -1,14 +1,14 @@
 -- The bench pair table of lines has no fault.
 use Rattle.std.proofs.Common.{◌≡◌, ℕ, inl, inr, true, [], ◌∷◌, ◌==◌, ◌||◌, refl, arith}
-use Rattle.icu_segmenter.specs.LineClasses.{number}
-use Rattle.icu_segmenter.specs.LineClasses.LineEngine.{Classic}
-use Rattle.icu_segmenter.specs.LineClasses.LineClass.{BA, BK, CJ, CR, EX, HY, ID, IN, LF, NL, NS, SP, ZW}
-use Rattle.icu_segmenter.specs.LineRules.{HasLineTableFault, is_one_of}
 use Rattle.seg_data.specs.declared.provider.DataError.{DataError}
 use Rattle.seg_data.specs.declared.provider.DataError.TheVariants.{Memory, RangeOrder, RangePast10FFFF, TableSize, ClassOutOfRange, StateOutOfRange, StartRowKeeps, ComplexItems, ComplexBelow0100, ComplexClassNamed, StateCount, TransitionSize, TransitionOutOfRange, SymbolOutOfRange, TooManyLookaheads, LookaheadOutOfRange, EndCycle, Stalls, MissingTailoring}
 use Rattle.seg_data.specs.Faults.{IsFaultless, IsLowestFault}
 use Rattle.seg_pair_data.specs.PairData.{HasPairFault}
 use Rattle.seg_pair_data.specs.PairTable.{PairTable}
+use Rattle.icu_segmenter.specs.LineClasses.{number}
+use Rattle.icu_segmenter.specs.LineClasses.LineEngine.{Classic}
+use Rattle.icu_segmenter.specs.LineClasses.LineClass.{BA, BK, CJ, CR, EX, HY, ID, IN, LF, NL, NS, SP, ZW}
+use Rattle.icu_segmenter.specs.LineRules.{HasLineTableFault, is_one_of}
 use Rattle.bench.specs.LineTables.{line_entry, line_table}
 use Rattle.bench.specs.PairTables.{cluster_table}
 use Rattle.bench.proofs.PairFaults.{Passes, clusters-sound, faultless, names_below}

@@ -2,13 +2,13 @@
 
 ghost use Rattle.std.specs.Prelude.{◌≡◌, if◌then◌else◌, [], ◌∷◌, ◌++◌, IfOk, OnOk};
 ghost use Rattle.seg_pair_data.specs.declared.provider.pairs.BreakState.TheVariants.{Break, Keep};
-ghost use Rattle.bench.specs.LineTables.{line_entry, line_table};
-ghost use Rattle.bench.specs.PairTables.{cluster_table};
-ghost use Rattle.bench.specs.Rows.{row, rows};
 ghost use Rattle.icu_segmenter.specs.Faults.{IsFaultless};
 ghost use Rattle.icu_segmenter.specs.LineClasses.LineEngine.{Classic};
 ghost use Rattle.icu_segmenter.specs.LineClasses.LineClass.{BA, BK, CJ, CR, EX, HY, IN, LF, NL, NS, SP, ZW};
 ghost use Rattle.icu_segmenter.specs.LineRules.{HasLineTableFault, is_one_of};
+ghost use Rattle.bench.specs.LineTables.{line_entry, line_table};
+ghost use Rattle.bench.specs.PairTables.{cluster_table};
+ghost use Rattle.bench.specs.Rows.{row, rows};
 
 use icu_segmenter::provider::{BreakState, ClassTable, RuleBreakData};
 use std::alloc::{AllocError, Global};

@@ -1,14 +1,14 @@
 //! The bench pair table of lines of the engine 17.
 
 ghost use Rattle.std.specs.Prelude.{◌≡◌, [], ◌∷◌, ◌++◌, IfOk, OnOk};
-ghost use Rattle.bench.specs.PairTables.{cluster_table};
-ghost use Rattle.bench.specs.Rows.{row, rows};
-ghost use Rattle.bench.specs.TurnTables.{turn_entry, turn_table};
 ghost use Rattle.icu_segmenter.specs.Faults.{IsFaultless};
 ghost use Rattle.icu_segmenter.specs.LineRules.{is_one_of};
 ghost use Rattle.icu_segmenter.specs.LineClasses.LineEngine.{Seventeen};
 ghost use Rattle.icu_segmenter.specs.LineClasses.LineClass.{BA, BA_EASTASIAN, BK, CJ, CR, EX, EX_EASTASIAN, HY, ID, ID_EASTASIAN, IN, IN_EASTASIAN, LF, NL, NS, NS_EASTASIAN, SP, ZW};
 ghost use Rattle.icu_segmenter.specs.TurnRules.{HasTurnTableFault};
+ghost use Rattle.bench.specs.PairTables.{cluster_table};
+ghost use Rattle.bench.specs.Rows.{row, rows};
+ghost use Rattle.bench.specs.TurnTables.{turn_entry, turn_table};
 
 use crate::line_tables::keep_if;
 use icu_segmenter::provider::{BreakState, ClassTable, RuleBreakData};

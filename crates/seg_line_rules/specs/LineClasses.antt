@@ -123,7 +123,6 @@ number Classic XX = 52
 number Classic XX_EXTPICT = 52
 number Classic ZW = 53
 number Classic ZWJ = 54
-
 number Seventeen AI = 1
 number Seventeen AI_EASTASIAN = 2
 number Seventeen AL = 4

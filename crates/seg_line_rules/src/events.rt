@@ -3,8 +3,8 @@
 
 ghost use Rattle.std.specs.Prelude.{◌≡◌, ◌-◌, ℕ, List, Some, [], ◌∷◌};
 ghost use Rattle.seg_text.specs.Items.{prefix_length, rest_after, start_of, text_before};
-ghost use Rattle.seg_pairs.specs.Elements.{onto, place_at};
 ghost use Rattle.seg_text.specs.Boundaries.{Cuts};
+ghost use Rattle.seg_pairs.specs.Elements.{onto, place_at};
 ghost use Rattle.seg_line_rules.specs.LineEvents.{HasClass, IsItemAhead, text_from, AreUnitsAhead, LeadsTo, LeadsToBreak, GoesOn};
 ghost use Rattle.seg_line_rules.specs.LineBoundaries.{rules_by};
 ghost use Rattle.seg_line_rules.specs.LineRules.{is_complex};

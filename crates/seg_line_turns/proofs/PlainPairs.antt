@@ -12,20 +12,20 @@ use Rattle.seg_line_rules.specs.LineEvents.{asks_more, text_from, HasClass}
 use Rattle.seg_line_rules.specs.declared.plain_pairs.PlainPair.{PlainPair}
 use Rattle.seg_line_rules.specs.declared.plain_pairs.PlainPair.TheVariants as plain
 use Rattle.seg_line_rules.specs.declared.plain_pairs.ClassedItem.{ClassedItem}
-use Rattle.seg_line_turns.specs.TurnEvents.{IsPassedByTurns, entry_turn, going_text, is_asked, is_plain, is_unanswered, passed_turns, plain_turn, unread_turns}
-use Rattle.seg_line_turns.specs.TurnBoundaries.{later_turns, turn_stretch_of}
 use Rattle.seg_line_rules.specs.LineClasses.{number}
 use Rattle.seg_line_rules.specs.LineClasses.LineClass.{CM, CM_EASTASIAN, HH, HY, IS, QU_PF, SA, SA_MC_MN, SP, ZWJ}
+use Rattle.seg_line_rules.specs.LineClasses.LineEngine.{Seventeen}
+use Rattle.seg_line_rules.proofs.PlainPairs.{and-first, and-last, and-off, if-off, keeps-off, listed-off, not-true, said-break, said-go}
+use Rattle.seg_line_turns.specs.TurnEvents.{IsPassedByTurns, entry_turn, going_text, is_asked, is_plain, is_unanswered, passed_turns, plain_turn, unread_turns}
+use Rattle.seg_line_turns.specs.TurnBoundaries.{later_turns, turn_stretch_of}
 use Rattle.seg_line_turns.specs.TurnClasses.{is_before_hyphen, is_before_quote, is_glue, is_hyphen, is_infix, is_opening, is_quote, is_space}
 use Rattle.seg_line_turns.specs.TurnRules.{LeftUnit, is_joined, left_unit}
 use Rattle.seg_line_turns.specs.Turns.{Turn, class_turn, list_turn, right_turn, table_turn, turn}
 use Rattle.seg_line_turns.specs.Turns.Turn.{BreakAt, GoTo}
-use Rattle.seg_line_rules.proofs.PlainPairs.{and-first, and-last, and-off, if-off, keeps-off, listed-off, not-true, said-break, said-go}
 use Rattle.seg_line_turns.proofs.TurnEvents.{turn-next}
 use Rattle.seg_line_turns.proofs.TurnPlaces.{next-of}
 use Rattle.seg_line_turns.proofs.TurnReads.{turn-cons}
 use Rattle.seg_line_turns.proofs.TurnSets.{none-among}
-use Rattle.seg_line_rules.specs.LineClasses.LineEngine.{Seventeen}
 
 and-off-last : (a b : Bool) → b ≡ false → (a && b) ≡ false
 and-off-last true b off = off

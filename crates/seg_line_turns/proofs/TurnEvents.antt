@@ -8,11 +8,13 @@ use Rattle.seg_text.specs.Boundaries.{boundary, boundary_in, boundaries_in, shif
 use Rattle.seg_text.proofs.Places.{in-append, in-shift, code_points-drop}
 use Rattle.seg_pairs.proofs.Events.{cuts-placed}
 use Rattle.seg_line_rules.specs.LineRules.{TableRules, is_complex}
-use Rattle.seg_line_turns.specs.declared.turn_units.Left.{Left}
 use Rattle.seg_line_rules.specs.declared.plain_pairs.ClassedItem.{ClassedItem}
+use Rattle.seg_line_rules.specs.LineEvents.{GoesOn, text_from, HasClass, IsItemAhead}
+use Rattle.seg_line_rules.specs.LineBoundaries.{complex_length}
+use Rattle.seg_line_rules.specs.LineClasses.LineEngine.{Seventeen}
+use Rattle.seg_line_turns.specs.declared.turn_units.Left.{Left}
 use Rattle.seg_line_turns.specs.declared.turn_units.TurnOutcome.{TurnOutcome}
 use Rattle.seg_line_turns.specs.declared.turn_units.TurnOutcome.TheVariants.{Break, Go, Run}
-use Rattle.seg_line_rules.specs.LineEvents.{GoesOn, text_from, HasClass, IsItemAhead}
 use Rattle.seg_line_turns.specs.TurnEvents.{UnreadTurns, turns_unread, unread_turns, after_cuts}
 use Rattle.seg_line_turns.specs.TurnBoundaries.{has_none, turn_stretch_of, turn_stretch, later_turns}
 use Rattle.seg_line_turns.specs.TurnPlaces.{item_place, placed, left_seen, FindsFrom}
@@ -21,8 +23,6 @@ use Rattle.seg_line_turns.specs.Turns.Turn.{BreakAt, GoTo, RunAt}
 use Rattle.seg_line_turns.proofs.TurnForward.{IsTurnOf, first-forward}
 use Rattle.seg_line_turns.proofs.TurnPlaces.{next-of}
 use Rattle.seg_line_turns.proofs.TurnStretches.{turns-next}
-use Rattle.seg_line_rules.specs.LineBoundaries.{complex_length}
-use Rattle.seg_line_rules.specs.LineClasses.LineEngine.{Seventeen}
 
 module _ (rules : TableRules Seventeen) where
   abbrev unread : Cuts → (starts opened : Bool) → Text → List Boundary

@@ -11,10 +11,16 @@ use Rattle.seg_pair_data.specs.PairTable.{named_state, is_intermediate, IsPairTa
 use Rattle.seg_pair_data.proofs.Pairs.{class-below, class-table}
 use Rattle.seg_pairs.specs.Walk.{is_class}
 use Rattle.seg_line_rules.specs.LineRules.{TableRules, is_complex, is_complex_context, is_read_as_id, line_class}
-use Rattle.seg_line_rules.proofs.LineStretches.{StandInside}
-use Rattle.seg_line_turns.specs.TurnBoundaries.{run_of, turn_stretch_of, turn_stretch, later_turns, turn_boundaries, StartsBear}
 use Rattle.seg_line_rules.specs.LineClasses.{number}
 use Rattle.seg_line_rules.specs.LineClasses.LineClass.{ID}
+use Rattle.seg_line_rules.specs.LineBoundaries.{KeepsMarks}
+use Rattle.seg_line_rules.specs.LineUnits.{is_mark, is_glued, bears_none, is_joiner}
+use Rattle.seg_line_rules.specs.LineLists.{keeps, listed}
+use Rattle.seg_line_rules.specs.LineClasses.LineEngine.{Seventeen}
+use Rattle.seg_line_rules.proofs.LineStretches.{StandInside}
+use Rattle.seg_line_rules.proofs.MarkParts.{get-drop, Parts, AllPart, all-later, all-append, run-part, keeps-later}
+use Rattle.seg_line_rules.proofs.Marks.{mark-bears}
+use Rattle.seg_line_turns.specs.TurnBoundaries.{run_of, turn_stretch_of, turn_stretch, later_turns, turn_boundaries, StartsBear}
 use Rattle.seg_line_turns.specs.TurnClasses.{is_glue, is_complex_mark, is_letter, is_hyphen, is_start, is_before_quote, is_after_quote, is_before_hyphen, is_space, is_zero_space, is_infix, is_digit, is_quote, is_contingent}
 use Rattle.seg_line_turns.specs.TurnRules.{LeftUnit, with_item, is_joined, left_unit}
 use Rattle.seg_line_turns.specs.Turns.{comes, to_base, sticks, Turn, Walking, turn_unless, walk_end_turn, walk_back_turn, walk_stop_turn, walk_begin, WalkStep, walk_step, walk_by, walk_turn, table_turn, quote_turn, begins_marked, list_turn, right_turn, is_taken, opens, turn, start_unit, first_unit}
@@ -23,12 +29,6 @@ use Rattle.seg_line_turns.specs.Turns.WalkStep.{Stops, GoesOn}
 use Rattle.seg_line_turns.proofs.TurnForward.{IsTurnOf, StandsAt, stands-next, first-last, first-forward}
 use Rattle.seg_line_turns.proofs.TurnSets.{complex-bear, starts-bear, complex-apart, complex-is, glue-is, mark-apart}
 use Rattle.seg_line_turns.proofs.TurnStretches.{going, turns-nil, turns-next}
-use Rattle.seg_line_rules.specs.LineBoundaries.{KeepsMarks}
-use Rattle.seg_line_rules.specs.LineUnits.{is_mark, is_glued, bears_none, is_joiner}
-use Rattle.seg_line_rules.specs.LineLists.{keeps, listed}
-use Rattle.seg_line_rules.specs.LineClasses.LineEngine.{Seventeen}
-use Rattle.seg_line_rules.proofs.MarkParts.{get-drop, Parts, AllPart, all-later, all-append, run-part, keeps-later}
-use Rattle.seg_line_rules.proofs.Marks.{mark-bears}
 
 some-same : {X : Type 0} (x y : X) → Some x ≡ Some y → x ≡ y
 some-same x y is = ap (λ found. option_map_or (λ z. z) found x) is

@@ -3,6 +3,7 @@ use Rattle.std.proofs.Common.{◌≡◌, ℕ, suc, ◌||◌, Bool, true, false, 
 use Rattle.seg_text.specs.Items.{Item, Text, start_of, code_points}
 use Rattle.seg_pair_data.specs.PairTable.{entry_of}
 use Rattle.seg_line_rules.specs.LineRules.{TableRules, line_class}
+use Rattle.seg_line_rules.specs.LineClasses.LineEngine.{Seventeen}
 use Rattle.seg_line_turns.specs.declared.turn_units.Left.{Left}
 use Rattle.seg_line_turns.specs.declared.turn_units.TurnOutcome.{TurnOutcome}
 use Rattle.seg_line_turns.specs.declared.turn_units.TurnOutcome.TheVariants as found
@@ -15,7 +16,6 @@ use Rattle.seg_line_turns.specs.Turns.{Turn, Walking, WalkStep, walk_step, walk_
 use Rattle.seg_line_turns.specs.Turns.Turn.{BreakAt}
 use Rattle.seg_line_turns.specs.Turns.WalkStep.{Stops, GoesOn}
 use Rattle.seg_line_turns.proofs.TurnPlaces.{next-of, end-of}
-use Rattle.seg_line_rules.specs.LineClasses.LineEngine.{Seventeen}
 
 -- what this walk finds before what is left
 pub record IsWalking (rules : TableRules Seventeen) (whole : Text) (walker : Walker) (rest : Text) (found : Turn) : Type 0 where

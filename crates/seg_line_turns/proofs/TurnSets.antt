@@ -4,9 +4,9 @@ use Rattle.std.proofs.lemmas.Bool.{eqb-true}
 use Rattle.seg_line_rules.specs.LineRules.{is_among, is_one_of, is_complex_context}
 use Rattle.seg_line_rules.specs.LineClasses.{number}
 use Rattle.seg_line_rules.specs.LineClasses.LineClass.{BK, CM, CM_EASTASIAN, CR, HH, HY, LF, NL, QU, QU_PF, QU_PI, SA, SA_MC_MN, SP, ZW, ZWJ}
-use Rattle.seg_line_turns.specs.TurnClasses.{is_glue, is_complex_mark, is_start}
 use Rattle.seg_line_rules.specs.LineUnits.{is_mark, bears_none}
 use Rattle.seg_line_rules.specs.LineClasses.LineEngine.{Seventeen}
+use Rattle.seg_line_turns.specs.TurnClasses.{is_glue, is_complex_mark, is_start}
 
 abbrev pub Each : (ℕ → Bool) → List ℕ → Type 0
 Each test [] = Unit {0}

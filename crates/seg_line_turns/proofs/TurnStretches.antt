@@ -8,13 +8,13 @@ use Rattle.seg_text.specs.Boundaries.{RisesTo, IsCover, shift_all, start, Cuts, 
 use Rattle.seg_text.proofs.Places.{shifted-none, shifted-twice, shifted-append}
 use Rattle.seg_text.proofs.Covers.{rises-le}
 use Rattle.seg_line_rules.specs.LineRules.{TableRules, is_complex}
+use Rattle.seg_line_rules.specs.LineBoundaries.{complex_length}
+use Rattle.seg_line_rules.specs.LineClasses.LineEngine.{Seventeen}
 use Rattle.seg_line_rules.proofs.LineStretches.{StandInside}
 use Rattle.seg_line_turns.specs.TurnBoundaries.{TurnStretch, run_of, turn_stretch_of, turn_stretch, AreTurns, turns_within, later_turns, turn_boundaries, HasOneTurnList}
 use Rattle.seg_line_turns.specs.Turns.{Turn, turn, first_unit}
 use Rattle.seg_line_turns.specs.Turns.Turn.{BreakAt, GoTo, RunAt}
 use Rattle.seg_line_turns.proofs.TurnForward.{IsTurnOf, first-forward}
-use Rattle.seg_line_rules.specs.LineBoundaries.{complex_length}
-use Rattle.seg_line_rules.specs.LineClasses.LineEngine.{Seventeen}
 
 -- what a turn takes, whatever it finds of openings
 abbrev plain_stretch : TurnStretch → Stretch

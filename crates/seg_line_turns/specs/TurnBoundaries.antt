@@ -7,12 +7,12 @@ use Rattle.seg_pair_data.specs.declared.provider.pairs.BreakState.TheVariants.{I
 use Rattle.seg_pair_data.specs.PairTable.{PairTable, entry_of}
 use Rattle.seg_line_rules.specs.LineRules.{TableRules}
 use Rattle.seg_line_rules.specs.LineBoundaries.{inside, complex_length}
+use Rattle.seg_line_rules.specs.LineUnits.{bears_none}
+use Rattle.seg_line_rules.specs.LineClasses.LineEngine.{Seventeen}
 use Rattle.seg_line_turns.specs.declared.turn_pairs.TurnPairs.{TurnPairs}
 use Rattle.seg_line_turns.specs.declared.turn_pairs.OwnedTurnPairs.{OwnedTurnPairs}
 use Rattle.seg_line_turns.specs.Turns.{Turn, turn, first_unit}
 use Rattle.seg_line_turns.specs.Turns.Turn.{BreakAt, GoTo, RunAt}
-use Rattle.seg_line_rules.specs.LineUnits.{bears_none}
-use Rattle.seg_line_rules.specs.LineClasses.LineEngine.{Seventeen}
 
 -- What is seen of the data of lines of the engine 17.
 

@@ -6,6 +6,9 @@ use Rattle.seg_pair_data.specs.declared.provider.pairs.BreakState.{BreakState}
 use Rattle.seg_pair_data.specs.declared.provider.pairs.BreakState.TheVariants as entries
 use Rattle.seg_pair_data.specs.declared.provider.pairs.BreakState.TheVariants.{Keep, NoMatch, Intermediate, Index}
 use Rattle.seg_line_rules.specs.LineRules.{TableRules}
+use Rattle.seg_line_rules.specs.LineUnits.{is_joiner}
+use Rattle.seg_line_rules.specs.LineClasses.LineEngine.{Seventeen}
+use Rattle.seg_line_rules.specs.LineClasses.{number}
 use Rattle.seg_line_turns.specs.declared.bases.BaseAhead.{BaseAhead}
 use Rattle.seg_line_turns.specs.declared.turn_units.Left.{Left}
 use Rattle.seg_line_turns.specs.declared.turn_walk.Walker.{Walker}
@@ -18,9 +21,6 @@ use Rattle.seg_line_turns.specs.TurnRules.{LeftUnit}
 use Rattle.seg_line_turns.specs.Turns.{Turn, Walking, WalkStep, next_base, to_base}
 use Rattle.seg_line_turns.specs.Turns.Turn.{BreakAt, GoTo, RunAt}
 use Rattle.seg_line_turns.specs.Turns.WalkStep.{Stops, GoesOn}
-use Rattle.seg_line_rules.specs.LineUnits.{is_joiner}
-use Rattle.seg_line_rules.specs.LineClasses.LineEngine.{Seventeen}
-use Rattle.seg_line_rules.specs.LineClasses.{number}
 
 -- where the item with this number begins
 abbrev pub item_place : ℕ → Text → ℕ

@@ -1,8 +1,8 @@
 //! The left unit of a turn, and what a turn finds.
 ghost use Rattle.std.specs.Prelude.{◌≡◌};
-ghost use Rattle.seg_line_turns.specs.TurnPlaces.{outcome_unless};
 ghost use Rattle.seg_line_rules.specs.LineClasses.LineEngine.{Seventeen};
 ghost use Rattle.seg_line_rules.specs.LineUnits.{is_joiner};
+ghost use Rattle.seg_line_turns.specs.TurnPlaces.{outcome_unless};
 
 use seg_pair_data::provider::RuleBreakData;
 

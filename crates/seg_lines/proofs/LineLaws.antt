@@ -4,13 +4,14 @@ use Rattle.seg_text.specs.declared.boundary.Boundary.{Boundary}
 use Rattle.seg_text.specs.Boundaries.{RestartsIn, offsets, Cuts, with_status, HasOneAnswer, later_boundaries}
 use Rattle.seg_text.proofs.Restarts.{restarts, restarts-as}
 use Rattle.seg_text.proofs.Stretches.{later-are, later-only, one-answer}
+use Rattle.seg_data.specs.ScriptWords.{ScriptWords, AreSameWords, no_words}
 use Rattle.seg_machine.specs.MachineFaults.{IsChecked}
 use Rattle.seg_machine.specs.Machine.{Machine as AnyMachine}
 use Rattle.seg_machine.specs.Pick.{machine_boundaries, machine_stretch}
+use Rattle.seg_machine.specs.declared.tailored_machine.TailoredMachineBorrowed.{TailoredMachineBorrowed}
 use Rattle.seg_machine.proofs.Segmentations.{machine-alone, machine-going}
 use Rattle.seg_clusters.specs.Rules.{boundaries_by, first_stretch}
 use Rattle.seg_clusters.proofs.ByRules.{going, restarts-by}
-use Rattle.seg_data.specs.ScriptWords.{ScriptWords, AreSameWords, no_words}
 use Rattle.seg_complex.specs.Spans.{inner_cuts, inner_stretch}
 use Rattle.seg_complex.specs.Payloads.{Payloads, piece_cuts_by, run_cuts_by}
 use Rattle.seg_complex.specs.Scripts.{CoverPieces}
@@ -19,11 +20,13 @@ use Rattle.seg_complex.proofs.EqualWords.{same-run-cuts}
 use Rattle.seg_complex.proofs.SpanStretches.{span-some}
 use Rattle.seg_complex.proofs.UnwordedSpans.{inner-none}
 use Rattle.seg_line_rules.specs.declared.line_pairs.LinePairs.{LinePairs}
-use Rattle.seg_line_turns.specs.declared.turn_pairs.TurnPairs.{TurnPairs}
 use Rattle.seg_line_rules.specs.LineBoundaries.{inside, line_boundaries, line_stretch, rules_by, KeepsMarks}
 use Rattle.seg_line_rules.specs.LineRules.{TableRules}
+use Rattle.seg_line_rules.specs.LineLists.{keeps}
+use Rattle.seg_line_rules.specs.LineClasses.LineEngine.{Seventeen, Classic}
 use Rattle.seg_line_rules.proofs.LineRestarts.{line-restarts}
 use Rattle.seg_line_rules.proofs.LineStretches.{line-going}
+use Rattle.seg_line_turns.specs.declared.turn_pairs.TurnPairs.{TurnPairs}
 use Rattle.seg_line_turns.specs.TurnBoundaries.{turn_boundaries, StartsBear, turn_rules_by}
 use Rattle.seg_line_turns.proofs.TurnStretches.{one-list}
 use Rattle.seg_lines.specs.LineBreaks.{joined, AreBoundariesWith, HasOneList, LineFinder, LineRules, MayRestart, boundaries_with, line_boundaries_by, lines_with_words}
@@ -31,12 +34,9 @@ use Rattle.seg_lines.specs.LineBreaks.LineFinder.{ByClusters, ByPlaces, ByTable,
 use Rattle.seg_lines.specs.Lines.{finder_of}
 use Rattle.seg_lines.specs.declared.finder.Finder.{Finder}
 use Rattle.seg_lines.specs.declared.finder.Finder.TheVariants.{Clusters, Places, Table, Turns, Machine}
-use Rattle.seg_machine.specs.declared.tailored_machine.TailoredMachineBorrowed.{TailoredMachineBorrowed}
 use Rattle.seg_lines.proofs.JoinCover.{cuts-rising, plain-rising}
 use Rattle.seg_lines.proofs.JoinMembers.{is-join, one-join}
 use Rattle.seg_lines.proofs.PlainBoundaries.{restarts-plain}
-use Rattle.seg_line_rules.specs.LineLists.{keeps}
-use Rattle.seg_line_rules.specs.LineClasses.LineEngine.{Seventeen, Classic}
 
 -- by clusters
 

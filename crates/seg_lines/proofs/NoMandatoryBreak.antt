@@ -10,12 +10,12 @@ use Rattle.seg_clusters.specs.Rules.{boundaries_by}
 use Rattle.seg_complex.specs.Payloads.{Payloads, run_cuts_by}
 use Rattle.seg_line_rules.specs.LineBoundaries.{inside, line_stretch, line_stretch_of, line_verdict}
 use Rattle.seg_line_rules.specs.LineRules.{TableRules}
+use Rattle.seg_line_rules.specs.LineClasses.LineEngine.{Seventeen, Classic}
 use Rattle.seg_line_turns.specs.TurnBoundaries.{later_turns, turn_stretch_of, turn_stretch, turns_within}
 use Rattle.seg_line_turns.specs.Turns.{Turn, first_unit, turn}
 use Rattle.seg_line_turns.specs.Turns.Turn.{BreakAt, GoTo, RunAt}
 use Rattle.seg_lines.specs.LineBreaks.{LineFinder, boundaries_with, HasNoMandatoryBreak, IsByPairTable}
 use Rattle.seg_lines.specs.LineBreaks.LineFinder.{ByClusters, ByPlaces, ByTable, ByTurns, ByMachine}
-use Rattle.seg_line_rules.specs.LineClasses.LineEngine.{Seventeen, Classic}
 
 AreUnmarked : List Boundary → Type 0
 AreUnmarked [] = Unit {0}

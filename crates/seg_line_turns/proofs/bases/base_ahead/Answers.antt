@@ -1,9 +1,9 @@
 use Rattle.std.proofs.Common.{Some, refl, sym, ap, ◌∙◌}
+use Rattle.seg_line_rules.specs.LineUnits.{is_mark}
+use Rattle.seg_line_rules.specs.LineClasses.LineEngine.{Seventeen}
 use Rattle.seg_line_turns.specs.TurnBoundaries.{turn_rules_by}
 use Rattle.seg_line_turns.proofs.TurnPlaces.{looking-end, looking-found, looking-next}
 use Rattle.seg_line_turns.proofs.bases.base_ahead.Goals as goal
-use Rattle.seg_line_rules.specs.LineUnits.{is_mark}
-use Rattle.seg_line_rules.specs.LineClasses.LineEngine.{Seventeen}
 
 pub returns-in_default : goal.returns-in_default
 returns-in_default g c = looking-end (turn_rules_by c.args.pairs) (g.I.Cursor.text c.args.rest.now) _ _ _ c.loop-place.invariant.looking c.in_default.ensures.gives.0 refl refl

@@ -3,7 +3,6 @@ use Rattle.seg_line_turns.specs.declared.turn_units.TurnOutcome.TheVariants.{Bre
 use Rattle.seg_line_turns.specs.TurnPlaces.{item_place}
 use Rattle.seg_line_turns.proofs.TurnPlaces.{base-past}
 use Rattle.seg_line_turns.proofs.bases.break_to_base.Goals as goal
-use Rattle.seg_line_rules.specs.LineClasses.{number}
 
 pub returns : goal.returns
 returns g c = λ whole number here at.

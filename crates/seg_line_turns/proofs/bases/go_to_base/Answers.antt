@@ -2,7 +2,6 @@ use Rattle.std.proofs.Common.{ap}
 use Rattle.seg_line_turns.specs.declared.turn_units.TurnOutcome.TheVariants.{Go}
 use Rattle.seg_line_turns.proofs.TurnPlaces.{base-past}
 use Rattle.seg_line_turns.proofs.bases.go_to_base.Goals as goal
-use Rattle.seg_line_rules.specs.LineClasses.{number}
 
 pub returns : goal.returns
 returns g c = λ whole number at.

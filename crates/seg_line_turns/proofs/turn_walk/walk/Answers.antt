@@ -1,7 +1,6 @@
 use Rattle.seg_line_turns.specs.TurnBoundaries.{turn_rules_by}
 use Rattle.seg_line_turns.proofs.TurnReads.{walking-end, walking-goes, walking-stops}
 use Rattle.seg_line_turns.proofs.turn_walk.walk.Goals as goal
-use Rattle.seg_line_rules.specs.LineClasses.{number}
 
 pub returns-in_default : goal.returns-in_default
 returns-in_default g c = λ whole number saved at.

@@ -5,7 +5,6 @@ use Rattle.seg_line_turns.specs.TurnPlaces.{IsWalkAt, walker_seen}
 use Rattle.seg_line_turns.specs.Turns.{walk_turn}
 use Rattle.seg_line_turns.proofs.TurnReads.{IsWalking}
 use Rattle.seg_line_turns.proofs.turn_walk.walk.Given as goal
-use Rattle.seg_line_rules.specs.LineClasses.{number}
 
 abbrev pub invariant-loop-place : goal.invariant-loop-place
 invariant-loop-place g l = record {

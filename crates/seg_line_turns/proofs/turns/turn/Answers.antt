@@ -1,11 +1,11 @@
 use Rattle.std.proofs.Common.{◌≡◌, ◌||◌, ℕ, refl, ap, ◌∙◌}
+use Rattle.seg_line_rules.specs.LineRules.{line_class}
 use Rattle.seg_line_turns.specs.TurnBoundaries.{turn_rules_by}
 use Rattle.seg_line_turns.specs.TurnPlaces.{left_seen}
 use Rattle.seg_line_turns.specs.Turns.{opens, is_taken}
 use Rattle.seg_line_turns.proofs.TurnReads.{or-first, or-second, turning-end, turning-right, turning-taken}
 use Rattle.seg_line_turns.proofs.turns.turn.Goals as goal
 use Rattle.seg_line_turns.proofs.turns.turn.Goals.{then-opened, else-opened}
-use Rattle.seg_line_rules.specs.LineRules.{line_class}
 
 pub returns-in_default : goal.returns-in_default
 returns-in_default g c = λ whole last at.

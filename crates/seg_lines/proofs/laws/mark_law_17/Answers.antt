@@ -1,12 +1,12 @@
 use Rattle.std.proofs.Common.{sym, ap, ◌∙◌, subst}
 use Rattle.seg_complex.specs.Payloads.{payloads_of, run_cuts_by}
+use Rattle.seg_line_rules.specs.LineBoundaries.{KeepsMarks}
 use Rattle.seg_line_turns.specs.TurnBoundaries.{turn_rules_by}
 use Rattle.seg_lines.specs.declared.finder.Finder.{Finder}
 use Rattle.seg_lines.specs.LineBreaks.{boundaries_with}
 use Rattle.seg_lines.specs.Lines.{finder_of}
 use Rattle.seg_lines.proofs.LineLaws.{marks-by-turns, no-turns}
 use Rattle.seg_lines.proofs.laws.mark_law_17.Goals as goal
-use Rattle.seg_line_rules.specs.LineBoundaries.{KeepsMarks}
 
 pub returns-in-Turns : goal.returns-in-Turns
 returns-in-Turns c = λ rules is bear code_points.

@@ -1,6 +1,6 @@
 use Rattle.std.proofs.Common.{refl}
-use Rattle.seg_line_turns.proofs.turn_pairs.TurnPairs.class.Goals as goal
 use Rattle.seg_line_rules.specs.LineRules.{line_class}
+use Rattle.seg_line_turns.proofs.turn_pairs.TurnPairs.class.Goals as goal
 
 pub returns-clause-value : goal.returns-clause-value
 unfolding line_class
