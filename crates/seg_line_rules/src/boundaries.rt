@@ -16,16 +16,16 @@ use std::marker::Model;
 
 /// The boundaries of lines in a text, as places. No status of one is other than 0.
 #[derive(Debug, Drop)]
-pub struct TableLines<'data, I: Cursor, S: LineSource<I>> {
+pub struct TableLines<'data, S: LineSource> {
     // What isn't read yet.
     source: S,
     // What is left of the run that came last.
-    run: InsideCuts<'data, I>,
+    run: InsideCuts<'data, S::Text>,
     payloads: ComplexPayloadsBorrowed<'data>,
     started: bool,
 }
 
-impl<'data, I: Cursor, S: LineSource<I>> Model for TableLines<'data, I, S> {
+impl<'data, S: LineSource> Model for TableLines<'data, S> {
     ghost use Rattle.seg_text.specs.Boundaries.{Remainder};
     ghost use Rattle.seg_complex.specs.Payloads.{payloads_of, run_cuts_by};
     ghost use Rattle.seg_line_rules.specs.LineBoundaries.{inside};
@@ -36,7 +36,7 @@ impl<'data, I: Cursor, S: LineSource<I>> Model for TableLines<'data, I, S> {
     ghost view = { λ s. line_remainder (inside (run_cuts_by (payloads_of s.payloads))) s.started s.run (S.unread s.source) };
 }
 
-impl<'data, I: Cursor, S: LineSource<I>> TableLines<'data, I, S> {
+impl<'data, S: LineSource> TableLines<'data, S> {
     /// The boundaries of what is left of a text. Takes no memory.
     pub fn new(source: S, payloads: ComplexPayloadsBorrowed<'data>) -> Self
         ensures boundaries { result.left ≡ boundary (start_of (S.unread source).text) 0 ∷ (S.unread source).later (inside (run_cuts_by (payloads_of payloads.entry))) [] }
@@ -71,7 +71,7 @@ impl<'data, I: Cursor, S: LineSource<I>> TableLines<'data, I, S> {
     }
 }
 
-impl<'data, I: Cursor, S: LineSource<I>> Iterator for TableLines<'data, I, S> {
+impl<'data, S: LineSource> Iterator for TableLines<'data, S> {
     type Item = usize;
 
     ghost next_gives = { YieldsFirst offsets_left };
@@ -109,7 +109,7 @@ pub fn classic_lines<'data, I: Cursor>(
     pairs: LinePairs<'data>,
     payloads: ComplexPayloadsBorrowed<'data>,
     text: I,
-) -> TableLines<'data, I, LineEvents<'data, I>>
+) -> TableLines<'data, LineEvents<'data, I>>
     ensures boundaries { result.left ≡ table_line_boundaries_of (run_cuts_by (payloads_of payloads.entry)) (rules_by pairs.entry) (I.text text) }
     ensures cover { IsCover (start_of (I.text text)) (I.text text).end result.left }
     ensures status { result.status ≡ 0 }

@@ -33,8 +33,11 @@ pub enum LineEvent<I: Cursor> {
 }
 
 /// A text whose lines are found one after another, by either engine.
-pub trait LineSource<I: Cursor>: Drop {
+pub trait LineSource: Drop {
     ghost use Rattle.seg_line_rules.specs.LineEvents.{Unread};
+
+    /// A text in which runs stand.
+    type Text: Cursor;
 
     /// What isn't read yet.
     ghost unread: { Self → Unread };
@@ -44,8 +47,8 @@ pub trait LineSource<I: Cursor>: Drop {
         ensures { result ≡ start_of (unread self.now).text };
 
     /// A text of its own in which nothing is left, at the place where the text that is left begins.
-    fn nothing(&self) -> I
-        ensures { I.text result ≡ record { items = []; end = start_of (unread self.now).text } };
+    fn nothing(&self) -> Self::Text
+        ensures { Self.Text.text result ≡ record { items = []; end = start_of (unread self.now).text } };
 
     /// Notes a cut before the text that is left.
     fn note_cut(&mut self)
@@ -57,8 +60,8 @@ pub trait LineSource<I: Cursor>: Drop {
         ensures leads { LeadsToBreak (unread self.old) result (unread self.new) };
 
     /// What comes next. After the end it is the end for ever.
-    fn next_event(&mut self) -> LineEvent<I>
-        ensures leads { LeadsTo I.text (unread self.old) result (unread self.new) }
+    fn next_event(&mut self) -> LineEvent<Self::Text>
+        ensures leads { LeadsTo Self.Text.text (unread self.old) result (unread self.new) }
         ensures goes { GoesOn (unread self.old) (unread self.new) };
 
     /// The same text once more, from the same place on. Takes no memory.
@@ -105,8 +108,10 @@ impl<'data, I: Cursor> LineEvents<'data, I> {
     }
 }
 
-impl<'data, I: Cursor> LineSource<I> for LineEvents<'data, I> {
+impl<'data, I: Cursor> LineSource for LineEvents<'data, I> {
     ghost use Rattle.seg_line_rules.specs.LineEvents.{lines_unread};
+
+    type Text = I;
 
     ghost unread = { lines_unread };
 

@@ -16,7 +16,7 @@ pub fn turn_lines<'data, I: Cursor>(
     pairs: TurnPairs<'data>,
     payloads: ComplexPayloadsBorrowed<'data>,
     text: I,
-) -> TableLines<'data, I, TurnEvents<'data, I>>
+) -> TableLines<'data, TurnEvents<'data, I>>
     ensures boundaries { result.left ≡ turn_boundaries_of (run_cuts_by (payloads_of payloads.entry)) (turn_rules_by pairs.entry) (I.text text) }
     ensures cover { IsCover (start_of (I.text text)) (I.text text).end result.left }
     ensures status { result.status ≡ 0 }

@@ -81,8 +81,10 @@ impl<'data, I: Cursor> TurnEvents<'data, I> {
     }
 }
 
-impl<'data, I: Cursor> LineSource<I> for TurnEvents<'data, I> {
+impl<'data, I: Cursor> LineSource for TurnEvents<'data, I> {
     ghost use Rattle.seg_line_turns.specs.TurnEvents.{turns_unread};
+
+    type Text = I;
 
     ghost unread = { turns_unread };
 

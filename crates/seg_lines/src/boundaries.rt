@@ -31,9 +31,9 @@ pub(crate) enum LineBoundaries<'data, I: Cursor> {
     /// Those of clusters, without their statuses.
     Unmarked(UnmarkedBoundaries<'data, I>),
     /// Those of a pair table.
-    Classic(TableLines<'data, I, LineEvents<'data, I>>),
+    Classic(TableLines<'data, LineEvents<'data, I>>),
     /// Those of a pair table of the engine 17.
-    Turns(TableLines<'data, I, TurnEvents<'data, I>>),
+    Turns(TableLines<'data, TurnEvents<'data, I>>),
     /// Those of a machine, joined with the cuts inside runs.
     Joined(JoinedBoundaries<'data, I>),
 }

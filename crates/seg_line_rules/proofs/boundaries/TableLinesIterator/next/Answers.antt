@@ -32,6 +32,6 @@ loop-place-preserved g c =
     let before : Unread = g.S.LineSource.unread c.plain_break.new.self in
     let after : Unread = g.S.LineSource.unread c.next_event.new.self in record {
       started = c.loop-place.invariant.started;
-      left = run-next g.I.Cursor.text cuts before after _ _ _ _ c.in-Run.ensures.leads c.new.ensures
+      left = run-next g.S.Text.Cursor.text cuts before after _ _ _ _ c.in-Run.ensures.leads c.new.ensures
           (sym (c.in_default-plain_break.ensures.leads.0 (inside cuts)) ∙ none-of (first.later (inside cuts)) _ _ c.in_default.ensures.steps.0 c.loop-place.invariant.left);
     }
