@@ -5,7 +5,7 @@ use Rattle.ucd_breaks.specs.declared.SentenceBreak.{SentenceBreak}
 use Rattle.ucd_breaks.specs.declared.SentenceBreak.TheVariants.{Cr, Lf, Lower, Sep}
 use Rattle.unicode_segmentation.specs.declared.sentence.context.Context.{Context}
 use Rattle.unicode_segmentation.specs.Sentence.{is_a_term, is_cased, is_close, is_ignored, is_numeric, is_para_sep, is_s_continue, is_sa_term, is_sp, is_upper}
-use Rattle.unicode_segmentation.specs.SentenceContext.{breaks_by_context, context_step}
+use Rattle.unicode_segmentation.specs.SentenceContext.{context_step}
 
 -- values that the rules on pairs tell apart on their left
 abbrev pub group_of : SentenceBreak → ℕ
@@ -56,9 +56,6 @@ verdict known right lower_ahead =
 pub known-after : (value : SentenceBreak) (context : Context) → known_of (context_step context value) ≡ known_after value (known_of context)
 known-after Lower context = refl
 known-after _ context = refl
-
-pub verdict-known : (context : Context) (right : SentenceBreak) (lower_ahead : Bool) → breaks_by_context context right lower_ahead ≡ verdict (known_of context) right lower_ahead
-verdict-known context right lower_ahead = refl
 
 abbrev nothing : Known
 nothing = (false, false, false, false, false, false, false)

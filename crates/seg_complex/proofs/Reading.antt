@@ -5,9 +5,8 @@ use Rattle.std.specs.Option.{option_map}
 use Rattle.std.proofs.lemmas.Bool.{eq-eqb, ne_eqb, cases_lt, le-leb, lt-leb, leb-true}
 use Rattle.std.proofs.lemmas.List.{drop-drop, length-drop, length-map}
 use Rattle.std.proofs.Math.Dec.{eqb-suc-zero}
-use Rattle.seg_text.specs.declared.boundary.Boundary.{Boundary}
-use Rattle.seg_text.specs.Items.{Item, Text, place_of, start_of, code_points, IsRising}
-use Rattle.seg_text.specs.Boundaries.{IsCover, boundaries_in, offsets}
+use Rattle.seg_text.specs.Items.{Item, Text, place_of, code_points, IsRising}
+use Rattle.seg_text.specs.Boundaries.{boundaries_in, offsets}
 use Rattle.seg_text.proofs.Places.{IsRising-drop, place_of-drop-lt}
 use Rattle.seg_data.specs.WordSets.{Words, tails_after, tails, has_empty, has_nonempty}
 use Rattle.seg_complex.specs.DictionaryCuts.{Clusters, is_word, goes_on, is_end, end_from, longest_word, read_from, read_all, first_cut}
@@ -330,7 +329,3 @@ not_at_end-some items b is more none = let e : false ≡ nat_eq 0 0 = sym more �
 pub ends-at : (clusters : Clusters) (text : Text) (left : List ℕ) → left ≡ offsets (boundaries_in clusters text)
     → left ≡ map (at text.items text.end) (offsets (clusters (code_points text.items)))
 ends-at clusters text left is = is ∙ sym (places-offsets text (clusters (code_points text.items)))
-
-pub ends-some : (text : Text) (left : List Boundary) → IsCover (start_of text) text.end left → offsets left ≡ [] → ⊥
-ends-some text [] cover none = cover
-ends-some text (boundary ∷ left) cover none = cc

@@ -1,18 +1,17 @@
 -- Spans of a text by a machine: they take something, and what stands in one stands at the same places in the whole.
-use Rattle.std.proofs.Common.{◌≡◌, ℕ, ◌<◌, ◌≤◌, true, List, [], ◌∷◌, ◌++◌, length, map, take, drop, refl, ap, ◌∙◌, arith, eq-eqb}
-use Rattle.std.specs.Prelude.{Option, Some}
-use Rattle.std.proofs.lemmas.List.{length-drop, length-map, take-map}
+use Rattle.std.proofs.Common.{◌≡◌, ℕ, ◌<◌, ◌≤◌, true, List, [], ◌∷◌, ◌++◌, length, map, take, refl, ap, ◌∙◌, arith, eq-eqb}
+use Rattle.std.specs.Prelude.{Option}
+use Rattle.std.proofs.lemmas.List.{take-map}
 use Rattle.std.proofs.lemmas.List.Sums.{prefix_len-le-length}
 use Rattle.seg_text.specs.declared.boundary.Boundary.{Boundary}
 use Rattle.seg_text.specs.Items.{Item, Text, rest_after, text_before, code_points}
 use Rattle.seg_text.specs.Boundaries.{boundary_in, boundaries_in, Stretch, HasProgress, later_boundaries}
 use Rattle.seg_text.proofs.Places.{place-before}
 use Rattle.seg_text.proofs.Stretches.{text-later-next}
-use Rattle.seg_data.specs.declared.provider.dictionary.cursor.DictionaryCursor.{DictionaryCursor}
 use Rattle.seg_data.specs.ScriptWords.{ScriptWords}
 use Rattle.seg_data.specs.WordSets.{Words}
 use Rattle.seg_machine.specs.Machine.{Machine}
-use Rattle.seg_complex.specs.Spans.{GivesSpan, has_worded_script, span_length, span_words, worded_script}
+use Rattle.seg_complex.specs.Spans.{has_worded_script, span_length, span_words, worded_script}
 
 -- boundaries stay in a list of so many
 abbrev pub AreInside : ℕ → List Boundary → Type 0
@@ -34,17 +33,6 @@ span-some m words first rest =
 pub span-inside : (m : Machine) (words : ScriptWords) (code_points : List ℕ) → span_length m words code_points ≤ length code_points
 span-inside m words [] = omega arith
 span-inside m words (first ∷ rest) = prefix_len-le-length (has_worded_script m words (worded_script m words first)) (first ∷ rest)
-
--- less is left after one
-pub span-fewer : {I : Type 0} (m : Machine) (words : ScriptWords) (text : I → Text) (before after : Text) (span : I × Option DictionaryCursor)
-    → GivesSpan m words text before (Some span) after → length after.items < length before.items
-span-fewer m words text before after span gives =
-    let n = span_length m words (code_points before.items) in
-    let inside = span-inside m words (code_points before.items) in
-    rw (gives.3) (drop-fewer n before.items gives.0 (rw (length-map before.items (λ (item : Item). item.1)) at inside))
-  where
-    drop-fewer : (n : ℕ) (items : List Item) → 0 < n → n ≤ length items → length (drop n items) < length items
-    drop-fewer n items some inside = rw (length-drop n items) (omega (arith, some, inside))
 
 -- what finds boundaries in a span, given the words of its script
 abbrev pub InSpan : Type 0

@@ -40,8 +40,5 @@ any-unmap f P (x ∷ xs) any =
 pub any-contained : {X : Type 0} (P : X → Type 0) (xs : List X) (x : X) → Contains xs x → P x → Any P xs
 any-contained P xs x there p = (there.0, x, there.1, there.2, p)
 
-pub contained-any : {X : Type 0} (P : X → Type 0) (xs : List X) → Any P xs → (x : X) × Contains xs x × P x
-contained-any P xs any = (any.1, (any.0, any.2, any.3), any.4)
-
 pub contained-same : {X : Type 0} (xs : List X) (x : X) → Any (λ y. y ≡ x) xs → Contains xs x
 contained-same xs x any = subst (Contains xs) any.4 (any.0, any.2, any.3)

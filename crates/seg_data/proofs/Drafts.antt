@@ -2,7 +2,7 @@
 use Rattle.std.proofs.Common.{◌≡◌, ℕ, ◌+◌, ◌-◌, ◌<◌, ◌≤◌, Bool, true, false, List, [], ◌∷◌, ◌++◌, length, map, get_or, take, drop, refl, sym, subst, ap, ◌∙◌, inl, inr, arith}
 use Rattle.std.proofs.lemmas.Bool.{cases_lt, false≢true}
 use Rattle.std.proofs.lemmas.List.{append-nil, append_assoc, length-append, length-drop, length_push, get_or_append_left, get_or-append_right, get_or_push, drop-append-le, take-append-le, drop_at, take_all, drop_more, drop_all}
-use Rattle.seg_data.specs.WordSets.{Words, IsInOrder}
+use Rattle.seg_data.specs.WordSets.{Words}
 use Rattle.seg_data.specs.Trie.{Trie, trie, edges_of, empty_word, words_along, words_from, AreEdgesRising, IsNode, IsTrie}
 use Rattle.seg_data.specs.Building.{word_at, letter, rests, rests_of, rests_at, IsRange, AreLonger, IsGroup, total, owed, left, AreAdded, IsBegun, IsDraft}
 use Rattle.seg_data.proofs.Along.{along-same, along-append}
@@ -150,27 +150,6 @@ added-more words depth begin first end next old_ranges ranges old_edges edges ra
   owes = owes-more words depth begin first end next (total (rests words depth begin (end - begin))) a.more longer a.begins group a.owes;
   some = λ _. omega (arith, length_push a.added (letter words depth first, length ranges));
   begins = omega (arith, a.begins, group.more);
-}
-
--- no node stands, and the root is known
-pub draft-start : (words : Words) → IsInOrder words → IsDraft words ((0, length words, 0) ∷ []) (trie [] (0 ∷ []) [])
-draft-start words sorted = record {
-  done = omega arith;
-  total = refl;
-  last = refl;
-  some = omega arith;
-  root = refl;
-  ranges_are = λ n within.
-      let e : n ≡ 0 = omega arith in
-      subst (λ i. IsRange words (get_or ((0, length words, 0) ∷ []) i (0, 0, 0))) (sym e) (record {
-        order = omega arith;
-        within = omega arith;
-        long = λ k low high. omega arith;
-        rises = λ j k low less high. sorted j k less high;
-      });
-  somes = λ n late within. absurd (omega arith);
-  nodes = λ n within. absurd (omega arith);
-  filled = λ n within. absurd (omega arith);
 }
 
 node-same : (count more : ℕ) (t u : Trie) (n : ℕ) → count ≤ more → get_or u.starts n 0 ≡ get_or t.starts n 0

@@ -1,26 +1,16 @@
 -- Pages of values.
-use Rattle.std.proofs.Common.{◌≡◌, ℕ, ◌+◌, ◌*◌, ◌/◌, ◌%◌, ◌<◌, ◌++◌, Bool, true, false, cond, List, [], ◌∷◌, length, get_or, set, ap, ◌∙◌, inl, inr, arith, get_or-set_same, get_or-set_other}
+use Rattle.std.proofs.Common.{◌≡◌, ℕ, ◌+◌, ◌*◌, ◌/◌, ◌%◌, ◌<◌, ◌++◌, Bool, true, false, cond, List, [], ◌∷◌, length, get_or, ap, ◌∙◌, inl, inr, arith}
 use Rattle.std.specs.Prelude.{Option, None, Some}
 use Rattle.std.proofs.Math.Nat.{mod-lt}
 use Rattle.std.proofs.Math.Seq.{get_or-append_seam}
-use Rattle.std.proofs.lemmas.Bool.{cases_eq, cases_lt}
+use Rattle.std.proofs.lemmas.Bool.{cases_lt}
 use Rattle.std.proofs.lemmas.Grind.{get_or_default_zero}
 use Rattle.std.proofs.lemmas.List.{get_or_append_left, length-append}
-use Rattle.std.proofs.lemmas.Nat.{div-add-mod'}
 use Rattle.seg_data.specs.Table.{ArePages, HasGrown, IsPageAt, IsPlain, Table, value_of}
 
 -- the values of the first code points stand each at its place
 abbrev pub AreFirst : Table → List ℕ → ℕ → Type 0
 AreFirst t values count = (code_point : ℕ) → code_point < count → get_or values code_point 0 ≡ value_of t code_point
-
--- one more
-pub first-set : (t : Table) (values : List ℕ) (count value : ℕ) → AreFirst t values count → count < length values → value ≡ value_of t count
-    → AreFirst t (set values count value) (count + 1)
-first-set t values count value stand room same code_point below =
-    elim (cases_eq code_point count) [
-      | inl here ↦ rw here (get_or-set_same values count value 0 room ∙ same)
-      | inr other ↦ get_or-set_other values count code_point value 0 other ∙ stand code_point (omega arith)
-    ]
 
 -- the value of a code point is where its page's block has it
 pub paged-within : (t : Table) (pages values : List ℕ) (code_point block : ℕ) → ArePages t pages values → code_point / 128 < length pages
@@ -28,14 +18,6 @@ pub paged-within : (t : Table) (pages values : List ℕ) (code_point block : ℕ
 paged-within t pages values code_point block stand within read =
     let number : block ≡ get_or pages (code_point / 128) 0 = read ∙ get_or_default_zero pages (code_point / 128) block within in
     rw number (stand (code_point / 128) within (code_point % 128) (mod-lt code_point (omega arith))).0
-
-pub paged-value : (t : Table) (pages values : List ℕ) (code_point block value : ℕ) → ArePages t pages values → code_point / 128 < length pages
-    → block ≡ get_or pages (code_point / 128) block → value ≡ get_or values (block * 128 + code_point % 128) value → value ≡ value_of t code_point
-paged-value t pages values code_point block value stand within read found =
-    let number : block ≡ get_or pages (code_point / 128) 0 = read ∙ get_or_default_zero pages (code_point / 128) block within in
-    let here = stand (code_point / 128) within (code_point % 128) (mod-lt code_point (omega arith)) in
-    found ∙ get_or_default_zero values (block * 128 + code_point % 128) value (paged-within t pages values code_point block stand within read)
-    ∙ ap (λ b. get_or values (b * 128 + code_point % 128) 0) number ∙ here.1 ∙ ap (value_of t) (div-add-mod' code_point 128)
 
 pub plain-grows : (old new : List ℕ) (plain : Option (ℕ × ℕ)) → HasGrown old new → IsPlain old plain → IsPlain new plain
 plain-grows old new None grown is = tt

@@ -1,12 +1,12 @@
 -- Ranges in order, and the value of the range that holds a code point.
-use Rattle.std.proofs.Common.{◌≡◌, ℕ, ◌+◌, ◌-◌, ◌<◌, ◌≤◌, ◌⊎◌, true, false, cond, leb, List, [], ◌∷◌, length, map, get_or, drop, Any, refl, ap, ◌∙◌, inl, inr, arith}
+use Rattle.std.proofs.Common.{◌≡◌, ℕ, ◌+◌, ◌-◌, ◌<◌, ◌≤◌, ◌⊎◌, true, false, cond, leb, List, [], ◌∷◌, length, map, get_or, drop, Any, ap, ◌∙◌, inl, inr, arith}
 use Rattle.std.specs.Prelude.{Some, slice_get, find}
 use Rattle.std.specs.Option.{option_map_or}
 use Rattle.std.proofs.lemmas.Bool.{cases_lt, le-leb, and_from}
-use Rattle.std.proofs.lemmas.List.{drop_more, drop_all}
+use Rattle.std.proofs.lemmas.List.{drop_more}
 use Rattle.std.proofs.lemmas.Option.{slice_get-get_or, slice_get_within, get_or_from_slice_get}
 use Rattle.seg_data.specs.Faults.{HasOverlap}
-use Rattle.seg_data.specs.Table.{Table, table, holds, value_of, named_values}
+use Rattle.seg_data.specs.Table.{Table, holds, value_of, named_values}
 use Rattle.seg_data.proofs.Anywhere.{any-head, any-tail, any-map, any-unmap, any-cases}
 
 pub overlaps-at : (ranges : List (ℕ × ℕ × ℕ)) (k : ℕ) → 1 ≤ k → k < length ranges
@@ -52,21 +52,6 @@ found-at ranges i code_point within low high =
     rw (drop_more ranges i (0, 0, 0) within)
     (ap (λ b. cond b (Some (get_or ranges i (0, 0, 0))) (find (holds code_point) (drop (i + 1) ranges)))
     (and_from (leb (get_or ranges i (0, 0, 0)).0 code_point) (leb code_point (get_or ranges i (0, 0, 0)).1) (le-leb _ _ low) (le-leb _ _ high)))
-
-pub found-value : (ranges items : List (ℕ × ℕ × ℕ)) (default i code_point : ℕ) → items ≡ ranges → i < length items
-    → find (holds code_point) items ≡ find (holds code_point) (drop i items)
-    → (get_or items i (0, 0, 0)).0 ≤ code_point → code_point ≤ (get_or items i (0, 0, 0)).1
-    → (get_or items i (0, 0, 0)).2 ≡ value_of (table ranges default) code_point
-unfolding value_of
-found-value ranges items default i code_point same within kept low high =
-    rw (← same) (rw (kept ∙ found-at items i code_point within low high) refl)
-
-pub default-value : (ranges items : List (ℕ × ℕ × ℕ)) (default i code_point : ℕ) → items ≡ ranges → length items ≤ i
-    → find (holds code_point) items ≡ find (holds code_point) (drop i items)
-    → default ≡ value_of (table ranges default) code_point
-unfolding value_of
-default-value ranges items default i code_point same past kept =
-    rw (← same) (rw (kept ∙ ap (find (holds code_point)) (drop_all i items past)) refl)
 
 -- a table's value is its default, or that of one of its ranges
 value-cases : (P : ℕ → Type 0) (code_point default : ℕ) (ranges : List (ℕ × ℕ × ℕ))

@@ -1,12 +1,11 @@
 -- The table of what is in the place of symbols, entry by entry.
-use Rattle.std.proofs.Common.{◌≡◌, ◌≢◌, ℕ, zero, suc, ◌+◌, ◌<◌, ◌≤◌, ◌==◌, ◌++◌, cond, List, [], ◌∷◌, length, map, replicate, take, drop, get_or, set, refl, sym, ap, ◌∙◌, subst, inl, inr, arith, eq-eqb, get_or-set_same, get_or-set_other}
-use Rattle.std.specs.Prelude.{All, Any, Contains}
+use Rattle.std.proofs.Common.{◌≡◌, ◌≢◌, ℕ, zero, suc, ◌+◌, ◌<◌, ◌==◌, ◌++◌, cond, List, [], ◌∷◌, length, map, replicate, take, drop, get_or, set, refl, sym, ap, ◌∙◌, subst, inl, inr, arith, eq-eqb, get_or-set_same, get_or-set_other}
+use Rattle.std.specs.Prelude.{All, Contains}
 use Rattle.std.proofs.lemmas.Bool.{cases_eq, ne_eqb, cond-false}
-use Rattle.std.proofs.lemmas.List.{get_or-replicate, length-set, length-replicate, map-append, append_assoc, take_more, take_all, take-append-drop}
-use Rattle.std.proofs.lemmas.List.Elements.{All-push, All-contains, Contains-append_left, Contains-append_right, Contains-push, Contains-push_cases}
+use Rattle.std.proofs.lemmas.List.{get_or-replicate, length-set, length-replicate, map-append, append_assoc, take_more, take-append-drop}
+use Rattle.std.proofs.lemmas.List.Elements.{All-push, Contains-append_left, Contains-append_right, Contains-push, Contains-push_cases}
 use Rattle.seg_data.specs.declared.provider.ComplexScript.{ComplexScript}
 use Rattle.seg_data.specs.declared.provider.ComplexScript.TheVariants.{None as NoScript}
-use Rattle.seg_data.proofs.Anywhere.{contained-any}
 use Rattle.seg_machine.specs.Machine.{Replacement, replaced, ArePlaced, placed_at}
 use Rattle.seg_machine.specs.MachineFaults.{HasTwice, NamesEnd}
 
@@ -129,11 +128,3 @@ placed-twice entries table index d placing within below some =
     split_at entries index d within =
         sym (take-append-drop (index + 1) entries) ∙ ap (λ (xs : List Replacement). xs ++ drop (index + 1) entries) (take_more entries index d within)
         ∙ append_assoc (take index entries) (get_or entries index d ∷ []) (drop (index + 1) entries)
-
-pub placing-all : (entries : List Replacement) (table : List (ℕ × ComplexScript)) (index : ℕ) → IsPlacing (take index entries) table → length entries ≤ index → IsPlacing entries table
-placing-all entries table index placing all = rw (← take_all index entries all) placing
-
-pub none-named : (entries : List Replacement) → All (λ entry. NamesEnd entry → ⊥) entries → Any NamesEnd entries → ⊥
-none-named entries none any =
-    let found = contained-any NamesEnd entries any in
-    All-contains (λ (entry : Replacement). NamesEnd entry → ⊥) entries found.0 none found.1 found.2

@@ -62,14 +62,6 @@ begins-none : (m : Machine) (state : ℕ) (left : Text) (symbol : ℕ) (rest : T
     → BeginsBy m state left symbol rest → step m state symbol ≡ None → future m state left ≡ []
 begins-none m state left symbol rest begins stops = begins ∙ rw stops refl
 
--- so fewer states are to come
-pub fewer-to-come : (m : Machine) (state : ℕ) (left : Text) (symbol : ℕ) (rest : Text) (next : ℕ)
-    → BeginsBy m state left symbol rest → step m state symbol ≡ Some next
-    → length (future m next rest) < length (future m state left)
-fewer-to-come m state left symbol rest next begins leads =
-    let e : length (future m state left) ≡ suc (length (future m next rest)) = ap length (begins-some m state left symbol rest next begins leads) in
-    omega arith
-
 -- a choice, seen as places
 either-placed : (text : Text) (f g : Option Boundary) → option_map (boundary_in text) (option_or f g) ≡ option_or (option_map (boundary_in text) f) (option_map (boundary_in text) g)
 either-placed text None g = refl

@@ -90,9 +90,6 @@ reached-next m q kept symbol next after met text leads some within small = recor
 
 -- more marks
 
-pub growth-none : (marks : List ℕ) (kept : ℕ) → IsGrowth marks marks kept
-growth-none marks kept = record { keeps = λ pair marked. marked; above = λ pair marked less. marked }
-
 pub growth-then : (before marks after : List ℕ) (kept : ℕ) → IsGrowth before marks kept → IsGrowth marks after kept → IsGrowth before after kept
 growth-then before marks after kept first second = record {
   keeps = λ pair marked. second.keeps pair (first.keeps pair marked);

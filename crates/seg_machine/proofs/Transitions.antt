@@ -1,9 +1,8 @@
 -- A machine's steps, and its transitions.
-use Rattle.std.proofs.Common.{◌≡◌, ◌≢◌, ℕ, suc, ◌+◌, ◌*◌, ◌/◌, ◌<◌, ◌≤◌, ◌==◌, List, length, get_or, Any, refl, subst, inl, inr, arith, eq-eqb}
+use Rattle.std.proofs.Common.{◌≡◌, ◌≢◌, ℕ, suc, ◌+◌, ◌*◌, ◌/◌, ◌<◌, ◌≤◌, ◌==◌, List, length, Any, refl, subst, inl, inr, arith, eq-eqb}
 use Rattle.std.specs.Prelude.{Option, Some, None, IfSome, slice_index}
 use Rattle.std.proofs.lemmas.Bool.{cases_lt, cases_eq, cond-true, cond-false, ne_eqb}
 use Rattle.std.proofs.lemmas.Nat.{mul-le}
-use Rattle.std.proofs.lemmas.List.{get_or_read_under}
 use Rattle.seg_data.proofs.Anywhere.{any-at}
 use Rattle.seg_machine.specs.Machine.{Machine, step, symbol_count}
 
@@ -18,17 +17,6 @@ pub place-of : (m : Machine) (state symbol : ℕ) → state < length m.states �
     → state + symbol * length m.states < length m.transitions
 unfolding symbol_count
 place-of m state symbol here below = place-within (length m.transitions) (length m.states) state symbol here below
-
-pub index-within : (m : Machine) (state symbol states transitions : ℕ) → states ≡ length m.states → transitions ≡ length m.transitions
-    → state < length m.states → symbol < symbol_count m → state + symbol * states < transitions
-index-within m state symbol states transitions same all here below = rw (same, all) (place-of m state symbol here below)
-
--- what the transitions' index gives
-pub next-read : (m : Machine) (state symbol states transitions next : ℕ) → states ≡ length m.states → transitions ≡ length m.transitions
-    → state < length m.states → symbol < symbol_count m → next ≡ get_or m.transitions (state + symbol * states) next
-    → next ≡ slice_index m.transitions (state + symbol * length m.states)
-next-read m state symbol states transitions next same all here below read =
-    rw (← same) (get_or_read_under m.transitions (state + symbol * states) transitions next 0 read (index-within m state symbol states transitions same all here below) all)
 
 pub step-none : (m : Machine) (state symbol next : ℕ) → next ≡ slice_index m.transitions (state + symbol * length m.states)
     → next ≡ 255 → step m state symbol ≡ None

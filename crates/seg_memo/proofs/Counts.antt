@@ -1,5 +1,5 @@
 -- Counts of numbers that pass a test, and the numbers of lists of configurations.
-use Rattle.std.proofs.Common.{◌≡◌, ◌≢◌, ℕ, zero, suc, ◌+◌, ◌<◌, ◌≤◌, ◌==◌, ◌||◌, ◌⊎◌, Bool, true, false, cond, List, [], ◌∷◌, ◌++◌, length, set, refl, sym, ap, ◌∙◌, subst, arith, inl, inr, eq-eqb}
+use Rattle.std.proofs.Common.{◌≡◌, ◌≢◌, ℕ, zero, suc, ◌+◌, ◌<◌, ◌≤◌, ◌==◌, ◌||◌, ◌⊎◌, Bool, true, false, cond, List, [], ◌∷◌, ◌++◌, length, set, refl, sym, ap, ◌∙◌, subst, arith, inl, inr}
 use Rattle.std.proofs.lemmas.Bool.{cases_eq, ne_eqb, false≢true}
 use Rattle.std.proofs.lemmas.List.{length-set, get_or-set_same, get_or-set_other}
 use Rattle.seg_memo.specs.declared.configuration.Configuration.{Configuration}
@@ -107,15 +107,6 @@ eqb-true a b is =
     elim (cases_eq a b) [
       | inl same ↦ same
       | inr other ↦ absurd (false≢true (sym (ne_eqb a b other) ∙ is))
-    ]
-
-pub has-on : (s : Subject) (c : Configuration) (cs : List Configuration) → IsOn c cs → has_number s (number s c) cs ≡ true
-has-on s c [] on = absurd on
-has-on s c (d ∷ cs) on =
-    has-cons s (number s c) d cs
-    ∙ elim on [
-      | inl is ↦ or-left (number s d == number s c) (has_number s (number s c) cs) (eq-eqb (number s d) (number s c) (ap (number s) (sym is)))
-      | inr rest ↦ or-right (number s d == number s c) (has_number s (number s c) cs) (has-on s c cs rest)
     ]
 
 abbrev pub AreWithin : Subject → List Configuration → Type 0

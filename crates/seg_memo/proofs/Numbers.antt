@@ -37,12 +37,6 @@ number-is s g c fit = rw (fit.states, fit.sets) refl
 pub number-fits : (s : Subject) (g : Grid) (c : Configuration) → IsFit s g → IsConfigurationOf s c → (c.place * g.sets + c.kept) * g.states + c.state < 2 ^ 64
 number-fits s g c fit within = omega (arith, number-is s g c fit, number-below s c within, fit.sound.room)
 
-pub sets-fit : (s : Subject) (g : Grid) (c : Configuration) → IsFit s g → IsConfigurationOf s c → c.place * g.sets + c.kept < 2 ^ 64
-sets-fit s g c fit within =
-    let some : 0 < g.states = rw fit.states fit.sound.checked.some_state in
-    let more : (c.place * g.sets + c.kept) * 1 ≤ (c.place * g.sets + c.kept) * g.states = mul-le (c.place * g.sets + c.kept) 1 (c.place * g.sets + c.kept) g.states (omega arith) (omega (arith, some)) in
-    omega (arith, more, number-fits s g c fit within)
-
 pub number-in : (s : Subject) (g : Grid) (c : Configuration) → IsFit s g → IsConfigurationOf s c → number s c < length g.cells
 number-in s g c fit within = omega (arith, number-below s c within, fit.size)
 

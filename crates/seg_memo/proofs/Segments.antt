@@ -109,10 +109,6 @@ segment-memo s m states transitions g place o items b scanned read here some seg
           ∙ has-append s i (look_ups s (start_at place)) (all_look_ups s scanned.starts));
     }
 
--- going on item by item
-pub skip-start : (text : Text) (place : ℕ) → text ≡ rest_after (place - place) text
-skip-start text place = let none : place - place ≡ 0 = omega arith in rw none refl
-
 pub skip-next : (text left after : Text) (start i : ℕ) → start ≤ i → left ≡ rest_after (i - start) text → after ≡ rest_after 1 left → after ≡ rest_after (i + 1 - start) text
 skip-next text left after start i past l a =
     a ∙ ap (rest_after 1) l ∙ after-after 1 (i - start) text ∙ ap (λ (n : ℕ). rest_after n text) (omega (arith, past))

@@ -1,6 +1,6 @@
 -- The way of a scan, forward over the cells and back.
 use Rattle.std.proofs.Common.{◌≡◌, ℕ, suc, ◌+◌, ◌-◌, ◌<◌, ◌≤◌, ◌==◌, ◌||◌, Bool, true, false, Some, None, List, [], ◌∷◌, if◌then◌else◌, length, min, set, refl, sym, ap, ◌∙◌, subst, arith, inl, inr, eq-eqb}
-use Rattle.std.proofs.lemmas.Bool.{cases_eq, eqb-true, eqb-false, ne_eqb, false≢true}
+use Rattle.std.proofs.lemmas.Bool.{cases_eq, eqb-true, eqb-false, ne_eqb}
 use Rattle.std.proofs.lemmas.List.{length-set, get_or-set_same, get_or-set_other}
 use Rattle.seg_text.specs.declared.boundary.Boundary.{Boundary}
 use Rattle.seg_machine.specs.Machine.{state_at}
@@ -265,11 +265,6 @@ count-next s g place counted after here next w leads inside none count read =
     omega (arith, count, read, more)
 
 -- the scan's last look-up
-
-or-nil : (a b : Bool) (p : Bool) → b ≡ false → ((a || b) || p) ≡ (a || p)
-or-nil true b p is = refl
-or-nil false true p is = absurd (false≢true (sym is))
-or-nil false false p is = refl
 
 pub or-move : (a b : Bool) → (a || b) ≡ (b || (a || false))
 or-move true true = refl

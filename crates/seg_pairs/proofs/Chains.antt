@@ -90,9 +90,6 @@ pub record IsOnChain {X : Type 0} (v : List X → Verdict) (whole : List X) (x :
   pub passed : (chain v whole).0 ≡ gone + (chain v (x ∷ xs)).0
   pub last : (chain v whole).1 ≡ (chain v (x ∷ xs)).1
 
-pub on_chain-start : {X : Type 0} (v : List X → Verdict) (x : X) (xs : List X) → IsOnChain v (x ∷ xs) x xs
-on_chain-start v x xs = record { gone = 0; here = refl; passed = omega arith; last = refl }
-
 pub on_chain-go : {X : Type 0} (v : List X → Verdict) (whole : List X) (x next : X) (xs after : List X) (n : ℕ) → IsForward v → IsOnChain v whole x xs
     → v (x ∷ xs) ≡ GoAfter n → drop n (x ∷ xs) ≡ next ∷ after → IsOnChain v whole next after
 on_chain-go v whole x next xs after n forward on goes is =

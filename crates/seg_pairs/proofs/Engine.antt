@@ -1,5 +1,5 @@
 -- What an engine gives, call by call.
-use Rattle.std.proofs.Common.{◌≡◌, ◌≢◌, ℕ, zero, suc, ◌+◌, ◌<◌, inl, inr, Bool, true, false, Option, Some, None, List, [], ◌∷◌, length, map, drop, refl, sym, ap, ◌∙◌, subst, arith}
+use Rattle.std.proofs.Common.{◌≡◌, ◌≢◌, ℕ, zero, suc, ◌+◌, ◌<◌, inl, inr, Bool, true, Option, Some, None, List, [], ◌∷◌, length, map, drop, refl, sym, ap, ◌∙◌, subst, arith}
 use Rattle.std.specs.Prelude.{⊤, IfSome}
 use Rattle.std.specs.Iterator.{YieldsFirst, MakesProgress, item_count}
 use Rattle.std.proofs.lemmas.List.{drop-map, length-map}
@@ -177,10 +177,6 @@ gives : (before after : Remainder) (place : ℕ) → before.left ≡ boundary pl
 gives before after place is =
     let steps : offsets_left before ≡ place ∷ offsets_left after = ap offsets is in
     record { steps = (steps, is); goes = fewer-left offsets_left before after place steps }
-
-pub gives-start : (t : PairTable) (elements : List Element) (end class place : ℕ) (started : Bool) → started ≡ false → class ≡ 0 → place ≡ place_at elements end
-    → Gives (Left started t elements end class) (Left true t elements end class) place
-gives-start t elements end class place started off none is = gives _ _ place (rw (off, none, is, class-start elements end) refl)
 
 pub rest-is : (next : Option Element) (rest whole : List Element) → IsRest next rest whole → onto next rest ≡ whole
 rest-is None rest whole (none, empty) = empty ∙ sym none

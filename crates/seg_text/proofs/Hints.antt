@@ -1,18 +1,17 @@
 -- How many boundaries and items are left.
-use Rattle.std.proofs.Common.{◌≡◌, ℕ, suc, ◌+◌, ◌-◌, ◌<◌, ◌≤◌, Bool, true, false, List, [], ◌∷◌, length, refl, arith}
+use Rattle.std.proofs.Common.{◌≡◌, ℕ, suc, ◌+◌, ◌-◌, ◌≤◌, Bool, true, false, List, [], ◌∷◌, length, refl, arith}
 use Rattle.std.proofs.lemmas.List.{length-map}
 use Rattle.std.specs.Prelude.{Option, None, Some, IfSome, min}
 use Rattle.std.specs.Option.{SomeIff}
 use Rattle.std.specs.Iterator.{UpTo, item_count}
 use Rattle.std.specs.Iterator.SizeHint.{IsWithinCount}
 use Rattle.seg_text.specs.declared.boundary.Boundary.{Boundary}
-use Rattle.seg_text.specs.Boundaries.{Remainder, RisesTo, GivesNext, boundary, offsets_left, AreLeft, AreAhead, Stretch, IsWithin, remainder}
+use Rattle.seg_text.specs.Boundaries.{Remainder, RisesTo, offsets_left, AreLeft, Stretch, IsWithin, remainder}
 use Rattle.seg_text.specs.Items.{Item, Text, IsRising, place_of, start_of}
 use Rattle.seg_text.specs.Lemmas.Encodings.{IsEncoding, text-rises}
 use Rattle.seg_text.specs.Decoding.{read_utf8, utf8_items}
 use Rattle.seg_text.specs.Lemmas.Readers.{items_by-cons, place_of-items_by}
 use Rattle.seg_text.specs.Lemmas.Rising.{read_utf8-reader, utf8_items-rises}
-use Rattle.seg_text.specs.declared.reach.Reach.{Reach}
 use Rattle.seg_text.proofs.Covers.{covers}
 use Rattle.seg_text.proofs.Encodings.{start-at}
 
@@ -21,19 +20,10 @@ pub rising-few : (boundaries : List Boundary) (from end : ℕ) → RisesTo from 
 rising-few [] from end rises = omega (arith, rises)
 rising-few (first ∷ boundaries) from end rises = omega (arith, rises.0, rising-few boundaries first.offset end rises.1)
 
--- and one or more, where there are units
-pub rising-some : (boundaries : List Boundary) (from end : ℕ) → RisesTo from boundaries end → from < end → 0 < length boundaries
-rising-some [] from end rises before = absurd (omega (arith, rises))
-rising-some (first ∷ boundaries) from end rises before = omega arith
-
 -- so are items
 pub items-few : (items : List Item) (end : ℕ) → IsRising items end → place_of items end + length items ≤ end
 items-few [] end rises = omega arith
 items-few (item ∷ items) end rises = omega (arith, rises.0, items-few items end rises.1)
-
-pub items-some : (items : List Item) (end : ℕ) → place_of items end < end → 0 < length items
-items-some [] end before = absurd (omega arith)
-items-some (item ∷ items) end before = omega arith
 
 -- what is said of boundaries is said of their places
 pub hint-lower : (r : Remainder) (lower : ℕ) → lower ≤ length r.left → IsWithinCount lower (item_count offsets_left r)
@@ -49,14 +39,6 @@ pub stretches-left : (first : List ℕ → Stretch) → ((x : ℕ) (xs : List �
     → AreLeft started (start_of text) text.end (remainder started first text status).left
 stretches-left first within false text status rising = covers first within text rising
 stretches-left first within true text status rising = (covers first within text rising).1
-
--- what is left after a call
-pub ahead-next : (before after : Remainder) (given : Option ℕ) (old new : Reach) → GivesNext before given after
-    → ((place : ℕ) → given ≡ Some place → (status : ℕ) (left : List Boundary) → AreAhead old (boundary place status ∷ left) → AreAhead new left)
-    → (given ≡ None → new ≡ old)
-    → AreAhead old before.left → AreAhead new after.left
-ahead-next before after None old new (none, gone, status) goes stays ahead = rw (stays refl, gone, ← none) ahead
-ahead-next before after (Some place) old new gives goes stays ahead = goes place refl after.status after.left (rw gives at ahead)
 
 -- how many are left, once one was given and before
 pub few-later : (started : Bool) (from end : ℕ) (left : List Boundary) → started ≡ true → AreLeft started from end left → length left ≤ end - from

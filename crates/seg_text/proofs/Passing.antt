@@ -1,16 +1,13 @@
 -- The longest beginning of a text whose code points pass a test, as far as it is read.
-use Rattle.std.proofs.Common.{Bool, true, false, ◌≡◌, ℕ, ◌+◌, List, [], ◌∷◌, drop, refl, sym, ap, ◌∙◌, arith}
+use Rattle.std.proofs.Common.{Bool, true, ◌≡◌, ℕ, ◌+◌, ◌∷◌, drop, refl, sym, ap, ◌∙◌, arith}
 use Rattle.std.proofs.lemmas.List.{drop-drop}
-use Rattle.seg_text.specs.Items.{Item, Text, start_of, rest_after, prefix_length}
+use Rattle.seg_text.specs.Items.{Item, Text, rest_after, prefix_length}
 
 -- so many items were read, all of which pass, and `left` is what is left of the text
 pub record IsPassing (passes : ℕ → Bool) (whole left : Text) : Type 0 where
   pub passed : ℕ
   pub rest : left ≡ rest_after passed whole
   pub sum : prefix_length passes whole ≡ passed + prefix_length passes left
-
-pub passing-start : (passes : ℕ → Bool) (whole : Text) → IsPassing passes whole whole
-passing-start passes whole = record { passed = 0; rest = refl; sum = omega arith }
 
 -- one more item is read
 next-rest : (whole left after : Text) (item : Item) (n : ℕ) → left ≡ rest_after n whole → left.items ≡ item ∷ after.items → after.end ≡ left.end
@@ -29,17 +26,3 @@ passing-next passes whole left after item passing is end pass = record {
   rest = next-rest whole left after item passing.passed passing.rest is end;
   sum = let here : prefix_length passes left ≡ 1 + prefix_length passes after = rw (is, pass) refl in omega (arith, passing.sum, here);
 }
-
--- the next item doesn't pass, or there is none
-pub passing-stop : (passes : ℕ → Bool) (whole left : Text) (place : ℕ) → IsPassing passes whole left → prefix_length passes left ≡ 0
-    → place ≡ start_of left → place ≡ start_of (rest_after (prefix_length passes whole) whole)
-passing-stop passes whole left place passing none is =
-    let sum : prefix_length passes whole ≡ passing.passed = omega (arith, passing.sum, none) in
-    is ∙ ap start_of passing.rest ∙ ap (λ n. start_of (rest_after n whole)) (sym sum)
-
-pub stops-here : (passes : ℕ → Bool) (left : Text) (item : Item) (items : List Item) → left.items ≡ item ∷ items → passes item.1 ≡ false
-    → prefix_length passes left ≡ 0
-stops-here passes left item items is fails = rw (is, fails) refl
-
-pub stops-at-end : (passes : ℕ → Bool) (left : Text) → left.items ≡ [] → prefix_length passes left ≡ 0
-stops-at-end passes left is = rw is refl

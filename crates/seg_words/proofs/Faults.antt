@@ -4,11 +4,9 @@ use Rattle.seg_data.specs.declared.provider.DataError.{DataError}
 use Rattle.seg_data.specs.declared.provider.DataError.TheVariants.{Memory, RangeOrder, RangePast10FFFF, TableSize, ClassOutOfRange, StateOutOfRange, StartRowKeeps, ComplexItems, ComplexBelow0100, ComplexClassNamed, StateCount, TransitionSize, TransitionOutOfRange, SymbolOutOfRange, TooManyLookaheads, LookaheadOutOfRange, EndCycle, Stalls, MissingTailoring}
 use Rattle.seg_data.specs.Faults.{number_of, IsFaultless, IsLowestFault}
 use Rattle.seg_data.specs.Table.{Table}
-use Rattle.seg_machine.specs.Machine.{Machine}
-use Rattle.seg_machine.specs.MachineFaults.{HasComplexBelow0100}
 use Rattle.seg_pair_data.specs.PairTable.{PairTable}
 use Rattle.seg_pair_data.specs.PairData.{HasPairDataFault, HasComplexClassBelow0100}
-use Rattle.seg_words.specs.Words.{HasOwnFault, HasWordTableFault, HasWordMachineFault}
+use Rattle.seg_words.specs.Words.{HasOwnFault, HasWordTableFault}
 
 own-cases : (t : PairTable) (o : Option Table) (fault : DataError) → HasOwnFault t o fault
     → ((fault ≡ ClassOutOfRange) × HasPairDataFault t o ClassOutOfRange)
@@ -60,30 +58,6 @@ cluster-number t fault has =
     elim (cluster-cases t fault has) [ inl is ↦ rw is (omega arith, omega arith) | inr is ↦ rw is (omega arith, omega arith) ]
 
 module _ (t : PairTable) (o : Option Table) (clusters : PairTable) where
-  pub class-lowest : HasPairDataFault t o ClassOutOfRange → IsLowestFault (HasWordTableFault t o clusters) ClassOutOfRange
-  class-lowest class = record {
-    is_there = inl class;
-    lowest = λ lower less has. elim has [
-      | inl own ↦ elim (own-cases t o lower own) [
-        | inl (is, has) ↦ omega (arith, less, ap number_of is)
-        | inr other ↦ elim other [ inl (is, has) ↦ omega (arith, less, ap number_of is) | inr (is, has) ↦ omega (arith, less, ap number_of is) ]
-      ]
-      | inr other ↦ omega (arith, less, (cluster-number clusters lower other).0)
-    ];
-  }
-
-  pub start-lowest : (HasPairDataFault t o ClassOutOfRange → ⊥) → HasPairDataFault t o StartRowKeeps → IsLowestFault (HasWordTableFault t o clusters) StartRowKeeps
-  start-lowest class start = record {
-    is_there = inl start;
-    lowest = λ lower less has. elim has [
-      | inl own ↦ elim (own-cases t o lower own) [
-        | inl (is, has) ↦ class has
-        | inr other ↦ elim other [ inl (is, has) ↦ omega (arith, less, ap number_of is) | inr (is, has) ↦ omega (arith, less, ap number_of is) ]
-      ]
-      | inr other ↦ omega (arith, less, (cluster-number clusters lower other).0)
-    ];
-  }
-
   module _ (class : HasPairDataFault t o ClassOutOfRange → ⊥) (start : HasPairDataFault t o StartRowKeeps → ⊥) where
     pub clusters-lowest : (fault : DataError) → IsLowestFault (HasPairDataFault clusters None) fault → IsLowestFault (HasWordTableFault t o clusters) fault
     clusters-lowest fault found = record {
@@ -111,33 +85,6 @@ module _ (t : PairTable) (o : Option Table) (clusters : PairTable) where
         | inr other ↦ none lower other
       ];
     }
-
-    pub table-faultless : IsFaultless (HasPairDataFault clusters None) → (HasComplexClassBelow0100 t o → ⊥) → IsFaultless (HasWordTableFault t o clusters)
-    table-faultless none complex fault (inr other) = none fault other
-    table-faultless none complex fault (inl own) =
-        elim (own-cases t o fault own) [
-          | inl (is, has) ↦ class has
-          | inr other ↦ elim other [ inl (is, has) ↦ start has | inr (is, has) ↦ complex has ]
-        ]
-
-pub machine-clusters-lowest : (m : Machine) (clusters : PairTable) (fault : DataError) → IsLowestFault (HasPairDataFault clusters None) fault → IsLowestFault (HasWordMachineFault m clusters) fault
-machine-clusters-lowest m clusters fault found = record {
-  is_there = inr found.is_there;
-  lowest = λ lower less has. elim has [
-    | inl (is, has) ↦ omega (arith, less, ap number_of is, (cluster-number clusters fault found.is_there).1)
-    | inr other ↦ found.lowest lower less other
-  ];
-}
-
-pub machine-lowest : (m : Machine) (clusters : PairTable) → IsFaultless (HasPairDataFault clusters None) → HasComplexBelow0100 m → IsLowestFault (HasWordMachineFault m clusters) ComplexBelow0100
-machine-lowest m clusters none complex = record {
-  is_there = inl (refl, complex);
-  lowest = λ lower less has. elim has [ inl (is, has) ↦ omega (arith, less, ap number_of is) | inr other ↦ none lower other ];
-}
-
-pub machine-faultless : (m : Machine) (clusters : PairTable) → IsFaultless (HasPairDataFault clusters None) → (HasComplexBelow0100 m → ⊥) → IsFaultless (HasWordMachineFault m clusters)
-machine-faultless m clusters none complex fault (inl (is, has)) = complex has
-machine-faultless m clusters none complex fault (inr other) = none fault other
 
 -- what was looked for in a table and an override that are these
 

@@ -4,7 +4,7 @@ use Rattle.std.specs.Prelude.{Option}
 use Rattle.std.proofs.lemmas.List.{length-map}
 use Rattle.seg_text.specs.declared.boundary.Boundary.{Boundary}
 use Rattle.seg_text.specs.Items.{Item, Text, start_of, code_points, IsRising}
-use Rattle.seg_text.specs.Boundaries.{IsCover, RisesTo, boundary, boundaries_in, Cuts, AreCutsOf, with_status, cut_places, later_boundaries, list_boundaries}
+use Rattle.seg_text.specs.Boundaries.{IsCover, RisesTo, boundaries_in, Cuts, AreCutsOf, with_status, cut_places, later_boundaries, list_boundaries}
 use Rattle.seg_text.proofs.Covers.{covers}
 use Rattle.seg_text.proofs.Stretches.{text-later-nil}
 use Rattle.seg_data.specs.Table.{Table}
@@ -39,11 +39,6 @@ nothing-unread cuts unread none =
 -- no cut is left of a run
 pub left-of : (status : ℕ) (run : List ℕ) (unread left : List Boundary) → run ≡ [] → with_status status run ++ unread ≡ left → unread ≡ left
 left-of status run unread left none is = ap (λ (run : List ℕ). with_status status run ++ unread) (sym none) ∙ is
-
--- the next cut of a run
-pub left-cut : (status place : ℕ) (before after : List ℕ) (unread left : List Boundary) → before ≡ place ∷ after → with_status status before ++ unread ≡ left
-    → left ≡ boundary place status ∷ (with_status status after ++ unread)
-left-cut status place before after unread left next is = sym is ∙ ap (λ (run : List ℕ). with_status status run ++ unread) next
 
 -- a run came next, with its cuts
 pub left-run : {I : Type 0} (text : I → Text) (cuts : PieceCuts) → CoverPieces cuts → (before after : Unread) (run : I) (found : List ℕ) (left : List Boundary)

@@ -110,9 +110,6 @@ followed-standing before c width is does =
 
 -- ---- a text is read item by item
 
-pub measuring-start : (text : Text) (extent : Extent) → extent ≡ line_extent [] → IsMeasuring text text extent
-measuring-start text extent none = record { read = []; measured = none; characters = refl }
-
 pub measuring-next : (text rest later : Text) (item : Item) (before after : Extent) → IsMeasuring text rest before → rest.items ≡ item ∷ later.items
     → after ≡ joined_extents before (line_extent (item.1 ∷ [])) → IsMeasuring text later after
 measuring-next text rest later item before after is starts next = record {

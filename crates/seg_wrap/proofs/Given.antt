@@ -24,9 +24,6 @@ IsRestOf bytes text = text ≡ rest_from (start_of text) (utf8 bytes)
 rest-after : (bytes : List ℕ) (k : ℕ) → IsRestOf bytes (rest_after k (utf8 bytes))
 rest-after bytes k = sym (rest-at (utf8 bytes) k (utf8-rises bytes))
 
-pub rest-whole : (bytes : List ℕ) → IsRestOf bytes (utf8 bytes)
-rest-whole bytes = rest-after bytes 0
-
 -- so many items further on
 further : (bytes : List ℕ) (text : Text) (taken : ℕ) → IsRestOf bytes text → (k : ℕ) × (rest_after taken text ≡ rest_after k (utf8 bytes))
 further bytes text taken is =

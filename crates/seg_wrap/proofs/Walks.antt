@@ -59,17 +59,6 @@ rest-of-both text line piece is = rest-on text line.end piece.end (ends-later te
 
 -- ---- a line grows
 
-pub grow-start : (limit : ℕ) (text here after : Text) (first : Piece) (held : Option Piece) (before boundaries : List Boundary)
-    → IsFirstPiece text first → here ≡ rest_from first.end text → segments_held here held boundaries ≡ segments_from here before
-    → IsHeldPiece here held boundaries → after ≡ rest_held here held
-    → IsGrowing limit text (lines_from limit (segment_at text first) (segments_from (rest_from first.end text) before)) first held boundaries after
-grow-start limit text here after first held before boundaries is at segments held_is after_is = record {
-  piece = is;
-  held_is = subst (λ (t : Text). IsHeldPiece t held boundaries) at held_is;
-  after_is = after_is ∙ ap (λ (t : Text). rest_held t held) at;
-  lines = ap (lines_from limit (segment_at text first)) (subst (λ (t : Text). segments_held t held boundaries ≡ segments_from t before) at segments);
-}
-
 pair-of : (limit : ℕ) (text after : Text) (owed : List Line) (line piece : Piece) (boundaries : List Boundary)
     → IsGrowing limit text owed line (Some piece) boundaries after → IsPair text line piece
 pair-of limit text after owed line piece boundaries is = record { line_is = is.piece; piece_is = is.held_is.0 }
@@ -134,9 +123,6 @@ none-held text given before after cuts empty none =
     let at_end : text.items ≡ [] = subst (AreCuts text) empty.0 cuts in
     subst (λ (g : Option Piece). IsHeldPiece text g after) (sym none) (at_end, empty.1)
 
-pub none-rest : (text : Text) (given : Option Piece) → given ≡ None → text ≡ rest_held text given
-none-rest text given none = rw none refl
-
 pub read-cuts : (text : Text) (end : ℕ) (mark : Bool) (before after : List Boundary) → AreCuts text before → IsRead end mark before after
     → (0 < count_before end text) × ((end ≡ start_of (rest_from end text)) × AreCuts (rest_from end text) after)
 unfolding AreCuts
@@ -177,19 +163,6 @@ read-held text part end mark extent before after cuts is part_is measured small 
 growing-at : (limit : ℕ) (text here : Text) (owed : List Line) (line : Piece) (held : Option Piece) (piece : Piece) (boundaries : List Boundary)
     → IsGrowing limit text owed line held boundaries here → held ≡ Some piece → IsGrowing limit text owed line (Some piece) boundaries here
 growing-at limit text here owed line held piece boundaries is some = subst (λ (h : Option Piece). IsGrowing limit text owed line h boundaries here) some is
-
-pub turn-cuts : (limit : ℕ) (text here : Text) (owed : List Line) (line : Piece) (held : Option Piece) (piece : Piece) (boundaries : List Boundary)
-    → IsGrowing limit text owed line held boundaries here → held ≡ Some piece → AreCuts here boundaries
-turn-cuts limit text here owed line held piece boundaries is some =
-    let growing = growing-at limit text here owed line held piece boundaries is some in
-    subst (λ (t : Text). AreCuts t boundaries) (sym growing.after_is) growing.held_is.1
-
-pub turn-room : (limit : ℕ) (text here : Text) (owed : List Line) (line : Piece) (held : Option Piece) (piece : Piece) (boundaries : List Boundary)
-    → IsGrowing limit text owed line held boundaries here → held ≡ Some piece
-    → line.extent.inner_columns + piece.extent.inner_columns ≤ 3 * line.end + 3 * piece.end
-turn-room limit text here owed line held piece boundaries is some =
-    let growing = growing-at limit text here owed line held piece boundaries is some in
-    omega (arith, growing.piece.small, growing.held_is.0.small)
 
 pub turn-within : (limit : ℕ) (text here : Text) (owed : List Line) (line : Piece) (held : Option Piece) (piece : Piece) (boundaries : List Boundary)
     → IsGrowing limit text owed line held boundaries here → held ≡ Some piece → piece.extent.columns ≤ piece.extent.inner_columns

@@ -94,14 +94,6 @@ module _ (bytes : List ℕ) (start : ℕ) (plain : escaped bytes ≡ take start 
       → escaped bytes ≡ take (start + 1) bytes ++ escaped (drop (start + 1) bytes)
   escaped-past rest is next = escaped-further (rw is at next)
 
-  -- such a character
-  pub escaped-found : (code len : ℕ) → escaped (drop start bytes) ≡ escape_of code ++ escaped (drop len (drop start bytes))
-      → escaped bytes ≡ take start bytes ++ escape_of code ++ escaped (drop (start + len) bytes)
-  escaped-found code len next =
-      plain ∙ ap (λ rest. take start bytes ++ rest) next
-      ∙ sym (append_assoc (take start bytes) (escape_of code) (escaped (drop len (drop start bytes))))
-      ∙ ap (λ rest. take start bytes ++ escape_of code ++ escaped rest) (drop-drop len start bytes)
-
   -- the end
   pub escaped-end : length bytes ≤ start → escaped bytes ≡ bytes
   escaped-end past = plain ∙ rw (take_all start bytes past, drop_all start bytes past, escaped-nothing) (append-nil bytes)

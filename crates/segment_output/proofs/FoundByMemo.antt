@@ -1,18 +1,15 @@
 -- What is found by a memo, and by how many look-ups.
-use Rattle.std.proofs.Common.{◌≡◌, ◌≤◌, ℕ, Bool, true, false, Option, None, Some, Result, Ok, Err, IfOk, IsErr, MatchResult, List, [], ◌∷◌, length, map, refl, sym, ap, subst, ◌∙◌}
+use Rattle.std.proofs.Common.{◌≡◌, ◌≤◌, ℕ, Bool, true, false, Option, None, List, [], ◌∷◌, length, map, refl, sym, ap, ◌∙◌}
 use Rattle.std.specs.Iterator.{YieldsThen}
 use Rattle.std.specs.Io.KnownBytes.{Appends}
-use Rattle.icu_segmenter.specs.Boundary.{Boundary}
 use Rattle.icu_segmenter.specs.Configurations.{AreLookedUp, configurations}
-use Rattle.icu_segmenter.specs.Items.{Rest, Text, code_points, rest_after}
+use Rattle.icu_segmenter.specs.Items.{Text, code_points, rest_after}
 use Rattle.icu_segmenter.specs.Machine.{Machine}
-use Rattle.icu_segmenter.specs.Memos.{Memo, IsNewMemo, subject_of}
+use Rattle.icu_segmenter.specs.Memos.{Memo, subject_of}
 use Rattle.icu_segmenter.specs.Pick.{machine_stretch}
 use Rattle.icu_segmenter.specs.Boundaries.{later_boundaries, remainder}
-use Rattle.icu_segmenter.specs.Decoding.{utf8, utf8_from}
 use Rattle.segment_output.specs.Memo.{AreLookUps, IsPrinted, StepsMemo}
 use Rattle.segment_output.specs.Output.{Segment}
-use Rattle.segment_output.specs.declared.found.Found.{Found}
 
 pub map-none : {X Y : Type 0} (f : X → Y) (xs : List X) → map f xs ≡ [] → xs ≡ []
 map-none f [] none = refl
@@ -58,35 +55,3 @@ module _ {S A : Type 0} (memo_of : S → Memo) (left : S → List A) where
         ),
         rw (← found.0) appends,
       )
-
--- all boundaries of a text were found by a machine
-abbrev AreFound : {F : Type 0} → (List Boundary → List Segment) → (List Segment → List ℕ) → Option (List ℕ) → Option (List ℕ)
-    → Option Machine → Text → List Boundary → Result Found F → Type 0
-AreFound cut lines old new found_by whole all r =
-    IfOk r (λ found. ((found.segments ≡ length (cut all)) × ((m : Machine) × (found_by ≡ Some m) × AreLookUps m whole found.lookups)) × Appends old new (lines (cut all)))
-
--- what was printed of a memo, or why there is none
-abbrev IsPrintedOf : {E F : Type 0} → (List Boundary → List Segment) → (List Segment → List ℕ) → Option (List ℕ) → Option (List ℕ)
-    → Result Memo E → Result Found F → Type 0
-IsPrintedOf cut lines old new memo r =
-    MatchResult memo (λ memo. IfOk r (λ found. IsPrinted memo (cut memo.coming.left) found × Appends old new (lines (cut memo.coming.left)))) (λ _. IsErr r)
-
-module _ {E F : Type 0} (cut : List Boundary → List Segment) (lines : List Segment → List ℕ) (old new : Option (List ℕ)) where
-  found-whole : (found_by : Option Machine) (whole : Text) (all : List Boundary) (memo : Result Memo E) (r : Result Found F)
-      → IfOk memo (IsNewMemo found_by whole all) → IsPrintedOf cut lines old new memo r → AreFound cut lines old new found_by whole all r
-  found-whole found_by whole all memo (Err f) made printed = tt
-  found-whole found_by whole all (Err e) (Ok found) made printed = cc
-  found-whole found_by whole all (Ok memo) (Ok found) made printed = (
-    (printed.0.0 ∙ ap (λ xs. length (cut xs)) made.boundaries, (memo.machine, made.machine, rw (← made.text) printed.0.1)),
-    rw (← made.boundaries) printed.1,
-  )
-
-  -- the rules are those of a segmenter, and the text is all of it
-  pub found-by_memo : {R : Type 0} (boundaries : R → Text → List Boundary) (machine : R → Option Machine) (finder rules : R) (source : Rest ℕ) (text : List ℕ)
-      (memo : Result Memo E) (r : Result Found F) → finder ≡ rules → source ≡ record { place = 0; units = text }
-      → IfOk memo (IsNewMemo (machine finder) (utf8_from source.place source.units) (boundaries finder (utf8_from source.place source.units)))
-      → IsPrintedOf cut lines old new memo r → AreFound cut lines old new (machine rules) (utf8 text) (boundaries rules (utf8 text)) r
-  found-by_memo boundaries machine finder rules source text memo r same at made printed =
-      subst (λ (rest : Rest ℕ). AreFound cut lines old new (machine rules) (utf8_from rest.place rest.units) (boundaries rules (utf8_from rest.place rest.units)) r) at
-      (subst (λ rules. AreFound cut lines old new (machine rules) (utf8_from source.place source.units) (boundaries rules (utf8_from source.place source.units)) r) same
-      (found-whole (machine finder) _ _ memo r made printed))

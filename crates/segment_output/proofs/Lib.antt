@@ -1,4 +1,3 @@
-pub mod ByMachine
 pub mod Escaping
 pub mod FoundByMemo
 pub mod Gathered
