@@ -283,9 +283,3 @@ pub run-goes : (rules : TableRules Classic) (text left after : Text) (place : �
     → after ≡ rest_after (run_extent rules left - 1) left → GoesOn (lines_unread (unread rules text)) (lines_unread (unread rules after))
 run-goes rules text left after place r left_is is =
     rw (is, left_is) (record { end = refl; fewer = λ some. r.fewer })
-
--- the outcome leaves nothing where there is no next unit, and the next one's class is below
-pub below-of : (t u : PairTable) (next : Option Element) → t ≡ u → IfSome next (λ next. next.class < t.property_count) → IfSome next (λ next. next.class < u.property_count)
-below-of t u next same below =
-    let Below : PairTable → Type 0 = λ t. IfSome next (λ next. next.class < t.property_count) in
-    subst Below same below

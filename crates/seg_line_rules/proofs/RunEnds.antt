@@ -13,9 +13,6 @@ pub record IsRunning (passes : ℕ → Bool) (whole left : Text) (last : ℕ) : 
   pub sum : run passes whole ≡ passed + run passes left
   pub last_is : last ≡ start_of (rest_after (passed - 1) whole)
 
-pub running-start : (passes : ℕ → Bool) (whole : Text) (last : ℕ) → last ≡ start_of whole → IsRunning passes whole whole last
-running-start passes whole last is = record { passed = 0; rest = refl; sum = omega arith; last_is = is }
-
 pub running-next : (passes : ℕ → Bool) (whole left after : Text) (item : Item) (last place : ℕ) → IsRunning passes whole left last → place ≡ start_of left
     → left.items ≡ item ∷ after.items → after.end ≡ left.end → passes item.1 ≡ true → IsRunning passes whole after place
 running-next passes whole left after item last place running place_is is end complex =
@@ -30,24 +27,3 @@ running-next passes whole left after item last place running place_is is end com
       sum = omega (arith, running.sum, here);
       last_is = let before : running.passed ≡ suc running.passed - 1 = omega arith in place_is ∙ ap start_of running.rest ∙ ap (λ n. start_of (rest_after n whole)) before;
     }
-
--- the next item doesn't pass, or there is none
-
-running-sum : (passes : ℕ → Bool) (whole left : Text) (last : ℕ) (running : IsRunning passes whole left last) → run passes left ≡ 0 → running.passed ≡ run passes whole
-running-sum passes whole left last running none = omega (arith, running.sum, none)
-
-pub running-last : (passes : ℕ → Bool) (whole left : Text) (last : ℕ) → IsRunning passes whole left last → run passes left ≡ 0
-    → last ≡ start_of (rest_after (run passes whole - 1) whole)
-running-last passes whole left last running none =
-    running.last_is ∙ ap (λ n. start_of (rest_after (n - 1) whole)) (running-sum passes whole left last running none)
-
-pub running-end : (passes : ℕ → Bool) (whole left : Text) (last place : ℕ) → IsRunning passes whole left last → run passes left ≡ 0 → place ≡ start_of left
-    → place ≡ start_of (rest_after (run passes whole) whole)
-running-end passes whole left last place running none is =
-    is ∙ ap start_of running.rest ∙ ap (λ n. start_of (rest_after n whole)) (running-sum passes whole left last running none)
-
-pub stops-here : (passes : ℕ → Bool) (left : Text) (item : Item) (items : List Item) → left.items ≡ item ∷ items → passes item.1 ≡ false → run passes left ≡ 0
-stops-here passes left item items is other = rw (is, other) refl
-
-pub stops-at-end : (passes : ℕ → Bool) (left : Text) → left.items ≡ [] → run passes left ≡ 0
-stops-at-end passes left is = rw is refl

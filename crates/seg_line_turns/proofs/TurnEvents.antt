@@ -63,9 +63,6 @@ module _ (rules : TableRules Seventeen) where
   fewer : {X : Type 0} (n : ℕ) (xs : List X) → 0 < n → 0 < length xs → length (drop n xs) < length xs
   fewer n xs some there = let long = length-drop n xs in omega (arith, long)
 
-  some-items : (here : Text) (n : ℕ) → n < length (code_points here.items) → n < length here.items
-  some-items here n less = let long = length-map here.items (λ (item : Item). item.1) in omega (arith, less, long)
-
   -- a boundary
   pub record ToBreak (starts opened : Bool) (here : Text) (place resume : ℕ) : Type 0 where
     pub taken : ℕ

@@ -54,13 +54,6 @@ module _ (rules : TableRules Seventeen) (whole : Text) where
         ≡ option_map {U = ℕ × ℕ} (λ (found : ℕ × ℕ). (passed + found.0, found.1)) (next_base rules (code_points ahead.items))
     pub sum : length (code_points whole.items) ≡ passed + length (code_points ahead.items)
 
-  same-option : (found : Option (ℕ × ℕ)) → found ≡ option_map {U = ℕ × ℕ} (λ (found : ℕ × ℕ). (0 + found.0, found.1)) found
-  same-option None = refl
-  same-option (Some (k, class)) = let none : k ≡ 0 + k = omega arith in ap (λ n. Some (n, class)) none
-
-  pub looking-start : (last : ℕ) → last ≡ start_of whole → IsLooking whole last
-  looking-start last is = record { passed = 0; rest = refl; last_is = is; base = same-option (next_base rules (code_points whole.items)); sum = omega arith }
-
   mark-base : (item : ℕ) (items : List ℕ) → is_mark Seventeen (line_class rules item) ≡ true
       → next_base rules (item ∷ items) ≡ option_map {U = ℕ × ℕ} (λ (found : ℕ × ℕ). (suc found.0, found.1)) (next_base rules items)
   unfolding next_base

@@ -24,10 +24,6 @@ pub record IsWalking (rules : TableRules Seventeen) (whole : Text) (walker : Wal
   pub at : IsWalkAt whole number saved walker rest
   pub same : walk_turn rules (walker_seen saved walker) number (code_points rest.items) ≡ found
 
-pub walking-start : (rules : TableRules Seventeen) (whole : Text) (number saved : ℕ) (walker : Walker) (rest : Text) → IsWalkAt whole number saved walker rest
-    → IsWalking rules whole walker rest (walk_turn rules (walker_seen saved walker) number (code_points rest.items))
-walking-start rules whole number saved walker rest at = record { number = number; saved = saved; at = at; same = refl }
-
 walk-nil : (rules : TableRules Seventeen) (w : Walking) (number : ℕ) → walk_turn rules w number [] ≡ walk_end_turn w number (entry_of rules.table w.state rules.table.eot_property)
 unfolding walk_turn
 walk-nil rules w number = refl
@@ -113,10 +109,6 @@ pub record IsTurning (rules : TableRules Seventeen) (whole : Text) (opened : Boo
   pub last : ℕ
   pub at : IsLeft whole last left rest
   pub same : turn rules opened (left_seen last left) (code_points rest.items) ≡ found
-
-pub turning-start : (rules : TableRules Seventeen) (whole : Text) (opened : Bool) (last : ℕ) (left : Left) (rest : Text) → IsLeft whole last left rest
-    → IsTurning rules whole opened left rest (turn rules opened (left_seen last left) (code_points rest.items))
-turning-start rules whole opened last left rest at = record { last = last; at = at; same = refl }
 
 turn-nil : (rules : TableRules Seventeen) (opened : Bool) (left : LeftUnit) → turn rules opened left [] ≡ BreakAt (suc left.last) (suc left.last)
 unfolding turn

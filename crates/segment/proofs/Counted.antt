@@ -1,18 +1,14 @@
 -- How many segments there are is written after what is printed, where they are only counted.
-use Rattle.std.proofs.Common.{◌≡◌, ℕ, true, false, Option, None, Some, List, IfErr, IfOk, IfSome, Result, Ok, Err, ◌⊎◌, inl, append-nil, length}
+use Rattle.std.proofs.Common.{◌≡◌, ℕ, true, Option, None, Some, List, IfErr, IfOk, IfSome, Result, Ok, Err, ◌⊎◌, inl}
 use Rattle.std.proofs.KnownBytes.{Appends-trans}
 use Rattle.std.specs.Io.KnownBytes.{Appends}
 use Rattle.segment_output.specs.Fault.{IsBeforeWriting, IsReadFault}
-use Rattle.segment.specs.Job.{count_by, is_counted, is_parted, output_of, printed_by, IsBegunBy, IsFound}
-use Rattle.segment_output.specs.Output.{count_line, lines_of}
-use Rattle.segment_output.specs.Parts.{IsBegun}
-use Rattle.segment_output.specs.Segmenter.{segments_by}
+use Rattle.segment.specs.Job.{count_by, is_counted, output_of, printed_by, IsFound}
+use Rattle.segment_output.specs.Output.{count_line}
 use Rattle.segment_output.specs.declared.fault.Fault.{Fault}
 use Rattle.segment_output.specs.declared.fault.Fault.TheVariants.{Read, Memo, Write}
 use Rattle.segment_output.specs.declared.found.Found.{Found}
 use Rattle.segment.specs.declared.job.Job.{Job}
-use Rattle.segment_output.specs.declared.output.Style.{Style}
-use Rattle.segment_output.specs.declared.segmenter.Segmenter.{Segmenter}
 use Rattle.segment.specs.declared.job.Job.TheVariants.{Cut, Wrap}
 use Rattle.segment.specs.declared.job.Search.TheVariants.{Plain, Memoised}
 
@@ -33,12 +29,6 @@ module _ (job : Job) (name : Option (List ℕ)) where
       → IfSome read (λ bytes. IsFound job bytes found × Appends old new (output_of job name bytes))
   counted-of None old mid new found is printed after = tt
   counted-of (Some bytes) old mid new found is printed after = (printed.0, counted bytes old mid new found is printed.0 printed.1 after)
-
-  pub printed-of : (read old new : Option (List ℕ)) (found : Found) → is_counted job ≡ false
-      → IfSome read (λ bytes. IsFound job bytes found × Appends old new (printed_by job bytes))
-      → IfSome read (λ bytes. IsFound job bytes found × Appends old new (output_of job name bytes))
-  printed-of None old new found is printed = tt
-  printed-of (Some bytes) old new found is printed = (printed.0, rw (is, append-nil (printed_by job bytes)) printed.1)
 
 -- what is read is the whole text
 pub whole-found : (job : Job) (read : Option (List ℕ)) (text shown : List ℕ) (old new : Option (List ℕ)) (r : Result Found Fault) → IfSome read (λ bytes. text ≡ bytes) → shown ≡ text
@@ -61,28 +51,3 @@ of-reader (Write error) is = absurd is
 pub begun-whole : (P Q : Type 0) (r : Result Found Fault) → IfErr r (λ fault. IsBeforeWriting fault → P) → IfErr r (λ fault. IsReadFault fault → P ⊎ Q)
 begun-whole P Q (Ok found) is = tt
 begun-whole P Q (Err fault) is = λ of_reader. inl (is (of-reader fault of_reader))
-
--- a job that may be cut part by part
-pub unwritten-parted : (P : Type 0) (r : Result Found Fault) (job : Job) → is_parted job ≡ true → IfErr r (λ fault. IsBeforeWriting fault → is_parted job ≡ false → P)
-unwritten-parted P (Ok found) job is = tt
-unwritten-parted P (Err fault) job is = λ before all. cc
-
-module _ (segmenter : Segmenter) (style : Style) (job : Job) (is : job ≡ Cut segmenter style Plain) (from : Option (List ℕ)) where
-  pub parted-found : (old new : Option (List ℕ)) (r : Result Found Fault)
-      → IfOk r (λ found. IfSome from (λ bytes. (found.segments ≡ length (segments_by segmenter bytes)) × (found.lookups ≡ 0)
-      × Appends old new (lines_of style bytes (segments_by segmenter bytes))))
-      → IfOk r (λ found. IfSome from (λ bytes. IsFound job bytes found × Appends old new (printed_by job bytes)))
-  parted-found old new (Err fault) printed = tt
-  parted-found old new (Ok found) printed = on from printed
-    where
-      on : (from : Option (List ℕ))
-          → IfSome from (λ bytes. (found.segments ≡ length (segments_by segmenter bytes)) × (found.lookups ≡ 0)
-          × Appends old new (lines_of style bytes (segments_by segmenter bytes)))
-          → IfSome from (λ bytes. IsFound job bytes found × Appends old new (printed_by job bytes))
-      on None printed = tt
-      on (Some bytes) printed = rw is ((printed.0, printed.1), printed.2)
-
-  pub parted-begun : (P : Type 0) (to old new : Option (List ℕ)) (r : Result Found Fault) → IfErr r (λ fault. IsReadFault fault → P ⊎ IsBegun segmenter style from to old new)
-      → IfErr r (λ fault. IsReadFault fault → P ⊎ IsBegunBy job from to old new)
-  parted-begun P to old new (Ok found) begun = tt
-  parted-begun P to old new (Err fault) begun = rw is begun
