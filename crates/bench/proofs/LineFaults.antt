@@ -5,7 +5,7 @@ use Rattle.seg_data.specs.declared.provider.DataError.TheVariants.{Memory, Range
 use Rattle.seg_data.specs.Faults.{IsFaultless, IsLowestFault}
 use Rattle.seg_pair_data.specs.PairData.{HasPairFault}
 use Rattle.seg_pair_data.specs.PairTable.{PairTable}
-use Rattle.icu_segmenter.specs.LineClasses.{number}
+use Rattle.icu_segmenter.specs.LineClasses.{class_number}
 use Rattle.icu_segmenter.specs.LineClasses.LineEngine.{Classic}
 use Rattle.icu_segmenter.specs.LineClasses.LineClass.{BA, BK, CJ, CR, EX, HY, ID, IN, LF, NL, NS, SP, ZW}
 use Rattle.icu_segmenter.specs.LineRules.{HasLineTableFault, is_one_of}
@@ -21,10 +21,10 @@ entry-passes : (left right : ℕ) → names_below 57 (line_entry left right) ≡
 unfolding names_below
 entry-passes left right =
     chosen 57 (is_one_of Classic (BK ∷ LF ∷ NL ∷ []) left) _ _ refl
-    (chosen 57 (left == number Classic CR) _ _ (chosen 57 (right == number Classic LF) _ _ refl refl)
+    (chosen 57 (left == class_number Classic CR) _ _ (chosen 57 (right == class_number Classic LF) _ _ refl refl)
     (chosen 57 (is_one_of Classic (BK ∷ CR ∷ LF ∷ NL ∷ SP ∷ ZW ∷ EX ∷ []) right) _ _ refl
     (chosen 57 (is_one_of Classic (SP ∷ ZW ∷ HY ∷ []) left) _ _ refl
-    (chosen 57 (left == number Classic ID || right == number Classic ID) _ _ (chosen 57 (is_one_of Classic (NS ∷ IN ∷ BA ∷ CJ ∷ HY ∷ []) right) _ _ refl refl) refl))))
+    (chosen 57 (left == class_number Classic ID || right == class_number Classic ID) _ _ (chosen 57 (is_one_of Classic (NS ∷ IN ∷ BA ∷ CJ ∷ HY ∷ []) right) _ _ refl refl) refl))))
 
 lines-pass : Passes line_table
 lines-pass = record { some = refl; square = rows-length line_entry 57 57; classes = refl; sot = refl; eot = refl; states = rows-pass line_entry 57 entry-passes 57 }

@@ -6,7 +6,7 @@ use Rattle.seg_data.specs.Faults.{IsFaultless, IsLowestFault}
 use Rattle.seg_pair_data.specs.PairData.{HasPairFault}
 use Rattle.seg_pair_data.specs.PairTable.{PairTable}
 use Rattle.icu_segmenter.specs.LineRules.{is_one_of}
-use Rattle.icu_segmenter.specs.LineClasses.{number}
+use Rattle.icu_segmenter.specs.LineClasses.{class_number}
 use Rattle.icu_segmenter.specs.LineClasses.LineEngine.{Seventeen}
 use Rattle.icu_segmenter.specs.LineClasses.LineClass.{BA, BA_EASTASIAN, BK, CJ, CR, EX, EX_EASTASIAN, HY, ID, ID_EASTASIAN, IN, IN_EASTASIAN, LF, NL, NS, NS_EASTASIAN, SP, ZW}
 use Rattle.icu_segmenter.specs.TurnRules.{HasTurnTableFault}
@@ -22,7 +22,7 @@ entry-passes : (left right : ℕ) → names_below 71 (turn_entry left right) ≡
 unfolding names_below
 entry-passes left right =
     chosen 71 (is_one_of Seventeen (BK ∷ LF ∷ NL ∷ []) left) _ _ refl
-    (chosen 71 (left == number Seventeen CR) _ _ (chosen 71 (right == number Seventeen LF) _ _ refl refl)
+    (chosen 71 (left == class_number Seventeen CR) _ _ (chosen 71 (right == class_number Seventeen LF) _ _ refl refl)
     (chosen 71 (is_one_of Seventeen (BK ∷ CR ∷ LF ∷ NL ∷ SP ∷ ZW ∷ EX ∷ EX_EASTASIAN ∷ []) right) _ _ refl
     (chosen 71 (is_one_of Seventeen (SP ∷ ZW ∷ HY ∷ []) left) _ _ refl
     (chosen 71 (is_one_of Seventeen (ID ∷ ID_EASTASIAN ∷ []) left || is_one_of Seventeen (ID ∷ ID_EASTASIAN ∷ []) right) _ _ (chosen 71 (is_one_of Seventeen (NS ∷ NS_EASTASIAN ∷ IN ∷ IN_EASTASIAN ∷ BA ∷ BA_EASTASIAN ∷ CJ ∷ HY ∷ []) right) _ _ refl refl) refl))))

@@ -2,7 +2,7 @@
 use Rattle.std.specs.Prelude.{ℕ, ◌==◌, ◌||◌, if◌then◌else◌, [], ◌∷◌}
 use Rattle.seg_pair_data.specs.declared.provider.pairs.BreakState.{BreakState}
 use Rattle.seg_pair_data.specs.declared.provider.pairs.BreakState.TheVariants.{Break, Keep}
-use Rattle.icu_segmenter.specs.LineClasses.{number}
+use Rattle.icu_segmenter.specs.LineClasses.{class_number}
 use Rattle.icu_segmenter.specs.LineClasses.LineEngine.{Classic}
 use Rattle.icu_segmenter.specs.LineClasses.LineClass.{BA, BK, CJ, CR, EX, HY, ID, IN, LF, NL, NS, SP, ZW}
 use Rattle.icu_segmenter.specs.LineRules.{is_one_of}
@@ -27,10 +27,10 @@ line_classes = record {
 abbrev pub line_entry : ℕ → ℕ → BreakState
 line_entry left right =
     if is_one_of Classic (BK ∷ LF ∷ NL ∷ []) left then Break else
-    if left == number Classic CR then (if right == number Classic LF then Keep else Break) else
+    if left == class_number Classic CR then (if right == class_number Classic LF then Keep else Break) else
     if is_one_of Classic (BK ∷ CR ∷ LF ∷ NL ∷ SP ∷ ZW ∷ EX ∷ []) right then Keep else
     if is_one_of Classic (SP ∷ ZW ∷ HY ∷ []) left then Break else
-    if left == number Classic ID || right == number Classic ID then (if is_one_of Classic (NS ∷ IN ∷ BA ∷ CJ ∷ HY ∷ []) right then Keep else Break) else
+    if left == class_number Classic ID || right == class_number Classic ID then (if is_one_of Classic (NS ∷ IN ∷ BA ∷ CJ ∷ HY ∷ []) right then Keep else Break) else
     Keep
 
 abbrev pub line_table : PairTable

@@ -5,7 +5,7 @@ use Rattle.seg_pair_data.specs.declared.provider.pairs.BreakState.TheVariants.{B
 use Rattle.icu_segmenter.specs.LineRules.{is_one_of}
 use Rattle.icu_segmenter.specs.PairTable.{PairTable, pair_table}
 use Rattle.icu_segmenter.specs.Table.{Table}
-use Rattle.icu_segmenter.specs.LineClasses.{number}
+use Rattle.icu_segmenter.specs.LineClasses.{class_number}
 use Rattle.icu_segmenter.specs.LineClasses.LineEngine.{Seventeen}
 use Rattle.icu_segmenter.specs.LineClasses.LineClass.{BA, BA_EASTASIAN, BK, CJ, CR, EX, EX_EASTASIAN, HY, ID, ID_EASTASIAN, IN, IN_EASTASIAN, LF, NL, NS, NS_EASTASIAN, SP, ZW}
 use Rattle.bench.specs.Rows.{rows}
@@ -27,7 +27,7 @@ turn_classes = record {
 abbrev pub turn_entry : ℕ → ℕ → BreakState
 turn_entry left right =
     if is_one_of Seventeen (BK ∷ LF ∷ NL ∷ []) left then Break else
-    if left == number Seventeen CR then (if right == number Seventeen LF then Keep else Break) else
+    if left == class_number Seventeen CR then (if right == class_number Seventeen LF then Keep else Break) else
     if is_one_of Seventeen (BK ∷ CR ∷ LF ∷ NL ∷ SP ∷ ZW ∷ EX ∷ EX_EASTASIAN ∷ []) right then Keep else
     if is_one_of Seventeen (SP ∷ ZW ∷ HY ∷ []) left then Break else
     if is_one_of Seventeen (ID ∷ ID_EASTASIAN ∷ []) left || is_one_of Seventeen (ID ∷ ID_EASTASIAN ∷ []) right

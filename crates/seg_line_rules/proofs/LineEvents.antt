@@ -19,7 +19,7 @@ use Rattle.seg_pairs.proofs.Engine.{read-onto, rest-is}
 use Rattle.seg_pairs.proofs.Events.{cuts-placed}
 use Rattle.seg_line_rules.specs.LineClasses.LineEngine.{Classic}
 use Rattle.seg_line_rules.specs.declared.plain_pairs.ClassedItem.{ClassedItem}
-use Rattle.seg_line_rules.specs.LineEvents.{IsItemAhead, text_from, UnreadLines, unread_lines, lines_unread, GoesOn, AreUnitsAhead}
+use Rattle.seg_line_rules.specs.LineEvents.{IsItemAhead, text_from, UnreadLines, unread_lines, lines_unread, LeavesLess, AreUnitsAhead}
 use Rattle.seg_line_rules.specs.LineBoundaries.{line_verdict, complex_length, line_stretch_of, line_stretch}
 use Rattle.seg_line_rules.specs.LineRules.{TableRules}
 use Rattle.seg_line_rules.specs.LineUnits.{CountedUnit, extent_of, UnitsLeft, units_seen, line_elements}
@@ -265,7 +265,7 @@ not-empty rules here next first rest is ahead none =
 
 -- what is left after an event
 pub goes-on : (rules : TableRules Classic) (text after : Text) (n : ℕ) → after ≡ rest_after n text → length (drop n text.items) < length text.items
-    → GoesOn (lines_unread (unread rules text)) (lines_unread (unread rules after))
+    → LeavesLess (lines_unread (unread rules text)) (lines_unread (unread rules after))
 goes-on rules text after n is fewer = rw is (record { end = refl; fewer = λ some. fewer })
 
 pub break-leads : (rules : TableRules Classic) (text after : Text) (place : ℕ) (elements : List Element) (b : HasBreak rules text elements)
@@ -280,6 +280,6 @@ pub run-leads : (rules : TableRules Classic) (text left run after : Text) (place
 run-leads rules text left run after place r left_is run_is is = rw (is, run_is, left_is) r.leads
 
 pub run-goes : (rules : TableRules Classic) (text left after : Text) (place : ℕ) (r : HasRun rules text place) → left ≡ rest_after r.gone text
-    → after ≡ rest_after (run_extent rules left - 1) left → GoesOn (lines_unread (unread rules text)) (lines_unread (unread rules after))
+    → after ≡ rest_after (run_extent rules left - 1) left → LeavesLess (lines_unread (unread rules text)) (lines_unread (unread rules after))
 run-goes rules text left after place r left_is is =
     rw (is, left_is) (record { end = refl; fewer = λ some. r.fewer })

@@ -7,7 +7,7 @@ use Rattle.seg_text.specs.Boundaries.{RisesTo, Cuts, with_status, HasProgress, I
 use Rattle.seg_pairs.specs.Verdict.{Verdict, TakesOf, IsForward}
 use Rattle.seg_pairs.specs.Verdict.Verdict.{BreakAfter, GoAfter, RunBegins}
 use Rattle.seg_line_rules.specs.LineClasses.{LineEngine}
-use Rattle.seg_line_rules.specs.LineRules.{TableRules, line_class, is_complex, is_complex_class}
+use Rattle.seg_line_rules.specs.LineRules.{TableRules, line_class, is_complex_point, is_complex_class}
 use Rattle.seg_line_rules.specs.LineUnits.{LineUnit, CountedUnit, units_of}
 use Rattle.seg_line_rules.specs.LineVerdict.{unit_verdict}
 use Rattle.seg_line_rules.specs.LineBoundaries.{in_code_points, line_verdict, complex_length, line_stretch_of, line_stretch}
@@ -50,8 +50,8 @@ module _ {engine : LineEngine} (rules : TableRules engine) where
     pub second : ℕ
     pub others : List ℕ
     pub two : code_points ≡ second ∷ others
-    pub first_complex : is_complex rules code_point ≡ true
-    pub second_complex : is_complex rules second ≡ true
+    pub first_complex : is_complex_point rules code_point ≡ true
+    pub second_complex : is_complex_point rules second ≡ true
 
   run-units : (us : List CountedUnit) (w : Verdict) → in_code_points us w ≡ RunBegins → w ≡ RunBegins
   run-units us (BreakAfter n class) is = cc
@@ -59,7 +59,7 @@ module _ {engine : LineEngine} (rules : TableRules engine) where
   run-units us RunBegins is = refl
 
   second-unit : (code_points : List ℕ) (right : LineUnit) (after : List LineUnit) → units_of (units rules code_points) ≡ right ∷ after
-      → is_complex_class rules right.class ≡ true → (second : ℕ) × (others : List ℕ) × (code_points ≡ second ∷ others) × (is_complex rules second ≡ true)
+      → is_complex_class rules right.class ≡ true → (second : ℕ) × (others : List ℕ) × (code_points ≡ second ∷ others) × (is_complex_point rules second ≡ true)
   second-unit [] right after is complex = absurd (none (sym (ap units_of (no-units rules)) ∙ is))
     where
       none : [] ≡ right ∷ after → ⊥
@@ -118,8 +118,8 @@ module _ {engine : LineEngine} (rules : TableRules engine) where
       on RunBegins is takes =
           let n : ℕ = complex_length rules (code_point ∷ code_points) in
           let two = run-two code_point code_points (line-run code_point code_points is) in
-          let most = prefix_len-le-length (is_complex rules) (code_point ∷ code_points) in
-          let long = length-prefix_len (is_complex rules) (code_point ∷ code_points) in
+          let most = prefix_len-le-length (is_complex_point rules) (code_point ∷ code_points) in
+          let long = length-prefix_len (is_complex_point rules) (code_point ∷ code_points) in
           let there = stands (take n (code_point ∷ code_points)) (omega (arith, long, two)) in
           record {
             some = omega (arith, two);

@@ -12,7 +12,7 @@ use Rattle.seg_complex.specs.Scripts.{PieceCuts, piece_stretch, run_cuts}
 use Rattle.seg_line_rules.specs.LineClasses.LineEngine.{Classic}
 use Rattle.seg_line_rules.specs.declared.events.LineEvent.TheVariants.{Run}
 use Rattle.seg_line_rules.specs.LineBoundaries.{CutsCover, inside, line_stretch}
-use Rattle.seg_line_rules.specs.LineEvents.{Unread, UnreadLines, LeadsTo, later_of, unread_lines, places_before}
+use Rattle.seg_line_rules.specs.LineEvents.{UnreadText, UnreadLines, LeadsToEvent, later_of, unread_lines, places_before}
 use Rattle.seg_line_rules.specs.LineRules.{TableRules}
 use Rattle.seg_line_rules.proofs.Inside.{inside-stand}
 use Rattle.seg_line_rules.proofs.LineStretches.{line-within}
@@ -102,8 +102,8 @@ pub with-none : (later : List ℕ → List Boundary) (run : List ℕ) (left : Li
 with-none later run left none is = ap (λ (run : List ℕ). with_status 0 run ++ later run) none ∙ is
 
 -- a run came next, with its cuts
-pub run-next : {I : Type 0} (text : I → Text) (cuts : Cuts) (before after : Unread) (run : I) (end : ℕ) (found : List ℕ) (left : List Boundary)
-    → LeadsTo text before (Run run end) after → found ≡ cut_places (inside cuts) (text run) → later_of (inside cuts) before ≡ left
+pub run-next : {I : Type 0} (text : I → Text) (cuts : Cuts) (before after : UnreadText) (run : I) (end : ℕ) (found : List ℕ) (left : List Boundary)
+    → LeadsToEvent text before (Run run end) after → found ≡ cut_places (inside cuts) (text run) → later_of (inside cuts) before ≡ left
     → with_status 0 found ++ after.later (inside cuts) found ≡ left
 run-next text cuts before after run end found left leads is same =
     ap (λ (found : List ℕ). with_status 0 found ++ after.later (inside cuts) found) is

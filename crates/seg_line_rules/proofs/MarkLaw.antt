@@ -8,7 +8,7 @@ use Rattle.seg_text.proofs.Stretches.{later-nil, later-next}
 use Rattle.seg_pairs.specs.Verdict.{Verdict, TakesOf}
 use Rattle.seg_pairs.specs.Verdict.Verdict.{BreakAfter, GoAfter, RunBegins}
 use Rattle.seg_line_rules.specs.LineClasses.LineEngine.{Classic}
-use Rattle.seg_line_rules.specs.LineRules.{TableRules, is_complex, is_complex_class}
+use Rattle.seg_line_rules.specs.LineRules.{TableRules, is_complex_point, is_complex_class}
 use Rattle.seg_line_rules.specs.LineUnits.{CountedUnit, is_mark, units_of, extent_of}
 use Rattle.seg_line_rules.specs.LineVerdict.{unit_verdict}
 use Rattle.seg_line_rules.specs.LineBoundaries.{in_code_points, line_verdict, complex_length, line_stretch_of, line_stretch, line_boundaries, KeepsMarks}
@@ -68,7 +68,7 @@ module _ (rules : TableRules Classic) where
       on RunBegins is takes =
           let n : ℕ = complex_length rules (code_point ∷ code_points) in
           let two = run-two rules code_point code_points (line-run rules code_point code_points (ap (in_code_points us) is)) in
-          let long = length-prefix_len (is_complex rules) (code_point ∷ code_points) in
+          let long = length-prefix_len (is_complex_point rules) (code_point ∷ code_points) in
           run-part rules cuts stand apart (code_point ∷ code_points) (take n (code_point ∷ code_points)) (omega (arith, long, two)) long
 
   later-parts : (cuts : Cuts) → StandInside cuts → ((class : ℕ) → is_complex_class rules class ≡ true → is_mark Classic class ≡ false) → (most : ℕ) (code_points : List ℕ) → length code_points ≤ most

@@ -7,7 +7,7 @@ use Rattle.std.proofs.lemmas.Option.{get_or_from_slice_get}
 use Rattle.seg_text.specs.declared.boundary.Boundary.{Boundary}
 use Rattle.seg_text.specs.Boundaries.{RisesTo, shift_all, Cuts, with_status}
 use Rattle.seg_line_rules.specs.LineClasses.{LineEngine}
-use Rattle.seg_line_rules.specs.LineRules.{TableRules, line_class, is_complex, is_complex_class}
+use Rattle.seg_line_rules.specs.LineRules.{TableRules, line_class, is_complex_point, is_complex_class}
 use Rattle.seg_line_rules.specs.LineUnits.{is_mark}
 use Rattle.seg_line_rules.specs.LineBoundaries.{complex_length, KeepsMarks}
 use Rattle.seg_line_rules.proofs.UnitLists.{PartsAfter}
@@ -60,8 +60,8 @@ module _ {engine : LineEngine} (rules : TableRules engine) where
       one : (cut : ℕ) → 0 < cut → cut < complex_length rules code_points → Parts code_points cut
       one zero some within = absurd (omega (arith, some))
       one (suc k) some within = λ before mark here there is.
-          let passes : is_complex rules mark ≡ true =
-          ap (is_complex rules) (sym (get_or_from_slice_get code_points (suc k) mark mark there)) ∙ prefix_len_passes (is_complex rules) code_points (suc k) mark within in
+          let passes : is_complex_point rules mark ≡ true =
+          ap (is_complex_point rules) (sym (get_or_from_slice_get code_points (suc k) mark mark there)) ∙ prefix_len_passes (is_complex_point rules) code_points (suc k) mark within in
           absurd (false≢true (sym (apart (line_class rules mark) passes) ∙ is))
 
   -- .. and so do all cuts of a run

@@ -1,7 +1,7 @@
 -- Which classes are marks, and which bear them.
 use Rattle.std.proofs.Common.{◌≡◌, ℕ, ◌==◌, ◌||◌, ◌&&◌, not, Bool, true, false, List, [], ◌∷◌, refl, sym, ap, ◌∙◌, map}
 use Rattle.std.proofs.lemmas.Bool.{eqb-true}
-use Rattle.seg_line_rules.specs.LineClasses.{LineEngine, number}
+use Rattle.seg_line_rules.specs.LineClasses.{LineEngine, class_number}
 use Rattle.seg_line_rules.specs.LineClasses.LineClass.{BK, CM, CM_EASTASIAN, CR, LF, NL, SP, ZW, ZWJ}
 use Rattle.seg_line_rules.specs.LineClasses.LineEngine.{Classic, Seventeen}
 use Rattle.seg_line_rules.specs.LineRules.{is_among, is_named_class, is_one_of}
@@ -27,8 +27,8 @@ six engine class = is_one_of engine (BK ∷ CR ∷ LF ∷ NL ∷ SP ∷ ZW ∷ [
 -- a mark bears marks
 pub mark-bears : (engine : LineEngine) (class : ℕ) → is_mark engine class ≡ true → bears_none engine class ≡ false
 unfolding is_mark bears_none six
-mark-bears Classic class is = none-among (six Classic) (map (number Classic) (CM ∷ CM_EASTASIAN ∷ ZWJ ∷ [])) class (refl, (refl, (refl, tt))) is
-mark-bears Seventeen class is = none-among (six Seventeen) (map (number Seventeen) (CM ∷ CM_EASTASIAN ∷ ZWJ ∷ [])) class (refl, (refl, (refl, tt))) is
+mark-bears Classic class is = none-among (six Classic) (map (class_number Classic) (CM ∷ CM_EASTASIAN ∷ ZWJ ∷ [])) class (refl, (refl, (refl, tt))) is
+mark-bears Seventeen class is = none-among (six Seventeen) (map (class_number Seventeen) (CM ∷ CM_EASTASIAN ∷ ZWJ ∷ [])) class (refl, (refl, (refl, tt))) is
 
 -- a class without a name is no mark
 pub unnamed-apart : (class : ℕ) → is_named_class class ≡ false → is_mark Classic class ≡ false

@@ -10,7 +10,7 @@ use Rattle.seg_line_rules.specs.declared.line_pairs.LinePairs.{LinePairs}
 use Rattle.seg_line_rules.specs.declared.line_pairs.OwnedLinePairs.{OwnedLinePairs}
 use Rattle.seg_line_rules.specs.LineClasses.{LineEngine}
 use Rattle.seg_line_rules.specs.LineClasses.LineEngine.{Classic}
-use Rattle.seg_line_rules.specs.LineRules.{TableRules, line_class, is_complex}
+use Rattle.seg_line_rules.specs.LineRules.{TableRules, line_class, is_complex_point}
 use Rattle.seg_line_rules.specs.LineUnits.{CountedUnit, counted_units, units_of, extent_of, is_mark, bears_none}
 use Rattle.seg_line_rules.specs.LineVerdict.{unit_verdict}
 
@@ -37,7 +37,7 @@ line_verdict rules code_points =
 
 -- how many complex code points stand first
 abbrev pub complex_length : {engine : LineEngine} → TableRules engine → List ℕ → ℕ
-complex_length rules code_points = prefix_len (is_complex rules) code_points
+complex_length rules code_points = prefix_len (is_complex_point rules) code_points
 
 -- the first stretch of some code points by the verdict on their first unit. A run is cut in some way, and takes all its code
 -- points but the last, which the next verdict is on

@@ -46,38 +46,38 @@ IsItemAhead rules here next rest = IsAheadBy rules.table (line_class rules) here
 -- What comes next of a text that is read line by line, by either engine.
 
 -- a text that isn't read yet, and its boundaries but that at its start, by how runs are cut and by the cuts that are left of a run before it
-pub record Unread : Type 0 where
+pub record UnreadText : Type 0 where
   pub text : Text
   pub later : Cuts → List ℕ → List Boundary
 
 -- .. where no cut is left of a run
-abbrev pub later_of : Cuts → Unread → List Boundary
+abbrev pub later_of : Cuts → UnreadText → List Boundary
 later_of cuts unread = unread.later cuts []
 
 -- what comes next, however runs are cut: the end, nothing, a boundary, or a run with its cuts
-abbrev pub LeadsTo : {I : Type 0} → (I → Text) → Unread → LineEvent I → Unread → Type 0
-LeadsTo text before End after = (before.text.items ≡ []) × ((after ≡ before) × ((cuts : Cuts) → later_of cuts before ≡ []))
-LeadsTo text before Go after = (before.text.items ≢ []) × ((cuts : Cuts) → later_of cuts before ≡ later_of cuts after)
-LeadsTo text before (Break place) after = (cuts : Cuts) → later_of cuts before ≡ boundary place 0 ∷ later_of cuts after
-LeadsTo text before (Run run end) after =
+abbrev pub LeadsToEvent : {I : Type 0} → (I → Text) → UnreadText → LineEvent I → UnreadText → Type 0
+LeadsToEvent text before End after = (before.text.items ≡ []) × ((after ≡ before) × ((cuts : Cuts) → later_of cuts before ≡ []))
+LeadsToEvent text before Go after = (before.text.items ≢ []) × ((cuts : Cuts) → later_of cuts before ≡ later_of cuts after)
+LeadsToEvent text before (Break place) after = (cuts : Cuts) → later_of cuts before ≡ boundary place 0 ∷ later_of cuts after
+LeadsToEvent text before (Run run end) after =
     (before.text.items ≢ []) × (end ≡ (text run).end)
     × ((cuts : Cuts) → AreCutsOf (length (text run).items) (cuts (code_points (text run).items))
     → later_of cuts before ≡ with_status 0 (cut_places cuts (text run)) ++ after.later cuts (cut_places cuts (text run)))
 
 -- plain pairs lead to a boundary, or to none
-abbrev pub LeadsToBreak : Unread → Option ℕ → Unread → Type 0
+abbrev pub LeadsToBreak : UnreadText → Option ℕ → UnreadText → Type 0
 LeadsToBreak before (Some place) after = (cuts : Cuts) → later_of cuts before ≡ boundary place 0 ∷ later_of cuts after
 LeadsToBreak before None after =
     ((cuts : Cuts) → later_of cuts before ≡ later_of cuts after) × (length after.text.items ≤ length before.text.items)
 
 -- less of the text is left
-pub record GoesOn (before after : Unread) : Type 0 where
+pub record LeavesLess (before after : UnreadText) : Type 0 where
   pub end : after.text.end ≡ before.text.end
   pub fewer : before.text.items ≢ [] → length after.text.items < length before.text.items
 
 -- what is left of a text of lines: the boundary at its start, where it isn't given yet, the cuts that are left of a run, and then the
 -- boundaries of what isn't read; no status of a boundary of lines is other than 0
-abbrev pub line_remainder : Cuts → Bool → List ℕ → Unread → Remainder
+abbrev pub line_remainder : Cuts → Bool → List ℕ → UnreadText → Remainder
 line_remainder cuts started run unread =
     let rest = with_status 0 run ++ unread.later cuts run in
     record { left = if started then rest else boundary (start_of unread.text) 0 ∷ rest; status = 0 }
@@ -97,7 +97,7 @@ pub record UnreadLines : Type 0 where
 abbrev pub unread_lines : Cuts → UnreadLines → List Boundary
 unread_lines cuts unread = boundaries_in (later_boundaries (line_stretch cuts unread.rules)) unread.text
 
-abbrev pub lines_unread : UnreadLines → Unread
+abbrev pub lines_unread : UnreadLines → UnreadText
 lines_unread unread = record { text = unread.text; later = λ cuts run. unread_lines cuts unread }
 
 -- the first unit, where there is one, and the others are those of the text

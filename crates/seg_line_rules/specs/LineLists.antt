@@ -4,15 +4,15 @@ use Rattle.std.specs.Option.{option_map, option_map_or}
 use Rattle.seg_line_rules.specs.declared.options.LineBreakStrictness.{LineBreakStrictness}
 use Rattle.seg_line_rules.specs.declared.options.LineBreakStrictness.TheVariants as strictness
 use Rattle.seg_line_rules.specs.declared.options.LineStyle.{LineStyle}
-use Rattle.seg_line_rules.specs.LineClasses.{LineClass, LineEngine, number}
+use Rattle.seg_line_rules.specs.LineClasses.{LineClass, LineEngine, class_number}
 use Rattle.seg_line_rules.specs.LineClasses.LineClass.{AI, AI_EASTASIAN, BA, CJ, EX, EX_EASTASIAN, H2, H3, HY, ID, ID_EASTASIAN, IN, IN_EASTASIAN, JL, JT, JV, NS, NS_EASTASIAN, NU, PO, PO_EASTASIAN, PR, PR_EASTASIAN}
 use Rattle.seg_line_rules.specs.LineClasses.LineEngine.{Classic, Seventeen}
-use Rattle.seg_line_rules.specs.LineRules.{is_among, is_keep_all, is_one_of, letters}
+use Rattle.seg_line_rules.specs.LineRules.{is_among, is_keep_all, is_one_of, alphabetic}
 
 -- under KeepAll no boundary stands between two of these
 unfoldable pub is_kept : LineEngine → ℕ → Bool
 is_kept engine class =
-    is_one_of engine (AI ∷ AI_EASTASIAN ∷ ID ∷ ID_EASTASIAN ∷ NU ∷ HY ∷ H2 ∷ H3 ∷ JL ∷ JV ∷ JT ∷ CJ ∷ letters engine) class
+    is_one_of engine (AI ∷ AI_EASTASIAN ∷ ID ∷ ID_EASTASIAN ∷ NU ∷ HY ∷ H2 ∷ H3 ∷ JL ∷ JV ∷ JT ∷ CJ ∷ alphabetic engine) class
 
 unfoldable pub keeps : LineEngine → LineStyle → ℕ → ℕ → Bool
 keeps engine style left right = is_keep_all style.word_option && is_kept engine left && is_kept engine right
@@ -37,7 +37,7 @@ loose_row right right_code_points left left_code_points always = record {
 
 -- the rows by the right unit, of these classes and, where some are given, code points
 abbrev pub numbers_of : LineEngine → List LineClass → Option (List ℕ)
-numbers_of engine classes = Some (map (number engine) classes)
+numbers_of engine classes = Some (map (class_number engine) classes)
 
 abbrev pub row_before : LineEngine → List LineClass → Option (List ℕ) → Bool → LooseRow
 row_before engine classes code_points always = loose_row (numbers_of engine classes) code_points None None always

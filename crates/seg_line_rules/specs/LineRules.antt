@@ -12,7 +12,7 @@ use Rattle.seg_line_rules.specs.declared.options.LineBreakStrictness.TheVariants
 use Rattle.seg_line_rules.specs.declared.options.LineBreakWordOption.{LineBreakWordOption}
 use Rattle.seg_line_rules.specs.declared.options.LineBreakWordOption.TheVariants as word_option
 use Rattle.seg_line_rules.specs.declared.options.LineStyle.{LineStyle}
-use Rattle.seg_line_rules.specs.LineClasses.{LineClass, LineEngine, number}
+use Rattle.seg_line_rules.specs.LineClasses.{LineClass, LineEngine, class_number}
 use Rattle.seg_line_rules.specs.LineClasses.LineClass.{AL, AL_DOTTED_CIRCLE, AL_EASTASIAN, CJ, ID, NU, SA, SA_MC_MN}
 use Rattle.seg_line_rules.specs.LineClasses.LineEngine.{Classic, Seventeen}
 
@@ -67,21 +67,21 @@ is_among (one ∷ others) number = number == one || is_among others number
 
 -- .. or that of one of these classes
 abbrev pub is_one_of : LineEngine → List LineClass → ℕ → Bool
-is_one_of engine classes class = is_among (map (number engine) classes) class
+is_one_of engine classes class = is_among (map (class_number engine) classes) class
 
--- letters that no other class has: the engine 17 tells the wide ones and the dotted circle apart
-abbrev pub letters : LineEngine → List LineClass
-letters Classic = AL ∷ []
-letters Seventeen = AL ∷ AL_DOTTED_CIRCLE ∷ AL_EASTASIAN ∷ []
+-- the classes of letters that have no other: the engine 17 tells the wide ones and the dotted circle apart
+abbrev pub alphabetic : LineEngine → List LineClass
+alphabetic Classic = AL ∷ []
+alphabetic Seventeen = AL ∷ AL_DOTTED_CIRCLE ∷ AL_EASTASIAN ∷ []
 
 -- a class that the options read as ID: CJ under BreakAll, Loose or Normal; complex, digits and letters under BreakAll
 abbrev pub is_read_as_id : LineEngine → LineStyle → ℕ → ℕ → Bool
 is_read_as_id engine style complex class =
     (is_one_of engine (CJ ∷ []) class && (is_break_all style.word_option || is_loose_or_normal style.strictness))
-    || (is_among (complex ∷ map (number engine) (NU ∷ letters engine)) class && is_break_all style.word_option)
+    || (is_among (complex ∷ map (class_number engine) (NU ∷ alphabetic engine)) class && is_break_all style.word_option)
 
 abbrev pub class_read : LineEngine → LineStyle → ℕ → ℕ → ℕ
-class_read engine style complex class = if is_read_as_id engine style complex class then number engine ID else class
+class_read engine style complex class = if is_read_as_id engine style complex class then class_number engine ID else class
 
 -- the class of a code point, as the options read it
 unfoldable pub line_class : {engine : LineEngine} → TableRules engine → ℕ → ℕ
@@ -99,8 +99,8 @@ is_complex_by Seventeen t class = is_complex_context class
 abbrev pub is_complex_class : {engine : LineEngine} → TableRules engine → ℕ → Bool
 is_complex_class {engine} rules class = is_complex_by engine rules.table class
 
-abbrev pub is_complex : {engine : LineEngine} → TableRules engine → ℕ → Bool
-is_complex rules code_point = is_complex_class rules (line_class rules code_point)
+abbrev pub is_complex_point : {engine : LineEngine} → TableRules engine → ℕ → Bool
+is_complex_point rules code_point = is_complex_class rules (line_class rules code_point)
 
 -- The faults of the data of lines.
 
@@ -111,7 +111,7 @@ is_named_class class = (nat_le 1 class && nat_le class 45) || (nat_le 47 class &
 -- the faults of a pair table of lines: it has no class ID, a code point below U+0100 is complex, before the options read its
 -- class, or the complex class is one that has a name
 abbrev pub HasOwnLineFault : PairTable → DataError → Type 0
-HasOwnLineFault t ClassOutOfRange = t.property_count ≤ number Classic ID
+HasOwnLineFault t ClassOutOfRange = t.property_count ≤ class_number Classic ID
 HasOwnLineFault t ComplexBelow0100 = HasComplexClassBelow0100 t None
 HasOwnLineFault t ComplexClassNamed = is_named_class t.complex_property ≡ true
 HasOwnLineFault t _ = ⊥

@@ -2,7 +2,7 @@
 use Rattle.std.specs.Prelude.{ℕ, zero, suc, ◌+◌, ◌==◌, ◌&&◌, not, Bool, true, false, if◌then◌else◌, List, [], ◌∷◌, map, ◌≡◌, ◌<◌, Option, Some, None, IfSome}
 use Rattle.seg_text.specs.Items.{Item}
 use Rattle.seg_pairs.specs.declared.elements.Element.{Element}
-use Rattle.seg_line_rules.specs.LineClasses.{LineEngine, number}
+use Rattle.seg_line_rules.specs.LineClasses.{LineEngine, class_number}
 use Rattle.seg_line_rules.specs.LineClasses.LineClass.{BK, CM, CM_EASTASIAN, CR, LF, NL, SP, ZW, ZWJ}
 use Rattle.seg_line_rules.specs.LineClasses.LineEngine.{Classic, Seventeen}
 use Rattle.seg_line_rules.specs.LineRules.{TableRules, line_class, is_one_of}
@@ -27,7 +27,7 @@ abbrev pub is_glued : LineEngine → ℕ → ℕ → Bool
 is_glued engine base class = is_mark engine class && not (bears_none engine base)
 
 abbrev pub is_joiner : LineEngine → ℕ → Bool
-is_joiner engine class = class == number engine ZWJ
+is_joiner engine class = class == class_number engine ZWJ
 
 -- a code point alone, and a unit with one mark more: lists look at the base on the left, those of the engine 17 at the last code point
 abbrev pub base_unit : {engine : LineEngine} → TableRules engine → ℕ → LineUnit

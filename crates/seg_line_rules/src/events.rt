@@ -5,9 +5,9 @@ ghost use Rattle.std.specs.Prelude.{◌≡◌, ◌-◌, ℕ, List, Some, [], ◌
 ghost use Rattle.seg_text.specs.Items.{prefix_length, rest_after, start_of, text_before};
 ghost use Rattle.seg_text.specs.Boundaries.{Cuts};
 ghost use Rattle.seg_pairs.specs.Elements.{onto, place_at};
-ghost use Rattle.seg_line_rules.specs.LineEvents.{HasClass, IsItemAhead, text_from, AreUnitsAhead, LeadsTo, LeadsToBreak, GoesOn};
+ghost use Rattle.seg_line_rules.specs.LineEvents.{HasClass, IsItemAhead, text_from, AreUnitsAhead, LeadsToEvent, LeadsToBreak, LeavesLess};
 ghost use Rattle.seg_line_rules.specs.LineBoundaries.{rules_by};
-ghost use Rattle.seg_line_rules.specs.LineRules.{is_complex};
+ghost use Rattle.seg_line_rules.specs.LineRules.{is_complex_point};
 
 use crate::line_pairs::LinePairs;
 use crate::plain_pairs::{ClassedItem, asks_more, plain_pairs};
@@ -34,13 +34,13 @@ pub enum LineEvent<I: Cursor> {
 
 /// A text whose lines are found one after another, by either engine.
 pub trait LineSource: Drop {
-    ghost use Rattle.seg_line_rules.specs.LineEvents.{Unread};
+    ghost use Rattle.seg_line_rules.specs.LineEvents.{UnreadText};
 
     /// A text in which runs stand.
     type Text: Cursor;
 
     /// What isn't read yet.
-    ghost unread: { Self → Unread };
+    ghost unread: { Self → UnreadText };
 
     /// Where the text that is left begins.
     fn place(&self) -> usize
@@ -61,8 +61,8 @@ pub trait LineSource: Drop {
 
     /// What comes next. After the end it is the end for ever.
     fn next_event(&mut self) -> LineEvent<Self::Text>
-        ensures leads { LeadsTo Self.Text.text (unread self.old) result (unread self.new) }
-        ensures goes { GoesOn (unread self.old) (unread self.new) };
+        ensures leads { LeadsToEvent Self.Text.text (unread self.old) result (unread self.new) }
+        ensures goes { LeavesLess (unread self.old) (unread self.new) };
 
     /// The same text once more, from the same place on. Takes no memory.
     fn fork(&self) -> Self
@@ -226,9 +226,9 @@ struct ComplexPoints<'data> {
 
 impl<'data> CodePointTest for ComplexPoints<'data> {
     ghost use Rattle.seg_line_rules.specs.LineBoundaries.{rules_by};
-    ghost use Rattle.seg_line_rules.specs.LineRules.{is_complex};
+    ghost use Rattle.seg_line_rules.specs.LineRules.{is_complex_point};
 
-    ghost passes = { λ test code_point. is_complex (rules_by test.pairs) code_point };
+    ghost passes = { λ test code_point. is_complex_point (rules_by test.pairs) code_point };
 
     fn accepts(&self, code_point: u32) -> bool {
         is_complex(self.pairs, code_point)
@@ -238,9 +238,9 @@ impl<'data> CodePointTest for ComplexPoints<'data> {
 /// The run of complex items that a text begins with. `rest` goes on at the last of them. Apart, so that its loop has the registers.
 #[inline(never)]
 fn complex_run<I: Cursor>(pairs: LinePairs<'_>, rest: &mut I) -> (I, usize)
-    ensures run { I.text result.0 ≡ text_before (prefix_length (is_complex (rules_by pairs.entry)) (I.text rest.old)) (I.text rest.old) }
+    ensures run { I.text result.0 ≡ text_before (prefix_length (is_complex_point (rules_by pairs.entry)) (I.text rest.old)) (I.text rest.old) }
     ensures end { result.1 ≡ (I.text result.0).end }
-    ensures rest { I.text rest.new ≡ rest_after (prefix_length (is_complex (rules_by pairs.entry)) (I.text rest.old) - 1) (I.text rest.old) }
+    ensures rest { I.text rest.new ≡ rest_after (prefix_length (is_complex_point (rules_by pairs.entry)) (I.text rest.old) - 1) (I.text rest.old) }
 {
     take_run(rest, &ComplexPoints { pairs })
 }
@@ -281,7 +281,7 @@ fn run_ends<I: Cursor, T: CodePointTest>(rest: &I, test: &T) -> (usize, usize)
 
 /// Whether a code point is complex, as the options read its class.
 fn is_complex(pairs: LinePairs<'_>, code_point: u32) -> bool
-    ensures { result ≡ is_complex (rules_by pairs.entry) code_point }
+    ensures { result ≡ is_complex_point (rules_by pairs.entry) code_point }
 {
     pairs.class(code_point) == pairs.table().complex_property()
 }

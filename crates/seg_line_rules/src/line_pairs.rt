@@ -2,7 +2,7 @@
 ghost use Rattle.std.specs.Prelude.{◌≡◌, ◌<◌, false, None, IfOk, IfErr};
 ghost use Rattle.seg_data.specs.Faults.{IsFaultless, IsLowestFault};
 ghost use Rattle.seg_pair_data.specs.PairData.{HasPairDataFault};
-ghost use Rattle.seg_line_rules.specs.LineClasses.{number};
+ghost use Rattle.seg_line_rules.specs.LineClasses.{class_number};
 ghost use Rattle.seg_line_rules.specs.LineClasses.LineClass.{ID};
 ghost use Rattle.seg_line_rules.specs.LineClasses.LineEngine.{Classic};
 ghost use Rattle.seg_line_rules.specs.LineRules.{is_named_class, class_read, is_read_as_id, is_loose_or_normal};
@@ -17,7 +17,7 @@ use seg_pair_data::provider::RuleBreakData;
 pub struct OwnedLinePairs {
     table: RuleBreakData,
     style: LineStyle,
-    ghost has_id: { number Classic ID < table.property_count },
+    ghost has_id: { class_number Classic ID < table.property_count },
     ghost complex_apart: { is_named_class table.complex_property ≡ false },
 }
 
@@ -55,7 +55,7 @@ impl OwnedLinePairs {
 pub struct LinePairs<'data> {
     table: &'data RuleBreakData,
     style: LineStyle,
-    ghost has_id: { number Classic ID < table.now.property_count },
+    ghost has_id: { class_number Classic ID < table.now.property_count },
     ghost complex_apart: { is_named_class table.now.complex_property ≡ false },
 }
 

@@ -12,11 +12,11 @@ use Rattle.seg_line_rules.specs.LineEvents.{asks_more, text_from, HasClass}
 use Rattle.seg_line_rules.specs.declared.plain_pairs.PlainPair.{PlainPair}
 use Rattle.seg_line_rules.specs.declared.plain_pairs.PlainPair.TheVariants as plain
 use Rattle.seg_line_rules.specs.declared.plain_pairs.ClassedItem.{ClassedItem}
-use Rattle.seg_line_rules.specs.LineClasses.{number}
+use Rattle.seg_line_rules.specs.LineClasses.{class_number}
 use Rattle.seg_line_rules.specs.LineClasses.LineClass.{CM, CM_EASTASIAN, HH, HY, IS, QU_PF, SA, SA_MC_MN, SP, ZWJ}
 use Rattle.seg_line_rules.specs.LineClasses.LineEngine.{Seventeen}
 use Rattle.seg_line_rules.proofs.PlainPairs.{and-first, and-last, and-off, if-off, keeps-off, listed-off, not-true, said-break, said-go}
-use Rattle.seg_line_turns.specs.TurnEvents.{IsPassedByTurns, entry_turn, going_text, is_asked, is_plain, is_unanswered, passed_turns, plain_turn, unread_turns}
+use Rattle.seg_line_turns.specs.TurnEvents.{IsPassedByTurns, entry_turn, going_text, is_asked, is_plain_turn, is_unanswered, passed_turns, plain_turn, unread_turns}
 use Rattle.seg_line_turns.specs.TurnBoundaries.{later_turns, turn_stretch_of}
 use Rattle.seg_line_turns.specs.TurnClasses.{is_before_hyphen, is_before_quote, is_glue, is_hyphen, is_infix, is_opening, is_quote, is_space}
 use Rattle.seg_line_turns.specs.TurnRules.{LeftUnit, is_joined, left_unit}
@@ -60,27 +60,27 @@ not-among test class asked none = on (test class) refl
 
 glue-asked : (class : ℕ) → is_glue class ≡ true → unasked class ≡ false
 unfolding is_glue unasked
-glue-asked class among = none-among unasked (map (number Seventeen) (CM ∷ CM_EASTASIAN ∷ SA_MC_MN ∷ ZWJ ∷ [])) class (refl, (refl, (refl, (refl, tt)))) among
+glue-asked class among = none-among unasked (map (class_number Seventeen) (CM ∷ CM_EASTASIAN ∷ SA_MC_MN ∷ ZWJ ∷ [])) class (refl, (refl, (refl, (refl, tt)))) among
 
 complex-asked : (class : ℕ) → is_complex_context class ≡ true → unasked class ≡ false
 unfolding is_complex_context unasked
-complex-asked class among = none-among unasked (map (number Seventeen) (SA ∷ SA_MC_MN ∷ [])) class (refl, (refl, tt)) among
+complex-asked class among = none-among unasked (map (class_number Seventeen) (SA ∷ SA_MC_MN ∷ [])) class (refl, (refl, tt)) among
 
 hyphen-asked : (class : ℕ) → is_hyphen class ≡ true → unasked class ≡ false
 unfolding is_hyphen unasked
-hyphen-asked class among = none-among unasked (map (number Seventeen) (HH ∷ HY ∷ [])) class (refl, (refl, tt)) among
+hyphen-asked class among = none-among unasked (map (class_number Seventeen) (HH ∷ HY ∷ [])) class (refl, (refl, tt)) among
 
 space-asked : (class : ℕ) → is_space class ≡ true → unasked class ≡ false
 unfolding unasked
-space-asked class is = let same : class ≡ number Seventeen SP = eqb-true class (number Seventeen SP) is in rw same refl
+space-asked class is = let same : class ≡ class_number Seventeen SP = eqb-true class (class_number Seventeen SP) is in rw same refl
 
 infix-asked : (class : ℕ) → is_infix class ≡ true → unasked class ≡ false
 unfolding unasked
-infix-asked class is = let same : class ≡ number Seventeen IS = eqb-true class (number Seventeen IS) is in rw same refl
+infix-asked class is = let same : class ≡ class_number Seventeen IS = eqb-true class (class_number Seventeen IS) is in rw same refl
 
 quote-asked : (class : ℕ) → is_quote class ≡ true → unasked class ≡ false
 unfolding unasked
-quote-asked class is = let same : class ≡ number Seventeen QU_PF = eqb-true class (number Seventeen QU_PF) is in rw same refl
+quote-asked class is = let same : class ≡ class_number Seventeen QU_PF = eqb-true class (class_number Seventeen QU_PF) is in rw same refl
 
 -- no rule that asks of the right class finds on the left what it asks of
 record Unanswered (left right : ℕ) : Type 0 where
@@ -141,7 +141,7 @@ unanswered left right is =
       hyphen = sign-hyphen (is_infix right) (is_quote right) (is_hyphen right) (is_space left) (is_before_quote left) (is_before_hyphen left) signs;
     }
 
-plain-unanswered : (left right : ℕ) → is_plain left right ≡ true → Unanswered left right
+plain-unanswered : (left right : ℕ) → is_plain_turn left right ≡ true → Unanswered left right
 plain-unanswered left right is = on (is_asked right) refl is
   where
     on : (b : Bool) → is_asked right ≡ b → (not b || is_unanswered left right) ≡ true → Unanswered left right
@@ -180,7 +180,7 @@ module _ (rules : TableRules Seventeen) (opened : Bool) (left right : ℕ) (afte
       (listed-off Seventeen rules.style (is_joined unit) unit.class unit.last_code_point class right few)
       ∙ class-plain none
 
-  turn-plain : asks_more rules.style ≡ false → is_plain unit.class class ≡ true → turn rules opened unit (right ∷ after) ≡ by_table
+  turn-plain : asks_more rules.style ≡ false → is_plain_turn unit.class class ≡ true → turn rules opened unit (right ∷ after) ≡ by_table
   turn-plain few is =
       let none = plain-unanswered unit.class class is in
       turn-cons rules opened unit right after ∙ if-off _ _ _ (and-off _ _ (and-off (is_glue class) _ none.glue))
@@ -205,12 +205,12 @@ module _ (rules : TableRules Seventeen) (opened : Bool) (left right : ℕ) (afte
 
   go-plain : asks_more rules.style ≡ false → plain_turn rules.table unit.class class ≡ plain.Go → turn rules opened unit (right ∷ after) ≡ GoTo 1 opened
   go-plain few is =
-      let said = said-go (is_plain unit.class class) _ is in
+      let said = said-go (is_plain_turn unit.class class) _ is in
       turn-plain few said.0 ∙ ap (table_turn rules opened unit class after) (entry-go _ _ said.1)
 
   break-plain : asks_more rules.style ≡ false → plain_turn rules.table unit.class class ≡ plain.Break → turn rules opened unit (right ∷ after) ≡ BreakAt 1 1
   break-plain few is =
-      let said = said-break (is_plain unit.class class) _ is in
+      let said = said-break (is_plain_turn unit.class class) _ is in
       let both = entry-break _ _ said.1 in
       turn-plain few said.0 ∙ ap (table_turn rules opened unit class after) both.1 ∙ if-off _ _ _ both.0
 

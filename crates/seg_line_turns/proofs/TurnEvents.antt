@@ -7,9 +7,9 @@ use Rattle.seg_text.specs.Items.{Item, Text, start_of, rest_after, text_before, 
 use Rattle.seg_text.specs.Boundaries.{boundary, boundary_in, boundaries_in, shift_all, Cuts, AreCutsOf, with_status, cut_places}
 use Rattle.seg_text.proofs.Places.{in-append, in-shift, code_points-drop}
 use Rattle.seg_pairs.proofs.Events.{cuts-placed}
-use Rattle.seg_line_rules.specs.LineRules.{TableRules, is_complex}
+use Rattle.seg_line_rules.specs.LineRules.{TableRules, is_complex_point}
 use Rattle.seg_line_rules.specs.declared.plain_pairs.ClassedItem.{ClassedItem}
-use Rattle.seg_line_rules.specs.LineEvents.{GoesOn, text_from, HasClass, IsItemAhead}
+use Rattle.seg_line_rules.specs.LineEvents.{LeavesLess, text_from, HasClass, IsItemAhead}
 use Rattle.seg_line_rules.specs.LineBoundaries.{complex_length}
 use Rattle.seg_line_rules.specs.LineClasses.LineEngine.{Seventeen}
 use Rattle.seg_line_turns.specs.declared.turn_units.Left.{Left}
@@ -120,7 +120,7 @@ module _ (rules : TableRules Seventeen) where
 
   -- a run
   abbrev extent : Text → ℕ
-  extent left = prefix_length (is_complex rules) left
+  extent left = prefix_length (is_complex_point rules) left
 
   pub record ToRun (starts opened : Bool) (here : Text) (place : ℕ) (after : Bool) : Type 0 where
     pub first : ℕ
@@ -161,7 +161,7 @@ module _ (rules : TableRules Seventeen) where
       let left : Text = rest_after at here in
       let points : drop at (code_points here.items) ≡ code_points left.items = sym (code_points-drop at here.items) in
       let two : 1 < extent left = subst (λ (xs : List ℕ). 1 < complex_length rules xs) points turns.forward in
-      let most = prefix_len-le-length (is_complex rules) (code_points left.items) in
+      let most = prefix_len-le-length (is_complex_point rules) (code_points left.items) in
       let long = length-map left.items (λ (item : Item). item.1) in
       record {
         first = at;
@@ -230,11 +230,11 @@ first-of text rules here next one rest copy is ahead same =
 
 -- nothing is left
 pub ends-here : (rules : TableRules Seventeen) (starts opened : Bool) (here : Text) → here.items ≡ []
-    → GoesOn (turns_unread (unread_by rules starts opened here)) (turns_unread (unread_by rules starts opened here))
+    → LeavesLess (turns_unread (unread_by rules starts opened here)) (turns_unread (unread_by rules starts opened here))
 ends-here rules starts opened here none = record { end = refl; fewer = λ some. absurd (some none) }
 
 pub goes-on : (rules : TableRules Seventeen) (starts opened wide : Bool) (here after : Text) (n : ℕ) → after ≡ rest_after n here → length (drop n here.items) < length here.items
-    → GoesOn (turns_unread (unread_by rules starts opened here)) (turns_unread (unread_by rules false wide after))
+    → LeavesLess (turns_unread (unread_by rules starts opened here)) (turns_unread (unread_by rules false wide after))
 goes-on rules starts opened wide here after n is fewer = rw is (record { end = refl; fewer = λ some. fewer })
 
 pub break-leads : (rules : TableRules Seventeen) (starts opened : Bool) (here after : Text) (place resume : ℕ) → (b : ToBreak rules starts opened here place resume) → after ≡ rest_after b.taken here
@@ -246,12 +246,12 @@ pub go-leads : (rules : TableRules Seventeen) (starts opened wide : Bool) (here 
 go-leads rules starts opened wide here after place b is cuts = rw is (b.leads cuts)
 
 pub run-leads-to : (rules : TableRules Seventeen) (starts opened wide : Bool) (here left run after : Text) (place : ℕ) → (r : ToRun rules starts opened here place wide) → left ≡ rest_after r.first here
-    → run ≡ text_before (prefix_length (is_complex rules) left) left → after ≡ rest_after (prefix_length (is_complex rules) left - 1) left
+    → run ≡ text_before (prefix_length (is_complex_point rules) left) left → after ≡ rest_after (prefix_length (is_complex_point rules) left - 1) left
     → (cuts : Cuts) → AreCutsOf (length run.items) (cuts (code_points run.items))
     → unread_turns cuts (unread_by rules starts opened here) ≡ with_status 0 (cut_places cuts run) ++ unread_turns cuts (after_cuts (cut_places cuts run) (unread_by rules false wide after))
 run-leads-to rules starts opened wide here left run after place r left_is run_is is = rw (is, run_is, left_is) r.leads
 
 pub run-goes : (rules : TableRules Seventeen) (starts opened wide : Bool) (here left after : Text) (place : ℕ) (r : ToRun rules starts opened here place wide) → left ≡ rest_after r.first here
-    → after ≡ rest_after (prefix_length (is_complex rules) left - 1) left → GoesOn (turns_unread (unread_by rules starts opened here)) (turns_unread (unread_by rules false wide after))
+    → after ≡ rest_after (prefix_length (is_complex_point rules) left - 1) left → LeavesLess (turns_unread (unread_by rules starts opened here)) (turns_unread (unread_by rules false wide after))
 run-goes rules starts opened wide here left after place r left_is is =
     rw (is, left_is) (record { end = refl; fewer = λ some. r.fewer })

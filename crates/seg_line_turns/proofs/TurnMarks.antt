@@ -10,8 +10,8 @@ use Rattle.seg_pair_data.specs.declared.provider.pairs.BreakState.TheVariants.{B
 use Rattle.seg_pair_data.specs.PairTable.{named_state, is_intermediate, IsPairTable, class_of, entry_of}
 use Rattle.seg_pair_data.proofs.Pairs.{class-below, class-table}
 use Rattle.seg_pairs.specs.Walk.{is_class}
-use Rattle.seg_line_rules.specs.LineRules.{TableRules, is_complex, is_complex_context, is_read_as_id, line_class}
-use Rattle.seg_line_rules.specs.LineClasses.{number}
+use Rattle.seg_line_rules.specs.LineRules.{TableRules, is_complex_point, is_complex_context, is_read_as_id, line_class}
+use Rattle.seg_line_rules.specs.LineClasses.{class_number}
 use Rattle.seg_line_rules.specs.LineClasses.LineClass.{ID}
 use Rattle.seg_line_rules.specs.LineBoundaries.{KeepsMarks}
 use Rattle.seg_line_rules.specs.LineUnits.{is_mark, is_glued, bears_none, is_joiner}
@@ -37,7 +37,7 @@ false-not : false ≡ true → ⊥
 false-not is = cc
 
 -- each code point's class is one of the table's, read as ID or not
-pub class-below-count : (rules : TableRules Seventeen) → IsPairTable rules.table → number Seventeen ID < rules.table.property_count → (code_point : ℕ)
+pub class-below-count : (rules : TableRules Seventeen) → IsPairTable rules.table → class_number Seventeen ID < rules.table.property_count → (code_point : ℕ)
     → line_class rules code_point < rules.table.property_count
 unfolding line_class
 class-below-count rules checked has_id code_point = on (is_read_as_id Seventeen rules.style rules.table.complex_property class)
@@ -45,7 +45,7 @@ class-below-count rules checked has_id code_point = on (is_read_as_id Seventeen 
     class : ℕ
     class = class_of rules.table None code_point
 
-    on : (is_id : Bool) → (if is_id then number Seventeen ID else class) < rules.table.property_count
+    on : (is_id : Bool) → (if is_id then class_number Seventeen ID else class) < rules.table.property_count
     on true = has_id
     on false = class-below rules.table code_point class checked (class-table rules.table None code_point refl)
 
@@ -280,7 +280,7 @@ module _ (rules : TableRules Seventeen) where
       stretch-parts whole (GoTo place opened) is good = tt
       stretch-parts whole (RunAt first opened) two good =
           let rest : List ℕ = drop first whole in
-          let long = length-prefix_len (is_complex rules) rest in
+          let long = length-prefix_len (is_complex_point rules) rest in
           all-later rules first whole (with_status 0 (cuts (run_of rules rest))) (run-part rules cuts stand complex-apart rest (run_of rules rest) (omega (arith, long, two)) long)
 
       turns-part : (most : ℕ) (starts opened : Bool) (xs : List ℕ) → length xs ≤ most → AllPart rules xs (later_turns cuts rules starts opened xs)

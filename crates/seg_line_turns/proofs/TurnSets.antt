@@ -2,7 +2,7 @@
 use Rattle.std.proofs.Common.{◌≡◌, ℕ, ◌==◌, ◌||◌, Bool, true, false, List, [], ◌∷◌, refl, sym, ◌∙◌, map}
 use Rattle.std.proofs.lemmas.Bool.{eqb-true}
 use Rattle.seg_line_rules.specs.LineRules.{is_among, is_one_of, is_complex_context}
-use Rattle.seg_line_rules.specs.LineClasses.{number}
+use Rattle.seg_line_rules.specs.LineClasses.{class_number}
 use Rattle.seg_line_rules.specs.LineClasses.LineClass.{BK, CM, CM_EASTASIAN, CR, HH, HY, LF, NL, QU, QU_PF, QU_PI, SA, SA_MC_MN, SP, ZW, ZWJ}
 use Rattle.seg_line_rules.specs.LineUnits.{is_mark, bears_none}
 use Rattle.seg_line_rules.specs.LineClasses.LineEngine.{Seventeen}
@@ -26,18 +26,18 @@ bears class = is_one_of Seventeen (BK ∷ CR ∷ LF ∷ NL ∷ SP ∷ ZW ∷ [])
 
 pub complex-bear : (class : ℕ) → is_complex_context class ≡ true → bears_none Seventeen class ≡ false
 unfolding is_complex_context bears_none bears
-complex-bear class among = none-among bears (map (number Seventeen) (SA ∷ SA_MC_MN ∷ [])) class (refl, (refl, tt)) among
+complex-bear class among = none-among bears (map (class_number Seventeen) (SA ∷ SA_MC_MN ∷ [])) class (refl, (refl, tt)) among
 
 pub starts-bear : (class : ℕ) → is_start class ≡ true → bears_none Seventeen class ≡ false
 unfolding is_start bears_none bears
-starts-bear class among = none-among bears (map (number Seventeen) (HY ∷ HH ∷ QU_PI ∷ QU_PF ∷ QU ∷ [])) class (refl, (refl, (refl, (refl, (refl, tt))))) among
+starts-bear class among = none-among bears (map (class_number Seventeen) (HY ∷ HH ∷ QU_PI ∷ QU_PF ∷ QU ∷ [])) class (refl, (refl, (refl, (refl, (refl, tt))))) among
 
 marks : ℕ → Bool
 marks class = is_one_of Seventeen (CM ∷ CM_EASTASIAN ∷ ZWJ ∷ []) class
 
 pub complex-apart : (class : ℕ) → is_complex_context class ≡ true → is_mark Seventeen class ≡ false
 unfolding is_complex_context is_mark marks
-complex-apart class among = none-among marks (map (number Seventeen) (SA ∷ SA_MC_MN ∷ [])) class (refl, (refl, tt)) among
+complex-apart class among = none-among marks (map (class_number Seventeen) (SA ∷ SA_MC_MN ∷ [])) class (refl, (refl, tt)) among
 
 or-true : (b : Bool) → (b || true) ≡ true
 or-true true = refl
@@ -45,12 +45,12 @@ or-true false = refl
 
 pub complex-is : (class : ℕ) → is_complex_mark class ≡ true → is_complex_context class ≡ true
 unfolding is_complex_context
-complex-is class is = rw is (or-true (class == number Seventeen SA))
+complex-is class is = rw is (or-true (class == class_number Seventeen SA))
 
 -- glue is a mark, or one that is complex
 pub glue-is : (class : ℕ) → is_glue class ≡ (is_mark Seventeen class || is_complex_mark class)
 unfolding is_glue is_mark
-glue-is class = on (class == number Seventeen CM) (class == number Seventeen CM_EASTASIAN) (class == number Seventeen SA_MC_MN) (class == number Seventeen ZWJ)
+glue-is class = on (class == class_number Seventeen CM) (class == class_number Seventeen CM_EASTASIAN) (class == class_number Seventeen SA_MC_MN) (class == class_number Seventeen ZWJ)
   where
     on : (a b m z : Bool) → (a || (b || (m || (z || false)))) ≡ ((a || (b || (z || false))) || m)
     on true b m z = refl

@@ -7,7 +7,7 @@ use Rattle.seg_text.specs.declared.boundary.Boundary.{Boundary}
 use Rattle.seg_text.specs.Boundaries.{RisesTo, IsCover, shift_all, start, Cuts, with_status, Stretch, IsWithin}
 use Rattle.seg_text.proofs.Places.{shifted-none, shifted-twice, shifted-append}
 use Rattle.seg_text.proofs.Covers.{rises-le}
-use Rattle.seg_line_rules.specs.LineRules.{TableRules, is_complex}
+use Rattle.seg_line_rules.specs.LineRules.{TableRules, is_complex_point}
 use Rattle.seg_line_rules.specs.LineBoundaries.{complex_length}
 use Rattle.seg_line_rules.specs.LineClasses.LineEngine.{Seventeen}
 use Rattle.seg_line_rules.proofs.LineStretches.{StandInside}
@@ -128,8 +128,8 @@ module _ (cuts : Cuts) (inside : StandInside cuts) (rules : TableRules Seventeen
   within-of whole (RunAt first opened) two =
       let rest : List ℕ = drop first whole in
       let n : ℕ = complex_length rules rest in
-      let most = prefix_len-le-length (is_complex rules) rest in
-      let long = length-prefix_len (is_complex rules) rest in
+      let most = prefix_len-le-length (is_complex_point rules) rest in
+      let long = length-prefix_len (is_complex_point rules) rest in
       let dropped = length-drop first whole in
       let there = stands (run_of rules rest) (omega (arith, long, two)) in
       let shifted = shifted-rises first 0 there.0 (with_status 0 (cuts (run_of rules rest))) there.2 in

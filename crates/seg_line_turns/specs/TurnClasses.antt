@@ -1,6 +1,6 @@
 -- The sets of classes that the rules of the engine 17 speak of.
 use Rattle.std.specs.Prelude.{ℕ, ◌==◌, Bool, [], ◌∷◌}
-use Rattle.seg_line_rules.specs.LineClasses.{number}
+use Rattle.seg_line_rules.specs.LineClasses.{class_number}
 use Rattle.seg_line_rules.specs.LineClasses.LineClass.{AI, AI_EASTASIAN, AL, AL_DOTTED_CIRCLE, AL_EASTASIAN, BK, CB, CL, CL_EASTASIAN, CM, CM_EASTASIAN, CP, CR, EX, EX_EASTASIAN, GL, GL_EASTASIAN, HH, HL, HY, IS, LF, NL, NU, OP, OP_EASTASIAN, QU, QU_PF, QU_PI, SA_MC_MN, SP, SY, WJ, XX, XX_EXTPICT, ZW, ZWJ}
 use Rattle.seg_line_rules.specs.LineRules.{is_one_of}
 use Rattle.seg_line_rules.specs.LineClasses.LineEngine.{Seventeen}
@@ -38,22 +38,22 @@ is_before_hyphen class = is_one_of Seventeen (BK ∷ CB ∷ CR ∷ LF ∷ NL ∷
 -- classes alone
 
 abbrev pub is_complex_mark : ℕ → Bool
-is_complex_mark class = class == number Seventeen SA_MC_MN
+is_complex_mark class = class == class_number Seventeen SA_MC_MN
 
 abbrev pub is_space : ℕ → Bool
-is_space class = class == number Seventeen SP
+is_space class = class == class_number Seventeen SP
 
 abbrev pub is_zero_space : ℕ → Bool
-is_zero_space class = class == number Seventeen ZW
+is_zero_space class = class == class_number Seventeen ZW
 
 abbrev pub is_infix : ℕ → Bool
-is_infix class = class == number Seventeen IS
+is_infix class = class == class_number Seventeen IS
 
 abbrev pub is_digit : ℕ → Bool
-is_digit class = class == number Seventeen NU
+is_digit class = class == class_number Seventeen NU
 
 abbrev pub is_quote : ℕ → Bool
-is_quote class = class == number Seventeen QU_PF
+is_quote class = class == class_number Seventeen QU_PF
 
 abbrev pub is_contingent : ℕ → Bool
-is_contingent class = class == number Seventeen CB
+is_contingent class = class == class_number Seventeen CB

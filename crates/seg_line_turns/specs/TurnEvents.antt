@@ -7,7 +7,7 @@ use Rattle.seg_pair_data.specs.declared.provider.pairs.BreakState.{BreakState}
 use Rattle.seg_pair_data.specs.declared.provider.pairs.BreakState.TheVariants as entries
 use Rattle.seg_pair_data.specs.PairTable.{PairTable, entry_of}
 use Rattle.seg_line_rules.specs.declared.plain_pairs.ClassedItem.{ClassedItem}
-use Rattle.seg_line_rules.specs.LineEvents.{text_from, HasClass, Unread}
+use Rattle.seg_line_rules.specs.LineEvents.{text_from, HasClass, UnreadText}
 use Rattle.seg_line_rules.specs.LineRules.{TableRules, is_one_of, is_complex_context}
 use Rattle.seg_line_rules.specs.declared.plain_pairs.PlainPair.{PlainPair}
 use Rattle.seg_line_rules.specs.declared.plain_pairs.PlainPair.TheVariants as plain
@@ -35,7 +35,7 @@ unread_turns cuts unread = boundaries_in (later_turns cuts unread.rules unread.s
 abbrev pub after_cuts : List ℕ → UnreadTurns → UnreadTurns
 after_cuts places unread = record unread { opened = has_none places && unread.opened }
 
-abbrev pub turns_unread : UnreadTurns → Unread
+abbrev pub turns_unread : UnreadTurns → UnreadText
 turns_unread unread = record { text = unread.text; later = λ cuts run. unread_turns cuts (after_cuts run unread) }
 
 -- a text that nothing was read of
@@ -62,8 +62,8 @@ is_unanswered left right =
     && not (is_sign right && is_before_sign left)
 
 -- the table alone decides between an item with no marks and the next
-abbrev pub is_plain : ℕ → ℕ → Bool
-is_plain left right = not (is_asked right) || is_unanswered left right
+abbrev pub is_plain_turn : ℕ → ℕ → Bool
+is_plain_turn left right = not (is_asked right) || is_unanswered left right
 
 abbrev pub entry_turn : Bool → BreakState → PlainPair
 entry_turn joined entries.Keep = plain.Go
@@ -73,7 +73,7 @@ entry_turn joined (entries.Index state) = plain.Other
 entry_turn joined (entries.Intermediate state) = plain.Other
 
 abbrev pub plain_turn : PairTable → ℕ → ℕ → PlainPair
-plain_turn t left right = if is_plain left right then entry_turn (is_joiner Seventeen left) (entry_of t left right) else plain.Other
+plain_turn t left right = if is_plain_turn left right then entry_turn (is_joiner Seventeen left) (entry_of t left right) else plain.Other
 
 -- a text that is being read, not from its start
 abbrev pub going_text : TableRules Seventeen → Bool → Text → UnreadTurns

@@ -5,7 +5,7 @@ use Rattle.seg_data.specs.declared.provider.DataError.TheVariants.{ClassOutOfRan
 use Rattle.seg_pair_data.specs.PairTable.{class_of, PairTable}
 use Rattle.seg_pair_data.specs.PairData.{HasPairDataFault}
 use Rattle.seg_line_rules.specs.LineRules.{TableRules, is_complex_context, line_class}
-use Rattle.seg_line_rules.specs.LineClasses.{number}
+use Rattle.seg_line_rules.specs.LineClasses.{class_number}
 use Rattle.seg_line_rules.specs.LineClasses.LineClass.{ID, SA}
 use Rattle.seg_line_rules.specs.LineUnits.{is_joiner}
 use Rattle.seg_line_rules.specs.LineClasses.LineEngine.{Seventeen}
@@ -41,9 +41,9 @@ is_joined unit = is_joiner Seventeen unit.last_class
 -- the faults of a pair table of lines of the engine 17: it has no class ID, a code point below U+0100 has class SA or SA_MC_MN, before the
 -- options read its class, or its complex class isn't SA
 abbrev pub HasOwnTurnFault : PairTable → DataError → Type 0
-HasOwnTurnFault t ClassOutOfRange = t.property_count ≤ number Seventeen ID
+HasOwnTurnFault t ClassOutOfRange = t.property_count ≤ class_number Seventeen ID
 HasOwnTurnFault t ComplexBelow0100 = (code_point : ℕ) × (code_point < 0x100) × (is_complex_context (class_of t None code_point) ≡ true)
-HasOwnTurnFault t ComplexClassNamed = t.complex_property ≢ number Seventeen SA
+HasOwnTurnFault t ComplexClassNamed = t.complex_property ≢ class_number Seventeen SA
 HasOwnTurnFault t _ = ⊥
 
 -- .. and those of the pair table of clusters

@@ -6,7 +6,7 @@ use Rattle.seg_pair_data.specs.declared.provider.pairs.BreakState.TheVariants.{B
 use Rattle.seg_pair_data.specs.PairTable.{named_state, is_intermediate, PairTable, entry_of}
 use Rattle.seg_pairs.specs.Walk.{is_class}
 use Rattle.seg_line_rules.specs.LineRules.{TableRules, is_complex_context, line_class}
-use Rattle.seg_line_rules.specs.LineClasses.{number}
+use Rattle.seg_line_rules.specs.LineClasses.{class_number}
 use Rattle.seg_line_rules.specs.LineClasses.LineClass.{AL}
 use Rattle.seg_line_rules.specs.LineUnits.{is_mark, bears_none, is_joiner}
 use Rattle.seg_line_rules.specs.LineLists.{keeps, listed}
@@ -62,7 +62,7 @@ is_keep (Intermediate state) = false
 
 -- the state stays with a letter
 abbrev pub sticks : PairTable → ℕ → Bool
-sticks t state = is_keep (entry_of t state (number Seventeen AL))
+sticks t state = is_keep (entry_of t state (class_number Seventeen AL))
 
 -- the end of the text
 abbrev pub walk_end_turn : Walking → ℕ → BreakState → Turn

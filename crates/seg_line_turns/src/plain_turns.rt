@@ -1,7 +1,7 @@
 //! Turns by pairs of classes alone: most of them.
 ghost use Rattle.std.specs.Prelude.{◌≡◌, ◌<◌, false};
 ghost use Rattle.seg_line_rules.specs.LineEvents.{HasClass, asks_more};
-ghost use Rattle.seg_line_turns.specs.TurnEvents.{IsPassedByTurns, is_asked, is_before_sign, is_plain, is_sign, is_unanswered, plain_turn};
+ghost use Rattle.seg_line_turns.specs.TurnEvents.{IsPassedByTurns, is_asked, is_before_sign, is_plain_turn, is_sign, is_unanswered, plain_turn};
 ghost use Rattle.seg_line_turns.specs.TurnBoundaries.{turn_rules_by};
 
 use crate::classes::{
@@ -77,7 +77,7 @@ fn plain_turn(table: &RuleBreakData, left: u8, right: u8) -> PlainPair
 /// none that any rule asks of.
 #[inline(always)]
 fn is_plain(left: u8, right: u8) -> bool
-    ensures { result ≡ is_plain left right }
+    ensures { result ≡ is_plain_turn left right }
 {
     !is_asked(right) || is_unanswered(left, right)
 }

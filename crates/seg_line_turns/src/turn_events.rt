@@ -3,7 +3,7 @@
 ghost use Rattle.std.specs.Prelude.{◌≡◌, ◌-◌, false, []};
 ghost use Rattle.seg_text.specs.Items.{prefix_length, rest_after, start_of, text_before};
 ghost use Rattle.seg_line_rules.specs.LineEvents.{HasClass, IsItemAhead};
-ghost use Rattle.seg_line_rules.specs.LineRules.{is_complex};
+ghost use Rattle.seg_line_rules.specs.LineRules.{is_complex_point};
 ghost use Rattle.seg_line_turns.specs.TurnEvents.{whole_text};
 ghost use Rattle.seg_line_turns.specs.TurnBoundaries.{turn_rules_by};
 
@@ -25,10 +25,10 @@ struct ComplexPoints<'data> {
 }
 
 impl<'data> CodePointTest for ComplexPoints<'data> {
-    ghost use Rattle.seg_line_rules.specs.LineRules.{is_complex};
+    ghost use Rattle.seg_line_rules.specs.LineRules.{is_complex_point};
     ghost use Rattle.seg_line_turns.specs.TurnBoundaries.{turn_rules_by};
 
-    ghost passes = { λ test code_point. is_complex (turn_rules_by test.pairs) code_point };
+    ghost passes = { λ test code_point. is_complex_point (turn_rules_by test.pairs) code_point };
 
     fn accepts(&self, code_point: u32) -> bool {
         is_complex(self.pairs.class(code_point))
@@ -170,9 +170,9 @@ impl<'data, I: Cursor> LineSource for TurnEvents<'data, I> {
 /// The run of complex items that a text begins with. `rest` goes on at the last of them. Apart, so that its loop has the registers.
 #[inline(never)]
 fn complex_run<I: Cursor>(pairs: TurnPairs<'_>, rest: &mut I) -> (I, usize)
-    ensures run { I.text result.0 ≡ text_before (prefix_length (is_complex (turn_rules_by pairs.entry)) (I.text rest.old)) (I.text rest.old) }
+    ensures run { I.text result.0 ≡ text_before (prefix_length (is_complex_point (turn_rules_by pairs.entry)) (I.text rest.old)) (I.text rest.old) }
     ensures end { result.1 ≡ (I.text result.0).end }
-    ensures rest { I.text rest.new ≡ rest_after (prefix_length (is_complex (turn_rules_by pairs.entry)) (I.text rest.old) - 1) (I.text rest.old) }
+    ensures rest { I.text rest.new ≡ rest_after (prefix_length (is_complex_point (turn_rules_by pairs.entry)) (I.text rest.old) - 1) (I.text rest.old) }
 {
     take_run(rest, &ComplexPoints { pairs })
 }

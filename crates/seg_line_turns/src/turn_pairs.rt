@@ -3,7 +3,7 @@ ghost use Rattle.std.specs.Prelude.{◌≡◌, ℕ, ◌<◌, ◌↔◌, true, fa
 ghost use Rattle.seg_data.specs.declared.provider.DataError.TheVariants.{ComplexBelow0100};
 ghost use Rattle.seg_data.specs.Faults.{IsFaultless, IsLowestFault};
 ghost use Rattle.seg_line_rules.specs.LineRules.{class_read, is_loose_or_normal, is_read_as_id};
-ghost use Rattle.seg_line_rules.specs.LineClasses.{number};
+ghost use Rattle.seg_line_rules.specs.LineClasses.{class_number};
 ghost use Rattle.seg_line_rules.specs.LineClasses.LineEngine.{Seventeen};
 ghost use Rattle.seg_line_rules.specs.LineClasses.LineClass.{ID};
 ghost use Rattle.seg_line_turns.specs.TurnRules.{HasOwnTurnFault};
@@ -20,7 +20,7 @@ use seg_pair_data::provider::RuleBreakData;
 pub struct OwnedTurnPairs {
     table: RuleBreakData,
     style: LineStyle,
-    ghost has_id: { number Seventeen ID < table.property_count },
+    ghost has_id: { class_number Seventeen ID < table.property_count },
 }
 
 impl OwnedTurnPairs {
@@ -57,7 +57,7 @@ impl OwnedTurnPairs {
 pub struct TurnPairs<'data> {
     table: &'data RuleBreakData,
     style: LineStyle,
-    ghost has_id: { number Seventeen ID < table.now.property_count },
+    ghost has_id: { class_number Seventeen ID < table.now.property_count },
 }
 
 impl<'data> TurnPairs<'data> {
@@ -93,7 +93,7 @@ impl<'data> TurnPairs<'data> {
     /// The pair table, which has a class ID.
     pub fn table(self) -> &'data RuleBreakData
         ensures value { result.now ≡ (turn_rules_by self.entry).table }
-        ensures has_id { number Seventeen ID < (turn_rules_by self.entry).table.property_count }
+        ensures has_id { class_number Seventeen ID < (turn_rules_by self.entry).table.property_count }
     {
         self.table
     }
