@@ -1,4 +1,5 @@
-//! The boundaries of lines of a text by a pair table: those that either engine finds, and the cuts strictly inside runs of complex code points.
+//! The boundaries of lines of a text by a pair table: those that an engine finds, one after another, and the cuts strictly inside runs of complex
+//! code points.
 
 ghost use Rattle.std.specs.Prelude.{◌≡◌, ⊤, [], ◌∷◌};
 ghost use Rattle.std.specs.Iterator.{YieldsFirst, MakesProgress, item_count};

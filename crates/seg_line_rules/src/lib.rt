@@ -1,4 +1,5 @@
-//! The boundaries of lines by a pair table: what options say, units of code points with their marks, verdicts on units.
+//! Lines by a pair table. For both engines: what options say, pairs that the table alone decides, and the iterator over what is found next.
+//! For the classic one: units of code points with their marks, and the verdicts on them.
 #![tactic(auto)]
 
 pub mod boundaries;

@@ -1,4 +1,4 @@
--- What turns look at: classes as they are read, units and lists; and the faults of data.
+-- What turns look at on the left, and the faults of data.
 use Rattle.std.specs.Prelude.{ℕ, Bool, None, suc, ◌≡◌, ◌≢◌, ◌<◌, ◌≤◌, ◌⊎◌, true}
 use Rattle.seg_data.specs.declared.provider.DataError.{DataError}
 use Rattle.seg_data.specs.declared.provider.DataError.TheVariants.{ClassOutOfRange, ComplexBelow0100, ComplexClassNamed}
