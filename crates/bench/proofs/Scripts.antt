@@ -9,8 +9,8 @@ use Rattle.seg_machine.specs.Machine.{Machine, replaced, symbol_and_script}
 use Rattle.seg_machine.specs.MachineFaults.{HasComplexBelow0100}
 use Rattle.seg_pair_data.specs.PairData.{HasComplexClassBelow0100}
 use Rattle.seg_pair_data.specs.PairTable.{PairTable, class_of}
+use Rattle.icu_segmenter.specs.LineRules.{is_complex_context}
 use Rattle.icu_segmenter.specs.TurnRules.{HasOwnTurnFault}
-use Rattle.icu_segmenter.specs.TurnClasses.{is_complex}
 use Rattle.bench.specs.Lines.{line_machine}
 use Rattle.bench.specs.LineTables.{line_table}
 use Rattle.bench.specs.PairTables.{word_table}
@@ -58,13 +58,13 @@ line_table-not_complex (code_point, below, complex) =
     no-complex line_table code_point (all_below-at (is_not_complex line_table) 0x100 code_point refl below) complex
 
 is_simple : ℕ → Bool
-is_simple code_point = not (is_complex (class_of turn_table None code_point))
+is_simple code_point = not (is_complex_context (class_of turn_table None code_point))
 
-simple : (code_point : ℕ) → is_simple code_point ≡ true → is_complex (class_of turn_table None code_point) ≡ true → ⊥
+simple : (code_point : ℕ) → is_simple code_point ≡ true → is_complex_context (class_of turn_table None code_point) ≡ true → ⊥
 unfolding is_simple
 simple code_point passed complex = false≢true (ap not (sym complex) ∙ passed)
 
 pub turn_table-not_complex : HasOwnTurnFault turn_table ComplexBelow0100 → ⊥
-unfolding all_below is_simple is_complex class_of value_of
+unfolding all_below is_simple is_complex_context class_of value_of
 turn_table-not_complex (code_point, below, complex) =
     simple code_point (all_below-at is_simple 0x100 code_point refl below) complex
