@@ -1,5 +1,5 @@
 #!/usr/bin/env python3
-"""Tests of tools/edits: python3 tools/test_edits.py. The last one checks a small crate some ten times, which takes a minute."""
+"""Tests of tools/edits: python3 tools/test_edits.py. The last three check a small crate some fifteen times, which takes a minute."""
 import contextlib
 import importlib.machinery
 import importlib.util
@@ -8,6 +8,8 @@ import os
 import subprocess
 import sys
 import tempfile
+import time
+import types
 import unittest
 
 sys.dont_write_bytecode = True
@@ -128,6 +130,89 @@ class Judging(unittest.TestCase):
         self.assertEqual(edits.judge(SAID, "small", round), ([], round, []))
 
 
+LIST = """\
+# A page with a table of edits
+
+| wrong body | edits | what else |
+|---|---|---|
+| of another table | `small/always_one` | |
+
+## Named wrong bodies
+
+| wrong body | edits | what else |
+|---|---|---|
+| answers one less | `small/one_less` | |
+| another number, or none | `small/limit_of_eight`, `small/constant` | `tools/refusals` too |
+| one less again | `small/one_less` | |
+| wants memory | | a row of `small/rows` |
+| is forgotten | | |
+
+## Another part
+
+| wrong body | edits | what else |
+|---|---|---|
+| of a later table | `small/another_promise` | |
+"""
+
+
+class Naming(unittest.TestCase):
+    def test_the_table_is_read_under_its_heading(self):
+        found, bare = edits.named(LIST)
+        self.assertEqual(found, [("small", "one_less"), ("small", "limit_of_eight"), ("small", "constant")])
+        self.assertEqual(bare, ["is forgotten"])
+
+    def test_a_page_without_the_table_lists_nothing(self):
+        self.assertEqual(edits.named(LIST.replace("## Named", "## Some")), ([], []))
+
+    def test_words_may_come_in_any_order(self):
+        self.assertEqual(edits.arguments(["--jobs", "3", "--named", "small"]), ("3", True, ["small"]))
+        self.assertEqual(edits.arguments(["small"]), (None, False, ["small"]))
+
+    def test_this_repository_lists_edits_that_are_there(self):
+        root = os.path.dirname(os.path.dirname(os.path.abspath(__file__)))
+        with open(f"{root}/{edits.NAMED}", encoding="utf-8") as it:
+            found, bare = edits.named(it.read())
+        places = [[f"{root}/crates/{crate}/{folder}/{name}.edit" for folder in edits.FOLDERS] for crate, name in found]
+        self.assertEqual([it for it in places if not any(map(os.path.isfile, it))], [])
+        self.assertTrue(found and not bare)
+
+
+class Built(unittest.TestCase):
+    """Whether a library counts as built, by when it was put there."""
+
+    def crate(self, room, name, below=()):
+        folder = f"{room}/crates/{name}"
+        made = types.SimpleNamespace(name=name, folder=folder, rlib=f"{folder}/out/rlib/{name}.rlib", below=lambda: below)
+        for path in (f"{folder}/src/lib.rt", f"{room}/kept/{name}", f"{room}/crates.txt"):
+            os.makedirs(os.path.dirname(path), exist_ok=True)
+            with open(path, "w", encoding="utf-8") as it:
+                it.write(name)
+        # what an earlier run kept is older than the sources of a new clone
+        os.utime(f"{room}/kept/{name}", (0, 0))
+        return made
+
+    def give(self, room, crate):
+        os.makedirs(crate.rlib)
+        os.link(f"{room}/kept/{crate.name}", f"{crate.rlib}/format")
+
+    def test_a_kept_library_counts_from_when_it_was_given(self):
+        with tempfile.TemporaryDirectory() as room:
+            low = self.crate(room, "low")
+            high = self.crate(room, "high", [low])
+            self.assertFalse(edits.is_built(low))
+            for it in (low, high):
+                time.sleep(0.02)
+                self.give(room, it)
+            self.assertTrue(edits.is_built(low) and edits.is_built(high))
+            time.sleep(0.02)
+            os.utime(f"{low.folder}/src/lib.rt")
+            self.assertFalse(edits.is_built(low))
+            time.sleep(0.02)
+            os.utime(low.rlib)
+            self.assertTrue(edits.is_built(low))
+            self.assertFalse(edits.is_built(high))
+
+
 CRATE = """\
 //! A crate for the tests of the edits.
 #![tactic(auto)]
@@ -174,27 +259,46 @@ EDITS = {
 
 
 class Whole(unittest.TestCase):
-    def test_a_small_crate(self):
+    def run_on(self, words, files=None):
+        """Runs the tool on a small crate with these further files, and returns its status and its lines."""
         with tempfile.TemporaryDirectory() as room:
-            self.write(room)
+            self.write(room, files or {})
             said = io.StringIO()
             here = os.getcwd()
             os.chdir(room)
             try:
                 with contextlib.redirect_stdout(said):
-                    status = edits.main([])
+                    status = edits.main(words)
             finally:
                 os.chdir(here)
-        lines = said.getvalue().split("\n")
+        return status, [it for it in said.getvalue().split("\n") if it]
+
+    def test_named_edits_alone(self):
+        listed = LIST.replace("`small/constant`", "`small/is_gone`, `other/is_gone`")
+        status, lines = self.run_on(["--named"], {edits.NAMED: listed})
+        self.assertEqual(status, 1, lines)
+        tried = [it.partition(": ")[0] for it in lines if it.startswith(("small/", "other/"))]
+        self.assertEqual({*tried}, {"small/one_less", "small/limit_of_eight", "small/is_gone", "other/is_gone"}, lines)
+        self.assertEqual({*next(it for it in lines if it.startswith("FAILED: "))[8:].split()}, {"small/is_gone", "other/is_gone", "is_forgotten"}, lines)
+        self.assertEqual(lines[-1], "2 passed, 3 failed")
+
+    def test_named_edits_that_are_all_refused(self):
+        listed = LIST.replace("| is forgotten | | |\n", "")
+        status, lines = self.run_on(["--named"], {edits.NAMED: listed})
+        self.assertEqual((status, lines[-1]), (0, "3 passed, 0 failed"), lines)
+
+    def test_a_small_crate(self):
+        status, lines = self.run_on([])
         failed = {f"small/{os.path.basename(name)}" for name, (_, _, is_refused) in EDITS.items() if not is_refused}
         self.assertEqual(status, 1, lines)
         self.assertEqual({*next(it for it in lines if it.startswith("FAILED: "))[8:].split()}, failed, lines)
-        self.assertEqual([it for it in lines if it][-1], f"{len(EDITS) - len(failed)} passed, {len(failed)} failed")
+        self.assertEqual(lines[-1], f"{len(EDITS) - len(failed)} passed, {len(failed)} failed")
 
-    def write(self, room):
+    def write(self, room, more):
         for folder in ("src", "must-fail", "edits"):
             os.makedirs(f"{room}/crates/small/{folder}")
-        files = {"crates.txt": "small:\n", "crates/small/src/lib.rt": CRATE}
+        os.makedirs(f"{room}/{os.path.dirname(edits.NAMED)}")
+        files = {"crates.txt": "small:\n", "crates/small/src/lib.rt": CRATE, **more}
         for name, (old, new, _) in EDITS.items():
             files[f"crates/small/{name}.edit"] = f"file: src/lib.rt\nold: {old}\nnew: {new}\n"
         for name, text in files.items():
