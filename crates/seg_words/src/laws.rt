@@ -1,14 +1,14 @@
 //! Laws of the boundaries of words. The type of what ends at a boundary is that of its status, so what is said of statuses is
 //! said of types.
 
-ghost use Rattle.std.specs.Prelude.{◌≡◌, ℕ, List};
+ghost use Rattle.std.specs.Prelude.{◌≡◌, ℕ, List, [], ◌∷◌};
 ghost use Rattle.seg_text.specs.Boundaries.{HasEqualOrdinals, RestartsIn, HasOneAnswer};
 ghost use Rattle.seg_data.specs.ScriptWords.{ScriptWords, AreSameWords};
 ghost use Rattle.seg_clusters.specs.Rules.{PartsTexts};
 ghost use Rattle.seg_words.specs.WordRules.{WordsResetAfter, HasNoRunOfWords, WordRules, first_word_stretch, with_words, word_boundaries_by};
 ghost use Rattle.seg_words.specs.Words.{word_rules};
 
-use crate::word::WordSegmenterBorrowed;
+use crate::word::{WordSegmenterBorrowed, WordType};
 use seg_clusters::engine::Engine;
 
 /// Law: a list of code points has exactly one list of boundaries, in code points: the first is at its start, and the
@@ -56,4 +56,15 @@ pub fn parts_behind_resets(segmenter: WordSegmenterBorrowed<'_>, code_point: cha
     if let Engine::Neo(machine) = segmenter.engine {
         machine.facts();
     }
+}
+
+/// The numbers of the types of words: of none, a number and letters.
+pub fn word_type_numbers() -> [u8; 3]
+    ensures { result ≡ 0 ∷ 1 ∷ 2 ∷ [] }
+{
+    [
+        WordType::None as u8,
+        WordType::Number as u8,
+        WordType::Letter as u8,
+    ]
 }

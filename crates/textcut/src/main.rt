@@ -1,6 +1,11 @@
 //! Prints the boundaries of a text on standard input, each on a line of its own, or its lines, wrapped to columns.
 #![tactic(auto)]
 
+ghost use Rattle.std.specs.Prelude.{◌≡◌, ◌↔◌};
+ghost use Rattle.textcut.specs.Command.{texts};
+ghost use Rattle.textcut.specs.Request.{IsNoRequest};
+
+mod arguments;
 mod command;
 mod failure;
 mod lines;
@@ -8,42 +13,34 @@ mod request;
 mod run;
 mod wrapped;
 
+use arguments::{LONGEST, two_words};
 use failure::Failure;
-use std::env;
-use std::io::{BufWriter, ErrorKind};
+use request::request_of;
+use std::io::BufWriter;
 use std::process::ExitCode;
 
 // Room for some thousands of lines, so that few writes reach the system.
 const OUTPUT_CAPACITY: usize = 65536;
 
 fn main(rt: HostRuntime) -> ExitCode {
-    let status = match start(&rt) {
-        Ok(status) => status,
-        Err(failure) => failure.report(&mut rt.stderr()),
+    let (mut first, mut second) = ([0; LONGEST], [0; LONGEST]);
+    let status = match two_words(&rt, &mut first, &mut second) {
+        Some((first, second)) => start(&rt, &[first, second]),
+        None => Failure::Usage.report(&mut rt.stderr()),
     };
     ExitCode::from(status)
 }
 
-// Runs the program on the standard streams.
-fn start(rt: &HostRuntime) -> Result<u8, Failure> {
+// Runs the program on the standard streams. It looks at the words before it asks for any memory, so that wrong ones always end with status 2.
+fn start(rt: &HostRuntime, words: &[&str]) -> u8
+    ensures usage { result ≡ 2 ↔ IsNoRequest (texts words.now) }
+{
+    if request_of(words).is_none() {
+        return Failure::Usage.report(&mut rt.stderr());
+    }
     let alloc = rt.alloc();
-    let arguments = env::args(rt).map_err(|e| match e.kind() {
-        ErrorKind::OutOfMemory => Failure::NoMemory,
-        _ => Failure::Usage,
-    })?;
-    let arguments: Vec<String> = arguments.collect(alloc)?;
-    let words: Vec<&str> = arguments
-        .iter()
-        .skip(1)
-        .map(|word| word.as_str())
-        .collect(alloc)?;
-    let out = BufWriter::with_capacity(alloc, OUTPUT_CAPACITY, rt.stdout());
-    let mut out = out.map_err(|_| Failure::NoMemory)?;
-    Ok(run::run(
-        alloc,
-        words.as_slice(),
-        &mut rt.stdin(),
-        &mut out,
-        &mut rt.stderr(),
-    ))
+    match BufWriter::with_capacity(alloc, OUTPUT_CAPACITY, rt.stdout()) {
+        Ok(mut out) => run::run(alloc, words, &mut rt.stdin(), &mut out, &mut rt.stderr()),
+        Err(_) => Failure::NoMemory.report(&mut rt.stderr()),
+    }
 }
