@@ -60,6 +60,7 @@ impl<'data> MachineParts<'data> {
     }
 
     /// The symbol of a code point.
+    #[inline(always)]
     pub fn symbol(&self, code_point: u32) -> Symbol
         ensures { result ≡ (symbol_and_script (parts_of self.now) code_point).0 }
     {
