@@ -45,7 +45,15 @@ pub mod iterators {
 
 /// The boundaries of a text by a machine, where no configuration is looked up twice: what `with_memo` of the iterators gives.
 pub mod memo {
-    pub use seg_memo::memo::{MemoBreakIterator, MemoError};
+    pub use seg_memo::memo::MemoError;
+    use seg_text::scaffold::RuleBreakType;
+
+    /// The boundaries of a text in the encoding `Y`, by a machine whose transitions the reader `R` reads.
+    pub type MemoBreakIterator<'data, 's, Y, R> = seg_memo::memo::MemoBreakIterator<
+        'data,
+        <Y as RuleBreakType<'s>>::IterAttr,
+        R,
+    >;
 }
 
 /// Lines of a text, wrapped to columns.
@@ -57,13 +65,25 @@ pub mod wrap {
 
 /// The engine of pair tables.
 pub mod rule_segmenter_v1 {
-    pub use seg_pairs::rule_segmenter_v1::RuleBreakIterator;
+    use seg_text::scaffold::RuleBreakType;
+
+    /// The boundaries of a text in the encoding `Y`, by a pair table.
+    pub type RuleBreakIterator<'data, 's, Y> = seg_pairs::rule_segmenter_v1::RuleBreakIterator<
+        'data,
+        <Y as RuleBreakType<'s>>::IterAttr,
+    >;
 }
 
 /// The engine of machines, and readers of a machine's transitions, which count what they read.
 pub mod rule_segmenter_v2 {
-    pub use seg_machine::rule_segmenter_v2::RuleBreakIterator;
     pub use seg_memo::reader::{CountedTransitions, ReadTransitions};
+    use seg_text::scaffold::RuleBreakType;
+
+    /// The boundaries of a text in the encoding `Y`, by a machine.
+    pub type RuleBreakIterator<'data, 's, Y> = seg_machine::rule_segmenter_v2::RuleBreakIterator<
+        'data,
+        <Y as RuleBreakType<'s>>::IterAttr,
+    >;
 }
 
 /// Laws of the boundaries, for callers' proofs: a caller calls one where its proof needs what the law ensures. They do nothing.

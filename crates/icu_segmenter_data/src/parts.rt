@@ -27,6 +27,19 @@ pub(crate) const KEEP: BreakState = BreakState::Keep;
 
 pub(crate) const NO_MATCH: BreakState = BreakState::NoMatch;
 
+/// The table of these ranges and this value for all others, in which each look-up takes two reads. The errors are want of memory, and
+/// what is wrong with the ranges.
+fn indexed_table(
+    alloc: Global,
+    ranges: &[(u32, u32, u8)],
+    other: u8,
+) -> Result<ClassTable, DataError>
+    ensures { IfOk result (λ t. t ≡ table ranges.now other) }
+{
+    let table = ClassTable::try_from_ranges(Vec::from_slice(alloc, ranges)?, other)?;
+    table.indexed(alloc)
+}
+
 /// The machine of these parts, without lookaheads. The errors are want of memory, and what is wrong with the parts.
 pub(crate) fn machine_of(
     alloc: Global,
@@ -39,7 +52,7 @@ pub(crate) fn machine_of(
 ) -> Result<SegmenterStateMachine, DataError>
     ensures { IfOk result (λ m. m ≡ machine (table ranges.now other) states.now transitions.now 0 shift map.now) }
 {
-    let symbols = ClassTable::try_from_ranges(Vec::from_slice(alloc, ranges)?, other)?;
+    let symbols = indexed_table(alloc, ranges, other)?;
     let states = Vec::from_slice(alloc, states)?;
     let transitions = Vec::from_slice(alloc, transitions)?;
     let map = Vec::from_slice(alloc, map)?;
@@ -83,7 +96,7 @@ pub(crate) fn table_of(
 ) -> Result<RuleBreakData, DataError>
     ensures { IfOk result (λ t. t ≡ pair_table (table ranges.now other) entries.now statuses.now numbers.count numbers.last numbers.start_of_text numbers.end_of_text numbers.complex) }
 {
-    let classes = ClassTable::try_from_ranges(Vec::from_slice(alloc, ranges)?, other)?;
+    let classes = indexed_table(alloc, ranges, other)?;
     let entries = Vec::from_slice(alloc, entries)?;
     let statuses = Vec::from_slice(alloc, statuses)?;
     RuleBreakData::try_from_parts(

@@ -4,7 +4,7 @@ use Rattle.std.specs.Prelude.{Option, Some, None, IsSome}
 use Rattle.std.specs.Option.{is_some}
 use Rattle.std.proofs.lemmas.Bool.{both_ways}
 use Rattle.seg_data.proofs.Options.{option-cases}
-use Rattle.seg_machine.specs.Machine.{Machine, MachineTailoring, IsTextSymbol, with_tailoring, symbol_count, step, run, scan, state_after_ends, state_at}
+use Rattle.seg_machine.specs.Machine.{Machine, MachineTailoring, IsTextSymbol, with_tailoring, without_transitions, symbol_and_script, symbol_count, step, run, scan, state_after_ends, state_at}
 use Rattle.seg_machine.specs.Pick.{pick, HasStall, IsStallFree}
 use Rattle.seg_machine.specs.MachineFaults.{HasEndCycle, HasTextSymbols, IsChecked}
 use Rattle.seg_machine.specs.Search.{bare}
@@ -83,6 +83,11 @@ stall_free-from m none symbols some text = some-unless (pick m symbols) (λ is. 
 pub count-tailored : (m : Machine) (t : MachineTailoring) (symbol : ℕ) → symbol < symbol_count (with_tailoring m (Some t)) → symbol < symbol_count m
 unfolding symbol_count
 count-tailored m t symbol below = below
+
+-- transitions have no part in what symbols code points have
+pub symbol-without : (m : Machine) (code_point : ℕ) → (symbol_and_script (without_transitions m) code_point).0 ≡ (symbol_and_script m code_point).0
+unfolding symbol_and_script
+symbol-without m code_point = refl
 
 pub step-tailored : (m : Machine) (t : MachineTailoring) (q symbol : ℕ) → step m q symbol ≡ step (with_tailoring m (Some t)) q symbol
 unfolding step

@@ -1,5 +1,5 @@
 -- State machines over the symbols of code points.
-use Rattle.std.specs.Prelude.{ℕ, zero, suc, ◌+◌, ◌-◌, ◌*◌, ◌/◌, ◌<◌, ◌==◌, nat_lt, if◌then◌else◌, Option, Some, None, List, [], ◌∷◌, ◌++◌, length, map, replicate, slice_index, slice_index_or, ◌≡◌}
+use Rattle.std.specs.Prelude.{ℕ, zero, suc, ◌+◌, ◌-◌, ◌*◌, ◌/◌, ◌<◌, ◌≤◌, ◌==◌, nat_lt, if◌then◌else◌, Option, Some, None, List, [], ◌∷◌, ◌++◌, length, map, replicate, slice_index, slice_index_or, ◌≡◌}
 use Rattle.std.specs.Option.{option_map_or, option_and_then}
 use Rattle.seg_data.specs.declared.provider.ComplexScript.{ComplexScript}
 use Rattle.seg_data.specs.declared.provider.ComplexScript.TheVariants.{None as NoScript}
@@ -129,3 +129,12 @@ with_parts m map replacing = with_tailoring m (Some (tailoring map (replacements
 -- below this value nothing is a pseudo symbol or replaced
 abbrev pub ArePlainBelow : Machine → ℕ → Type 0
 ArePlainBelow m end = (value : ℕ) → value < end → (value < m.pseudo_symbol_shift) × (replaced m.symbol_map value ≡ (value, NoScript))
+
+-- the machine without its transitions
+abbrev pub without_transitions : Machine → Machine
+without_transitions m = record m { transitions = [] }
+
+-- each pseudo symbol of a code point has an entry of the map
+abbrev pub HasEntries : Machine → Type 0
+HasEntries m = (code_point : ℕ) → m.pseudo_symbol_shift ≤ value_of m.symbols code_point
+    → value_of m.symbols code_point - m.pseudo_symbol_shift < length m.pseudo_symbol_map

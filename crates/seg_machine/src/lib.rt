@@ -2,6 +2,7 @@
 #![tactic(auto)]
 
 pub mod laws;
+pub mod machine_parts;
 pub mod provider;
 pub mod rule_segmenter_v2;
 pub mod tailored_machine;

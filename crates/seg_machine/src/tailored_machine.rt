@@ -3,8 +3,9 @@ ghost use Rattle.std.specs.Prelude.{◌≡◌, ◌↔◌, ℕ, ◌<◌, IsTrue, 
 ghost use Rattle.std.specs.Option.{option_map};
 ghost use Rattle.seg_data.specs.Faults.{IsFaultless, IsLowestFault};
 ghost use Rattle.seg_machine.specs.MachineFaults.{HasTextSymbols, IsChecked, HasComplexBelow0100, HasTailoringFault};
-ghost use Rattle.seg_machine.specs.Machine.{IsTextSymbol, replaced, state_at, step, symbol_and_script, symbol_count, with_tailoring, ArePlainBelow, replacements_of, with_parts};
+ghost use Rattle.seg_machine.specs.Machine.{IsTextSymbol, state_at, step, symbol_and_script, symbol_count, with_tailoring, without_transitions, ArePlainBelow, with_parts};
 
+use crate::machine_parts::{MachineParts, replacement_by};
 use crate::provider::{
     Acceptance, Lookahead, SegmenterStateMachine, SegmenterStateMachineOverride, State, Symbol,
 };
@@ -66,7 +67,7 @@ pub struct TailoredMachineBorrowed<'data> {
 }
 
 impl<'data> TailoredMachineBorrowed<'data> {
-    ghost use Rattle.seg_machine.specs.Tailored.{machine_of};
+    ghost use Rattle.seg_machine.specs.Tailored.{machine_of, parts_of};
 
     /// The machine as it is.
     pub fn without_tailoring(machine: &'data SegmenterStateMachine) -> Self
@@ -135,21 +136,25 @@ impl<'data> TailoredMachineBorrowed<'data> {
         self.machine.num_lookaheads()
     }
 
+    /// The same machine without its transitions.
+    #[inline(always)]
+    pub fn parts(&self) -> MachineParts<'data>
+        ensures { parts_of result ≡ without_transitions (machine_of self.now) }
+    {
+        MachineParts::new(
+            self.machine,
+            self.pseudo_symbol_map,
+            self.replacing,
+            self.plain_below,
+        )
+    }
+
     /// The symbol of a code point.
     pub fn symbol(&self, code_point: u32) -> Symbol
         ensures value { result ≡ (symbol_and_script (machine_of self.now) code_point).0 }
         ensures text { IsTextSymbol (machine_of self.now) result }
     {
-        let value = self.machine.symbols().get32(code_point);
-        if value < self.plain_below {
-            return value;
-        }
-        let shift = self.machine.pseudo_symbol_shift();
-        if value < shift {
-            replacement_by(self.replacing, value).0
-        } else {
-            self.pseudo_symbol_map[(value - shift) as usize].0
-        }
+        self.parts().symbol(code_point)
     }
 
     /// The script of a code point.
@@ -243,19 +248,5 @@ fn script_of(
     match pseudo_symbol_map.get((value - shift) as usize) {
         Some(entry) => entry.1,
         None => ComplexScript::None,
-    }
-}
-
-// The symbol and the script in the place of a symbol.
-#[inline(always)]
-fn replacement_by(
-    replacing: Option<&SegmenterStateMachineOverride>,
-    symbol: Symbol,
-) -> (Symbol, ComplexScript)
-    ensures { result ≡ replaced (replacements_of (option_map (λ t. t.now) replacing.entry)) symbol }
-{
-    match replacing {
-        None => (symbol, ComplexScript::None),
-        Some(tailoring) => tailoring.replacement(symbol),
     }
 }

@@ -8,7 +8,7 @@ use Rattle.seg_text.specs.Items.{IsRising, Item, Text, code_points, start_of}
 use Rattle.seg_text.proofs.Hints.{items-few}
 use Rattle.seg_machine.specs.declared.provider.Acceptance.{Acceptance}
 use Rattle.seg_machine.specs.MachineFaults.{IsChecked}
-use Rattle.seg_machine.specs.Machine.{Machine, symbol_and_script, symbol_count, symbols_of}
+use Rattle.seg_machine.specs.Machine.{Machine, symbol_and_script, symbol_count, symbols_of, without_transitions}
 use Rattle.seg_memo.specs.declared.configuration.Cell.{Cell}
 use Rattle.seg_memo.specs.declared.configuration.Cell.TheVariants.{Unknown, First, Way, KnownNothing, KnownKept}
 use Rattle.seg_memo.specs.Configurations.{AreStarts, Subject, all_look_ups, configurations, reading, subject}
@@ -17,6 +17,7 @@ use Rattle.seg_memo.specs.declared.table.Table.{Table}
 use Rattle.seg_memo.proofs.Counts.{count-none, has-nil}
 use Rattle.seg_memo.proofs.Scanning.{all-nil}
 use Rattle.seg_memo.proofs.Memoised.{symbols-length}
+use Rattle.seg_memo.proofs.Numbers.{items-fit}
 
 -- the symbols of a text are the machine's
 symbols-own : (m : Machine) (code_points : List ℕ) (place : ℕ) → IsChecked m → get_or (symbols_of m code_points) place 0 < symbol_count m
@@ -185,3 +186,20 @@ other-keeps m before after place counted count text t k is checked none =
       count = other-count _ k.whole place count k.is is none;
       is = made;
     }
+
+-- the same by a machine's parts, which have no transitions
+pub parts-keep : (m parts : Machine) (transitions : List ℕ) (text : List Item) (t : Table) (counted : ℕ)
+    → parts ≡ without_transitions m
+    → IsChecked m → transitions ≡ m.transitions → t.states ≡ length m.states → t.sets ≡ 2 ^ m.num_lookaheads → configurations m (length text) < 2 ^ 64
+    → t.first ≡ 0 → t.cells.items ≡ [] → configurations m (length text) ≤ vec_capacity t.cells → counted ≡ 0
+    → let s = subject (reading parts transitions) (symbols_of (reading parts transitions) (code_points text)) in
+    Has s t 0 (lost_at s 0) counted (λ whole. IsMemo s whole 0)
+parts-keep m parts transitions text t counted same checked transitions_are states sets fits first none room is =
+    rw same (first-keeps m transitions text t counted checked transitions_are states sets fits first none room is)
+
+-- the symbols by a machine's parts can be counted
+pub parts-fit : (m parts : Machine) (items : List Item) → IsChecked m → configurations m (length items) < 2 ^ 64
+    → suc (length (symbols_of parts (code_points items))) < 2 ^ 64
+parts-fit m parts items checked room =
+    let long = symbols-length m items ∙ sym (symbols-length parts items) in
+    rw (← long) (items-fit _ (fresh-sound m items checked room))

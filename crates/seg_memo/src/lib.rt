@@ -25,8 +25,8 @@
 //!          0        first        first + held     Q * 2^L * (n + 1)
 //! ```
 //!
-//! The specs follow: Configurations, LookUpRows and Outcomes say what scans look up and come to; Grids what the cells hold on the way; Windows
-//! what the table holds of them; Memos what is seen from outside.
+//! In specs/, Configurations says what scans look up and what they find; Grids what the cells hold on the way, and what the table holds of
+//! them; Memos what is seen from outside.
 #![tactic(auto)]
 
 pub mod configuration;

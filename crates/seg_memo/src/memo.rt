@@ -11,7 +11,7 @@ ghost use Rattle.seg_memo.specs.Configurations.{AreLookedUp, configurations, rea
 ghost use Rattle.seg_memo.specs.Memos.{IsMemoRefusal, IsNewMemo, memo_places, subject_of};
 
 use crate::reader::{CountedTransitions, ReadTransitions};
-use crate::search::{next_segment, next_symbol, skip};
+use crate::search::{Scanned, next_segment, next_symbol, skip};
 use crate::table::Table;
 use seg_machine::provider::Symbol;
 use seg_machine::tailored_machine::TailoredMachineBorrowed;
@@ -39,12 +39,11 @@ pub enum MemoError {
 
 /// The boundaries of a text by a state machine: its start, and then the end of each segment. Each configuration of its scans
 /// is looked up once.
-#[derive(Drop)]
+#[derive(Debug, Drop)]
 pub struct MemoBreakIterator<'data, I: Cursor, R: ReadTransitions> {
-    machine: TailoredMachineBorrowed<'data>,
+    scanned: Scanned<'data, I>,
     reader: R,
     table: Table,
-    text: I,
     // What is left after the boundary that was given last, and how many items are before it.
     rest: I,
     place: usize,
@@ -59,23 +58,23 @@ impl<'data, I: Cursor, R: ReadTransitions> Model for MemoBreakIterator<'data, I,
     ghost use Rattle.std.specs.Prelude.{◌≡◌, false};
     ghost use Rattle.seg_text.specs.Items.{code_points, rest_after};
     ghost use Rattle.seg_machine.specs.Machine.{symbols_of};
-    ghost use Rattle.seg_machine.specs.Tailored.{machine_of};
+    ghost use Rattle.seg_machine.specs.Tailored.{parts_of};
     ghost use Rattle.seg_memo.specs.Configurations.{reading, subject};
     ghost use Rattle.seg_memo.specs.Grids.{IsKeptSymbol, IsMemo, IsReadBy, Has, lost_at};
     ghost use Rattle.seg_memo.specs.Memos.{Memo, memo};
 
     ghost Value = { Memo };
 
-    ghost view = { λ s. memo (reading (machine_of s.machine) (R.transitions s.reader)) (I.text s.text) s.place s.started s.status (R.counted s.reader) };
+    ghost view = { λ s. memo (reading (parts_of s.scanned.machine) (R.transitions s.reader)) (I.text s.scanned.text) s.place s.started s.status (R.counted s.reader) };
 
     ghost invariant = { λ s.
-        let m = reading (machine_of s.machine) (R.transitions s.reader) in
-        let scanned = subject m (symbols_of m (code_points (I.text s.text).items)) in
+        let m = reading (parts_of s.scanned.machine) (R.transitions s.reader) in
+        let scanned = subject m (symbols_of m (code_points (I.text s.scanned.text).items)) in
         (s.started ≡ false → (s.status ≡ 0) × (s.place ≡ 0))
-        × IsReadBy scanned (machine_of s.machine) (R.states s.reader) (R.transitions s.reader)
-        × (I.text s.rest ≡ rest_after s.place (I.text s.text))
+        × IsReadBy scanned (parts_of s.scanned.machine) (R.states s.reader) (R.transitions s.reader)
+        × (I.text s.rest ≡ rest_after s.place (I.text s.scanned.text))
         × Has scanned s.table s.place (lost_at scanned s.place) (R.counted s.reader) (λ whole. IsMemo scanned whole s.place)
-        × IsKeptSymbol scanned (machine_of s.machine) (I.text s.rest) s.place s.place s.first (I.text s.ahead) };
+        × IsKeptSymbol scanned (parts_of s.scanned.machine) (I.text s.rest) s.place s.place s.first (I.text s.ahead) };
 }
 
 impl<'data, I: Cursor, R: ReadTransitions> MemoBreakIterator<'data, I, R> {
@@ -116,10 +115,9 @@ impl<'data, I: Cursor, R: ReadTransitions> MemoBreakIterator<'data, I, R> {
         ensures boundaries { result.coming.left ≡ boundaries_in (machine_boundaries (reading self.entry.machine (Other.transitions reader))) self.entry.text }
     {
         let MemoBreakIterator {
-            machine,
+            scanned,
             reader: _,
             table,
-            text,
             rest,
             place: _,
             first,
@@ -129,10 +127,9 @@ impl<'data, I: Cursor, R: ReadTransitions> MemoBreakIterator<'data, I, R> {
         } = self;
         let started = false;
         MemoBreakIterator {
-            machine,
+            scanned,
             reader,
             table,
-            text,
             rest,
             place: 0,
             first,
@@ -208,10 +205,15 @@ impl<'data, I: Cursor> MemoBreakIterator<'data, I, CountedTransitions<'data>> {
         let Ok(cells) = Vec::with_capacity(alloc, count) else {
             return Err(MemoError::Memory);
         };
+        let parts = machine.parts();
+        let rest = text.fork();
         let mut ahead = text.fork();
-        let (first, _) = next_symbol(&machine, &mut ahead, 0);
+        let (first, _) = next_symbol(&parts, &mut ahead, 0);
         Ok(MemoBreakIterator {
-            machine,
+            scanned: Scanned {
+                machine: parts,
+                text,
+            },
             reader: CountedTransitions::new(machine.machine()),
             table: Table {
                 states,
@@ -219,8 +221,7 @@ impl<'data, I: Cursor> MemoBreakIterator<'data, I, CountedTransitions<'data>> {
                 first: 0,
                 cells,
             },
-            rest: text.fork(),
-            text,
+            rest,
             place: 0,
             first,
             ahead,
@@ -247,10 +248,9 @@ impl<'data, I: Cursor, R: ReadTransitions> MemoBreakIterator<'data, I, R> {
             return None;
         }
         let found = next_segment(
-            &self.machine,
+            &self.scanned,
             &mut self.reader,
             &mut self.table,
-            &self.text,
             &mut self.rest,
             &mut self.first,
             &mut self.ahead,

@@ -5,7 +5,7 @@ ghost use Rattle.seg_text.specs.declared.boundary.Boundary.{Boundary as AnyBound
 ghost use Rattle.seg_text.specs.Boundaries.{shift};
 ghost use Rattle.seg_text.specs.Items.{rest_after};
 ghost use Rattle.seg_machine.specs.Pick.{pick};
-ghost use Rattle.seg_machine.specs.Tailored.{machine_of};
+ghost use Rattle.seg_machine.specs.Tailored.{parts_of};
 ghost use Rattle.seg_memo.specs.Configurations.{Scan, Subject, start_at, look_up, IfLeads};
 ghost use Rattle.seg_memo.specs.Grids.{GoesOverItems, IsKeptSymbol, IsAt, IsFreshPlace, IsMemo, IsReadBy, IsScanned, IsSound, IsConfigurationOf, CursorStandsAt, Went, Has, Keeps, late, lost_at};
 ghost use Rattle.seg_memo.specs.declared.configuration.Outcome.TheVariants.{Picked};
@@ -15,26 +15,33 @@ use crate::configuration::{
 };
 use crate::reader::ReadTransitions;
 use crate::table::Table;
+use seg_machine::machine_parts::MachineParts;
 use seg_machine::provider::{Acceptance, SegmenterStateMachine, Symbol};
-use seg_machine::tailored_machine::TailoredMachineBorrowed;
 use seg_text::boundary::Boundary;
 use seg_text::cursor::Cursor;
+
+/// What is scanned: a machine, but for its transitions, and the whole text.
+#[derive(Debug, Drop)]
+pub(crate) struct Scanned<'data, I: Cursor> {
+    pub(crate) machine: MachineParts<'data>,
+    pub(crate) text: I,
+}
 
 /// The symbol of the item at a place, and the place after it; at the end of the text the symbol of the end, and the place
 /// stays.
 #[inline(always)]
 pub(crate) fn next_symbol<I: Cursor>(
-    machine: &TailoredMachineBorrowed<'_>,
+    machine: &MachineParts<'_>,
     rest: &mut I,
     place: usize,
 ) -> (Symbol, usize)
     ghost subject: { Subject }
-    requires rest { IsAt subject (machine_of machine.now) place (I.text rest.old).items }
+    requires rest { IsAt subject (parts_of machine.now) place (I.text rest.old).items }
     requires place { place ≤ length subject.symbols }
     requires room { suc (length subject.symbols) < 2 ^ 64 }
     ensures symbol { result.0 ≡ slice_index_or subject.symbols place 0 }
     ensures place { result.1 ≡ min (suc place) (length subject.symbols) }
-    ensures rest { IsAt subject (machine_of machine.now) result.1 (I.text rest.new).items }
+    ensures rest { IsAt subject (parts_of machine.now) result.1 (I.text rest.new).items }
     ensures goes { GoesOverItems (I.text rest.old) place (I.text rest.new) result.1 }
 {
     match rest.next_item() {
@@ -46,22 +53,22 @@ pub(crate) fn next_symbol<I: Cursor>(
 /// One look-up: what it comes to in a configuration that the text's next item reads the transition.
 #[inline(always)]
 fn look_up<I: Cursor, R: ReadTransitions>(
-    machine: &TailoredMachineBorrowed<'_>,
+    machine: &MachineParts<'_>,
     reader: &mut R,
     rest: &mut I,
     here: Configuration,
 ) -> LookUp
     ghost subject: { Subject }
     requires sound { IsSound subject }
-    requires read { IsReadBy subject (machine_of machine.now) (R.states reader.old) (R.transitions reader.old) }
+    requires read { IsReadBy subject (parts_of machine.now) (R.states reader.old) (R.transitions reader.old) }
     requires count { R.counted reader.old < usize.MAX }
     requires here { IsConfigurationOf subject here }
-    requires rest { IsAt subject (machine_of machine.now) here.place (I.text rest.old).items }
+    requires rest { IsAt subject (parts_of machine.now) here.place (I.text rest.old).items }
     ensures value { result ≡ look_up subject here }
     ensures within { IfLeads result (IsConfigurationOf subject) }
-    ensures rest { IfLeads result (λ next. IsAt subject (machine_of machine.now) next.place (I.text rest.new).items) }
+    ensures rest { IfLeads result (λ next. IsAt subject (parts_of machine.now) next.place (I.text rest.new).items) }
     ensures goes { IfLeads result (λ next. GoesOverItems (I.text rest.old) here.place (I.text rest.new) next.place) }
-    ensures read { IsReadBy subject (machine_of machine.now) (R.states reader.new) (R.transitions reader.new) }
+    ensures read { IsReadBy subject (parts_of machine.now) (R.states reader.new) (R.transitions reader.new) }
     ensures count { R.counted reader.new ≡ R.counted reader.old + 1 }
 {
     let (symbol, place) = next_symbol(machine, rest, here.place);
@@ -76,19 +83,19 @@ fn look_up<I: Cursor, R: ReadTransitions>(
 /// back to the one before. Gives the configuration of the last look-up, its outcome, and where the cursor stood there.
 #[inline(always)]
 fn go_forward<I: Cursor, R: ReadTransitions>(
-    machine: &TailoredMachineBorrowed<'_>,
+    machine: &MachineParts<'_>,
     reader: &mut R,
     table: &mut Table,
     rest: &mut I,
     first: Configuration,
 ) -> (Configuration, Outcome, usize)
     ghost scan: { Scan }
-    requires read { IsReadBy scan.subject (machine_of machine.now) (R.states reader.old) (R.transitions reader.old) }
+    requires read { IsReadBy scan.subject (parts_of machine.now) (R.states reader.old) (R.transitions reader.old) }
     requires memo { Keeps scan.subject table.old scan.start (R.counted reader.old) (IsFreshPlace scan.subject scan.start) }
     requires first { first ≡ start_at scan.start }
-    requires rest { IsAt scan.subject (machine_of machine.now) scan.start (I.text rest.old).items }
+    requires rest { IsAt scan.subject (parts_of machine.now) scan.start (I.text rest.old).items }
     requires some { scan.start < length scan.subject.symbols }
-    ensures read { IsReadBy scan.subject (machine_of machine.now) (R.states reader.new) (R.transitions reader.new) }
+    ensures read { IsReadBy scan.subject (parts_of machine.now) (R.states reader.new) (R.transitions reader.new) }
     ensures went { Keeps scan.subject table.new scan.start (R.counted reader.new) (λ whole. Went scan.subject whole scan.start result.0 result.1) }
     ensures stands { CursorStandsAt (I.text rest.old) scan.start result.0.place result.2 }
 {
@@ -113,13 +120,13 @@ fn go_forward<I: Cursor, R: ReadTransitions>(
 /// the first.
 #[inline(always)]
 fn go_back(
-    machine: &TailoredMachineBorrowed<'_>,
+    machine: &MachineParts<'_>,
     table: &mut Table,
     last: Configuration,
     outcome: Outcome,
 ) -> Outcome
     ghost scan: { Scan }
-    requires states { scan.subject.machine.states ≡ (machine_of machine.now).states }
+    requires states { scan.subject.machine.states ≡ (parts_of machine.now).states }
     requires went { (count : ℕ) × Keeps scan.subject table.old scan.start count (λ whole. Went scan.subject whole scan.start last outcome) }
     ensures scanned { (count : ℕ) → Keeps scan.subject table.old scan.start count (λ whole. Went scan.subject whole scan.start last outcome)
         → Keeps scan.subject table.new scan.start count (λ whole. IsScanned scan.subject whole scan.start result) }
@@ -143,19 +150,19 @@ fn go_back(
 /// stands there.
 #[inline(always)]
 fn outcome_from<I: Cursor, R: ReadTransitions>(
-    machine: &TailoredMachineBorrowed<'_>,
+    machine: &MachineParts<'_>,
     reader: &mut R,
     table: &mut Table,
     rest: &I,
     start: usize,
 ) -> (Outcome, usize, usize)
     ghost scan: { Scan }
-    requires read { IsReadBy scan.subject (machine_of machine.now) (R.states reader.old) (R.transitions reader.old) }
+    requires read { IsReadBy scan.subject (parts_of machine.now) (R.states reader.old) (R.transitions reader.old) }
     requires memo { Keeps scan.subject table.old scan.start (R.counted reader.old) (λ whole. IsMemo scan.subject whole scan.start) }
     requires start { start ≡ scan.start }
-    requires rest { IsAt scan.subject (machine_of machine.now) scan.start (I.text rest.now).items }
+    requires rest { IsAt scan.subject (parts_of machine.now) scan.start (I.text rest.now).items }
     requires some { scan.start < length scan.subject.symbols }
-    ensures read { IsReadBy scan.subject (machine_of machine.now) (R.states reader.new) (R.transitions reader.new) }
+    ensures read { IsReadBy scan.subject (parts_of machine.now) (R.states reader.new) (R.transitions reader.new) }
     ensures scanned { Keeps scan.subject table.new scan.start (R.counted reader.new) (λ whole. IsScanned scan.subject whole scan.start result.0) }
     ensures stands { CursorStandsAt (I.text rest.now) scan.start result.1 result.2 }
 {
@@ -179,7 +186,7 @@ fn outcome_from<I: Cursor, R: ReadTransitions>(
 /// after an acceptance is marked at once: nothing accepts after it, unless the pick is later and no scan comes to it again.
 #[inline(always)]
 fn scan_plain<I: Cursor, R: ReadTransitions>(
-    machine: &TailoredMachineBorrowed<'_>,
+    machine: &MachineParts<'_>,
     reader: &mut R,
     table: &mut Table,
     rest: &I,
@@ -189,16 +196,16 @@ fn scan_plain<I: Cursor, R: ReadTransitions>(
 ) -> (Boundary, usize, usize)
     ghost scan: { Scan }
     requires plain { scan.subject.machine.num_lookaheads ≡ 0 }
-    requires read { IsReadBy scan.subject (machine_of machine.now) (R.states reader.old) (R.transitions reader.old) }
+    requires read { IsReadBy scan.subject (parts_of machine.now) (R.states reader.old) (R.transitions reader.old) }
     requires memo { Has scan.subject table.old scan.start (late scan.subject scan.start) (R.counted reader.old) (λ whole. IsMemo scan.subject whole scan.start) }
     requires start { start ≡ scan.start }
-    requires rest { IsAt scan.subject (machine_of machine.now) scan.start (I.text rest.now).items }
+    requires rest { IsAt scan.subject (parts_of machine.now) scan.start (I.text rest.now).items }
     requires some { (I.text rest.now).items ≢ [] }
-    requires ahead { IsKeptSymbol scan.subject (machine_of machine.now) (I.text rest.now) scan.start scan.start first.old (I.text ahead.old) }
-    ensures read { IsReadBy scan.subject (machine_of machine.now) (R.states reader.new) (R.transitions reader.new) }
+    requires ahead { IsKeptSymbol scan.subject (parts_of machine.now) (I.text rest.now) scan.start scan.start first.old (I.text ahead.old) }
+    ensures read { IsReadBy scan.subject (parts_of machine.now) (R.states reader.new) (R.transitions reader.new) }
     ensures scanned { Has scan.subject table.new result.0.offset (late scan.subject result.0.offset) (R.counted reader.new) (λ whole. IsScanned scan.subject whole scan.start (Picked result.0)) }
     ensures stands { CursorStandsAt (I.text rest.now) scan.start result.0.offset result.1 }
-    ensures ahead { IsKeptSymbol scan.subject (machine_of machine.now) (I.text rest.now) scan.start result.2 first.new (I.text ahead.new) }
+    ensures ahead { IsKeptSymbol scan.subject (parts_of machine.now) (I.text rest.now) scan.start result.2 first.new (I.text ahead.new) }
 {
     let mut state = SegmenterStateMachine::START_STATE;
     let mut symbol = *first;
@@ -251,27 +258,27 @@ pub(crate) fn skip<I: Cursor>(rest: &mut I)
 /// `ahead` are the symbol of the first item of `rest`, and what is left after it.
 #[inline(always)]
 pub(crate) fn next_segment<I: Cursor, R: ReadTransitions>(
-    machine: &TailoredMachineBorrowed<'_>,
+    scanned: &Scanned<'_, I>,
     reader: &mut R,
     table: &mut Table,
-    text: &I,
     rest: &mut I,
     first: &mut Symbol,
     ahead: &mut I,
     start: usize,
 ) -> Boundary
     ghost subject: { Subject }
-    requires read { IsReadBy subject (machine_of machine.now) (R.states reader.old) (R.transitions reader.old) }
+    requires read { IsReadBy subject (parts_of scanned.now.machine) (R.states reader.old) (R.transitions reader.old) }
     requires memo { Has subject table.old start (lost_at subject start) (R.counted reader.old) (λ whole. IsMemo subject whole start) }
-    requires rest { IsAt subject (machine_of machine.now) start (I.text rest.old).items }
+    requires rest { IsAt subject (parts_of scanned.now.machine) start (I.text rest.old).items }
     requires some { (I.text rest.old).items ≢ [] }
-    requires ahead { IsKeptSymbol subject (machine_of machine.now) (I.text rest.old) start start first.old (I.text ahead.old) }
-    ensures read { IsReadBy subject (machine_of machine.now) (R.states reader.new) (R.transitions reader.new) }
+    requires ahead { IsKeptSymbol subject (parts_of scanned.now.machine) (I.text rest.old) start start first.old (I.text ahead.old) }
+    ensures read { IsReadBy subject (parts_of scanned.now.machine) (R.states reader.new) (R.transitions reader.new) }
     ensures memo { Has subject table.new result.offset (lost_at subject result.offset) (R.counted reader.new) (λ whole. IsMemo subject whole result.offset) }
     ensures segment { (p : AnyBoundary) × (pick subject.machine (drop start subject.symbols) ≡ Some p) × (result ≡ shift start p)
         × (I.text rest.new ≡ rest_after p.offset (I.text rest.old)) }
-    ensures ahead { IsKeptSymbol subject (machine_of machine.now) (I.text rest.new) result.offset result.offset first.new (I.text ahead.new) }
+    ensures ahead { IsKeptSymbol subject (parts_of scanned.now.machine) (I.text rest.new) result.offset result.offset first.new (I.text ahead.new) }
 {
+    let machine = &scanned.machine;
     if machine.num_lookaheads() != 0 {
         let found = next_kept_segment(machine, reader, table, rest, start);
         read_first(machine, rest, found.offset, first, ahead);
@@ -288,7 +295,7 @@ pub(crate) fn next_segment<I: Cursor, R: ReadTransitions>(
 /// The same by a machine that keeps places for lookaheads.
 #[inline(never)]
 fn next_kept_segment<I: Cursor, R: ReadTransitions>(
-    machine: &TailoredMachineBorrowed<'_>,
+    machine: &MachineParts<'_>,
     reader: &mut R,
     table: &mut Table,
     rest: &mut I,
@@ -296,11 +303,11 @@ fn next_kept_segment<I: Cursor, R: ReadTransitions>(
 ) -> Boundary
     ghost subject: { Subject }
     requires lookaheads { subject.machine.num_lookaheads ≢ 0 }
-    requires read { IsReadBy subject (machine_of machine.now) (R.states reader.old) (R.transitions reader.old) }
+    requires read { IsReadBy subject (parts_of machine.now) (R.states reader.old) (R.transitions reader.old) }
     requires memo { Has subject table.old start (lost_at subject start) (R.counted reader.old) (λ whole. IsMemo subject whole start) }
-    requires rest { IsAt subject (machine_of machine.now) start (I.text rest.old).items }
+    requires rest { IsAt subject (parts_of machine.now) start (I.text rest.old).items }
     requires some { (I.text rest.old).items ≢ [] }
-    ensures read { IsReadBy subject (machine_of machine.now) (R.states reader.new) (R.transitions reader.new) }
+    ensures read { IsReadBy subject (parts_of machine.now) (R.states reader.new) (R.transitions reader.new) }
     ensures memo { Has subject table.new result.offset (lost_at subject result.offset) (R.counted reader.new) (λ whole. IsMemo subject whole result.offset) }
     ensures segment { (p : AnyBoundary) × (pick subject.machine (drop start subject.symbols) ≡ Some p) × (result ≡ shift start p)
         × (I.text rest.new ≡ rest_after p.offset (I.text rest.old)) }
@@ -323,17 +330,17 @@ fn next_kept_segment<I: Cursor, R: ReadTransitions>(
 /// Reads the first symbol of what is left of a text.
 #[inline(never)]
 fn read_first<I: Cursor>(
-    machine: &TailoredMachineBorrowed<'_>,
+    machine: &MachineParts<'_>,
     rest: &I,
     place: usize,
     first: &mut Symbol,
     ahead: &mut I,
 )
     ghost subject: { Subject }
-    requires rest { IsAt subject (machine_of machine.now) place (I.text rest.now).items }
+    requires rest { IsAt subject (parts_of machine.now) place (I.text rest.now).items }
     requires place { place ≤ length subject.symbols }
     requires room { suc (length subject.symbols) < 2 ^ 64 }
-    ensures { IsKeptSymbol subject (machine_of machine.now) (I.text rest.now) place place first.new (I.text ahead.new) }
+    ensures { IsKeptSymbol subject (parts_of machine.now) (I.text rest.now) place place first.new (I.text ahead.new) }
 {
     *ahead = rest.fork();
     let (symbol, _) = next_symbol(machine, ahead, place);

@@ -16,7 +16,7 @@ const AHEAD: usize = 64;
 
 /// A cell for each configuration of a text: for so many states and so many sets of lookaheads at each place. Held are the
 /// cells from the first on, as far as some were made; those after them are unknown, and no scan comes back to those before.
-#[derive(Drop)]
+#[derive(Debug, Drop)]
 pub(crate) struct Table {
     pub(crate) states: usize,
     pub(crate) sets: usize,

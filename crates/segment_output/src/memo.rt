@@ -14,13 +14,18 @@ use crate::found::Found;
 use crate::marks::{Mark, Marking};
 use crate::output::{Style, print_segments};
 use crate::segmenter::Segmenter;
-use icu_segmenter::indices::Utf8CharIndices;
 use icu_segmenter::memo::{MemoBreakIterator, MemoError};
 use icu_segmenter::rule_segmenter_v2::CountedTransitions;
+use icu_segmenter::scaffold::PotentiallyIllFormedUtf8;
 use std::alloc::Global;
 use std::io::Write;
 
-type Memo<'data, 's> = MemoBreakIterator<'data, Utf8CharIndices<'s>, CountedTransitions<'data>>;
+type Memo<'data, 's> = MemoBreakIterator<
+    'data,
+    's,
+    PotentiallyIllFormedUtf8,
+    CountedTransitions<'data>,
+>;
 
 /// Writes just what `Segmenter::print` writes, and flushes, but looks up no configuration of the machine twice: the look-ups are as
 /// many as there are different configurations that the scans of the segments look up. The errors are those of `with_memo`, which are met

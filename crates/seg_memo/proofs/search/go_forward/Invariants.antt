@@ -1,5 +1,5 @@
 use Rattle.std.proofs.Common.{◌+◌, length}
-use Rattle.seg_machine.specs.Tailored.{machine_of}
+use Rattle.seg_machine.specs.Tailored.{parts_of}
 use Rattle.seg_memo.specs.Configurations.{following}
 use Rattle.seg_memo.specs.Grids.{GoesOverItems, IsAt, IsReadBy, IsUnderWay, Keeps}
 use Rattle.seg_memo.proofs.search.go_forward.Given as goal
@@ -15,9 +15,9 @@ ghost-look_up g a = g.scan.subject
 
 abbrev pub invariant-scan : goal.invariant-scan
 invariant-scan g l = record {
-  read : IsReadBy g.scan.subject (machine_of l.machine) (g.R.ReadTransitions.states l.reader) (g.R.ReadTransitions.transitions l.reader);
+  read : IsReadBy g.scan.subject (parts_of l.machine) (g.R.ReadTransitions.states l.reader) (g.R.ReadTransitions.transitions l.reader);
   walking : Keeps g.scan.subject l.table g.scan.start (g.R.ReadTransitions.counted l.reader + 1) (λ whole. IsUnderWay g.scan.subject whole g.scan.start l.here);
-  rest : IsAt g.scan.subject (machine_of l.machine) l.here.place (g.I.Cursor.text l.rest).items;
+  rest : IsAt g.scan.subject (parts_of l.machine) l.here.place (g.I.Cursor.text l.rest).items;
   goes : GoesOverItems (g.I.Cursor.text l.fn.rest) g.scan.start (g.I.Cursor.text l.rest) l.here.place;
 }
 

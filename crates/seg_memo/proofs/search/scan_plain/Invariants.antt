@@ -1,5 +1,5 @@
 use Rattle.std.proofs.Common.{◌≡◌, suc, ◌+◌, length, min}
-use Rattle.seg_machine.specs.Tailored.{machine_of}
+use Rattle.seg_machine.specs.Tailored.{parts_of}
 use Rattle.seg_memo.specs.Configurations.{configuration, following}
 use Rattle.seg_memo.specs.Grids.{IsKeptSymbol, IsReadBy, CursorStandsAt}
 use Rattle.seg_memo.proofs.Onward.{Turn, floor}
@@ -13,9 +13,9 @@ ghost-mark g a = record { subject = g.scan.subject; start = a.from }
 
 abbrev pub invariant-scan : goal.invariant-scan
 invariant-scan g l = record {
-  read : IsReadBy g.scan.subject (machine_of l.machine) (g.R.ReadTransitions.states l.reader) (g.R.ReadTransitions.transitions l.reader);
+  read : IsReadBy g.scan.subject (parts_of l.machine) (g.R.ReadTransitions.states l.reader) (g.R.ReadTransitions.transitions l.reader);
   turn : Turn g.scan.subject l.table g.scan.start (configuration l.state l.place 0) l.last (g.R.ReadTransitions.counted l.reader + 1);
-  ahead : IsKeptSymbol g.scan.subject (machine_of l.machine) (g.I.Cursor.text l.fn.rest) g.scan.start l.place l.symbol (g.I.Cursor.text l.ahead);
+  ahead : IsKeptSymbol g.scan.subject (parts_of l.machine) (g.I.Cursor.text l.fn.rest) g.scan.start l.place l.symbol (g.I.Cursor.text l.ahead);
   after : l.after ≡ min (suc l.place) (length g.scan.subject.symbols);
   stands : CursorStandsAt (g.I.Cursor.text l.fn.rest) g.scan.start (floor g.scan.start l.last) l.stood;
 }

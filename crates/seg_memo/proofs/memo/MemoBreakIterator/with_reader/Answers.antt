@@ -1,7 +1,7 @@
 use Rattle.std.proofs.Common.{ℕ, ◌∙◌, ap, length, refl, subst, sym}
 use Rattle.seg_text.specs.Items.{rest_after}
 use Rattle.seg_machine.specs.MachineFaults.{IsChecked}
-use Rattle.seg_machine.specs.Tailored.{machine_of}
+use Rattle.seg_machine.specs.Tailored.{parts_of}
 use Rattle.seg_memo.specs.Configurations.{reading}
 use Rattle.seg_memo.specs.Memos.{Memo}
 use Rattle.seg_memo.proofs.Ahead.{other-ahead}
@@ -13,11 +13,11 @@ pub invariant_of-result : goal.invariant_of-result
 invariant_of-result g c =
     let off = ap (λ (v : Memo). v.started) c.self.view_is ∙ c.requires.started in
     let none = (c.self.invariant.0 off).1 in
-    let checked : IsChecked (reading (machine_of c.self.inside.machine) (g.Other.ReadTransitions.transitions c.args.reader)) =
+    let checked : IsChecked (reading (parts_of c.self.inside.scanned.machine) (g.Other.ReadTransitions.transitions c.args.reader)) =
     subst (λ (v : Memo). IsChecked (reading v.machine (g.Other.ReadTransitions.transitions c.args.reader))) (sym c.self.view_is) c.requires.checked in (
       λ off. (refl, refl),
-      read-by (machine_of c.self.inside.machine) _ _ _ (c.requires.states ∙ ap (λ (v : Memo). length v.machine.states) (sym c.self.view_is)),
-      c.self.invariant.2 ∙ ap (λ (n : ℕ). rest_after n (g.I.Cursor.text c.self.inside.text)) none,
-      other-keeps (machine_of c.self.inside.machine) (g.R.ReadTransitions.transitions c.self.inside.reader) (g.Other.ReadTransitions.transitions c.args.reader) _ _ _ _ _ c.self.invariant.3 none checked c.requires.count,
-      other-ahead (machine_of c.self.inside.machine) (g.R.ReadTransitions.transitions c.self.inside.reader) (g.Other.ReadTransitions.transitions c.args.reader) _ _ _ _ _ c.self.invariant.4 none,
+      read-by (parts_of c.self.inside.scanned.machine) _ _ _ (c.requires.states ∙ ap (λ (v : Memo). length v.machine.states) (sym c.self.view_is)),
+      c.self.invariant.2 ∙ ap (λ (n : ℕ). rest_after n (g.I.Cursor.text c.self.inside.scanned.text)) none,
+      other-keeps (parts_of c.self.inside.scanned.machine) (g.R.ReadTransitions.transitions c.self.inside.reader) (g.Other.ReadTransitions.transitions c.args.reader) _ _ _ _ _ c.self.invariant.3 none checked c.requires.count,
+      other-ahead (parts_of c.self.inside.scanned.machine) (g.R.ReadTransitions.transitions c.self.inside.reader) (g.Other.ReadTransitions.transitions c.args.reader) _ _ _ _ _ c.self.invariant.4 none,
     )
