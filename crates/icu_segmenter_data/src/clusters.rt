@@ -1,5 +1,6 @@
 //! Grapheme clusters.
-ghost use Rattle.std.specs.Prelude.{◌≡◌, IfOk};
+ghost use Rattle.std.specs.Prelude.{◌≡◌, IfOk, IfErr};
+ghost use Rattle.seg_data.specs.declared.provider.DataError.TheVariants.{Memory};
 ghost use Rattle.icu_segmenter_data.specs.Unicode.{cluster_machine, cluster_table};
 
 mod data;
@@ -9,17 +10,18 @@ use data::{ENTRIES, NUMBERS, OTHER, RANGES, SHIFT, STATES, TRANSITIONS};
 use icu_segmenter::provider::{DataError, RuleBreakData, SegmenterStateMachine};
 use std::alloc::Global;
 
-/// The machine of extended grapheme clusters, by UAX #29. The only error that is met is want of memory.
+/// The machine of extended grapheme clusters, by UAX #29. The only error is want of memory.
 pub fn cluster_machine(alloc: Global) -> Result<SegmenterStateMachine, DataError>
-    ensures { IfOk result (λ m. m ≡ cluster_machine) }
+    ensures made { IfOk result (λ m. m ≡ cluster_machine) }
+    ensures refused { IfErr result (λ fault. fault ≡ Memory) }
 {
     machine_of(alloc, &RANGES, OTHER, &STATES, &TRANSITIONS, SHIFT, &[])
 }
 
-/// The pair table of the same clusters, which words and lines with dictionaries ask for too. The only error that is
-/// met is want of memory.
+/// The pair table of the same clusters, which words and lines with dictionaries ask for too. The only error is want of memory.
 pub fn cluster_table(alloc: Global) -> Result<RuleBreakData, DataError>
-    ensures { IfOk result (λ t. t ≡ cluster_table) }
+    ensures made { IfOk result (λ t. t ≡ cluster_table) }
+    ensures refused { IfErr result (λ fault. fault ≡ Memory) }
 {
     table_of(alloc, &RANGES, OTHER, &ENTRIES, &[], NUMBERS)
 }

@@ -3,7 +3,7 @@
 //!
 //! The parts are arrays that `generate/generate.py` writes out of the Unicode Character Database, by the rules of UAX #29 and
 //! UAX #14 and, in the tailorings of lines, by CSS Text 3. That they agree with the standards is tested, by the official tests,
-//! and isn't proved; nor is it proved that the checks refuse none of them.
+//! and isn't proved. It is proved that their checks refuse none of them.
 #![tactic(auto)]
 
 pub mod classic;

@@ -1,5 +1,6 @@
 //! Lines.
-ghost use Rattle.std.specs.Prelude.{◌≡◌, IfOk};
+ghost use Rattle.std.specs.Prelude.{◌≡◌, IfOk, IfErr};
+ghost use Rattle.seg_data.specs.declared.provider.DataError.TheVariants.{Memory};
 ghost use Rattle.icu_segmenter_data.specs.Unicode.{line_machine, line_tailorings, line_table};
 
 mod data;
@@ -14,17 +15,19 @@ use std::alloc::Global;
 
 /// The machine of lines, by UAX #14, with numbers as its example 7 of section 8.2 has them, which the official test takes too.
 /// Status 1 is a mandatory break. What has complex context in Thai, Lao, Khmer and Myanmar has its script, so that
-/// dictionaries can cut it. The only error that is met is want of memory.
+/// dictionaries can cut it. The only error is want of memory.
 pub fn line_machine(alloc: Global) -> Result<SegmenterStateMachine, DataError>
-    ensures { IfOk result (λ m. m ≡ line_machine) }
+    ensures made { IfOk result (λ m. m ≡ line_machine) }
+    ensures refused { IfErr result (λ fault. fault ≡ Memory) }
 {
     machine_of(alloc, &RANGES, OTHER, &STATES, &TRANSITIONS, SHIFT, &MAP)
 }
 
-/// The tailorings of that machine, all seven, by the properties `line-break` and `word-break` of CSS Text 3. The only error that is
-/// met is want of memory.
+/// The tailorings of that machine, all seven, by the properties `line-break` and `word-break` of CSS Text 3. The only error is
+/// want of memory.
 pub fn line_tailorings(alloc: Global) -> Result<LineTailorings, DataError>
-    ensures { IfOk result (λ tailorings. tailorings ≡ line_tailorings) }
+    ensures made { IfOk result (λ tailorings. tailorings ≡ line_tailorings) }
+    ensures refused { IfErr result (λ fault. fault ≡ Memory) }
 {
     Ok(LineTailorings {
         breakall: Some(tailoring_of(alloc, &BREAKALL)?),
@@ -38,9 +41,10 @@ pub fn line_tailorings(alloc: Global) -> Result<LineTailorings, DataError>
 }
 
 /// The pair table of the same lines, over the classes that the classic engine of lines names (UAX #14's, where East Asian width and
-/// Extended_Pictographic split some); of class SA all is complex, marks too. The only error that is met is want of memory.
+/// Extended_Pictographic split some); of class SA all is complex, marks too. The only error is want of memory.
 pub fn line_table(alloc: Global) -> Result<RuleBreakData, DataError>
-    ensures { IfOk result (λ t. t ≡ line_table) }
+    ensures made { IfOk result (λ t. t ≡ line_table) }
+    ensures refused { IfErr result (λ fault. fault ≡ Memory) }
 {
     table_of(alloc, &CLASSES, OTHER_CLASS, &ENTRIES, &[], NUMBERS)
 }

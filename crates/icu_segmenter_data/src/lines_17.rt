@@ -1,5 +1,6 @@
 //! Lines by the engine 17.
-ghost use Rattle.std.specs.Prelude.{◌≡◌, IfOk};
+ghost use Rattle.std.specs.Prelude.{◌≡◌, IfOk, IfErr};
+ghost use Rattle.seg_data.specs.declared.provider.DataError.TheVariants.{Memory};
 ghost use Rattle.icu_segmenter_data.specs.Unicode.{line_17_table};
 
 mod data;
@@ -11,9 +12,10 @@ use std::alloc::Global;
 
 /// The pair table of lines for the engine 17, over the classes that it names (UAX #14's, of which East Asian width, General_Category
 /// and Extended_Pictographic split some), by the rules of UAX #14 of 15.0; of class SA all is complex, marks too. The rules that the
-/// engine itself has are of a later version. The only error that is met is want of memory.
+/// engine itself has are of a later version. The only error is want of memory.
 pub fn line_17_table(alloc: Global) -> Result<RuleBreakData, DataError>
-    ensures { IfOk result (λ t. t ≡ line_17_table) }
+    ensures made { IfOk result (λ t. t ≡ line_17_table) }
+    ensures refused { IfErr result (λ fault. fault ≡ Memory) }
 {
     table_of(alloc, &CLASSES, OTHER_CLASS, &ENTRIES, &[], NUMBERS)
 }

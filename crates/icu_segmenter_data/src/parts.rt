@@ -1,6 +1,10 @@
 //! Checked values of parts that stand in the code.
-ghost use Rattle.std.specs.Prelude.{◌≡◌, IfOk, []};
+ghost use Rattle.std.specs.Prelude.{◌≡◌, ◌⊎◌, IfOk, IfErr, []};
+ghost use Rattle.seg_data.specs.declared.provider.DataError.TheVariants.{Memory};
+ghost use Rattle.icu_segmenter.specs.Faults.{HasRangeFault};
 ghost use Rattle.icu_segmenter.specs.Machine.{machine, tailoring};
+ghost use Rattle.icu_segmenter.specs.MachineFaults.{HasMachineFault, HasOverrideFault};
+ghost use Rattle.icu_segmenter.specs.PairData.{HasPairFault};
 ghost use Rattle.icu_segmenter.specs.PairTable.{pair_table};
 ghost use Rattle.icu_segmenter.specs.Table.{table};
 
@@ -50,7 +54,9 @@ pub(crate) fn machine_of(
     shift: u8,
     map: &[(Symbol, ComplexScript)],
 ) -> Result<SegmenterStateMachine, DataError>
-    ensures { IfOk result (λ m. m ≡ machine (table ranges.now other) states.now transitions.now 0 shift map.now) }
+    ensures made { IfOk result (λ m. m ≡ machine (table ranges.now other) states.now transitions.now 0 shift map.now) }
+    ensures refused { IfErr result (λ fault. (fault ≡ Memory) ⊎ HasRangeFault ranges.now fault
+        ⊎ HasMachineFault (machine (table ranges.now other) states.now transitions.now 0 shift map.now) fault) }
 {
     let symbols = indexed_table(alloc, ranges, other)?;
     let states = Vec::from_slice(alloc, states)?;
@@ -64,7 +70,8 @@ pub(crate) fn tailoring_of(
     alloc: Global,
     map: &[(Symbol, ComplexScript)],
 ) -> Result<SegmenterStateMachineOverride, DataError>
-    ensures { IfOk result (λ made. made ≡ tailoring map.now []) }
+    ensures made { IfOk result (λ made. made ≡ tailoring map.now []) }
+    ensures refused { IfErr result (λ fault. (fault ≡ Memory) ⊎ HasOverrideFault (tailoring map.now []) fault) }
 {
     let pseudo_symbol_map = Vec::from_slice(alloc, map)?;
     SegmenterStateMachineOverride::try_from_parts(pseudo_symbol_map, Vec::new(alloc))
@@ -94,7 +101,9 @@ pub(crate) fn table_of(
     statuses: &[u8],
     numbers: Numbers,
 ) -> Result<RuleBreakData, DataError>
-    ensures { IfOk result (λ t. t ≡ pair_table (table ranges.now other) entries.now statuses.now numbers.count numbers.last numbers.start_of_text numbers.end_of_text numbers.complex) }
+    ensures made { IfOk result (λ t. t ≡ pair_table (table ranges.now other) entries.now statuses.now numbers.count numbers.last numbers.start_of_text numbers.end_of_text numbers.complex) }
+    ensures refused { IfErr result (λ fault. (fault ≡ Memory) ⊎ HasRangeFault ranges.now fault
+        ⊎ HasPairFault (pair_table (table ranges.now other) entries.now statuses.now numbers.count numbers.last numbers.start_of_text numbers.end_of_text numbers.complex) fault) }
 {
     let classes = indexed_table(alloc, ranges, other)?;
     let entries = Vec::from_slice(alloc, entries)?;

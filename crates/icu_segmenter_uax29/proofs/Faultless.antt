@@ -85,7 +85,7 @@ no-overlap ranges is (k, before, after, at_before, at_after, reaches) =
     let two : (get_or ranges (suc k) none).0 ≡ after.0 = ap (λ n. (get_or ranges n none).0) (sym next) ∙ ap (λ (range : Range). range.0) (get_or_from_slice_get ranges (k + 1) after none at_after) in
     omega arith
 
-no-range-fault : (ranges : List Range) → every is_range ranges ≡ true → rises ranges ≡ true → (fault : DataError) → HasRangeFault ranges fault → ⊥
+pub no-range-fault : (ranges : List Range) → every is_range ranges ≡ true → rises ranges ≡ true → (fault : DataError) → HasRangeFault ranges fault → ⊥
 no-range-fault ranges are rise RangeOrder (inl any) =
     let (range, is, turned) = any-passes is_range ranges are any in
     let low = ltb-true _ _ (and_parts (nat_lt range.0 (suc range.1)) (nat_lt range.1 0x110000) is).0 in omega arith
@@ -113,7 +113,7 @@ no-range-fault ranges are rise MissingTailoring h = h
 
 -- ---- the machine
 
-next-state : (count next : ℕ) → is_next count next ≡ true → next ≢ 255 → count ≤ next → ⊥
+pub next-state : (count next : ℕ) → is_next count next ≡ true → next ≢ 255 → count ≤ next → ⊥
 next-state count next is other past = elim (either (next == 255) (nat_lt next count) is) [
   | inl same ↦ other (eqb-true next 255 same)
   | inr below ↦ let low = ltb-true next count below in omega arith

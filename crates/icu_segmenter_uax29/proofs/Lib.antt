@@ -1,5 +1,5 @@
-mod Tests
-mod Lists
+pub mod Tests
+pub mod Lists
 mod Entries
 mod RangeSymbols
 mod Picks
@@ -10,7 +10,7 @@ mod Waits
 mod Texts
 mod Parts
 mod Segments
-mod Faultless
+pub mod Faultless
 mod Properties
 mod Knowledge
 mod Tables

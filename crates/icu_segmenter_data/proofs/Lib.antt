@@ -1,0 +1,5 @@
+mod MachineTests
+mod TableTests
+mod Machines
+mod Tables
+mod TailoringTests
