@@ -11,7 +11,7 @@ use std::alloc::{AllocError, Global};
 /// How many bytes the table's pages take where a row asks for its pages; the value of the code point that it names; or else the
 /// table's ranges and default.
 pub fn table(alloc: Global, row: Row<'_>) -> Result<String> {
-    let table = table_of(alloc, row)?;
+    let table = table_of(alloc, row)?.indexed(alloc)?;
     if row.part("pages").is_some() {
         let bytes = page_byte_count(&table);
         return Ok(format!(in alloc; "{bytes}")?);
