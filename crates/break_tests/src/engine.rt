@@ -63,9 +63,7 @@ impl Engine {
             Engine::ClusterMachine | Engine::ClusterTable | Engine::ProvedClusters => {
                 "GraphemeBreakTest.txt"
             }
-            Engine::WordMachine | Engine::WordTable | Engine::ProvedWords => {
-                "WordBreakTest.txt"
-            }
+            Engine::WordMachine | Engine::WordTable | Engine::ProvedWords => { "WordBreakTest.txt" }
             Engine::SentenceMachine | Engine::SentenceTable | Engine::ProvedSentences => {
                 "SentenceBreakTest.txt"
             }

@@ -176,12 +176,19 @@ fn print_runs(
 fn find_by_traits(rt: &HostRuntime) -> Result<()> {
     let alloc = rt.alloc();
     let boundaries = boundaries_by_fewer(alloc, b"aaac")?;
-    println!(rt; "boundaries of aaac by fewer transitions: {:?}", boundaries.as_slice())?;
+    println!(rt;
+        "boundaries of aaac by fewer transitions: {:?}",
+        boundaries.as_slice()
+    )?;
     print_count(rt, "bytes of a memo's cell", size_of::<Cell>() as u64)?;
     let machine = cluster_machine(alloc)?;
     let clusters = GraphemeClusterSegmenterBorrowed::new_neo(&machine)?;
     let cuts = cuts_by_word(alloc, clusters, &[0xE01, 0xE01], "\u{E01}\u{E01}\u{E34}")?;
-    print(rt, "cuts by a word that would end within a cluster", cuts.as_slice())
+    print(
+        rt,
+        "cuts by a word that would end within a cluster",
+        cuts.as_slice(),
+    )
 }
 
 fn find_words(rt: &HostRuntime) -> Result<()> {

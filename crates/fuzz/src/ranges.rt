@@ -43,7 +43,10 @@ pub fn try_ranges<O: Write>(alloc: Global, out: &mut O) -> Result<(), Failure> {
         "other boundaries by an index",
     )?;
     let count = found.len();
-    writeln!(out, "a range for each of {CODE_POINTS} code points: {count} boundaries")?;
+    writeln!(
+        out,
+        "a range for each of {CODE_POINTS} code points: {count} boundaries"
+    )?;
     Ok(())
 }
 
