@@ -25,6 +25,7 @@ use cases::Kind;
 use failure::Failure;
 use ranges::try_ranges;
 use refusals::try_named;
+use std::alloc::AllocError;
 use std::env;
 use std::io::Write;
 use std::process::ExitCode;
@@ -54,10 +55,14 @@ fn start(rt: &HostRuntime) -> Result<()> {
     }
 }
 
-// The words of the command line.
+// The words of the command line. They are pushed one by one: `collect` asks for memory by a hint, and where it is refused once more for
+// less.
 fn words(rt: &HostRuntime) -> Result<Vec<String>, Failure> {
-    let words = env::args(rt).map_err(|_| Failure::Memory)?;
-    Ok(words.collect(rt.alloc())?)
+    let mut words = Vec::new(rt.alloc());
+    for word in env::args(rt).map_err(|_| Failure::Memory)? {
+        words.push(word).map_err(AllocError::from)?;
+    }
+    Ok(words)
 }
 
 fn try_cases(rt: &HostRuntime, cases: &str, seed: &str) -> Result<()> {
