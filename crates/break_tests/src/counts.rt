@@ -34,39 +34,44 @@ impl Counts {
     }
 }
 
-/// Counts the samples of a test file. The errors are want of memory, and a line that has neither marks nor code points.
-pub fn counts_of(alloc: Global, segmenter: &Segmenter, text: &str) -> Result<Counts> {
+/// Counts the samples of a test file, and prints the lines of those that aren't passed. The errors are want of memory, a line that has
+/// neither marks nor code points, and output that fails.
+pub fn counts_of(rt: &HostRuntime, segmenter: &Segmenter, text: &str) -> Result<Counts> {
     let mut counts = Counts::default();
     for line in text.lines() {
-        if let Some(sample) = sample_of(alloc, line)? {
-            counts.add(is_passed(alloc, segmenter, &sample)?);
+        if let Some(sample) = sample_of(rt.alloc(), line)? {
+            let is_passed = is_passed(rt.alloc(), segmenter, &sample)?;
+            counts.add(is_passed);
+            if !is_passed {
+                println!(rt; "not passed: {line}")?;
+            }
         }
     }
     Ok(counts)
 }
 
-/// Counts the rows of lines with options: each has its options, a semicolon, and a sample. The errors are want of memory, and
+/// Counts the rows of lines with options: each has its options, a semicolon, and a sample. The errors are those of `counts_of`, and
 /// a row that can't be read.
-pub fn option_counts_of(alloc: Global, text: &str) -> Result<Counts> {
+pub fn option_counts_of(rt: &HostRuntime, text: &str) -> Result<Counts> {
     let mut counts = Counts::default();
     for row in text.lines() {
-        counts.join(row_counts(alloc, row)?);
+        counts.join(row_counts(rt, row)?);
     }
     Ok(counts)
 }
 
 // Counts a row; a line without a semicolon is none.
-fn row_counts(alloc: Global, row: &str) -> Result<Counts> {
+fn row_counts(rt: &HostRuntime, row: &str) -> Result<Counts> {
     match row.split_once(';') {
-        Some((options, sample)) => counts_with(alloc, options, sample),
+        Some((options, sample)) => counts_with(rt, options, sample),
         None => Ok(Counts::default()),
     }
 }
 
 // Counts samples by lines with these options.
-fn counts_with(alloc: Global, options: &str, samples: &str) -> Result<Counts> {
-    let segmenter = segmenter_with(alloc, options)?;
-    counts_of(alloc, &segmenter, samples)
+fn counts_with(rt: &HostRuntime, options: &str, samples: &str) -> Result<Counts> {
+    let segmenter = segmenter_with(rt.alloc(), options)?;
+    counts_of(rt, &segmenter, samples)
 }
 
 // Whether the text has just the sample's boundaries, in each encoding, and of lines the mandatory ones.

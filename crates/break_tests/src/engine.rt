@@ -8,6 +8,7 @@ use icu_segmenter_data::{
     cluster_machine, cluster_table, line_17_table, line_segmenter, line_table, sentence_machine,
     sentence_table, word_segmenter, word_table,
 };
+use icu_segmenter_uax29 as uax29;
 use std::alloc::Global;
 
 /// What is found, and by which engine.
@@ -31,10 +32,16 @@ pub enum Engine {
     LineTable,
     /// Lines, by the engine 17.
     LineTurns,
+    /// Grapheme clusters, by the machine that is proved to follow UAX #29.
+    ProvedClusters,
+    /// Words, by the machine that is proved to follow UAX #29.
+    ProvedWords,
+    /// Sentences, by the machine that is proved to follow UAX #29.
+    ProvedSentences,
 }
 
 /// All engines, in the order in which they are tested.
-pub const ENGINES: [Engine; 9] = [
+pub const ENGINES: [Engine; 12] = [
     Engine::ClusterMachine,
     Engine::ClusterTable,
     Engine::WordMachine,
@@ -44,15 +51,22 @@ pub const ENGINES: [Engine; 9] = [
     Engine::LineMachine,
     Engine::LineTable,
     Engine::LineTurns,
+    Engine::ProvedClusters,
+    Engine::ProvedWords,
+    Engine::ProvedSentences,
 ];
 
 impl Engine {
     /// The file of its tests.
     pub fn file(self) -> &'static str {
         match self {
-            Engine::ClusterMachine | Engine::ClusterTable => "GraphemeBreakTest.txt",
-            Engine::WordMachine | Engine::WordTable => "WordBreakTest.txt",
-            Engine::SentenceMachine | Engine::SentenceTable => "SentenceBreakTest.txt",
+            Engine::ClusterMachine | Engine::ClusterTable | Engine::ProvedClusters => {
+                "GraphemeBreakTest.txt"
+            }
+            Engine::WordMachine | Engine::WordTable | Engine::ProvedWords => { "WordBreakTest.txt" }
+            Engine::SentenceMachine | Engine::SentenceTable | Engine::ProvedSentences => {
+                "SentenceBreakTest.txt"
+            }
             Engine::LineMachine | Engine::LineTable | Engine::LineTurns => "LineBreakTest.txt",
         }
     }
@@ -69,14 +83,19 @@ impl Engine {
             Engine::LineMachine => "lines by machine",
             Engine::LineTable => "lines by pair table",
             Engine::LineTurns => "lines by the engine 17",
+            Engine::ProvedClusters => "clusters of UAX #29",
+            Engine::ProvedWords => "words of UAX #29",
+            Engine::ProvedSentences => "sentences of UAX #29",
         }
     }
 
     /// How many tests of its file are of rules that have changed since: the engine 17 has a break between a space and `.35`, as UAX #14
-    /// has since version 16.0 (LB15c), and 15.0 has none.
+    /// has since version 16.0 (LB15c), and 15.0 has none; and by UAX #29 of Unicode 18.0 one of clusters and two of words differ, which hold
+    /// U+2701, no longer Extended_Pictographic.
     pub fn changed_since(self) -> u32 {
         match self {
-            Engine::LineTurns => 1,
+            Engine::LineTurns | Engine::ProvedClusters => 1,
+            Engine::ProvedWords => 2,
             _ => 0,
         }
     }
@@ -96,6 +115,15 @@ impl Engine {
             }
             Engine::LineTable => line_table_segmenter(alloc),
             Engine::LineTurns => line_17_segmenter(alloc),
+            Engine::ProvedClusters => {
+                Ok(Segmenter::ProvedClusters(uax29::ClusterSegmenter::try_new(alloc)?))
+            }
+            Engine::ProvedWords => {
+                Ok(Segmenter::ProvedWords(uax29::WordSegmenter::try_new(alloc)?))
+            }
+            Engine::ProvedSentences => {
+                Ok(Segmenter::ProvedSentences(uax29::SentenceSegmenter::try_new(alloc)?))
+            }
         }
     }
 }

@@ -1,8 +1,9 @@
 //! Runs the official break tests of Unicode 15.0 through the library, with the data of `icu_segmenter_data`, and rows of lines with
-//! options.
+//! options; and through the segmenters whose boundaries are proved to be those of UAX #29, as it is in Unicode 18.0.
 //!
 //! A test is passed where the text has just the boundaries that its line says, as str, as UTF-8 and as UTF-16; in lines also just the
-//! mandatory ones that the rules named in its comment make so. The argument is the folder of the test files.
+//! mandatory ones that the rules named in its comment make so. Lines that aren't passed are printed: those of rules that have changed
+//! since. The argument is the folder of the test files.
 #![tactic(auto)]
 
 mod counts;
@@ -32,10 +33,9 @@ fn main(rt: HostRuntime) -> Result<ExitCode> {
 
 // Runs an engine over its file, and returns how many samples it failed but for those of rules that have changed.
 fn failed_by(rt: &HostRuntime, folder: &str, engine: Engine) -> Result<u32> {
-    let alloc = rt.alloc();
     let text = read(rt, folder, engine.file())?;
-    let segmenter = engine.segmenter(alloc)?;
-    let counts = counts_of(alloc, &segmenter, text.as_str())?;
+    let segmenter = engine.segmenter(rt.alloc())?;
+    let counts = counts_of(rt, &segmenter, text.as_str())?;
     print(rt, engine.file(), engine.name(), counts)?;
     Ok(counts.failed.saturating_sub(engine.changed_since()))
 }
@@ -43,7 +43,7 @@ fn failed_by(rt: &HostRuntime, folder: &str, engine: Engine) -> Result<u32> {
 // Runs the rows of lines with options, and returns how many failed.
 fn failed_with_options(rt: &HostRuntime, folder: &str) -> Result<u32> {
     let text = read(rt, folder, OPTION_FILE)?;
-    let counts = option_counts_of(rt.alloc(), text.as_str())?;
+    let counts = option_counts_of(rt, text.as_str())?;
     print(rt, OPTION_FILE, "lines by machine", counts)?;
     Ok(counts.failed)
 }

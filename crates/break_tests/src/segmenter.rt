@@ -8,6 +8,7 @@ use icu_segmenter::{
     GraphemeClusterSegmenter, LineSegmenter, LineSegmenterBorrowed, SentenceSegmenter,
     WordSegmenter,
 };
+use icu_segmenter_uax29 as uax29;
 use std::alloc::{AllocError, Global};
 
 /// A segmenter with data of its own.
@@ -23,16 +24,22 @@ pub enum Segmenter {
     Lines(LineSegmenter),
     /// Of lines by a pair table, which doesn't.
     LinesByTable(LineSegmenter),
+    /// Of grapheme clusters, proved to be those of UAX #29.
+    ProvedClusters(uax29::ClusterSegmenter),
+    /// Of words, proved to be those of UAX #29.
+    ProvedWords(uax29::WordSegmenter),
+    /// Of sentences, proved to be those of UAX #29.
+    ProvedSentences(uax29::SentenceSegmenter),
 }
 
 impl Segmenter {
     ghost use Rattle.std.specs.Option.{option_map};
     ghost use Rattle.icu_segmenter.specs.Decoding.{utf8, utf16};
-    ghost use Rattle.break_tests.specs.Segmenter.{places_by, mandatory_places_by};
+    ghost use Rattle.break_tests.specs.Segmenter.{places_by, str_places_by, mandatory_places_by};
 
     /// The boundaries of a text, in bytes. The only error is want of memory.
     pub fn places_in_str(&self, alloc: Global, text: &str) -> Result<Vec<usize>, AllocError>
-        ensures { IfOk result (λ found. found.items ≡ places_by self.now (utf8 text.now)) }
+        ensures { IfOk result (λ found. found.items ≡ str_places_by self.now text.now) }
     {
         match self {
             Segmenter::Clusters(clusters) => {
@@ -46,6 +53,9 @@ impl Segmenter {
             Segmenter::LinesByTable(lines) => {
                 lines.as_borrowed().segment_str(text).collect(alloc)
             }
+            Segmenter::ProvedClusters(clusters) => clusters.segment_str(text).collect(alloc),
+            Segmenter::ProvedWords(words) => words.segment_str(text).collect(alloc),
+            Segmenter::ProvedSentences(sentences) => sentences.segment_str(text).collect(alloc),
         }
     }
 
@@ -65,6 +75,9 @@ impl Segmenter {
             Segmenter::LinesByTable(lines) => {
                 lines.as_borrowed().segment_utf8(text).collect(alloc)
             }
+            Segmenter::ProvedClusters(clusters) => clusters.segment_utf8(text).collect(alloc),
+            Segmenter::ProvedWords(words) => words.segment_utf8(text).collect(alloc),
+            Segmenter::ProvedSentences(sentences) => sentences.segment_utf8(text).collect(alloc),
         }
     }
 
@@ -84,6 +97,9 @@ impl Segmenter {
             Segmenter::LinesByTable(lines) => {
                 lines.as_borrowed().segment_utf16(text).collect(alloc)
             }
+            Segmenter::ProvedClusters(clusters) => clusters.segment_utf16(text).collect(alloc),
+            Segmenter::ProvedWords(words) => words.segment_utf16(text).collect(alloc),
+            Segmenter::ProvedSentences(sentences) => sentences.segment_utf16(text).collect(alloc),
         }
     }
 

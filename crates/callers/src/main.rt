@@ -8,6 +8,7 @@ mod data;
 mod lines;
 mod memo;
 mod sentences;
+mod traits;
 mod words;
 mod wrapped;
 
@@ -16,6 +17,7 @@ use crate::data::{runs_by_machine, runs_by_table};
 use crate::lines::{breakall_segmenter, filled_lines, mandatory_breaks};
 use crate::memo::{cluster_look_ups, read_count};
 use crate::sentences::{last_sentence, sentence_count, sentence_count_by_blocks, sentence_texts};
+use crate::traits::{boundaries_by_fewer, cuts_by_word};
 use crate::words::{highlighted, word_count, words as words_of};
 use crate::wrapped::paragraph_height;
 use anyhow::Result;
@@ -33,6 +35,8 @@ use icu_segmenter::{
     GraphemeClusterSegmenterBorrowed, LineSegmenterBorrowed, SentenceSegmenterBorrowed,
     WordSegmenterBorrowed,
 };
+use seg_memo::configuration::Cell;
+use std::mem::size_of;
 
 fn main(rt: HostRuntime) -> Result<()> {
     find_all(&rt)
@@ -44,6 +48,7 @@ fn find_all(rt: &HostRuntime) -> Result<()> {
     find_lines(rt)?;
     find_lines_beside_letters(rt)?;
     find_runs(rt)?;
+    find_by_traits(rt)?;
     find_words(rt)
 }
 
@@ -166,6 +171,24 @@ fn print_runs(
 ) -> Result<()> {
     let places = cluster_places(rt.alloc(), runs, "two  words")?;
     print(rt, subject, places.as_slice())
+}
+
+fn find_by_traits(rt: &HostRuntime) -> Result<()> {
+    let alloc = rt.alloc();
+    let boundaries = boundaries_by_fewer(alloc, b"aaac")?;
+    println!(rt;
+        "boundaries of aaac by fewer transitions: {:?}",
+        boundaries.as_slice()
+    )?;
+    print_count(rt, "bytes of a memo's cell", size_of::<Cell>() as u64)?;
+    let machine = cluster_machine(alloc)?;
+    let clusters = GraphemeClusterSegmenterBorrowed::new_neo(&machine)?;
+    let cuts = cuts_by_word(alloc, clusters, &[0xE01, 0xE01], "\u{E01}\u{E01}\u{E34}")?;
+    print(
+        rt,
+        "cuts by a word that would end within a cluster",
+        cuts.as_slice(),
+    )
 }
 
 fn find_words(rt: &HostRuntime) -> Result<()> {

@@ -32,10 +32,13 @@ pub fn cluster_look_ups(
 
 /// A reader of transitions that a caller keeps in a list of its own.
 #[derive(Drop)]
-struct ListedTransitions<'data> {
-    states: usize,
-    transitions: &'data [State],
-    count: usize,
+pub struct ListedTransitions<'data> {
+    /// How many states the machine has.
+    pub states: usize,
+    /// What states lead to, symbol by symbol.
+    pub transitions: &'data [State],
+    /// How many were read.
+    pub count: usize,
 }
 
 impl<'data> ReadTransitions for ListedTransitions<'data> {

@@ -1,12 +1,19 @@
-//! What ends a case.
+//! What ends a case, or a run.
 
 use icu_segmenter::provider::DataError;
 use std::alloc::AllocError;
+use std::io;
 use thiserror::Error;
 
-/// Why a case has no answer.
+/// Why a case has no answer, or a run no end.
 #[derive(Clone, Copy, Debug, Error)]
 pub enum Failure {
+    /// The command line names nothing that can be tried.
+    #[error("usage: fuzz CASES SEED, fuzz ranges, or fuzz refusals dictionary|table|memo|hostile ..")]
+    Usage,
+    /// The output took not all.
+    #[error("write failed")]
+    Write,
     /// The data are refused, as data may be.
     #[error("refused: {0}")]
     Refused(DataError),
@@ -21,6 +28,12 @@ pub enum Failure {
 impl From<AllocError> for Failure {
     fn from(_error: AllocError) -> Failure {
         Failure::Memory
+    }
+}
+
+impl From<io::Error> for Failure {
+    fn from(_error: io::Error) -> Failure {
+        Failure::Write
     }
 }
 

@@ -1,6 +1,4 @@
 //! The data of each kind, small and real.
-ghost use Rattle.std.specs.Prelude.{◌≡◌, IfOk};
-ghost use Rattle.speed.specs.Data.{cluster_machine, cluster_table, line_17_table, line_machine, line_table, sentence_machine, sentence_table, word_machine, word_table};
 
 use crate::engine::Data;
 use anyhow::Result;
@@ -10,9 +8,7 @@ use icu_segmenter_data as unicode;
 use std::alloc::Global;
 
 /// The pair table of clusters.
-pub fn cluster_table(alloc: Global, source: Data) -> Result<RuleBreakData>
-    ensures { IfOk result (λ table. table ≡ cluster_table source) }
-{
+pub fn cluster_table(alloc: Global, source: Data) -> Result<RuleBreakData> {
     match source {
         Data::Small => Ok(pair_tables::cluster_table(alloc)?),
         Data::Real => Ok(unicode::cluster_table(alloc)?),
@@ -20,9 +16,7 @@ pub fn cluster_table(alloc: Global, source: Data) -> Result<RuleBreakData>
 }
 
 /// The machine of clusters.
-pub fn cluster_machine(alloc: Global, source: Data) -> Result<SegmenterStateMachine>
-    ensures { IfOk result (λ machine. machine ≡ cluster_machine source) }
-{
+pub fn cluster_machine(alloc: Global, source: Data) -> Result<SegmenterStateMachine> {
     match source {
         Data::Small => Ok(clusters::cluster_machine(alloc)?),
         Data::Real => Ok(unicode::cluster_machine(alloc)?),
@@ -30,9 +24,7 @@ pub fn cluster_machine(alloc: Global, source: Data) -> Result<SegmenterStateMach
 }
 
 /// The pair table of sentences.
-pub fn sentence_table(alloc: Global, source: Data) -> Result<RuleBreakData>
-    ensures { IfOk result (λ table. table ≡ sentence_table source) }
-{
+pub fn sentence_table(alloc: Global, source: Data) -> Result<RuleBreakData> {
     match source {
         Data::Small => Ok(pair_tables::sentence_table(alloc)?),
         Data::Real => Ok(unicode::sentence_table(alloc)?),
@@ -40,9 +32,7 @@ pub fn sentence_table(alloc: Global, source: Data) -> Result<RuleBreakData>
 }
 
 /// The machine of sentences.
-pub fn sentence_machine(alloc: Global, source: Data) -> Result<SegmenterStateMachine>
-    ensures { IfOk result (λ machine. machine ≡ sentence_machine source) }
-{
+pub fn sentence_machine(alloc: Global, source: Data) -> Result<SegmenterStateMachine> {
     match source {
         Data::Small => Ok(sentences::sentence_machine(alloc)?),
         Data::Real => Ok(unicode::sentence_machine(alloc)?),
@@ -50,9 +40,7 @@ pub fn sentence_machine(alloc: Global, source: Data) -> Result<SegmenterStateMac
 }
 
 /// The pair table of words.
-pub fn word_table(alloc: Global, source: Data) -> Result<RuleBreakData>
-    ensures { IfOk result (λ table. table ≡ word_table source) }
-{
+pub fn word_table(alloc: Global, source: Data) -> Result<RuleBreakData> {
     match source {
         Data::Small => Ok(pair_tables::word_table(alloc)?),
         Data::Real => Ok(unicode::word_table(alloc)?),
@@ -60,9 +48,7 @@ pub fn word_table(alloc: Global, source: Data) -> Result<RuleBreakData>
 }
 
 /// The machine of words.
-pub fn word_machine(alloc: Global, source: Data) -> Result<SegmenterStateMachine>
-    ensures { IfOk result (λ machine. machine ≡ word_machine source) }
-{
+pub fn word_machine(alloc: Global, source: Data) -> Result<SegmenterStateMachine> {
     match source {
         Data::Small => Ok(words::word_machine(alloc)?),
         Data::Real => Ok(unicode::word_machine(alloc)?),
@@ -70,9 +56,7 @@ pub fn word_machine(alloc: Global, source: Data) -> Result<SegmenterStateMachine
 }
 
 /// The pair table of lines.
-pub fn line_table(alloc: Global, source: Data) -> Result<RuleBreakData>
-    ensures { IfOk result (λ table. table ≡ line_table source) }
-{
+pub fn line_table(alloc: Global, source: Data) -> Result<RuleBreakData> {
     match source {
         Data::Small => Ok(line_tables::line_table(alloc)?),
         Data::Real => Ok(unicode::line_table(alloc)?),
@@ -80,9 +64,7 @@ pub fn line_table(alloc: Global, source: Data) -> Result<RuleBreakData>
 }
 
 /// The pair table of lines for the engine 17.
-pub fn line_17_table(alloc: Global, source: Data) -> Result<RuleBreakData>
-    ensures { IfOk result (λ table. table ≡ line_17_table source) }
-{
+pub fn line_17_table(alloc: Global, source: Data) -> Result<RuleBreakData> {
     match source {
         Data::Small => Ok(turn_tables::turn_table(alloc)?),
         Data::Real => Ok(unicode::line_17_table(alloc)?),
@@ -90,9 +72,7 @@ pub fn line_17_table(alloc: Global, source: Data) -> Result<RuleBreakData>
 }
 
 /// The machine of lines.
-pub fn line_machine(alloc: Global, source: Data) -> Result<SegmenterStateMachine>
-    ensures { IfOk result (λ machine. machine ≡ line_machine source) }
-{
+pub fn line_machine(alloc: Global, source: Data) -> Result<SegmenterStateMachine> {
     match source {
         Data::Small => Ok(lines::line_machine(alloc)?),
         Data::Real => Ok(unicode::line_machine(alloc)?),

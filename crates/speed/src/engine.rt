@@ -1,7 +1,4 @@
 //! The engines, and the words that the command line has for them.
-ghost use Rattle.std.specs.Prelude.{◌≡◌, ◌≢◌, ◌⊎◌, ◌↔◌, [], All, Any, IsTrue, MatchOption};
-ghost use Rattle.speed.specs.declared.engine.Engine.{Engine as AnyEngine};
-ghost use Rattle.speed.specs.Command.{IsEngineWord, word_of};
 
 /// What is measured: what is found, and by which engine.
 #[derive(Clone, Copy, Debug, PartialEq, Eq)]
@@ -62,9 +59,7 @@ pub enum Data {
 
 impl Engine {
     /// The word of this engine.
-    pub fn word(self) -> &'static str
-        ensures { result.now ≡ word_of self }
-    {
+    pub fn word(self) -> &'static str {
         match self {
             Engine::GraphemeClassic => "grapheme-classic",
             Engine::GraphemeNeo => "grapheme-neo",
@@ -101,52 +96,22 @@ impl Data {
     }
 }
 
-/// The engine that has this word.
-pub fn engine_of(word: &str) -> Option<Engine>
-    ensures { MatchOption result ((engine : AnyEngine) → word.now ≢ word_of engine) (λ engine. word.now ≡ word_of engine) }
-{
-    match word {
-        "grapheme-classic" => Some(Engine::GraphemeClassic),
-        "grapheme-neo" => Some(Engine::GraphemeNeo),
-        "grapheme-memo" => Some(Engine::GraphemeMemo),
-        "sentence-classic" => Some(Engine::SentenceClassic),
-        "sentence-neo" => Some(Engine::SentenceNeo),
-        "sentence-memo" => Some(Engine::SentenceMemo),
-        "word-classic" => Some(Engine::WordClassic),
-        "word-neo" => Some(Engine::WordNeo),
-        "word-memo" => Some(Engine::WordMemo),
-        "line-classic" => Some(Engine::LineClassic),
-        "line-17" => Some(Engine::Line17),
-        "line-neo" => Some(Engine::LineNeo),
-        "line-memo" => Some(Engine::LineMemo),
-        _ => None,
-    }
-}
-
 /// Whether each word is an engine's.
-pub fn are_engines(words: &[&str]) -> bool
-    ensures { IsTrue result ↔ All (λ word. IsEngineWord word.now) words.now }
-{
+pub fn are_engines(words: &[&str]) -> bool {
     words.iter().all(|word| is_engine(word))
 }
 
 // Whether the word is an engine's.
-fn is_engine(word: &str) -> bool
-    ensures { IsTrue result ↔ IsEngineWord word.now }
-{
-    engine_of(word).is_some()
+fn is_engine(word: &str) -> bool {
+    ENGINES.iter().any(|engine| has_word(word, *engine))
 }
 
 // Whether the word is this engine's.
-fn has_word(word: &str, engine: Engine) -> bool
-    ensures { IsTrue result ↔ (word.now ≡ word_of engine) }
-{
+fn has_word(word: &str, engine: Engine) -> bool {
     word == engine.word()
 }
 
 /// Whether these words ask for the engine: all engines where there is no word.
-pub fn is_chosen(engines: &[&str], engine: Engine) -> bool
-    ensures { IsTrue result ↔ ((engines.now ≡ []) ⊎ Any (λ word. word.now ≡ word_of engine) engines.now) }
-{
+pub fn is_chosen(engines: &[&str], engine: Engine) -> bool {
     engines.is_empty() || engines.iter().any(|word| has_word(word, engine))
 }

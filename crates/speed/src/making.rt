@@ -1,28 +1,19 @@
 //! How the segmenter of each engine is made.
-ghost use Rattle.std.specs.Prelude.{◌≡◌, None, IfOk};
-ghost use Rattle.icu_segmenter.specs.LineBreaks.{machine_lines, table_lines, turn_lines};
-ghost use Rattle.icu_segmenter.specs.LineRules.{default_rules};
-ghost use Rattle.icu_segmenter.specs.Rules.Rules.{ByTable, ByMachine};
-ghost use Rattle.icu_segmenter.specs.ScriptWords.{no_words};
-ghost use Rattle.icu_segmenter.specs.WordRules.{machine_words, table_words};
-ghost use Rattle.speed.specs.Segmenter.{line_places_by, places_by, segmentation_by, segmentation_of, word_places_by};
 
 use crate::data::{
     cluster_machine, cluster_table, line_17_table, line_machine, line_table, line_tailorings,
     sentence_machine, sentence_table, word_machine, word_table,
 };
 use crate::engine::{Data, Engine};
-use crate::segmenter::Segmenter;
 use anyhow::Result;
+use bench::segmenter::Segmenter;
 use icu_segmenter::options::{LineBreakOptions, SentenceBreakOptions, WordBreakOptions};
 use icu_segmenter::provider::{LineTailorings, RuleBreakData, SegmenterStateMachine};
 use icu_segmenter::{GraphemeClusterSegmenter, LineSegmenter, SentenceSegmenter, WordSegmenter};
 use std::alloc::Global;
 
 /// The segmenter of an engine with its data, with no dictionaries. The only error that is met is want of memory.
-pub fn segmenter_of(alloc: Global, engine: Engine, source: Data) -> Result<Segmenter>
-    ensures { IfOk result (λ segmenter. segmentation_of segmenter ≡ segmentation_by engine source) }
-{
+pub fn segmenter_of(alloc: Global, engine: Engine, source: Data) -> Result<Segmenter> {
     match engine {
         Engine::GraphemeClassic => clusters_by_table(cluster_table(alloc, source)?),
         Engine::GraphemeNeo | Engine::GraphemeMemo => {
@@ -52,59 +43,43 @@ pub fn segmenter_of(alloc: Global, engine: Engine, source: Data) -> Result<Segme
     }
 }
 
-fn clusters_by_table(table: RuleBreakData) -> Result<Segmenter>
-    ensures { IfOk result (λ segmenter. segmentation_of segmenter ≡ places_by (ByTable table None)) }
-{
+fn clusters_by_table(table: RuleBreakData) -> Result<Segmenter> {
     Ok(Segmenter::Clusters(GraphemeClusterSegmenter::try_new(table)?))
 }
 
-fn clusters_by_machine(machine: SegmenterStateMachine) -> Result<Segmenter>
-    ensures { IfOk result (λ segmenter. segmentation_of segmenter ≡ places_by (ByMachine machine)) }
-{
+fn clusters_by_machine(machine: SegmenterStateMachine) -> Result<Segmenter> {
     Ok(Segmenter::Clusters(GraphemeClusterSegmenter::try_new_neo(machine)?))
 }
 
-fn sentences_by_table(table: RuleBreakData) -> Result<Segmenter>
-    ensures { IfOk result (λ segmenter. segmentation_of segmenter ≡ places_by (ByTable table None)) }
-{
+fn sentences_by_table(table: RuleBreakData) -> Result<Segmenter> {
     let options = SentenceBreakOptions::default();
     Ok(Segmenter::Sentences(SentenceSegmenter::try_new(table, None, options)?))
 }
 
-fn sentences_by_machine(machine: SegmenterStateMachine) -> Result<Segmenter>
-    ensures { IfOk result (λ segmenter. segmentation_of segmenter ≡ places_by (ByMachine machine)) }
-{
+fn sentences_by_machine(machine: SegmenterStateMachine) -> Result<Segmenter> {
     let options = SentenceBreakOptions::default();
     Ok(Segmenter::Sentences(SentenceSegmenter::try_new_neo(machine, None, options)?))
 }
 
-fn words_by_table(table: RuleBreakData, clusters: RuleBreakData) -> Result<Segmenter>
-    ensures { IfOk result (λ segmenter. segmentation_of segmenter ≡ word_places_by (table_words table None clusters no_words)) }
-{
+fn words_by_table(table: RuleBreakData, clusters: RuleBreakData) -> Result<Segmenter> {
     let options = WordBreakOptions::default();
     let segmenter = WordSegmenter::try_new_for_non_complex_scripts(table, None, clusters, options)?;
     Ok(Segmenter::Words(segmenter))
 }
 
-fn words_by_machine(machine: SegmenterStateMachine, clusters: RuleBreakData) -> Result<Segmenter>
-    ensures { IfOk result (λ segmenter. segmentation_of segmenter ≡ word_places_by (machine_words machine clusters no_words)) }
-{
+fn words_by_machine(machine: SegmenterStateMachine, clusters: RuleBreakData) -> Result<Segmenter> {
     let options = WordBreakOptions::default();
     let segmenter = WordSegmenter::try_new_neo_for_non_complex_scripts(machine, clusters, options)?;
     Ok(Segmenter::Words(segmenter))
 }
 
-fn lines_by_table(table: RuleBreakData, clusters: RuleBreakData) -> Result<Segmenter>
-    ensures { IfOk result (λ segmenter. segmentation_of segmenter ≡ line_places_by (table_lines (default_rules table) clusters no_words)) }
-{
+fn lines_by_table(table: RuleBreakData, clusters: RuleBreakData) -> Result<Segmenter> {
     let options = LineBreakOptions::default();
     let segmenter = LineSegmenter::try_new_for_non_complex_scripts(table, clusters, options)?;
     Ok(Segmenter::Lines(segmenter))
 }
 
-fn lines_by_turns(table: RuleBreakData, clusters: RuleBreakData) -> Result<Segmenter>
-    ensures { IfOk result (λ segmenter. segmentation_of segmenter ≡ line_places_by (turn_lines (default_rules table) clusters no_words)) }
-{
+fn lines_by_turns(table: RuleBreakData, clusters: RuleBreakData) -> Result<Segmenter> {
     let options = LineBreakOptions::default();
     let segmenter = LineSegmenter::try_new_17_for_non_complex_scripts(table, clusters, options)?;
     Ok(Segmenter::Lines(segmenter))
@@ -114,9 +89,7 @@ fn lines_by_machine(
     machine: SegmenterStateMachine,
     tailorings: LineTailorings,
     clusters: SegmenterStateMachine,
-) -> Result<Segmenter>
-    ensures { IfOk result (λ segmenter. segmentation_of segmenter ≡ line_places_by (machine_lines machine clusters no_words)) }
-{
+) -> Result<Segmenter> {
     let options = LineBreakOptions::default();
     let segmenter = LineSegmenter::try_new_neo_for_non_complex_scripts(
         machine, tailorings, clusters, options,

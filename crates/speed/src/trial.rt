@@ -1,13 +1,11 @@
 //! Segmenters, and how long they took.
-ghost use Rattle.std.specs.Prelude.{◌≡◌, ◌≤◌, ◌*◌, ◌/◌, IfOk, OnOk, max};
-ghost use Rattle.std.specs.Duration.{as_nanos};
-ghost use Rattle.speed.specs.Segmenter.{segmentation_by, segmentation_of, tally_by};
 
 use crate::engine::{Data, Engine};
 use crate::making::segmenter_of;
-use crate::segmenter::Segmenter;
+use crate::segmenter::{memo_tally, tally};
 use crate::tally::Tally;
 use anyhow::Result;
+use bench::segmenter::Segmenter;
 use std::alloc::Global;
 use std::io;
 use std::io::Write;
@@ -32,14 +30,11 @@ pub struct Trial {
     pub tally: Tally,
     /// How long a pass took at best.
     pub best: Duration,
-    ghost boundaries: { segmentation_of segmenter ≡ segmentation_by engine source },
 }
 
 impl Trial {
     /// The engine with these data. The errors that are met are want of memory, and a clock that can't be read.
-    pub fn new<C: Clock>(clock: &C, alloc: Global, engine: Engine, source: Data) -> Result<Trial>
-        ensures { IfOk result (λ trial. (trial.engine ≡ engine) × (trial.source ≡ source)) }
-    {
+    pub fn new<C: Clock>(clock: &C, alloc: Global, engine: Engine, source: Data) -> Result<Trial> {
         Ok(Trial {
             engine,
             source,
@@ -52,16 +47,12 @@ impl Trial {
 
     /// Goes over the text once, a memoised engine with a table of cells that is made anew. The errors that are met are want of
     /// memory, and a clock that can't be read.
-    pub fn pass<C: Clock>(&mut self, clock: &C, alloc: Global, text: &[u8]) -> Result<()>
-        ensures tally { OnOk result (self.new.tally ≡ tally_by (segmentation_by self.old.engine self.old.source) text.now) }
-        ensures names { (self.new.engine ≡ self.old.engine) × (self.new.source ≡ self.old.source) }
-        ensures best { as_nanos self.new.best ≤ as_nanos self.old.best }
-    {
+    pub fn pass<C: Clock>(&mut self, clock: &C, alloc: Global, text: &[u8]) -> Result<()> {
         let start = Instant::now(clock)?;
         self.tally = if self.engine.is_memoised() {
-            self.segmenter.memo_tally(alloc, text)?
+            memo_tally(alloc, &self.segmenter, text)?
         } else {
-            self.segmenter.tally(text)
+            tally(&self.segmenter, text)
         };
         self.best = self.best.min(start.elapsed(clock)?);
         Ok(())
@@ -109,8 +100,6 @@ fn make(alloc: Global, engine: Engine, source: Data) -> Result<()> {
 }
 
 // How many millions of bytes are done in a second, where so many take so long.
-fn megabytes_a_second(len: usize, time: Duration) -> u128
-    ensures { result ≡ len * 1000 / max 1 (as_nanos time) }
-{
+fn megabytes_a_second(len: usize, time: Duration) -> u128 {
     len as u128 * 1000 / time.as_nanos().max(1)
 }

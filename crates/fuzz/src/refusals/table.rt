@@ -14,13 +14,13 @@ const RANGES: [(u32, u32, u8); 4] = [
 
 const OTHER: u8 = 5;
 
-/// Makes the table of some ranges twice, and prints each time what it says of their ends and of what stands beside them, or why there
-/// is none. The errors are `Memory`, for the ranges, and `Write`.
+/// Makes the table of some ranges twice, which takes no memory, and its fast form, and prints each time what it says of their ends and of
+/// what stands beside them, or why there is none. The errors are `Memory`, for the ranges, and `Write`.
 pub fn try_table<O: Write>(alloc: Global, out: &mut O) -> Result<(), Failure> {
-    let first = Vec::from_slice(alloc, &RANGES)?;
-    let second = Vec::from_slice(alloc, &RANGES)?;
-    print_table(ClassTable::try_from_ranges(first, OTHER), out)?;
-    print_table(ClassTable::try_from_ranges(second, OTHER), out)?;
+    let first = ClassTable::try_from_ranges(Vec::from_slice(alloc, &RANGES)?, OTHER)?;
+    let second = ClassTable::try_from_ranges(Vec::from_slice(alloc, &RANGES)?, OTHER)?;
+    print_table(first.indexed(alloc), out)?;
+    print_table(second.indexed(alloc), out)?;
     Ok(())
 }
 

@@ -1,54 +1,26 @@
-// Traits that a caller implements: a reader of transitions, and a cursor over words.
+//! Traits that a caller implements: a reader of other transitions than the machine's, and a cursor over one word.
 ghost use Rattle.std.specs.Prelude.{◌≡◌, IfOk};
 ghost use Rattle.seg_machine.specs.Tailored.{machine_of};
 ghost use Rattle.seg_memo.specs.Configurations.{reading};
 
-use bench::clusters::cluster_machine;
-use icu_segmenter::GraphemeClusterSegmenter;
+use crate::data::Failure;
+use crate::memo::ListedTransitions;
+use icu_segmenter::GraphemeClusterSegmenterBorrowed;
+use icu_segmenter::indices::{StrCharIndices, Utf8CharIndices};
+use icu_segmenter::memo::MemoBreakIterator;
+use icu_segmenter::provider::{
+    Acceptance, ClassTable, Lookahead, SegmenterStateMachine, State, Symbol,
+};
 use seg_complex::dictionaries::DictionaryCuts;
-use seg_data::provider::ClassTable;
 use seg_data::words::WordCursor;
-use seg_machine::provider::{Acceptance, Lookahead, SegmenterStateMachine, State, Symbol};
 use seg_machine::tailored_machine::{TailoredMachine, TailoredMachineBorrowed};
-use seg_memo::configuration::Cell;
-use seg_memo::memo::MemoBreakIterator;
-use seg_memo::reader::ReadTransitions;
-use seg_text::indices::{StrCharIndices, Utf8CharIndices};
-use std::alloc::Global;
-use std::mem::size_of;
-use std::process::Abort;
-use std::test::Fail;
+use std::alloc::{AllocError, Global};
 
 type Entry = (Acceptance, Option<Lookahead>);
 
 const GOES_ON: Entry = (Acceptance::Continue, None);
 
 const ENDS: Entry = (Acceptance::Accept(0), None);
-
-// A reader of transitions that stand in a list.
-#[derive(Drop)]
-struct ListedTransitions<'data> {
-    states: usize,
-    transitions: &'data [State],
-    count: usize,
-}
-
-impl<'data> ReadTransitions for ListedTransitions<'data> {
-    ghost states = { λ r. r.states };
-
-    ghost transitions = { λ r. r.transitions.now };
-
-    ghost counted = { λ r. r.count };
-
-    fn read(&mut self, state: State, symbol: Symbol) -> State {
-        self.count += 1;
-        self.transitions[state as usize + symbol as usize * self.states]
-    }
-
-    fn count(&self) -> usize {
-        self.count
-    }
-}
 
 const A_AND_C: [(u32, u32, Symbol); 2] = [(0x61, 0x61, 1), (0x63, 0x63, 2)];
 
@@ -63,7 +35,9 @@ const FEWER_MOVES: [State; 20] = [
 ];
 
 // The machine whose segments are one character or some `a` and then `c`, and it without the last of its transitions.
-fn with_and_without(alloc: Global) -> Result<(SegmenterStateMachine, SegmenterStateMachine), Fail>
+fn with_and_without(
+    alloc: Global,
+) -> Result<(SegmenterStateMachine, SegmenterStateMachine), Failure>
     ensures { IfOk result (λ machines. machines.1 ≡ reading machines.0 machines.1.transitions) }
 {
     let symbols = ClassTable::try_from_ranges(Vec::from_slice(alloc, &A_AND_C)?, 3)?;
@@ -79,14 +53,21 @@ fn with_and_without(alloc: Global) -> Result<(SegmenterStateMachine, SegmenterSt
     Ok((machine, without))
 }
 
-fn expect_reader(
-    rt: &impl Abort,
+/// The boundaries of a text, each with its status and how many transitions were read when it came, where a reader of the caller's own
+/// gives fewer transitions than the machine has.
+pub fn boundaries_by_fewer(alloc: Global, text: &[u8]) -> Result<Vec<(usize, u8, usize)>, Failure> {
+    let (machine, other) = with_and_without(alloc)?;
+    let machine = TailoredMachine::without_tailoring(machine);
+    boundaries_by(alloc, machine.as_borrowed(), &other, text)
+}
+
+// The same, where the machine is read with the transitions of another.
+fn boundaries_by(
     alloc: Global,
     machine: TailoredMachineBorrowed<'_>,
     other: &SegmenterStateMachine,
     text: &[u8],
-    want: &[(usize, u8, usize)],
-) -> Result<(), Fail>
+) -> Result<Vec<(usize, u8, usize)>, Failure>
     requires { other.now ≡ reading (machine_of machine) other.now.transitions }
 {
     TailoredMachineBorrowed::without_tailoring(other).facts();
@@ -97,25 +78,15 @@ fn expect_reader(
         count: 0,
     };
     let mut memo = memo.with_reader(reader);
-    for (place, status, lookups) in want {
-        let found = memo.next();
-        assert_eq!(rt; found, Some(*place));
-        assert_eq!(rt; memo.status(), *status);
-        assert_eq!(rt; memo.lookups(), *lookups);
+    let mut found = Vec::new(alloc);
+    for _turn in 0..u64::MAX {
+        let Some(place) = memo.next() else {
+            break;
+        };
+        let boundary = (place, memo.status(), memo.lookups());
+        found.push(boundary).map_err(AllocError::from)?;
     }
-    let end = memo.next();
-    assert_eq!(rt; end, None);
-    Ok(())
-}
-
-#[test]
-fn reads_by_another_reader(rt: HostRuntime) -> Result<(), Fail> {
-    assert!(rt; size_of::<Cell>() <= 4);
-    let alloc = rt.alloc();
-    let (machine, other) = with_and_without(alloc)?;
-    let machine = TailoredMachine::without_tailoring(machine);
-    let want = [(0, 0, 0), (1, 0, 4), (2, 0, 6), (4, 0, 9)];
-    expect_reader(&rt, alloc, machine.as_borrowed(), &other, b"aaac", &want)
+    Ok(found)
 }
 
 /// A cursor over one word.
@@ -153,18 +124,16 @@ impl<'w> WordCursor for OneWord<'w> {
     }
 }
 
-// No word ends within a cluster.
-#[test]
-fn cuts_by_a_word(rt: HostRuntime) -> Result<(), Fail> {
-    let clusters = GraphemeClusterSegmenter::try_new_neo(cluster_machine(rt.alloc())?)?;
+/// Where a text is cut by one word of the caller's own, in bytes: no word ends within a cluster. The only error is want of memory.
+pub fn cuts_by_word(
+    alloc: Global,
+    clusters: GraphemeClusterSegmenterBorrowed<'_>,
+    word: &[u32],
+    text: &str,
+) -> Result<Vec<usize>, AllocError> {
     let word = OneWord {
-        rest: &[0xE01, 0xE01],
+        rest: word,
         is_lost: false,
     };
-    let text = StrCharIndices::new("\u{E01}\u{E01}\u{E34}");
-    let found: Vec<usize> = DictionaryCuts::new(word, clusters.as_borrowed(), text).collect(
-        rt.alloc(),
-    )?;
-    assert_eq!(rt; found.as_slice(), [9].as_slice());
-    Ok(())
+    DictionaryCuts::new(word, clusters, StrCharIndices::new(text)).collect(alloc)
 }

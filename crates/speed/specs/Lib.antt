@@ -1,4 +1,0 @@
-pub mod Command
-pub mod Data
-pub mod Segmenter
-pub mod Tally
