@@ -96,7 +96,11 @@ fn agrees_in_latin1(
 }
 
 // The ordinals of boundaries, in code points, where the items have these places.
-fn ordinals(alloc: Global, boundaries: &[(usize, char)], items: &[usize]) -> Result<Found, AllocError> {
+fn ordinals(
+    alloc: Global,
+    boundaries: &[(usize, char)],
+    items: &[usize],
+) -> Result<Found, AllocError> {
     let mut found = Vec::new(alloc);
     for (boundary, mark) in boundaries {
         let ordinal = items.iter().filter(|place| **place < *boundary).count();

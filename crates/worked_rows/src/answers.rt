@@ -2,9 +2,7 @@
 
 use crate::row::Row;
 use crate::segmenters::{Manner, same_clusters, segmenter_answer};
-use crate::{
-    items, line_classes, machines, memos, names, pieces, readers, same, tables, wrapped,
-};
+use crate::{items, line_classes, machines, memos, names, pieces, readers, same, tables, wrapped};
 use anyhow::Result;
 use std::alloc::Global;
 

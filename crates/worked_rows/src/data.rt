@@ -71,10 +71,7 @@ fn symbols_in(alloc: Global, row: Row<'_>) -> Result<ClassTable> {
 fn states_in(alloc: Global, row: Row<'_>) -> Result<Vec<(Acceptance, Option<Lookahead>)>> {
     match row.part_since("states", "machine") {
         Some(words) => states_of(alloc, words),
-        None => Ok(Vec::from_slice(
-            alloc,
-            sample_machine(alloc, row)?.states(),
-        )?),
+        None => Ok(Vec::from_slice(alloc, sample_machine(alloc, row)?.states())?),
     }
 }
 
@@ -92,10 +89,7 @@ fn map_in(alloc: Global, row: Row<'_>) -> Result<Vec<(Symbol, ComplexScript)>> {
 fn moves_in(alloc: Global, row: Row<'_>, states: usize) -> Result<Vec<State>> {
     match row.part_since("moves", "machine") {
         Some(words) => moves_of(alloc, states, words),
-        None => Ok(Vec::from_slice(
-            alloc,
-            sample_machine(alloc, row)?.transitions(),
-        )?),
+        None => Ok(Vec::from_slice(alloc, sample_machine(alloc, row)?.transitions())?),
     }
 }
 
@@ -129,10 +123,7 @@ fn place_in(columns: usize, row: u8, column: u8) -> usize {
 
 /// The tailoring of a row, if it has one: the symbol and the script of each pseudo symbol, as `1=Thai`, and among them what replaces
 /// symbols, as `4>1=None`; or that of the sample lines.
-pub fn tailoring_of(
-    alloc: Global,
-    row: Row<'_>,
-) -> Result<Option<SegmenterStateMachineOverride>> {
+pub fn tailoring_of(alloc: Global, row: Row<'_>) -> Result<Option<SegmenterStateMachineOverride>> {
     match row.part("tailoring") {
         None => Ok(None),
         Some("bench") => Ok(Some(breakall(alloc)?)),
@@ -148,9 +139,7 @@ pub fn tailoring_of(
 pub fn override_of(alloc: Global, row: Row<'_>) -> Result<Option<RuleBreakDataOverride>> {
     match row.part("override") {
         None | Some("none") => Ok(None),
-        Some(words) => Ok(Some(RuleBreakDataOverride::try_from_parts(classes_of(
-            alloc, words,
-        )?)?)),
+        Some(words) => Ok(Some(RuleBreakDataOverride::try_from_parts(classes_of(alloc, words)?)?)),
     }
 }
 
@@ -160,9 +149,7 @@ pub fn table_of(alloc: Global, row: Row<'_>) -> Result<RuleBreakData> {
     let entries = entries_in(alloc, row, count)?;
     let statuses = statuses_in(alloc, row)?;
     let classes = classes_in(alloc, row)?;
-    Ok(RuleBreakData::try_from_parts(
-        classes, entries, statuses, count, last, start, end, complex,
-    )?)
+    Ok(RuleBreakData::try_from_parts(classes, entries, statuses, count, last, start, end, complex)?)
 }
 
 // The sample pair table of a row.
@@ -187,10 +174,7 @@ fn classes_in(alloc: Global, row: Row<'_>) -> Result<ClassTable> {
 fn statuses_in(alloc: Global, row: Row<'_>) -> Result<Vec<u8>> {
     match row.part_since("statuses", "table") {
         Some(words) => numbers_of(alloc, words),
-        None => Ok(Vec::from_slice(
-            alloc,
-            sample_table(alloc, row)?.rule_status_table(),
-        )?),
+        None => Ok(Vec::from_slice(alloc, sample_table(alloc, row)?.rule_status_table())?),
     }
 }
 
@@ -235,10 +219,7 @@ fn entries_in(alloc: Global, row: Row<'_>, count: u8) -> Result<Vec<BreakState>>
 fn all_entries(alloc: Global, row: Row<'_>, count: u8) -> Result<Vec<BreakState>> {
     match row.part_since("entries", "table") {
         Some(words) => entries_of(alloc, words, count),
-        None => Ok(Vec::from_slice(
-            alloc,
-            sample_table(alloc, row)?.break_state_table(),
-        )?),
+        None => Ok(Vec::from_slice(alloc, sample_table(alloc, row)?.break_state_table())?),
     }
 }
 

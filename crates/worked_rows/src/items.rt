@@ -27,11 +27,7 @@ pub fn items(alloc: Global, row: Row<'_>) -> Result<String> {
             characters_in(alloc, Latin1Indices::new(bytes), bytes.len())?,
         ),
         Text::Utf8(bytes) => both(
-            items_in::<PotentiallyIllFormedUtf8>(
-                alloc,
-                Utf8CharIndices::new(bytes),
-                bytes.len(),
-            )?,
+            items_in::<PotentiallyIllFormedUtf8>(alloc, Utf8CharIndices::new(bytes), bytes.len())?,
             characters_in(alloc, Utf8CharIndices::new(bytes), bytes.len())?,
         ),
         Text::Utf16(units) => both(
@@ -123,24 +119,14 @@ pub fn slice(alloc: Global, row: Row<'_>) -> Result<String> {
     }
     let sample = Sample::of(alloc, row)?;
     match sample.text() {
-        Text::Latin1(bytes) => slice_in::<Latin1>(
-            alloc,
-            Latin1Indices::new(bytes),
-            from,
-            to,
-        ),
+        Text::Latin1(bytes) => slice_in::<Latin1>(alloc, Latin1Indices::new(bytes), from, to),
         Text::Utf8(bytes) => slice_in::<PotentiallyIllFormedUtf8>(
             alloc,
             Utf8CharIndices::new(bytes),
             from,
             to,
         ),
-        Text::Utf16(units) => slice_in::<Utf16>(
-            alloc,
-            Utf16Indices::new(units),
-            from,
-            to,
-        ),
+        Text::Utf16(units) => slice_in::<Utf16>(alloc, Utf16Indices::new(units), from, to),
         Text::Str(text) => slice_in::<Utf8>(alloc, StrCharIndices::new(text), from, to),
     }
 }
@@ -235,9 +221,7 @@ pub fn encoding(alloc: Global, row: Row<'_>) -> Result<String> {
     let sample = Sample::of(alloc, row)?;
     let is_narrow = match sample.text() {
         Text::Latin1(bytes) => is_narrow::<Latin1>(&Latin1Indices::new(bytes)),
-        Text::Utf8(bytes) => is_narrow::<PotentiallyIllFormedUtf8>(&Utf8CharIndices::new(
-            bytes,
-        )),
+        Text::Utf8(bytes) => is_narrow::<PotentiallyIllFormedUtf8>(&Utf8CharIndices::new(bytes)),
         Text::Utf16(units) => is_narrow::<Utf16>(&Utf16Indices::new(units)),
         Text::Str(text) => is_narrow::<Utf8>(&StrCharIndices::new(text)),
     };

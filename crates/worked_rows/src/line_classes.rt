@@ -13,7 +13,7 @@ macro_rules! named {
 }
 
 // The constants of pair tables of lines, and then those of the engine 17.
-const LINE_CLASSES: [(&str, u8); 121] = named![
+const LINE_CLASSES: [(&str, u8); 121] = named! {
     LINE_PROPERTY_AI, LINE_PROPERTY_AK, LINE_PROPERTY_AL, LINE_PROPERTY_AL_DOTTED_CIRCLE,
     LINE_PROPERTY_AP, LINE_PROPERTY_AS, LINE_PROPERTY_B2, LINE_PROPERTY_BA, LINE_PROPERTY_BB,
     LINE_PROPERTY_BK, LINE_PROPERTY_CB, LINE_PROPERTY_CJ, LINE_PROPERTY_CL, LINE_PROPERTY_CM,
@@ -44,7 +44,7 @@ const LINE_CLASSES: [(&str, u8); 121] = named![
     LINE_V3_PROPERTY_SA, LINE_V3_PROPERTY_SA_MC_MN, LINE_V3_PROPERTY_SP, LINE_V3_PROPERTY_SY,
     LINE_V3_PROPERTY_VF, LINE_V3_PROPERTY_VI, LINE_V3_PROPERTY_WJ, LINE_V3_PROPERTY_XX,
     LINE_V3_PROPERTY_XX_EXTPICT, LINE_V3_PROPERTY_ZW, LINE_V3_PROPERTY_ZWJ,
-];
+};
 
 /// The number of the class of lines whose constant has a name. The errors are want of memory, and a name that no constant has.
 pub fn line_class(alloc: Global, row: Row<'_>) -> Result<String> {

@@ -80,6 +80,9 @@ fn look_ups_by(
         transitions: other.transitions(),
         count: 0,
     };
-    let memo = clusters.segment_str(text).with_memo(alloc)?.with_reader(reader);
+    let memo = clusters
+        .segment_str(text)
+        .with_memo(alloc)?
+        .with_reader(reader);
     Ok(shown_memo(alloc, memo)?)
 }

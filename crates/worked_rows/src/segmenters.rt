@@ -1,10 +1,10 @@
 //! What segmenters find, by data that are lent and by data of their own.
 
-use crate::answers::or_fault;
-use crate::data::{machine_of, table_of};
 use crate::agreement::{
     SHORT_TEXTS, agrees_in_all, boundaries_in_all, has_same_clusters, short_text,
 };
+use crate::answers::or_fault;
+use crate::data::{machine_of, table_of};
 use crate::lent::lend;
 use crate::memos::memo_answer;
 use crate::options::Options;
