@@ -39,7 +39,7 @@ pub(crate) fn machine_of(
 ) -> Result<SegmenterStateMachine, DataError>
     ensures { IfOk result (λ m. m ≡ machine (table ranges.now other) states.now transitions.now 0 shift map.now) }
 {
-    let symbols = ClassTable::try_from_ranges(Vec::from_slice(alloc, ranges)?, other)?;
+    let symbols = ClassTable::try_from_ranges(Vec::from_slice(alloc, ranges)?, other)?.indexed(alloc)?;
     let states = Vec::from_slice(alloc, states)?;
     let transitions = Vec::from_slice(alloc, transitions)?;
     let map = Vec::from_slice(alloc, map)?;
@@ -83,7 +83,7 @@ pub(crate) fn table_of(
 ) -> Result<RuleBreakData, DataError>
     ensures { IfOk result (λ t. t ≡ pair_table (table ranges.now other) entries.now statuses.now numbers.count numbers.last numbers.start_of_text numbers.end_of_text numbers.complex) }
 {
-    let classes = ClassTable::try_from_ranges(Vec::from_slice(alloc, ranges)?, other)?;
+    let classes = ClassTable::try_from_ranges(Vec::from_slice(alloc, ranges)?, other)?.indexed(alloc)?;
     let entries = Vec::from_slice(alloc, entries)?;
     let statuses = Vec::from_slice(alloc, statuses)?;
     RuleBreakData::try_from_parts(

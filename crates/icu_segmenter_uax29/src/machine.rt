@@ -35,7 +35,7 @@ pub(crate) fn machine_of(
     ensures refused { IfErr result (λ fault. (fault ≡ Memory) ⊎ HasRangeFault ranges.now fault
         ⊎ HasMachineFault (machine (table ranges.now 1) states.now transitions.now 0 255 []) fault) }
 {
-    let symbols = ClassTable::try_from_ranges(Vec::from_slice(alloc, ranges)?, OTHER)?;
+    let symbols = ClassTable::try_from_ranges(Vec::from_slice(alloc, ranges)?, OTHER)?.indexed(alloc)?;
     let states = Vec::from_slice(alloc, states)?;
     let transitions = Vec::from_slice(alloc, transitions)?;
     SegmenterStateMachine::try_from_parts(symbols, states, transitions, 0, 255, Vec::new(alloc))

@@ -19,6 +19,10 @@ paged-within t pages values code_point block stand within read =
     let number : block ≡ get_or pages (code_point / 128) 0 = read ∙ get_or_default_zero pages (code_point / 128) block within in
     rw number (stand (code_point / 128) within (code_point % 128) (mod-lt code_point (omega arith))).0
 
+-- a table that isn't indexed has no pages
+pub none-are-pages : (t : Table) (pages values : List ℕ) → length pages ≡ 0 → ArePages t pages values
+none-are-pages t pages values none page within = absurd (omega (arith, none, within))
+
 pub plain-grows : (old new : List ℕ) (plain : Option (ℕ × ℕ)) → HasGrown old new → IsPlain old plain → IsPlain new plain
 plain-grows old new None grown is = tt
 plain-grows old new (Some p) grown is = λ offset small.

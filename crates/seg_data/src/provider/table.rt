@@ -1,6 +1,7 @@
 //! Tables of values by ranges of code points.
 ghost use Rattle.std.specs.Prelude.{◌≡◌, ℕ, ◌+◌, ◌*◌, ◌==◌, ◌<◌, ◌≤◌, ◌↔◌, IsTrue, IfOk, IfErr, OnOk, Any, length};
 ghost use Rattle.seg_data.specs.Faults.{HasOverlap, HasRangeFault, IsFaultless, IsLowestFault};
+ghost use Rattle.seg_data.specs.declared.provider.DataError.TheVariants.{Memory};
 ghost use Rattle.seg_data.specs.Lemmas.Same.{same_table, same_table-laws};
 ghost use Rattle.seg_data.specs.Table.{AreAscii, table, value_of};
 
@@ -10,6 +11,7 @@ mod runs;
 use crate::provider::DataError;
 use pages::Pages;
 pub use runs::value_by_halving;
+use std::alloc::Global;
 use std::fmt::{self, Debug, Formatter};
 use std::marker::Model;
 
@@ -21,7 +23,8 @@ const ASCII_LEN: usize = 128;
 pub struct ClassTable {
     ranges: Vec<(u32, u32, u8)>,
     default: u8,
-    // The same values once more, of ASCII and by pages: no part of the Model's value, nor of what `==` compares.
+    // The same values once more, of ASCII, and of all code points by pages where the table is indexed: no part of the
+    // Model's value, nor of what `==` compares.
     ascii: [u8; ASCII_LEN],
     pages: Pages,
 }
@@ -47,23 +50,36 @@ impl ClassTable {
     /// default. `RangeOrder` where a first is above its last or isn't above the last of the range
     /// before, and otherwise `RangePast10FFFF` where a last is above U+10FFFF.
     ///
-    /// Takes memory from the allocator of `ranges`, so that a look-up takes two reads, and one in ASCII: some 17 KB for
-    /// the 8,704 pages of 128 code points, and 128 bytes for each block of values, which pages of one
-    /// value share (1.1 MB if none does). Refuses nothing for want of memory: where it is missing,
-    /// look-ups are by halving the ranges.
+    /// Takes no memory. A look-up takes one read in ASCII, and otherwise a binary search of the ranges; `indexed` makes
+    /// that two reads.
     pub fn try_from_ranges(ranges: Vec<(u32, u32, u8)>, default: u8) -> Result<Self, DataError>
         ensures accepted { IfOk result (λ t. (t ≡ table ranges.items default) × IsFaultless (HasRangeFault ranges.items)) }
         ensures refused { IfErr result (IsLowestFault (HasRangeFault ranges.items)) }
     {
         check_ranges(ranges.as_slice())?;
         let ascii = ascii_values(ranges.as_slice(), default);
-        let mut pages = Pages::new(*ranges.allocator());
-        // Where memory is missing, there are fewer pages.
-        let _ = pages.add_all(ranges.as_slice(), default);
+        let pages = Pages::none(*ranges.allocator());
         Ok(ClassTable {
             ranges,
             default,
             ascii,
+            pages,
+        })
+    }
+
+    /// The same table, in which each look-up takes two reads. `Memory`, and the table is gone, where a growth is refused.
+    ///
+    /// It takes some 17 KB for the 8,704 pages of 128 code points, and 128 bytes for each block of values; pages of one
+    /// value share theirs (1.1 MB if none does).
+    pub fn indexed(self, alloc: Global) -> Result<Self, DataError>
+        ensures same { IfOk result (λ t. t ≡ self) }
+        ensures refused { IfErr result (λ fault. fault ≡ Memory) }
+    {
+        let pages = Pages::try_new(alloc, self.ranges.as_slice(), self.default)?;
+        Ok(ClassTable {
+            ranges: self.ranges,
+            default: self.default,
+            ascii: self.ascii,
             pages,
         })
     }
@@ -106,8 +122,8 @@ impl ClassTable {
     }
 }
 
-/// How many bytes a table's pages take: two for each page, and 128 for each block of values. It isn't part of the library's
-/// surface.
+/// How many bytes a table's pages take: two for each page, and 128 for each block of values; 0 where it isn't indexed. It isn't
+/// part of the library's surface.
 pub fn page_byte_count(table: &ClassTable) -> usize {
     table.pages.byte_count()
 }

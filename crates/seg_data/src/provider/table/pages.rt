@@ -12,8 +12,8 @@ const PAGE_LEN: u32 = 128;
 // How many pages the code points make.
 const PAGE_COUNT: u16 = 0x2200;
 
-/// The values of a table's code points, in pages from U+0000 on: all, or as many as memory had room
-/// for. The values of a page are a block, which pages of one value share.
+/// The values of a table's code points, in pages from U+0000 on: all, or none. The values of a page are a block, which pages
+/// of one value share.
 #[derive(Drop)]
 pub(super) struct Pages {
     // The number of each page's block.
@@ -24,7 +24,7 @@ pub(super) struct Pages {
 
 impl Pages {
     /// No pages.
-    pub(super) fn new(alloc: Global) -> Self
+    pub(super) fn none(alloc: Global) -> Self
         ensures numbers { length result.numbers.items ≡ 0 }
         ensures values { length result.values.items ≡ 0 }
     {
@@ -32,6 +32,23 @@ impl Pages {
             numbers: Vec::new(alloc),
             values: Vec::new(alloc),
         }
+    }
+
+    /// All pages of the table of these ranges and this default.
+    pub(super) fn try_new(
+        alloc: Global,
+        ranges: &[(u32, u32, u8)],
+        default: u8,
+    ) -> Result<Self, AllocError>
+        requires sorted { IsFaultless (HasRangeFault ranges.now) }
+        ensures stand { IfOk result (λ made. ArePages (table ranges.now default) made.numbers.items made.values.items) }
+        ensures all { IfOk result (λ made. length made.numbers.items ≡ 0x2200) }
+    {
+        let mut pages = Pages::none(alloc);
+        pages.add_all(ranges, default)?;
+        pages.numbers.shrink_to_fit();
+        pages.values.shrink_to_fit();
+        Ok(pages)
     }
 
     /// The value of a code point, if its page is there.
@@ -57,31 +74,12 @@ impl Pages {
         numbers.saturating_add(self.values.capacity())
     }
 
-    /// Adds the pages of the table of these ranges and this default: all, or, where memory is
-    /// missing, as many as it had room for.
-    pub(super) fn add_all(
-        &mut self,
-        ranges: &[(u32, u32, u8)],
-        default: u8,
-    ) -> Result<(), AllocError>
-        requires sorted { IsFaultless (HasRangeFault ranges.now) }
-        requires no_pages { length self.old.numbers.items ≡ 0 }
-        requires no_values { length self.old.values.items ≡ 0 }
-        ensures stand { ArePages (table ranges.now default) self.new.numbers.items self.new.values.items }
-        ensures all { OnOk result (length self.new.numbers.items ≡ 0x2200) }
-    {
-        let added = self.add_pages(ranges, default);
-        self.numbers.shrink_to_fit();
-        self.values.shrink_to_fit();
-        added
-    }
-
     // Adds all pages, in memory that may be more than they need.
-    fn add_pages(&mut self, ranges: &[(u32, u32, u8)], default: u8) -> Result<(), AllocError>
+    fn add_all(&mut self, ranges: &[(u32, u32, u8)], default: u8) -> Result<(), AllocError>
         requires sorted { IsFaultless (HasRangeFault ranges.now) }
         requires no_pages { length self.old.numbers.items ≡ 0 }
         requires no_values { length self.old.values.items ≡ 0 }
-        ensures stand { ArePages (table ranges.now default) self.new.numbers.items self.new.values.items }
+        ensures stand { OnOk result (ArePages (table ranges.now default) self.new.numbers.items self.new.values.items) }
         ensures all { OnOk result (length self.new.numbers.items ≡ 0x2200) }
     {
         self.numbers.reserve_exact(PAGE_COUNT as usize)?;

@@ -1,6 +1,6 @@
 use Rattle.std.proofs.Common.{◌≡◌, length}
 use Rattle.seg_data.specs.Table.{AreBlocks, ArePages, IsPlain, table}
-use Rattle.seg_data.proofs.provider.table.pages.Pages.add_pages.Given as goal
+use Rattle.seg_data.proofs.provider.table.pages.Pages.add_all.Given as goal
 
 -- the pages up to here stand
 abbrev pub invariant-loop-page : goal.invariant-loop-page
