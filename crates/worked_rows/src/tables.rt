@@ -1,25 +1,36 @@
-//! Tables of classes.
-ghost use Rattle.std.specs.Prelude.{IfOk};
+//! Tables of classes, as they are made and indexed.
 ghost use Rattle.seg_data.specs.Faults.{HasRangeFault, IsFaultless};
 
-use crate::data::classes_of;
+use crate::data::{classes_of, copy_of};
 use crate::row::Row;
 use anyhow::{Result, bail};
 use seg_data::provider::{ClassTable, page_byte_count, value_by_halving};
 use std::alloc::Global;
 
-/// How many bytes the table's pages take where a row asks for its pages; the value of the code point that it names; or else the
-/// table's ranges and default.
+/// How many bytes the pages of the indexed table take where a row asks for them. Or else the value of the code point that it names, or
+/// the table's default and ranges: the same by the table as it is made, and indexed.
 pub fn table(alloc: Global, row: Row<'_>) -> Result<String> {
     let table = classes_of(alloc, row.words("classes")?)?;
+    let indexed = copy_of(alloc, &table)?.indexed(alloc)?;
     if row.part("pages").is_some() {
-        let bytes = page_byte_count(&table);
+        let bytes = page_byte_count(&indexed);
         return Ok(format!(in alloc; "{bytes}")?);
     }
-    if row.part("at").is_some() {
-        return value(alloc, &table, row.code_point("at")?);
+    let answer = answer_of(alloc, row, &table)?;
+    if indexed != table || answer_of(alloc, row, &indexed)? != answer {
+        bail!("another answer by the indexed table");
     }
-    shown(alloc, &table)
+    Ok(answer)
+}
+
+// The value of the code point of a row, or the table.
+fn answer_of(alloc: Global, row: Row<'_>, table: &ClassTable) -> Result<String>
+    requires { IsFaultless (HasRangeFault table.now.ranges) }
+{
+    match row.part("at") {
+        Some(_) => value(alloc, table, row.code_point("at")?),
+        None => shown(alloc, table),
+    }
 }
 
 // The value of a code point, which is the same by halving.
