@@ -2,15 +2,16 @@
 
 use crate::data::machine_of;
 use crate::dictionaries::{all_words, thai, words_of};
+use crate::numbers::number_of;
 use crate::row::Row;
 use crate::samples::{Sample, quoted};
-use anyhow::Result;
+use anyhow::{Result, bail};
 use bench::found::push_word;
 use bench::segmenter::Text;
-use icu_segmenter::GraphemeClusterSegmenter;
 use icu_segmenter::complex::{ComplexPayloadBorrowed, ComplexPayloadsBorrowed};
 use icu_segmenter::indices::{StrCharIndices, Utf16Indices};
 use icu_segmenter::provider::DictionaryBreakData;
+use icu_segmenter::{GraphemeClusterSegmenter, GraphemeClusterSegmenterBorrowed};
 use seg_complex::runs::RunCuts;
 use seg_complex::script_iter::ScriptIterator;
 use seg_data::provider::DictionaryCursor;
@@ -20,46 +21,58 @@ use std::alloc::{AllocError, Global};
 
 /// The cuts of a text as one piece, by the words of Thai and the clusters of the machine.
 pub fn cuts(alloc: Global, row: Row<'_>) -> Result<String> {
-    let sample = Sample::of(alloc, row)?;
     let dictionary = thai(alloc, row)?;
     let clusters = clusters_of(alloc, row)?;
-    let piece = ComplexPayloadBorrowed::Dict(&dictionary);
-    let offset = match row.part("offset") {
-        Some(_) => row.number("offset")?,
-        None => 0,
-    };
-    let cuts = cuts_of(alloc, piece, &clusters, offset, sample.text())?;
-    Ok(shown_cuts(alloc, cuts.as_slice())?)
+    cuts_by(alloc, row, &dictionary, clusters.as_borrowed())
 }
 
 fn clusters_of(alloc: Global, row: Row<'_>) -> Result<GraphemeClusterSegmenter> {
     Ok(GraphemeClusterSegmenter::try_new_neo(machine_of(alloc, row)?)?)
 }
 
-fn cuts_of(
+// No piece of a row has so many units.
+const LONGEST: usize = 10_000;
+
+fn cuts_by(
     alloc: Global,
-    piece: ComplexPayloadBorrowed<'_>,
-    clusters: &GraphemeClusterSegmenter,
-    offset: usize,
-    text: Text<'_>,
-) -> Result<Vec<usize>, AllocError> {
-    let clusters = clusters.as_borrowed();
-    match text {
-        Text::Str(text) => piece.segment_str(text, clusters, offset).collect(alloc),
-        Text::Utf8(bytes) => piece.segment_utf8(bytes, clusters, offset).collect(alloc),
-        Text::Utf16(units) => piece.segment_utf16(units, clusters, offset).collect(alloc),
-        Text::Latin1(_) => Ok(Vec::new(alloc)),
-    }
+    row: Row<'_>,
+    dictionary: &DictionaryBreakData,
+    clusters: GraphemeClusterSegmenterBorrowed<'_>,
+) -> Result<String> {
+    let offset = usize::from(number_of(row.part("offset").unwrap_or("0"))?);
+    let piece = ComplexPayloadBorrowed::Dict(dictionary);
+    let sample = Sample::of(alloc, row)?;
+    let cuts: Vec<usize> = match sample.text() {
+        Text::Str(text) if text.len() < LONGEST => {
+            piece.segment_str(text, clusters, offset).collect(alloc)?
+        }
+        Text::Utf8(bytes) if bytes.len() < LONGEST => {
+            piece.segment_utf8(bytes, clusters, offset).collect(alloc)?
+        }
+        Text::Utf16(units) if units.len() < LONGEST => piece
+            .segment_utf16(units, clusters, offset)
+            .collect(alloc)?,
+        _ => bail!("a text that is too long"),
+    };
+    Ok(shown_cuts(alloc, cuts.as_slice())?)
 }
 
 /// The cuts of a run, by the words and the clusters of the machine.
 pub fn run_cuts(alloc: Global, row: Row<'_>) -> Result<String> {
-    let text = quoted(alloc, row)?;
     let clusters = clusters_of(alloc, row)?;
     let first = all_words(alloc, row.parts_of("words "))?;
     let later = all_words(alloc, row.parts_of("later "))?;
     let mut payloads = ComplexPayloadsBorrowed::new(first.as_borrowed(), clusters.as_borrowed());
     payloads.load(later.as_borrowed());
+    run_cuts_by(alloc, row, payloads)
+}
+
+fn run_cuts_by(
+    alloc: Global,
+    row: Row<'_>,
+    payloads: ComplexPayloadsBorrowed<'_>,
+) -> Result<String> {
+    let text = quoted(alloc, row)?;
     let text = StrCharIndices::new(text.as_str());
     let cuts: Vec<usize> = RunCuts::new(payloads, text).collect(alloc)?;
     Ok(shown_cuts(alloc, cuts.as_slice())?)

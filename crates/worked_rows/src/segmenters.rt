@@ -38,8 +38,18 @@ pub fn segmenter_answer(
 ) -> Result<String> {
     let kind = kind_of(kind, engine)?;
     let mut parts = Parts::of(alloc, row, kind)?;
-    let lent = or_fault(alloc, lent_answer(alloc, row, kind, manner, &parts))?;
-    let owned = or_fault(alloc, owned_answer(alloc, row, kind, manner, &mut parts))?;
+    answer_by(alloc, row, kind, manner, &mut parts)
+}
+
+fn answer_by(
+    alloc: Global,
+    row: Row<'_>,
+    kind: Kind,
+    manner: Manner,
+    parts: &mut Parts,
+) -> Result<String> {
+    let lent = or_fault(alloc, lent_answer(alloc, row, kind, manner, parts))?;
+    let owned = or_fault(alloc, owned_answer(alloc, row, kind, manner, parts))?;
     if lent != owned {
         bail!("another answer by owned data");
     }
