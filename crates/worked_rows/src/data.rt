@@ -1,92 +1,240 @@
-//! The data that segmenters are made of.
-//!
-//! Where one value is refused while others are held, the others are let go, and each such place is proved. So values are made
-//! before anything is refused (`both`), lent by one function to another, or given away together.
+//! Machines and pair tables: the sample data, and other parts in the place of theirs.
+ghost use Rattle.std.specs.Prelude.{◌≡◌, IfOk};
+ghost use Rattle.seg_data.specs.Faults.{HasRangeFault, IsFaultless};
 
-use crate::settings::Settings;
+use crate::numbers::{cell_of, map_of, number_of, numbers_of, ranges_of, replaced_of, states_of};
+use crate::row::Row;
+use anyhow::{Context, Result, bail};
+use bench::clusters::cluster_machine;
+use bench::line_tables::line_table;
+use bench::lines::{breakall, line_machine};
+use bench::pair_tables::{cluster_table, sentence_table, word_table};
+use bench::sentences::sentence_machine;
+use bench::turn_tables::turn_table;
+use bench::words::word_machine;
 use icu_segmenter::provider::{
-    DataError, Dictionaries, LineTailorings, RuleBreakData, RuleBreakDataOverride,
-    SegmenterStateMachine,
+    Acceptance, BreakState, ClassTable, ComplexScript, Lookahead, RuleBreakData,
+    RuleBreakDataOverride, SegmenterStateMachine, SegmenterStateMachineOverride, State, Symbol,
 };
-use std::alloc::Global;
+use std::alloc::{AllocError, Global};
 
-/// Both values, or the fault of the first that is refused.
-pub fn both<A: Drop, B: Drop>(
-    one: Result<A, DataError>,
-    other: Result<B, DataError>,
-) -> Result<(A, B), DataError> {
-    let one = one?;
-    let other = other?;
-    Ok((one, other))
+/// The table of these words: the class of other code points, and ranges.
+pub fn classes_of(alloc: Global, words: &str) -> Result<ClassTable>
+    ensures { IfOk result (λ table. IsFaultless (HasRangeFault table.ranges)) }
+{
+    let (default, ranges) = words.split_once(' ').unwrap_or((words, ""));
+    let default = number_of(default)?;
+    Ok(ClassTable::try_from_ranges(ranges_of(alloc, ranges)?, default)?)
 }
 
-/// A pair table with what takes the place of its classes, and the pair table of clusters.
-#[derive(Drop)]
-pub struct Tables {
-    /// The pair table.
-    pub table: RuleBreakData,
-    /// What takes the place of its classes.
-    pub overriding: Option<RuleBreakDataOverride>,
-    /// The pair table of clusters.
-    pub clusters: RuleBreakData,
+/// A copy of a table.
+pub fn copy_of(alloc: Global, table: &ClassTable) -> Result<ClassTable>
+    ensures { IfOk result (λ copy. copy ≡ table.now) }
+{
+    let ranges = Vec::from_slice(alloc, table.ranges())?;
+    Ok(ClassTable::try_from_ranges(ranges, table.default())?)
 }
 
-impl Tables {
-    /// Those of settings. The error is what one of them is refused for.
-    pub fn of(alloc: Global, settings: &Settings) -> Result<Self, DataError> {
-        let rules = both(settings.table.table(alloc), settings.overriding(alloc));
-        let clusters = settings.cluster_table.table(alloc);
-        let ((table, overriding), clusters) = both(rules, clusters)?;
-        Ok(Tables {
-            table,
-            overriding,
-            clusters,
-        })
+// The first pseudo symbol, where a row has no other.
+const SHIFT: &str = "5";
+
+/// The machine of a row.
+pub fn machine_of(alloc: Global, row: Row<'_>) -> Result<SegmenterStateMachine> {
+    let states = states_in(alloc, row)?;
+    let moves = moves_in(alloc, row, states.len())?;
+    let map = map_in(alloc, row)?;
+    let lookaheads = number_of(row.part_since("lookaheads", "machine").unwrap_or("0"))?;
+    let shift = number_of(row.part("shift").unwrap_or(SHIFT))?;
+    let symbols = symbols_in(alloc, row)?;
+    let lookaheads = usize::from(lookaheads);
+    Ok(SegmenterStateMachine::try_from_parts(symbols, states, moves, lookaheads, shift, map)?)
+}
+
+// The sample machine of a row.
+fn sample_machine(alloc: Global, row: Row<'_>) -> Result<SegmenterStateMachine> {
+    Ok(match row.words("machine")? {
+        "bench clusters" => cluster_machine(alloc)?,
+        "bench sentences" => sentence_machine(alloc)?,
+        "bench words" => word_machine(alloc)?,
+        "bench lines" => line_machine(alloc)?,
+        _ => bail!("no machine"),
+    })
+}
+
+fn symbols_in(alloc: Global, row: Row<'_>) -> Result<ClassTable> {
+    match row.part_since("symbols", "machine") {
+        Some(words) => classes_of(alloc, words),
+        None => copy_of(alloc, sample_machine(alloc, row)?.symbols()),
     }
 }
 
-/// A machine of lines with its tailorings, and the machine of clusters.
-#[derive(Drop)]
-pub struct Machines {
-    /// The machine.
-    pub machine: SegmenterStateMachine,
-    /// Its tailorings.
-    pub tailorings: LineTailorings,
-    /// The machine of clusters.
-    pub clusters: SegmenterStateMachine,
-}
-
-impl Machines {
-    /// Those of settings. The error is what one of them is refused for.
-    pub fn of(alloc: Global, settings: &Settings) -> Result<Self, DataError> {
-        let machines = both(
-            settings.machine.machine(alloc),
-            settings.cluster_machine.machine(alloc),
-        );
-        let tailorings = settings.tailorings(alloc);
-        let ((machine, clusters), tailorings) = both(machines, tailorings)?;
-        Ok(Machines {
-            machine,
-            tailorings,
-            clusters,
-        })
+fn states_in(alloc: Global, row: Row<'_>) -> Result<Vec<(Acceptance, Option<Lookahead>)>> {
+    match row.part_since("states", "machine") {
+        Some(words) => states_of(alloc, words),
+        None => Ok(Vec::from_slice(alloc, sample_machine(alloc, row)?.states())?),
     }
 }
 
-/// The words of scripts.
-#[derive(Drop)]
-pub struct Words {
-    /// Those that a segmenter is made with, if it is made with some.
-    pub first: Option<Dictionaries>,
-    /// Those that are loaded after it is made.
-    pub later: Dictionaries,
+fn map_in(alloc: Global, row: Row<'_>) -> Result<Vec<(Symbol, ComplexScript)>> {
+    match (row.part_since("map", "machine"), row.part("machine")) {
+        (Some(words), _) => map_of(alloc, words),
+        (None, None) => Ok(Vec::new(alloc)),
+        (None, Some(_)) => Ok(Vec::from_slice(
+            alloc,
+            sample_machine(alloc, row)?.pseudo_symbol_map(),
+        )?),
+    }
 }
 
-impl Words {
-    /// Those of settings. The error is what one of them is refused for.
-    pub fn of(alloc: Global, settings: &Settings) -> Result<Self, DataError> {
-        let first = settings.words.some_dictionaries(alloc);
-        let (first, later) = both(first, settings.later.dictionaries(alloc))?;
-        Ok(Words { first, later })
+fn moves_in(alloc: Global, row: Row<'_>, states: usize) -> Result<Vec<State>> {
+    match row.part_since("moves", "machine") {
+        Some(words) => moves_of(alloc, states, words),
+        None => Ok(Vec::from_slice(alloc, sample_machine(alloc, row)?.transitions())?),
     }
+}
+
+/// The state that each symbol leads to from each state; or how many symbols there are, and moves from a state, on a symbol, to a state, as
+/// `0+1=2`, beside which there are no others.
+pub fn moves_of(alloc: Global, states: usize, words: &str) -> Result<Vec<State>> {
+    match words.split_once('+') {
+        Some(_) => some_moves(alloc, states, words),
+        None => numbers_of(alloc, words),
+    }
+}
+
+fn some_moves(alloc: Global, states: usize, words: &str) -> Result<Vec<State>> {
+    let (symbols, moves) = words.split_once(' ').context("no moves")?;
+    let count = states.saturating_mul(usize::from(number_of(symbols)?));
+    let mut transitions = vec![in alloc; 255; count]?;
+    for word in moves.split_whitespace() {
+        let (state, symbol, next) = cell_of(word)?;
+        let place = place_in(states, symbol, state);
+        *transitions.get_mut(place).context("no such transition")? = next;
+    }
+    Ok(transitions)
+}
+
+// Where a column of a row stands in a table that has so many columns.
+fn place_in(columns: usize, row: u8, column: u8) -> usize {
+    usize::from(row)
+        .saturating_mul(columns)
+        .saturating_add(usize::from(column))
+}
+
+/// The tailoring of a row, if it has one: the symbol and the script of each pseudo symbol, as `1=Thai`, and among them what replaces
+/// symbols, as `4>1=None`; or that of the sample lines.
+pub fn tailoring_of(alloc: Global, row: Row<'_>) -> Result<Option<SegmenterStateMachineOverride>> {
+    match row.part("tailoring") {
+        None => Ok(None),
+        Some("bench") => Ok(Some(breakall(alloc)?)),
+        Some(words) => {
+            let map = map_of(alloc, words)?;
+            let replaced = replaced_of(alloc, words)?;
+            Ok(Some(SegmenterStateMachineOverride::try_from_parts(map, replaced)?))
+        }
+    }
+}
+
+/// The override of a row, if it has one.
+pub fn override_of(alloc: Global, row: Row<'_>) -> Result<Option<RuleBreakDataOverride>> {
+    match row.part("override") {
+        None | Some("none") => Ok(None),
+        Some(words) => Ok(Some(RuleBreakDataOverride::try_from_parts(classes_of(alloc, words)?)?)),
+    }
+}
+
+/// The pair table of a row.
+pub fn table_of(alloc: Global, row: Row<'_>) -> Result<RuleBreakData> {
+    let (count, [last, start, end, complex]) = table_numbers(alloc, row)?;
+    let entries = entries_in(alloc, row, count)?;
+    let statuses = statuses_in(alloc, row)?;
+    let classes = classes_in(alloc, row)?;
+    Ok(RuleBreakData::try_from_parts(classes, entries, statuses, count, last, start, end, complex)?)
+}
+
+// The sample pair table of a row.
+fn sample_table(alloc: Global, row: Row<'_>) -> Result<RuleBreakData> {
+    Ok(match row.words("table")? {
+        "bench clusters" => cluster_table(alloc)?,
+        "bench sentences" => sentence_table(alloc)?,
+        "bench words" => word_table(alloc)?,
+        "bench lines" => line_table(alloc)?,
+        "bench turns" => turn_table(alloc)?,
+        _ => bail!("no table"),
+    })
+}
+
+fn classes_in(alloc: Global, row: Row<'_>) -> Result<ClassTable> {
+    match row.part_since("classes", "table") {
+        Some(words) => classes_of(alloc, words),
+        None => copy_of(alloc, sample_table(alloc, row)?.property_table()),
+    }
+}
+
+fn statuses_in(alloc: Global, row: Row<'_>) -> Result<Vec<u8>> {
+    match row.part_since("statuses", "table") {
+        Some(words) => numbers_of(alloc, words),
+        None => Ok(Vec::from_slice(alloc, sample_table(alloc, row)?.rule_status_table())?),
+    }
+}
+
+// How many classes there are, and those that have a meaning of their own: the last of code points, of the start, of the end, complex.
+fn table_numbers(alloc: Global, row: Row<'_>) -> Result<(u8, [u8; 4])> {
+    let (count, [last, start, end, complex]) = match row.part_since("numbers", "table") {
+        Some(words) => numbers_in(alloc, words)?,
+        None => numbers_of_table(&sample_table(alloc, row)?),
+    };
+    let complex = match row.part_since("complex", "table") {
+        Some(words) => number_of(words)?,
+        None => complex,
+    };
+    Ok((count, [last, start, end, complex]))
+}
+
+fn numbers_in(alloc: Global, words: &str) -> Result<(u8, [u8; 4])> {
+    match numbers_of(alloc, words)?.as_slice() {
+        &[count, last, start, end, complex] => Ok((count, [last, start, end, complex])),
+        _ => bail!("a table has five numbers"),
+    }
+}
+
+fn numbers_of_table(table: &RuleBreakData) -> (u8, [u8; 4]) {
+    let (last, start) = (table.last_codepoint_property(), table.sot_property());
+    let (end, complex) = (table.eot_property(), table.complex_property());
+    (table.property_count(), [last, start, end, complex])
+}
+
+// The entries: those of the sample or others, and what is set in their places, each two classes.
+fn entries_in(alloc: Global, row: Row<'_>, count: u8) -> Result<Vec<BreakState>> {
+    let mut entries = all_entries(alloc, row, count)?;
+    let words = row.part_since("set", "table").unwrap_or("");
+    for word in words.split_whitespace() {
+        let (left, right, byte) = cell_of(word)?;
+        let place = place_in(usize::from(count), left, right);
+        *entries.get_mut(place).context("no such entry")? = BreakState::from_unaligned(byte);
+    }
+    Ok(entries)
+}
+
+fn all_entries(alloc: Global, row: Row<'_>, count: u8) -> Result<Vec<BreakState>> {
+    match row.part_since("entries", "table") {
+        Some(words) => entries_of(alloc, words, count),
+        None => Ok(Vec::from_slice(alloc, sample_table(alloc, row)?.break_state_table())?),
+    }
+}
+
+// Entries by their bytes, or the same one for each two classes, as `all 255`.
+fn entries_of(alloc: Global, words: &str, count: u8) -> Result<Vec<BreakState>> {
+    if let Some(byte) = words.strip_prefix("all ") {
+        let count = usize::from(count).saturating_mul(usize::from(count));
+        let entry = BreakState::from_unaligned(number_of(byte)?);
+        return Ok(vec![in alloc; entry; count]?);
+    }
+    let mut entries = Vec::new(alloc);
+    for byte in numbers_of(alloc, words)? {
+        entries
+            .push(BreakState::from_unaligned(byte))
+            .map_err(AllocError::from)?;
+    }
+    Ok(entries)
 }

@@ -1,104 +1,65 @@
 //! The words of scripts.
 
-use crate::data::both;
+use crate::row::Row;
 use crate::samples::unescaped;
-use anyhow::{Result, bail};
+use anyhow::Result;
 use bench::dictionaries::dictionaries;
-use icu_segmenter::provider::{DataError, Dictionaries, DictionaryBreakData};
+use icu_segmenter::provider::{Dictionaries, DictionaryBreakData};
 use std::alloc::{AllocError, Global};
 
-/// The words of some scripts, or the sample dictionaries.
-#[derive(Drop)]
-pub struct WordLists {
-    is_bench: bool,
-    thai: Option<Vec<String>>,
-    myanmar: Option<Vec<String>>,
-    ideographs: Option<Vec<String>>,
+/// The words that a segmenter of the row is made with, if it is made with some.
+pub fn first_words(alloc: Global, row: Row<'_>) -> Result<Option<Dictionaries>> {
+    let words = row.parts_of("words ");
+    let scripts = ["bench", "th", "my", "ja"];
+    if scripts.iter().all(|script| words.part(*script).is_none()) {
+        return Ok(None);
+    }
+    Ok(Some(all_words(alloc, words)?))
 }
 
-impl WordLists {
-    /// No words.
-    pub fn none() -> Self {
-        WordLists {
-            is_bench: false,
-            thai: None,
-            myanmar: None,
-            ideographs: None,
-        }
+/// The sample dictionaries, or those of the scripts that have words.
+pub fn all_words(alloc: Global, row: Row<'_>) -> Result<Dictionaries> {
+    if row.part("bench").is_some() {
+        return Ok(dictionaries(alloc)?);
     }
+    let mut words = Dictionaries {
+        my: None,
+        km: None,
+        lo: None,
+        th: None,
+        ja: None,
+    };
+    read_words(alloc, row, &mut words)?;
+    Ok(words)
+}
 
-    // Whether no script has a list of words.
-    fn is_none(&self) -> bool {
-        !self.is_bench && self.thai.is_none() && self.myanmar.is_none() && self.ideographs.is_none()
-    }
+fn read_words(alloc: Global, row: Row<'_>, words: &mut Dictionaries) -> Result<()> {
+    words.th = some_dictionary(alloc, row.part("th"))?;
+    words.my = some_dictionary(alloc, row.part("my"))?;
+    words.ja = some_dictionary(alloc, row.part("ja"))?;
+    Ok(())
+}
 
-    /// Takes the words of a script, of which `""` is the empty one, or the sample dictionaries. The errors are want of memory, and
-    /// words that can't be read.
-    pub fn read(&mut self, alloc: Global, words: &str) -> Result<()> {
-        let (script, words) = words.split_once(' ').unwrap_or((words, ""));
-        if script == "bench" {
-            self.is_bench = true;
-        } else {
-            *self.list_of(script)? = Some(words_of(alloc, words)?);
-        }
-        Ok(())
-    }
-
-    // The list of a script's words.
-    fn list_of(&mut self, script: &str) -> Result<&mut Option<Vec<String>>> {
-        Ok(match script {
-            "th" => &mut self.thai,
-            "my" => &mut self.myanmar,
-            "ja" => &mut self.ideographs,
-            _ => bail!("no script with words"),
-        })
-    }
-
-    /// The dictionaries.
-    pub fn dictionaries(&self, alloc: Global) -> Result<Dictionaries, DataError> {
-        if self.is_bench {
-            return Ok(dictionaries(alloc)?);
-        }
-        let th = dictionary_of(alloc, &self.thai);
-        let my = dictionary_of(alloc, &self.myanmar);
-        let ja = dictionary_of(alloc, &self.ideographs);
-        let ((th, my), ja) = both(both(th, my), ja)?;
-        Ok(Dictionaries {
-            th,
-            my,
-            ja,
-            km: None,
-            lo: None,
-        })
-    }
-
-    /// The same, if there are words.
-    pub fn some_dictionaries(&self, alloc: Global) -> Result<Option<Dictionaries>, DataError> {
-        if self.is_none() {
-            return Ok(None);
-        }
-        Ok(Some(self.dictionaries(alloc)?))
-    }
-
-    /// The dictionary of Thai, which has no words where there is no list.
-    pub fn thai(&self, alloc: Global) -> Result<DictionaryBreakData, DataError> {
-        match dictionary_of(alloc, &self.thai)? {
-            Some(dictionary) => Ok(dictionary),
-            None => DictionaryBreakData::try_from_words(alloc, &[]),
-        }
-    }
-
-    /// The words of Thai.
-    pub fn thai_words(&self) -> &[String] {
-        match &self.thai {
-            Some(words) => words.as_slice(),
-            None => &[],
-        }
+fn some_dictionary(alloc: Global, words: Option<&str>) -> Result<Option<DictionaryBreakData>> {
+    match words {
+        Some(words) => Ok(Some(dictionary_of(alloc, words)?)),
+        None => Ok(None),
     }
 }
 
-// The words, as the files write them. All words of four digits below 8 are one word of the list.
-fn words_of(alloc: Global, words: &str) -> Result<Vec<String>> {
+/// The dictionary of Thai of the row, which has no words where there is no list.
+pub fn thai(alloc: Global, row: Row<'_>) -> Result<DictionaryBreakData> {
+    dictionary_of(alloc, row.parts_of("words ").part("th").unwrap_or(""))
+}
+
+fn dictionary_of(alloc: Global, words: &str) -> Result<DictionaryBreakData> {
+    let list = words_of(alloc, words)?;
+    let words: Vec<&str> = list.iter().map(|word| word.as_str()).collect(alloc)?;
+    Ok(DictionaryBreakData::try_from_words(alloc, words.as_slice())?)
+}
+
+/// The words, as the files write them, of which `""` is the empty one. All words of four digits below 8 are one word of the list.
+pub fn words_of(alloc: Global, words: &str) -> Result<Vec<String>> {
     let mut list = Vec::new(alloc);
     for word in words.split_whitespace() {
         match word {
@@ -120,23 +81,4 @@ fn push_numbers(alloc: Global, list: &mut Vec<String>) -> Result<(), AllocError>
         list.push(format!(in alloc; "{first}{second}{third}{fourth}")?)?;
     }
     Ok(())
-}
-
-fn dictionary_of(
-    alloc: Global,
-    list: &Option<Vec<String>>,
-) -> Result<Option<DictionaryBreakData>, DataError> {
-    let Some(list) = list else {
-        return Ok(None);
-    };
-    let words = lent_words(alloc, list)?;
-    Ok(Some(DictionaryBreakData::try_from_words(alloc, words.as_slice())?))
-}
-
-fn lent_words(alloc: Global, list: &Vec<String>) -> Result<Vec<&str>, AllocError> {
-    let mut words = Vec::new(alloc);
-    for word in list {
-        words.push(word.as_str())?;
-    }
-    Ok(words)
 }

@@ -1,40 +1,56 @@
-//! Runs worked rows through the library: each row has a text or another question, and the answer that is wanted.
+//! Asks worked rows of files of the library: each row has a text or another question, and the answer that is wanted.
 //!
-//! The files of rows say by which data, options and words the answers come; their first lines tell how they are written. Whatever
-//! finds boundaries is asked by lent data and by owned ones, and of a text in each encoding that has it. The argument is the folder
-//! of the files. Where an answer is not the one that is wanted, its file, its line and what was found are printed, and the status
-//! is 1.
+//! The lines before a row say by which data, options and words its answer comes; the head of clusters.rows tells how they are written.
+//! Whatever finds boundaries is asked by lent data and by owned ones, and of a text in each encoding that has it. The argument is the
+//! folder of the files. Where an answer is not the one that is wanted, its file, its line and what was found are printed, and the
+//! status is 1.
 #![tactic(auto)]
 
-mod bench_data;
-mod counts;
+mod agreement;
+mod answers;
 mod data;
 mod dictionaries;
+mod items;
 mod lent;
 mod line_classes;
-mod memo;
+mod machines;
+mod memos;
+mod names;
 mod numbers;
 mod options;
 mod owned;
 mod parts;
 mod pieces;
-mod question;
-mod rows;
+mod readers;
+mod row;
+mod same;
 mod samples;
-mod settings;
-mod small;
-mod tailoring;
-mod texts;
+mod segmenters;
+mod tables;
+mod wrapped;
 
+use answers::{answer_of, or_fault};
 use anyhow::{Context, Result};
-use counts::Counts;
-use rows::{Outcome, outcome_of};
-use settings::Settings;
+use row::{Row, row_of};
+use seg_data::laws::complex_script_numbers;
+use seg_machine::laws::small_machines_find;
+use seg_text::laws::{
+    encodings_with_southeast_asia, latin1_items_are_one, utf8_items_are_one, utf16_items_are_one,
+    well_formed_is_str,
+};
 use std::process::ExitCode;
 use std::{env, fs};
 
-/// The files of rows, in the order in which they are run.
-const FILES: [&str; 12] = [
+/// The files of rows, in the order in which they are asked.
+const FILES: [&str; 21] = [
+    "items.rows",
+    "slices.rows",
+    "rests.rows",
+    "encodings.rows",
+    "tables.rows",
+    "machines.rows",
+    "tailorings.rows",
+    "same.rows",
     "clusters.rows",
     "sentences.rows",
     "statuses.rows",
@@ -43,6 +59,7 @@ const FILES: [&str; 12] = [
     "lines.rows",
     "line_tables.rows",
     "walks.rows",
+    "wrapped.rows",
     "pieces.rows",
     "memos.rows",
     "faults.rows",
@@ -51,10 +68,8 @@ const FILES: [&str; 12] = [
 
 fn main(rt: HostRuntime) -> Result<ExitCode> {
     let folder = env::args(&rt)?.nth(1).context("usage: worked_rows FOLDER")?;
-    let mut failed = 0_u32;
-    for file in FILES {
-        failed = failed.saturating_add(failed_in(&rt, folder.as_str(), file)?);
-    }
+    let failed = failed_in_all(&rt, folder.as_str())?;
+    print_laws(&rt)?;
     Ok(if failed > 0 {
         ExitCode::FAILURE
     } else {
@@ -62,28 +77,57 @@ fn main(rt: HostRuntime) -> Result<ExitCode> {
     })
 }
 
-// Runs a file, and returns how many of its rows failed.
+// Asks all files, and returns how many rows failed.
+fn failed_in_all(rt: &HostRuntime, folder: &str) -> Result<u32> {
+    let mut failed = 0_u32;
+    for file in FILES {
+        failed = failed.saturating_add(failed_in(rt, folder, file)?);
+    }
+    Ok(failed)
+}
+
+// Calls the laws that have no texts or machines, and prints the two lists that laws give.
+fn print_laws(rt: &HostRuntime) -> Result<()> {
+    latin1_items_are_one();
+    utf8_items_are_one();
+    utf16_items_are_one();
+    well_formed_is_str();
+    small_machines_find();
+    let (encodings, scripts) = (encodings_with_southeast_asia(), complex_script_numbers());
+    println!(rt; "encodings with Southeast Asia {encodings:?}, numbers of scripts {scripts:?}")?;
+    Ok(())
+}
+
+// Asks a file, and returns how many of its rows failed.
 fn failed_in(rt: &HostRuntime, folder: &str, file: &str) -> Result<u32> {
     let path = format!(in rt.alloc(); "{folder}/{file}")?;
     let text = fs::read_to_string(rt, path.as_str()).context("reading a file of rows")?;
-    let mut settings = Settings::new(rt.alloc());
-    let counts = counts_of(rt, &mut settings, file, text.as_str())?;
-    let Counts { agreed, failed } = counts;
+    let (agreed, failed) = counts_of(rt, file, text.as_str())?;
     println!(rt; "{file}: {agreed} agreed, {failed} failed")?;
     Ok(failed)
 }
 
-// Counts the rows of a file, and prints those that fail.
-fn counts_of(rt: &HostRuntime, settings: &mut Settings, file: &str, text: &str) -> Result<Counts> {
-    let mut counts = Counts::default();
-    let mut number = 0_u32;
+// How many rows of a file agree, and how many fail. The lines of settings of a row begin with the last one that says what is asked.
+fn counts_of(rt: &HostRuntime, file: &str, text: &str) -> Result<(u32, u32)> {
+    let (mut agreed, mut failed, mut number) = (0_u32, 0_u32, 0_u32);
+    let (mut begin, mut end) = (0_usize, 0_usize);
     for line in text.lines() {
         number = number.saturating_add(1);
-        let outcome = outcome_of(rt.alloc(), settings, line)?;
-        counts.add(&outcome);
-        if let Outcome::Failed(found) = outcome {
-            println!(rt; "{file}:{number}: found {found}")?;
+        if line.starts_with("find ") {
+            begin = end;
+        }
+        let settings = text.get(begin..end).unwrap_or("");
+        end = end.saturating_add(line.len()).saturating_add(1);
+        if let Some((asked, wanted)) = row_of(line) {
+            let row = Row::new(settings, asked);
+            let found = or_fault(rt.alloc(), answer_of(rt.alloc(), row))?;
+            if found.as_str().trim() == wanted.trim() {
+                agreed = agreed.saturating_add(1);
+            } else {
+                failed = failed.saturating_add(1);
+                println!(rt; "{file}:{number}: found {found}")?;
+            }
         }
     }
-    Ok(counts)
+    Ok((agreed, failed))
 }

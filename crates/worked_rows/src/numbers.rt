@@ -45,24 +45,38 @@ pub fn cell_of(word: &str) -> Result<(u8, u8, u8)> {
     Ok((number_of(one)?, number_of(other)?, number_of(value)?))
 }
 
-/// The symbol and the script of each pseudo symbol, as `1=Thai`.
+/// Symbols and scripts, each as `1=Thai`; those that replace a symbol, as `4>1=Thai`, are left out.
 pub fn map_of(alloc: Global, words: &str) -> Result<Vec<(Symbol, ComplexScript)>> {
     let mut map = Vec::new(alloc);
     for word in words.split_whitespace() {
-        map.push(symbol_and_script(word)?)
-            .map_err(AllocError::from)?;
+        if word.split_once('>').is_none() {
+            map.push(symbol_and_script(word)?)
+                .map_err(AllocError::from)?;
+        }
     }
     Ok(map)
 }
 
-/// A symbol and a script, as `1=Thai`.
-pub fn symbol_and_script(word: &str) -> Result<(Symbol, ComplexScript)> {
+/// What replaces symbols, each as `4>1=Thai`; words without `>` are left out.
+pub fn replaced_of(alloc: Global, words: &str) -> Result<Vec<(Symbol, Symbol, ComplexScript)>> {
+    let mut replaced = Vec::new(alloc);
+    for word in words.split_whitespace() {
+        if let Some((from, rest)) = word.split_once('>') {
+            let (to, script) = symbol_and_script(rest)?;
+            replaced
+                .push((number_of(from)?, to, script))
+                .map_err(AllocError::from)?;
+        }
+    }
+    Ok(replaced)
+}
+
+fn symbol_and_script(word: &str) -> Result<(Symbol, ComplexScript)> {
     let (symbol, script) = word.split_once('=').context("a symbol without a script")?;
     Ok((number_of(symbol)?, script_named(script)?))
 }
 
-/// The script of this name.
-pub fn script_named(name: &str) -> Result<ComplexScript> {
+fn script_named(name: &str) -> Result<ComplexScript> {
     Ok(match name {
         "None" => ComplexScript::None,
         "Thai" => ComplexScript::Thai,

@@ -1,5 +1,6 @@
 //! Options, as the files write them.
 
+use crate::row::Row;
 use anyhow::{Result, bail};
 use icu_segmenter::options::{
     LanguageIdentifier, LineBreakOptions, LineBreakStrictness, LineBreakWordOption,
@@ -14,18 +15,9 @@ pub struct Options {
 }
 
 impl Options {
-    /// None.
-    pub fn none() -> Self {
-        Options {
-            strictness: None,
-            word_option: None,
-            language: None,
-        }
-    }
-
-    /// A strictness, a word option and a language, each of which may be `-` for none.
-    pub fn read(words: &str) -> Result<Self> {
-        let mut words = words.split_whitespace();
+    /// Those of a row: a strictness, a word option and a language, each of which may be `-` for none.
+    pub fn of(row: Row<'_>) -> Result<Self> {
+        let mut words = row.part("options").unwrap_or("").split_whitespace();
         let strictness = strictness_of(words.next().unwrap_or("-"))?;
         let word_option = word_option_of(words.next().unwrap_or("-"))?;
         let language = LanguageIdentifier::try_from_language(words.next().unwrap_or("-"));

@@ -1,203 +1,138 @@
-//! Answers by segmenters with data of their own.
+//! Segmenters with data of their own.
 
-use crate::data::{Machines, Tables, Words, both};
-use crate::lent::answer;
-use crate::question::{Engine, Kind, Manner};
-use crate::samples::Sample;
-use crate::settings::Settings;
+use crate::options::Options;
+use crate::parts::{Kind, Parts, given};
+use anyhow::Result;
 use bench::segmenter::Segmenter;
-use icu_segmenter::options::{LineBreakOptions, SentenceBreakOptions, WordBreakOptions};
-use icu_segmenter::provider::{DataError, Dictionaries};
+use icu_segmenter::options::{SentenceBreakOptions, WordBreakOptions};
 use icu_segmenter::{GraphemeClusterSegmenter, LineSegmenter, SentenceSegmenter, WordSegmenter};
-use std::alloc::Global;
+use std::mem;
 
-/// The answer by owned data. The error is what the data are refused for.
-pub fn owned_answer(
-    alloc: Global,
-    settings: &Settings,
-    kind: Kind,
-    manner: Manner,
-    sample: &Sample,
-) -> Result<String, DataError> {
-    let segmenter = segmenter_of(alloc, settings, kind)?;
-    answer(alloc, Ok(segmenter.as_borrowed()), manner, sample)
-}
-
-fn segmenter_of(alloc: Global, settings: &Settings, kind: Kind) -> Result<Segmenter, DataError> {
-    match (kind, settings.engine) {
-        (Kind::Clusters, Engine::Machine) => cluster_machine(alloc, settings),
-        (Kind::Clusters, _) => cluster_table(alloc, settings),
-        (Kind::Sentences, Engine::Machine) => sentence_machine(alloc, settings),
-        (Kind::Sentences, _) => sentence_table(alloc, settings),
-        (Kind::Words, Engine::Machine) => word_machine(alloc, settings),
-        (Kind::Words, _) => word_table(alloc, settings),
-        (Kind::Lines, Engine::Machine) => line_machine(alloc, settings),
-        (Kind::Lines, Engine::Table) => line_table(alloc, settings),
-        (Kind::Lines, Engine::Turns) => turn_table(alloc, settings),
+/// The segmenter of these parts, which are gone then.
+pub fn own(parts: &mut Parts, kind: Kind, options: &Options) -> Result<Segmenter> {
+    match kind {
+        Kind::NeoClusters | Kind::Clusters => Ok(Segmenter::Clusters(clusters(parts, kind)?)),
+        Kind::NeoSentences | Kind::Sentences => {
+            Ok(Segmenter::Sentences(sentences(parts, kind, options)?))
+        }
+        Kind::NeoWords | Kind::Words => {
+            let words = words(parts, kind)?;
+            Ok(Segmenter::Words(loaded_words(words, parts)))
+        }
+        Kind::NeoLines | Kind::Lines | Kind::Lines17 => {
+            let lines = lines(parts, kind, options)?;
+            Ok(Segmenter::Lines(loaded_lines(lines, parts)))
+        }
     }
 }
 
-fn cluster_machine(alloc: Global, settings: &Settings) -> Result<Segmenter, DataError> {
-    let machine = settings.machine.machine(alloc)?;
-    Ok(Segmenter::Clusters(GraphemeClusterSegmenter::try_new_neo(machine)?))
+fn clusters(parts: &mut Parts, kind: Kind) -> Result<GraphemeClusterSegmenter> {
+    Ok(match kind {
+        Kind::NeoClusters => GraphemeClusterSegmenter::try_new_neo(given(&mut parts.machine)?)?,
+        _ => GraphemeClusterSegmenter::try_new(given(&mut parts.table)?)?,
+    })
 }
 
-fn cluster_table(alloc: Global, settings: &Settings) -> Result<Segmenter, DataError> {
-    let table = settings.table.table(alloc)?;
-    Ok(Segmenter::Clusters(GraphemeClusterSegmenter::try_new(table)?))
-}
-
-fn sentence_machine(alloc: Global, settings: &Settings) -> Result<Segmenter, DataError> {
-    let machine = settings.machine.machine(alloc);
-    let (machine, tailoring) = both(machine, settings.tailoring(alloc))?;
+fn sentences(parts: &mut Parts, kind: Kind, options: &Options) -> Result<SentenceSegmenter> {
     let options = SentenceBreakOptions {
-        content_locale: settings.options.language(),
+        content_locale: options.language(),
         ..SentenceBreakOptions::default()
     };
-    Ok(Segmenter::Sentences(SentenceSegmenter::try_new_neo(machine, tailoring, options)?))
+    Ok(match kind {
+        Kind::NeoSentences => SentenceSegmenter::try_new_neo(
+            given(&mut parts.machine)?,
+            parts.tailoring.take(),
+            options,
+        )?,
+        _ => SentenceSegmenter::try_new(
+            given(&mut parts.table)?,
+            parts.overriding.take(),
+            options,
+        )?,
+    })
 }
 
-fn sentence_table(alloc: Global, settings: &Settings) -> Result<Segmenter, DataError> {
-    let table = settings.table.table(alloc);
-    let (table, overriding) = both(table, settings.overriding(alloc))?;
-    let options = SentenceBreakOptions::default();
-    Ok(Segmenter::Sentences(SentenceSegmenter::try_new(table, overriding, options)?))
-}
-
-fn word_machine(alloc: Global, settings: &Settings) -> Result<Segmenter, DataError> {
-    let machine = settings.machine.machine(alloc);
-    let rules = both(machine, settings.cluster_table.table(alloc));
-    let ((machine, clusters), later) = both(rules, settings.later.dictionaries(alloc))?;
+fn neo_words(parts: &mut Parts) -> Result<WordSegmenter> {
+    let machine = given(&mut parts.machine)?;
+    let clusters = given(&mut parts.cluster_table)?;
     let options = WordBreakOptions::default();
-    let words = WordSegmenter::try_new_neo_for_non_complex_scripts(machine, clusters, options);
-    loaded_words(words, later)
+    Ok(WordSegmenter::try_new_neo_for_non_complex_scripts(machine, clusters, options)?)
 }
 
-fn word_table(alloc: Global, settings: &Settings) -> Result<Segmenter, DataError> {
-    let (tables, words) = both(Tables::of(alloc, settings), Words::of(alloc, settings))?;
-    let Words { first, later } = words;
-    loaded_words(words_by_table(tables, first), later)
+fn words(parts: &mut Parts, kind: Kind) -> Result<WordSegmenter> {
+    match kind {
+        Kind::NeoWords => neo_words(parts),
+        _ => table_words(parts),
+    }
 }
 
-// Words by a pair table, with these dictionaries or by the constructor that takes none.
-fn words_by_table(
-    tables: Tables,
-    dictionaries: Option<Dictionaries>,
-) -> Result<WordSegmenter, DataError> {
-    let Tables {
-        table,
-        overriding,
-        clusters,
-    } = tables;
+// Words by a pair table, with dictionaries or by the constructor that takes none.
+fn table_words(parts: &mut Parts) -> Result<WordSegmenter> {
+    let table = given(&mut parts.table)?;
+    let clusters = given(&mut parts.cluster_table)?;
+    let overriding = parts.overriding.take();
     let options = WordBreakOptions::default();
-    match dictionaries {
-        Some(dictionaries) => {
-            WordSegmenter::try_new_dictionary(table, overriding, clusters, dictionaries, options)
+    Ok(match parts.first.take() {
+        Some(first) => {
+            WordSegmenter::try_new_dictionary(table, overriding, clusters, first, options)?
         }
         None => {
-            WordSegmenter::try_new_for_non_complex_scripts(table, overriding, clusters, options)
+            WordSegmenter::try_new_for_non_complex_scripts(table, overriding, clusters, options)?
         }
+    })
+}
+
+fn loaded_words(mut words: WordSegmenter, parts: &mut Parts) -> WordSegmenter {
+    if let Some(later) = parts.later.take() {
+        words.load_dictionary(later);
     }
+    words
 }
 
-// Words, once these dictionaries are loaded.
-fn loaded_words(
-    words: Result<WordSegmenter, DataError>,
-    later: Dictionaries,
-) -> Result<Segmenter, DataError> {
-    let mut words = words?;
-    words.load_dictionary(later);
-    Ok(Segmenter::Words(words))
-}
-
-fn line_machine(alloc: Global, settings: &Settings) -> Result<Segmenter, DataError> {
-    let later = settings.later.dictionaries(alloc);
-    let (machines, later) = both(Machines::of(alloc, settings), later)?;
-    loaded_lines(
-        lines_by_machine(machines, settings.options.of_lines()),
-        later,
-    )
-}
-
-fn lines_by_machine(
-    machines: Machines,
-    options: LineBreakOptions<'_>,
-) -> Result<LineSegmenter, DataError> {
-    let Machines {
+fn neo_lines(parts: &mut Parts, options: &Options) -> Result<LineSegmenter> {
+    let machine = given(&mut parts.machine)?;
+    let clusters = given(&mut parts.cluster_machine)?;
+    Ok(LineSegmenter::try_new_neo_for_non_complex_scripts(
         machine,
-        tailorings,
+        mem::take(&mut parts.tailorings),
         clusters,
-    } = machines;
-    LineSegmenter::try_new_neo_for_non_complex_scripts(machine, tailorings, clusters, options)
+        options.of_lines(),
+    )?)
 }
 
-fn line_table(alloc: Global, settings: &Settings) -> Result<Segmenter, DataError> {
-    let (tables, words) = both(Tables::of(alloc, settings), Words::of(alloc, settings))?;
-    let Words { first, later } = words;
-    loaded_lines(
-        lines_by_table(tables, first, settings.options.of_lines()),
-        later,
-    )
-}
-
-// Lines by a pair table, with these dictionaries or by the constructor that takes none.
-fn lines_by_table(
-    tables: Tables,
-    dictionaries: Option<Dictionaries>,
-    options: LineBreakOptions<'_>,
-) -> Result<LineSegmenter, DataError> {
-    let Tables {
-        table,
-        clusters,
-        ..
-    } = tables;
-    match dictionaries {
-        Some(dictionaries) => {
-            LineSegmenter::try_new_dictionary(table, clusters, dictionaries, options)
-        }
-        None => LineSegmenter::try_new_for_non_complex_scripts(table, clusters, options),
+fn lines(parts: &mut Parts, kind: Kind, options: &Options) -> Result<LineSegmenter> {
+    match kind {
+        Kind::NeoLines => neo_lines(parts, options),
+        Kind::Lines17 => lines_17(parts, options),
+        _ => table_lines(parts, options),
     }
 }
 
-// Lines, once these dictionaries are loaded.
-fn loaded_lines(
-    lines: Result<LineSegmenter, DataError>,
-    later: Dictionaries,
-) -> Result<Segmenter, DataError> {
-    Ok(Segmenter::Lines(lines_with(lines, later)?))
+// Lines by a pair table, with dictionaries or by the constructor that takes none.
+fn table_lines(parts: &mut Parts, options: &Options) -> Result<LineSegmenter> {
+    let table = given(&mut parts.table)?;
+    let clusters = given(&mut parts.cluster_table)?;
+    let options = options.of_lines();
+    Ok(match parts.first.take() {
+        Some(first) => LineSegmenter::try_new_dictionary(table, clusters, first, options)?,
+        None => LineSegmenter::try_new_for_non_complex_scripts(table, clusters, options)?,
+    })
 }
 
-fn turn_table(alloc: Global, settings: &Settings) -> Result<Segmenter, DataError> {
-    let (tables, words) = both(Tables::of(alloc, settings), Words::of(alloc, settings))?;
-    let Words { first, later } = words;
-    loaded_lines(
-        lines_by_turns(tables, first, settings.options.of_lines()),
-        later,
-    )
+fn lines_17(parts: &mut Parts, options: &Options) -> Result<LineSegmenter> {
+    let table = given(&mut parts.table)?;
+    let clusters = given(&mut parts.cluster_table)?;
+    let options = options.of_lines();
+    Ok(LineSegmenter::try_new_17_for_non_complex_scripts(table, clusters, options)?)
 }
 
-fn lines_by_turns(
-    tables: Tables,
-    first: Option<Dictionaries>,
-    options: LineBreakOptions<'_>,
-) -> Result<LineSegmenter, DataError> {
-    let Tables {
-        table,
-        clusters,
-        ..
-    } = tables;
-    let lines = LineSegmenter::try_new_17_for_non_complex_scripts(table, clusters, options);
-    match first {
-        Some(first) => lines_with(lines, first),
-        None => lines,
+// Lines, once the words are loaded that they aren't made with.
+fn loaded_lines(mut lines: LineSegmenter, parts: &mut Parts) -> LineSegmenter {
+    if let Some(first) = parts.first.take() {
+        lines.load_dictionary(first);
     }
-}
-
-fn lines_with(
-    lines: Result<LineSegmenter, DataError>,
-    dictionaries: Dictionaries,
-) -> Result<LineSegmenter, DataError> {
-    let mut lines = lines?;
-    lines.load_dictionary(dictionaries);
-    Ok(lines)
+    if let Some(later) = parts.later.take() {
+        lines.load_dictionary(later);
+    }
+    lines
 }

@@ -1,114 +1,101 @@
-//! Pieces of one script, and the cuts of pieces and of runs.
+//! Pieces of one script, the cuts of pieces and of runs, and what dictionaries answer.
 
-use crate::data::both;
-use crate::samples::Sample;
-use crate::settings::Settings;
+use crate::data::machine_of;
+use crate::dictionaries::{all_words, thai, words_of};
+use crate::numbers::number_of;
+use crate::row::Row;
+use crate::samples::{Sample, quoted};
+use anyhow::{Result, bail};
 use bench::found::push_word;
-use icu_segmenter::GraphemeClusterSegmenter;
-use icu_segmenter::complex::ComplexPayloadBorrowed;
+use bench::segmenter::Text;
+use icu_segmenter::complex::{ComplexPayloadBorrowed, ComplexPayloadsBorrowed};
 use icu_segmenter::indices::{StrCharIndices, Utf16Indices};
-use icu_segmenter::provider::{DataError, Dictionaries, DictionaryBreakData};
-use seg_complex::complex::ComplexPayloadsBorrowed;
+use icu_segmenter::provider::DictionaryBreakData;
+use icu_segmenter::{GraphemeClusterSegmenter, GraphemeClusterSegmenterBorrowed};
 use seg_complex::runs::RunCuts;
 use seg_complex::script_iter::ScriptIterator;
+use seg_data::provider::DictionaryCursor;
+use seg_data::words::WordCursor;
 use seg_text::cursor::Cursor;
 use std::alloc::{AllocError, Global};
 
-/// The cuts of a sample as one piece, by the words of Thai and the clusters of the machine. The error is what the data are refused
-/// for.
-pub fn cuts_answer(
-    alloc: Global,
-    settings: &Settings,
-    sample: &Sample,
-) -> Result<String, DataError> {
-    let dictionary = settings.words.thai(alloc);
-    let (dictionary, clusters) = both(dictionary, clusters_of(alloc, settings))?;
-    let cuts = cuts_of(alloc, &dictionary, &clusters, settings.offset, sample);
-    Ok(shown_cuts(alloc, cuts)?)
+/// The cuts of a text as one piece, by the words of Thai and the clusters of the machine.
+pub fn cuts(alloc: Global, row: Row<'_>) -> Result<String> {
+    let dictionary = thai(alloc, row)?;
+    let clusters = clusters_of(alloc, row)?;
+    cuts_by(alloc, row, &dictionary, clusters.as_borrowed())
 }
 
-fn clusters_of(alloc: Global, settings: &Settings) -> Result<GraphemeClusterSegmenter, DataError> {
-    GraphemeClusterSegmenter::try_new_neo(settings.machine.machine(alloc)?)
+fn clusters_of(alloc: Global, row: Row<'_>) -> Result<GraphemeClusterSegmenter> {
+    Ok(GraphemeClusterSegmenter::try_new_neo(machine_of(alloc, row)?)?)
 }
 
-fn cuts_of(
+// No piece of a row has so many units.
+const LONGEST: usize = 10_000;
+
+fn cuts_by(
     alloc: Global,
+    row: Row<'_>,
     dictionary: &DictionaryBreakData,
-    clusters: &GraphemeClusterSegmenter,
-    offset: u8,
-    sample: &Sample,
-) -> Result<Vec<usize>, AllocError> {
-    let offset = usize::from(offset);
-    let clusters = clusters.as_borrowed();
+    clusters: GraphemeClusterSegmenterBorrowed<'_>,
+) -> Result<String> {
+    let offset = usize::from(number_of(row.part("offset").unwrap_or("0"))?);
     let piece = ComplexPayloadBorrowed::Dict(dictionary);
-    match sample {
-        Sample::Text(text) if text.len() < 10_000 => {
-            piece
-                .segment_str(text.as_str(), clusters, offset)
-                .collect(alloc)
+    let sample = Sample::of(alloc, row)?;
+    let cuts: Vec<usize> = match sample.text() {
+        Text::Str(text) if text.len() < LONGEST => {
+            piece.segment_str(text, clusters, offset).collect(alloc)?
         }
-        Sample::Utf8(bytes) if bytes.len() < 10_000 => {
-            piece
-                .segment_utf8(bytes.as_slice(), clusters, offset)
-                .collect(alloc)
+        Text::Utf8(bytes) if bytes.len() < LONGEST => {
+            piece.segment_utf8(bytes, clusters, offset).collect(alloc)?
         }
-        Sample::Utf16(units) if units.len() < 10_000 => {
-            piece
-                .segment_utf16(units.as_slice(), clusters, offset)
-                .collect(alloc)
-        }
-        _ => Ok(Vec::new(alloc)),
-    }
+        Text::Utf16(units) if units.len() < LONGEST => piece
+            .segment_utf16(units, clusters, offset)
+            .collect(alloc)?,
+        _ => bail!("a text that is too long"),
+    };
+    Ok(shown_cuts(alloc, cuts.as_slice())?)
 }
 
-/// The cuts of a run, by the words and the clusters of the machine. The error is what the data are refused for.
-pub fn run_cuts_answer(
-    alloc: Global,
-    settings: &Settings,
-    sample: &Sample,
-) -> Result<String, DataError> {
-    let clusters = clusters_of(alloc, settings);
-    let clusters_and_first = both(clusters, settings.words.dictionaries(alloc));
-    let later = settings.later.dictionaries(alloc);
-    let ((clusters, first), later) = both(clusters_and_first, later)?;
-    let cuts = run_cuts_of(alloc, &clusters, &first, &later, sample);
-    Ok(shown_cuts(alloc, cuts)?)
-}
-
-fn run_cuts_of(
-    alloc: Global,
-    clusters: &GraphemeClusterSegmenter,
-    first: &Dictionaries,
-    later: &Dictionaries,
-    sample: &Sample,
-) -> Result<Vec<usize>, AllocError> {
+/// The cuts of a run, by the words and the clusters of the machine.
+pub fn run_cuts(alloc: Global, row: Row<'_>) -> Result<String> {
+    let clusters = clusters_of(alloc, row)?;
+    let first = all_words(alloc, row.parts_of("words "))?;
+    let later = all_words(alloc, row.parts_of("later "))?;
     let mut payloads = ComplexPayloadsBorrowed::new(first.as_borrowed(), clusters.as_borrowed());
     payloads.load(later.as_borrowed());
-    let text = match sample {
-        Sample::Text(text) => text.as_str(),
-        _ => "",
-    };
-    RunCuts::new(payloads, StrCharIndices::new(text)).collect(alloc)
+    run_cuts_by(alloc, row, payloads)
 }
 
-fn shown_cuts(alloc: Global, cuts: Result<Vec<usize>, AllocError>) -> Result<String, AllocError> {
-    let cuts = cuts?;
+fn run_cuts_by(
+    alloc: Global,
+    row: Row<'_>,
+    payloads: ComplexPayloadsBorrowed<'_>,
+) -> Result<String> {
+    let text = quoted(alloc, row)?;
+    let text = StrCharIndices::new(text.as_str());
+    let cuts: Vec<usize> = RunCuts::new(payloads, text).collect(alloc)?;
+    Ok(shown_cuts(alloc, cuts.as_slice())?)
+}
+
+fn shown_cuts(alloc: Global, cuts: &[usize]) -> Result<String, AllocError> {
     let mut out = String::new(alloc);
-    for place in &cuts {
+    for place in cuts {
         let word = format!(in alloc; "{place}")?;
         push_word(&mut out, word.as_str())?;
     }
     Ok(out)
 }
 
-/// The pieces of a text: where each begins and ends, and its script. The only error is want of memory.
-pub fn pieces_answer(alloc: Global, sample: &Sample) -> Result<String, DataError> {
-    let pieces = match sample {
-        Sample::Text(text) => shown_pieces(alloc, StrCharIndices::new(text.as_str()))?,
-        Sample::Utf16(units) => shown_pieces(alloc, Utf16Indices::new(units.as_slice()))?,
-        _ => String::new(alloc),
+/// The pieces of a text: where each begins and ends, and its script.
+pub fn pieces(alloc: Global, row: Row<'_>) -> Result<String> {
+    let sample = Sample::of(alloc, row)?;
+    let pieces = match sample.text() {
+        Text::Str(text) => shown_pieces(alloc, StrCharIndices::new(text)),
+        Text::Utf16(units) => shown_pieces(alloc, Utf16Indices::new(units)),
+        _ => Ok(String::new(alloc)),
     };
-    Ok(pieces)
+    Ok(pieces?)
 }
 
 fn shown_pieces<I: Cursor>(alloc: Global, text: I) -> Result<String, AllocError> {
@@ -134,4 +121,57 @@ fn shown_pieces<I: Cursor>(alloc: Global, text: I) -> Result<String, AllocError>
         out.push('?')?;
     }
     Ok(out)
+}
+
+/// What the dictionary of Thai answers after a text, or after each of its words where the row asks its data.
+pub fn answers(alloc: Global, row: Row<'_>) -> Result<String> {
+    let dictionary = thai(alloc, row)?;
+    if row.part("data").is_some() {
+        let words = words_of(alloc, row.parts_of("words ").words("th")?)?;
+        return Ok(answer_after_each(&dictionary, words.as_slice()).to_owned(alloc)?);
+    }
+    let text = quoted(alloc, row)?;
+    Ok(answer_after(&dictionary, text.as_str()).to_owned(alloc)?)
+}
+
+// What a dictionary answers after each of these words, or the first answer other than that it is a word.
+fn answer_after_each(dictionary: &DictionaryBreakData, words: &[String]) -> &'static str {
+    for word in words {
+        let answer = answer_after(dictionary, word.as_str());
+        if answer != "word" {
+            return answer;
+        }
+    }
+    "word"
+}
+
+/// What a cursor answers at its start, where a fork of it has read a text.
+pub fn forks(alloc: Global, row: Row<'_>) -> Result<String> {
+    let dictionary = thai(alloc, row)?;
+    let text = quoted(alloc, row)?;
+    let start = dictionary.cursor();
+    let after = answer_of(&read(start.fork(), text.as_str()));
+    let before = answer_of(&start);
+    Ok(format!(in alloc; "{after}; before, {before}")?)
+}
+
+fn answer_after(dictionary: &DictionaryBreakData, text: &str) -> &'static str {
+    answer_of(&read(dictionary.cursor(), text))
+}
+
+fn read<'data>(mut cursor: DictionaryCursor<'data>, text: &str) -> DictionaryCursor<'data> {
+    for character in text.chars() {
+        cursor.step(character as u32);
+    }
+    cursor
+}
+
+// Whether what was read is a word, and whether a longer one begins with it.
+fn answer_of(cursor: &DictionaryCursor<'_>) -> &'static str {
+    match (cursor.is_word(), cursor.goes_on()) {
+        (true, true) => "word, goes on",
+        (true, false) => "word",
+        (false, true) => "goes on",
+        (false, false) => "neither",
+    }
 }

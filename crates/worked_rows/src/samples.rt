@@ -1,40 +1,50 @@
-//! What a row asks.
+//! The texts that rows ask.
 
 use crate::numbers::hex_of;
-use anyhow::{Context, Result, bail};
+use crate::row::Row;
+use anyhow::{Context, Result};
+use bench::segmenter::Text;
 use std::alloc::{AllocError, Global};
 
-/// What a row asks.
+/// The text of a row.
 #[derive(Drop)]
 pub enum Sample {
-    /// A text, in each encoding that has it.
-    Text(String),
+    /// A text, for each encoding that has it.
+    Str(String),
     /// Bytes in UTF-8 alone.
     Utf8(Vec<u8>),
     /// Bytes in Latin-1 alone.
     Latin1(Vec<u8>),
     /// Units in UTF-16 alone.
     Utf16(Vec<u16>),
-    /// The short texts, of which the boundaries are to agree in all encodings.
-    ShortTexts,
-    /// The data alone: whether they are accepted.
-    Data,
 }
 
-/// The sample of a row: a text between quotes, an encoding and its bytes or units in hexadecimal digits, or a name. The errors are
-/// want of memory, and a row that can't be read.
-pub fn sample_of(alloc: Global, asked: &str) -> Result<Sample> {
-    if asked.starts_with('"') {
-        return Ok(Sample::Text(quoted(alloc, asked)?));
+impl Sample {
+    /// The text of a row: between quotes, or an encoding and its bytes or units in hexadecimal digits; empty where there is none.
+    pub fn of(alloc: Global, row: Row<'_>) -> Result<Self> {
+        if let Some(text) = row.quoted() {
+            return Ok(Sample::Str(unescaped(alloc, text)?));
+        }
+        if let Some(words) = row.part("utf8") {
+            return Ok(Sample::Utf8(bytes_of(alloc, words)?));
+        }
+        if let Some(words) = row.part("latin1") {
+            return Ok(Sample::Latin1(bytes_of(alloc, words)?));
+        }
+        match row.part("utf16") {
+            Some(words) => Ok(Sample::Utf16(units_of(alloc, words)?)),
+            None => Ok(Sample::Str(String::new(alloc))),
+        }
     }
-    let (name, words) = asked.split_once(' ').unwrap_or((asked, ""));
-    match name {
-        "utf8" => Ok(Sample::Utf8(bytes_of(alloc, words)?)),
-        "latin1" => Ok(Sample::Latin1(bytes_of(alloc, words)?)),
-        "utf16" => Ok(Sample::Utf16(units_of(alloc, words)?)),
-        "short-texts" => Ok(Sample::ShortTexts),
-        "data" => Ok(Sample::Data),
-        _ => bail!("no text, and no other question"),
+
+    /// The same, lent.
+    pub fn text(&self) -> Text<'_> {
+        match self {
+            Sample::Str(text) => Text::Str(text.as_str()),
+            Sample::Utf8(bytes) => Text::Utf8(bytes.as_slice()),
+            Sample::Latin1(bytes) => Text::Latin1(bytes.as_slice()),
+            Sample::Utf16(units) => Text::Utf16(units.as_slice()),
+        }
     }
 }
 
@@ -58,13 +68,9 @@ fn units_of(alloc: Global, words: &str) -> Result<Vec<u16>> {
     Ok(units)
 }
 
-/// The text between quotes. The errors are want of memory, and an escape or a quote that is missing.
-pub fn quoted(alloc: Global, asked: &str) -> Result<String> {
-    let text = asked
-        .strip_prefix('"')
-        .and_then(|rest| rest.strip_suffix('"'))
-        .context("a quote is missing")?;
-    unescaped(alloc, text)
+/// The text of a row between quotes, or an empty one.
+pub fn quoted(alloc: Global, row: Row<'_>) -> Result<String> {
+    unescaped(alloc, row.quoted().unwrap_or(""))
 }
 
 /// The text with these escapes: `\n`, `\r`, a code point as `\u{301}`, and a text so often, as `\*3{ab}`.

@@ -1,7 +1,0 @@
-use Rattle.std.proofs.Common.{◌≡◌, ◌+◌, ◌-◌, refl, arith}
-use Rattle.data_rows.proofs.texts.slice_in.Goals as goal
-
-pub slice-requires : goal.slice-requires
-slice-requires g c κs =
-    let parts : c.args.from + (c.args.to - c.args.from) ≡ c.args.to = omega (arith, c.requires) in
-    ((refl, tt), (c.args.from, c.args.to - c.args.from, c.place_after-start.ensures, rw parts c.place_after-stop.ensures))

@@ -1,0 +1,142 @@
+//! The boundaries of texts in all encodings, counted in code points.
+
+use bench::found::{Found, shown};
+use bench::segmenter::{SegmenterBorrowed, Text, cluster_boundaries};
+use icu_segmenter::GraphemeClusterSegmenterBorrowed;
+use icu_segmenter::indices::{Utf8CharIndices, Utf16Indices};
+use std::alloc::{AllocError, Global};
+
+/// The boundaries of a text as rows have them; of a `str`, where those in the other encodings are at equal ordinals.
+pub fn boundaries_in_all(
+    alloc: Global,
+    segmenter: SegmenterBorrowed<'_>,
+    text: Text<'_>,
+) -> Result<String, AllocError> {
+    let found = segmenter.boundaries(alloc, text)?;
+    match text {
+        Text::Str(text) if !agrees(alloc, segmenter, text, found.as_slice())? => {
+            "other boundaries in another encoding".to_owned(alloc)
+        }
+        _ => shown(alloc, found.as_slice()),
+    }
+}
+
+/// Whether the boundaries of a text are at equal ordinals in the encodings that have it.
+pub fn agrees_in_all(
+    alloc: Global,
+    segmenter: SegmenterBorrowed<'_>,
+    text: &str,
+) -> Result<bool, AllocError> {
+    let found = segmenter.boundaries(alloc, Text::Str(text))?;
+    agrees(alloc, segmenter, text, found.as_slice())
+}
+
+/// Whether two segmenters find the same clusters.
+pub fn has_same_clusters(
+    alloc: Global,
+    one: GraphemeClusterSegmenterBorrowed<'_>,
+    other: GraphemeClusterSegmenterBorrowed<'_>,
+    text: &str,
+) -> Result<bool, AllocError> {
+    let found = cluster_boundaries(alloc, one, Text::Str(text))?;
+    let expected = cluster_boundaries(alloc, other, Text::Str(text))?;
+    Ok(found.as_slice() == expected.as_slice())
+}
+
+// Whether boundaries of a text, which are those in `str`, are at equal ordinals in the encodings that have it.
+fn agrees(
+    alloc: Global,
+    segmenter: SegmenterBorrowed<'_>,
+    text: &str,
+    found: &[(usize, char)],
+) -> Result<bool, AllocError> {
+    let bytes: Vec<usize> = Utf8CharIndices::new(text.as_bytes())
+        .map(|item| item.0)
+        .collect(alloc)?;
+    let expected = ordinals(alloc, found, bytes.as_slice())?;
+    let in_utf8 = segmenter.boundaries(alloc, Text::Utf8(text.as_bytes()))?;
+    Ok(
+        in_utf8.as_slice() == found
+            && agrees_in_utf16(alloc, segmenter, text, expected.as_slice())?
+            && agrees_in_latin1(alloc, segmenter, text, expected.as_slice())?,
+    )
+}
+
+fn agrees_in_utf16(
+    alloc: Global,
+    segmenter: SegmenterBorrowed<'_>,
+    text: &str,
+    expected: &[(usize, char)],
+) -> Result<bool, AllocError> {
+    let units: Vec<u16> = text.encode_utf16().collect(alloc)?;
+    let places: Vec<usize> = Utf16Indices::new(units.as_slice())
+        .map(|item| item.0)
+        .collect(alloc)?;
+    let found = segmenter.boundaries(alloc, Text::Utf16(units.as_slice()))?;
+    let found = ordinals(alloc, found.as_slice(), places.as_slice())?;
+    Ok(found.as_slice() == expected)
+}
+
+// True also where Latin-1 hasn't the text.
+fn agrees_in_latin1(
+    alloc: Global,
+    segmenter: SegmenterBorrowed<'_>,
+    text: &str,
+    expected: &[(usize, char)],
+) -> Result<bool, AllocError> {
+    let mut bytes = Vec::new(alloc);
+    for character in text.chars() {
+        let Ok(byte) = u8::try_from(character as u32) else {
+            return Ok(true);
+        };
+        bytes.push(byte)?;
+    }
+    let found = segmenter.boundaries(alloc, Text::Latin1(bytes.as_slice()))?;
+    Ok(found.as_slice() == expected)
+}
+
+// The ordinals of boundaries, in code points, where the items have these places.
+fn ordinals(
+    alloc: Global,
+    boundaries: &[(usize, char)],
+    items: &[usize],
+) -> Result<Found, AllocError> {
+    let mut found = Vec::new(alloc);
+    for (boundary, mark) in boundaries {
+        let ordinal = items.iter().filter(|place| **place < *boundary).count();
+        found.push((ordinal, *mark))?;
+    }
+    Ok(found)
+}
+
+// The code points of short texts.
+const CODE_POINTS: [char; 10] = [
+    'a',
+    '\r',
+    '\n',
+    ' ',
+    '\u{301}',
+    '\u{E01}',
+    '\u{E34}',
+    '\u{4E00}',
+    '\u{20000}',
+    '\u{FFFD}',
+];
+
+/// How many texts there are of at most three of ten code points.
+pub const SHORT_TEXTS: usize = 1111;
+
+/// The text of this number: the shorter ones come first.
+pub fn short_text(alloc: Global, number: usize) -> Result<String, AllocError> {
+    let mut text = String::new(alloc);
+    let mut left = number;
+    for _ in 0..3 {
+        if left == 0 {
+            break;
+        }
+        left -= 1;
+        text.push(CODE_POINTS[left % 10])?;
+        left /= 10;
+    }
+    Ok(text)
+}

@@ -1,0 +1,110 @@
+//! Small answers: numbers, names and texts that callers see.
+
+use crate::numbers::{hex_of, number_of};
+use crate::row::Row;
+use anyhow::{Context, Result, bail};
+use icu_segmenter::memo::MemoError;
+use icu_segmenter::options::WordType;
+use icu_segmenter::provider::{Acceptance, BreakState, DataError, LanguageIdentifier};
+use icu_segmenter::wrap::WrapError;
+use seg_complex::script_iter::script_of;
+use std::alloc::Global;
+
+/// The script of a code point in hexadecimal digits.
+pub fn script(alloc: Global, row: Row<'_>) -> Result<String> {
+    let script = script_of(hex_of(row.asked())?);
+    Ok(format!(in alloc; "{script:?}")?)
+}
+
+/// What a byte of a pair table stands for, which stands for that byte.
+pub fn break_state(alloc: Global, row: Row<'_>) -> Result<String> {
+    let byte = number_of(row.asked())?;
+    let state = BreakState::from_unaligned(byte);
+    if state.to_unaligned() != byte {
+        bail!("another byte");
+    }
+    Ok(format!(in alloc; "{state:?}")?)
+}
+
+/// What a byte of a machine accepts, and the byte that stands for that.
+pub fn acceptance(alloc: Global, row: Row<'_>) -> Result<String> {
+    let acceptance = Acceptance::from_unaligned(number_of(row.asked())?);
+    let byte = acceptance.to_unaligned();
+    Ok(format!(in alloc; "{acceptance:?}, {byte}")?)
+}
+
+/// Whether a type of words is word-like.
+pub fn word_type(alloc: Global, row: Row<'_>) -> Result<String> {
+    let word_type = match row.asked() {
+        "none" => WordType::None,
+        "number" => WordType::Number,
+        "letter" => WordType::Letter,
+        _ => bail!("no type"),
+    };
+    let is_word_like = word_type.is_word_like();
+    Ok(format!(in alloc; "{is_word_like}")?)
+}
+
+/// The letters of the language that a text names, or a hyphen.
+pub fn language(alloc: Global, row: Row<'_>) -> Result<String> {
+    let found = LanguageIdentifier::try_from_language(row.quoted().unwrap_or(""));
+    let letters = match &found {
+        Some(language) => language.language(),
+        None => "-",
+    };
+    Ok(letters.to_owned(alloc)?)
+}
+
+/// The text of an error of this name.
+pub fn error(alloc: Global, row: Row<'_>) -> Result<String> {
+    let text = match row.asked() {
+        "MemoError Memory" => format!(in alloc; "{}", MemoError::Memory),
+        "MemoError NotNeo" => format!(in alloc; "{}", MemoError::NotNeo),
+        "MemoError HasDictionary" => format!(in alloc; "{}", MemoError::HasDictionary),
+        "MemoError TooLarge" => format!(in alloc; "{}", MemoError::TooLarge),
+        "WrapError NotNeo" => format!(in alloc; "{}", WrapError::NotNeo),
+        _ => bail!("no error"),
+    };
+    Ok(text?)
+}
+
+// The faults of data.
+const FAULTS: [DataError; 19] = [
+    DataError::Memory,
+    DataError::RangeOrder,
+    DataError::RangePast10FFFF,
+    DataError::TableSize,
+    DataError::ClassOutOfRange,
+    DataError::StateOutOfRange,
+    DataError::StartRowKeeps,
+    DataError::ComplexItems,
+    DataError::ComplexBelow0100,
+    DataError::ComplexClassNamed,
+    DataError::StateCount,
+    DataError::TransitionSize,
+    DataError::TransitionOutOfRange,
+    DataError::SymbolOutOfRange,
+    DataError::TooManyLookaheads,
+    DataError::LookaheadOutOfRange,
+    DataError::EndCycle,
+    DataError::Stalls,
+    DataError::MissingTailoring,
+];
+
+/// The number of the fault of this name, and its text as far as its second word.
+pub fn fault(alloc: Global, row: Row<'_>) -> Result<String> {
+    for fault in FAULTS {
+        let name = format!(in alloc; "{fault:?}")?;
+        if name.as_str() == row.asked() {
+            return numbered(alloc, fault);
+        }
+    }
+    bail!("no fault of this name")
+}
+
+fn numbered(alloc: Global, fault: DataError) -> Result<String> {
+    let number = fault.number();
+    let shown = format!(in alloc; "{fault}")?;
+    let (head, _text) = shown.as_str().split_once(": ").context("no colon")?;
+    Ok(format!(in alloc; "{number}, {head}:")?)
+}

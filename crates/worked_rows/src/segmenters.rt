@@ -1,0 +1,148 @@
+//! What segmenters find, by data that are lent and by data of their own.
+
+use crate::agreement::{
+    SHORT_TEXTS, agrees_in_all, boundaries_in_all, has_same_clusters, short_text,
+};
+use crate::answers::or_fault;
+use crate::data::{machine_of, table_of};
+use crate::lent::lend;
+use crate::memos::memo_answer;
+use crate::options::Options;
+use crate::owned::own;
+use crate::parts::{Kind, Parts, kind_of};
+use crate::row::Row;
+use crate::samples::Sample;
+use anyhow::{Result, bail};
+use bench::segmenter::SegmenterBorrowed;
+use icu_segmenter::GraphemeClusterSegmenterBorrowed;
+use std::alloc::{AllocError, Global};
+
+/// What is asked of a segmenter.
+#[derive(Clone, Copy)]
+pub enum Manner {
+    /// The boundaries.
+    Boundaries,
+    /// Those of its memo, and how many look-ups there were.
+    Memo,
+    /// How an iterator is shown.
+    Shown,
+}
+
+/// The answer by lent data, which is to be that by owned ones.
+pub fn segmenter_answer(
+    alloc: Global,
+    row: Row<'_>,
+    kind: &str,
+    engine: &str,
+    manner: Manner,
+) -> Result<String> {
+    let kind = kind_of(kind, engine)?;
+    let mut parts = Parts::of(alloc, row, kind)?;
+    answer_by(alloc, row, kind, manner, &mut parts)
+}
+
+fn answer_by(
+    alloc: Global,
+    row: Row<'_>,
+    kind: Kind,
+    manner: Manner,
+    parts: &mut Parts,
+) -> Result<String> {
+    let lent = or_fault(alloc, lent_answer(alloc, row, kind, manner, parts))?;
+    let owned = or_fault(alloc, owned_answer(alloc, row, kind, manner, parts))?;
+    if lent != owned {
+        bail!("another answer by owned data");
+    }
+    Ok(lent)
+}
+
+fn lent_answer(
+    alloc: Global,
+    row: Row<'_>,
+    kind: Kind,
+    manner: Manner,
+    parts: &Parts,
+) -> Result<String> {
+    let options = Options::of(row)?;
+    answer(alloc, row, manner, lend(parts, kind, &options)?)
+}
+
+fn owned_answer(
+    alloc: Global,
+    row: Row<'_>,
+    kind: Kind,
+    manner: Manner,
+    parts: &mut Parts,
+) -> Result<String> {
+    let options = Options::of(row)?;
+    let segmenter = own(parts, kind, &options)?;
+    answer(alloc, row, manner, segmenter.as_borrowed())
+}
+
+fn answer(
+    alloc: Global,
+    row: Row<'_>,
+    manner: Manner,
+    segmenter: SegmenterBorrowed<'_>,
+) -> Result<String> {
+    let sample = Sample::of(alloc, row)?;
+    match manner {
+        Manner::Memo => memo_answer(alloc, segmenter, sample.text()),
+        Manner::Shown => Ok(shown_answer(alloc, segmenter)?),
+        Manner::Boundaries if row.part("data").is_some() => Ok("accepted".to_owned(alloc)?),
+        Manner::Boundaries if row.part("short-texts").is_some() => {
+            Ok(short_texts_answer(alloc, segmenter)?)
+        }
+        Manner::Boundaries => Ok(boundaries_in_all(alloc, segmenter, sample.text())?),
+    }
+}
+
+// How an iterator of words or lines is shown: the name before its fields.
+fn shown_answer(alloc: Global, segmenter: SegmenterBorrowed<'_>) -> Result<String, AllocError> {
+    let shown = match segmenter {
+        SegmenterBorrowed::Words(words) => format!(in alloc; "{:?}", words.segment_latin1(b"a"))?,
+        SegmenterBorrowed::Lines(lines) => format!(in alloc; "{:?}", lines.segment_latin1(b"a"))?,
+        _ => String::new(alloc),
+    };
+    match shown.as_str().split_once(" { ") {
+        Some((name, _)) => name.to_owned(alloc),
+        None => Ok(shown),
+    }
+}
+
+// Whether the boundaries of all short texts are at equal ordinals in all encodings, or the first text of which they aren't.
+fn short_texts_answer(
+    alloc: Global,
+    segmenter: SegmenterBorrowed<'_>,
+) -> Result<String, AllocError> {
+    for number in 0..SHORT_TEXTS {
+        let text = short_text(alloc, number)?;
+        if !agrees_in_all(alloc, segmenter, text.as_str())? {
+            return Ok(text);
+        }
+    }
+    "agree".to_owned(alloc)
+}
+
+/// Whether the clusters of all short texts are the same by the table and by the machine.
+pub fn same_clusters(alloc: Global, row: Row<'_>) -> Result<String> {
+    let table = table_of(alloc, row)?;
+    let machine = machine_of(alloc, row)?;
+    let classic = GraphemeClusterSegmenterBorrowed::new(&table)?;
+    let neo = GraphemeClusterSegmenterBorrowed::new_neo(&machine)?;
+    Ok(same_clusters_by(alloc, classic, neo)?)
+}
+
+fn same_clusters_by(
+    alloc: Global,
+    classic: GraphemeClusterSegmenterBorrowed<'_>,
+    neo: GraphemeClusterSegmenterBorrowed<'_>,
+) -> Result<String, AllocError> {
+    for number in 0..SHORT_TEXTS {
+        let text = short_text(alloc, number)?;
+        if !has_same_clusters(alloc, classic, neo, text.as_str())? {
+            return Ok(text);
+        }
+    }
+    "agree".to_owned(alloc)
+}

@@ -1,0 +1,96 @@
+//! Lines wrapped to columns.
+
+use crate::options::Options;
+use crate::owned::own;
+use crate::parts::{Kind, Parts};
+use crate::row::Row;
+use crate::samples::quoted;
+use anyhow::{Result, bail};
+use bench::segmenter::SegmenterBorrowed;
+use icu_segmenter::wrap::LineWrapper;
+use std::alloc::{AllocError, Global};
+
+/// The wrapped lines of a `str`, which are those of its bytes: where each ends, in bytes, the columns that it takes, and `!` where it
+/// must end there.
+pub fn wrapped(alloc: Global, row: Row<'_>) -> Result<String> {
+    let mut parts = Parts::of(alloc, row, Kind::NeoLines)?;
+    wrapped_by(alloc, row, &mut parts)
+}
+
+fn wrapped_by(alloc: Global, row: Row<'_>, parts: &mut Parts) -> Result<String> {
+    let segmenter = own(parts, Kind::NeoLines, &Options::of(row)?)?;
+    let SegmenterBorrowed::Lines(lines) = segmenter.as_borrowed() else {
+        bail!("no segmenter of lines")
+    };
+    wrapped_in(alloc, row, LineWrapper::new(lines)?)
+}
+
+fn wrapped_in(alloc: Global, row: Row<'_>, wrapper: LineWrapper<'_>) -> Result<String> {
+    let columns = row.number("columns")?;
+    let text = quoted(alloc, row)?;
+    let lines = lines_of(alloc, wrapper, text.as_str(), columns)?;
+    if lines != lines_of_bytes(alloc, wrapper, text.as_bytes(), columns)? {
+        bail!("other lines of the bytes");
+    }
+    Ok(lines)
+}
+
+// The lines of a str.
+fn lines_of(
+    alloc: Global,
+    wrapper: LineWrapper<'_>,
+    text: &str,
+    columns: usize,
+) -> Result<String, AllocError> {
+    let mut lines = wrapper.wrap_str(text, columns);
+    let (mut out, mut end) = (String::new(alloc), 0usize);
+    for _ in 0..u64::MAX {
+        let Some(line) = lines.next() else {
+            break;
+        };
+        end = end.saturating_add(line.text().len());
+        push_line(alloc, &mut out, end, line.columns(), line.is_mandatory())?;
+    }
+    if lines.next().is_some() || lines.next().is_some() {
+        out.push('?')?;
+    }
+    Ok(out)
+}
+
+// The lines of bytes.
+fn lines_of_bytes(
+    alloc: Global,
+    wrapper: LineWrapper<'_>,
+    bytes: &[u8],
+    columns: usize,
+) -> Result<String, AllocError> {
+    let mut lines = wrapper.wrap_utf8(bytes, columns);
+    let (mut out, mut end) = (String::new(alloc), 0usize);
+    for _ in 0..u64::MAX {
+        let Some(line) = lines.next() else {
+            break;
+        };
+        end = end.saturating_add(line.bytes().len());
+        push_line(alloc, &mut out, end, line.columns(), line.is_mandatory())?;
+    }
+    if lines.next().is_some() || lines.next().is_some() {
+        out.push('?')?;
+    }
+    Ok(out)
+}
+
+// Adds a line, after a comma if there are some.
+fn push_line(
+    alloc: Global,
+    out: &mut String,
+    end: usize,
+    columns: u128,
+    is_mandatory: bool,
+) -> Result<(), AllocError> {
+    if !out.is_empty() {
+        out.push_str(", ")?;
+    }
+    let mark = if is_mandatory { "!" } else { "" };
+    let line = format!(in alloc; "{end} {columns}{mark}")?;
+    out.push_str(line.as_str())
+}
