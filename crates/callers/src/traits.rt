@@ -7,13 +7,13 @@ use crate::data::Failure;
 use crate::memo::ListedTransitions;
 use icu_segmenter::GraphemeClusterSegmenterBorrowed;
 use icu_segmenter::indices::{StrCharIndices, Utf8CharIndices};
-use icu_segmenter::memo::MemoBreakIterator;
 use icu_segmenter::provider::{
     Acceptance, ClassTable, Lookahead, SegmenterStateMachine, State, Symbol,
 };
 use seg_complex::dictionaries::DictionaryCuts;
 use seg_data::words::WordCursor;
 use seg_machine::tailored_machine::{TailoredMachine, TailoredMachineBorrowed};
+use seg_memo::memo::MemoBreakIterator;
 use std::alloc::{AllocError, Global};
 
 type Entry = (Acceptance, Option<Lookahead>);

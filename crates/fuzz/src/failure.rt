@@ -9,7 +9,7 @@ use thiserror::Error;
 #[derive(Clone, Copy, Debug, Error)]
 pub enum Failure {
     /// The command line names nothing that can be tried.
-    #[error("usage: fuzz CASES SEED, fuzz ranges, or fuzz refusals dictionary|table|memo|hostile ..")]
+    #[error("usage: fuzz CASES SEED, fuzz ranges, or fuzz refusals dictionary|table|memo|letters|hostile ..")]
     Usage,
     /// The output took not all.
     #[error("write failed")]

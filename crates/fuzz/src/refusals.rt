@@ -10,7 +10,7 @@ use crate::failure::Failure;
 use dictionary::try_dictionary;
 use machines::{hostile_machine, small_machine};
 use memo::try_memo;
-use std::alloc::Global;
+use std::alloc::{AllocError, Global};
 use std::io::Write;
 use table::try_table;
 
@@ -20,7 +20,17 @@ pub fn try_named<O: Write>(alloc: Global, name: &str, out: &mut O) -> Result<(),
         "dictionary" => try_dictionary(alloc, out),
         "table" => try_table(alloc, out),
         "memo" => try_memo(alloc, &small_machine(alloc)?, "aaaa", out),
+        "letters" => try_memo(alloc, &small_machine(alloc)?, letters(alloc)?.as_str(), out),
         "hostile" => try_memo(alloc, &hostile_machine(alloc)?, "aaaaaaaaaaaaaaaaaaaa", out),
         _ => Err(Failure::Usage),
     }
+}
+
+// A thousand times the letter a.
+fn letters(alloc: Global) -> Result<String, AllocError> {
+    let mut text = String::new(alloc);
+    for _letter in 0..1000 {
+        text.push('a')?;
+    }
+    Ok(text)
 }

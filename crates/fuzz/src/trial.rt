@@ -7,10 +7,11 @@ use crate::parts::{check_segments, check_wrapped};
 use crate::samples::{decoded, random_bytes, random_units, size, starts};
 use bench::found::Found;
 use bench::segmenter::{Segmenter, SegmenterBorrowed, Text};
-use icu_segmenter::indices::{StrCharIndices, Utf8CharIndices};
+use icu_segmenter::indices::Utf8CharIndices;
 use icu_segmenter::memo::{MemoBreakIterator, MemoError};
 use icu_segmenter::provider::DataError;
 use icu_segmenter::rule_segmenter_v2::CountedTransitions;
+use icu_segmenter::scaffold::Utf8;
 use std::alloc::Global;
 
 /// Asks a segmenter with data of its own what `examine` asks of one over lent data.
@@ -174,7 +175,7 @@ fn count(found: &mut [(usize, char)], starts: &[usize]) -> Result<(), Failure> {
 
 // The memo of a `str`, or why there is none.
 type Memo<'data, 's> = Result<
-    MemoBreakIterator<'data, StrCharIndices<'s>, CountedTransitions<'data>>,
+    MemoBreakIterator<'data, 's, Utf8, CountedTransitions<'data>>,
     MemoError,
 >;
 

@@ -6,15 +6,15 @@ use crate::samples::quoted;
 use anyhow::Result;
 use bench::found::push_word;
 use bench::segmenter::{SegmenterBorrowed, Text};
-use icu_segmenter::indices::StrCharIndices;
+use icu_segmenter::GraphemeClusterSegmenterBorrowed;
 use icu_segmenter::memo::{MemoBreakIterator, MemoError};
 use icu_segmenter::rule_segmenter_v2::{CountedTransitions, ReadTransitions};
-use seg_machine::tailored_machine::TailoredMachineBorrowed;
+use icu_segmenter::scaffold::Utf8;
 use std::alloc::{AllocError, Global};
 
 // The memo of a `str`, or why there is none.
 type Memo<'data, 's> = Result<
-    MemoBreakIterator<'data, StrCharIndices<'s>, CountedTransitions<'data>>,
+    MemoBreakIterator<'data, 's, Utf8, CountedTransitions<'data>>,
     MemoError,
 >;
 
@@ -53,15 +53,15 @@ fn memo_of<'data, 's>(
 pub fn look_ups(alloc: Global, row: Row<'_>) -> Result<String> {
     let machine = machine_of(alloc, row)?;
     let text = quoted(alloc, row)?;
-    let machine = TailoredMachineBorrowed::without_tailoring(&machine);
-    let text = StrCharIndices::new(text.as_str());
-    Ok(shown_memo(alloc, MemoBreakIterator::try_new(alloc, machine, text)?)?)
+    let clusters = GraphemeClusterSegmenterBorrowed::new_neo(&machine)?;
+    let memo = clusters.segment_str(text.as_str()).with_memo(alloc)?;
+    Ok(shown_memo(alloc, memo)?)
 }
 
 /// What a memo gives: each place with its status and with how many look-ups there were when it came.
 pub fn shown_memo<'data, 's, R: ReadTransitions>(
     alloc: Global,
-    mut memo: MemoBreakIterator<'data, StrCharIndices<'s>, R>,
+    mut memo: MemoBreakIterator<'data, 's, Utf8, R>,
 ) -> Result<String, AllocError> {
     let mut out = String::new(alloc);
     if memo.lookups() > 0 {

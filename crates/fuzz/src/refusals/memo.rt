@@ -2,7 +2,6 @@
 
 use crate::failure::Failure;
 use icu_segmenter::GraphemeClusterSegmenterBorrowed;
-use icu_segmenter::indices::StrCharIndices;
 use icu_segmenter::iterators::GraphemeClusterBreakIterator;
 use icu_segmenter::memo::{MemoBreakIterator, MemoError};
 use icu_segmenter::provider::SegmenterStateMachine;
@@ -11,7 +10,7 @@ use icu_segmenter::scaffold::Utf8;
 use std::alloc::Global;
 use std::io::{self, Write};
 
-type Memo<'data, 's> = MemoBreakIterator<'data, StrCharIndices<'s>, CountedTransitions<'data>>;
+type Memo<'data, 's> = MemoBreakIterator<'data, 's, Utf8, CountedTransitions<'data>>;
 
 /// Asks for the memo of a text's clusters twice, after the first boundary, and prints each time what it gives, or why there is none,
 /// and then what the clusters have left. The error is `Write`.
