@@ -31,19 +31,6 @@ pub(crate) const KEEP: BreakState = BreakState::Keep;
 
 pub(crate) const NO_MATCH: BreakState = BreakState::NoMatch;
 
-/// The table of these ranges and this value for all others, in which each look-up takes two reads. The errors are want of memory, and
-/// what is wrong with the ranges.
-fn indexed_table(
-    alloc: Global,
-    ranges: &[(u32, u32, u8)],
-    other: u8,
-) -> Result<ClassTable, DataError>
-    ensures { IfOk result (λ t. t ≡ table ranges.now other) }
-{
-    let table = ClassTable::try_from_ranges(Vec::from_slice(alloc, ranges)?, other)?;
-    table.indexed(alloc)
-}
-
 /// The machine of these parts, without lookaheads. The errors are want of memory, and what is wrong with the parts.
 pub(crate) fn machine_of(
     alloc: Global,
@@ -58,7 +45,8 @@ pub(crate) fn machine_of(
     ensures refused { IfErr result (λ fault. (fault ≡ Memory) ⊎ HasRangeFault ranges.now fault
         ⊎ HasMachineFault (machine (table ranges.now other) states.now transitions.now 0 shift map.now) fault) }
 {
-    let symbols = indexed_table(alloc, ranges, other)?;
+    let symbols = ClassTable::try_from_ranges(Vec::from_slice(alloc, ranges)?, other)?;
+    let symbols = symbols.indexed(alloc)?;
     let states = Vec::from_slice(alloc, states)?;
     let transitions = Vec::from_slice(alloc, transitions)?;
     let map = Vec::from_slice(alloc, map)?;
@@ -105,7 +93,8 @@ pub(crate) fn table_of(
     ensures refused { IfErr result (λ fault. (fault ≡ Memory) ⊎ HasRangeFault ranges.now fault
         ⊎ HasPairFault (pair_table (table ranges.now other) entries.now statuses.now numbers.count numbers.last numbers.start_of_text numbers.end_of_text numbers.complex) fault) }
 {
-    let classes = indexed_table(alloc, ranges, other)?;
+    let classes = ClassTable::try_from_ranges(Vec::from_slice(alloc, ranges)?, other)?;
+    let classes = classes.indexed(alloc)?;
     let entries = Vec::from_slice(alloc, entries)?;
     let statuses = Vec::from_slice(alloc, statuses)?;
     RuleBreakData::try_from_parts(
