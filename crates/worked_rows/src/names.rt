@@ -47,12 +47,10 @@ pub fn word_type(alloc: Global, row: Row<'_>) -> Result<String> {
 
 /// The letters of the language that a text names, or a hyphen.
 pub fn language(alloc: Global, row: Row<'_>) -> Result<String> {
-    let found = LanguageIdentifier::try_from_language(row.quoted().unwrap_or(""));
-    let letters = match &found {
-        Some(language) => language.language(),
-        None => "-",
-    };
-    Ok(letters.to_owned(alloc)?)
+    match LanguageIdentifier::try_from_language(row.quoted().unwrap_or("")) {
+        Some(language) => Ok(language.language().to_owned(alloc)?),
+        None => Ok("-".to_owned(alloc)?),
+    }
 }
 
 /// The text of an error of this name.

@@ -18,11 +18,16 @@ pub fn wrapped(alloc: Global, row: Row<'_>) -> Result<String> {
 }
 
 fn wrapped_by(alloc: Global, row: Row<'_>, parts: &mut Parts) -> Result<String> {
-    let segmenter = own(parts, Kind::NeoLines, &Options::of(row)?)?;
-    let SegmenterBorrowed::Lines(lines) = segmenter.as_borrowed() else {
-        bail!("no segmenter of lines")
-    };
-    wrapped_in(alloc, row, LineWrapper::new(lines)?)
+    let options = Options::of(row)?;
+    let segmenter = own(parts, Kind::NeoLines, &options)?;
+    wrapped_with(alloc, row, segmenter.as_borrowed())
+}
+
+fn wrapped_with(alloc: Global, row: Row<'_>, segmenter: SegmenterBorrowed<'_>) -> Result<String> {
+    match segmenter {
+        SegmenterBorrowed::Lines(lines) => wrapped_in(alloc, row, LineWrapper::new(lines)?),
+        _ => bail!("no segmenter of lines"),
+    }
 }
 
 fn wrapped_in(alloc: Global, row: Row<'_>, wrapper: LineWrapper<'_>) -> Result<String> {
