@@ -1,10 +1,10 @@
 -- The segments of a text are as many as those of its first block and those of what comes after.
-use Rattle.std.proofs.Common.{◌≡◌, ℕ, suc, ◌+◌, ◌-◌, ◌%◌, ◌^◌, ◌<◌, ◌≤◌, ◌⊎◌, inl, inr, List, [], ◌∷◌, ◌++◌, length, map, take, drop, refl, sym, ap, ap₂, ◌∙◌, arith, length-append}
+use Rattle.std.proofs.Common.{◌≡◌, ℕ, suc, ◌+◌, ◌-◌, ◌%◌, ◌^◌, ◌<◌, ◌⊎◌, inl, inr, List, [], ◌∷◌, ◌++◌, length, take, drop, refl, sym, ap, ap₂, ◌∙◌, arith, length-append}
 use Rattle.std.specs.Char.{encode_utf8}
 use Rattle.std.proofs.lemmas.List.{drop_all, length-drop, length-map, take_all, take-append-drop}
 use Rattle.std.proofs.str.Laws.{one}
 use Rattle.icu_segmenter.specs.Boundary.{Boundary}
-use Rattle.icu_segmenter.specs.Boundaries.{boundary_in, shift, shift_all, later_boundaries, later_boundaries_within}
+use Rattle.icu_segmenter.specs.Boundaries.{shift, shift_all, later_boundaries, later_boundaries_within}
 use Rattle.icu_segmenter.specs.Rules.{PartsTexts, Rules, boundaries_by, boundaries_of}
 use Rattle.icu_segmenter.specs.Items.{first_items, items_by}
 use Rattle.icu_segmenter.specs.TextSegments.{Segment, marked, nothing, segments_from, segments_of, units_of}

@@ -8,7 +8,6 @@ use Rattle.seg_text.specs.Items.{Item, Text, place_of, start_of, rest_after, tex
 use Rattle.seg_text.specs.Boundaries.{boundary, boundary_in, shift_all, Cuts, AreCutsOf, with_status, cut_places, Stretch, later_boundaries}
 use Rattle.seg_text.proofs.Places.{in-shift, code_points-drop}
 use Rattle.seg_text.proofs.Stretches.{text-later-next}
-use Rattle.seg_pair_data.specs.PairTable.{PairTable}
 use Rattle.seg_pairs.specs.declared.elements.Element.{Element}
 use Rattle.seg_pairs.specs.declared.verdicts.Outcome.TheVariants.{Break as BreakOut, Run as RunOut}
 use Rattle.seg_pairs.specs.Elements.{onto, place_at}

@@ -1,5 +1,5 @@
 -- The items that a text begins with and that pass a test, as far as they are read.
-use Rattle.std.proofs.Common.{true, false, Bool, ◌≡◌, ℕ, suc, ◌+◌, ◌-◌, List, [], ◌∷◌, drop, refl, sym, ap, ◌∙◌, arith}
+use Rattle.std.proofs.Common.{true, Bool, ◌≡◌, ℕ, suc, ◌+◌, ◌-◌, ◌∷◌, drop, refl, sym, ap, ◌∙◌, arith}
 use Rattle.std.proofs.lemmas.List.{drop-drop}
 use Rattle.seg_text.specs.Items.{Item, Text, start_of, rest_after, prefix_length}
 

@@ -6,7 +6,6 @@ use Rattle.seg_text.specs.Items.{Item, Text, start_of, rest_after, code_points}
 use Rattle.seg_line_rules.specs.LineRules.{TableRules, line_class}
 use Rattle.seg_line_rules.specs.LineUnits.{is_mark}
 use Rattle.seg_line_rules.specs.LineClasses.LineEngine.{Seventeen}
-use Rattle.seg_line_rules.specs.LineClasses.{class_number}
 use Rattle.seg_line_turns.specs.declared.bases.BaseAhead.{BaseAhead}
 use Rattle.seg_line_turns.specs.TurnPlaces.{item_place, IsBaseOf}
 use Rattle.seg_line_turns.specs.Turns.{next_base}

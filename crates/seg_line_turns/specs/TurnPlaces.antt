@@ -8,7 +8,6 @@ use Rattle.seg_pair_data.specs.declared.provider.pairs.BreakState.TheVariants.{K
 use Rattle.seg_line_rules.specs.LineRules.{TableRules}
 use Rattle.seg_line_rules.specs.LineUnits.{is_joiner}
 use Rattle.seg_line_rules.specs.LineClasses.LineEngine.{Seventeen}
-use Rattle.seg_line_rules.specs.LineClasses.{class_number}
 use Rattle.seg_line_turns.specs.declared.bases.BaseAhead.{BaseAhead}
 use Rattle.seg_line_turns.specs.declared.turn_units.Left.{Left}
 use Rattle.seg_line_turns.specs.declared.turn_walk.Walker.{Walker}

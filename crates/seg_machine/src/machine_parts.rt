@@ -3,6 +3,7 @@
 ghost use Rattle.std.specs.Prelude.{◌≡◌, ◌<◌, [], length};
 ghost use Rattle.std.specs.Option.{option_map};
 ghost use Rattle.seg_machine.specs.MachineFaults.{HasTextSymbols};
+ghost use Rattle.seg_data.specs.Table.{value_of};
 ghost use Rattle.seg_machine.specs.Machine.{ArePlainBelow, HasEntries, machine, replaced, replacements_of, state_at, symbol_and_script, with_parts, without_transitions};
 
 use crate::provider::{
@@ -68,6 +69,15 @@ impl<'data> MachineParts<'data> {
         if value < self.plain_below {
             return value;
         }
+        self.symbol_of_value(code_point, value)
+    }
+
+    // The symbol of a code point by its value in the table of symbols.
+    #[inline(always)]
+    pub(crate) fn symbol_of_value(&self, code_point: u32, value: u8) -> Symbol
+        requires { value ≡ value_of self.now.symbols.now code_point }
+        ensures { result ≡ (symbol_and_script (parts_of self.now) code_point).0 }
+    {
         let shift = self.pseudo_symbol_shift;
         if value < shift {
             replacement_by(self.symbol_map, value).0

@@ -154,7 +154,11 @@ impl<'data> TailoredMachineBorrowed<'data> {
         ensures value { result ≡ (symbol_and_script (machine_of self.now) code_point).0 }
         ensures text { IsTextSymbol (machine_of self.now) result }
     {
-        self.parts().symbol(code_point)
+        let value = self.machine.symbols().get32(code_point);
+        if value < self.plain_below {
+            return value;
+        }
+        self.parts().symbol_of_value(code_point, value)
     }
 
     /// The script of a code point.

@@ -1,8 +1,8 @@
 -- Laws of the boundaries of words, by either rules.
-use Rattle.std.proofs.Common.{◌≡◌, ℕ, suc, List, ◌∷◌, drop, sym, ap, ◌∙◌}
-use Rattle.std.specs.Prelude.{Option, slice_get}
+use Rattle.std.proofs.Common.{◌≡◌, ℕ, List, ◌∷◌, drop, ap}
+use Rattle.std.specs.Prelude.{Option}
 use Rattle.seg_text.specs.declared.boundary.Boundary.{Boundary}
-use Rattle.seg_text.specs.Boundaries.{RestartsIn, start, shift_all, Stretch, HasOneAnswer, HasProgress, list_boundaries, Cuts}
+use Rattle.seg_text.specs.Boundaries.{RestartsIn, start, Stretch, HasOneAnswer, HasProgress, list_boundaries, Cuts}
 use Rattle.seg_text.proofs.Restarts.{restarts, restarts-as}
 use Rattle.seg_text.proofs.Stretches.{one-answer}
 use Rattle.seg_data.specs.Table.{Table}

@@ -1,5 +1,5 @@
 -- Memoised boundaries of words.
-use Rattle.std.proofs.Common.{◌≡◌, Result, Ok, Err, IfOk, Option, Some, None, List, map, sym, ap, subst}
+use Rattle.std.proofs.Common.{◌≡◌, Result, Ok, Err, IfOk, List, map, sym, ap, subst}
 use Rattle.seg_text.specs.declared.boundary.Boundary.{Boundary}
 use Rattle.seg_text.specs.Items.{Text, code_points}
 use Rattle.seg_text.specs.Boundaries.{boundary_in}

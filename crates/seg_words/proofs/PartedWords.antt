@@ -1,8 +1,8 @@
 -- Words by a machine may be parted behind a code point outside runs that resets the machine.
-use Rattle.std.proofs.Common.{◌≡◌, ℕ, List, [], ◌∷◌, ◌++◌, length, ap}
+use Rattle.std.proofs.Common.{ℕ, List, [], ◌∷◌, ◌++◌, ap}
 use Rattle.std.specs.Char.{IsScalar}
 use Rattle.seg_text.specs.declared.boundary.Boundary.{Boundary}
-use Rattle.seg_text.specs.Boundaries.{IsCover, start, list_boundaries}
+use Rattle.seg_text.specs.Boundaries.{start, list_boundaries}
 use Rattle.seg_text.proofs.Covers.{covers-list}
 use Rattle.seg_text.proofs.Stretches.{later-nil}
 use Rattle.seg_clusters.specs.Rules.{PartsBehind, PartsTexts, boundaries_by}
