@@ -1,0 +1,113 @@
+/* Text boundaries, proved: grapheme clusters, words, sentences and line breaks of UAX #29 and UAX #14.
+ *
+ *     yengatomu_slot words = {0};
+ *     size_t ends[64];
+ *     if (yengatomu_open(&words, YENGATOMU_WORDS, 0, 0, false) == YENGATOMU_OK) {
+ *         size_t count = yengatomu_boundaries(&words, text, len, 0, ends, 64);
+ *         ...
+ *         yengatomu_close(&words);
+ *     }
+ *
+ * A text is UTF-8, which may be ill-formed: places are bytes from its start. Calls that end in _utf16 take UTF-16, which may be
+ * ill-formed too: there places are 16-bit units. What is ill-formed counts as U+FFFD, as Unicode's Table 3-7 parts it.
+ * No call keeps a pointer, writes but to the slot and the buffers it is handed, aborts, or takes a lock.
+ *
+ * What a caller owes:
+ * - A slot begins as zero bytes, and nobody but these calls writes to it. It may be moved, but not copied and used twice.
+ * - A slot serves one call at a time. Different slots may be used by different threads, and a slot may pass from one to another.
+ * - Each length is that of the array in front of it, in its own elements. No array is NULL, not even one of length 0.
+ * - Buffers overlap neither one another nor the text. */
+#ifndef YENGATOMU_H
+#define YENGATOMU_H
+#include <stdbool.h>
+#include <stddef.h>
+#include <stdint.h>
+#ifdef __cplusplus
+extern "C" {
+#endif
+
+/* Holds a segmenter or nothing. Begin with zero bytes: yengatomu_slot slot = {0}; its fields are the library's own. */
+typedef struct yengatomu_slot {
+    bool full;
+    void *at;
+} yengatomu_slot;
+
+/* A word of a dictionary: UTF-8. */
+typedef struct yengatomu_word {
+    const uint8_t *bytes;
+    size_t len;
+} yengatomu_word;
+
+/* kind */
+enum { YENGATOMU_CLUSTERS, YENGATOMU_WORDS, YENGATOMU_SENTENCES, YENGATOMU_LINES };
+/* strictness, as `line-break` of CSS Text 3 has it. By ANYWHERE lines break at each grapheme cluster. */
+enum { YENGATOMU_STRICT, YENGATOMU_NORMAL, YENGATOMU_LOOSE, YENGATOMU_ANYWHERE };
+/* word_break, as `word-break` of CSS Text 3 has it */
+enum { YENGATOMU_BREAK_NORMAL, YENGATOMU_BREAK_ALL, YENGATOMU_KEEP_ALL };
+/* script */
+enum { YENGATOMU_MYANMAR = 1, YENGATOMU_CHINESE_OR_JAPANESE, YENGATOMU_KHMER, YENGATOMU_LAO, YENGATOMU_THAI };
+/* what open and load_dictionary return */
+enum { YENGATOMU_OK, YENGATOMU_NO_MEMORY, YENGATOMU_NO_SUCH, YENGATOMU_NOT_UTF8 };
+/* marks of words: what ends at the boundary */
+enum { YENGATOMU_NO_WORD, YENGATOMU_NUMBER, YENGATOMU_LETTERS };
+/* marks of lines: whether the line must end at the boundary */
+enum { YENGATOMU_MAY_BREAK, YENGATOMU_MUST_BREAK };
+/* no boundary */
+#define YENGATOMU_NONE SIZE_MAX
+
+/* Frees what the slot holds and makes a segmenter of the kind in its place, over Unicode's data. YENGATOMU_NO_SUCH for a number that
+ * is none of those above; strictness, word_break and chinese_or_japanese are those of lines, and other kinds don't read them.
+ * If it isn't YENGATOMU_OK, the slot is empty. */
+uint32_t yengatomu_open(yengatomu_slot *slot, uint32_t kind, uint32_t strictness, uint32_t word_break, bool chinese_or_japanese);
+
+/* Gives a segmenter of words or lines the words of a script that is written without spaces, if it has none of that script yet.
+ * Of lines YENGATOMU_CHINESE_OR_JAPANESE changes nothing. YENGATOMU_NO_SUCH for another number, another kind or an empty slot,
+ * YENGATOMU_NOT_UTF8 where a word is ill-formed. If it isn't YENGATOMU_OK, the slot is as it was. */
+uint32_t yengatomu_load_dictionary(yengatomu_slot *slot, const yengatomu_word *words, size_t count, uint32_t script);
+
+/* Frees what the slot holds, and leaves it empty. It may be opened again, or closed again. */
+void yengatomu_close(yengatomu_slot *slot);
+
+/* Writes the first boundaries above from to out, as many as there is room for, and returns how many: those of the text from there on,
+ * taken alone. Its last is len. Where from is 0, or a boundary and the slot has no dictionary, they are the boundaries of the whole
+ * text: so go on from the last one, until 0 is returned. With a dictionary go on only from behind a line feed.
+ * 0 where from is len or more, and where the slot is empty. */
+size_t yengatomu_boundaries(yengatomu_slot *slot, const uint8_t *text, size_t len, size_t from, size_t *out, size_t room);
+size_t yengatomu_boundaries_utf16(yengatomu_slot *slot, const uint16_t *text, size_t len, size_t from, size_t *out, size_t room);
+
+/* The same, with a mark for each: of words YENGATOMU_NO_WORD and so on, of lines YENGATOMU_MAY_BREAK or YENGATOMU_MUST_BREAK, of
+ * others 0. It writes as many as both buffers have room for. */
+size_t yengatomu_marked_boundaries(yengatomu_slot *slot, const uint8_t *text, size_t len, size_t from, size_t *out, size_t room,
+                                   uint8_t *marks, size_t marks_room);
+size_t yengatomu_marked_boundaries_utf16(yengatomu_slot *slot, const uint16_t *text, size_t len, size_t from, size_t *out, size_t room,
+                                         uint8_t *marks, size_t marks_room);
+
+/* The nearest boundary above the place, which may be inside a character; and the nearest below it, which may be past the end.
+ * YENGATOMU_NONE where there is none, and where the slot is empty. */
+size_t yengatomu_next(yengatomu_slot *slot, const uint8_t *text, size_t len, size_t place);
+size_t yengatomu_previous(yengatomu_slot *slot, const uint8_t *text, size_t len, size_t place);
+
+/* Writes where the first lines end that the text from there on is wrapped to, as many as there is room for, and returns how many.
+ * A line takes as many segments as fit in the columns, at least one, and ends where it must. Spaces, line feeds and carriage returns
+ * at its end take no columns. 0 of other kinds than lines. */
+size_t yengatomu_wrap(yengatomu_slot *slot, const uint8_t *text, size_t len, size_t from, size_t columns, size_t *ends, size_t room);
+/* The same, with how many columns each line takes. It writes as many as both buffers have room for. */
+size_t yengatomu_wrap_columns(yengatomu_slot *slot, const uint8_t *text, size_t len, size_t from, size_t columns, size_t *ends, size_t room,
+                              size_t *widths, size_t widths_room);
+
+/* How many segments the text has: one less than it has boundaries. 0 where the slot is empty. */
+size_t yengatomu_count(yengatomu_slot *slot, const uint8_t *text, size_t len);
+size_t yengatomu_count_utf16(yengatomu_slot *slot, const uint16_t *text, size_t len);
+/* How many of them are words, of letters or numbers. 0 of other kinds than words. */
+size_t yengatomu_count_words(yengatomu_slot *slot, const uint8_t *text, size_t len);
+size_t yengatomu_count_words_utf16(yengatomu_slot *slot, const uint16_t *text, size_t len);
+
+/* Versions as 10,000 times the major number, 100 times the minor one and the update: of this library, and of the Unicode data by which
+ * a kind is segmented (0 for no such kind). */
+uint32_t yengatomu_version(void);
+uint32_t yengatomu_unicode_version(uint32_t kind);
+
+#ifdef __cplusplus
+}
+#endif
+#endif

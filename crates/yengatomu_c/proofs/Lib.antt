@@ -1,0 +1,8 @@
+pub mod AsBox
+mod GoingOn
+mod Filling
+mod Given
+mod Counted
+mod Lines
+mod Marked
+mod ReadWords

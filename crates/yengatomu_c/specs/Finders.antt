@@ -1,0 +1,78 @@
+-- What a slot holds: a segmenter of one kind, and what it finds boundaries by.
+use Rattle.std.specs.Prelude.{◌≡◌, ◌⊎◌, ℕ, zero, suc, ◌+◌, ◌==◌, if◌then◌else◌, Option, List, ◌∷◌, ◌++◌, drop, map, Contains}
+use Rattle.std.specs.Option.{option_map}
+use Rattle.icu_segmenter.specs.Boundary.{Boundary}
+use Rattle.icu_segmenter.specs.Boundaries.{HasRestart, boundaries_in, offsets}
+use Rattle.icu_segmenter.specs.Clusters.{owned_cluster_rules, owned_sentence_rules}
+use Rattle.icu_segmenter.specs.Items.{Text}
+use Rattle.icu_segmenter.specs.LineBreaks.{LineRules, line_boundaries_by}
+use Rattle.icu_segmenter.specs.Lines.{owned_line_rules}
+use Rattle.icu_segmenter.specs.NearBoundaries.{BeginsLine, line_feed}
+use Rattle.icu_segmenter.specs.Rules.{PartsBehind, Rules, boundaries_by}
+use Rattle.icu_segmenter.specs.WordRules.{WordRules, word_boundaries_by}
+use Rattle.icu_segmenter.specs.Words.{owned_word_rules}
+use Rattle.yengatomu_c.specs.declared.segmenter.Segmenter.{Segmenter}
+use Rattle.yengatomu_c.specs.declared.segmenter.Segmenter.TheVariants as held
+use Rattle.yengatomu_c.specs.declared.slot.Slot.{Slot}
+
+pub data Finder : Type 0 where
+  Clusters : Rules → Finder
+  Words : WordRules → Finder
+  Sentences : Rules → Finder
+  Lines : LineRules → Finder
+
+-- the boundaries of a list of code points
+abbrev pub find_by : Finder → List ℕ → List Boundary
+find_by (Clusters rules) = boundaries_by rules
+find_by (Words rules) = word_boundaries_by rules
+find_by (Sentences rules) = boundaries_by rules
+find_by (Lines rules) = line_boundaries_by rules
+
+-- what the mark of a boundary with a status is: of words the type of what ends there, of lines whether the line must end there
+abbrev pub mark_by : Finder → ℕ → ℕ
+mark_by (Clusters rules) status = 0
+mark_by (Words rules) zero = 0
+mark_by (Words rules) (suc zero) = 1
+mark_by (Words rules) (suc (suc status)) = 2
+mark_by (Sentences rules) status = 0
+mark_by (Lines rules) status = if status == 1 then 1 else 0
+
+abbrev pub finder_of : Segmenter → Finder
+finder_of (held.Clusters clusters) = Clusters (owned_cluster_rules clusters)
+finder_of (held.Words words) = Words (owned_word_rules words)
+finder_of (held.Sentences sentences) = Sentences (owned_sentence_rules sentences)
+finder_of (held.Lines lines) = Lines (owned_line_rules lines)
+
+-- what the slot's segmenter finds boundaries by, if it holds one
+abbrev pub finder_in : Slot → Option Finder
+finder_in slot = option_map finder_of slot.handle.held
+
+-- The boundaries of a text that stands in some units, which this decodes.
+
+-- those behind its start where it is taken alone from one place on
+abbrev pub boundaries_behind : Finder → (List ℕ → Text) → List ℕ → ℕ → List Boundary
+boundaries_behind finder decode units from = drop 1 (boundaries_in (find_by finder) (decode (drop from units)))
+
+-- their places in the whole text, and their marks
+abbrev pub places_behind : Finder → (List ℕ → Text) → List ℕ → ℕ → List ℕ
+places_behind finder decode units from = map (λ place. from + place) (offsets (boundaries_behind finder decode units from))
+
+abbrev pub marks_behind : Finder → (List ℕ → Text) → List ℕ → ℕ → List ℕ
+marks_behind finder decode units from =
+    map (λ (boundary : Boundary). mark_by finder boundary.status) (boundaries_behind finder decode units from)
+
+-- the places of all boundaries of the text
+abbrev pub places_in : Finder → (List ℕ → Text) → List ℕ → List ℕ
+places_in finder decode units = offsets (boundaries_in (find_by finder) (decode units))
+
+-- where a caller may go on: at any boundary where lists may be cut anew from theirs, or where a line begins and texts may be parted
+-- behind line feeds
+abbrev pub MayGoOnAt : Finder → (List ℕ → Text) → List ℕ → ℕ → Type 0
+MayGoOnAt finder decode units from =
+    (HasRestart (find_by finder) × Contains (places_in finder decode units) from)
+    ⊎ (PartsBehind (λ units. boundaries_in (find_by finder) (decode units)) line_feed × BeginsLine units from)
+
+-- all boundaries of the text are some, then the place, and then those of the rest
+abbrev pub GoesOnAt : Finder → (List ℕ → Text) → List ℕ → ℕ → Type 0
+GoesOnAt finder decode units from =
+    (before : List ℕ) × (places_in finder decode units ≡ before ++ from ∷ places_behind finder decode units from)

@@ -1,0 +1,264 @@
+//! Text boundaries for C: clusters, words, sentences and lines over Unicode's data, of possibly ill-formed UTF-8 and, in `utf16`, UTF-16.
+//!
+//! bindings/include/yengatomu.h declares these calls, and says what a caller in C owes: no prover looks at it. `alloc` is passed by
+//! nobody there, since it has no bytes.
+#![tactic(auto)]
+
+ghost use Rattle.std.specs.Prelude.{◌≡◌, ◌+◌, ◌-◌, ◌^◌, ℕ, [], IfSome, None, Option, length, min, unwrap_or};
+ghost use Rattle.icu_segmenter.specs.Boundaries.{HasRestart};
+ghost use Rattle.icu_segmenter.specs.Decoding.{utf8};
+ghost use Rattle.icu_segmenter.specs.NearBoundaries.{IsNearestAbove, IsNearestBelow};
+ghost use Rattle.yengatomu_c.specs.Buffers.{IsFilled, TakesFirst};
+ghost use Rattle.yengatomu_c.specs.Finders.{GoesOnAt, MayGoOnAt, find_by, finder_in, marks_behind, places_behind, places_in};
+ghost use Rattle.yengatomu_c.specs.Loaded.{IsLoaded, numbered_script};
+ghost use Rattle.yengatomu_c.specs.Options.{IsOpened, numbered_finder};
+ghost use Rattle.yengatomu_c.specs.Words.{word_count};
+ghost use Rattle.yengatomu_c.specs.Wrapped.{ends_from, widths_of, wrapped_behind};
+
+mod buffers;
+mod dictionary;
+mod handle;
+mod parts;
+mod request;
+mod segmenter;
+mod slot;
+mod texts;
+mod utf16;
+mod versions;
+mod wrapped;
+
+use dictionary::Refusal;
+use request::{LineNumbers, requested};
+use segmenter::Segmenter;
+use slot::Slot;
+use std::alloc::Global;
+
+/// No boundary.
+const NONE: usize = usize::MAX;
+
+/// Makes a segmenter in the place of what the slot held: of kind 0 clusters, 1 words, 2 sentences, 3 lines; of strictness 0 strict, 1 normal,
+/// 2 loose, 3 anywhere; of word option 0 normal, 1 break all, 2 keep all. 0 where it is made, 1 where memory is missing, 2 where there is no
+/// such number; only lines have options.
+#[unsafe(no_mangle)]
+pub extern "C" fn yengatomu_open(
+    alloc: Global,
+    slot: &mut Slot,
+    kind: u32,
+    strictness: u32,
+    word_break: u32,
+    is_chinese_or_japanese: bool,
+) -> u32
+    ensures opened { IsOpened (numbered_finder kind strictness word_break is_chinese_or_japanese) (finder_in slot.new) result }
+    ensures restart { IfSome (finder_in slot.new) (λ finder. HasRestart (find_by finder)) }
+{
+    let _ = slot.take(alloc);
+    let lines = LineNumbers {
+        strictness,
+        word_break,
+        is_chinese_or_japanese,
+    };
+    let Some(request) = requested(kind, lines) else {
+        return 2;
+    };
+    match Segmenter::boxed(alloc, request) {
+        Ok(segmenter) => {
+            slot.put(segmenter);
+            0
+        }
+        Err(_) => 1,
+    }
+}
+
+/// Frees what the slot holds, which is then empty.
+#[unsafe(no_mangle)]
+pub extern "C" fn yengatomu_close(alloc: Global, slot: &mut Slot)
+    ensures { finder_in slot.new ≡ None }
+{
+    let _ = slot.take(alloc);
+}
+
+/// Writes the first boundaries behind `from`, as many as there is room for, and returns how many: those of the text from there on, taken
+/// alone, which are those of the whole text wherever a caller may go on. 0 where the slot is empty.
+#[unsafe(no_mangle)]
+pub extern "C" fn yengatomu_boundaries(
+    alloc: Global,
+    slot: &mut Slot,
+    text: &[u8],
+    from: usize,
+    places: &mut [usize],
+) -> usize
+    ensures kept { finder_in slot.new ≡ finder_in slot.old }
+    ensures empty { finder_in slot.old ≡ None → IsFilled [] places.old places.new result }
+    ensures given { IfSome (finder_in slot.old) (λ finder. IsFilled (places_behind finder utf8 text.now from) places.old places.new result) }
+    ensures whole { IfSome (finder_in slot.old) (λ finder. MayGoOnAt finder utf8 text.now from → GoesOnAt finder utf8 text.now from) }
+{
+    let Some(segmenter) = slot.take(alloc) else {
+        return 0;
+    };
+    texts::goes_on(&segmenter, text, from);
+    let written = texts::boundaries(&segmenter, text, from, places);
+    slot.put(segmenter);
+    written
+}
+
+/// The same with a mark beside each: of words 0 no word, 1 a number, 2 letters; of lines 1 where the line must end there; of others 0.
+/// As many as both buffers have room for.
+#[unsafe(no_mangle)]
+pub extern "C" fn yengatomu_marked_boundaries(
+    alloc: Global,
+    slot: &mut Slot,
+    text: &[u8],
+    from: usize,
+    places: &mut [usize],
+    marks: &mut [u8],
+) -> usize
+    ensures kept { finder_in slot.new ≡ finder_in slot.old }
+    ensures empty { finder_in slot.old ≡ None → (result ≡ 0) × (places.new ≡ places.old) × (marks.new ≡ marks.old) }
+    ensures places { IfSome (finder_in slot.old) (λ finder. TakesFirst (min (length places.old) (length marks.old)) (places_behind finder utf8 text.now from) places.old places.new result) }
+    ensures marks { IfSome (finder_in slot.old) (λ finder. TakesFirst (min (length places.old) (length marks.old)) (marks_behind finder utf8 text.now from) marks.old marks.new result) }
+{
+    let Some(segmenter) = slot.take(alloc) else {
+        return 0;
+    };
+    let written = texts::marked_boundaries(&segmenter, text, from, places, marks);
+    slot.put(segmenter);
+    written
+}
+
+/// The nearest boundary above a place, which may be inside a character. SIZE_MAX where there is none, and where the slot is empty.
+#[unsafe(no_mangle)]
+pub extern "C" fn yengatomu_next(alloc: Global, slot: &mut Slot, text: &[u8], place: usize) -> usize
+    ensures kept { finder_in slot.new ≡ finder_in slot.old }
+    ensures empty { finder_in slot.old ≡ None → result ≡ 2 ^ 64 - 1 }
+    ensures nearest { IfSome (finder_in slot.old) (λ finder. (found : Option ℕ) × IsNearestAbove (places_in finder utf8 text.now) place found × (result ≡ unwrap_or found (2 ^ 64 - 1))) }
+{
+    let Some(segmenter) = slot.take(alloc) else {
+        return NONE;
+    };
+    let found = texts::next(&segmenter, text, place);
+    slot.put(segmenter);
+    found.unwrap_or(NONE)
+}
+
+/// The nearest boundary below a place, which may be inside a character, or past the end. SIZE_MAX where there is none, and where the slot is
+/// empty.
+#[unsafe(no_mangle)]
+pub extern "C" fn yengatomu_previous(
+    alloc: Global,
+    slot: &mut Slot,
+    text: &[u8],
+    place: usize,
+) -> usize
+    ensures kept { finder_in slot.new ≡ finder_in slot.old }
+    ensures empty { finder_in slot.old ≡ None → result ≡ 2 ^ 64 - 1 }
+    ensures nearest { IfSome (finder_in slot.old) (λ finder. (found : Option ℕ) × IsNearestBelow (places_in finder utf8 text.now) place found × (result ≡ unwrap_or found (2 ^ 64 - 1))) }
+{
+    let Some(segmenter) = slot.take(alloc) else {
+        return NONE;
+    };
+    let found = texts::previous(&segmenter, text, place);
+    slot.put(segmenter);
+    found.unwrap_or(NONE)
+}
+
+/// Writes where the first lines end that the text from a place on is wrapped to, as many as there is room for, and returns how many. 0 of
+/// other kinds, and where the slot is empty.
+#[unsafe(no_mangle)]
+pub extern "C" fn yengatomu_wrap(
+    alloc: Global,
+    slot: &mut Slot,
+    text: &[u8],
+    from: usize,
+    columns: usize,
+    ends: &mut [usize],
+) -> usize
+    ensures kept { finder_in slot.new ≡ finder_in slot.old }
+    ensures empty { finder_in slot.old ≡ None → IsFilled [] ends.old ends.new result }
+    ensures lines { IfSome (finder_in slot.old) (λ finder. IsFilled (ends_from from (wrapped_behind finder columns text.now from)) ends.old ends.new result) }
+{
+    let Some(segmenter) = slot.take(alloc) else {
+        return 0;
+    };
+    let written = wrapped::ends(&segmenter, text, from, columns, ends);
+    slot.put(segmenter);
+    written
+}
+
+/// The same with how many columns each line takes. As many as both buffers have room for.
+#[unsafe(no_mangle)]
+pub extern "C" fn yengatomu_wrap_columns(
+    alloc: Global,
+    slot: &mut Slot,
+    text: &[u8],
+    from: usize,
+    columns: usize,
+    ends: &mut [usize],
+    widths: &mut [usize],
+) -> usize
+    ensures kept { finder_in slot.new ≡ finder_in slot.old }
+    ensures empty { finder_in slot.old ≡ None → (result ≡ 0) × (ends.new ≡ ends.old) × (widths.new ≡ widths.old) }
+    ensures lines { IfSome (finder_in slot.old) (λ finder. TakesFirst (min (length ends.old) (length widths.old)) (ends_from from (wrapped_behind finder columns text.now from)) ends.old ends.new result) }
+    ensures widths { IfSome (finder_in slot.old) (λ finder. TakesFirst (min (length ends.old) (length widths.old)) (widths_of (wrapped_behind finder columns text.now from)) widths.old widths.new result) }
+{
+    let Some(segmenter) = slot.take(alloc) else {
+        return 0;
+    };
+    let written = wrapped::ends_and_widths(&segmenter, text, from, columns, ends, widths);
+    slot.put(segmenter);
+    written
+}
+
+/// How many segments the text has. 0 where the slot is empty.
+#[unsafe(no_mangle)]
+pub extern "C" fn yengatomu_count(alloc: Global, slot: &mut Slot, text: &[u8]) -> usize
+    ensures kept { finder_in slot.new ≡ finder_in slot.old }
+    ensures empty { finder_in slot.old ≡ None → result ≡ 0 }
+    ensures count { IfSome (finder_in slot.old) (λ finder. result + 1 ≡ length (places_in finder utf8 text.now)) }
+{
+    let Some(segmenter) = slot.take(alloc) else {
+        return 0;
+    };
+    let count = texts::count(&segmenter, text);
+    slot.put(segmenter);
+    count
+}
+
+/// How many words the text has, of letters or numbers. 0 of other kinds, and where the slot is empty.
+#[unsafe(no_mangle)]
+pub extern "C" fn yengatomu_count_words(alloc: Global, slot: &mut Slot, text: &[u8]) -> usize
+    ensures kept { finder_in slot.new ≡ finder_in slot.old }
+    ensures empty { finder_in slot.old ≡ None → result ≡ 0 }
+    ensures count { IfSome (finder_in slot.old) (λ finder. result ≡ word_count finder utf8 text.now) }
+{
+    let Some(segmenter) = slot.take(alloc) else {
+        return 0;
+    };
+    let count = texts::count_words(&segmenter, text);
+    slot.put(segmenter);
+    count
+}
+
+/// Gives a segmenter of words or lines the words of a script, if it has none of that script yet: of 1 Myanmar, 2 Chinese or Japanese, 3 Khmer,
+/// 4 Lao, 5 Thai. 0 where they are loaded, 1 where memory is missing, 2 where there is no such script, or the slot holds neither words nor lines,
+/// 3 where a word isn't UTF-8; in these cases the slot is as it was.
+#[unsafe(no_mangle)]
+pub extern "C" fn yengatomu_load_dictionary(
+    alloc: Global,
+    slot: &mut Slot,
+    words: &[&[u8]],
+    script: u32,
+) -> u32
+    ensures { IsLoaded words.now (numbered_script script) (finder_in slot.old) (finder_in slot.new) result }
+{
+    let Some(mut segmenter) = slot.take(alloc) else {
+        return 2;
+    };
+    let loaded = dictionary::load(alloc, &mut segmenter, words, script);
+    slot.put(segmenter);
+    match loaded {
+        Ok(()) => 0,
+        Err(Refusal::Memory) => 1,
+        Err(Refusal::NoSuch) => 2,
+        Err(Refusal::NotUtf8) => 3,
+    }
+}

@@ -1,0 +1,128 @@
+//! The segmenter that a slot holds.
+
+ghost use Rattle.std.specs.Prelude.{◌≡◌, IfOk};
+ghost use Rattle.icu_segmenter.specs.Boundaries.{HasRestart};
+ghost use Rattle.icu_segmenter.specs.Lines.{owned_line_rules};
+ghost use Rattle.yengatomu_c.specs.Finders.{find_by, finder_of};
+ghost use Rattle.icu_segmenter.specs.ScriptWords.{script_words};
+ghost use Rattle.yengatomu_c.specs.Loaded.{takes_words, with_dictionary};
+ghost use Rattle.yengatomu_c.specs.Options.{finder_asked, line_rules_for};
+
+use crate::request::{LineOptions, Request};
+use icu_segmenter::options::{LanguageIdentifier, LineBreakOptions};
+use icu_segmenter::provider::{DataError, Dictionaries};
+use icu_segmenter::{
+    GraphemeClusterSegmenter, LineSegmenter, SentenceSegmenter, WordSegmenter, laws,
+};
+use icu_segmenter_data::{grapheme_segmenter, line_segmenter, sentence_segmenter, word_segmenter};
+use std::alloc::{AllocError, Global};
+
+/// A segmenter of one kind.
+#[derive(Drop)]
+pub enum Segmenter {
+    Clusters(GraphemeClusterSegmenter),
+    Words(WordSegmenter),
+    Sentences(SentenceSegmenter),
+    Lines(LineSegmenter),
+}
+
+impl Segmenter {
+    /// What is asked for, in a box. The only error is that memory is missing.
+    pub fn boxed(alloc: Global, request: Request) -> Result<Box<Segmenter>, DataError>
+        ensures made { IfOk result (λ segmenter. finder_of segmenter.value ≡ finder_asked request) }
+        ensures restart { IfOk result (λ segmenter. HasRestart (find_by (finder_of segmenter.value))) }
+    {
+        let segmenter = Segmenter::new(alloc, request)?;
+        match Box::new(alloc, segmenter) {
+            Ok(boxed) => Ok(boxed),
+            Err(error) => Err(AllocError::from(error).into()),
+        }
+    }
+
+    /// What is asked for. The only error is that memory is missing.
+    pub fn new(alloc: Global, request: Request) -> Result<Self, DataError>
+        ensures made { IfOk result (λ segmenter. finder_of segmenter ≡ finder_asked request) }
+        ensures restart { IfOk result (λ segmenter. HasRestart (find_by (finder_of segmenter))) }
+    {
+        match request {
+            Request::Clusters => clusters(alloc),
+            Request::Words => words(alloc),
+            Request::Sentences => sentences(alloc),
+            Request::Lines(options) => lines(alloc, options),
+        }
+    }
+
+    /// Whether it takes the words of scripts.
+    pub fn takes_words(&self) -> bool
+        ensures { result ≡ takes_words (finder_of self.now) }
+    {
+        match self {
+            Segmenter::Words(_) | Segmenter::Lines(_) => true,
+            Segmenter::Clusters(_) | Segmenter::Sentences(_) => false,
+        }
+    }
+
+    /// Takes the words of scripts that it has none of yet, if it takes words.
+    pub fn take_words(&mut self, dictionaries: Dictionaries)
+        ensures { finder_of self.new ≡ with_dictionary (finder_of self.old) (script_words dictionaries) }
+    {
+        match self {
+            Segmenter::Words(words) => words.load_dictionary(dictionaries),
+            Segmenter::Lines(lines) => lines.load_dictionary(dictionaries),
+            Segmenter::Clusters(_) | Segmenter::Sentences(_) => {}
+        }
+    }
+}
+
+fn clusters(alloc: Global) -> Result<Segmenter, DataError>
+    ensures made { IfOk result (λ segmenter. finder_of segmenter ≡ finder_asked Request.Clusters) }
+    ensures restart { IfOk result (λ segmenter. HasRestart (find_by (finder_of segmenter))) }
+{
+    let clusters = grapheme_segmenter(alloc)?;
+    laws::grapheme::restart(clusters.as_borrowed());
+    Ok(Segmenter::Clusters(clusters))
+}
+
+fn words(alloc: Global) -> Result<Segmenter, DataError>
+    ensures made { IfOk result (λ segmenter. finder_of segmenter ≡ finder_asked Request.Words) }
+    ensures restart { IfOk result (λ segmenter. HasRestart (find_by (finder_of segmenter))) }
+{
+    let words = word_segmenter(alloc)?;
+    laws::word::restart(words.as_borrowed());
+    Ok(Segmenter::Words(words))
+}
+
+fn sentences(alloc: Global) -> Result<Segmenter, DataError>
+    ensures made { IfOk result (λ segmenter. finder_of segmenter ≡ finder_asked Request.Sentences) }
+    ensures restart { IfOk result (λ segmenter. HasRestart (find_by (finder_of segmenter))) }
+{
+    let sentences = sentence_segmenter(alloc)?;
+    laws::sentence::restart(sentences.as_borrowed());
+    Ok(Segmenter::Sentences(sentences))
+}
+
+fn lines(alloc: Global, options: LineOptions) -> Result<Segmenter, DataError>
+    ensures made { IfOk result (λ segmenter. finder_of segmenter ≡ finder_asked (Request.Lines options)) }
+    ensures restart { IfOk result (λ segmenter. HasRestart (find_by (finder_of segmenter))) }
+{
+    let lines = line_segmenter_by(alloc, options)?;
+    laws::line::restart(lines.as_borrowed());
+    Ok(Segmenter::Lines(lines))
+}
+
+fn line_segmenter_by(alloc: Global, options: LineOptions) -> Result<LineSegmenter, DataError>
+    ensures { IfOk result (λ lines. owned_line_rules lines ≡ line_rules_for options.strictness options.word_option options.is_chinese_or_japanese) }
+{
+    let chinese = LanguageIdentifier::try_from_language("zh");
+    let content_locale = if options.is_chinese_or_japanese {
+        chinese.as_ref()
+    } else {
+        None
+    };
+    let options = LineBreakOptions {
+        strictness: Some(options.strictness),
+        word_option: Some(options.word_option),
+        content_locale,
+    };
+    line_segmenter(alloc, options)
+}
