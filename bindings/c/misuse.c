@@ -1,0 +1,284 @@
+/* What a caller may get wrong or overdo, and what must come of it: numbers that there are none of, slots that are empty, opened twice or
+ * moved, starts inside a character and past the end, buffers without room, empty and ill-formed texts, and, with the word `large`, a text
+ * of 2^33 bytes. Under valgrind it must leave nothing behind. */
+#define _DEFAULT_SOURCE
+#include "check.h"
+#include <string.h>
+#include <sys/mman.h>
+#include <yengatomu.h>
+
+enum { ROOM = 256 };
+
+static const uint8_t *bytes_of(const char *text) { return (const uint8_t *)text; }
+
+static yengatomu_slot opened(uint32_t kind) {
+    yengatomu_slot slot = {0};
+    CHECK(yengatomu_open(&slot, kind, 0, 0, false) == YENGATOMU_OK);
+    CHECK(slot.full);
+    return slot;
+}
+
+/* What no slot may answer that is empty. */
+static void check_empty(yengatomu_slot *slot) {
+    static const yengatomu_word word = {(const uint8_t *)"a", 1};
+    static const uint16_t units[] = {'a', ' ', 'b'};
+    const uint8_t *text = bytes_of("a b");
+    size_t places[4] = {7, 7, 7, 7}, widths[4] = {7, 7, 7, 7};
+    uint8_t marks[4] = {7, 7, 7, 7};
+    CHECK(!slot->full);
+    CHECK(yengatomu_boundaries(slot, text, 3, 0, places, 4) == 0);
+    CHECK(yengatomu_boundaries_utf16(slot, units, 3, 0, places, 4) == 0);
+    CHECK(yengatomu_marked_boundaries(slot, text, 3, 0, places, 4, marks, 4) == 0);
+    CHECK(yengatomu_marked_boundaries_utf16(slot, units, 3, 0, places, 4, marks, 4) == 0);
+    CHECK(yengatomu_wrap(slot, text, 3, 0, 1, places, 4) == 0);
+    CHECK(yengatomu_wrap_columns(slot, text, 3, 0, 1, places, 4, widths, 4) == 0);
+    CHECK(places[0] == 7 && widths[0] == 7 && marks[0] == 7);
+    CHECK(yengatomu_next(slot, text, 3, 0) == YENGATOMU_NONE);
+    CHECK(yengatomu_previous(slot, text, 3, 3) == YENGATOMU_NONE);
+    CHECK(yengatomu_count(slot, text, 3) == 0);
+    CHECK(yengatomu_count_utf16(slot, units, 3) == 0);
+    CHECK(yengatomu_count_words(slot, text, 3) == 0);
+    CHECK(yengatomu_count_words_utf16(slot, units, 3) == 0);
+    CHECK(yengatomu_load_dictionary(slot, &word, 1, YENGATOMU_THAI) == YENGATOMU_NO_SUCH);
+    CHECK(!slot->full);
+}
+
+static void try_numbers(void) {
+    static const uint32_t unknown[] = {4, 5, 255, 256, 1u << 16, UINT32_MAX};
+    yengatomu_slot slot = {0};
+    for (size_t i = 0; i < sizeof unknown / sizeof *unknown; i++) {
+        /* Each second time the slot holds a segmenter, which must be freed. */
+        if (i % 2) slot = opened(YENGATOMU_WORDS);
+        CHECK(yengatomu_open(&slot, unknown[i], 0, 0, false) == YENGATOMU_NO_SUCH);
+        check_empty(&slot);
+        CHECK(yengatomu_open(&slot, YENGATOMU_LINES, unknown[i], 0, false) == YENGATOMU_NO_SUCH);
+        check_empty(&slot);
+        CHECK(yengatomu_open(&slot, YENGATOMU_LINES, 0, unknown[i], true) == YENGATOMU_NO_SUCH);
+        check_empty(&slot);
+        /* Other kinds than lines don't read the options. */
+        CHECK(yengatomu_open(&slot, YENGATOMU_SENTENCES, unknown[i], unknown[i], true) == YENGATOMU_OK);
+        yengatomu_close(&slot);
+        CHECK(yengatomu_unicode_version(unknown[i]) == 0);
+    }
+    for (uint32_t strictness = 0; strictness < 4; strictness++) {
+        for (uint32_t word_break = 0; word_break < 3; word_break++) {
+            for (int chinese = 0; chinese < 2; chinese++) {
+                CHECK(yengatomu_open(&slot, YENGATOMU_LINES, strictness, word_break, chinese) == YENGATOMU_OK);
+                CHECK(yengatomu_count(&slot, bytes_of("ab\ncd"), 5) > 1);
+            }
+        }
+    }
+    yengatomu_close(&slot);
+    for (uint32_t kind = 0; kind < 4; kind++) CHECK(yengatomu_unicode_version(kind) >= 150000);
+    CHECK(yengatomu_version() > 0);
+}
+
+static void try_slots(void) {
+    yengatomu_slot slot = {0}, moved = {0};
+    const uint8_t *text = bytes_of("a b");
+    size_t places[ROOM];
+    check_empty(&slot);
+    yengatomu_close(&slot);
+    check_empty(&slot);
+    /* Opened twice: the first is freed. */
+    slot = opened(YENGATOMU_SENTENCES);
+    CHECK(yengatomu_boundaries(&slot, text, 3, 0, places, ROOM) == 1);
+    CHECK(yengatomu_open(&slot, YENGATOMU_CLUSTERS, 0, 0, false) == YENGATOMU_OK);
+    CHECK(yengatomu_boundaries(&slot, text, 3, 0, places, ROOM) == 3);
+    /* Moved. */
+    moved = slot;
+    memset(&slot, 0, sizeof slot);
+    CHECK(yengatomu_boundaries(&moved, text, 3, 0, places, ROOM) == 3 && places[0] == 1 && places[1] == 2 && places[2] == 3);
+    check_empty(&slot);
+    /* Closed, closed again, and opened again. */
+    yengatomu_close(&moved);
+    check_empty(&moved);
+    yengatomu_close(&moved);
+    CHECK(yengatomu_open(&moved, YENGATOMU_LINES, 0, 0, false) == YENGATOMU_OK);
+    CHECK(yengatomu_boundaries(&moved, text, 3, 0, places, ROOM) == 2);
+    yengatomu_close(&moved);
+}
+
+/* From each place on, also inside characters and past the end, the boundaries are those of the rest alone. */
+static void check_rests(yengatomu_slot *slot, const char *given) {
+    size_t len = strlen(given), whole[ROOM], alone[ROOM], count;
+    uint8_t *rest, marks[ROOM];
+    for (size_t from = 0; from <= len; from++) {
+        rest = block(len - from);
+        memcpy(rest, given + from, len - from);
+        count = yengatomu_boundaries(slot, rest, len - from, 0, alone, ROOM);
+        CHECK((count > 0) == (from < len));
+        CHECK(yengatomu_boundaries(slot, bytes_of(given), len, from, whole, ROOM) == count);
+        for (size_t i = 0; i < count; i++) CHECK(whole[i] == from + alone[i]);
+        CHECK(!count || whole[count - 1] == len);
+        CHECK(yengatomu_marked_boundaries(slot, bytes_of(given), len, from, whole, ROOM, marks, ROOM) == count);
+        for (size_t i = 0; i < count; i++) CHECK(whole[i] == from + alone[i]);
+        count = yengatomu_wrap(slot, rest, len - from, 0, 5, alone, ROOM);
+        CHECK(yengatomu_wrap(slot, bytes_of(given), len, from, 5, whole, ROOM) == count);
+        for (size_t i = 0; i < count; i++) CHECK(whole[i] == from + alone[i]);
+        free(rest);
+    }
+    for (size_t past = 0; past < 3; past++) {
+        size_t from = past < 2 ? len + past : SIZE_MAX;
+        CHECK(yengatomu_boundaries(slot, bytes_of(given), len, from, whole, ROOM) == 0);
+        CHECK(yengatomu_marked_boundaries(slot, bytes_of(given), len, from, whole, ROOM, marks, ROOM) == 0);
+        CHECK(yengatomu_wrap(slot, bytes_of(given), len, from, 5, whole, ROOM) == 0);
+        CHECK(yengatomu_next(slot, bytes_of(given), len, from) == YENGATOMU_NONE);
+        CHECK(yengatomu_previous(slot, bytes_of(given), len, from) == (from > len ? len : yengatomu_previous(slot, bytes_of(given), len, len)));
+    }
+}
+
+/* No more is written than there is room for. */
+static void check_room(yengatomu_slot *slot, const char *text) {
+    size_t len = strlen(text), all[ROOM], some[ROOM], widths[ROOM], count = yengatomu_boundaries(slot, bytes_of(text), len, 0, all, ROOM);
+    uint8_t marks[ROOM];
+    for (size_t room = 0; room <= count; room++) {
+        memset(some, 0xA5, sizeof some);
+        CHECK(yengatomu_boundaries(slot, bytes_of(text), len, 0, some, room) == room);
+        CHECK(!memcmp(some, all, room * sizeof *all) && some[room] == SIZE_MAX / 0xFF * 0xA5);
+        for (size_t marks_room = 0; marks_room <= count; marks_room++) {
+            size_t least = room < marks_room ? room : marks_room;
+            memset(some, 0xA5, sizeof some);
+            memset(marks, 0xA5, sizeof marks);
+            CHECK(yengatomu_marked_boundaries(slot, bytes_of(text), len, 0, some, room, marks, marks_room) == least);
+            CHECK(!memcmp(some, all, least * sizeof *all) && some[least] == SIZE_MAX / 0xFF * 0xA5 && marks[least] == 0xA5);
+        }
+    }
+    CHECK(yengatomu_wrap(slot, bytes_of(text), len, 0, 3, some, 0) == 0);
+    CHECK(yengatomu_wrap_columns(slot, bytes_of(text), len, 0, 3, some, ROOM, widths, 0) == 0);
+    count = yengatomu_wrap_columns(slot, bytes_of(text), len, 0, 3, all, ROOM, widths, ROOM);
+    for (size_t room = 0; room <= count; room++) {
+        memset(some, 0xA5, sizeof some);
+        memset(widths, 0xA5, sizeof widths);
+        CHECK(yengatomu_wrap_columns(slot, bytes_of(text), len, 0, 3, some, ROOM, widths, room) == room);
+        CHECK(!memcmp(some, all, room * sizeof *all) && some[room] == SIZE_MAX / 0xFF * 0xA5 && widths[room] == SIZE_MAX / 0xFF * 0xA5);
+    }
+}
+
+/* An empty text has the boundary 0 alone. */
+static void check_empty_text(yengatomu_slot *slot) {
+    const uint8_t *text = block(0);
+    const uint16_t *units = block(0);
+    size_t places[1], widths[1];
+    uint8_t marks[1];
+    CHECK(yengatomu_boundaries(slot, text, 0, 0, places, 1) == 0);
+    CHECK(yengatomu_boundaries_utf16(slot, units, 0, 0, places, 1) == 0);
+    CHECK(yengatomu_marked_boundaries(slot, text, 0, 0, places, 1, marks, 1) == 0);
+    CHECK(yengatomu_marked_boundaries_utf16(slot, units, 0, 0, places, 1, marks, 1) == 0);
+    CHECK(yengatomu_wrap(slot, text, 0, 0, 80, places, 1) == 0);
+    CHECK(yengatomu_wrap_columns(slot, text, 0, 0, 80, places, 1, widths, 1) == 0);
+    CHECK(yengatomu_next(slot, text, 0, 0) == YENGATOMU_NONE);
+    CHECK(yengatomu_previous(slot, text, 0, 0) == YENGATOMU_NONE);
+    CHECK(yengatomu_previous(slot, text, 0, 1) == 0);
+    CHECK(yengatomu_count(slot, text, 0) == 0 && yengatomu_count_utf16(slot, units, 0) == 0);
+    CHECK(yengatomu_count_words(slot, text, 0) == 0 && yengatomu_count_words_utf16(slot, units, 0) == 0);
+    free((void *)text);
+    free((void *)units);
+}
+
+static void try_texts(void) {
+    /* e and U+0301, Thai, flags, line feeds, an emoji of parts, and ill-formed bytes */
+    static const char text[] = "Mr. e\xcc\x81 3.14!\r\n\xe0\xb8\xa0\xe0\xb8\xb2 \xf0\x9f\x87\xbb\xf0\x9f\x87\xb3\xf0\x9f\x91\xa9\xe2\x80\x8d\xf0\x9f\x91\xa7\n\xff\xed\xa0\x80z\xe6\x9d\xb1\xe4\xba\xac";
+    for (uint32_t kind = 0; kind < 4; kind++) {
+        yengatomu_slot slot = opened(kind);
+        check_empty_text(&slot);
+        check_rests(&slot, text);
+        check_room(&slot, text);
+        CHECK((yengatomu_count_words(&slot, bytes_of(text), sizeof text - 1) > 0) == (kind == YENGATOMU_WORDS));
+        CHECK((yengatomu_wrap(&slot, bytes_of(text), sizeof text - 1, 0, SIZE_MAX, (size_t[9]){0}, 9) == 3) == (kind == YENGATOMU_LINES));
+        CHECK((yengatomu_wrap(&slot, bytes_of(text), sizeof text - 1, 0, 0, (size_t[99]){0}, 99) > 3) == (kind == YENGATOMU_LINES));
+        yengatomu_close(&slot);
+    }
+}
+
+static void check_clusters(const char *text, size_t len, const size_t *wanted, size_t count) {
+    yengatomu_slot slot = opened(YENGATOMU_CLUSTERS);
+    size_t found[ROOM];
+    CHECK(yengatomu_boundaries(&slot, bytes_of(text), len, 0, found, ROOM) == count);
+    CHECK(!memcmp(found, wanted, count * sizeof *wanted));
+    yengatomu_close(&slot);
+}
+
+/* The tables 3-8 to 3-11 of the Unicode Standard: where U+FFFD stand for ill-formed UTF-8; and the same of UTF-16. */
+static void try_ill_formed(void) {
+    static const uint16_t units[] = {0xD800, 'a', 0xDC00, 0xD800, 0xD83C, 0xDDFB, 0xD83C, 0xDDF3, 0xDBFF};
+    static const size_t places[] = {1, 2, 3, 4, 8, 9};
+    yengatomu_slot slot = opened(YENGATOMU_CLUSTERS);
+    size_t found[ROOM];
+    check_clusters("\xC0\xAF\xE0\x80\xBF\xF0\x81\x82\x41", 9, (size_t[]){1, 2, 3, 4, 5, 6, 7, 8, 9}, 9);
+    check_clusters("\xED\xA0\x80\xED\xBF\xBF\xED\xAF\x41", 9, (size_t[]){1, 2, 3, 4, 5, 6, 7, 8, 9}, 9);
+    check_clusters("\xF4\x91\x92\x93\xFF\x41\x80\xBF\x42", 9, (size_t[]){1, 2, 3, 4, 5, 6, 7, 8, 9}, 9);
+    check_clusters("\xE1\x80\xE2\xF0\x91\x92\xF1\xBF\x41", 9, (size_t[]){2, 3, 6, 8, 9}, 5);
+    CHECK(yengatomu_boundaries_utf16(&slot, units, 9, 0, found, ROOM) == 6 && !memcmp(found, places, sizeof places));
+    yengatomu_close(&slot);
+}
+
+static void try_dictionaries(void) {
+    static const char thai[] = "\xe0\xb8\xa0\xe0\xb8\xb2\xe0\xb8\xa9\xe0\xb8\xb2\xe0\xb9\x84\xe0\xb8\x97\xe0\xb8\xa2";
+    const yengatomu_word good[] = {{bytes_of(thai), 12}, {bytes_of(thai) + 12, 9}};
+    const yengatomu_word bad[] = {{bytes_of(thai), 12}, {bytes_of(thai) + 12, 8}};
+    static const uint32_t unknown[] = {0, 6, 256, UINT32_MAX};
+    size_t before[ROOM], after[ROOM], count;
+    for (uint32_t kind = 0; kind < 4; kind++) {
+        yengatomu_slot slot = opened(kind);
+        bool takes = kind == YENGATOMU_WORDS || kind == YENGATOMU_LINES;
+        count = yengatomu_boundaries(&slot, bytes_of(thai), 21, 0, before, ROOM);
+        for (int i = 0; i < 4; i++) CHECK(yengatomu_load_dictionary(&slot, good, 2, unknown[i]) == YENGATOMU_NO_SUCH);
+        CHECK(yengatomu_load_dictionary(&slot, bad, 2, YENGATOMU_THAI) == (takes ? YENGATOMU_NOT_UTF8 : YENGATOMU_NO_SUCH));
+        CHECK(yengatomu_boundaries(&slot, bytes_of(thai), 21, 0, after, ROOM) == count && !memcmp(before, after, count * sizeof *after));
+        for (uint32_t script = YENGATOMU_MYANMAR; script <= YENGATOMU_THAI; script++)
+            CHECK(yengatomu_load_dictionary(&slot, good, 2, script) == (takes ? YENGATOMU_OK : YENGATOMU_NO_SUCH));
+        count = yengatomu_boundaries(&slot, bytes_of(thai), 21, 0, before, ROOM);
+        CHECK(!takes || (count == 2 && before[0] == 12 && before[1] == 21));
+        /* The words that came first stay. */
+        CHECK(yengatomu_load_dictionary(&slot, good + 1, 1, YENGATOMU_THAI) == (takes ? YENGATOMU_OK : YENGATOMU_NO_SUCH));
+        CHECK(yengatomu_boundaries(&slot, bytes_of(thai), 21, 0, after, ROOM) == count && !memcmp(before, after, count * sizeof *after));
+        yengatomu_close(&slot);
+        /* No words at all. */
+        slot = opened(kind);
+        CHECK(yengatomu_load_dictionary(&slot, good, 0, YENGATOMU_THAI) == (takes ? YENGATOMU_OK : YENGATOMU_NO_SUCH));
+        yengatomu_close(&slot);
+    }
+}
+
+/* A text of 2^33 zero bytes with a line feed at 2^32, at 2^32 + 7 and 1,000 bytes before the end. */
+static void try_large(void) {
+    const size_t len = (size_t)1 << 33, middle = (size_t)1 << 32;
+    size_t places[8];
+    uint8_t *text = mmap(NULL, len, PROT_READ | PROT_WRITE, MAP_PRIVATE | MAP_ANONYMOUS | MAP_NORESERVE, -1, 0);
+    if (text == MAP_FAILED) {
+        puts("no address space for 2^33 bytes");
+        return;
+    }
+    text[middle] = text[middle + 7] = text[len - 1000] = '\n';
+    for (uint32_t kind = 0; kind < 4; kind++) {
+        yengatomu_slot slot = opened(kind);
+        bool is_each = kind == YENGATOMU_CLUSTERS || kind == YENGATOMU_WORDS;
+        if (is_each) {
+            CHECK(yengatomu_boundaries(&slot, text, len, 0, places, 8) == 8 && places[7] == 8);
+            CHECK(yengatomu_next(&slot, text, len, 0) == 1);
+        }
+        CHECK(yengatomu_boundaries(&slot, text, len, middle + 1, places, 1) == 1);
+        CHECK(places[0] == (is_each ? middle + 2 : middle + 8));
+        CHECK(yengatomu_next(&slot, text, len, middle + 3) == (is_each ? middle + 4 : middle + 8));
+        CHECK(yengatomu_previous(&slot, text, len, middle + 3) == (is_each ? middle + 2 : middle + 1));
+        CHECK(yengatomu_boundaries(&slot, text, len, len - 3, places, 8) == (is_each ? 3 : 1));
+        CHECK(places[is_each ? 2 : 0] == len);
+        CHECK(yengatomu_next(&slot, text, len, len - 1) == len && yengatomu_next(&slot, text, len, len) == YENGATOMU_NONE);
+        CHECK(yengatomu_previous(&slot, text, len, SIZE_MAX) == len);
+        CHECK(yengatomu_wrap(&slot, text, len, len - 1000, 80, places, 8) == (kind == YENGATOMU_LINES ? 2 : 0));
+        yengatomu_close(&slot);
+    }
+    munmap(text, len);
+    puts("2^33 bytes");
+}
+
+int main(int count, char **words) {
+    try_numbers();
+    try_slots();
+    try_texts();
+    try_ill_formed();
+    try_dictionaries();
+    if (count > 1 && !strcmp(words[1], "large")) try_large();
+    return failed ? 1 : 0;
+}

@@ -1,0 +1,73 @@
+"""The calls of yengatomu.h.
+
+They are called by `ctypes.CDLL`, which lets other threads run meanwhile. So each segmenter has a lock of its own, since a slot serves one call at a time;
+`ctypes.PyDLL` would need none while there is a global lock, but would stop all other threads during a call, and keep two from segmenting side by side.
+"""
+
+from __future__ import annotations
+
+import ctypes
+import os
+
+NAME = "libyengatomu.so.0"
+# What open and load_dictionary return.
+OK, NO_MEMORY, NO_SUCH, NOT_UTF8 = range(4)
+# No boundary.
+NONE = ctypes.c_size_t(-1).value
+
+
+def _loaded() -> ctypes.CDLL:
+    """Loads the library: from the folder that YENGATOMU_LIB_DIR names, from this package, where a wheel has it, or as the loader finds it."""
+    here = os.path.dirname(os.path.abspath(__file__))
+    folder = os.environ.get("YENGATOMU_LIB_DIR")
+    beside = os.path.join(here, NAME)
+    path = os.path.join(folder, NAME) if folder else beside if os.path.exists(beside) else NAME
+    try:
+        return ctypes.CDLL(path)
+    except OSError as error:
+        raise ImportError(f"{NAME} can't be loaded: {error}. It stands in the package once this is installed, or YENGATOMU_LIB_DIR names its folder") from error
+
+
+_library = _loaded()
+
+
+class Slot(ctypes.Structure):
+    """Holds a segmenter or nothing. What it holds is freed with it."""
+
+    _fields_ = [("full", ctypes.c_bool), ("at", ctypes.c_void_p)]
+
+    def __del__(self, close=_library.yengatomu_close, byref=ctypes.byref) -> None:
+        close(byref(self))
+
+
+class Word(ctypes.Structure):
+    """A word of a dictionary."""
+
+    _fields_ = [("bytes", ctypes.c_char_p), ("len", ctypes.c_size_t)]
+
+
+_SLOT, _SIZE, _U32, _TEXT, _ARRAY = ctypes.POINTER(Slot), ctypes.c_size_t, ctypes.c_uint32, ctypes.c_char_p, ctypes.c_void_p
+
+
+def _call(name: str, result, *arguments):
+    found = getattr(_library, f"yengatomu_{name}")
+    found.restype, found.argtypes = result, arguments
+    return found
+
+
+open_slot = _call("open", _U32, _SLOT, _U32, _U32, _U32, ctypes.c_bool)
+load_dictionary = _call("load_dictionary", _U32, _SLOT, ctypes.POINTER(Word), _SIZE, _U32)
+_call("close", None, _SLOT)
+boundaries = _call("boundaries", _SIZE, _SLOT, _TEXT, _SIZE, _SIZE, _ARRAY, _SIZE)
+boundaries_utf16 = _call("boundaries_utf16", _SIZE, _SLOT, _TEXT, _SIZE, _SIZE, _ARRAY, _SIZE)
+marked_boundaries = _call("marked_boundaries", _SIZE, _SLOT, _TEXT, _SIZE, _SIZE, _ARRAY, _SIZE, _ARRAY, _SIZE)
+marked_boundaries_utf16 = _call("marked_boundaries_utf16", _SIZE, _SLOT, _TEXT, _SIZE, _SIZE, _ARRAY, _SIZE, _ARRAY, _SIZE)
+next_boundary = _call("next", _SIZE, _SLOT, _TEXT, _SIZE, _SIZE)
+previous_boundary = _call("previous", _SIZE, _SLOT, _TEXT, _SIZE, _SIZE)
+wrap_columns = _call("wrap_columns", _SIZE, _SLOT, _TEXT, _SIZE, _SIZE, _SIZE, _ARRAY, _SIZE, _ARRAY, _SIZE)
+count = _call("count", _SIZE, _SLOT, _TEXT, _SIZE)
+count_utf16 = _call("count_utf16", _SIZE, _SLOT, _TEXT, _SIZE)
+count_words = _call("count_words", _SIZE, _SLOT, _TEXT, _SIZE)
+count_words_utf16 = _call("count_words_utf16", _SIZE, _SLOT, _TEXT, _SIZE)
+version = _call("version", _U32)
+unicode_version = _call("unicode_version", _U32, _U32)
