@@ -13,8 +13,7 @@ fn main(rt: HostRuntime) -> anyhow::Result<()> {
     let lines = line_segmenter(alloc, LineBreakOptions::default())?;
     let wrapper = LineWrapper::new(lines.as_borrowed())?;
     for line in wrapper.wrap_str(text.as_str(), 30) {
-        let columns = line.columns();
-        println!(rt; "{columns:2} {}", line.text().trim_end())?;
+        println!(rt; "{:2} {}", line.columns(), line.text().trim_end())?;
     }
     Ok(())
 }

@@ -1,5 +1,6 @@
 -- Where lists of code points may be cut anew from their boundaries, texts may too: behind one of them come those of the rest.
-use Rattle.std.proofs.Common.{◌≡◌, ℕ, zero, suc, ◌+◌, ◌≤◌, List, [], ◌∷◌, ◌++◌, map, take, drop, length, slice_get, refl, sym, ap, ap₂, ◌∙◌, arith, drop_at, take_at, inl, inr, append_assoc}
+use Rattle.std.proofs.Common.{◌≡◌, ℕ, zero, suc, ◌+◌, ◌≤◌, List, [], ◌∷◌, ◌++◌, map, take, drop, length, slice_get, refl, sym, ap, ap₂, ◌∙◌, arith, drop_at, take_at, inl, inr, append_assoc, subst}
+use Rattle.std.proofs.str.Laws.{one}
 use Rattle.std.specs.Prelude.{Some, Contains}
 use Rattle.std.proofs.lemmas.List.{length-drop, drop-map, drop_more, map-append, take-append-drop}
 use Rattle.std.proofs.lemmas.Option.{slice_get_read}
@@ -8,7 +9,7 @@ use Rattle.seg_text.specs.Items.{Item, Reader, Text, place_of, start_of, rest_af
 use Rattle.seg_text.specs.Boundaries.{HasRestart, IsCover, RestartsIn, RisesTo, boundary_in, boundaries_in, offsets, shift_all}
 use Rattle.seg_text.specs.Lemmas.Readers.{IsReader, items_by-nil, items_by-cons}
 use Rattle.icu_segmenter.specs.NearBoundaries.{BeginsLine, line_feed}
-use Rattle.icu_segmenter.specs.Rules.{PartsBehind}
+use Rattle.icu_segmenter.specs.Rules.{PartsBehind, PartsTexts}
 use Rattle.seg_text.specs.Decoding.{read_utf8, utf8, utf8_items, read_utf16, utf16, utf16_items}
 use Rattle.seg_text.specs.Lemmas.Utf8Stable.{read_utf8-stable}
 use Rattle.seg_text.specs.Lemmas.Utf16Stable.{read_utf16-stable}
@@ -179,3 +180,11 @@ behind-utf8 find restart bytes from has = behind-boundaries read_utf8 read_utf8-
 pub behind-utf16 : (find : List ℕ → List Boundary) → HasRestart find → (units : List ℕ) (from : ℕ) → Contains (offsets (boundaries_in find (utf16 units))) from → GoesOn find utf16 units from
 unfolding utf16_items
 behind-utf16 find restart units from has = behind-boundaries read_utf16 read_utf16-stable.reader find restart units from has
+
+-- a line feed is one unit
+
+pub feeds-utf8 : (find : List ℕ → List Boundary) → PartsTexts find 0x0A → PartsBehind (λ bytes. boundaries_in find (utf8 bytes)) line_feed
+feeds-utf8 find parts = subst (PartsBehind (λ bytes. boundaries_in find (utf8 bytes))) (one 0x0A (omega arith)) parts.in_utf8
+
+pub feeds-utf16 : (find : List ℕ → List Boundary) → PartsTexts find 0x0A → PartsBehind (λ units. boundaries_in find (utf16 units)) line_feed
+feeds-utf16 find parts = parts.in_utf16

@@ -6,3 +6,4 @@ mod Counted
 mod Lines
 mod Marked
 mod ReadWords
+mod Feeds

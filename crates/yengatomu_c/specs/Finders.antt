@@ -5,11 +5,12 @@ use Rattle.icu_segmenter.specs.Boundary.{Boundary}
 use Rattle.icu_segmenter.specs.Boundaries.{HasRestart, boundaries_in, offsets}
 use Rattle.icu_segmenter.specs.Clusters.{owned_cluster_rules, owned_sentence_rules}
 use Rattle.icu_segmenter.specs.Items.{Text}
-use Rattle.icu_segmenter.specs.LineBreaks.{LineRules, line_boundaries_by}
+use Rattle.icu_segmenter.specs.LineBreaks.{LineRules, LinesResetAfter, line_boundaries_by, lines_with_words}
 use Rattle.icu_segmenter.specs.Lines.{owned_line_rules}
-use Rattle.icu_segmenter.specs.NearBoundaries.{BeginsLine, line_feed}
-use Rattle.icu_segmenter.specs.Rules.{PartsBehind, Rules, boundaries_by}
-use Rattle.icu_segmenter.specs.WordRules.{WordRules, word_boundaries_by}
+use Rattle.icu_segmenter.specs.NearBoundaries.{BeginsLine}
+use Rattle.icu_segmenter.specs.Rules.{ResetsAfter, Rules, boundaries_by}
+use Rattle.icu_segmenter.specs.ScriptWords.{ScriptWords}
+use Rattle.icu_segmenter.specs.WordRules.{WordRules, WordsResetWith, word_boundaries_by}
 use Rattle.icu_segmenter.specs.Words.{owned_word_rules}
 use Rattle.yengatomu_c.specs.declared.segmenter.Segmenter.{Segmenter}
 use Rattle.yengatomu_c.specs.declared.segmenter.Segmenter.TheVariants as held
@@ -65,12 +66,17 @@ marks_behind finder decode units from =
 abbrev pub places_in : Finder → (List ℕ → Text) → List ℕ → List ℕ
 places_in finder decode units = offsets (boundaries_in (find_by finder) (decode units))
 
--- where a caller may go on: at any boundary where lists may be cut anew from theirs, or where a line begins and texts may be parted
--- behind line feeds
+-- a line feed resets what boundaries are found by, whatever words of scripts it has: so texts may be parted behind line feeds
+abbrev pub LineFeedsReset : Finder → Type 0
+LineFeedsReset (Clusters rules) = ResetsAfter rules 0x0A
+LineFeedsReset (Words rules) = (words : ScriptWords) → WordsResetWith rules.rules words 0x0A
+LineFeedsReset (Sentences rules) = ResetsAfter rules 0x0A
+LineFeedsReset (Lines rules) = (words : ScriptWords) → LinesResetAfter (lines_with_words rules words) 0x0A
+
+-- where a caller may go on: at any boundary where lists may be cut anew from theirs, or where a line begins and line feeds reset
 abbrev pub MayGoOnAt : Finder → (List ℕ → Text) → List ℕ → ℕ → Type 0
 MayGoOnAt finder decode units from =
-    (HasRestart (find_by finder) × Contains (places_in finder decode units) from)
-    ⊎ (PartsBehind (λ units. boundaries_in (find_by finder) (decode units)) line_feed × BeginsLine units from)
+    (HasRestart (find_by finder) × Contains (places_in finder decode units) from) ⊎ (LineFeedsReset finder × BeginsLine units from)
 
 -- all boundaries of the text are some, then the place, and then those of the rest
 abbrev pub GoesOnAt : Finder → (List ℕ → Text) → List ℕ → ℕ → Type 0

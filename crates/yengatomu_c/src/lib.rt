@@ -9,7 +9,7 @@ ghost use Rattle.icu_segmenter.specs.Boundaries.{HasRestart};
 ghost use Rattle.icu_segmenter.specs.Decoding.{utf8};
 ghost use Rattle.icu_segmenter.specs.NearBoundaries.{IsNearestAbove, IsNearestBelow};
 ghost use Rattle.yengatomu_c.specs.Buffers.{IsFilled, TakesFirst};
-ghost use Rattle.yengatomu_c.specs.Finders.{GoesOnAt, MayGoOnAt, find_by, finder_in, marks_behind, places_behind, places_in};
+ghost use Rattle.yengatomu_c.specs.Finders.{GoesOnAt, LineFeedsReset, MayGoOnAt, find_by, finder_in, marks_behind, places_behind, places_in};
 ghost use Rattle.yengatomu_c.specs.Loaded.{IsLoaded, numbered_script};
 ghost use Rattle.yengatomu_c.specs.Options.{IsOpened, numbered_finder};
 ghost use Rattle.yengatomu_c.specs.Words.{word_count};
@@ -50,6 +50,7 @@ pub extern "C" fn yengatomu_open(
 ) -> u32
     ensures opened { IsOpened (numbered_finder kind strictness word_break is_chinese_or_japanese) (finder_in slot.new) result }
     ensures restart { IfSome (finder_in slot.new) (λ finder. HasRestart (find_by finder)) }
+    ensures feeds { IfSome (finder_in slot.new) LineFeedsReset }
 {
     let _ = slot.take(alloc);
     let lines = LineNumbers {
@@ -248,7 +249,8 @@ pub extern "C" fn yengatomu_load_dictionary(
     words: &[&[u8]],
     script: u32,
 ) -> u32
-    ensures { IsLoaded words.now (numbered_script script) (finder_in slot.old) (finder_in slot.new) result }
+    ensures loaded { IsLoaded words.now (numbered_script script) (finder_in slot.old) (finder_in slot.new) result }
+    ensures feeds { IfSome (finder_in slot.old) LineFeedsReset → IfSome (finder_in slot.new) LineFeedsReset }
 {
     let Some(mut segmenter) = slot.take(alloc) else {
         return 2;

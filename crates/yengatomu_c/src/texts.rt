@@ -4,13 +4,15 @@ ghost use Rattle.std.specs.Prelude.{◌≡◌, ◌+◌, ◌<◌, ◌^◌, drop, 
 ghost use Rattle.icu_segmenter.specs.Boundaries.{IsCover, boundaries_in};
 ghost use Rattle.icu_segmenter.specs.Decoding.{utf8};
 ghost use Rattle.icu_segmenter.specs.NearBoundaries.{IsNearestAbove, IsNearestBelow};
+ghost use Rattle.icu_segmenter.specs.Rules.{PartsTexts};
 ghost use Rattle.yengatomu_c.specs.Buffers.{IsFilled, TakesFirst};
-ghost use Rattle.yengatomu_c.specs.Finders.{GoesOnAt, MayGoOnAt, find_by, finder_of, marks_behind, places_behind, places_in};
+ghost use Rattle.yengatomu_c.specs.Finders.{GoesOnAt, LineFeedsReset, MayGoOnAt, find_by, finder_of, marks_behind, places_behind, places_in};
 ghost use Rattle.yengatomu_c.specs.Words.{word_count};
 
 use crate::buffers;
 use crate::segmenter::Segmenter;
 use icu_segmenter::cursor::BoundaryCursor;
+use icu_segmenter::laws;
 
 /// What is left of some units from a place on: nothing where it is past their end.
 pub fn rest_of<T>(units: &[T], from: usize) -> &[T]
@@ -53,10 +55,23 @@ fn cover(segmenter: &Segmenter, text: &[u8])
     }
 }
 
+/// Law: where line feeds reset, texts may be parted behind them.
+pub fn parts(segmenter: &Segmenter)
+    ensures { LineFeedsReset (finder_of segmenter.now) → PartsTexts (find_by (finder_of segmenter.now)) 0x0A }
+{
+    match segmenter {
+        Segmenter::Clusters(s) => laws::grapheme::parts_behind_resets(s.as_borrowed(), '\n'),
+        Segmenter::Words(s) => laws::word::parts_behind_resets(s.as_borrowed(), '\n'),
+        Segmenter::Sentences(s) => laws::sentence::parts_behind_resets(s.as_borrowed(), '\n'),
+        Segmenter::Lines(s) => laws::line::parts_behind_resets(s.as_borrowed(), '\n'),
+    }
+}
+
 /// Law: where a caller may go on, the boundaries of the rest are those of the whole text.
 pub fn goes_on(segmenter: &Segmenter, text: &[u8], from: usize)
     ensures { MayGoOnAt (finder_of segmenter.now) utf8 text.now from → GoesOnAt (finder_of segmenter.now) utf8 text.now from }
 {
+    parts(segmenter);
     cover(segmenter, text);
     cover(segmenter, front_of(text, from));
 }

@@ -10,7 +10,7 @@ ghost use Rattle.yengatomu_c.specs.Words.{word_count};
 use crate::buffers;
 use crate::segmenter::Segmenter;
 use crate::slot::Slot;
-use crate::texts::{front_of, rest_of};
+use crate::texts::{front_of, parts, rest_of};
 use std::alloc::Global;
 
 /// `yengatomu_boundaries` of UTF-16.
@@ -60,6 +60,7 @@ fn cover(segmenter: &Segmenter, text: &[u16])
 fn goes_on(segmenter: &Segmenter, text: &[u16], from: usize)
     ensures { MayGoOnAt (finder_of segmenter.now) utf16 text.now from → GoesOnAt (finder_of segmenter.now) utf16 text.now from }
 {
+    parts(segmenter);
     cover(segmenter, text);
     cover(segmenter, front_of(text, from));
 }

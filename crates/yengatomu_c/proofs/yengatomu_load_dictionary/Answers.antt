@@ -3,16 +3,22 @@ use Rattle.std.specs.Prelude.{Some}
 use Rattle.std.specs.Option.{option_map}
 use Rattle.yengatomu_c.specs.Finders.{finder_of}
 use Rattle.yengatomu_c.specs.declared.segmenter.Segmenter.{Segmenter}
+use Rattle.yengatomu_c.proofs.Feeds.{feeds-kept}
 use Rattle.yengatomu_c.proofs.yengatomu_load_dictionary.Goals as goal
 
 pub returns-in-Ok : goal.returns-in-Ok
 returns-in-Ok c =
-    let (which, is, taken) = c.in-Ok.ensures.loaded in (
-      which,
-      finder_of c.deref_mut.result.now,
-      finder_of c.load-loaded.new.segmenter,
-      is,
-      ap (option_map finder_of) c.in-Some.ensures.taken ∙ ap (λ (segmenter : Segmenter). Some (finder_of segmenter)) (sym c.deref_mut.ensures.value),
-      ap (option_map finder_of) c.put.ensures,
-      taken,
-    )
+    let (which, is, taken) = c.in-Ok.ensures.loaded in
+    let (takes, utf8, (dictionary, same, new)) = taken in
+    record {
+      loaded = (
+        which,
+        finder_of c.deref_mut.result.now,
+        finder_of c.load-loaded.new.segmenter,
+        is,
+        ap (option_map finder_of) c.in-Some.ensures.taken ∙ ap (λ (segmenter : Segmenter). Some (finder_of segmenter)) (sym c.deref_mut.ensures.value),
+        ap (option_map finder_of) c.put.ensures,
+        taken,
+      );
+      feeds = λ reset. rw (c.put.ensures, new) (feeds-kept _ _ (rw c.deref_mut.ensures.value (rw c.in-Some.ensures.taken at reset)));
+    }

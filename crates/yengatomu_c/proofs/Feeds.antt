@@ -1,0 +1,151 @@
+-- A line feed resets Unicode's machines, whatever words of scripts there are: computed.
+use Rattle.std.proofs.Common.{◌≡◌, ℕ, ◌==◌, Bool, true, false, not, List, [], length, refl, sym, ap, subst, eqb-true}
+use Rattle.std.specs.Prelude.{Option, Some, None, IfSome}
+use Rattle.std.specs.Option.{is_some, option_map_or}
+use Rattle.ucd_table.proofs.TrieCheck.{all_below, all_below-at}
+use Rattle.icu_segmenter.specs.LineBreaks.{LinesResetAfter, lines_with_words}
+use Rattle.icu_segmenter.specs.Machine.{Machine, MachineTailoring, replaced, step, symbol_and_script, symbol_count, tailoring, with_tailoring}
+use Rattle.icu_segmenter.specs.Rules.{IsLastState, IsReset, ResetsAfter}
+use Rattle.icu_segmenter.specs.Rules.Rules.{ByMachine}
+use Rattle.icu_segmenter.specs.ScriptWords.{ScriptWords, words_in}
+use Rattle.icu_segmenter.specs.Spans.{IsOutsideRuns, if_worded}
+use Rattle.icu_segmenter.specs.Table.{value_of}
+use Rattle.icu_segmenter.specs.declared.options.LineBreakStrictness.{LineBreakStrictness}
+use Rattle.icu_segmenter.specs.declared.options.LineBreakStrictness.TheVariants as strictness
+use Rattle.icu_segmenter.specs.declared.options.LineBreakWordOption.{LineBreakWordOption}
+use Rattle.icu_segmenter.specs.declared.options.LineBreakWordOption.TheVariants as word_option
+use Rattle.icu_segmenter.specs.declared.provider.ComplexScript.{ComplexScript}
+use Rattle.icu_segmenter.specs.declared.provider.ComplexScript.TheVariants.{None as NoScript}
+use Rattle.icu_segmenter_data.specs.Unicode.{cluster_machine, line_machine, word_machine}
+use Rattle.icu_segmenter_uax29.specs.Clusters.{cluster_machine as proved_clusters}
+use Rattle.icu_segmenter_uax29.specs.Sentences.{sentence_machine as proved_sentences}
+use Rattle.yengatomu_c.specs.Finders.{Finder, LineFeedsReset}
+use Rattle.yengatomu_c.specs.Finders.Finder.{Clusters as ByClusters, Words as ByWords, Sentences as BySentences, Lines as ByLines}
+use Rattle.yengatomu_c.specs.Loaded.{with_dictionary}
+use Rattle.yengatomu_c.specs.Options.{finder_asked, line_rules_for}
+use Rattle.yengatomu_c.specs.declared.request.Request.{Request}
+use Rattle.yengatomu_c.specs.declared.request.Request.TheVariants.{Clusters, Words, Sentences, Lines}
+
+-- the state leads nowhere but to this one
+abbrev leads_to : ℕ → Option ℕ → Bool
+leads_to last next = option_map_or (λ next. next == last) next true
+
+-- what is computed of a machine with so many states and symbols: by the symbol each state leads to the last one or to none, and
+-- that one leads on by no symbol
+record Resets (m : Machine) (symbol count symbols last : ℕ) : Type 0 where
+  states_are : length m.states ≡ count
+  symbols_are : symbol_count m ≡ symbols
+  leads : all_below (λ state. leads_to last (step m state symbol)) count ≡ true
+  ends : all_below (λ other. not (is_some (step m last other))) symbols ≡ true
+
+none-is : (next : Option ℕ) → not (is_some next) ≡ true → next ≡ None
+none-is None is = refl
+none-is (Some n) is = absurd cc
+
+last-state : (m : Machine) (last : ℕ) (next : Option ℕ) → leads_to last next ≡ true → IsLastState m last → IfSome next (IsLastState m)
+last-state m last None leads is = tt
+last-state m last (Some n) leads is = subst (IsLastState m) (sym (eqb-true n last leads)) is
+
+resets : (m : Machine) (symbol count symbols last : ℕ) → Resets m symbol count symbols last → IsReset m symbol
+resets m symbol count symbols last of state inside =
+    last-state m last (step m state symbol) (all_below-at (λ state. leads_to last (step m state symbol)) count state of.leads (rw (sym of.states_are) inside))
+    (λ other within. none-is (step m last other) (all_below-at (λ other. not (is_some (step m last other))) symbols other of.ends (rw (sym of.symbols_are) within)))
+
+-- a line feed has a symbol that resets, and no script
+after : (m : Machine) (symbol : ℕ) → symbol_and_script m 0x0A ≡ (symbol, NoScript) → IsReset m symbol → ResetsAfter (ByMachine m) 0x0A
+after m symbol is reset = subst (λ (found : ℕ × ComplexScript). IsReset m found.0) (sym is) reset
+
+outside : (m : Machine) (symbol : ℕ) (words : ScriptWords) → symbol_and_script m 0x0A ≡ (symbol, NoScript) → IsOutsideRuns m words 0x0A
+outside m symbol words is = ap (λ (found : ℕ × ComplexScript). if_worded (words_in words found.1) found.1) is
+
+-- a tailoring changes no transition
+tailored-reset : (m : Machine) (t : MachineTailoring) (symbol : ℕ) → IsReset m symbol → IsReset (with_tailoring m (Some t)) symbol
+unfolding step symbol_count
+tailored-reset m t symbol reset = reset
+
+clusters-resets : Resets proved_clusters 3 14 20 3
+unfolding proved_clusters all_below step symbol_count
+clusters-resets = record { states_are = refl; symbols_are = refl; leads = refl; ends = refl }
+
+clusters-feed : symbol_and_script proved_clusters 0x0A ≡ (3, NoScript)
+unfolding proved_clusters symbol_and_script value_of replaced
+clusters-feed = refl
+
+sentences-resets : Resets proved_sentences 3 12 16 3
+unfolding proved_sentences all_below step symbol_count
+sentences-resets = record { states_are = refl; symbols_are = refl; leads = refl; ends = refl }
+
+sentences-feed : symbol_and_script proved_sentences 0x0A ≡ (3, NoScript)
+unfolding proved_sentences symbol_and_script value_of replaced
+sentences-feed = refl
+
+words-resets : Resets word_machine 3 29 23 3
+unfolding all_below step symbol_count
+words-resets = record { states_are = refl; symbols_are = refl; leads = refl; ends = refl }
+
+words-feed : symbol_and_script word_machine 0x0A ≡ (3, NoScript)
+unfolding symbol_and_script value_of replaced
+words-feed = refl
+
+anywhere-resets : Resets cluster_machine 3 11 16 3
+unfolding all_below step symbol_count
+anywhere-resets = record { states_are = refl; symbols_are = refl; leads = refl; ends = refl }
+
+anywhere-feed : symbol_and_script cluster_machine 0x0A ≡ (3, NoScript)
+unfolding symbol_and_script value_of replaced
+anywhere-feed = refl
+
+lines-resets : Resets line_machine 25 73 47 5
+unfolding all_below step symbol_count
+lines-resets = record { states_are = refl; symbols_are = refl; leads = refl; ends = refl }
+
+lines-feed : symbol_and_script line_machine 0x0A ≡ (25, NoScript)
+unfolding symbol_and_script value_of replaced
+lines-feed = refl
+
+tailored-feed : (map : List (ℕ × ComplexScript)) → symbol_and_script (with_tailoring line_machine (Some (tailoring map []))) 0x0A ≡ (25, NoScript)
+unfolding symbol_and_script value_of replaced
+tailored-feed map = refl
+
+line-reset : IsReset line_machine 25
+line-reset = resets line_machine 25 73 47 5 lines-resets
+
+plain : (words : ScriptWords) → ResetsAfter (ByMachine line_machine) 0x0A × IsOutsideRuns line_machine words 0x0A
+plain words = (after line_machine 25 lines-feed line-reset, outside line_machine 25 words lines-feed)
+
+tailored : (map : List (ℕ × ComplexScript)) (words : ScriptWords) → let m = with_tailoring line_machine (Some (tailoring map [])) in
+    ResetsAfter (ByMachine m) 0x0A × IsOutsideRuns m words 0x0A
+tailored map words =
+    let m = with_tailoring line_machine (Some (tailoring map [])) in
+    (after m 25 (tailored-feed map) (tailored-reset line_machine (tailoring map []) 25 line-reset), outside m 25 words (tailored-feed map))
+
+lines : (strictness : LineBreakStrictness) (option : LineBreakWordOption) (is_ja_or_zh : Bool) (words : ScriptWords)
+    → LinesResetAfter (lines_with_words (line_rules_for strictness option is_ja_or_zh) words) 0x0A
+lines strictness.Strict word_option.BreakAll is_ja_or_zh words = tailored _ words
+lines strictness.Normal word_option.BreakAll is_ja_or_zh words = tailored _ words
+lines strictness.Loose word_option.BreakAll is_ja_or_zh words = tailored _ words
+lines strictness.Anywhere word_option.BreakAll is_ja_or_zh words = tailored _ words
+lines strictness.Strict word_option.KeepAll is_ja_or_zh words = tailored _ words
+lines strictness.Normal word_option.KeepAll is_ja_or_zh words = tailored _ words
+lines strictness.Loose word_option.KeepAll is_ja_or_zh words = tailored _ words
+lines strictness.Anywhere word_option.KeepAll is_ja_or_zh words = tailored _ words
+lines strictness.Anywhere word_option.Normal is_ja_or_zh words = after cluster_machine 3 anywhere-feed (resets cluster_machine 3 11 16 3 anywhere-resets)
+lines strictness.Loose word_option.Normal true words = tailored _ words
+lines strictness.Loose word_option.Normal false words = tailored _ words
+lines strictness.Normal word_option.Normal true words = tailored _ words
+lines strictness.Normal word_option.Normal false words = tailored _ words
+lines strictness.Strict word_option.Normal true words = tailored _ words
+lines strictness.Strict word_option.Normal false words = plain words
+
+pub feeds-reset : (request : Request) → LineFeedsReset (finder_asked request)
+feeds-reset Clusters = after proved_clusters 3 clusters-feed (resets proved_clusters 3 14 20 3 clusters-resets)
+feeds-reset Words = λ words. (after word_machine 3 words-feed (resets word_machine 3 29 23 3 words-resets), outside word_machine 3 words words-feed)
+feeds-reset Sentences = after proved_sentences 3 sentences-feed (resets proved_sentences 3 12 16 3 sentences-resets)
+feeds-reset (Lines options) = lines options.strictness options.word_option options.is_chinese_or_japanese
+
+-- words of scripts change nothing of it
+pub feeds-kept : (finder : Finder) (words : ScriptWords) → LineFeedsReset finder → LineFeedsReset (with_dictionary finder words)
+feeds-kept (ByClusters rules) words reset = reset
+feeds-kept (ByWords rules) words reset = reset
+feeds-kept (BySentences rules) words reset = reset
+feeds-kept (ByLines rules) words reset = reset
