@@ -1,0 +1,386 @@
+//! Text boundaries, proved: grapheme clusters, words and sentences of UAX #29, line breaks of UAX #14, and wrapping to columns.
+//!
+//! ```
+//! use yengatomu::{GraphemeSegmenter, LineOptions, LineSegmenter, WordSegmenter};
+//!
+//! # fn main() -> Result<(), yengatomu::Error> {
+//! let words = WordSegmenter::new()?;
+//! let found: Vec<&str> = words.words("can't pay 3.14!").map(|(_, word, _)| word).collect();
+//! assert_eq!(found, ["can't", "pay", "3.14"]);
+//!
+//! let graphemes = GraphemeSegmenter::new()?;
+//! assert_eq!(graphemes.count("e\u{301}🇻🇳"), 2);
+//!
+//! let lines = LineSegmenter::new(LineOptions::default())?;
+//! for line in lines.wrap("The quick brown fox", 10) {
+//!     println!("{:2} {}", line.columns, line.text.trim_end());
+//! }
+//! # Ok(())
+//! # }
+//! ```
+//!
+//! A segmenter is made once, and then segments any number of texts: `str`, `[u8]` and `[u16]`, of which the last two may be ill-formed UTF-8
+//! and UTF-16 (see [`Text`]). Its kind is part of its type, so that only a [`WordSegmenter`] has [`words`](Segmenter::words), and only a
+//! [`LineSegmenter`] [`wrap`](Segmenter::wrap).
+//!
+//! # Places
+//!
+//! Places are numbers of units from the start of the text: bytes, or 16-bit units in UTF-16. In a `str` a boundary never stands inside a
+//! character. Boundaries begin with 0 and end with the text's length, and each is above the one before. So `n` segments have `n + 1`
+//! boundaries, and the empty text has one, 0.
+//!
+//! # What is proved
+//!
+//! The library behind this crate, `libyengatomu.a`, is proved: for every text it finds exactly the boundaries of its rules, and it never reads or
+//! writes out of range, overflows, aborts or runs for ever. The rules of clusters and sentences are proved to be those of UAX #29, Unicode 18.0;
+//! those of words and lines are Unicode's tables of 15.0, which pass the official tests. This crate, some Rust around the library, is tested.
+//!
+//! # Threads
+//!
+//! A segmenter may move to another thread, but two threads can't use one at the same time: it is `Send` and not `Sync`. Make one for each
+//! thread.
+//!
+//! ```
+//! # use yengatomu::SentenceSegmenter;
+//! let sentences = SentenceSegmenter::new().unwrap();
+//! std::thread::spawn(move || sentences.count("One. Two.")).join().unwrap();
+//! ```
+//!
+//! ```compile_fail,E0277
+//! # use yengatomu::SentenceSegmenter;
+//! let sentences = SentenceSegmenter::new().unwrap();
+//! std::thread::scope(|scope| scope.spawn(|| sentences.count("One. Two.")).join().unwrap());
+//! ```
+//!
+//! # In the place of unicode-segmentation
+//!
+#![cfg_attr(feature = "unicode-segmentation", doc = "The module [`unicode_segmentation`] has the trait of that crate, over this library.")]
+#![cfg_attr(
+    not(feature = "unicode-segmentation"),
+    doc = "The feature `unicode-segmentation` has the trait of that crate, over this library."
+)]
+#![deny(missing_docs)]
+#![deny(unsafe_code)]
+
+use std::fmt;
+use std::marker::PhantomData;
+
+use crate::feed::{Ends, Feed, Marks, Pieces, Wraps};
+use crate::iter::{Boundaries, Lines, MarkedSegments, SegmentIndices, Segments, Words};
+use crate::kind::{Kind, Marked};
+use crate::raw::{Calls, Slot};
+
+mod feed;
+pub mod iter;
+pub mod kind;
+mod options;
+#[allow(unsafe_code)]
+mod raw;
+mod text;
+#[cfg(feature = "unicode-segmentation")]
+pub mod unicode_segmentation;
+
+pub use options::{Error, Line, LineBreak, LineOptions, Script, Strictness, WordBreak, WordType};
+pub use text::{Slice, Text, Unit};
+
+/// Segments texts by Unicode's data.
+///
+/// It is one of [`GraphemeSegmenter`], [`WordSegmenter`], [`SentenceSegmenter`] and [`LineSegmenter`], whose `new` makes it.
+pub struct Segmenter<K: Kind> {
+    slot: Slot,
+    kind: PhantomData<K>,
+}
+
+/// Segments texts into extended grapheme clusters.
+pub type GraphemeSegmenter = Segmenter<kind::Grapheme>;
+/// Segments texts into words.
+pub type WordSegmenter = Segmenter<kind::Word>;
+/// Segments texts into sentences.
+pub type SentenceSegmenter = Segmenter<kind::Sentence>;
+/// Segments texts where lines may break, and wraps them.
+pub type LineSegmenter = Segmenter<kind::Line>;
+
+impl GraphemeSegmenter {
+    /// A segmenter of grapheme clusters.
+    ///
+    /// # Errors
+    ///
+    /// [`Error::OutOfMemory`].
+    pub fn new() -> Result<Self, Error> {
+        Self::open(LineOptions::default())
+    }
+}
+
+impl SentenceSegmenter {
+    /// A segmenter of sentences.
+    ///
+    /// # Errors
+    ///
+    /// [`Error::OutOfMemory`].
+    pub fn new() -> Result<Self, Error> {
+        Self::open(LineOptions::default())
+    }
+}
+
+impl WordSegmenter {
+    /// A segmenter of words.
+    ///
+    /// Without a dictionary, each letter of a script that is written without spaces is a word: see
+    /// [`load_dictionary`](Self::load_dictionary).
+    ///
+    /// # Errors
+    ///
+    /// [`Error::OutOfMemory`].
+    pub fn new() -> Result<Self, Error> {
+        Self::open(LineOptions::default())
+    }
+
+    /// The words of a text, each with its place and its type: what is left of the segments without spaces, punctuation and symbols.
+    ///
+    /// ```
+    /// use yengatomu::WordSegmenter;
+    /// use yengatomu::WordType::{Letters, Number};
+    ///
+    /// let words = WordSegmenter::new().unwrap();
+    /// let found: Vec<_> = words.words("I can't pay 3.14!").collect();
+    /// assert_eq!(found, [(0, "I", Letters), (2, "can't", Letters), (8, "pay", Letters), (12, "3.14", Number)]);
+    /// ```
+    #[inline]
+    pub fn words<'t, T: ?Sized + Text>(&self, text: &'t T) -> Words<'_, 't, T::Slice> {
+        Words { pieces: Pieces::new(Marks { slot: &self.slot, text: text.as_slice() }) }
+    }
+
+    /// How many words a text has: as many as [`words`](Self::words) gives.
+    ///
+    /// ```
+    /// # use yengatomu::WordSegmenter;
+    /// let words = WordSegmenter::new().unwrap();
+    /// assert_eq!(words.count_words("I can't pay 3.14!"), 4);
+    /// ```
+    pub fn count_words<T: ?Sized + Text>(&self, text: &T) -> usize {
+        Calls::count_words(&self.slot, text.as_slice().units())
+    }
+}
+
+impl LineSegmenter {
+    /// A segmenter of lines.
+    ///
+    /// ```
+    /// use yengatomu::{LineOptions, LineSegmenter};
+    ///
+    /// let lines = LineSegmenter::new(LineOptions::default()).unwrap();
+    /// assert_eq!(lines.segments("The quick fox").collect::<Vec<_>>(), ["The ", "quick ", "fox"]);
+    /// ```
+    ///
+    /// # Errors
+    ///
+    /// [`Error::OutOfMemory`].
+    pub fn new(options: LineOptions) -> Result<Self, Error> {
+        Self::open(options)
+    }
+
+    /// Wraps a text to columns: the lines, each with its place and the columns that it takes.
+    ///
+    /// A line takes as many segments as fit in the columns, at least one, and ends where it must. So a word that is wider than the columns
+    /// stands alone, and sticks out. Spaces, line feeds and carriage returns at a line's end stay in its text, and take no columns. Wide
+    /// characters, as ideographs, take two columns, and marks none.
+    ///
+    /// ```
+    /// use yengatomu::{LineOptions, LineSegmenter};
+    ///
+    /// let lines = LineSegmenter::new(LineOptions::default()).unwrap();
+    /// let wrapped: Vec<_> = lines.wrap("The quick brown fox\njumps.", 10).map(|line| (line.columns, line.text)).collect();
+    /// assert_eq!(wrapped, [(9, "The quick "), (9, "brown fox\n"), (6, "jumps.")]);
+    /// ```
+    #[inline]
+    pub fn wrap<'t, T: ?Sized + Text>(&self, text: &'t T, columns: usize) -> Lines<'_, 't, T::Slice>
+    where
+        T::Slice: Slice<Unit = u8>,
+    {
+        Lines::new(Wraps { slot: &self.slot, text: text.as_slice(), columns })
+    }
+}
+
+impl<K: Marked> Segmenter<K> {
+    /// The segments of a text, each with the place where it begins and its mark: the type of a word ([`WordType`]), or whether a line must
+    /// break behind it ([`LineBreak`]).
+    ///
+    /// ```
+    /// use yengatomu::WordSegmenter;
+    /// use yengatomu::WordType::{Letters, None};
+    ///
+    /// let words = WordSegmenter::new().unwrap();
+    /// let found: Vec<_> = words.marked_segments("to be").collect();
+    /// assert_eq!(found, [(0, "to", Letters), (2, " ", None), (3, "be", Letters)]);
+    /// ```
+    #[inline]
+    pub fn marked_segments<'t, T: ?Sized + Text>(&self, text: &'t T) -> MarkedSegments<'_, 't, K, T::Slice> {
+        MarkedSegments { pieces: Pieces::new(Marks { slot: &self.slot, text: text.as_slice() }), kind: PhantomData }
+    }
+
+    /// Takes a dictionary: the words of a script that is written without spaces, in any order. Text of that script is then cut into the
+    /// longest words, by segmenters of words and of lines.
+    ///
+    /// If the segmenter has a dictionary of that script, it keeps that one. Of lines, [`Script::ChineseOrJapanese`] changes nothing: they
+    /// break between ideographs anyway.
+    ///
+    /// ```
+    /// use yengatomu::{Script, WordSegmenter};
+    ///
+    /// let mut words = WordSegmenter::new().unwrap();
+    /// words.load_dictionary(&["ภาษา", "ไทย"], Script::Thai).unwrap();
+    /// assert_eq!(words.segments("ภาษาไทย").collect::<Vec<_>>(), ["ภาษา", "ไทย"]);
+    /// ```
+    ///
+    /// With a dictionary, iterators segment a whole line at a time, up to its line feed.
+    ///
+    /// # Errors
+    ///
+    /// [`Error::OutOfMemory`]; [`Error::NotUtf8`] where a word isn't UTF-8. The segmenter is then as before.
+    pub fn load_dictionary<W: AsRef<[u8]>>(&mut self, words: &[W], script: Script) -> Result<(), Error> {
+        self.slot.load_dictionary(words, script)
+    }
+}
+
+impl<K: Kind> Segmenter<K> {
+    fn open(options: LineOptions) -> Result<Self, Error> {
+        Ok(Self { slot: Slot::open(kind::number::<K>(), options)?, kind: PhantomData })
+    }
+
+    /// The boundaries of a text: 0 first, its length last.
+    ///
+    /// ```
+    /// # use yengatomu::WordSegmenter;
+    /// let words = WordSegmenter::new().unwrap();
+    /// assert_eq!(words.boundaries("pay 3.14!").collect::<Vec<_>>(), [0, 3, 4, 8, 9]);
+    /// assert_eq!(words.boundaries(b"pay \xff".as_slice()).collect::<Vec<_>>(), [0, 3, 4, 5]);
+    /// assert_eq!(words.boundaries("").collect::<Vec<_>>(), [0]);
+    /// ```
+    #[inline]
+    pub fn boundaries<'t, T: ?Sized + Text>(&self, text: &'t T) -> Boundaries<'_, 't, T::Slice> {
+        Boundaries { feed: Feed::new(Ends { slot: &self.slot, text: text.as_slice() }, 0), is_begun: false }
+    }
+
+    /// The segments of a text, from the first to the last or back. Together they are the text.
+    ///
+    /// ```
+    /// # use yengatomu::GraphemeSegmenter;
+    /// let graphemes = GraphemeSegmenter::new().unwrap();
+    /// assert_eq!(graphemes.segments("ae\u{301}\r\n").collect::<Vec<_>>(), ["a", "e\u{301}", "\r\n"]);
+    /// assert_eq!(graphemes.segments("ae\u{301}\r\n").next_back(), Some("\r\n"));
+    /// ```
+    #[inline]
+    pub fn segments<'t, T: ?Sized + Text>(&self, text: &'t T) -> Segments<'_, 't, T::Slice> {
+        Segments { pieces: Pieces::new(Ends { slot: &self.slot, text: text.as_slice() }) }
+    }
+
+    /// The segments of a text, each with the place where it begins.
+    ///
+    /// ```
+    /// # use yengatomu::GraphemeSegmenter;
+    /// let graphemes = GraphemeSegmenter::new().unwrap();
+    /// // Limits a field to two clusters.
+    /// let text = "ae\u{301}b";
+    /// let field = match graphemes.segment_indices(text).nth(2) {
+    ///     Some((place, _)) => &text[..place],
+    ///     None => text,
+    /// };
+    /// assert_eq!(field, "ae\u{301}");
+    /// ```
+    #[inline]
+    pub fn segment_indices<'t, T: ?Sized + Text>(&self, text: &'t T) -> SegmentIndices<'_, 't, T::Slice> {
+        SegmentIndices { pieces: Pieces::new(Ends { slot: &self.slot, text: text.as_slice() }) }
+    }
+
+    /// How many segments a text has.
+    ///
+    /// ```
+    /// # use yengatomu::GraphemeSegmenter;
+    /// let graphemes = GraphemeSegmenter::new().unwrap();
+    /// assert_eq!(graphemes.count("ae\u{301}"), 2);
+    /// ```
+    pub fn count<T: ?Sized + Text>(&self, text: &T) -> usize {
+        Calls::count(&self.slot, text.as_slice().units())
+    }
+
+    /// The nearest boundary above a place, as an arrow key moves a cursor. The place may be any number; at the text's end and past it the
+    /// answer is None.
+    ///
+    /// It reads from the start of the place's line, so it is quicker than going through the boundaries.
+    ///
+    /// ```
+    /// # use yengatomu::GraphemeSegmenter;
+    /// let graphemes = GraphemeSegmenter::new().unwrap();
+    /// assert_eq!(graphemes.next_boundary("ae\u{301}", 1), Some(4));
+    /// assert_eq!(graphemes.next_boundary("ae\u{301}", 4), None);
+    /// ```
+    pub fn next_boundary<T: ?Sized + Text>(&self, text: &T, place: usize) -> Option<usize>
+    where
+        T::Slice: Slice<Unit = u8>,
+    {
+        self.slot.next(text.as_slice().units(), place)
+    }
+
+    /// The nearest boundary below a place. The place may be any number; at 0 the answer is None.
+    ///
+    /// ```
+    /// # use yengatomu::GraphemeSegmenter;
+    /// let graphemes = GraphemeSegmenter::new().unwrap();
+    /// assert_eq!(graphemes.previous_boundary("ae\u{301}", 4), Some(1));
+    /// assert_eq!(graphemes.previous_boundary("ae\u{301}", 0), None);
+    /// ```
+    pub fn previous_boundary<T: ?Sized + Text>(&self, text: &T, place: usize) -> Option<usize>
+    where
+        T::Slice: Slice<Unit = u8>,
+    {
+        self.slot.previous(text.as_slice().units(), place)
+    }
+
+    /// Whether a place is a boundary.
+    ///
+    /// ```
+    /// # use yengatomu::GraphemeSegmenter;
+    /// let graphemes = GraphemeSegmenter::new().unwrap();
+    /// assert!(graphemes.is_boundary("ae\u{301}", 1));
+    /// assert!(!graphemes.is_boundary("ae\u{301}", 2));
+    /// ```
+    pub fn is_boundary<T: ?Sized + Text>(&self, text: &T, place: usize) -> bool
+    where
+        T::Slice: Slice<Unit = u8>,
+    {
+        match place.checked_sub(1) {
+            None => true,
+            Some(before) => self.next_boundary(text, before) == Some(place),
+        }
+    }
+
+    /// The version of the Unicode data by which this kind is segmented.
+    #[must_use]
+    pub fn unicode_version() -> (u32, u32, u32) {
+        parts(raw::unicode_version(kind::number::<K>()))
+    }
+}
+
+impl<K: Kind> fmt::Debug for Segmenter<K> {
+    fn fmt(&self, f: &mut fmt::Formatter<'_>) -> fmt::Result {
+        f.debug_struct("Segmenter")
+            .field("kind", &kind::name::<K>())
+            .field("has_dictionary", &self.slot.has_dictionary())
+            .finish_non_exhaustive()
+    }
+}
+
+/// The version of the library.
+#[must_use]
+pub fn version() -> (u32, u32, u32) {
+    parts(raw::version())
+}
+
+fn parts(version: u32) -> (u32, u32, u32) {
+    (version / 10_000, version / 100 % 100, version % 100)
+}
+
+/// The examples of the README.
+#[cfg(all(doctest, feature = "unicode-segmentation"))]
+#[doc = include_str!("../README.md")]
+struct Readme;

@@ -1,0 +1,155 @@
+//! The calls of the C library, made safe. All unsafe code of this crate is here.
+use std::cell::UnsafeCell;
+
+use yengatomu_sys as sys;
+
+use crate::{Error, LineOptions, Script};
+
+/// A slot that holds a segmenter.
+pub(crate) struct Slot {
+    slot: UnsafeCell<sys::yengatomu_slot>,
+    has_dictionary: bool,
+}
+
+// What makes the calls below sound, each over a slot that `open` has filled:
+// - A slot serves one call at a time. `Slot` isn't `Sync`, since it has an `UnsafeCell`, so its calls come from one thread; and none
+//   calls back, so each has returned before the next one. No reference into the cell is ever made.
+// - A slot isn't copied: `Slot` is no `Copy` or `Clone`, and its cell is private.
+// - Lengths are those of slices, whose pointers are never null. Buffers are `&mut`, so they overlap nothing.
+
+// SAFETY: a slot may pass from one thread to another, as yengatomu.h says.
+unsafe impl Send for Slot {}
+
+fn done(result: u32) -> Result<(), Error> {
+    match result {
+        sys::YENGATOMU_OK => Ok(()),
+        sys::YENGATOMU_NO_MEMORY => Err(Error::OutOfMemory),
+        sys::YENGATOMU_NOT_UTF8 => Err(Error::NotUtf8),
+        _ => Err(Error::NotSupported),
+    }
+}
+
+impl Slot {
+    pub(crate) fn open(kind: u32, options: LineOptions) -> Result<Self, Error> {
+        let LineOptions { strictness, word_break, chinese_or_japanese } = options;
+        let mut slot = sys::yengatomu_slot::EMPTY;
+        // SAFETY: the slot began empty.
+        done(unsafe { sys::yengatomu_open(&mut slot, kind, strictness as u32, word_break as u32, chinese_or_japanese) })?;
+        Ok(Self { slot: UnsafeCell::new(slot), has_dictionary: false })
+    }
+
+    pub(crate) fn load_dictionary<W: AsRef<[u8]>>(&mut self, words: &[W], script: Script) -> Result<(), Error> {
+        let words: Vec<_> = words
+            .iter()
+            .map(|word| {
+                let bytes = word.as_ref();
+                sys::yengatomu_word { bytes: bytes.as_ptr(), len: bytes.len() }
+            })
+            .collect();
+        // SAFETY: above; the words are borrowed until the call returns, which keeps no pointer to them.
+        done(unsafe { sys::yengatomu_load_dictionary(self.slot.get(), words.as_ptr(), words.len(), script as u32) })?;
+        self.has_dictionary = true;
+        Ok(())
+    }
+
+    /// Whether boundaries go on only from behind a line feed.
+    pub(crate) fn has_dictionary(&self) -> bool {
+        self.has_dictionary
+    }
+
+    pub(crate) fn next(&self, text: &[u8], place: usize) -> Option<usize> {
+        // SAFETY: above.
+        let found = unsafe { sys::yengatomu_next(self.slot.get(), text.as_ptr(), text.len(), place) };
+        (found != sys::YENGATOMU_NONE).then_some(found)
+    }
+
+    pub(crate) fn previous(&self, text: &[u8], place: usize) -> Option<usize> {
+        // SAFETY: above.
+        let found = unsafe { sys::yengatomu_previous(self.slot.get(), text.as_ptr(), text.len(), place) };
+        (found != sys::YENGATOMU_NONE).then_some(found)
+    }
+
+    pub(crate) fn wrap(&self, text: &[u8], from: usize, columns: usize, ends: &mut [usize], widths: &mut [usize]) -> usize {
+        // SAFETY: above.
+        unsafe {
+            sys::yengatomu_wrap_columns(
+                self.slot.get(),
+                text.as_ptr(),
+                text.len(),
+                from,
+                columns,
+                ends.as_mut_ptr(),
+                ends.len(),
+                widths.as_mut_ptr(),
+                widths.len(),
+            )
+        }
+    }
+}
+
+impl Drop for Slot {
+    fn drop(&mut self) {
+        // SAFETY: above; nothing uses the slot any more.
+        unsafe { sys::yengatomu_close(self.slot.get()) }
+    }
+}
+
+/// The calls on texts of 8-bit or 16-bit units.
+pub(crate) trait Calls: Sized {
+    fn boundaries(slot: &Slot, text: &[Self], from: usize, out: &mut [usize]) -> usize;
+    fn marked_boundaries(slot: &Slot, text: &[Self], from: usize, out: &mut [usize], marks: &mut [u8]) -> usize;
+    fn count(slot: &Slot, text: &[Self]) -> usize;
+    fn count_words(slot: &Slot, text: &[Self]) -> usize;
+}
+
+macro_rules! calls {
+    ($unit:ty: $boundaries:ident, $marked_boundaries:ident, $count:ident, $count_words:ident) => {
+        impl Calls for $unit {
+            #[inline]
+            fn boundaries(slot: &Slot, text: &[Self], from: usize, out: &mut [usize]) -> usize {
+                // SAFETY: above.
+                unsafe { sys::$boundaries(slot.slot.get(), text.as_ptr(), text.len(), from, out.as_mut_ptr(), out.len()) }
+            }
+
+            #[inline]
+            fn marked_boundaries(slot: &Slot, text: &[Self], from: usize, out: &mut [usize], marks: &mut [u8]) -> usize {
+                // SAFETY: above.
+                unsafe {
+                    sys::$marked_boundaries(
+                        slot.slot.get(),
+                        text.as_ptr(),
+                        text.len(),
+                        from,
+                        out.as_mut_ptr(),
+                        out.len(),
+                        marks.as_mut_ptr(),
+                        marks.len(),
+                    )
+                }
+            }
+
+            fn count(slot: &Slot, text: &[Self]) -> usize {
+                // SAFETY: above.
+                unsafe { sys::$count(slot.slot.get(), text.as_ptr(), text.len()) }
+            }
+
+            fn count_words(slot: &Slot, text: &[Self]) -> usize {
+                // SAFETY: above.
+                unsafe { sys::$count_words(slot.slot.get(), text.as_ptr(), text.len()) }
+            }
+        }
+    };
+}
+
+calls!(u8: yengatomu_boundaries, yengatomu_marked_boundaries, yengatomu_count, yengatomu_count_words);
+calls!(u16: yengatomu_boundaries_utf16, yengatomu_marked_boundaries_utf16, yengatomu_count_utf16, yengatomu_count_words_utf16);
+
+pub(crate) fn version() -> u32 {
+    // SAFETY: it takes nothing.
+    unsafe { sys::yengatomu_version() }
+}
+
+pub(crate) fn unicode_version(kind: u32) -> u32 {
+    // SAFETY: it takes any number.
+    unsafe { sys::yengatomu_unicode_version(kind) }
+}

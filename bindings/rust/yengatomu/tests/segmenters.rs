@@ -1,0 +1,500 @@
+//! Random texts: iterators give what one call of the library with room for all gives, in each encoding and from both ends.
+use std::borrow::Cow;
+use std::rc::Rc;
+use std::sync::Arc;
+
+use yengatomu::kind::{self, Kind};
+use yengatomu::{
+    Error, GraphemeSegmenter, LineBreak, LineOptions, LineSegmenter, Script, Segmenter, SentenceSegmenter, Slice, Strictness, Text,
+    WordBreak, WordSegmenter, WordType,
+};
+use yengatomu_sys::*;
+
+/// Numbers by xorshift.
+struct Random(u64);
+
+impl Random {
+    fn below(&mut self, limit: usize) -> usize {
+        self.0 ^= self.0 << 13;
+        self.0 ^= self.0 >> 7;
+        self.0 ^= self.0 << 17;
+        (self.0 % limit as u64) as usize
+    }
+}
+
+const PARTS: &str = "a|b|Z| |  |é|e\u{301}|'|.|! |3|3.14|can't|-|\u{200d}|🇻|🇳|👨‍👩‍👧|东|京|ภาษา|ไทย|ก|ข|क्|ष|\u{ad}|\u{1100}\u{1161}";
+const THAI: [&str; 5] = ["ภาษา", "ไทย", "กข", "ขก", "กขก"];
+
+/// A text of so many parts, with a line feed after about one in `per_line`, none for 0.
+fn text(random: &mut Random, parts: usize, per_line: usize) -> String {
+    let choice: Vec<_> = PARTS.split('|').collect();
+    let mut made = String::new();
+    for _ in 0..parts {
+        made.push_str(choice[random.below(choice.len())]);
+        if per_line > 0 && random.below(per_line) == 0 {
+            made.push_str(["\n", "\r\n"][random.below(2)]);
+        }
+    }
+    made
+}
+
+fn texts() -> Vec<String> {
+    let mut random = Random(0x9e37_79b9_7f4a_7c15);
+    let mut made = vec![String::new(), "a".into(), "\n".into(), "\r\n".into(), "\n\n".into(), "ab\n".into(), "กข\nกข".into()];
+    for (parts, per_line) in [(3, 0), (5, 3), (40, 7), (400, 0), (400, 9), (900, 300), (1500, 0), (1500, 400), (1500, 2)] {
+        for _ in 0..4 {
+            made.push(text(&mut random, parts, per_line));
+        }
+    }
+    // A line with as many boundaries as the buffer has room for, and one more or less.
+    for letters in [15, 16, 17, 63, 64, 65, 80, 255, 256, 257, 336, 512, 513] {
+        made.push(format!("{}\n{}", "ก".repeat(letters), "ข".repeat(letters)));
+        made.push("! ".repeat(letters));
+    }
+    made
+}
+
+/// The text as UTF-8 with some bytes changed.
+fn ill_formed(text: &str) -> Vec<u8> {
+    let mut random = Random(text.len() as u64 + 1);
+    let mut bytes = text.as_bytes().to_vec();
+    for _ in 0..bytes.len() / 10 {
+        let place = random.below(bytes.len());
+        bytes[place] = [0x80, 0xff, 0xe0, 0xf0, b'a', b'\n'][random.below(6)];
+    }
+    bytes
+}
+
+/// The text as UTF-16 with some units changed.
+fn ill_formed_utf16(text: &str) -> Vec<u16> {
+    let mut random = Random(text.len() as u64 + 1);
+    let mut units: Vec<u16> = text.encode_utf16().collect();
+    for _ in 0..units.len() / 10 {
+        let place = random.below(units.len());
+        units[place] = [0xd800, 0xdfff, 0x0a, 0x61][random.below(4)];
+    }
+    units
+}
+
+/// A slot of the test's own, asked with room for all.
+struct Whole(yengatomu_slot);
+
+impl Whole {
+    fn open(kind: u32, dictionary: bool) -> Self {
+        let mut slot = yengatomu_slot::EMPTY;
+        // SAFETY: the slot began empty, and words are borrowed from constants.
+        unsafe {
+            assert_eq!(yengatomu_open(&mut slot, kind, 0, 0, false), YENGATOMU_OK);
+            if dictionary {
+                let words = THAI.map(|word| yengatomu_word { bytes: word.as_ptr(), len: word.len() });
+                assert_eq!(yengatomu_load_dictionary(&mut slot, words.as_ptr(), words.len(), YENGATOMU_THAI), YENGATOMU_OK);
+            }
+        }
+        Self(slot)
+    }
+
+    fn boundaries(&mut self, text: &[u8]) -> Vec<usize> {
+        let mut found = vec![0; text.len() + 2];
+        // SAFETY: each length is that of its array.
+        let count = unsafe { yengatomu_boundaries(&mut self.0, text.as_ptr(), text.len(), 0, found[1..].as_mut_ptr(), text.len() + 1) };
+        found.truncate(count + 1);
+        found
+    }
+
+    fn boundaries_utf16(&mut self, text: &[u16]) -> Vec<usize> {
+        let mut found = vec![0; text.len() + 2];
+        // SAFETY: each length is that of its array.
+        let count =
+            unsafe { yengatomu_boundaries_utf16(&mut self.0, text.as_ptr(), text.len(), 0, found[1..].as_mut_ptr(), text.len() + 1) };
+        found.truncate(count + 1);
+        found
+    }
+
+    fn marks(&mut self, text: &[u8]) -> Vec<u8> {
+        let room = text.len() + 1;
+        let (mut found, mut marks) = (vec![0; room], vec![0; room]);
+        // SAFETY: each length is that of its array.
+        let count = unsafe {
+            yengatomu_marked_boundaries(&mut self.0, text.as_ptr(), text.len(), 0, found.as_mut_ptr(), room, marks.as_mut_ptr(), room)
+        };
+        marks.truncate(count);
+        marks
+    }
+
+    fn wrap(&mut self, text: &[u8], columns: usize) -> Vec<usize> {
+        let mut ends = vec![0; text.len() + 1];
+        // SAFETY: each length is that of its array.
+        let count = unsafe { yengatomu_wrap(&mut self.0, text.as_ptr(), text.len(), 0, columns, ends.as_mut_ptr(), ends.len()) };
+        ends.truncate(count);
+        ends
+    }
+}
+
+impl Drop for Whole {
+    fn drop(&mut self) {
+        // SAFETY: nothing uses the slot any more.
+        unsafe { yengatomu_close(&mut self.0) }
+    }
+}
+
+/// What iterators over a text of any encoding owe one another.
+fn agree<K: Kind, T: ?Sized + Text>(segmenter: &Segmenter<K>, text: &T, boundaries: &[usize])
+where
+    T::Slice: PartialEq + std::fmt::Debug,
+{
+    assert_eq!(segmenter.boundaries(text).collect::<Vec<_>>(), boundaries);
+    assert_eq!(segmenter.count(text), boundaries.len() - 1);
+
+    let forth: Vec<_> = segmenter.segment_indices(text).collect();
+    let starts: Vec<_> = forth.iter().map(|&(start, _)| start).collect();
+    assert_eq!(starts, boundaries[..boundaries.len() - 1]);
+    assert!(segmenter.segments(text).eq(forth.iter().map(|&(_, segment)| segment)));
+
+    let mut back: Vec<_> = segmenter.segment_indices(text).rev().collect();
+    back.reverse();
+    assert_eq!(back, forth);
+    assert!(segmenter.segments(text).rev().eq(forth.iter().rev().map(|&(_, segment)| segment)));
+
+    // From both ends by turns, with clones that go on by themselves.
+    let mut random = Random(boundaries.len() as u64 + 5);
+    for _ in 0..3 {
+        let (mut from_start, mut from_end) = (Vec::new(), Vec::new());
+        let mut left = segmenter.segment_indices(text);
+        let share = random.below(4);
+        loop {
+            let remain = forth.len() - from_start.len() - from_end.len();
+            let (low, high) = left.size_hint();
+            assert!(low <= remain && remain <= high.unwrap());
+            if random.below(100) == 0 {
+                assert_eq!(left.clone().count(), remain);
+            }
+            let next = if random.below(4) < share {
+                let next = left.next();
+                from_start.extend(next);
+                next
+            } else {
+                let next = left.next_back();
+                from_end.extend(next);
+                next
+            };
+            if next.is_none() {
+                break;
+            }
+        }
+        assert_eq!((left.next(), left.next_back()), (None, None));
+        from_start.extend(from_end.into_iter().rev());
+        assert_eq!(from_start, forth);
+    }
+
+    let mut all = segmenter.boundaries(text);
+    for taken in 0..boundaries.len() {
+        let (low, high) = all.size_hint();
+        let remain = boundaries.len() - taken;
+        assert!(low <= remain && remain <= high.unwrap());
+        assert!(all.next().is_some());
+    }
+    assert_eq!((all.size_hint(), all.next(), all.next()), ((0, Some(0)), None, None));
+}
+
+fn agree_in_each_encoding<K: Kind>(segmenter: &Segmenter<K>, mut whole: Whole) {
+    for text in texts() {
+        let boundaries = whole.boundaries(text.as_bytes());
+        assert_eq!(boundaries[0], 0);
+        assert!(text.is_empty() || boundaries.last() == Some(&text.len()));
+        agree(segmenter, &text, &boundaries);
+        agree(segmenter, text.as_bytes(), &boundaries);
+
+        // Equal code points have equal boundaries.
+        let units: Vec<u16> = text.encode_utf16().collect();
+        let in_utf16: Vec<_> = boundaries.iter().map(|&place| text[..place].encode_utf16().count()).collect();
+        assert_eq!(whole.boundaries_utf16(&units), in_utf16);
+        agree(segmenter, &units, &in_utf16);
+
+        let bytes = ill_formed(&text);
+        agree(segmenter, &bytes, &whole.boundaries(&bytes));
+        let lossy = String::from_utf8_lossy(&bytes);
+        assert_eq!(segmenter.count(&lossy), segmenter.count(&bytes));
+        let units = ill_formed_utf16(&text);
+        agree(segmenter, &units, &whole.boundaries_utf16(&units));
+    }
+}
+
+fn with_thai<K: kind::Marked>(mut segmenter: Segmenter<K>) -> Segmenter<K> {
+    segmenter.load_dictionary(&THAI, Script::Thai).unwrap();
+    segmenter
+}
+
+fn lines() -> LineSegmenter {
+    LineSegmenter::new(LineOptions::default()).unwrap()
+}
+
+#[test]
+fn graphemes() {
+    agree_in_each_encoding(&GraphemeSegmenter::new().unwrap(), Whole::open(YENGATOMU_CLUSTERS, false));
+}
+
+#[test]
+fn words() {
+    agree_in_each_encoding(&WordSegmenter::new().unwrap(), Whole::open(YENGATOMU_WORDS, false));
+}
+
+#[test]
+fn words_with_a_dictionary() {
+    agree_in_each_encoding(&with_thai(WordSegmenter::new().unwrap()), Whole::open(YENGATOMU_WORDS, true));
+}
+
+#[test]
+fn sentences() {
+    agree_in_each_encoding(&SentenceSegmenter::new().unwrap(), Whole::open(YENGATOMU_SENTENCES, false));
+}
+
+#[test]
+fn line_segments() {
+    agree_in_each_encoding(&lines(), Whole::open(YENGATOMU_LINES, false));
+}
+
+#[test]
+fn line_segments_with_a_dictionary() {
+    agree_in_each_encoding(&with_thai(lines()), Whole::open(YENGATOMU_LINES, true));
+}
+
+#[test]
+fn marks_of_words() {
+    for dictionary in [false, true] {
+        let mut segmenter = WordSegmenter::new().unwrap();
+        if dictionary {
+            segmenter = with_thai(segmenter);
+        }
+        let mut whole = Whole::open(YENGATOMU_WORDS, dictionary);
+        for text in texts() {
+            let marks: Vec<_> = segmenter.marked_segments(&text).map(|(_, _, word_type)| word_type as u8).collect();
+            assert_eq!(marks, whole.marks(text.as_bytes()));
+            let mut back: Vec<_> = segmenter.marked_segments(&text).rev().collect();
+            back.reverse();
+            assert_eq!(back, segmenter.marked_segments(&text).collect::<Vec<_>>());
+
+            let words: Vec<_> = segmenter.words(&text).collect();
+            assert!(segmenter.marked_segments(&text).filter(|(_, _, word_type)| word_type.is_word()).eq(words.iter().copied()));
+            assert!(segmenter.words(&text).rev().eq(words.iter().rev().copied()));
+            assert_eq!(segmenter.count_words(&text), words.len());
+            assert_eq!(segmenter.count_words(&text.encode_utf16().collect::<Vec<_>>()), words.len());
+            let (low, high) = segmenter.words(&text).size_hint();
+            assert!(low <= words.len() && words.len() <= high.unwrap());
+        }
+    }
+}
+
+#[test]
+fn marks_of_lines() {
+    for dictionary in [false, true] {
+        let segmenter = if dictionary { with_thai(lines()) } else { lines() };
+        let mut whole = Whole::open(YENGATOMU_LINES, dictionary);
+        for text in texts() {
+            let found: Vec<_> = segmenter.marked_segments(&text).collect();
+            let marks: Vec<_> = found.iter().map(|&(_, _, mark)| u8::from(mark == LineBreak::Mandatory)).collect();
+            assert_eq!(marks, whole.marks(text.as_bytes()));
+            assert!(segmenter.marked_segments(&text).rev().eq(found.iter().rev().copied()));
+        }
+    }
+}
+
+#[test]
+fn wrapped_lines() {
+    for dictionary in [false, true] {
+        let segmenter = if dictionary { with_thai(lines()) } else { lines() };
+        let mut whole = Whole::open(YENGATOMU_LINES, dictionary);
+        for text in texts() {
+            for columns in [0, 1, 7, 30, usize::MAX] {
+                let found: Vec<_> = segmenter.wrap(&text, columns).collect();
+                let ends: Vec<_> = found.iter().map(|line| line.start + line.text.len()).collect();
+                assert_eq!(ends, whole.wrap(text.as_bytes(), columns));
+                assert_eq!(found.iter().map(|line| line.text).collect::<String>(), text);
+                for line in &found {
+                    let is_one = segmenter.next_boundary(&text, line.start) == Some(line.start + line.text.len());
+                    assert!(line.columns <= columns || is_one, "{line:?}");
+                }
+                assert!(segmenter.wrap(text.as_bytes(), columns).map(|line| line.start).eq(found.iter().map(|line| line.start)));
+                let mut left = segmenter.wrap(&text, columns);
+                left.nth(1);
+                assert_eq!(left.clone().count(), found.len().saturating_sub(2));
+                let (low, high) = left.size_hint();
+                let remain = found.len().saturating_sub(2);
+                assert!(low <= remain && remain <= high.unwrap());
+            }
+            let bytes = ill_formed(&text);
+            let ends: Vec<_> = segmenter.wrap(&bytes, 7).map(|line| line.start + line.text.len()).collect();
+            assert_eq!(ends, whole.wrap(&bytes, 7));
+        }
+    }
+}
+
+fn nearest_places<K: Kind>(segmenter: &Segmenter<K>) {
+    for text in texts().into_iter().filter(|text| text.len() < 400) {
+        let boundaries: Vec<_> = segmenter.boundaries(&text).collect();
+        for place in (0..text.len() + 3).chain([usize::MAX]) {
+            let above = boundaries.iter().copied().find(|&boundary| boundary > place);
+            assert_eq!(segmenter.next_boundary(&text, place), above);
+            let below = boundaries.iter().copied().rev().find(|&boundary| boundary < place);
+            assert_eq!(segmenter.previous_boundary(text.as_bytes(), place), below);
+            assert_eq!(segmenter.is_boundary(&text, place), boundaries.contains(&place));
+        }
+    }
+}
+
+#[test]
+fn nearest() {
+    nearest_places(&GraphemeSegmenter::new().unwrap());
+    nearest_places(&WordSegmenter::new().unwrap());
+    nearest_places(&with_thai(WordSegmenter::new().unwrap()));
+    nearest_places(&SentenceSegmenter::new().unwrap());
+    nearest_places(&lines());
+    nearest_places(&with_thai(lines()));
+}
+
+#[test]
+fn text_types() {
+    fn count<T: ?Sized + Text>(text: &T) -> usize {
+        GraphemeSegmenter::new().unwrap().count(text)
+    }
+    let text = "ab";
+    assert_eq!(count(text), 2);
+    assert_eq!(count(&text), 2);
+    assert_eq!(count(&&mut String::from(text)), 2);
+    assert_eq!(count(&String::from(text)), 2);
+    assert_eq!(count(&Cow::Borrowed(text)), 2);
+    assert_eq!(count(&text.to_string().into_boxed_str()), 2);
+    assert_eq!(count(&Rc::<str>::from(text)), 2);
+    assert_eq!(count(&Arc::new(String::from(text))), 2);
+    assert_eq!(count(b"ab"), 2);
+    assert_eq!(count(b"ab".as_slice()), 2);
+    assert_eq!(count(&vec![0x61u16, 0x62]), 2);
+    assert_eq!(count(&[0x61u16, 0x62]), 2);
+
+    struct Mine(String);
+    impl Text for Mine {
+        type Slice = str;
+        fn as_slice(&self) -> &str {
+            &self.0
+        }
+    }
+    assert_eq!(count(&Mine(text.into())), 2);
+}
+
+/// Segments are borrowed from the text, and outlive the segmenter.
+#[test]
+fn segments_outlive_the_segmenter() {
+    fn last_word(text: &str) -> Option<&str> {
+        let words = WordSegmenter::new().unwrap();
+        let last = words.words(text).next_back();
+        last.map(|(_, word, _)| word)
+    }
+    assert_eq!(last_word("to be!"), Some("be"));
+    assert_eq!(last_word("!"), None);
+}
+
+/// Iterators over one segmenter may be used by turns, each in the loop of another.
+#[test]
+fn nested() {
+    let segmenter = with_thai(WordSegmenter::new().unwrap());
+    let text = "one ภาษาไทย\ntwo 3.14 ".repeat(100);
+    let words: Vec<_> = segmenter.words(&text).collect();
+    for (outer, (place, word, word_type)) in segmenter.words(&text).enumerate() {
+        assert_eq!(words[outer], (place, word, word_type));
+        let mut inner = segmenter.words(&text).skip(outer);
+        assert_eq!(inner.next(), Some(words[outer]));
+        assert_eq!(segmenter.count_words(word), 1);
+        assert_eq!(segmenter.next_boundary(&text, place), Some(place + word.len()));
+    }
+    assert!(segmenter.words(&text).zip(segmenter.words(&text).rev()).count() == words.len());
+}
+
+#[test]
+fn dictionaries() {
+    let mut words = WordSegmenter::new().unwrap();
+    assert_eq!(words.load_dictionary(&[b"\xff"], Script::Thai), Err(Error::NotUtf8));
+    // So the segmenter has no words of Thai yet.
+    words.load_dictionary(&["ภาษา", "ไทย"].map(String::from), Script::Thai).unwrap();
+    assert!(words.segments("ภาษาไทย").eq(["ภาษา", "ไทย"]));
+    // It keeps those that it has.
+    words.load_dictionary(&["ภาษาไทย"], Script::Thai).unwrap();
+    assert!(words.segments("ภาษาไทย").eq(["ภาษา", "ไทย"]));
+    for script in [Script::Myanmar, Script::ChineseOrJapanese, Script::Khmer, Script::Lao] {
+        words.load_dictionary::<&str>(&[], script).unwrap();
+        lines().load_dictionary::<&str>(&[], script).unwrap();
+    }
+    assert!(words.segments("ภาษาไทย").eq(["ภาษา", "ไทย"]));
+}
+
+#[test]
+fn every_option_opens() {
+    for strictness in [Strictness::Strict, Strictness::Normal, Strictness::Loose, Strictness::Anywhere] {
+        for word_break in [WordBreak::Normal, WordBreak::BreakAll, WordBreak::KeepAll] {
+            for chinese_or_japanese in [false, true] {
+                let lines = LineSegmenter::new(LineOptions { strictness, word_break, chinese_or_japanese }).unwrap();
+                assert_eq!(lines.boundaries("a b").last(), Some(3));
+            }
+        }
+    }
+    let anywhere = LineSegmenter::new(LineOptions { strictness: Strictness::Anywhere, ..LineOptions::default() }).unwrap();
+    assert!(anywhere.segments("abe\u{301}").eq(["a", "b", "e\u{301}"]));
+}
+
+#[test]
+fn versions() {
+    assert!(GraphemeSegmenter::unicode_version() >= (14, 0, 0));
+    assert!(WordSegmenter::unicode_version() >= (14, 0, 0));
+    assert!(SentenceSegmenter::unicode_version() >= (14, 0, 0));
+    assert!(LineSegmenter::unicode_version() >= (14, 0, 0));
+    assert_ne!(yengatomu::version(), (0, 0, 0));
+}
+
+#[test]
+fn shown() {
+    let words = WordSegmenter::new().unwrap();
+    assert_eq!(format!("{words:?}"), "Segmenter { kind: \"Word\", has_dictionary: false, .. }");
+    let mut segments = words.segments("to be");
+    segments.next();
+    assert_eq!(segments.rest(), " be");
+    assert_eq!(format!("{segments:?}"), "Segments { pieces: Pieces { start: 2, left: 3 }, .. }");
+    assert_eq!(Error::OutOfMemory.to_string(), "out of memory");
+    let error: Box<dyn std::error::Error + Send + Sync> = Box::new(Error::NotUtf8);
+    assert_eq!(error.to_string(), "a word of the dictionary isn't UTF-8");
+    assert_eq!(WordType::Number as u8, YENGATOMU_NUMBER);
+}
+
+/// Segmenters may move to other threads.
+#[test]
+fn threads() {
+    fn is_send<T: Send>(_: &T) {}
+    let words = with_thai(WordSegmenter::new().unwrap());
+    is_send(&words);
+    let text = texts().concat();
+    let here = words.count(&text);
+    let handles: Vec<_> = (0..4)
+        .map(|_| {
+            let words = with_thai(WordSegmenter::new().unwrap());
+            let text = text.clone();
+            std::thread::spawn(move || (words.count(&text), words))
+        })
+        .collect();
+    for handle in handles {
+        let (there, words) = handle.join().unwrap();
+        assert_eq!(there, here);
+        assert_eq!(words.count(&text), here);
+    }
+}
+
+/// One text, as each kind of slice has it.
+#[test]
+fn slices() {
+    fn same<S>(whole: &S, segments: &[&S])
+    where
+        S: ?Sized + Slice + Text<Slice = S> + PartialEq + std::fmt::Debug,
+    {
+        let words = WordSegmenter::new().unwrap();
+        assert_eq!(words.segments(whole).collect::<Vec<_>>(), segments);
+    }
+    same("a b", &["a", " ", "b"]);
+    same(b"a \xff".as_slice(), &[b"a", b" ", b"\xff"]);
+    same([0x61, 0x20, 0xd800u16].as_slice(), &[&[0x61], &[0x20], &[0xd800]]);
+}
