@@ -1,13 +1,12 @@
 -- What a slot holds: a segmenter of one kind, and what it finds boundaries by.
-use Rattle.std.specs.Prelude.{◌≡◌, ◌⊎◌, ℕ, zero, suc, ◌+◌, ◌==◌, if◌then◌else◌, Option, List, ◌∷◌, ◌++◌, drop, map, Contains}
+use Rattle.std.specs.Prelude.{◌≡◌, ℕ, zero, suc, ◌+◌, ◌==◌, if◌then◌else◌, Option, List, ◌∷◌, ◌++◌, drop, map}
 use Rattle.std.specs.Option.{option_map}
 use Rattle.icu_segmenter.specs.Boundary.{Boundary}
-use Rattle.icu_segmenter.specs.Boundaries.{HasRestart, boundaries_in, offsets}
+use Rattle.icu_segmenter.specs.Boundaries.{boundaries_in, offsets}
 use Rattle.icu_segmenter.specs.Clusters.{owned_cluster_rules, owned_sentence_rules}
 use Rattle.icu_segmenter.specs.Items.{Text}
 use Rattle.icu_segmenter.specs.LineBreaks.{LineRules, LinesResetAfter, line_boundaries_by, lines_with_words}
 use Rattle.icu_segmenter.specs.Lines.{owned_line_rules}
-use Rattle.icu_segmenter.specs.NearBoundaries.{BeginsLine}
 use Rattle.icu_segmenter.specs.Rules.{ResetsAfter, Rules, boundaries_by}
 use Rattle.icu_segmenter.specs.ScriptWords.{ScriptWords}
 use Rattle.icu_segmenter.specs.WordRules.{WordRules, WordsResetWith, word_boundaries_by}
@@ -72,11 +71,6 @@ LineFeedsReset (Clusters rules) = ResetsAfter rules 0x0A
 LineFeedsReset (Words rules) = (words : ScriptWords) → WordsResetWith rules.rules words 0x0A
 LineFeedsReset (Sentences rules) = ResetsAfter rules 0x0A
 LineFeedsReset (Lines rules) = (words : ScriptWords) → LinesResetAfter (lines_with_words rules words) 0x0A
-
--- where a caller may go on: at any boundary where lists may be cut anew from theirs, or where a line begins and line feeds reset
-abbrev pub MayGoOnAt : Finder → (List ℕ → Text) → List ℕ → ℕ → Type 0
-MayGoOnAt finder decode units from =
-    (HasRestart (find_by finder) × Contains (places_in finder decode units) from) ⊎ (LineFeedsReset finder × BeginsLine units from)
 
 -- all boundaries of the text are some, then the place, and then those of the rest
 abbrev pub GoesOnAt : Finder → (List ℕ → Text) → List ℕ → ℕ → Type 0

@@ -4,12 +4,12 @@
 //! nobody there, since it has no bytes.
 #![tactic(auto)]
 
-ghost use Rattle.std.specs.Prelude.{◌≡◌, ◌+◌, ◌-◌, ◌^◌, ℕ, [], IfSome, None, Option, length, min, unwrap_or};
+ghost use Rattle.std.specs.Prelude.{◌≡◌, ◌+◌, ◌-◌, ◌^◌, ℕ, [], Contains, IfSome, None, Option, length, min, unwrap_or};
 ghost use Rattle.icu_segmenter.specs.Boundaries.{HasRestart};
 ghost use Rattle.icu_segmenter.specs.Decoding.{utf8};
 ghost use Rattle.icu_segmenter.specs.NearBoundaries.{IsNearestAbove, IsNearestBelow};
 ghost use Rattle.yengatomu_c.specs.Buffers.{IsFilled, TakesFirst};
-ghost use Rattle.yengatomu_c.specs.Finders.{GoesOnAt, LineFeedsReset, MayGoOnAt, find_by, finder_in, marks_behind, places_behind, places_in};
+ghost use Rattle.yengatomu_c.specs.Finders.{GoesOnAt, LineFeedsReset, find_by, finder_in, marks_behind, places_behind, places_in};
 ghost use Rattle.yengatomu_c.specs.Loaded.{IsLoaded, numbered_script};
 ghost use Rattle.yengatomu_c.specs.Options.{IsOpened, numbered_finder};
 ghost use Rattle.yengatomu_c.specs.Words.{word_count};
@@ -18,6 +18,7 @@ ghost use Rattle.yengatomu_c.specs.Wrapped.{ends_from, widths_of, wrapped_behind
 mod buffers;
 mod dictionary;
 mod handle;
+pub mod laws;
 mod parts;
 mod request;
 mod segmenter;
@@ -79,7 +80,8 @@ pub extern "C" fn yengatomu_close(alloc: Global, slot: &mut Slot)
 }
 
 /// Writes the first boundaries behind `from`, as many as there is room for, and returns how many: those of the text from there on, taken
-/// alone, which are those of the whole text wherever a caller may go on. 0 where the slot is empty.
+/// alone. They are those of the whole text where `from` is one of its boundaries and the slot has no dictionary; with one, where a line begins
+/// (`laws::lines_go_on`). 0 where the slot is empty.
 #[unsafe(no_mangle)]
 pub extern "C" fn yengatomu_boundaries(
     alloc: Global,
@@ -91,12 +93,11 @@ pub extern "C" fn yengatomu_boundaries(
     ensures kept { finder_in slot.new ≡ finder_in slot.old }
     ensures empty { finder_in slot.old ≡ None → IsFilled [] places.old places.new result }
     ensures given { IfSome (finder_in slot.old) (λ finder. IsFilled (places_behind finder utf8 text.now from) places.old places.new result) }
-    ensures whole { IfSome (finder_in slot.old) (λ finder. MayGoOnAt finder utf8 text.now from → GoesOnAt finder utf8 text.now from) }
+    ensures whole { IfSome (finder_in slot.old) (λ finder. HasRestart (find_by finder) → Contains (places_in finder utf8 text.now) from → GoesOnAt finder utf8 text.now from) }
 {
     let Some(segmenter) = slot.take(alloc) else {
         return 0;
     };
-    texts::goes_on(&segmenter, text, from);
     let written = texts::boundaries(&segmenter, text, from, places);
     slot.put(segmenter);
     written

@@ -1,18 +1,15 @@
 //! What a segmenter says of possibly ill-formed UTF-8.
 
-ghost use Rattle.std.specs.Prelude.{◌≡◌, ◌+◌, ◌<◌, ◌^◌, drop, length, min, take};
-ghost use Rattle.icu_segmenter.specs.Boundaries.{IsCover, boundaries_in};
+ghost use Rattle.std.specs.Prelude.{◌≡◌, ◌+◌, ◌<◌, ◌^◌, drop, length, min};
 ghost use Rattle.icu_segmenter.specs.Decoding.{utf8};
 ghost use Rattle.icu_segmenter.specs.NearBoundaries.{IsNearestAbove, IsNearestBelow};
-ghost use Rattle.icu_segmenter.specs.Rules.{PartsTexts};
 ghost use Rattle.yengatomu_c.specs.Buffers.{IsFilled, TakesFirst};
-ghost use Rattle.yengatomu_c.specs.Finders.{GoesOnAt, LineFeedsReset, MayGoOnAt, find_by, finder_of, marks_behind, places_behind, places_in};
+ghost use Rattle.yengatomu_c.specs.Finders.{finder_of, marks_behind, places_behind, places_in};
 ghost use Rattle.yengatomu_c.specs.Words.{word_count};
 
 use crate::buffers;
 use crate::segmenter::Segmenter;
 use icu_segmenter::cursor::BoundaryCursor;
-use icu_segmenter::laws;
 
 /// What is left of some units from a place on: nothing where it is past their end.
 pub fn rest_of<T>(units: &[T], from: usize) -> &[T]
@@ -23,57 +20,6 @@ pub fn rest_of<T>(units: &[T], from: usize) -> &[T]
         Some(rest) => rest,
         None => &[],
     }
-}
-
-/// The first units, or all where there are fewer.
-pub fn front_of<T>(units: &[T], count: usize) -> &[T]
-    ensures { result.now ≡ take count units.now }
-{
-    match units.get(..count) {
-        Some(front) => front,
-        None => units,
-    }
-}
-
-// Law: the first boundary is at the start, and the last at the end.
-fn cover(segmenter: &Segmenter, text: &[u8])
-    ensures { IsCover 0 (length text.now) (boundaries_in (find_by (finder_of segmenter.now)) (utf8 text.now)) }
-{
-    match segmenter {
-        Segmenter::Clusters(s) => {
-            let _ = s.as_borrowed().segment_utf8(text);
-        }
-        Segmenter::Words(s) => {
-            let _ = s.as_borrowed().segment_utf8(text);
-        }
-        Segmenter::Sentences(s) => {
-            let _ = s.as_borrowed().segment_utf8(text);
-        }
-        Segmenter::Lines(s) => {
-            let _ = s.as_borrowed().segment_utf8(text);
-        }
-    }
-}
-
-/// Law: where line feeds reset, texts may be parted behind them.
-pub fn parts(segmenter: &Segmenter)
-    ensures { LineFeedsReset (finder_of segmenter.now) → PartsTexts (find_by (finder_of segmenter.now)) 0x0A }
-{
-    match segmenter {
-        Segmenter::Clusters(s) => laws::grapheme::parts_behind_resets(s.as_borrowed(), '\n'),
-        Segmenter::Words(s) => laws::word::parts_behind_resets(s.as_borrowed(), '\n'),
-        Segmenter::Sentences(s) => laws::sentence::parts_behind_resets(s.as_borrowed(), '\n'),
-        Segmenter::Lines(s) => laws::line::parts_behind_resets(s.as_borrowed(), '\n'),
-    }
-}
-
-/// Law: where a caller may go on, the boundaries of the rest are those of the whole text.
-pub fn goes_on(segmenter: &Segmenter, text: &[u8], from: usize)
-    ensures { MayGoOnAt (finder_of segmenter.now) utf8 text.now from → GoesOnAt (finder_of segmenter.now) utf8 text.now from }
-{
-    parts(segmenter);
-    cover(segmenter, text);
-    cover(segmenter, front_of(text, from));
 }
 
 pub fn boundaries(segmenter: &Segmenter, text: &[u8], from: usize, places: &mut [usize]) -> usize

@@ -1,16 +1,16 @@
 //! What a segmenter says of possibly ill-formed UTF-16, for C. Places are 16-bit units.
 
-ghost use Rattle.std.specs.Prelude.{◌≡◌, ◌+◌, ◌<◌, ◌^◌, [], IfSome, None, drop, length, min};
-ghost use Rattle.icu_segmenter.specs.Boundaries.{IsCover, boundaries_in};
+ghost use Rattle.std.specs.Prelude.{◌≡◌, ◌+◌, ◌<◌, ◌^◌, [], Contains, IfSome, None, drop, length, min};
+ghost use Rattle.icu_segmenter.specs.Boundaries.{HasRestart};
 ghost use Rattle.icu_segmenter.specs.Decoding.{utf16};
 ghost use Rattle.yengatomu_c.specs.Buffers.{IsFilled, TakesFirst};
-ghost use Rattle.yengatomu_c.specs.Finders.{GoesOnAt, MayGoOnAt, find_by, finder_in, finder_of, marks_behind, places_behind, places_in};
+ghost use Rattle.yengatomu_c.specs.Finders.{GoesOnAt, find_by, finder_in, finder_of, marks_behind, places_behind, places_in};
 ghost use Rattle.yengatomu_c.specs.Words.{word_count};
 
 use crate::buffers;
 use crate::segmenter::Segmenter;
 use crate::slot::Slot;
-use crate::texts::{front_of, parts, rest_of};
+use crate::texts::rest_of;
 use std::alloc::Global;
 
 /// `yengatomu_boundaries` of UTF-16.
@@ -25,44 +25,14 @@ pub extern "C" fn yengatomu_boundaries_utf16(
     ensures kept { finder_in slot.new ≡ finder_in slot.old }
     ensures empty { finder_in slot.old ≡ None → IsFilled [] places.old places.new result }
     ensures given { IfSome (finder_in slot.old) (λ finder. IsFilled (places_behind finder utf16 text.now from) places.old places.new result) }
-    ensures whole { IfSome (finder_in slot.old) (λ finder. MayGoOnAt finder utf16 text.now from → GoesOnAt finder utf16 text.now from) }
+    ensures whole { IfSome (finder_in slot.old) (λ finder. HasRestart (find_by finder) → Contains (places_in finder utf16 text.now) from → GoesOnAt finder utf16 text.now from) }
 {
     let Some(segmenter) = slot.take(alloc) else {
         return 0;
     };
-    goes_on(&segmenter, text, from);
     let written = boundaries(&segmenter, text, from, places);
     slot.put(segmenter);
     written
-}
-
-// Law: the first boundary is at the start, and the last at the end.
-fn cover(segmenter: &Segmenter, text: &[u16])
-    ensures { IsCover 0 (length text.now) (boundaries_in (find_by (finder_of segmenter.now)) (utf16 text.now)) }
-{
-    match segmenter {
-        Segmenter::Clusters(s) => {
-            let _ = s.as_borrowed().segment_utf16(text);
-        }
-        Segmenter::Words(s) => {
-            let _ = s.as_borrowed().segment_utf16(text);
-        }
-        Segmenter::Sentences(s) => {
-            let _ = s.as_borrowed().segment_utf16(text);
-        }
-        Segmenter::Lines(s) => {
-            let _ = s.as_borrowed().segment_utf16(text);
-        }
-    }
-}
-
-// Law: where a caller may go on, the boundaries of the rest are those of the whole text.
-fn goes_on(segmenter: &Segmenter, text: &[u16], from: usize)
-    ensures { MayGoOnAt (finder_of segmenter.now) utf16 text.now from → GoesOnAt (finder_of segmenter.now) utf16 text.now from }
-{
-    parts(segmenter);
-    cover(segmenter, text);
-    cover(segmenter, front_of(text, from));
 }
 
 fn boundaries(segmenter: &Segmenter, text: &[u16], from: usize, places: &mut [usize]) -> usize

@@ -2,7 +2,7 @@ use Rattle.std.proofs.Common.{subst}
 use Rattle.icu_segmenter.specs.LineBreaks.{LineRules, LinesResetAfter, line_boundaries_by}
 use Rattle.icu_segmenter.specs.Rules.{PartsTexts, ResetsAfter, Rules, boundaries_by}
 use Rattle.icu_segmenter.specs.WordRules.{WordRules, WordsResetAfter, word_boundaries_by}
-use Rattle.yengatomu_c.proofs.texts.parts.Goals as goal
+use Rattle.yengatomu_c.proofs.laws.parts.Goals as goal
 
 pub returns-in-Clusters : goal.returns-in-Clusters
 returns-in-Clusters c =

@@ -1,0 +1,115 @@
+//! Laws of the boundaries that slots give. They do nothing, and no call of C makes them.
+
+ghost use Rattle.std.specs.Prelude.{◌≡◌, IfSome, length, take};
+ghost use Rattle.icu_segmenter.specs.Boundaries.{IsCover, boundaries_in};
+ghost use Rattle.icu_segmenter.specs.Decoding.{utf8, utf16};
+ghost use Rattle.icu_segmenter.specs.NearBoundaries.{BeginsLine};
+ghost use Rattle.icu_segmenter.specs.Rules.{PartsTexts};
+ghost use Rattle.yengatomu_c.specs.Finders.{GoesOnAt, LineFeedsReset, find_by, finder_in, finder_of};
+
+use crate::segmenter::Segmenter;
+use crate::slot::Slot;
+use icu_segmenter::laws;
+use std::alloc::Global;
+
+/// Law: where line feeds reset, a caller may go on wherever a line of the text begins, also with dictionaries: all boundaries of the text are
+/// some, the place, and those of the rest.
+pub fn lines_go_on(alloc: Global, slot: &mut Slot, text: &[u8], from: usize)
+    ensures kept { finder_in slot.new ≡ finder_in slot.old }
+    ensures goes_on { IfSome (finder_in slot.old) (λ finder. LineFeedsReset finder → BeginsLine text.now from → GoesOnAt finder utf8 text.now from) }
+{
+    let Some(segmenter) = slot.take(alloc) else {
+        return;
+    };
+    goes_on(&segmenter, text, from);
+    slot.put(segmenter);
+}
+
+/// Law: the same of UTF-16.
+pub fn lines_go_on_utf16(alloc: Global, slot: &mut Slot, text: &[u16], from: usize)
+    ensures kept { finder_in slot.new ≡ finder_in slot.old }
+    ensures goes_on { IfSome (finder_in slot.old) (λ finder. LineFeedsReset finder → BeginsLine text.now from → GoesOnAt finder utf16 text.now from) }
+{
+    let Some(segmenter) = slot.take(alloc) else {
+        return;
+    };
+    goes_on_utf16(&segmenter, text, from);
+    slot.put(segmenter);
+}
+
+fn goes_on(segmenter: &Segmenter, text: &[u8], from: usize)
+    ensures { LineFeedsReset (finder_of segmenter.now) → BeginsLine text.now from → GoesOnAt (finder_of segmenter.now) utf8 text.now from }
+{
+    parts(segmenter);
+    cover(segmenter, text);
+    cover(segmenter, front_of(text, from));
+}
+
+fn goes_on_utf16(segmenter: &Segmenter, text: &[u16], from: usize)
+    ensures { LineFeedsReset (finder_of segmenter.now) → BeginsLine text.now from → GoesOnAt (finder_of segmenter.now) utf16 text.now from }
+{
+    parts(segmenter);
+    cover_utf16(segmenter, text);
+    cover_utf16(segmenter, front_of(text, from));
+}
+
+// Law: where line feeds reset, texts may be parted behind them.
+fn parts(segmenter: &Segmenter)
+    ensures { LineFeedsReset (finder_of segmenter.now) → PartsTexts (find_by (finder_of segmenter.now)) 0x0A }
+{
+    match segmenter {
+        Segmenter::Clusters(s) => laws::grapheme::parts_behind_resets(s.as_borrowed(), '\n'),
+        Segmenter::Words(s) => laws::word::parts_behind_resets(s.as_borrowed(), '\n'),
+        Segmenter::Sentences(s) => laws::sentence::parts_behind_resets(s.as_borrowed(), '\n'),
+        Segmenter::Lines(s) => laws::line::parts_behind_resets(s.as_borrowed(), '\n'),
+    }
+}
+
+// Law: the first boundary is at the start, and the last at the end.
+fn cover(segmenter: &Segmenter, text: &[u8])
+    ensures { IsCover 0 (length text.now) (boundaries_in (find_by (finder_of segmenter.now)) (utf8 text.now)) }
+{
+    match segmenter {
+        Segmenter::Clusters(s) => {
+            let _ = s.as_borrowed().segment_utf8(text);
+        }
+        Segmenter::Words(s) => {
+            let _ = s.as_borrowed().segment_utf8(text);
+        }
+        Segmenter::Sentences(s) => {
+            let _ = s.as_borrowed().segment_utf8(text);
+        }
+        Segmenter::Lines(s) => {
+            let _ = s.as_borrowed().segment_utf8(text);
+        }
+    }
+}
+
+fn cover_utf16(segmenter: &Segmenter, text: &[u16])
+    ensures { IsCover 0 (length text.now) (boundaries_in (find_by (finder_of segmenter.now)) (utf16 text.now)) }
+{
+    match segmenter {
+        Segmenter::Clusters(s) => {
+            let _ = s.as_borrowed().segment_utf16(text);
+        }
+        Segmenter::Words(s) => {
+            let _ = s.as_borrowed().segment_utf16(text);
+        }
+        Segmenter::Sentences(s) => {
+            let _ = s.as_borrowed().segment_utf16(text);
+        }
+        Segmenter::Lines(s) => {
+            let _ = s.as_borrowed().segment_utf16(text);
+        }
+    }
+}
+
+// The first units, or all where there are fewer.
+fn front_of<T>(units: &[T], count: usize) -> &[T]
+    ensures { result.now ≡ take count units.now }
+{
+    match units.get(..count) {
+        Some(front) => front,
+        None => units,
+    }
+}
