@@ -45,6 +45,18 @@ impl ReadsUnits<u8> for Latin1 {
     }
 }
 
+impl Marked for bool {
+    fn mark(self) -> u8 {
+        self as u8
+    }
+}
+
+impl Marked for () {
+    fn mark(self) -> u8 {
+        0
+    }
+}
+
 impl<'a, E> Indices<'a, u8, E> {
     pub fn new_of_bytes(input: &'a [u8]) -> usize {
         input.len()
@@ -86,6 +98,8 @@ class Places(unittest.TestCase):
     def test_names_are_those_of_a_check(self):
         self.assertEqual(self.place("self.place()", "0 * self.place()"), "indices::units::IndicesIterator::next")
         self.assertEqual(self.place("(1, 2)", "(2, 2)"), "indices::units::Latin1ReadsUnitsU8::read_first")
+        self.assertEqual(self.place("self as u8", "1"), "indices::units::BoolMarked::mark")
+        self.assertEqual(self.place("        0\n", "        1\n"), "indices::units::UnitMarked::mark")
         self.assertEqual(self.place("        input\n", "        &input[1..]\n"), "indices::units::Indices::new")
         self.assertEqual(self.place("        input\n", "        &input[1..]\n", homes={"Indices": "indices"}), "indices::Indices::new")
         self.assertEqual(self.place("input.len()", "1"), "indices::units::Indices+u8+E::new_of_bytes")
