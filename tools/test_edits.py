@@ -74,6 +74,11 @@ pub fn seek(
 ) -> usize {
     place
 }
+
+#[unsafe(no_mangle)]
+pub extern "C" fn seek_for_c(place: usize) -> usize {
+    seek(place)
+}
 """
 
 SAID = """\
@@ -104,6 +109,7 @@ class Places(unittest.TestCase):
         self.assertEqual(self.place("        input\n", "        &input[1..]\n", homes={"Indices": "indices"}), "indices::Indices::new")
         self.assertEqual(self.place("input.len()", "1"), "indices::units::Indices+u8+E::new_of_bytes")
         self.assertEqual(self.place("    place\n", "    place + 1\n"), "indices::units::seek")
+        self.assertEqual(self.place("seek(place)", "seek(0)"), "indices::units::seek_for_c")
         self.assertEqual(self.place("    place\n", "    place + 1\n", path="src/lib.rt"), "seek")
 
     def test_what_a_body_begins_with_may_stand_behind_its_header(self):
