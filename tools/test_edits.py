@@ -45,6 +45,18 @@ impl ReadsUnits<u8> for Latin1 {
     }
 }
 
+impl Marked for bool {
+    fn mark(self) -> u8 {
+        self as u8
+    }
+}
+
+impl Marked for () {
+    fn mark(self) -> u8 {
+        0
+    }
+}
+
 impl<'a, E> Indices<'a, u8, E> {
     pub fn new_of_bytes(input: &'a [u8]) -> usize {
         input.len()
@@ -61,6 +73,11 @@ pub fn seek(
     place: usize,
 ) -> usize {
     place
+}
+
+#[unsafe(no_mangle)]
+pub extern "C" fn seek_for_c(place: usize) -> usize {
+    seek(place)
 }
 """
 
@@ -86,10 +103,13 @@ class Places(unittest.TestCase):
     def test_names_are_those_of_a_check(self):
         self.assertEqual(self.place("self.place()", "0 * self.place()"), "indices::units::IndicesIterator::next")
         self.assertEqual(self.place("(1, 2)", "(2, 2)"), "indices::units::Latin1ReadsUnitsU8::read_first")
+        self.assertEqual(self.place("self as u8", "1"), "indices::units::BoolMarked::mark")
+        self.assertEqual(self.place("        0\n", "        1\n"), "indices::units::UnitMarked::mark")
         self.assertEqual(self.place("        input\n", "        &input[1..]\n"), "indices::units::Indices::new")
         self.assertEqual(self.place("        input\n", "        &input[1..]\n", homes={"Indices": "indices"}), "indices::Indices::new")
         self.assertEqual(self.place("input.len()", "1"), "indices::units::Indices+u8+E::new_of_bytes")
         self.assertEqual(self.place("    place\n", "    place + 1\n"), "indices::units::seek")
+        self.assertEqual(self.place("seek(place)", "seek(0)"), "indices::units::seek_for_c")
         self.assertEqual(self.place("    place\n", "    place + 1\n", path="src/lib.rt"), "seek")
 
     def test_what_a_body_begins_with_may_stand_behind_its_header(self):
