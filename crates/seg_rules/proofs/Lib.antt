@@ -1,0 +1,12 @@
+mod Truths
+mod TableLemmas
+mod StepLemmas
+mod Soundness
+mod Scans
+mod Engine
+mod Law
+mod Adequacy
+mod Verdicts
+mod Plans
+mod Reader
+mod Examples

@@ -1,0 +1,6 @@
+pub mod RowRules
+pub mod Patterns
+pub mod Plain
+pub mod Places
+pub mod Check
+pub mod Examples

@@ -1,0 +1,4 @@
+//! Rules of boundaries as data, and a check that a machine finds their places.
+#![tactic(auto)]
+
+pub mod laws;
