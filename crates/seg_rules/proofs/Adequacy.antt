@@ -5,7 +5,9 @@ use Rattle.std.specs.Prelude.{reverse}
 use Rattle.std.proofs.lemmas.List.{reverse-append}
 use Rattle.seg_rules.specs.Plain.{left_fits, right_fits, row_fits}
 use Rattle.std.proofs.lemmas.Bool.{and_parts, and_from, or_cases}
-use Rattle.seg_rules.specs.RowRules.{Count, One, Optional, Star, Pairs, Pattern, Row, has, flow, no_flags, is_full}
+use Rattle.seg_rules.specs.declared.rules.Count.TheVariants.{One, Optional, Star, Pairs}
+use Rattle.seg_rules.specs.declared.rules.Count.{Count}
+use Rattle.seg_rules.specs.RowRules.{Pattern, Row, has, flow, no_flags, is_full}
 use Rattle.seg_rules.specs.Patterns.{Each, EachPair, FitsItem, Fits, EndsIn, BeginsWith, flags, left_flags, right_flags, is_nothing}
 use Rattle.seg_rules.proofs.StepLemmas.{once-is}
 

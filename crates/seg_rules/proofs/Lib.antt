@@ -1,3 +1,4 @@
+pub mod Bits
 mod Truths
 mod TableLemmas
 mod StepLemmas

@@ -9,7 +9,8 @@ use Rattle.seg_machine.specs.Machine.{Machine, symbol_and_script, symbols_of}
 use Rattle.seg_machine.specs.MachineFaults.{IsChecked}
 use Rattle.seg_machine.specs.Pick.{machine_boundaries}
 use Rattle.seg_rules.specs.RowRules.{RowRules}
-use Rattle.seg_rules.specs.Check.{Plan, Tables, Configuration}
+use Rattle.seg_rules.specs.declared.certificate.Configuration.{Configuration}
+use Rattle.seg_rules.specs.Check.{Plan, Tables}
 use Rattle.seg_rules.specs.Places.{Passes}
 use Rattle.seg_rules.specs.Plain.{plain_verdict, plain_places}
 use Rattle.seg_rules.proofs.Soundness.{bool-cases}

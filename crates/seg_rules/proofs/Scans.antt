@@ -4,7 +4,8 @@ use Rattle.std.specs.Option.{option_map, is_none}
 use Rattle.std.proofs.Common.{arith, refl, sym, ap, ap₂, ◌∙◌, inl, inr, eqb-true, eq-eqb, subst}
 use Rattle.std.proofs.lemmas.Bool.{and_parts, and_from, or_cases, cond-true, cond-false}
 use Rattle.seg_rules.specs.RowRules.{RowRules, Before, DueOf, at_start, move, owed, due_after, verdict, before, has_boundary, decided}
-use Rattle.seg_rules.specs.Check.{Plan, Tables, Configuration, get, tail, no_before, tables_hold, scans_hold, starts_hold, configurations_hold, configuration_holds, ends_well, goes_on, each_goes, ends, end_place, moved_place, known, start_of}
+use Rattle.seg_rules.specs.declared.certificate.Configuration.{Configuration}
+use Rattle.seg_rules.specs.Check.{Plan, Tables, get, tail, no_before, tables_hold, scans_hold, starts_hold, configurations_hold, configuration_holds, ends_well, goes_on, each_goes, ends, end_place, moved_place, known, start_of}
 use Rattle.seg_rules.specs.Places.{next_of, accept_of}
 use Rattle.seg_rules.proofs.TableLemmas.{due_of, chosen, Reads, TablesAre, tables-are}
 use Rattle.seg_rules.proofs.StepLemmas.{kept_of, is_sure, next_config, Stops, Enters, goes, each-at, Passes, Accepts, Picks, entering}

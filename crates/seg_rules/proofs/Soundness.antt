@@ -7,7 +7,8 @@ use Rattle.std.proofs.lemmas.Bool.{and_parts, cond-false}
 use Rattle.seg_rules.specs.RowRules.{RowRules, Before, Due, DueOf, move, owed, due_after, read, read_all, verdict}
 use Rattle.seg_rules.specs.Places.{next_of, accept_of}
 use Rattle.seg_rules.proofs.TableLemmas.{due_of}
-use Rattle.seg_rules.specs.Check.{Plan, Tables, Configuration, get, no_before, relation_holds, configurations_hold, configuration_holds, among, same_configuration}
+use Rattle.seg_rules.specs.declared.certificate.Configuration.{Configuration}
+use Rattle.seg_rules.specs.Check.{Plan, Tables, get, no_before, relation_holds, configurations_hold, configuration_holds, among, same_configuration}
 
 -- ---- the machine, on symbols: the pick of a scan, after k symbols in a state
 

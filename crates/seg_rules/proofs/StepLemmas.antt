@@ -4,7 +4,8 @@ use Rattle.std.proofs.Common.{arith, refl, sym, ap, ◌∙◌, inl, inr, eqb-tru
 use Rattle.std.proofs.lemmas.Bool.{and_parts, cond-true, cond-false}
 use Rattle.seg_rules.specs.RowRules.{RowRules, once}
 use Rattle.seg_rules.proofs.TableLemmas.{chosen, number-is}
-use Rattle.seg_rules.specs.Check.{Plan, Tables, Configuration, get, goes_on, each_goes, entered, known, moved_place}
+use Rattle.seg_rules.specs.declared.certificate.Configuration.{Configuration}
+use Rattle.seg_rules.specs.Check.{Plan, Tables, get, goes_on, each_goes, entered, known, moved_place}
 
 pub once-is : {X : Type 0} (b : Bool) (f : Bool → X) → once b f ≡ f b
 unfolding once

@@ -3,7 +3,9 @@ use Rattle.std.specs.Prelude.{◌≡◌, ℕ, zero, suc, ◌+◌, ◌-◌, ◌<�
 use Rattle.std.proofs.Common.{arith, refl, sym, ap, ap₂, ◌∙◌, eqb-true, ltb-true, le-ltb}
 use Rattle.std.proofs.lemmas.Bool.{and_parts, cond-false}
 use Rattle.seg_rules.proofs.Truths.{same_from_beq}
-use Rattle.seg_rules.specs.RowRules.{Count, One, Optional, Star, Pairs, Pattern, RowRules, Before, Entry, Marks, Owed, Due, DueOf, at_start, move, owed, due_after, once_number}
+use Rattle.seg_rules.specs.declared.rules.Count.TheVariants.{One, Optional, Star, Pairs}
+use Rattle.seg_rules.specs.declared.rules.Count.{Count}
+use Rattle.seg_rules.specs.RowRules.{Pattern, RowRules, Before, Entry, Marks, Owed, Due, DueOf, at_start, move, owed, due_after, once_number}
 use Rattle.seg_rules.specs.Check.{Tables, get, no_before, no_due, same_flags, same_lives, same_before, count_number, same_pattern, same_entry, same_entries, same_due, numbers, moves_hold, befores_hold, reads_hold, dues_hold, append_dues, verdicts, all_below, rows_below, tables_hold}
 
 -- ---- what passes a test of equality is equal

@@ -2,7 +2,8 @@
 use Rattle.std.specs.Prelude.{◌≡◌, ℕ, suc, ◌-◌, ◌<◌, Bool, true, false, not, ◌&&◌, ◌||◌, ◌==◌, if◌then◌else◌, List, [], ◌∷◌, ◌++◌}
 use Rattle.std.proofs.Common.{arith, refl, sym, ap, ap₂, ◌∙◌, inl, inr, eqb-true}
 use Rattle.std.proofs.lemmas.Bool.{and_left, and_right, cond-true, cond-false}
-use Rattle.seg_rules.specs.RowRules.{One, Optional, Star, Pairs, Pattern, Row, RowRules, Before, Entry, Marks, Owed, Due, DueOf, has, once, once_flags, flow, no_flags, is_full, is_live, moved, unread, move, verdict_of_entry, put_on, put, Reading, Decides, Stays, Drops, onto, begun, owed_rows, owed, reading, read_all, read, decided, verdict, before}
+use Rattle.seg_rules.specs.declared.rules.Count.TheVariants.{One, Optional, Star, Pairs}
+use Rattle.seg_rules.specs.RowRules.{Pattern, Row, RowRules, Before, Entry, Marks, Owed, Due, DueOf, has, once, once_flags, flow, no_flags, is_full, is_live, moved, unread, move, verdict_of_entry, put_on, put, Reading, Decides, Stays, Drops, onto, begun, owed_rows, owed, reading, read_all, read, decided, verdict, before}
 use Rattle.seg_text.specs.Boundaries.{boundary}
 use Rattle.seg_rules.specs.Patterns.{flags, left_flags, right_flags}
 use Rattle.seg_rules.specs.Places.{verdict_at, places}

@@ -1,7 +1,10 @@
 -- A check that a machine finds the boundaries of rules: of tables that somebody made, and of what may be true within a scan.
 use Rattle.std.specs.Prelude.{ℕ, zero, suc, ◌-◌, Bool, true, false, not, ◌&&◌, ◌||◌, ◌==◌, nat_lt, if◌then◌else◌, List, [], ◌∷◌, length}
 use Rattle.std.specs.Bool.{beq}
-use Rattle.seg_rules.specs.RowRules.{Count, One, Optional, Star, Pairs, Pattern, RowRules, Before, Entry, Marks, Owed, Due, DueOf, once, once_number, at_start, move, owed, due_after}
+use Rattle.seg_rules.specs.declared.rules.Count.TheVariants.{One, Optional, Star, Pairs}
+use Rattle.seg_rules.specs.declared.rules.Count.{Count}
+use Rattle.seg_rules.specs.declared.certificate.Configuration.{Configuration}
+use Rattle.seg_rules.specs.RowRules.{Pattern, RowRules, Before, Entry, Marks, Owed, Due, DueOf, once, once_number, at_start, move, owed, due_after}
 
 -- Machines, as far as the check reads them: of each state what it accepts (0 nothing, 1 a boundary, 2 the named place), a status and
 -- whether it names a place; and where each symbol leads, from that of the end on (255 nowhere).
@@ -18,17 +21,8 @@ pub record Tables : Type 0 where
   -- of each number, and each symbol from the end on, what is owed then, where a mark isn't glued, and where it is
   pub reads : List (List (ℕ × ℕ))
 
--- Places: 0 none, 1 one that is no boundary, 2 that after the last symbol, 3 an older one, 4 the end.
-pub record Configuration : Type 0 where
-  pub before : ℕ
-  pub doubt : ℕ
-  -- what is owed to a place within the scan; 0 if there is none
-  pub older : ℕ
-  -- the place after the last symbol may be a boundary
-  pub newest : Bool
-  pub last : ℕ
-  pub status : ℕ
-  pub named : ℕ
+-- A configuration says what may be true within a scan. Its places: 0 none, 1 one that is no boundary, 2 that after the last symbol, 3 an
+-- older one, 4 the end.
 
 unfoldable pub get : {X : Type 0} → X → List X → ℕ → X
 get default [] n = default

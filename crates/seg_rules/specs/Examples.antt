@@ -1,7 +1,8 @@
 -- Small rules, as examples: symbol 1 is a letter, 2 a space, 3 a mark, 4 a flag and 5 the end of a line.
 use Rattle.std.specs.Prelude.{ℕ, true, List, [], ◌∷◌}
 use Rattle.seg_text.specs.declared.boundary.Boundary.{Boundary}
-use Rattle.seg_rules.specs.RowRules.{One, Pairs, Row, RowRules, class_of}
+use Rattle.seg_rules.specs.declared.rules.Count.TheVariants.{One, Pairs}
+use Rattle.seg_rules.specs.RowRules.{Row, RowRules, class_of}
 use Rattle.seg_rules.specs.Plain.{plain_places}
 
 abbrev pub letter : ℕ

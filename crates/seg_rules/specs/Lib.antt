@@ -4,3 +4,4 @@ pub mod Plain
 pub mod Places
 pub mod Check
 pub mod Examples
+pub mod Given

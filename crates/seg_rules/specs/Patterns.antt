@@ -1,6 +1,8 @@
 -- What it is for symbols to fit a pattern, and what the flags of a pattern say after symbols. Lists of symbols are nearest first.
 use Rattle.std.specs.Prelude.{◌≡◌, ℕ, Bool, true, false, List, [], ◌∷◌, ◌++◌, reverse, ◌⊎◌}
-use Rattle.seg_rules.specs.RowRules.{Count, One, Optional, Star, Pairs, Pattern, has, flow, no_flags}
+use Rattle.seg_rules.specs.declared.rules.Count.TheVariants.{One, Optional, Star, Pairs}
+use Rattle.seg_rules.specs.declared.rules.Count.{Count}
+use Rattle.seg_rules.specs.RowRules.{Pattern, has, flow, no_flags}
 
 -- symbols of a class
 abbrev pub Each : ℕ → List ℕ → Type 0

@@ -6,7 +6,8 @@ use Rattle.seg_machine.specs.declared.provider.Acceptance.{Acceptance}
 use Rattle.seg_machine.specs.declared.provider.Acceptance.TheVariants.{Continue, Accept, Conditional}
 use Rattle.seg_machine.specs.Machine.{Machine, step, state_at}
 use Rattle.seg_rules.specs.RowRules.{RowRules, owed, verdict, before, once_number}
-use Rattle.seg_rules.specs.Check.{Plan, Tables, Configuration, get, tables_hold, scans_hold}
+use Rattle.seg_rules.specs.declared.certificate.Configuration.{Configuration}
+use Rattle.seg_rules.specs.Check.{Plan, Tables, get, tables_hold, scans_hold}
 
 -- where a symbol leads, 255 nowhere, and what a state accepts
 abbrev pub next_of : Plan → ℕ → ℕ → ℕ

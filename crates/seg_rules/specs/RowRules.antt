@@ -1,12 +1,7 @@
 -- Rules of boundaries as data: rows in order, each of what stands before a place, what comes after it, and a verdict.
 use Rattle.std.specs.Prelude.{ℕ, zero, suc, ◌+◌, ◌/◌, ◌%◌, ◌^◌, Bool, true, false, not, ◌&&◌, ◌||◌, ◌==◌, if◌then◌else◌, List, [], ◌∷◌}
-
--- how often symbols of a class stand there: once, at most once, any number, an even number
-pub data Count : Type 0 where
-  One : Count
-  Optional : Count
-  Star : Count
-  Pairs : Count
+use Rattle.seg_rules.specs.declared.rules.Count.{Count}
+use Rattle.seg_rules.specs.declared.rules.Count.TheVariants.{One, Optional, Star, Pairs}
 
 -- a pattern: classes, each the number whose bits are its symbols, and how often
 abbrev pub Pattern : Type 0

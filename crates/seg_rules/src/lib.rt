@@ -1,4 +1,7 @@
 //! Rules of boundaries as data, and a check that a machine finds their places.
 #![tactic(auto)]
 
+pub mod certificate;
+mod flow;
 pub mod laws;
+pub mod rules;
