@@ -1,3 +1,4 @@
+pub mod Moves
 pub mod Bits
 mod Truths
 mod TableLemmas

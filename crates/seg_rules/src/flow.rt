@@ -1,6 +1,6 @@
 //! Which rests of a pattern may come next, as the bits of a number: the whole pattern in the lowest.
-ghost use Rattle.std.specs.Prelude.{◌≡◌, ◌<◌, ◌≤◌, ◌^◌, ◌&&◌, ◌||◌};
-ghost use Rattle.seg_rules.specs.RowRules.{has, flow as flow_of};
+ghost use Rattle.std.specs.Prelude.{◌≡◌, ◌<◌, ◌≤◌, ◌^◌, ◌&&◌, ◌||◌, IfSome};
+ghost use Rattle.seg_rules.specs.RowRules.{has, flow as flow_of, is_full as has_whole, is_live as has_live};
 ghost use Rattle.seg_rules.specs.Given.{flags_by, is_odd, width};
 
 use crate::rules::{Class, Count, is_in};
@@ -42,4 +42,48 @@ fn either(this: bool, that: bool) -> bool
     ensures { result ≡ (this || that) }
 {
     this || that
+}
+
+// The longest pattern that has no more than 16 flags, whatever its items.
+const MAX_ITEMS: usize = 7;
+
+// The same, or `None` where the pattern is too long.
+#[tactic(auto, using(crate::proofs::Bits::narrow))]
+pub(crate) fn flow_within(
+    begins: bool,
+    pattern: &[(Class, Count)],
+    live: u32,
+    symbol: u8,
+) -> Option<u32>
+    ensures fits { IfSome result (λ bits. bits < 2 ^ width pattern.now) }
+    ensures value { IfSome result (λ bits. flags_by pattern.now bits ≡ flow_of begins pattern.now (flags_by pattern.now live) symbol) }
+{
+    if pattern.len() > MAX_ITEMS {
+        return None;
+    }
+    Some(flow(begins, pattern, live, symbol))
+}
+
+// Whether the whole pattern fits what was read: its last rest, the empty one, is live.
+#[tactic(auto, unfolding(crate::specs::RowRules::is_full, crate::specs::Given::flags_by), using(crate::proofs::Bits::full_later))]
+pub(crate) fn is_full(pattern: &[(Class, Count)], live: u32) -> bool
+    ensures { result ≡ has_whole (flags_by pattern.now live) }
+{
+    let Some((item, rest)) = pattern.split_first() else {
+        return live % 2 == 1;
+    };
+    match item.1 {
+        Count::Pairs => is_full(rest, live / 2 / 2),
+        _ => is_full(rest, live / 2),
+    }
+}
+
+// Whether some rest is live.
+#[tactic(auto, using(crate::proofs::Bits::live_bits))]
+pub(crate) fn is_live(pattern: &[(Class, Count)], live: u32) -> bool
+    requires { live < 2 ^ width pattern.now }
+    ensures { result ≡ has_live (flags_by pattern.now live) }
+{
+    let _ = pattern;
+    live != 0
 }

@@ -2,6 +2,7 @@
 #![tactic(auto)]
 
 pub mod certificate;
+mod befores;
 mod flow;
 pub mod laws;
 pub mod rules;
