@@ -4,7 +4,7 @@ use Rattle.std.proofs.Common.{arith, refl, sym, ap, ◌∙◌, inl, inr, eq-eqb}
 use Rattle.std.proofs.lemmas.Bool.{eqb-false}
 use mir.Val.{bool_byte}
 use Rattle.seg_rules.specs.declared.rules.Count.TheVariants.{One, Optional, Star, Pairs}
-use Rattle.seg_rules.specs.RowRules.{Pattern, has, flow, is_full, is_live, once}
+use Rattle.seg_rules.specs.RowRules.{Pattern, has, flow, is_full, is_live, no_flags, once}
 use Rattle.seg_rules.proofs.Soundness.{bool-cases, neq-eqb}
 use Rattle.seg_rules.specs.Given.{is_odd, flags_by, width}
 
@@ -93,3 +93,12 @@ live_bits ((class, Star) ∷ items) bits less = ap (λ b. is_odd bits || b) (liv
 live_bits ((class, Pairs) ∷ items) bits less =
     ap (λ b. is_odd bits || (is_odd (bits / 2) || b)) (live_bits items (bits / 2 / 2) (half_less (bits / 2) (width items) (half_less bits (suc (width items)) less)))
     ∙ ap (λ b. is_odd bits || b) (odd_or (bits / 2)) ∙ odd_or bits
+
+-- no rest is live by 0
+pub none_live : (pattern : Pattern) → flags_by pattern 0 ≡ no_flags pattern
+unfolding flags_by no_flags
+none_live [] = refl
+none_live ((class, One) ∷ items) = ap (λ live. false ∷ live) (none_live items)
+none_live ((class, Optional) ∷ items) = ap (λ live. false ∷ live) (none_live items)
+none_live ((class, Star) ∷ items) = ap (λ live. false ∷ live) (none_live items)
+none_live ((class, Pairs) ∷ items) = ap (λ live. false ∷ (false ∷ live)) (none_live items)

@@ -4,7 +4,7 @@ use Rattle.std.specs.Prelude.{get_or}
 use Rattle.std.proofs.Common.{arith, refl, sym, ap, ap₂, ◌∙◌, subst}
 use Rattle.std.proofs.lemmas.List.{drop_more, drop_all}
 use Rattle.seg_rules.specs.declared.rules.Row.{Row as GivenRow}
-use Rattle.seg_rules.specs.RowRules.{Row, flow, moved}
+use Rattle.seg_rules.specs.RowRules.{Row, flow, moved, no_flags, unread}
 use Rattle.seg_rules.specs.Given.{flags_by, lives_by, row_of}
 
 -- a symbol leads from what is live of rows to these
@@ -33,3 +33,27 @@ unfolding moved lives_by
 moves-none rows from x to i rows_all from_all to_all =
     let a = sym (drop_all i rows (omega (arith, rows_all))) in
     subst (λ rows. Moves rows (drop i from) x (drop i to)) a refl
+
+-- what is live of rows at the start of a text
+abbrev pub Begin : List GivenRow → List ℕ → Type 0
+Begin rows to = unread (map row_of rows) ≡ lives_by (map row_of rows) to
+
+begin-one : (row : GivenRow) (rows : List GivenRow) (there : ℕ) (to : List ℕ)
+    → flow true row.left.now (flow true row.left.now (no_flags row.left.now) 0) 0 ≡ flags_by row.left.now there → Begin rows to → Begin (row ∷ rows) (there ∷ to)
+unfolding unread lives_by
+begin-one row rows there to one rest = λ i. one i ∷ rest i
+
+pub begin-step : (rows : List GivenRow) (to : List ℕ) (i : ℕ) (d : GivenRow) → i < length rows → i < length to
+    → flow true (get_or rows i d).left.now (flow true (get_or rows i d).left.now (no_flags (get_or rows i d).left.now) 0) 0 ≡ flags_by (get_or rows i d).left.now (get_or to i 0)
+    → Begin (drop (i + 1) rows) (drop (i + 1) to) → Begin (drop i rows) (drop i to)
+begin-step rows to i d in_rows in_to one rest =
+    let row = get_or rows i d in
+    subst (λ rows. Begin rows (drop i to)) (sym (drop_more rows i d in_rows))
+    (subst (λ to. Begin (row ∷ drop (i + 1) rows) to) (sym (drop_more to i 0 in_to))
+    (begin-one row (drop (i + 1) rows) (get_or to i 0) (drop (i + 1) to) one rest))
+
+pub begin-none : (rows : List GivenRow) (to : List ℕ) (i : ℕ) → length rows ≡ i → length to ≡ i → Begin (drop i rows) (drop i to)
+unfolding unread lives_by
+begin-none rows to i rows_all to_all =
+    let a = sym (drop_all i rows (omega (arith, rows_all))) in
+    subst (λ rows. Begin rows (drop i to)) a refl

@@ -3,7 +3,7 @@ use Rattle.std.specs.Prelude.{◌≡◌, ◌≢◌, ℕ, zero, suc, ◌+◌, ◌
 use Rattle.std.specs.Option.{option_map, is_none}
 use Rattle.std.proofs.Common.{arith, refl, sym, ap, ap₂, ◌∙◌, inl, inr, eqb-true, eq-eqb, subst}
 use Rattle.std.proofs.lemmas.Bool.{and_parts, and_from, or_cases, cond-true, cond-false}
-use Rattle.seg_rules.specs.RowRules.{RowRules, Before, DueOf, at_start, move, owed, due_after, verdict, before, has_boundary, decided}
+use Rattle.seg_rules.specs.RowRules.{RowRules, Before, DueOf, at_start, moves_on, owed, due_after, verdict, before, has_boundary, decided}
 use Rattle.seg_rules.specs.declared.certificate.Configuration.{Configuration}
 use Rattle.seg_rules.specs.Check.{Plan, Tables, get, tail, no_before, tables_hold, scans_hold, starts_hold, configurations_hold, configuration_holds, ends_well, goes_on, each_goes, ends, end_place, moved_place, known, start_of}
 use Rattle.seg_rules.specs.Places.{next_of, accept_of}
@@ -469,15 +469,15 @@ module _ (rules : RowRules) (n : ℕ) (t : Tables) (plan : Plan) (relation : Lis
   -- before a symbol
   stepping : (checked : Checked) (q : ℕ) (c : Configuration) (k p : ℕ) (s : Before) (last : Option (ℕ × ℕ)) (named : Option ℕ) (j : ℕ) (rest : List ℕ)
       → j < n → Passed q c → Holds rules t c k p s last named (suc j ∷ rest)
-      → Stepping c k p (move rules s (suc j)) last named rest (get 0 (get [] t.moves c.before) j) (after c c.doubt j)
+      → Stepping c k p (moves_on rules s (suc j)) last named rest (get 0 (get [] t.moves c.before) j) (after c c.doubt j)
   stepping checked q c k p s last named j rest below pass holds =
       let glues : s.glues ≡ glues_at c = ap (λ (s : Before). s.glues) holds.state in
       let due_d : due_after rules s.glues (suc j) (due_of t c.doubt) ≡ due_of t (after c c.doubt j) =
       ap (λ g. due_after rules g (suc j) (due_of t c.doubt)) glues ∙ pass.doubts (suc j) (glues_at c) (omega (arith, below)) in
       record {
         within = checked.are.within c.before j;
-        state = ap (λ s. move rules s (suc j)) holds.state ∙ checked.are.moves c.before j holds.within below;
-        began = λ e. holds.began (verdict-step rules s (due_of t c.doubt) (suc j) rest ∙ ap (λ d. verdict rules (move rules s (suc j)) d rest) due_d ∙ e);
+        state = ap (λ s. moves_on rules s (suc j)) holds.state ∙ checked.are.moves c.before j holds.within below;
+        began = λ e. holds.began (verdict-step rules s (due_of t c.doubt) (suc j) rest ∙ ap (λ d. verdict rules (moves_on rules s (suc j)) d rest) due_d ∙ e);
         pick = holds.pick;
         status = holds.status;
         names = holds.names;
@@ -486,7 +486,7 @@ module _ (rules : RowRules) (n : ℕ) (t : Tables) (plan : Plan) (relation : Lis
   -- what is wanted before a symbol is the choice after it
   chosen-after : (checked : Checked) (q : ℕ) (c : Configuration) (k p : ℕ) (s : Before) (last : Option (ℕ × ℕ)) (named : Option ℕ) (j : ℕ) (rest : List ℕ)
       → j < n → Passed q c → Holds rules t c k p s last named (suc j ∷ rest)
-      → expected rules t c k p s (suc j ∷ rest) ≡ choice (move rules s (suc j)) rest p k (after c c.older j) (after c (newest_of c) j)
+      → expected rules t c k p s (suc j ∷ rest) ≡ choice (moves_on rules s (suc j)) rest p k (after c c.older j) (after c (newest_of c) j)
   chosen-after checked q c k p s last named j rest below pass holds =
       let glues : s.glues ≡ glues_at c = ap (λ (s : Before). s.glues) holds.state in
       wanted-step rules (due_of t c.older) (due_of t (after c c.older j)) (due_of t (after c (newest_of c) j)) c.newest k p s (suc j) rest
@@ -510,19 +510,19 @@ module _ (rules : RowRules) (n : ℕ) (t : Tables) (plan : Plan) (relation : Lis
       let pass = checked.passes q c holds.within knows in
       let now = stepping checked q c k p s last named j rest below pass holds in
       let same = ap Some (sym (chosen-after checked q c k p s last named j rest below pass holds)) in
-      elim (symbol checked.are c k p (move rules s (suc j)) last named rest (get 0 (get [] t.moves c.before) j) (after c c.doubt j) (next_of plan q (suc j))
+      elim (symbol checked.are c k p (moves_on rules s (suc j)) last named rest (get 0 (get [] t.moves c.before) j) (after c c.doubt j) (next_of plan q (suc j))
       (after c c.older j) (after c (newest_of c) j) now (pass.goes j below)) [
         | Ends none is ↦ cond-true _ _ _ none ∙ is ∙ same
         | Holding some off other naming is ↦ cond-false _ _ _ some ∙ cond-false _ _ _ off ∙ cond-false _ _ _ other ∙ cond-false _ _ _ naming ∙ is ∙ same
         | Going some on again d r knows2 holds2 is ↦
-            let further = walk checked fuel enough rest (next_of plan q (suc j)) d (suc k) r (move rules s (suc j)) last named symbols.1 (λ e. again) knows2 holds2 in
+            let further = walk checked fuel enough rest (next_of plan q (suc j)) d (suc k) r (moves_on rules s (suc j)) last named symbols.1 (λ e. again) knows2 holds2 in
             cond-false _ _ _ some ∙ elim on [
               | inl passing ↦ cond-true _ _ _ passing ∙ further ∙ ap Some (sym is) ∙ same
               | inr (off, (other, none)) ↦
                   cond-false _ _ _ off ∙ cond-false _ _ _ other ∙ cond-true _ _ _ none ∙ further ∙ ap Some (sym is) ∙ same
             ]
         | Accepting some one again d r knows2 holds2 is ↦
-            let further = walk checked fuel enough rest (next_of plan q (suc j)) d (suc k) r (move rules s (suc j)) _ _ symbols.1 (λ e. again) knows2 holds2 in
+            let further = walk checked fuel enough rest (next_of plan q (suc j)) d (suc k) r (moves_on rules s (suc j)) _ _ symbols.1 (λ e. again) knows2 holds2 in
             let off : ((accept_of plan (next_of plan q (suc j))).0 == 0) ≡ false = ap (λ m. m == 0) one in
             cond-false _ _ _ some ∙ cond-false _ _ _ off ∙ cond-true _ _ _ (eq-eqb _ _ one) ∙ further ∙ ap Some (sym is) ∙ same
       ]
@@ -550,22 +550,22 @@ module _ (rules : RowRules) (n : ℕ) (t : Tables) (plan : Plan) (relation : Lis
   before-at are (suc j ∷ past) symbols =
       let (i, (within, is)) = before-at are past symbols.1 in
       let most = symbols.0.1 in
-      (get 0 (get [] t.moves i) j, (are.within i j, ap (λ s. move rules s (suc j)) is ∙ are.moves i j within (omega (arith, most))))
+      (get 0 (get [] t.moves i) j, (are.within i j, ap (λ s. moves_on rules s (suc j)) is ∙ are.moves i j within (omega (arith, most))))
 
   -- the scan of a rest that begins at a boundary
   scan : (checked : Checked) (fuel : ℕ) → 2 ≤ fuel → (past : List ℕ) (i o x : ℕ) (rest : List ℕ) → Symbols n (x ∷ rest) → i < length t.befores
       → before rules past ≡ get no_before t.befores i → verdict rules (before rules past) (due_of t o) (x ∷ rest) ≢ 0
       → known rules t plan relation 0 (start_of rules t plan relation i o) ≡ true
-      → finish plan fuel 0 0 None None (x ∷ rest) ≡ Some (first rules 1 (move rules (before rules past) x) rest)
+      → finish plan fuel 0 0 None None (x ∷ rest) ≡ Some (first rules 1 (moves_on rules (before rules past) x) rest)
   unfolding later
   scan checked fuel enough past i o x rest symbols within is began knows =
       walk checked fuel enough (x ∷ rest) 0 (start_of rules t plan relation i o) 0 0 (before rules past) None None symbols (λ e. not-empty x rest e) knows
       (record { within = within; state = is; began = began; pick = Nowhere refl refl; status = λ f is. status-none 0 f is; names = Nowhere refl refl })
-      ∙ ap (λ v. Some (if v == 0 then first rules 1 (move rules (before rules past) x) rest else (0, v - 1))) (verdict-decided rules (before rules past) 0 (x ∷ rest))
+      ∙ ap (λ v. Some (if v == 0 then first rules 1 (moves_on rules (before rules past) x) rest else (0, v - 1))) (verdict-decided rules (before rules past) 0 (x ∷ rest))
 
   boundary-scan : (checked : Checked) → scans_hold rules t plan relation ≡ true → (fuel : ℕ) → 2 ≤ fuel → (past : List ℕ) (x : ℕ) (rest : List ℕ)
       → Symbols n past → Symbols n (x ∷ rest) → has_boundary rules past (x ∷ rest) ≡ true
-      → finish plan fuel 0 0 None None (x ∷ rest) ≡ Some (first rules 1 (move rules (before rules past) x) rest)
+      → finish plan fuel 0 0 None None (x ∷ rest) ≡ Some (first rules 1 (moves_on rules (before rules past) x) rest)
   unfolding before
   boundary-scan checked scans fuel enough [] x rest befores symbols breaks =
       let parts = and_parts (known rules t plan relation 0 (start_of rules t plan relation 0 1)) _ scans in
@@ -607,7 +607,7 @@ module _ (rules : RowRules) (n : ℕ) (t : Tables) (plan : Plan) (relation : Lis
   pub restart : tables_hold rules n t ≡ true → scans_hold rules t plan relation ≡ true → (fuel : ℕ) → 2 ≤ fuel
       → (past : List ℕ) (x : ℕ) (rest : List ℕ) → Symbols n past → Symbols n (x ∷ rest)
       → has_boundary rules past (x ∷ rest) ≡ true
-      → finish plan fuel 0 0 None None (x ∷ rest) ≡ Some (first rules 1 (move rules (before rules past) x) rest)
+      → finish plan fuel 0 0 None None (x ∷ rest) ≡ Some (first rules 1 (moves_on rules (before rules past) x) rest)
   restart tables scans fuel enough past x rest past_symbols symbols breaks =
       let low = symbols.0.0 in
       let high = symbols.0.1 in

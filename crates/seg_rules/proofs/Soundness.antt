@@ -4,7 +4,7 @@ use Rattle.std.specs.Option.{option_map, is_none}
 use Rattle.std.specs.Bool.{beq}
 use Rattle.std.proofs.Common.{arith, refl, sym, ap, ◌∙◌, inl, inr, eqb-true, subst}
 use Rattle.std.proofs.lemmas.Bool.{and_parts, cond-false}
-use Rattle.seg_rules.specs.RowRules.{RowRules, Before, Due, DueOf, move, owed, due_after, read, read_all, verdict}
+use Rattle.seg_rules.specs.RowRules.{RowRules, Before, Due, DueOf, moves_on, owed, due_after, read, read_all, verdict}
 use Rattle.seg_rules.specs.Places.{next_of, accept_of}
 use Rattle.seg_rules.proofs.TableLemmas.{due_of}
 use Rattle.seg_rules.specs.declared.certificate.Configuration.{Configuration}
@@ -45,11 +45,11 @@ unfoldable pub first : RowRules → ℕ → Before → List ℕ → ℕ × ℕ
 first rules k s [] = (k, rules.at_end)
 first rules k s (x ∷ rest) =
     let here = verdict rules s (owed rules s) (x ∷ rest) in
-    if here == 0 then first rules (suc k) (move rules s x) rest else (k, here - 1)
+    if here == 0 then first rules (suc k) (moves_on rules s x) rest else (k, here - 1)
 
 unfoldable pub later : RowRules → ℕ → Before → List ℕ → ℕ × ℕ
 later rules k s [] = (k, rules.at_end)
-later rules k s (x ∷ rest) = first rules (suc k) (move rules s x) rest
+later rules k s (x ∷ rest) = first rules (suc k) (moves_on rules s x) rest
 
 -- ---- the invariant
 
@@ -81,7 +81,7 @@ expected rules t c k p s rest =
 
 -- one symbol
 pub verdict-step : (rules : RowRules) (s : Before) (d : Due) (x : ℕ) (rest : List ℕ)
-    → verdict rules s d (x ∷ rest) ≡ verdict rules (move rules s x) (due_after rules s.glues x d) rest
+    → verdict rules s d (x ∷ rest) ≡ verdict rules (moves_on rules s x) (due_after rules s.glues x d) rest
 unfolding verdict
 verdict-step rules s d x rest = refl
 
@@ -140,7 +140,7 @@ group-at rules t plan relation (cs ∷ rest) from (suc q) h =
 pub verdict-decided : (rules : RowRules) (s : Before) (n : ℕ) (rest : List ℕ) → verdict rules s (DueOf [] n) rest ≡ n
 unfolding verdict read read_all
 verdict-decided rules s n [] = refl
-verdict-decided rules s n (x ∷ rest) = verdict-decided rules (move rules s x) n rest
+verdict-decided rules s n (x ∷ rest) = verdict-decided rules (moves_on rules s x) n rest
 
 -- where nothing is owed to the newest place, the first boundary comes later
 pub first-later : (rules : RowRules) (k : ℕ) (s : Before) (rest : List ℕ) → owed rules s ≡ DueOf [] 0 → first rules k s rest ≡ later rules k s rest
@@ -171,14 +171,14 @@ pub wanted-step : (rules : RowRules) (older o w : Due) (newest : Bool) (k p : �
     → due_after rules s.glues x older ≡ o
     → due_after rules s.glues x (if newest then owed rules s else DueOf [] 0) ≡ w
     → wanted rules older newest k p s (x ∷ rest)
-    ≡ choose p (verdict rules (move rules s x) o rest) k (verdict rules (move rules s x) w rest) (first rules (suc k) (move rules s x) rest)
+    ≡ choose p (verdict rules (moves_on rules s x) o rest) k (verdict rules (moves_on rules s x) w rest) (first rules (suc k) (moves_on rules s x) rest)
 unfolding verdict first later
 wanted-step rules older o w true k p s x rest ho hw =
-    λ i. choose p (verdict rules (move rules s x) (ho i) rest) k (verdict rules (move rules s x) (hw i) rest) (first rules (suc k) (move rules s x) rest)
+    λ i. choose p (verdict rules (moves_on rules s x) (ho i) rest) k (verdict rules (moves_on rules s x) (hw i) rest) (first rules (suc k) (moves_on rules s x) rest)
 wanted-step rules older o w false k p s x rest ho hw =
-    let nothing : 0 ≡ verdict rules (move rules s x) w rest =
-    sym (verdict-decided rules s 0 (x ∷ rest)) ∙ ap (λ d. verdict rules (move rules s x) d rest) hw in
-    λ i. choose p (verdict rules (move rules s x) (ho i) rest) k (nothing i) (first rules (suc k) (move rules s x) rest)
+    let nothing : 0 ≡ verdict rules (moves_on rules s x) w rest =
+    sym (verdict-decided rules s 0 (x ∷ rest)) ∙ ap (λ d. verdict rules (moves_on rules s x) d rest) hw in
+    λ i. choose p (verdict rules (moves_on rules s x) (ho i) rest) k (nothing i) (first rules (suc k) (moves_on rules s x) rest)
 
 -- where nothing older is owed, and the newest place is kept as the older one
 pub wanted-newest : (rules : RowRules) (w : Due) (newest : Bool) (k : ℕ) (s : Before) (rest : List ℕ) (p : ℕ)

@@ -5,7 +5,7 @@ use Rattle.std.proofs.lemmas.Bool.{and_parts, cond-false}
 use Rattle.seg_rules.proofs.Truths.{same_from_beq}
 use Rattle.seg_rules.specs.declared.rules.Count.TheVariants.{One, Optional, Star, Pairs}
 use Rattle.seg_rules.specs.declared.rules.Count.{Count}
-use Rattle.seg_rules.specs.RowRules.{Pattern, RowRules, Before, Entry, Marks, Owed, Due, DueOf, at_start, move, owed, due_after, once_number}
+use Rattle.seg_rules.specs.RowRules.{Pattern, RowRules, Before, Entry, Marks, Owed, Due, DueOf, at_start, moves_on, owed, due_after, once_number}
 use Rattle.seg_rules.specs.Check.{Tables, get, no_before, no_due, same_flags, same_lives, same_before, count_number, same_pattern, same_entry, same_entries, same_due, numbers, moves_hold, befores_hold, reads_hold, dues_hold, append_dues, verdicts, all_below, rows_below, tables_hold}
 
 -- ---- what passes a test of equality is equal
@@ -87,15 +87,15 @@ due_of t n = if nat_lt n 3 then DueOf [] n else get no_due t.dues (n - 3)
 
 -- where a symbol leads, of what stands before
 pub moves-at : (rules : RowRules) (t : Tables) (s : Before) (row : List ℕ) (from x : ℕ) → moves_hold rules t s row from ≡ true → x < length row
-    → move rules s (from + x) ≡ get no_before t.befores (get 0 row x)
+    → moves_on rules s (from + x) ≡ get no_before t.befores (get 0 row x)
 unfolding moves_hold get
 moves-at rules t s [] from x h below = absurd (omega arith)
 moves-at rules t s (to ∷ row) from zero h below =
     let same : from + zero ≡ from = omega arith in
-    ap (move rules s) same ∙ before-equal _ _ (and_parts (same_before (move rules s from) (get no_before t.befores to)) _ h).0
+    ap (moves_on rules s) same ∙ before-equal _ _ (and_parts (same_before (moves_on rules s from) (get no_before t.befores to)) _ h).0
 moves-at rules t s (to ∷ row) from (suc x) h below =
     let same : from + suc x ≡ suc from + x = omega arith in
-    ap (move rules s) same ∙ moves-at rules t s row (suc from) x (and_parts (same_before (move rules s from) (get no_before t.befores to)) _ h).1 (omega arith)
+    ap (moves_on rules s) same ∙ moves-at rules t s row (suc from) x (and_parts (same_before (moves_on rules s from) (get no_before t.befores to)) _ h).1 (omega arith)
 
 -- what is owed after a symbol, where a mark isn't glued and where it is
 pub reads-at : (rules : RowRules) (t : Tables) (d : Due) (row : List (ℕ × ℕ)) (from x : ℕ) → reads_hold rules t d row from ≡ true → x < length row
@@ -220,7 +220,7 @@ pub record TablesAre (rules : RowRules) (n : ℕ) (t : Tables) : Type 0 where
   -- of what stands before a place, by its number
   pub size : (i : ℕ) → i < length t.befores → length (get [] t.moves i) ≡ n
   pub moves : (i j : ℕ) → i < length t.befores → j < n
-      → move rules (get no_before t.befores i) (suc j) ≡ get no_before t.befores (get 0 (get [] t.moves i) j)
+      → moves_on rules (get no_before t.befores i) (suc j) ≡ get no_before t.befores (get 0 (get [] t.moves i) j)
   pub within : (i j : ℕ) → get 0 (get [] t.moves i) j < length t.befores
   pub owes : (i : ℕ) → i < length t.befores → owed rules (get no_before t.befores i) ≡ due_of t (get 0 t.owes i)
   -- of what is owed
@@ -248,7 +248,7 @@ tables-are rules n t h =
           let row = befores-at rules t n t.befores t.moves t.owes i b.0 below in
           let size = row.size in
           let next : 1 + j ≡ suc j = omega arith in
-          ap (move rules (get no_before t.befores i)) (sym next) ∙ moves-at rules t (get no_before t.befores i) (get [] t.moves i) 1 j row.moves (omega (arith, size, small));
+          ap (moves_on rules (get no_before t.befores i)) (sym next) ∙ moves-at rules t (get no_before t.befores i) (get [] t.moves i) 1 j row.moves (omega (arith, size, small));
       within = λ i j. all-below (length t.befores) (get [] t.moves i) j (rows-below (length t.befores) t.moves i e.1) some;
       owes = λ i below. due-equal _ _ (befores-at rules t n t.befores t.moves t.owes i b.0 below).owes;
       reads = λ i some x glues small.

@@ -3,7 +3,7 @@ use Rattle.std.specs.Prelude.{◌≡◌, ℕ, suc, ◌-◌, ◌<◌, Bool, true,
 use Rattle.std.proofs.Common.{arith, refl, sym, ap, ap₂, ◌∙◌, inl, inr, eqb-true}
 use Rattle.std.proofs.lemmas.Bool.{and_left, and_right, cond-true, cond-false}
 use Rattle.seg_rules.specs.declared.rules.Count.TheVariants.{One, Optional, Star, Pairs}
-use Rattle.seg_rules.specs.RowRules.{Pattern, Row, RowRules, Before, Entry, Marks, Owed, Due, DueOf, has, once, once_flags, flow, no_flags, is_full, is_live, moved, unread, move, verdict_of_entry, put_on, put, Reading, Decides, Stays, Drops, onto, begun, owed_rows, owed, reading, read_all, read, decided, verdict, before}
+use Rattle.seg_rules.specs.RowRules.{Pattern, Row, RowRules, Before, Entry, Marks, Owed, Due, DueOf, has, once, once_flags, flow, no_flags, is_full, is_live, moved, unread, moves_on, verdict_of_entry, put_on, put, Reading, Decides, Stays, Drops, onto, begun, owed_rows, owed, reading, read_all, read, decided, verdict, before}
 use Rattle.seg_text.specs.Boundaries.{boundary}
 use Rattle.seg_rules.specs.Patterns.{flags, left_flags, right_flags}
 use Rattle.seg_rules.specs.Places.{verdict_at, places}
@@ -233,10 +233,10 @@ module _ (rules : RowRules) where
 
   -- the verdict is the value of what is owed
   verdict-value : (n : ℕ) (s : Before) (d : Due) (rest : List ℕ) → Symbols n rest → verdict rules s d rest ≡ value_due s.glues rest d
-  unfolding verdict read value_due move
+  unfolding verdict read value_due moves_on
   verdict-value n s (DueOf entries otherwise) [] symbols = end-value s.glues entries otherwise
   verdict-value n s (DueOf entries otherwise) (x ∷ rest) symbols =
-      verdict-value n (move rules s x) (read_all rules s.glues x entries otherwise) rest symbols.1
+      verdict-value n (moves_on rules s x) (read_all rules s.glues x entries otherwise) rest symbols.1
       ∙ read-value s.glues x rest entries otherwise (nonzero-symbol x symbols.0.0)
 
   -- ---- what is owed to a place
@@ -299,17 +299,17 @@ module _ (rules : RowRules) where
 
   -- what stands before a place
   before-above : (past : List ℕ) → (before rules past).above ≡ lives_of rules.above (past ++ (0 ∷ []))
-  unfolding before move
+  unfolding before moves_on
   before-above [] = unread-lives rules.above
   before-above (x ∷ past) = ap (λ lives. moved rules.above lives x) (before-above past) ∙ moved-lives rules.above (past ++ (0 ∷ [])) x
 
   before-glues : (past : List ℕ) → (before rules past).glues ≡ is_base rules past
-  unfolding before move is_base
+  unfolding before moves_on is_base
   before-glues [] = refl
   before-glues (x ∷ past) = ap (λ g. (has rules.marks x && g) || (rules.has_marks && not (has rules.bare x))) (before-glues past)
 
   before-below : (past : List ℕ) → (before rules past).below ≡ lives_of rules.below (bases_before rules past)
-  unfolding before move bases_before
+  unfolding before moves_on bases_before
   before-below [] = unread-lives rules.below
   before-below (x ∷ past) =
       let glues = before-glues past in

@@ -4,7 +4,7 @@ use Rattle.std.specs.Bool.{beq}
 use Rattle.seg_rules.specs.declared.rules.Count.TheVariants.{One, Optional, Star, Pairs}
 use Rattle.seg_rules.specs.declared.rules.Count.{Count}
 use Rattle.seg_rules.specs.declared.certificate.Configuration.{Configuration}
-use Rattle.seg_rules.specs.RowRules.{Pattern, RowRules, Before, Entry, Marks, Owed, Due, DueOf, once, once_number, at_start, move, owed, due_after}
+use Rattle.seg_rules.specs.RowRules.{Pattern, RowRules, Before, Entry, Marks, Owed, Due, DueOf, once, once_number, at_start, moves_on, owed, due_after}
 
 -- Machines, as far as the check reads them: of each state what it accepts (0 nothing, 1 a boundary, 2 the named place), a status and
 -- whether it names a place; and where each symbol leads, from that of the end on (255 nowhere).
@@ -82,7 +82,7 @@ numbers t n d = same_due d (if nat_lt n 3 then DueOf [] n else get no_due t.dues
 
 unfoldable pub moves_hold : RowRules → Tables → Before → List ℕ → ℕ → Bool
 moves_hold rules t s [] x = true
-moves_hold rules t s (to ∷ tos) x = same_before (move rules s x) (get no_before t.befores to) && moves_hold rules t s tos (suc x)
+moves_hold rules t s (to ∷ tos) x = same_before (moves_on rules s x) (get no_before t.befores to) && moves_hold rules t s tos (suc x)
 
 unfoldable pub befores_hold : RowRules → Tables → ℕ → List Before → List (List ℕ) → List ℕ → Bool
 befores_hold rules t n [] [] [] = true

@@ -92,8 +92,8 @@ unread (row ∷ rows) = flow true row.left (flow true row.left (no_flags row.lef
 abbrev pub at_start : RowRules → Before
 at_start rules = record { above = unread rules.above; below = unread rules.below; glues = false }
 
-unfoldable pub move : RowRules → Before → ℕ → Before
-move rules s x =
+unfoldable pub moves_on : RowRules → Before → ℕ → Before
+moves_on rules s x =
     let mark = has rules.marks x in
     let stuck = mark && s.glues in
     record {
@@ -180,12 +180,12 @@ decided (DueOf entries otherwise) = otherwise
 -- the verdict on a place, of what is owed to it and of the symbols after it
 unfoldable pub verdict : RowRules → Before → Due → List ℕ → ℕ
 verdict rules s d [] = decided (due_after rules false 0 d)
-verdict rules s d (x ∷ after) = verdict rules (move rules s x) (due_after rules s.glues x d) after
+verdict rules s d (x ∷ after) = verdict rules (moves_on rules s x) (due_after rules s.glues x d) after
 
 -- what stands before a place, of the symbols before it, nearest first
 unfoldable pub before : RowRules → List ℕ → Before
 before rules [] = at_start rules
-before rules (x ∷ symbols) = move rules (before rules symbols) x
+before rules (x ∷ symbols) = moves_on rules (before rules symbols) x
 
 -- whether the rules have a boundary between symbols, of which those before are nearest first
 abbrev pub has_boundary : RowRules → List ℕ → List ℕ → Bool
