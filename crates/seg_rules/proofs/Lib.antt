@@ -1,3 +1,4 @@
+pub mod Claims
 pub mod Moves
 pub mod Bits
 mod Truths

@@ -5,3 +5,4 @@ pub mod Places
 pub mod Check
 pub mod Examples
 pub mod Given
+pub mod Claims

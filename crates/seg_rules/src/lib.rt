@@ -3,6 +3,7 @@
 
 pub mod certificate;
 mod befores;
+mod dues;
 mod flow;
 pub mod laws;
 pub mod rules;

@@ -1,0 +1,15 @@
+-- What is owed, as a part of what is claimed.
+use Rattle.std.specs.Prelude.{◌≡◌, ◌-◌, ◌≤◌, Option, Some, None, List, length, map, drop}
+use Rattle.seg_rules.specs.declared.certificate.Entry.{Entry as GivenEntry}
+use Rattle.seg_rules.specs.declared.dues.Part.{Part}
+use Rattle.seg_rules.specs.RowRules.{RowRules, Due, DueOf}
+use Rattle.seg_rules.specs.Given.{entry_of}
+
+-- what is owed is so many of the last entries of the claim; of nothing it says nothing
+pub record IsLast (rules : RowRules) (claim : List GivenEntry) (part : Part) (due : Due) : Type 0 where
+  pub within : part.matched ≤ length claim
+  pub is : due ≡ DueOf (map (entry_of rules) (drop (length claim - part.matched) claim)) part.otherwise
+
+abbrev pub IsPart : RowRules → List GivenEntry → Option Part → Due → Type 0
+IsPart rules claim None due = Unit {0}
+IsPart rules claim (Some part) due = IsLast rules claim part due

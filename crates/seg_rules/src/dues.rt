@@ -1,0 +1,47 @@
+//! Whether what is owed to places is what the tables of a certificate say. What is owed is compared with a claim from its last
+//! entry on, so no list is made.
+ghost use Rattle.std.specs.Prelude.{◌≡◌, IsTrue, Some};
+ghost use Rattle.seg_rules.specs.RowRules.{RowRules, Due as OwedDue, begun, onto, put as put_onto, verdict_of_entry};
+ghost use Rattle.seg_rules.specs.Given.{entry_of, flags_by, owed_of, row_of, rules_of};
+ghost use Rattle.seg_rules.specs.Claims.{IsPart};
+
+use crate::certificate::Entry;
+use crate::flow::{flow_within, is_full, is_live};
+use crate::rules::{Row, Rules};
+
+/// How many of the last entries of a claim are owed, and the verdict where none of them comes to fit.
+#[derive(Clone, Copy, Debug)]
+pub(crate) struct Part {
+    pub(crate) matched: usize,
+    pub(crate) otherwise: u8,
+}
+
+// Whether two entries are the same.
+#[tactic(auto)]
+fn is_same(this: Entry, that: Entry) -> bool
+    ensures { IsTrue result → this ≡ that }
+{
+    match (this, that) {
+        (Entry::Marks, Entry::Marks) => true,
+        (Entry::Above(row, live), Entry::Above(other, bits)) => row == other && live == bits,
+        (Entry::Below(row, live), Entry::Below(other, bits)) => row == other && live == bits,
+        _ => false,
+    }
+}
+
+// An entry with a verdict before others; one that says what comes without it is left out.
+fn put(entry: Entry, verdict: u8, part: Part, claim: &[Entry]) -> Option<Part>
+    ensures { (rules : RowRules) (due : OwedDue) → verdict ≡ verdict_of_entry (entry_of rules entry) → IsPart rules claim.now (Some part) due
+        → IsPart rules claim.now result (put_onto (entry_of rules entry) due) }
+{
+    if part.matched == 0 && verdict == part.otherwise {
+        return Some(part);
+    }
+    if part.matched >= claim.len() || !is_same(claim[claim.len() - 1 - part.matched], entry) {
+        return None;
+    }
+    Some(Part {
+        matched: part.matched + 1,
+        otherwise: part.otherwise,
+    })
+}
