@@ -14,7 +14,7 @@ use Rattle.seg_rules.proofs.Scans.{Symbols}
 
 -- ---- flags that come to nothing
 
-flags-once : {X : Type 0} (live : List Bool) (f : List Bool → X) → once_flags live f ≡ f live
+pub flags-once : {X : Type 0} (live : List Bool) (f : List Bool → X) → once_flags live f ≡ f live
 unfolding once_flags
 flags-once [] f = refl
 flags-once (true ∷ live) f = flags-once live (λ rest. f (true ∷ rest))
