@@ -4,9 +4,11 @@ use Rattle.std.proofs.Common.{arith, refl, sym, ap, ◌∙◌, eq-eqb, subst}
 use Rattle.std.proofs.lemmas.Bool.{cond-true, cond-false}
 use Rattle.std.proofs.lemmas.List.{drop_more, drop_all, length-map, length-drop}
 use Rattle.seg_rules.specs.declared.certificate.Entry.{Entry as GivenEntry}
+use Rattle.seg_rules.specs.declared.rules.Row.{Row as GivenRow}
+use Rattle.seg_rules.specs.Check.{get}
 use Rattle.seg_rules.specs.declared.dues.Part.{Part}
-use Rattle.seg_rules.specs.RowRules.{Row, RowRules, Entry, Owed, Due, DueOf, Reading, Decides, Stays, begun, flow, is_full, no_flags, onto, put, put_on, verdict_of_entry}
-use Rattle.seg_rules.specs.Given.{entry_of, flags_by, owed_of}
+use Rattle.seg_rules.specs.RowRules.{Row, RowRules, Entry, Owed, Due, DueOf, Reading, Decides, Stays, begun, flow, is_full, no_flags, onto, owed_rows, put, put_on, verdict_of_entry}
+use Rattle.seg_rules.specs.Given.{entry_of, flags_by, lives_by, no_row, owed_of, row_of}
 use Rattle.seg_rules.specs.Claims.{IsLast}
 use Rattle.seg_rules.proofs.Bits.{none_live}
 use Rattle.seg_rules.proofs.Soundness.{neq-eqb}
@@ -90,3 +92,37 @@ pub owes-entry : (below whole : Bool) (row : Row) (start : ℕ) (due : Due) → 
 unfolding onto
 owes-entry below whole row start due is value more =
     sym (ap (λ r. onto r due) (begun-is below whole row start is value ∙ cond-false (is_full (flags_by row.right start)) _ _ more))
+
+pub get-map : (rows : List GivenRow) (i : ℕ) (d : GivenRow) → i < length rows → row_of (get_or rows i d) ≡ get no_row (map row_of rows) i
+unfolding get
+get-map [] i d within = absurd (omega (arith, within))
+get-map (row ∷ rows) zero d within = refl
+get-map (row ∷ rows) (suc i) d within = get-map rows i d (omega (arith, within))
+
+-- what rows owe, by what is live of their left patterns
+abbrev pub owed_by : Bool → List GivenRow → List ℕ → Due → Due
+owed_by below rows lives due = owed_rows below (map row_of rows) (lives_by (map row_of rows) lives) due
+
+pub owed-none : (below : Bool) (rows : List GivenRow) (lives : List ℕ) (due : Due) (i : ℕ) → i ≡ length rows → owed_by below (drop i rows) (drop i lives) due ≡ due
+unfolding owed_rows
+owed-none below rows lives due i is = ap (λ rest. owed_by below rest (drop i lives) due) (drop_all i rows (omega (arith, is)))
+
+owed-one : (below : Bool) (row : GivenRow) (rows : List GivenRow) (here : ℕ) (lives : List ℕ) (due : Due)
+    → owed_by below (row ∷ rows) (here ∷ lives) due ≡ onto (begun below (row_of row) (is_full (flags_by row.left.now here))) (owed_by below rows lives due)
+unfolding owed_rows lives_by
+owed-one below row rows here lives due = refl
+
+pub owed-step : (below : Bool) (rows : List GivenRow) (lives : List ℕ) (due : Due) (i : ℕ) (d : GivenRow) → i < length rows → i < length lives
+    → owed_by below (drop i rows) (drop i lives) due
+    ≡ onto (begun below (row_of (get_or rows i d)) (is_full (flags_by (get_or rows i d).left.now (get_or lives i 0)))) (owed_by below (drop (i + 1) rows) (drop (i + 1) lives) due)
+owed-step below rows lives due i d in_rows in_lives =
+    ap (λ rows. owed_by below rows (drop i lives) due) (drop_more rows i d in_rows)
+    ∙ ap (λ lives. owed_by below (get_or rows i d ∷ drop (i + 1) rows) lives due) (drop_more lives i 0 in_lives)
+    ∙ owed-one below (get_or rows i d) (drop (i + 1) rows) (get_or lives i 0) (drop (i + 1) lives) due
+
+-- a part that is the whole claim
+pub whole-is : (rules : RowRules) (claim : List GivenEntry) (part : Part) (due : Due) (otherwise : ℕ) → IsLast rules claim part due
+    → part.matched ≡ length claim → part.otherwise ≡ otherwise → due ≡ DueOf (map (entry_of rules) claim) otherwise
+whole-is rules claim part due otherwise last all same =
+    let none : length claim - part.matched ≡ 0 = omega (arith, all) in
+    last.is ∙ (λ i. DueOf (map (entry_of rules) (drop (none i) claim)) (same i))

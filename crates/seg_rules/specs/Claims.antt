@@ -1,5 +1,5 @@
 -- What is owed, as a part of what is claimed.
-use Rattle.std.specs.Prelude.{◌≡◌, ◌-◌, ◌≤◌, Option, Some, None, List, length, map, drop, if◌then◌else◌}
+use Rattle.std.specs.Prelude.{◌≡◌, Bool, ◌-◌, ◌≤◌, Option, Some, None, List, length, map, drop, if◌then◌else◌}
 use Rattle.seg_rules.specs.declared.certificate.Entry.{Entry as GivenEntry}
 use Rattle.seg_rules.specs.declared.dues.Part.{Part}
 use Rattle.seg_rules.specs.declared.dues.Number.{Number}
@@ -7,9 +7,12 @@ use Rattle.seg_rules.specs.Check.{get}
 use Rattle.seg_rules.specs.RowRules.{Row, RowRules, Due, DueOf}
 use Rattle.seg_rules.specs.Given.{entry_of, no_row}
 
--- the row with a number
+-- the rows above that of marks or those below it, and the row with a number
+abbrev pub rows_at : RowRules → Bool → List Row
+rows_at rules below = if below then rules.below else rules.above
+
 abbrev pub row_at : RowRules → Number → Row
-row_at rules number = get no_row (if number.below then rules.below else rules.above) number.row
+row_at rules number = get no_row (rows_at rules number.below) number.row
 
 -- what is owed is so many of the last entries of the claim; of nothing it says nothing
 pub record IsLast (rules : RowRules) (claim : List GivenEntry) (part : Part) (due : Due) : Type 0 where

@@ -1,11 +1,11 @@
 //! Whether what is owed to places is what the tables of a certificate say. What is owed is compared with a claim from its last
 //! entry on, so no list is made.
-ghost use Rattle.std.specs.Prelude.{◌≡◌, IsTrue, Some};
-ghost use Rattle.seg_rules.specs.RowRules.{RowRules, Due as OwedDue, is_full as has_whole, begun, onto, put as put_onto, verdict_of_entry};
-ghost use Rattle.seg_rules.specs.Given.{entry_of, flags_by, owed_of, row_of, rules_of};
-ghost use Rattle.seg_rules.specs.Claims.{IsPart, row_at};
+ghost use Rattle.std.specs.Prelude.{◌≡◌, IsTrue, Some, map, true, false, if◌then◌else◌};
+ghost use Rattle.seg_rules.specs.RowRules.{RowRules, Due as OwedDue, DueOf, Marks, is_full as has_whole, begun, onto, owed, owed_rows, put as put_onto, verdict_of_entry};
+ghost use Rattle.seg_rules.specs.Given.{before_of, entry_of, flags_by, lives_by, owed_of, row_of, rules_of};
+ghost use Rattle.seg_rules.specs.Claims.{IsPart, row_at, rows_at};
 
-use crate::certificate::Entry;
+use crate::certificate::{Before, Entry};
 use crate::flow::{flow_within, is_full, is_live};
 use crate::rules::{Row, Rules};
 
@@ -80,4 +80,63 @@ fn owe_row(row: &Row<'_>, live: u32, number: Number, part: Part, claim: &[Entry]
         });
     }
     put(entry(number, start), row.verdict, part, claim)
+}
+
+// Rows have numbers of eight bits.
+const MAX_ROWS: usize = 255;
+
+// What rows owe before what is owed besides, where so much of their left patterns is live.
+fn owe_rows(rows: &[Row<'_>], lives: &[u32], below: bool, part: Part, claim: &[Entry]) -> Option<Part>
+    ensures { (rules : RowRules) (due : OwedDue) → map row_of rows.now ≡ rows_at rules below → IsPart rules claim.now (Some part) due
+        → IsPart rules claim.now result (owed_rows below (map row_of rows.now) (lives_by (map row_of rows.now) lives.now) due) }
+{
+    if rows.len() > MAX_ROWS || lives.len() != rows.len() {
+        return None;
+    }
+    let mut owed = part;
+    let mut i = rows.len();
+    while i > 0 {
+        i -= 1;
+        let number = Number {
+            below,
+            row: i as u8,
+        };
+        owed = owe_row(&rows[i], lives[i], number, owed, claim)?;
+    }
+    Some(owed)
+}
+
+// What marks owe, if there are some.
+fn owe_marks(has_marks: bool, part: Part, claim: &[Entry]) -> Option<Part>
+    ensures { (rules : RowRules) (due : OwedDue) → IsPart rules claim.now (Some part) due
+        → IsPart rules claim.now result (if has_marks then put_onto Marks due else due) }
+{
+    if has_marks {
+        put(Entry::Marks, 0, part, claim)
+    } else {
+        Some(part)
+    }
+}
+
+// What is owed to a place before which this stands, as part of a claim.
+fn owe(rules: &Rules<'_>, from: &Before<'_>, claim: &[Entry]) -> Option<Part>
+    ensures { IsPart (rules_of rules.now) claim.now result (owed (rules_of rules.now) (before_of (rules_of rules.now) from.now)) }
+{
+    let none = Part {
+        matched: 0,
+        otherwise: 0,
+    };
+    let lower = owe_rows(rules.below, from.below, true, none, claim)?;
+    let marked = owe_marks(rules.has_marks, lower, claim)?;
+    owe_rows(rules.above, from.above, false, marked, claim)
+}
+
+// Whether a part is the whole of the claim.
+fn is_whole(part: Option<Part>, claim: &[Entry], otherwise: u8) -> bool
+    ensures { (rules : RowRules) (due : OwedDue) → IsPart rules claim.now part due → IsTrue result → due ≡ DueOf (map (entry_of rules) claim.now) otherwise }
+{
+    match part {
+        Some(part) => part.matched == claim.len() && part.otherwise == otherwise,
+        None => false,
+    }
 }
