@@ -1,5 +1,5 @@
 -- What is owed, as a part of what is claimed, entry by entry.
-use Rattle.std.specs.Prelude.{◌≡◌, ℕ, zero, suc, ◌+◌, ◌-◌, ◌<◌, ◌≤◌, Bool, true, false, List, [], ◌∷◌, length, map, drop, get_or, if◌then◌else◌}
+use Rattle.std.specs.Prelude.{◌≡◌, ℕ, zero, suc, ◌+◌, ◌-◌, ◌<◌, ◌≤◌, Bool, true, false, List, [], ◌∷◌, length, map, drop, get_or, if◌then◌else◌, not, ◌&&◌, ◌==◌}
 use Rattle.std.proofs.Common.{arith, refl, sym, ap, ◌∙◌, eq-eqb, subst}
 use Rattle.std.proofs.lemmas.Bool.{cond-true, cond-false}
 use Rattle.std.proofs.lemmas.List.{drop_more, drop_all, length-map, length-drop}
@@ -7,10 +7,10 @@ use Rattle.seg_rules.specs.declared.certificate.Entry.{Entry as GivenEntry}
 use Rattle.seg_rules.specs.declared.rules.Row.{Row as GivenRow}
 use Rattle.seg_rules.specs.Check.{get}
 use Rattle.seg_rules.specs.declared.dues.Part.{Part}
-use Rattle.seg_rules.specs.RowRules.{Row, RowRules, Entry, Owed, Due, DueOf, Reading, Decides, Stays, begun, flow, is_full, no_flags, onto, owed_rows, put, put_on, verdict_of_entry}
+use Rattle.seg_rules.specs.RowRules.{Row, RowRules, Entry, Owed, Due, DueOf, Reading, Decides, Stays, begun, flow, is_full, no_flags, onto, owed_rows, has, is_live, once, once_flags, reading, read_all, Drops, put, put_on, verdict_of_entry}
 use Rattle.seg_rules.specs.Given.{entry_of, flags_by, lives_by, no_row, owed_of, row_of}
-use Rattle.seg_rules.specs.Claims.{IsLast}
-use Rattle.seg_rules.proofs.Bits.{none_live}
+use Rattle.seg_rules.specs.Claims.{IsLast, reading_by}
+use Rattle.seg_rules.proofs.Bits.{none_live, once_is}
 use Rattle.seg_rules.proofs.Soundness.{neq-eqb}
 use Rattle.seg_rules.proofs.Verdicts.{flags-once}
 
@@ -93,6 +93,10 @@ unfolding onto
 owes-entry below whole row start due is value more =
     sym (ap (λ r. onto r due) (begun-is below whole row start is value ∙ cond-false (is_full (flags_by row.right start)) _ _ more))
 
+-- what a read past the rows would give
+abbrev pub default_row : GivenRow
+default_row = record { left = record { ref_ptr = (0, 0); now = [] }; right = record { ref_ptr = (0, 0); now = [] }; verdict = 0 }
+
 pub get-map : (rows : List GivenRow) (i : ℕ) (d : GivenRow) → i < length rows → row_of (get_or rows i d) ≡ get no_row (map row_of rows) i
 unfolding get
 get-map [] i d within = absurd (omega (arith, within))
@@ -126,3 +130,45 @@ pub whole-is : (rules : RowRules) (claim : List GivenEntry) (part : Part) (due :
 whole-is rules claim part due otherwise last all same =
     let none : length claim - part.matched ≡ 0 = omega (arith, all) in
     last.is ∙ (λ i. DueOf (map (entry_of rules) (drop (none i) claim)) (same i))
+
+-- what becomes of an entry above that of marks, of one below it that a glued mark leaves, and of another one below
+pub above-reading : (rules : RowRules) (glues : Bool) (x : ℕ) (row : Row) (live : ℕ)
+    → reading rules glues x (owed_of false row live) ≡ reading_by false row (flow false row.right (flags_by row.right live) x) (x == 0)
+unfolding reading once
+above-reading rules glues x row live = flags-once (flow false row.right (flags_by row.right live) x) _
+
+abbrev pub below_reading : RowRules → Bool → ℕ → Row → ℕ → Bool → Reading
+below_reading rules glues x row live mark =
+    if mark && glues
+    then Stays (owed_of true row live)
+    else once_flags (flow false row.right (flags_by row.right live) (if mark then rules.alone else x)) (λ next.
+    if is_full next then Decides row.verdict else (if is_live next && not (x == 0) then Stays (Owed row.right next row.verdict true) else Drops))
+
+pub stuck-reading : (rules : RowRules) (glues : Bool) (x : ℕ) (row : Row) (live : ℕ) → has rules.marks x ≡ true → glues ≡ true
+    → Stays (owed_of true row live) ≡ reading rules glues x (owed_of true row live)
+unfolding reading once
+stuck-reading rules false x row live mark is = let no : false ≡ true = is in cc
+stuck-reading rules true x row live mark is = sym (ap (λ m. once m (below_reading rules true x row live)) mark)
+
+pub below-reading : (rules : RowRules) (glues : Bool) (x : ℕ) (row : Row) (live : ℕ) → (has rules.marks x && glues) ≡ false
+    → reading_by true row (flow false row.right (flags_by row.right live) (if has rules.marks x then rules.alone else x)) (x == 0)
+    ≡ reading rules glues x (owed_of true row live)
+unfolding reading
+below-reading rules glues x row live free =
+    sym (once_is (has rules.marks x) (below_reading rules glues x row live) ∙ cond-false (has rules.marks x && glues) _ _ free
+    ∙ flags-once (flow false row.right (flags_by row.right live) (if has rules.marks x then rules.alone else x)) _)
+
+-- what is read of entries, from the last on
+abbrev pub read_by : RowRules → Bool → ℕ → List GivenEntry → ℕ → Due
+read_by rules glues x entries otherwise = read_all rules glues x (map (entry_of rules) entries) otherwise
+
+pub read-none : (rules : RowRules) (glues : Bool) (x : ℕ) (entries : List GivenEntry) (otherwise i : ℕ) → i ≡ length entries
+    → read_by rules glues x (drop i entries) otherwise ≡ DueOf [] otherwise
+unfolding read_all
+read-none rules glues x entries otherwise i is = ap (λ rest. read_by rules glues x rest otherwise) (drop_all i entries (omega (arith, is)))
+
+pub read-step : (rules : RowRules) (glues : Bool) (x : ℕ) (entries : List GivenEntry) (otherwise i : ℕ) (d : GivenEntry) → i < length entries
+    → read_by rules glues x (drop i entries) otherwise
+    ≡ onto (reading rules glues x (entry_of rules (get_or entries i d))) (read_by rules glues x (drop (i + 1) entries) otherwise)
+unfolding read_all
+read-step rules glues x entries otherwise i d within = ap (λ rest. read_by rules glues x rest otherwise) (drop_more entries i d within)
