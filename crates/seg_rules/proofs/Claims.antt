@@ -97,11 +97,14 @@ owes-entry below whole row start due is value more =
 abbrev pub default_row : GivenRow
 default_row = record { left = record { ref_ptr = (0, 0); now = [] }; right = record { ref_ptr = (0, 0); now = [] }; verdict = 0 }
 
-pub get-map : (rows : List GivenRow) (i : ℕ) (d : GivenRow) → i < length rows → row_of (get_or rows i d) ≡ get no_row (map row_of rows) i
+pub get-mapped : {X Y : Type 0} (f : X → Y) (e : Y) (xs : List X) (i : ℕ) (d : X) → i < length xs → f (get_or xs i d) ≡ get e (map f xs) i
 unfolding get
-get-map [] i d within = absurd (omega (arith, within))
-get-map (row ∷ rows) zero d within = refl
-get-map (row ∷ rows) (suc i) d within = get-map rows i d (omega (arith, within))
+get-mapped f e [] i d within = absurd (omega (arith, within))
+get-mapped f e (x ∷ xs) zero d within = refl
+get-mapped f e (x ∷ xs) (suc i) d within = get-mapped f e xs i d (omega (arith, within))
+
+pub get-map : (rows : List GivenRow) (i : ℕ) (d : GivenRow) → i < length rows → row_of (get_or rows i d) ≡ get no_row (map row_of rows) i
+get-map = get-mapped row_of no_row
 
 -- what rows owe, by what is live of their left patterns
 abbrev pub owed_by : Bool → List GivenRow → List ℕ → Due → Due

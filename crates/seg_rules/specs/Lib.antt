@@ -6,3 +6,4 @@ pub mod Check
 pub mod Examples
 pub mod Given
 pub mod Claims
+pub mod Certified

@@ -121,7 +121,7 @@ fn owe_marks(has_marks: bool, part: Part, claim: &[Entry]) -> Option<Part>
 }
 
 // What is owed to a place before which this stands, as part of a claim.
-fn owe(rules: &Rules<'_>, from: &Before<'_>, claim: &[Entry]) -> Option<Part>
+pub(crate) fn owe(rules: &Rules<'_>, from: &Before<'_>, claim: &[Entry]) -> Option<Part>
     ensures { IsPart (rules_of rules.now) claim.now result (owed (rules_of rules.now) (before_of (rules_of rules.now) from.now)) }
 {
     let none = Part {
@@ -134,7 +134,7 @@ fn owe(rules: &Rules<'_>, from: &Before<'_>, claim: &[Entry]) -> Option<Part>
 }
 
 // Whether a part is the whole of the claim.
-fn is_whole(part: Option<Part>, claim: &[Entry], otherwise: u8) -> bool
+pub(crate) fn is_whole(part: Option<Part>, claim: &[Entry], otherwise: u8) -> bool
     ensures { (rules : RowRules) (due : OwedDue) → IsPart rules claim.now part due → IsTrue result → due ≡ DueOf (map (entry_of rules) claim.now) otherwise }
 {
     match part {
@@ -243,7 +243,7 @@ fn put_reading(reading: Reading, part: Part, claim: &[Entry]) -> Option<Part>
 }
 
 // What is owed after this is read, of entries and a verdict, as part of a claim.
-fn read_entries(rules: &Rules<'_>, entries: &[Entry], otherwise: u8, read: Read, claim: &[Entry]) -> Option<Part>
+pub(crate) fn read_entries(rules: &Rules<'_>, entries: &[Entry], otherwise: u8, read: Read, claim: &[Entry]) -> Option<Part>
     ensures { IsPart (rules_of rules.now) claim.now result (read_all (rules_of rules.now) read.glues read.symbol (map (entry_of (rules_of rules.now)) entries.now) otherwise) }
 {
     let mut owed = Part {

@@ -7,3 +7,4 @@ mod dues;
 mod flow;
 pub mod laws;
 pub mod rules;
+mod tables;
