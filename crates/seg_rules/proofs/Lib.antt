@@ -1,3 +1,4 @@
+pub mod Related
 pub mod Claims
 pub mod Moves
 pub mod Bits

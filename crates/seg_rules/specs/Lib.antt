@@ -7,3 +7,4 @@ pub mod Examples
 pub mod Given
 pub mod Claims
 pub mod Certified
+pub mod Planned

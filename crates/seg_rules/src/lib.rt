@@ -7,4 +7,5 @@ mod dues;
 mod flow;
 pub mod laws;
 pub mod rules;
+mod relation;
 mod tables;

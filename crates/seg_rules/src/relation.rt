@@ -1,0 +1,166 @@
+//! Whether the scans of a machine find the places of the rules, by the relation of a certificate.
+ghost use Rattle.std.specs.Prelude.{◌≡◌, ◌<◌, ◌≤◌, ◌&&◌, ◌||◌, if◌then◌else◌, ℕ, suc, true, false, not, ◌==◌, nat_lt, IsTrue, [], length, map};
+ghost use Rattle.seg_machine.specs.Machine.{Machine};
+ghost use Rattle.seg_rules.specs.RowRules.{RowRules};
+ghost use Rattle.seg_rules.specs.Check.{Plan, Tables, among, entered, get, goes_on as goes, moved_place as place_after, same_configuration};
+ghost use Rattle.seg_rules.specs.Given.{tables_of};
+ghost use Rattle.seg_rules.specs.Planned.{accept_by, is_named, plan_of, relation_of};
+
+use crate::certificate::{Before, Certificate, Configuration};
+use seg_machine::provider::{Acceptance, Lookahead};
+use seg_machine::tailored_machine::TailoredMachineBorrowed;
+
+// The first numbers of what is owed are verdicts.
+const VERDICTS: u8 = 3;
+
+// Whether two configurations are the same.
+fn is_same(this: Configuration, that: Configuration) -> bool
+    ensures { result ≡ same_configuration this that }
+{
+    this.before == that.before
+        && this.doubt == that.doubt
+        && this.older == that.older
+        && this.newest == that.newest
+        && this.last == that.last
+        && this.status == that.status
+        && this.named == that.named
+}
+
+// The number by which the configurations of a state stand in order.
+fn key(c: Configuration) -> u64 {
+    let owed = (c.before as u64 * 256 + c.doubt as u64) * 256 + c.older as u64;
+    let found = (c.last as u64 * 256 + c.status as u64) * 256 + c.named as u64;
+    (owed * 2 + c.newest as u64) * 16_777_216 + found
+}
+
+// Whether a configuration is one of these, which stand in order.
+fn is_among(c: Configuration, group: &[Configuration]) -> bool
+    ensures { IsTrue result → among c group.now ≡ true }
+{
+    let mut low = 0;
+    let mut high = group.len();
+    while low < high {
+        let middle = low + (high - low) / 2;
+        let other = group[middle];
+        if is_same(c, other) {
+            return true;
+        }
+        if key(other) < key(c) {
+            low = middle + 1;
+        } else {
+            high = middle;
+        }
+    }
+    false
+}
+
+// Whether a configuration is one of a state's.
+fn is_known(relation: &[&[Configuration]], state: u8, c: Configuration) -> bool
+    ensures { IsTrue result → among c (get [] (map (λ group. group.now) relation.now) state) ≡ true }
+{
+    (state as usize) < relation.len() && is_among(c, relation[state as usize])
+}
+
+// Where a place is after a symbol that isn't the end.
+fn moved_place(older: u8, newest: u8, place: u8) -> u8
+    ensures { result ≡ place_after older newest place }
+{
+    if place == 3 {
+        if older == 0 { 1 } else { 3 }
+    } else if place == 2 {
+        if older == 0 && newest != 0 { 3 } else { 1 }
+    } else {
+        place
+    }
+}
+
+/// The numbers of what is owed after a symbol: to the boundary where the scan began, to an older place, and to the newest.
+#[derive(Clone, Copy, Debug)]
+struct Owed {
+    doubt: u8,
+    older: u8,
+    newest: u8,
+}
+
+/// What scans are checked by.
+#[derive(Clone, Copy, Debug)]
+pub(crate) struct Scans<'a> {
+    pub(crate) machine: TailoredMachineBorrowed<'a>,
+    pub(crate) certificate: Certificate<'a>,
+}
+
+// A configuration where the place after the last symbol was accepted, and named if there is a name.
+fn accepted(c: Configuration, status: u8, name: Option<Lookahead>) -> Configuration
+    ensures { result ≡ record c { last = 2; status = status; named = if is_named name then 2 else c.named } }
+{
+    let named = match name {
+        Some(_) => 2,
+        None => c.named,
+    };
+    Configuration {
+        last: 2,
+        status,
+        named,
+        ..c
+    }
+}
+
+// Whether a condition, with its status, picks the first boundary, where a place was named.
+fn picks_named(c: Configuration, status: u8, kept: u8) -> bool
+    ensures { result ≡ (c.named == 3 && (nat_lt kept 3 && kept == suc status)) }
+{
+    c.named == 3 && kept < VERDICTS && kept as u16 == status as u16 + 1
+}
+
+#[tactic(auto, unfolding(crate::specs::Check::entered))]
+// Whether a state may be entered: what it accepts then is known, or is the first boundary.
+fn may_enter(relation: &[&[Configuration]], state: u8, entry: (Acceptance, Option<Lookahead>), kept: u8, c: Configuration) -> bool
+    ensures { (rules : RowRules) (t : Tables) (plan : Plan) → IsTrue result
+        → entered rules t plan (map (λ group. group.now) relation.now) state (accept_by entry) kept c ≡ true }
+{
+    match entry.0 {
+        Acceptance::Continue => is_known(relation, state, c),
+        Acceptance::Accept(status) => is_known(relation, state, accepted(c, status, entry.1)),
+        Acceptance::Conditional(_, status) => {
+            if c.named == 0 {
+                is_known(relation, state, c)
+            } else {
+                picks_named(c, status, kept)
+            }
+        }
+    }
+}
+
+// What is owed to the older place that is kept: the newest one, if there is no older.
+fn kept(owed: Owed) -> u8
+    ensures { result ≡ (if owed.older == 0 then owed.newest else owed.older) }
+{
+    if owed.older == 0 { owed.newest } else { owed.older }
+}
+
+// Whether this is the verdict of a boundary.
+fn is_sure(kept: u8) -> bool
+    ensures { result ≡ (nat_lt kept 3 && not (kept == 0)) }
+{
+    kept < VERDICTS && kept != 0
+}
+
+// Whether a scan that stops has accepted the first boundary last.
+fn stops(c: Configuration, owed: Owed) -> bool
+    ensures { result ≡ ((nat_lt (if owed.older == 0 then owed.newest else owed.older) 3 && not ((if owed.older == 0 then owed.newest else owed.older) == 0))
+        && (place_after owed.older owed.newest c.last == 3 && (if owed.older == 0 then owed.newest else owed.older) == suc c.status)) }
+{
+    is_sure(kept(owed))
+        && moved_place(owed.older, owed.newest, c.last) == 3
+        && kept(owed) as u16 == c.status as u16 + 1
+}
+
+// What is owed to a place before which this stands.
+fn owes(befores: &[Before<'_>], before: u16) -> u8
+    ensures { result ≡ get 0 (map (λ b. b.owes) befores.now) before }
+{
+    if before as usize >= befores.len() {
+        return 0;
+    }
+    befores[before as usize].owes
+}
