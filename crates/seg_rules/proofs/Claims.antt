@@ -103,6 +103,12 @@ get-mapped f e [] i d within = absurd (omega (arith, within))
 get-mapped f e (x ∷ xs) zero d within = refl
 get-mapped f e (x ∷ xs) (suc i) d within = get-mapped f e xs i d (omega (arith, within))
 
+pub get-mapped-past : {X Y : Type 0} (f : X → Y) (e : Y) (xs : List X) (i : ℕ) → length xs ≤ i → e ≡ get e (map f xs) i
+unfolding get
+get-mapped-past f e [] i past = refl
+get-mapped-past f e (x ∷ xs) zero past = absurd (omega (arith, past))
+get-mapped-past f e (x ∷ xs) (suc i) past = get-mapped-past f e xs i (omega (arith, past))
+
 pub get-map : (rows : List GivenRow) (i : ℕ) (d : GivenRow) → i < length rows → row_of (get_or rows i d) ≡ get no_row (map row_of rows) i
 get-map = get-mapped row_of no_row
 

@@ -1,12 +1,13 @@
 -- A machine as the plan that the check of scans reads, and the relation of a certificate.
-use Rattle.std.specs.Prelude.{ℕ, zero, suc, Bool, true, false, Option, Some, None, List, [], ◌∷◌, length, map}
+use Rattle.std.specs.Prelude.{ℕ, zero, suc, Bool, true, false, not, ◌&&◌, ◌||◌, ◌==◌, nat_lt, if◌then◌else◌, Option, Some, None, List, [], ◌∷◌, length, map}
 use Rattle.std.specs.Option.{option_map_or}
 use Rattle.seg_machine.specs.declared.provider.Acceptance.{Acceptance}
 use Rattle.seg_machine.specs.declared.provider.Acceptance.TheVariants.{Continue, Accept, Conditional}
 use Rattle.seg_machine.specs.Machine.{Machine, step}
 use Rattle.seg_rules.specs.declared.certificate.Configuration.{Configuration}
 use Rattle.seg_rules.specs.declared.certificate.Certificate.{Certificate}
-use Rattle.seg_rules.specs.Check.{Plan}
+use Rattle.seg_rules.specs.RowRules.{RowRules}
+use Rattle.seg_rules.specs.Check.{Plan, Tables, entered, get, moved_place}
 
 abbrev pub is_named : Option ℕ → Bool
 is_named None = false
@@ -35,3 +36,32 @@ plan_of m n = record {
 
 abbrev pub relation_of : Certificate → List (List Configuration)
 relation_of certificate = map (λ group. group.now) certificate.relation.now
+
+-- the state that a symbol leads to as a number, 255 for none
+abbrev pub next_number : Option ℕ → ℕ
+next_number next = option_map_or (λ state. state) next 255
+
+-- What the check of a step says, with nothing worked out ahead: of a scan that stops, and of one that goes on.
+abbrev pub kept_of : ℕ → ℕ → ℕ
+kept_of older newest = if older == 0 then newest else older
+
+abbrev pub is_verdict : ℕ → Bool
+is_verdict kept = nat_lt kept 3 && not (kept == 0)
+
+abbrev pub stops_plain : Configuration → ℕ → ℕ → Bool
+stops_plain c older newest =
+    is_verdict (kept_of older newest) && (moved_place older newest c.last == 3 && kept_of older newest == suc c.status)
+
+module _ (rules : RowRules) (t : Tables) (plan : Plan) (relation : List (List Configuration)) where
+  abbrev pub enters_plain : Configuration → ℕ → ℕ → ℕ → ℕ → ℕ → Bool
+  enters_plain c before q doubt older newest =
+      not (q == 0) && (nat_lt older 3 || newest == 0)
+      && entered rules t plan relation q (get (0, 0, false) plan.accepts q) (kept_of older newest) (record {
+        before = before;
+        doubt = doubt;
+        older = kept_of older newest;
+        newest = not (is_verdict (kept_of older newest)) && not (get 0 t.owes before == 0);
+        last = moved_place older newest c.last;
+        status = c.status;
+        named = moved_place older newest c.named;
+      })

@@ -1,10 +1,11 @@
 //! Whether the scans of a machine find the places of the rules, by the relation of a certificate.
 ghost use Rattle.std.specs.Prelude.{◌≡◌, ◌<◌, ◌≤◌, ◌&&◌, ◌||◌, if◌then◌else◌, ℕ, suc, true, false, not, ◌==◌, nat_lt, IsTrue, [], length, map};
 ghost use Rattle.seg_machine.specs.Machine.{Machine};
+ghost use Rattle.seg_machine.specs.Tailored.{machine_of};
 ghost use Rattle.seg_rules.specs.RowRules.{RowRules};
 ghost use Rattle.seg_rules.specs.Check.{Plan, Tables, among, entered, get, goes_on as goes, moved_place as place_after, same_configuration};
 ghost use Rattle.seg_rules.specs.Given.{tables_of};
-ghost use Rattle.seg_rules.specs.Planned.{accept_by, is_named, plan_of, relation_of};
+ghost use Rattle.seg_rules.specs.Planned.{accept_by, enters_plain, is_named, next_number, plan_of, relation_of, stops_plain};
 
 use crate::certificate::{Before, Certificate, Configuration};
 use seg_machine::provider::{Acceptance, Lookahead};
@@ -163,4 +164,52 @@ fn owes(befores: &[Before<'_>], before: u16) -> u8
         return 0;
     }
     befores[before as usize].owes
+}
+
+// What may be true after a symbol that isn't the end, where a scan goes on.
+fn stepped(befores: &[Before<'_>], c: Configuration, before: u16, owed: Owed) -> Configuration
+    ensures { let kept = if owed.older == 0 then owed.newest else owed.older in
+        result ≡ record {
+            before = before;
+            doubt = owed.doubt;
+            older = kept;
+            newest = not (nat_lt kept 3 && not (kept == 0)) && not (get 0 (map (λ b. b.owes) befores.now) before == 0);
+            last = place_after owed.older owed.newest c.last;
+            status = c.status;
+            named = place_after owed.older owed.newest c.named;
+        } }
+{
+    let kept = kept(owed);
+    Configuration {
+        before,
+        doubt: owed.doubt,
+        older: kept,
+        newest: !is_sure(kept) && owes(befores, before) != 0,
+        last: moved_place(owed.older, owed.newest, c.last),
+        status: c.status,
+        named: moved_place(owed.older, owed.newest, c.named),
+    }
+}
+
+// Whether a scan that goes on to a state keeps to the relation: it doesn't enter the start again, and at most one older place is
+// undecided.
+fn enters(scans: &Scans<'_>, c: Configuration, before: u16, state: u8, owed: Owed) -> bool
+    requires { state < length (machine_of scans.now.machine).states }
+    ensures { (rules : RowRules) (n : ℕ) → IsTrue result
+        → enters_plain rules (tables_of rules n scans.now.certificate) (plan_of (machine_of scans.now.machine) n) (relation_of scans.now.certificate)
+        c before state owed.doubt owed.older owed.newest ≡ true }
+{
+    if !is_followed(state, owed) {
+        return false;
+    }
+    let next = stepped(scans.certificate.befores, c, before, owed);
+    let entry = scans.machine.entry(state);
+    may_enter(scans.certificate.relation, state, entry, kept(owed), next)
+}
+
+// Whether a state isn't the start, and at most one older place is undecided.
+fn is_followed(state: u8, owed: Owed) -> bool
+    ensures { result ≡ (not (state == 0) && (nat_lt owed.older 3 || owed.newest == 0)) }
+{
+    state != 0 && (owed.older < VERDICTS || owed.newest == 0)
 }
