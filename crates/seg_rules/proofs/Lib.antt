@@ -1,3 +1,4 @@
+pub mod Planned
 pub mod Related
 pub mod Claims
 pub mod Moves

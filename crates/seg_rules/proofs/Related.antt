@@ -38,3 +38,9 @@ module _ (rules : RowRules) (t : Tables) (plan : Plan) (relation : List (List Co
   pub goes-decided : (c : Configuration) (before q older newest : ℕ) → goes_on rules t plan relation c before q 0 older newest ≡ true
   unfolding goes_on
   goes-decided c before q older newest = refl
+
+  pub goes-from : (c : Configuration) (before q doubt older newest : ℕ) → 0 < doubt
+      → goes_on rules t plan relation c before q doubt older newest
+      ≡ (if q == 255 then stops_plain c older newest else enters_plain rules t plan relation c before q doubt older newest)
+  goes-from c before q zero older newest some = absurd (omega (arith, some))
+  goes-from c before q (suc doubt) older newest some = goes-plain c before q doubt older newest

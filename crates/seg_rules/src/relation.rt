@@ -1,14 +1,14 @@
 //! Whether the scans of a machine find the places of the rules, by the relation of a certificate.
-ghost use Rattle.std.specs.Prelude.{◌≡◌, ◌<◌, ◌≤◌, ◌&&◌, ◌||◌, if◌then◌else◌, ℕ, suc, true, false, not, ◌==◌, nat_lt, IsTrue, [], length, map};
-ghost use Rattle.seg_machine.specs.Machine.{Machine};
+ghost use Rattle.std.specs.Prelude.{◌≡◌, ◌<◌, ◌≤◌, ◌&&◌, ◌||◌, if◌then◌else◌, ℕ, suc, true, false, not, ◌==◌, nat_lt, IfSome, IsTrue, [], length, map};
+ghost use Rattle.seg_machine.specs.Machine.{Machine, symbol_count};
 ghost use Rattle.seg_machine.specs.Tailored.{machine_of};
 ghost use Rattle.seg_rules.specs.RowRules.{RowRules};
-ghost use Rattle.seg_rules.specs.Check.{Plan, Tables, among, entered, get, goes_on as goes, moved_place as place_after, same_configuration};
+ghost use Rattle.seg_rules.specs.Check.{Plan, Tables, among, ends as ends_at, entered, get, goes_on as goes, moved_place as place_after, same_configuration};
 ghost use Rattle.seg_rules.specs.Given.{tables_of};
 ghost use Rattle.seg_rules.specs.Planned.{accept_by, enters_plain, is_named, next_number, plan_of, relation_of, stops_plain};
 
 use crate::certificate::{Before, Certificate, Configuration};
-use seg_machine::provider::{Acceptance, Lookahead};
+use seg_machine::provider::{Acceptance, Lookahead, State};
 use seg_machine::tailored_machine::TailoredMachineBorrowed;
 
 // The first numbers of what is owed are verdicts.
@@ -212,4 +212,78 @@ fn is_followed(state: u8, owed: Owed) -> bool
     ensures { result ≡ (not (state == 0) && (nat_lt owed.older 3 || owed.newest == 0)) }
 {
     state != 0 && (owed.older < VERDICTS || owed.newest == 0)
+}
+
+// Whether a step from a configuration is right: where nothing is left to check, where the scan stops, and where it goes on.
+fn goes_on(scans: &Scans<'_>, c: Configuration, before: u16, next: Option<State>, owed: Owed) -> bool
+    requires { IfSome next (λ state. (state < length (machine_of scans.now.machine).states) × (state < 255)) }
+    ensures { (rules : RowRules) (n : ℕ) → IsTrue result
+        → goes rules (tables_of rules n scans.now.certificate) (plan_of (machine_of scans.now.machine) n) (relation_of scans.now.certificate)
+        c before (next_number next) owed.doubt owed.older owed.newest ≡ true }
+{
+    if owed.doubt == 0 {
+        return true;
+    }
+    match next {
+        Some(state) => enters(scans, c, before, state, owed),
+        None => stops(c, owed),
+    }
+}
+
+/// The place that a scan has accepted last, its status, and the place that it has named.
+#[derive(Clone, Copy, Debug)]
+struct Found {
+    last: u8,
+    status: u8,
+    named: u8,
+}
+
+/// The place that a scan has to pick, and its status.
+#[derive(Clone, Copy, Debug)]
+struct Wanted {
+    place: u8,
+    status: u8,
+}
+
+// What is found where a state accepts the end.
+fn found_at_end(found: Found, status: u8, name: Option<Lookahead>) -> Found
+    ensures { result ≡ record { last = 4; status = status; named = if is_named name then 4 else found.named } }
+{
+    let named = match name {
+        Some(_) => 4,
+        None => found.named,
+    };
+    Found {
+        last: 4,
+        status,
+        named,
+    }
+}
+
+// Whether the states that the end leads to, again and again, pick what is wanted.
+fn ends(machine: TailoredMachineBorrowed<'_>, fuel: u8, state: State, found: Found, wanted: Wanted) -> bool
+    requires state { state < length (machine_of machine).states }
+    requires symbol { 0 < symbol_count (machine_of machine) }
+    ensures { (n : ℕ) → IsTrue result → ends_at (plan_of (machine_of machine.entry) n) fuel state found.last found.status found.named wanted.place wanted.status ≡ true }
+{
+    if fuel == 0 {
+        return false;
+    }
+    let Some(next) = machine.next_state(state, 0) else {
+        return found.last == wanted.place && found.status == wanted.status;
+    };
+    let (acceptance, name) = machine.entry(next);
+    match acceptance {
+        Acceptance::Continue => ends(machine, fuel - 1, next, found, wanted),
+        Acceptance::Accept(status) => {
+            ends(machine, fuel - 1, next, found_at_end(found, status, name), wanted)
+        }
+        Acceptance::Conditional(_, status) => {
+            if found.named == 0 {
+                ends(machine, fuel - 1, next, found, wanted)
+            } else {
+                found.named == wanted.place && status == wanted.status
+            }
+        }
+    }
 }
