@@ -7,7 +7,7 @@ use Rattle.seg_machine.specs.Machine.{Machine, step}
 use Rattle.seg_rules.specs.declared.certificate.Configuration.{Configuration}
 use Rattle.seg_rules.specs.declared.certificate.Certificate.{Certificate}
 use Rattle.seg_rules.specs.RowRules.{RowRules}
-use Rattle.seg_rules.specs.Check.{Plan, Tables, entered, get, moved_place}
+use Rattle.seg_rules.specs.Check.{Plan, Tables, ends_well, entered, get, goes_on, moved_place, no_before}
 
 abbrev pub is_named : Option ℕ → Bool
 is_named None = false
@@ -65,3 +65,23 @@ module _ (rules : RowRules) (t : Tables) (plan : Plan) (relation : List (List Co
         status = c.status;
         named = moved_place older newest c.named;
       })
+
+-- The numbers of what is owed, by the tables.
+abbrev pub read_at : Tables → ℕ → Bool → ℕ → ℕ
+read_at t number glues symbol =
+    let pair = get (0, 0) (get [] t.reads number) symbol in
+    if glues then pair.1 else pair.0
+
+abbrev pub glues_at : Tables → Configuration → Bool
+glues_at t c = (get no_before t.befores c.before).glues
+
+abbrev pub newest_at : Tables → Configuration → ℕ
+newest_at t c = if c.newest then get 0 t.owes c.before else 0
+
+abbrev pub goes_at : RowRules → Tables → Plan → List (List Configuration) → ℕ → Configuration → ℕ → Bool
+goes_at rules t plan relation q c j =
+    goes_on rules t plan relation c (get 0 (get [] t.moves c.before) j) (get 255 (get [] plan.nexts q) (suc j)) (read_at t c.doubt (glues_at t c) (suc j))
+    (read_at t c.older (glues_at t c) (suc j)) (read_at t (newest_at t c) (glues_at t c) (suc j))
+
+abbrev pub ends_at : RowRules → Tables → Plan → List (List Configuration) → ℕ → Configuration → Bool
+ends_at rules t plan relation q c = ends_well rules t plan relation q c (read_at t c.doubt false 0) (read_at t c.older false 0)

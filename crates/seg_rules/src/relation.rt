@@ -1,11 +1,11 @@
 //! Whether the scans of a machine find the places of the rules, by the relation of a certificate.
-ghost use Rattle.std.specs.Prelude.{◌≡◌, ◌<◌, ◌≤◌, ◌&&◌, ◌||◌, if◌then◌else◌, ℕ, suc, true, false, not, ◌==◌, nat_lt, IfSome, IsTrue, [], length, map};
+ghost use Rattle.std.specs.Prelude.{◌≡◌, ◌<◌, ◌≤◌, ◌&&◌, ◌||◌, ◌-◌, List, if◌then◌else◌, ℕ, suc, true, false, not, ◌==◌, nat_lt, IfSome, IsTrue, [], length, map};
 ghost use Rattle.seg_machine.specs.Machine.{Machine, symbol_count};
 ghost use Rattle.seg_machine.specs.Tailored.{machine_of};
 ghost use Rattle.seg_rules.specs.RowRules.{RowRules};
-ghost use Rattle.seg_rules.specs.Check.{Plan, Tables, among, ends as ends_at, entered, get, goes_on as goes, moved_place as place_after, same_configuration};
+ghost use Rattle.seg_rules.specs.Check.{Plan, Tables, among, end_place as place_at_end, ends as ends_by, ends_well as ends_rightly, entered, get, goes_on as goes, moved_place as place_after, same_configuration};
 ghost use Rattle.seg_rules.specs.Given.{tables_of};
-ghost use Rattle.seg_rules.specs.Planned.{accept_by, enters_plain, is_named, next_number, plan_of, relation_of, stops_plain};
+ghost use Rattle.seg_rules.specs.Planned.{accept_by, enters_plain, is_named, next_number, plan_of, read_at, relation_of, stops_plain};
 
 use crate::certificate::{Before, Certificate, Configuration};
 use seg_machine::provider::{Acceptance, Lookahead, State};
@@ -264,7 +264,7 @@ fn found_at_end(found: Found, status: u8, name: Option<Lookahead>) -> Found
 fn ends(machine: TailoredMachineBorrowed<'_>, fuel: u8, state: State, found: Found, wanted: Wanted) -> bool
     requires state { state < length (machine_of machine).states }
     requires symbol { 0 < symbol_count (machine_of machine) }
-    ensures { (n : ℕ) → IsTrue result → ends_at (plan_of (machine_of machine.entry) n) fuel state found.last found.status found.named wanted.place wanted.status ≡ true }
+    ensures { (n : ℕ) → IsTrue result → ends_by (plan_of (machine_of machine.entry) n) fuel state found.last found.status found.named wanted.place wanted.status ≡ true }
 {
     if fuel == 0 {
         return false;
@@ -284,6 +284,82 @@ fn ends(machine: TailoredMachineBorrowed<'_>, fuel: u8, state: State, found: Fou
             } else {
                 found.named == wanted.place && status == wanted.status
             }
+        }
+    }
+}
+
+// The number of what is owed after a symbol.
+fn read_number(certificate: &Certificate<'_>, number: u8, glues: bool, symbol: u8) -> u8
+    ensures { (rules : RowRules) (n : ℕ) → symbol < suc n → result ≡ read_at (tables_of rules n certificate.now) number glues symbol }
+{
+    if number < VERDICTS {
+        return number;
+    }
+    let index = (number - VERDICTS) as usize;
+    if index >= certificate.dues.len() {
+        return 0;
+    }
+    read_pair(certificate.dues[index].reads, glues, symbol)
+}
+
+// The number at a symbol, where a mark isn't glued or where it is.
+fn read_pair(reads: &[(u8, u8)], glues: bool, symbol: u8) -> u8
+    ensures { result ≡ (if glues then (get (0, 0) reads.now symbol).1 else (get (0, 0) reads.now symbol).0) }
+{
+    if symbol as usize >= reads.len() {
+        return 0;
+    }
+    let pair = reads[symbol as usize];
+    if glues { pair.1 } else { pair.0 }
+}
+
+// A place at the end: that after the last symbol is the end.
+fn end_place(older: u8, place: u8) -> u8
+    ensures { result ≡ place_at_end older place }
+{
+    if place == 2 {
+        4
+    } else if place == 3 {
+        if older == 0 { 1 } else { 3 }
+    } else {
+        place
+    }
+}
+
+// Whether the end is read rightly, where this is owed then to the boundary where the scan began and to the older place.
+fn ends_well(scans: &Scans<'_>, at_end: u8, state: State, c: Configuration, owed: Owed) -> bool
+    requires state { state < length (machine_of scans.now.machine).states }
+    requires symbol { 0 < symbol_count (machine_of scans.now.machine) }
+    ensures { (rules : RowRules) (n : ℕ) (t : Tables) (relation : List (List Configuration)) → rules.at_end ≡ at_end → IsTrue result
+        → ends_rightly rules t (plan_of (machine_of scans.now.machine) n) relation state c owed.doubt owed.older ≡ true }
+{
+    if owed.doubt == 0 {
+        return true;
+    }
+    if owed.older >= VERDICTS {
+        return false;
+    }
+    let found = Found {
+        last: end_place(owed.older, c.last),
+        status: c.status,
+        named: end_place(owed.older, c.named),
+    };
+    ends(scans.machine, 2, state, found, wanted_at_end(owed.older, at_end))
+}
+
+// The place that a scan has to pick at the end: the older one, if that is a boundary, or else the end.
+fn wanted_at_end(older: u8, at_end: u8) -> Wanted
+    ensures { result ≡ record { place = if older == 0 then 4 else 3; status = if older == 0 then at_end else older - 1 } }
+{
+    if older == 0 {
+        Wanted {
+            place: 4,
+            status: at_end,
+        }
+    } else {
+        Wanted {
+            place: 3,
+            status: older - 1,
         }
     }
 }
