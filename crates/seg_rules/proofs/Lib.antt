@@ -1,3 +1,4 @@
+pub mod Numbers
 pub mod Planned
 pub mod Related
 pub mod Claims
