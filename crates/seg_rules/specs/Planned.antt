@@ -1,5 +1,5 @@
 -- A machine as the plan that the check of scans reads, and the relation of a certificate.
-use Rattle.std.specs.Prelude.{ℕ, zero, suc, Bool, true, false, not, ◌&&◌, ◌||◌, ◌==◌, nat_lt, if◌then◌else◌, Option, Some, None, List, [], ◌∷◌, length, map}
+use Rattle.std.specs.Prelude.{ℕ, zero, suc, Bool, true, false, not, ◌&&◌, ◌||◌, ◌==◌, nat_lt, if◌then◌else◌, ◌<◌, ◌≡◌, Option, Some, None, List, [], ◌∷◌, length, map}
 use Rattle.std.specs.Option.{option_map_or}
 use Rattle.seg_machine.specs.declared.provider.Acceptance.{Acceptance}
 use Rattle.seg_machine.specs.declared.provider.Acceptance.TheVariants.{Continue, Accept, Conditional}
@@ -85,3 +85,11 @@ goes_at rules t plan relation q c j =
 
 abbrev pub ends_at : RowRules → Tables → Plan → List (List Configuration) → ℕ → Configuration → Bool
 ends_at rules t plan relation q c = ends_well rules t plan relation q c (read_at t c.doubt false 0) (read_at t c.older false 0)
+
+-- what the check of a configuration says, where what is owed has numbers of the tables
+pub record ConfigurationHolds (rules : RowRules) (n : ℕ) (t : Tables) (plan : Plan) (relation : List (List Configuration)) (q : ℕ) (c : Configuration) : Type 0 where
+  pub doubt : c.doubt < length t.reads
+  pub older : c.older < length t.reads
+  pub newest : newest_at t c < length t.reads
+  pub ends : ((q == 0 && c.last == 0) || ends_at rules t plan relation q c) ≡ true
+  pub goes : (j : ℕ) → j < n → goes_at rules t plan relation q c j ≡ true

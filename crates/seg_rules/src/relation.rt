@@ -1,11 +1,11 @@
 //! Whether the scans of a machine find the places of the rules, by the relation of a certificate.
-ghost use Rattle.std.specs.Prelude.{◌≡◌, ◌<◌, ◌≤◌, ◌&&◌, ◌||◌, ◌-◌, List, if◌then◌else◌, ℕ, suc, true, false, not, ◌==◌, nat_lt, IfSome, IsTrue, [], length, map};
+ghost use Rattle.std.specs.Prelude.{◌≡◌, ◌<◌, ◌≤◌, ◌&&◌, ◌||◌, ◌+◌, ◌-◌, List, if◌then◌else◌, ℕ, suc, true, false, not, ◌==◌, nat_lt, IfSome, IsTrue, [], length, map};
 ghost use Rattle.seg_machine.specs.Machine.{Machine, symbol_count};
 ghost use Rattle.seg_machine.specs.Tailored.{machine_of};
 ghost use Rattle.seg_rules.specs.RowRules.{RowRules};
 ghost use Rattle.seg_rules.specs.Check.{Plan, Tables, among, end_place as place_at_end, ends as ends_by, ends_well as ends_rightly, entered, get, goes_on as goes, moved_place as place_after, same_configuration};
 ghost use Rattle.seg_rules.specs.Given.{tables_of};
-ghost use Rattle.seg_rules.specs.Planned.{accept_by, enters_plain, is_named, next_number, plan_of, read_at, relation_of, stops_plain};
+ghost use Rattle.seg_rules.specs.Planned.{ConfigurationHolds, accept_by, ends_at, enters_plain, glues_at, goes_at, is_named, newest_at, next_number, plan_of, read_at, relation_of, stops_plain};
 
 use crate::certificate::{Before, Certificate, Configuration};
 use seg_machine::provider::{Acceptance, Lookahead, State};
@@ -88,6 +88,10 @@ struct Owed {
 pub(crate) struct Scans<'a> {
     pub(crate) machine: TailoredMachineBorrowed<'a>,
     pub(crate) certificate: Certificate<'a>,
+    /// How many symbols there are beside the end.
+    pub(crate) symbols: usize,
+    /// The status of the end of the text.
+    pub(crate) at_end: u8,
 }
 
 // A configuration where the place after the last symbol was accepted, and named if there is a name.
@@ -362,4 +366,124 @@ fn wanted_at_end(older: u8, at_end: u8) -> Wanted
             status: older - 1,
         }
     }
+}
+
+// Whether a mark is glued after what stands before the place after the last symbol.
+fn glues(certificate: &Certificate<'_>, c: Configuration) -> bool
+    ensures { (rules : RowRules) (n : ℕ) → result ≡ glues_at (tables_of rules n certificate.now) c }
+{
+    if c.before as usize >= certificate.befores.len() {
+        return false;
+    }
+    certificate.befores[c.before as usize].glues
+}
+
+// The number of what is owed to the place after the last symbol, where it may be a boundary.
+fn newest(certificate: &Certificate<'_>, c: Configuration) -> u8
+    ensures { (rules : RowRules) (n : ℕ) → result ≡ newest_at (tables_of rules n certificate.now) c }
+{
+    if c.newest {
+        owes(certificate.befores, c.before)
+    } else {
+        0
+    }
+}
+
+// The number of what stands before the place after the symbol j + 1.
+fn move_at(certificate: &Certificate<'_>, c: Configuration, j: u8) -> u16
+    ensures { (rules : RowRules) (n : ℕ) → result ≡ get 0 (get [] (tables_of rules n certificate.now).moves c.before) j }
+{
+    if c.before as usize >= certificate.befores.len() {
+        return 0;
+    }
+    move_of(certificate.befores[c.before as usize].moves, j)
+}
+
+// The number at a symbol.
+fn move_of(moves: &[u16], j: u8) -> u16
+    ensures { result ≡ get 0 moves.now j }
+{
+    if j as usize >= moves.len() {
+        return 0;
+    }
+    moves[j as usize]
+}
+
+// The numbers of what is owed after a symbol.
+fn owed_after(certificate: &Certificate<'_>, c: Configuration, glues: bool, symbol: u8) -> Owed
+    ensures { (rules : RowRules) (n : ℕ) → symbol < suc n → let t = tables_of rules n certificate.now in
+        result ≡ record { doubt = read_at t c.doubt glues symbol; older = read_at t c.older glues symbol; newest = read_at t (newest_at t c) glues symbol } }
+{
+    Owed {
+        doubt: read_number(certificate, c.doubt, glues, symbol),
+        older: read_number(certificate, c.older, glues, symbol),
+        newest: read_number(certificate, newest(certificate, c), glues, symbol),
+    }
+}
+
+// Whether a configuration of a state is right at the symbol j + 1.
+fn goes_right(scans: &Scans<'_>, state: State, c: Configuration, j: u8) -> bool
+    requires state { state < length (machine_of scans.now.machine).states }
+    requires symbol { j + 1 < symbol_count (machine_of scans.now.machine) }
+    requires byte { j < 255 }
+    ensures { (rules : RowRules) (n : ℕ) → j < n → IsTrue result
+        → goes_at rules (tables_of rules n scans.now.certificate) (plan_of (machine_of scans.now.machine) n) (relation_of scans.now.certificate) state c j ≡ true }
+{
+    scans.machine.facts();
+    let next = scans.machine.next_state(state, j + 1);
+    let owed = owed_after(&scans.certificate, c, glues(&scans.certificate, c), j + 1);
+    goes_on(scans, c, move_at(&scans.certificate, c, j), next, owed)
+}
+
+// Whether a configuration of a state is right at each symbol.
+fn each_goes(scans: &Scans<'_>, state: State, c: Configuration) -> bool
+    requires state { state < length (machine_of scans.now.machine).states }
+    requires symbol { scans.now.symbols + 1 ≡ symbol_count (machine_of scans.now.machine) }
+    requires byte { scans.now.symbols < 256 }
+    ensures { (rules : RowRules) → let n = scans.now.symbols in IsTrue result → (j : ℕ) → j < n
+        → goes_at rules (tables_of rules n scans.now.certificate) (plan_of (machine_of scans.now.machine) n) (relation_of scans.now.certificate) state c j ≡ true }
+{
+    for j in 0..scans.symbols {
+        if !goes_right(scans, state, c, j as u8) {
+            return false;
+        }
+    }
+    true
+}
+
+// Whether a number stands for something that is owed.
+fn is_number(certificate: &Certificate<'_>, number: u8) -> bool
+    ensures { (rules : RowRules) (n : ℕ) → IsTrue result → number < length (tables_of rules n certificate.now).reads }
+{
+    number < VERDICTS || ((number - VERDICTS) as usize) < certificate.dues.len()
+}
+
+// Whether a configuration of a state is right at the end; the end isn't read at the start.
+fn ends_right(scans: &Scans<'_>, state: State, c: Configuration) -> bool
+    requires state { state < length (machine_of scans.now.machine).states }
+    requires symbol { 0 < symbol_count (machine_of scans.now.machine) }
+    ensures { (rules : RowRules) (n : ℕ) → rules.at_end ≡ scans.now.at_end → IsTrue result
+        → ((state == 0 && c.last == 0)
+        || ends_at rules (tables_of rules n scans.now.certificate) (plan_of (machine_of scans.now.machine) n) (relation_of scans.now.certificate) state c) ≡ true }
+{
+    if state == 0 && c.last == 0 {
+        return true;
+    }
+    let owed = owed_after(&scans.certificate, c, false, 0);
+    ends_well(scans, scans.at_end, state, c, owed)
+}
+
+// Whether a configuration of a state is right.
+fn is_right(scans: &Scans<'_>, state: State, c: Configuration) -> bool
+    requires state { state < length (machine_of scans.now.machine).states }
+    requires symbol { scans.now.symbols + 1 ≡ symbol_count (machine_of scans.now.machine) }
+    requires byte { scans.now.symbols < 256 }
+    ensures { (rules : RowRules) → let n = scans.now.symbols in rules.at_end ≡ scans.now.at_end → IsTrue result
+        → ConfigurationHolds rules n (tables_of rules n scans.now.certificate) (plan_of (machine_of scans.now.machine) n) (relation_of scans.now.certificate) state c }
+{
+    is_number(&scans.certificate, c.doubt)
+        && is_number(&scans.certificate, c.older)
+        && is_number(&scans.certificate, newest(&scans.certificate, c))
+        && ends_right(scans, state, c)
+        && each_goes(scans, state, c)
 }
