@@ -8,7 +8,7 @@ use Rattle.seg_rules.specs.Planned.{enters_plain, is_verdict, kept_of, stops_pla
 use Rattle.seg_rules.proofs.Bits.{once_is}
 use Rattle.seg_rules.proofs.TableLemmas.{number-is}
 
-or-right-true : (a b : Bool) → b ≡ true → (a || b) ≡ true
+pub or-right-true : (a b : Bool) → b ≡ true → (a || b) ≡ true
 or-right-true true b h = refl
 or-right-true false b h = h
 

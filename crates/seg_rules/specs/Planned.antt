@@ -7,7 +7,7 @@ use Rattle.seg_machine.specs.Machine.{Machine, step}
 use Rattle.seg_rules.specs.declared.certificate.Configuration.{Configuration}
 use Rattle.seg_rules.specs.declared.certificate.Certificate.{Certificate}
 use Rattle.seg_rules.specs.RowRules.{RowRules}
-use Rattle.seg_rules.specs.Check.{Plan, Tables, ends_well, entered, get, goes_on, moved_place, no_before}
+use Rattle.seg_rules.specs.Check.{Plan, Tables, among, ends_well, entered, get, goes_on, moved_place, no_before}
 
 abbrev pub is_named : Option ℕ → Bool
 is_named None = false
@@ -93,3 +93,11 @@ pub record ConfigurationHolds (rules : RowRules) (n : ℕ) (t : Tables) (plan : 
   pub newest : newest_at t c < length t.reads
   pub ends : ((q == 0 && c.last == 0) || ends_at rules t plan relation q c) ≡ true
   pub goes : (j : ℕ) → j < n → goes_at rules t plan relation q c j ≡ true
+
+-- a scan may begin, by a relation, where this stands before a place to which that is owed, or there is no boundary
+abbrev pub begins_in : List (List Configuration) → ℕ → ℕ → Bool
+begins_in relation before owes =
+    owes == 0 || among (record { before = before; doubt = owes; older = 0; newest = false; last = 0; status = 0; named = 0 }) (get [] relation 0)
+
+abbrev pub Begins : Certificate → ℕ → Type 0
+Begins certificate before = begins_in (relation_of certificate) before (get 0 (map (λ b. b.owes) certificate.befores.now) before) ≡ true

@@ -1,11 +1,12 @@
 //! Whether the scans of a machine find the places of the rules, by the relation of a certificate.
-ghost use Rattle.std.specs.Prelude.{◌≡◌, ◌<◌, ◌≤◌, ◌&&◌, ◌||◌, ◌+◌, ◌-◌, List, if◌then◌else◌, ℕ, suc, true, false, not, ◌==◌, nat_lt, IfSome, IsTrue, [], length, map};
+ghost use Rattle.std.specs.Prelude.{◌≡◌, ◌<◌, ◌≤◌, ◌&&◌, ◌||◌, ◌+◌, ◌-◌, List, if◌then◌else◌, ℕ, suc, true, false, not, ◌==◌, nat_lt, All, IfSome, IsTrue, [], length, map};
 ghost use Rattle.seg_machine.specs.Machine.{Machine, symbol_count};
 ghost use Rattle.seg_machine.specs.Tailored.{machine_of};
 ghost use Rattle.seg_rules.specs.RowRules.{RowRules};
 ghost use Rattle.seg_rules.specs.Check.{Plan, Tables, among, end_place as place_at_end, ends as ends_by, ends_well as ends_rightly, entered, get, goes_on as goes, moved_place as place_after, same_configuration};
 ghost use Rattle.seg_rules.specs.Given.{tables_of};
-ghost use Rattle.seg_rules.specs.Planned.{ConfigurationHolds, accept_by, ends_at, enters_plain, glues_at, goes_at, is_named, newest_at, next_number, plan_of, read_at, relation_of, stops_plain};
+ghost use Rattle.seg_rules.specs.Places.{stands_for};
+ghost use Rattle.seg_rules.specs.Planned.{Begins, ConfigurationHolds, accept_by, begins_in, ends_at, enters_plain, glues_at, goes_at, is_named, newest_at, next_number, plan_of, read_at, relation_of, stops_plain};
 
 use crate::certificate::{Before, Certificate, Configuration};
 use seg_machine::provider::{Acceptance, Lookahead, State};
@@ -13,6 +14,9 @@ use seg_machine::tailored_machine::TailoredMachineBorrowed;
 
 // The first numbers of what is owed are verdicts.
 const VERDICTS: u8 = 3;
+
+// What stands before places has numbers of sixteen bits.
+const MAX_BEFORES: usize = 65535;
 
 // Whether two configurations are the same.
 fn is_same(this: Configuration, that: Configuration) -> bool
@@ -481,9 +485,116 @@ fn is_right(scans: &Scans<'_>, state: State, c: Configuration) -> bool
     ensures { (rules : RowRules) → let n = scans.now.symbols in rules.at_end ≡ scans.now.at_end → IsTrue result
         → ConfigurationHolds rules n (tables_of rules n scans.now.certificate) (plan_of (machine_of scans.now.machine) n) (relation_of scans.now.certificate) state c }
 {
-    is_number(&scans.certificate, c.doubt)
-        && is_number(&scans.certificate, c.older)
-        && is_number(&scans.certificate, newest(&scans.certificate, c))
-        && ends_right(scans, state, c)
-        && each_goes(scans, state, c)
+    if !has_numbers(&scans.certificate, c) || !ends_right(scans, state, c) {
+        return false;
+    }
+    each_goes(scans, state, c)
+}
+
+// Whether what is owed, by a configuration, has numbers of the tables.
+fn has_numbers(certificate: &Certificate<'_>, c: Configuration) -> bool
+    ensures { (rules : RowRules) (n : ℕ) → IsTrue result → let t = tables_of rules n certificate.now in
+        (c.doubt < length t.reads) × ((c.older < length t.reads) × (newest_at t c < length t.reads)) }
+{
+    if !is_number(certificate, c.doubt) || !is_number(certificate, c.older) {
+        return false;
+    }
+    is_newest_number(certificate, c)
+}
+
+// Whether the number of what is owed to the newest place is one of them.
+fn is_newest_number(certificate: &Certificate<'_>, c: Configuration) -> bool
+    ensures { (rules : RowRules) (n : ℕ) → IsTrue result → newest_at (tables_of rules n certificate.now) c < length (tables_of rules n certificate.now).reads }
+{
+    is_number(certificate, newest(certificate, c))
+}
+
+// Whether each configuration of a state is right.
+fn group_holds(scans: &Scans<'_>, state: State, group: &[Configuration]) -> bool
+    requires state { state < length (machine_of scans.now.machine).states }
+    requires symbol { scans.now.symbols + 1 ≡ symbol_count (machine_of scans.now.machine) }
+    requires byte { scans.now.symbols < 256 }
+    ensures { (rules : RowRules) → let n = scans.now.symbols in rules.at_end ≡ scans.now.at_end → IsTrue result
+        → All (ConfigurationHolds rules n (tables_of rules n scans.now.certificate) (plan_of (machine_of scans.now.machine) n) (relation_of scans.now.certificate) state) group.now }
+{
+    for c in group {
+        if !is_right(scans, state, *c) {
+            return false;
+        }
+    }
+    true
+}
+
+// Whether the configurations of each state are right.
+fn groups_hold(scans: &Scans<'_>) -> bool
+    requires symbol { scans.now.symbols + 1 ≡ symbol_count (machine_of scans.now.machine) }
+    requires byte { scans.now.symbols < 256 }
+    ensures { (rules : RowRules) → let n = scans.now.symbols in rules.at_end ≡ scans.now.at_end → IsTrue result
+        → (q : ℕ) → q < length scans.now.certificate.relation.now
+        → All (ConfigurationHolds rules n (tables_of rules n scans.now.certificate) (plan_of (machine_of scans.now.machine) n) (relation_of scans.now.certificate) q)
+        (get [] (relation_of scans.now.certificate) q) }
+{
+    scans.machine.facts();
+    let relation = scans.certificate.relation;
+    if relation.len() > scans.machine.machine().states().len() {
+        return false;
+    }
+    for state in 0..relation.len() {
+        if !group_holds(scans, state as u8, relation[state]) {
+            return false;
+        }
+    }
+    true
+}
+
+// Whether a scan may begin, by the relation, where this stands before a place to which that is owed, or there is no boundary.
+fn may_begin(relation: &[&[Configuration]], before: u16, owes: u8) -> bool
+    ensures { IsTrue result → begins_in (map (λ group. group.now) relation.now) before owes ≡ true }
+{
+    let start = Configuration {
+        before,
+        doubt: owes,
+        older: 0,
+        newest: false,
+        last: 0,
+        status: 0,
+        named: 0,
+    };
+    owes == 0 || is_known(relation, 0, start)
+}
+
+// Whether a scan may begin wherever there may be a boundary.
+fn each_begins(certificate: &Certificate<'_>) -> bool
+    ensures { IsTrue result → (i : ℕ) → i < length certificate.now.befores.now → Begins certificate.now i }
+{
+    let befores = certificate.befores;
+    if befores.len() > MAX_BEFORES {
+        return false;
+    }
+    for i in 0..befores.len() {
+        if !may_begin(certificate.relation, i as u16, befores[i].owes) {
+            return false;
+        }
+    }
+    true
+}
+
+// Whether what a state accepts is read as it is: there is one lookahead, 0, and a state that names it accepts.
+fn fits(state: (Acceptance, Option<Lookahead>)) -> bool
+    ensures { IsTrue result → stands_for state (accept_by state) ≡ true }
+{
+    match state {
+        (Acceptance::Continue, None) => true,
+        (Acceptance::Accept(_), None) => true,
+        (Acceptance::Accept(_), Some(name)) => name == 0,
+        (Acceptance::Conditional(lookahead, _), None) => lookahead == 0,
+        _ => false,
+    }
+}
+
+// Whether it is so of each state.
+fn states_fit(states: &[(Acceptance, Option<Lookahead>)]) -> bool
+    ensures { IsTrue result → All (λ state. stands_for state (accept_by state) ≡ true) states.now }
+{
+    states.iter().all(|state| fits(*state))
 }
