@@ -1,23 +1,23 @@
 -- For rules and a machine that pass the check, the machine's boundaries, with their statuses, are the places where the rules break.
-use Rattle.std.specs.Prelude.{◌≡◌, ℕ, zero, suc, ◌+◌, ◌-◌, ◌≤◌, true, false, not, ◌==◌, Some, List, [], ◌∷◌, ◌++◌, drop, length, All}
+use Rattle.std.specs.Prelude.{◌≡◌, ℕ, zero, suc, ◌+◌, ◌-◌, ◌≤◌, true, false, not, ◌==◌, Some, None, List, [], ◌∷◌, ◌++◌, drop, length, All}
 use Rattle.std.specs.Option.{option_map_or}
 use Rattle.std.proofs.Common.{arith, refl, sym, ap, ap₂, ◌∙◌, inl, inr, subst, zero-add}
 use Rattle.std.proofs.lemmas.Bool.{cond-true, cond-false}
 use Rattle.std.proofs.lemmas.List.{get_or-map, length-map, drop-map, length-drop}
 use Rattle.seg_text.specs.declared.boundary.Boundary.{Boundary}
 use Rattle.seg_text.specs.Boundaries.{boundary, start, shift_all, Stretch, later_boundaries_within, later_boundaries}
-use Rattle.seg_machine.specs.Machine.{Machine, IsSymbolOf, IsTextSymbol, symbol_and_script, symbols_of}
+use Rattle.seg_machine.specs.Machine.{Machine, symbol_count, IsSymbolOf, IsTextSymbol, symbol_and_script, symbols_of}
 use Rattle.std.specs.Prelude.{get_or}
 use Rattle.seg_machine.specs.MachineFaults.{IsChecked}
 use Rattle.seg_machine.specs.Pick.{pick, machine_stretch, machine_boundaries}
-use Rattle.seg_rules.specs.RowRules.{RowRules, owed, verdict, before, has_boundary}
+use Rattle.seg_rules.specs.RowRules.{RowRules, owed, verdict, before, has_boundary, moves_on}
 use Rattle.seg_rules.specs.declared.certificate.Configuration.{Configuration}
 use Rattle.seg_rules.specs.Check.{Plan, Tables, tables_hold, scans_hold}
 use Rattle.seg_rules.specs.Places.{IsPlan, Passes, places, plan_holds}
 use Rattle.seg_rules.specs.Plain.{plain_places}
 use Rattle.seg_rules.proofs.Plans.{plan-is, symbols-are}
 use Rattle.seg_rules.proofs.Verdicts.{places-plain}
-use Rattle.seg_rules.proofs.Soundness.{first, bool-cases, neq-eqb}
+use Rattle.seg_rules.proofs.Soundness.{finish, first, bool-cases, neq-eqb}
 use Rattle.seg_rules.proofs.Scans.{Symbols, symbols-from, restart}
 use Rattle.seg_rules.proofs.Engine.{Small, as_boundary, pick-finish}
 
@@ -91,8 +91,13 @@ shift-zero : (found : List Boundary) → shift_all 0 found ≡ found
 shift-zero [] = refl
 shift-zero (b ∷ found) = λ i. boundary (zero-add b.offset i) b.status ∷ shift-zero found i
 
-module _ (rules : RowRules) (n : ℕ) (t : Tables) (plan : Plan) (relation : List (List Configuration)) (m : Machine) (is : IsPlan m n plan)
-    (tables : tables_hold rules n t ≡ true) (scans : scans_hold rules t plan relation ≡ true) where
+-- from each boundary on, and from the start, the pick is the first boundary after it
+abbrev pub Restarts : RowRules → ℕ → Plan → ℕ → Type 0
+Restarts rules n plan fuel =
+    (past : List ℕ) (x : ℕ) (rest : List ℕ) → Symbols n past → Symbols n (x ∷ rest) → has_boundary rules past (x ∷ rest) ≡ true
+    → finish plan fuel 0 0 None None (x ∷ rest) ≡ Some (first rules 1 (moves_on rules (before rules past) x) rest)
+
+module _ (rules : RowRules) (n : ℕ) (plan : Plan) (m : Machine) (is : IsPlan m n plan) (restarts : Restarts rules n plan (length m.states)) where
   small-symbols : (xs : List ℕ) → Symbols n xs → Small m n plan is xs
   small-symbols [] h = tt
   small-symbols (x ∷ xs) h = (h.0.1, small-symbols xs h.1)
@@ -105,11 +110,10 @@ module _ (rules : RowRules) (n : ℕ) (t : Tables) (plan : Plan) (relation : Lis
       let x = (symbol_and_script m c).0 in
       let rest = symbols_of m cs in
       let f = found rules n rest 0 base past x (ahead.0, behind) ahead.1 in
-      let enough = is.some in
       let count : suc (0 + f.more) ≡ suc f.more = omega arith in
       let picked : pick m (x ∷ rest) ≡ Some (boundary (suc f.more) f.status) =
       pick-finish m n plan is (x ∷ rest) (small-symbols (x ∷ rest) ahead)
-      ∙ ap as_boundary (restart rules n t plan relation tables scans (length m.states) enough past x rest behind ahead breaks)
+      ∙ ap as_boundary (restarts past x rest behind ahead breaks)
       ∙ ap (λ (v : ℕ × ℕ). Some (boundary v.0 v.1)) f.value
       ∙ ap (λ k. Some (boundary k f.status)) count in (
         f,
@@ -148,20 +152,21 @@ module _ (rules : RowRules) (n : ℕ) (t : Tables) (plan : Plan) (relation : Lis
       let later = later_boundaries_within (machine_stretch m) (length cs) cs in
       ap (λ (bs : List Boundary). start ∷ bs) (sym (shift-zero later) ∙ left-places (length cs) 0 [] cs (omega arith) tt (symbols-from n (symbols_of m cs) symbols) refl)
 
--- Law: for rules, a machine and a certificate that pass the tests, the boundaries of each list of code points are, with their statuses,
--- the places of the rules in plain words
-pub rules-law : (rules : RowRules) (n : ℕ) (t : Tables) (plan : Plan) (relation : List (List Configuration)) (m : Machine)
-    → tables_hold rules n t ≡ true → scans_hold rules t plan relation ≡ true → plan_holds m n plan ≡ true
-    → (cs : List ℕ) → All (IsSymbolOf (suc n)) (symbols_of m cs) → machine_boundaries m cs ≡ start ∷ plain_places rules 0 [] (symbols_of m cs)
-rules-law rules n t plan relation m tables scans same cs symbols =
-    boundaries-are rules n t plan relation m (plan-is m n plan same) tables scans cs symbols
+-- Law: the boundaries of each list of code points are, with their statuses, the places of the rules in plain words, for a checked machine
+-- that has a plan, where scans restart
+pub planned-law : (rules : RowRules) (n : ℕ) (plan : Plan) (m : Machine) → IsPlan m n plan → Restarts rules n plan (length m.states) → symbol_count m ≡ suc n → IsChecked m
+    → (cs : List ℕ) → machine_boundaries m cs ≡ start ∷ plain_places rules 0 [] (symbols_of m cs)
+planned-law rules n plan m is restarts count checked cs =
+    let are : All (IsTextSymbol m) (symbols_of m cs) =
+    λ k d within. rw (get_or-map (λ c. (symbol_and_script m c).0) cs k 0 d (omega (arith, within, length-map cs (λ c. (symbol_and_script m c).0)))) (checked.text_symbols (get_or cs k 0)) in
+    let symbols = subst (λ count. All (IsSymbolOf count) (symbols_of m cs)) count are in
+    boundaries-are rules n plan m is restarts cs symbols
     ∙ ap (λ (bs : List Boundary). start ∷ bs) (places-plain rules n 0 [] (symbols_of m cs) (symbols-from n (symbols_of m cs) symbols))
 
--- Law: so it is for a machine that the library has checked, at every list of code points
+-- Law: so it is for rules, a checked machine and a certificate that pass the tests
 pub checked-law : (rules : RowRules) (n : ℕ) (t : Tables) (plan : Plan) (relation : List (List Configuration)) (m : Machine)
     → Passes rules n t relation plan m → IsChecked m
     → (cs : List ℕ) → machine_boundaries m cs ≡ start ∷ plain_places rules 0 [] (symbols_of m cs)
-checked-law rules n t plan relation m passes checked cs =
-    let are : All (IsTextSymbol m) (symbols_of m cs) =
-    λ k d within. rw (get_or-map (λ c. (symbol_and_script m c).0) cs k 0 d (omega (arith, within, length-map cs (λ c. (symbol_and_script m c).0)))) (checked.text_symbols (get_or cs k 0)) in
-    rules-law rules n t plan relation m passes.tables passes.scans passes.machine cs (subst (λ count. All (IsSymbolOf count) (symbols_of m cs)) (symbols-are m n plan passes.machine) are)
+checked-law rules n t plan relation m passes checked =
+    let is = plan-is m n plan passes.machine in
+    planned-law rules n plan m is (restart rules n t plan relation passes.tables passes.scans (length m.states) is.some) (symbols-are m n plan passes.machine) checked

@@ -197,13 +197,13 @@ module _ (rules : RowRules) (n : ℕ) (t : Tables) (plan : Plan) (relation : Lis
   read_at_end i = (get (0, 0) (get [] t.reads i) 0).0
 
   -- what the check of a configuration says
-  record Passed (q : ℕ) (c : Configuration) : Type 0 where
-    ends : ((q == 0 && c.last == 0) || ends_well rules t plan relation q c (read_at_end c.doubt) (read_at_end c.older)) ≡ true
-    goes : (j : ℕ) → j < n
+  pub record Passed (q : ℕ) (c : Configuration) : Type 0 where
+    pub ends : ((q == 0 && c.last == 0) || ends_well rules t plan relation q c (read_at_end c.doubt) (read_at_end c.older)) ≡ true
+    pub goes : (j : ℕ) → j < n
         → goes_on rules t plan relation c (get 0 (get [] t.moves c.before) j) (next_of plan q (suc j)) (after c c.doubt j) (after c c.older j) (after c (newest_of c) j) ≡ true
-    doubts : Reads rules n t c.doubt
-    olders : Reads rules n t c.older
-    newests : Reads rules n t (newest_of c)
+    pub doubts : Reads rules n t c.doubt
+    pub olders : Reads rules n t c.older
+    pub newests : Reads rules n t (newest_of c)
 
   many-each : (c : Configuration) (glues : Bool) (befores qs : List ℕ) (ds os ws : List (ℕ × ℕ))
       → each_goes rules t plan relation c glues befores qs ds os ws ≡ true
@@ -462,9 +462,9 @@ module _ (rules : RowRules) (n : ℕ) (t : Tables) (plan : Plan) (relation : Lis
   newest-due are c true s within is = ap (owed rules) is ∙ are.owes c.before within
   newest-due are c false s within is = refl
 
-  record Checked : Type 0 where
-    are : TablesAre rules n t
-    passes : (q : ℕ) (c : Configuration) → c.before < length t.befores → known rules t plan relation q c ≡ true → Passed q c
+  pub record Checked : Type 0 where
+    pub are : TablesAre rules n t
+    pub passes : (q : ℕ) (c : Configuration) → c.before < length t.befores → known rules t plan relation q c ≡ true → Passed q c
 
   -- before a symbol
   stepping : (checked : Checked) (q : ℕ) (c : Configuration) (k p : ℕ) (s : Before) (last : Option (ℕ × ℕ)) (named : Option ℕ) (j : ℕ) (rest : List ℕ)
@@ -563,17 +563,20 @@ module _ (rules : RowRules) (n : ℕ) (t : Tables) (plan : Plan) (relation : Lis
       (record { within = within; state = is; began = began; pick = Nowhere refl refl; status = λ f is. status-none 0 f is; names = Nowhere refl refl })
       ∙ ap (λ v. Some (if v == 0 then first rules 1 (moves_on rules (before rules past) x) rest else (0, v - 1))) (verdict-decided rules (before rules past) 0 (x ∷ rest))
 
-  boundary-scan : (checked : Checked) → scans_hold rules t plan relation ≡ true → (fuel : ℕ) → 2 ≤ fuel → (past : List ℕ) (x : ℕ) (rest : List ℕ)
+  -- a scan may begin at the start, and wherever there may be a boundary
+  pub record BeginsRight : Type 0 where
+    pub start : known rules t plan relation 0 (start_of rules t plan relation 0 1) ≡ true
+    pub boundaries : (i : ℕ) → i < length t.owes → (get 0 t.owes i == 0 || known rules t plan relation 0 (start_of rules t plan relation i (get 0 t.owes i))) ≡ true
+
+  -- from each boundary on, and from the start, the pick is the first boundary after it, where the end is read twice or more
+  pub boundary-scan : (checked : Checked) → BeginsRight → (fuel : ℕ) → 2 ≤ fuel → (past : List ℕ) (x : ℕ) (rest : List ℕ)
       → Symbols n past → Symbols n (x ∷ rest) → has_boundary rules past (x ∷ rest) ≡ true
       → finish plan fuel 0 0 None None (x ∷ rest) ≡ Some (first rules 1 (moves_on rules (before rules past) x) rest)
   unfolding before
-  boundary-scan checked scans fuel enough [] x rest befores symbols breaks =
-      let parts = and_parts (known rules t plan relation 0 (start_of rules t plan relation 0 1)) _ scans in
+  boundary-scan checked begins fuel enough [] x rest befores symbols breaks =
       let one = verdict-decided rules (at_start rules) 1 (x ∷ rest) in
-      scan checked fuel enough [] 0 1 x rest symbols checked.are.some checked.are.start (λ e. absurd (omega (arith, one, e))) parts.0
-  boundary-scan checked scans fuel enough (y ∷ past) x rest befores symbols breaks =
-      let parts = and_parts (known rules t plan relation 0 (start_of rules t plan relation 0 1)) _ scans in
-      let starts = and_parts (starts_hold rules t plan relation 0 t.owes) _ parts.1 in
+      scan checked fuel enough [] 0 1 x rest symbols checked.are.some checked.are.start (λ e. absurd (omega (arith, one, e))) begins.start
+  boundary-scan checked begins fuel enough (y ∷ past) x rest befores symbols breaks =
       let (i, (within, is)) = before-at checked.are (y ∷ past) befores in
       let s = before rules (y ∷ past) in
       let o = get 0 t.owes i in
@@ -581,13 +584,22 @@ module _ (rules : RowRules) (n : ℕ) (t : Tables) (plan : Plan) (relation : Lis
       let value = ap (λ d. verdict rules s d (x ∷ rest)) owes in
       let breaks_here : (verdict rules s (owed rules s) (x ∷ rest) == 0) ≡ false = not-false _ breaks in
       let many = checked.are.owes_many in
-      let from : 0 + i ≡ i = omega arith in
       let began : verdict rules s (due_of t o) (x ∷ rest) ≢ 0 = λ e. both-ways _ (eq-eqb _ _ (value ∙ e)) breaks_here in
-      elim (or_cases (o == 0) _ (starts-at t.owes 0 i starts.0 (omega (arith, many, within)))) [
+      elim (or_cases (o == 0) _ (begins.boundaries i (omega (arith, many, within)))) [
         | inl none ↦ absurd (began (none-owed s o (x ∷ rest) none))
-        | inr knows ↦ scan checked fuel enough (y ∷ past) i o x rest symbols within is began
-            (ap (λ m. known rules t plan relation 0 (start_of rules t plan relation m o)) (sym from) ∙ knows)
+        | inr knows ↦ scan checked fuel enough (y ∷ past) i o x rest symbols within is began knows
       ]
+
+  begins-by : scans_hold rules t plan relation ≡ true → BeginsRight
+  begins-by scans =
+      let parts = and_parts (known rules t plan relation 0 (start_of rules t plan relation 0 1)) _ scans in
+      let starts = and_parts (starts_hold rules t plan relation 0 t.owes) _ parts.1 in
+      record {
+        start = parts.0;
+        boundaries = λ i below.
+            let from : 0 + i ≡ i = omega arith in
+            ap (λ m. get 0 t.owes i == 0 || known rules t plan relation 0 (start_of rules t plan relation m (get 0 t.owes i))) (sym from) ∙ starts-at t.owes 0 i starts.0 below;
+      }
 
   checked-by : 0 < n → tables_hold rules n t ≡ true → scans_hold rules t plan relation ≡ true → Checked
   checked-by some tables scans =
@@ -611,4 +623,4 @@ module _ (rules : RowRules) (n : ℕ) (t : Tables) (plan : Plan) (relation : Lis
   restart tables scans fuel enough past x rest past_symbols symbols breaks =
       let low = symbols.0.0 in
       let high = symbols.0.1 in
-      boundary-scan (checked-by (omega (arith, low, high)) tables scans) scans fuel enough past x rest past_symbols symbols breaks
+      boundary-scan (checked-by (omega (arith, low, high)) tables scans) (begins-by scans) fuel enough past x rest past_symbols symbols breaks
