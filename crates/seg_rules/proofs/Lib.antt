@@ -1,3 +1,4 @@
+pub mod Passing
 pub mod Numbers
 pub mod Planned
 pub mod Related

@@ -95,7 +95,7 @@ same-flag false false h = refl
 same-flag true false h = let no : false ≡ true = h in cc
 same-flag false true h = let no : false ≡ true = h in cc
 
-same-config : (c d : Configuration) → same_configuration c d ≡ true → d ≡ c
+pub same-config : (c d : Configuration) → same_configuration c d ≡ true → d ≡ c
 same-config c d h =
     let one = and_parts _ _ h in
     let two = and_parts _ _ one.1 in
