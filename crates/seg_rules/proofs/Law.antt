@@ -12,8 +12,8 @@ use Rattle.seg_machine.specs.MachineFaults.{IsChecked}
 use Rattle.seg_machine.specs.Pick.{pick, machine_stretch, machine_boundaries}
 use Rattle.seg_rules.specs.RowRules.{RowRules, owed, verdict, before, has_boundary, moves_on}
 use Rattle.seg_rules.specs.declared.certificate.Configuration.{Configuration}
-use Rattle.seg_rules.specs.Check.{Plan, Tables, tables_hold, scans_hold}
-use Rattle.seg_rules.specs.Places.{IsPlan, Passes, places, plan_holds}
+use Rattle.seg_rules.specs.Check.{Plan, Tables}
+use Rattle.seg_rules.specs.Places.{IsPlan, Passes, places}
 use Rattle.seg_rules.specs.Plain.{plain_places}
 use Rattle.seg_rules.proofs.Plans.{plan-is, symbols-are}
 use Rattle.seg_rules.proofs.Verdicts.{places-plain}

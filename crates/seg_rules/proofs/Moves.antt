@@ -1,10 +1,10 @@
 -- What stands before places, row by row.
-use Rattle.std.specs.Prelude.{◌≡◌, ℕ, suc, ◌+◌, ◌<◌, Bool, true, false, List, [], ◌∷◌, length, map, drop}
+use Rattle.std.specs.Prelude.{◌≡◌, ℕ, ◌+◌, ◌<◌, true, List, ◌∷◌, length, map, drop}
 use Rattle.std.specs.Prelude.{get_or}
-use Rattle.std.proofs.Common.{arith, refl, sym, ap, ap₂, ◌∙◌, subst}
+use Rattle.std.proofs.Common.{arith, refl, sym, subst}
 use Rattle.std.proofs.lemmas.List.{drop_more, drop_all}
 use Rattle.seg_rules.specs.declared.rules.Row.{Row as GivenRow}
-use Rattle.seg_rules.specs.RowRules.{Row, flow, moved, no_flags, unread}
+use Rattle.seg_rules.specs.RowRules.{flow, moved, no_flags, unread}
 use Rattle.seg_rules.specs.Given.{flags_by, lives_by, row_of}
 
 -- a symbol leads from what is live of rows to these

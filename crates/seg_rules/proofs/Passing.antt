@@ -1,11 +1,10 @@
 -- What passes the check as code has what the law asks for.
-use Rattle.std.specs.Prelude.{◌≡◌, ℕ, zero, suc, ◌+◌, ◌-◌, ◌<◌, ◌≤◌, nat_lt, ◌==◌, ◌||◌, Bool, true, false, if◌then◌else◌, Option, Some, None, List, [], ◌∷◌, length, map, replicate, get_or, slice_index_or, All, IfSome, ◌⊎◌}
+use Rattle.std.specs.Prelude.{◌≡◌, ℕ, zero, suc, ◌-◌, ◌<◌, ◌≤◌, nat_lt, ◌==◌, Bool, true, false, if◌then◌else◌, Option, Some, None, List, [], ◌∷◌, length, map, get_or, slice_index_or, All, IfSome, ◌⊎◌}
 use Rattle.std.proofs.Common.{arith, refl, sym, ap, ◌∙◌, inl, inr, subst, ltb-true, ltb-false, lt-ltb, le-ltb}
 use denote.Bor.{Bor}
 use Rattle.std.proofs.lemmas.Bool.{cond-true, cond-false, or_cases}
 use Rattle.std.proofs.lemmas.List.{length-map, length-replicate, get_or_past}
 use Rattle.seg_text.specs.Boundaries.{start}
-use Rattle.seg_machine.specs.declared.provider.Acceptance.{Acceptance}
 use Rattle.seg_machine.specs.declared.provider.Acceptance.TheVariants.{Continue}
 use Rattle.seg_machine.specs.Machine.{Machine, step, state_at, symbol_count, symbols_of}
 use Rattle.seg_machine.specs.MachineFaults.{IsChecked}
@@ -14,15 +13,16 @@ use Rattle.seg_rules.specs.declared.certificate.Before.{Before as GivenBefore}
 use Rattle.seg_rules.specs.declared.certificate.Due.{Due as GivenDue}
 use Rattle.seg_rules.specs.declared.certificate.Certificate.{Certificate}
 use Rattle.seg_rules.specs.declared.certificate.Configuration.{Configuration}
-use Rattle.seg_rules.specs.RowRules.{RowRules, Before, Due, DueOf, due_after, moves_on, owed, read, read_all}
+use Rattle.seg_rules.specs.RowRules.{RowRules, DueOf, due_after, moves_on, owed, read, read_all}
 use Rattle.seg_rules.specs.Check.{Plan, Tables, among, get, no_before, no_due, same_configuration}
-use Rattle.seg_rules.specs.Given.{before_of, due_by, tables_of, verdict_reads}
+use Rattle.seg_rules.specs.Given.{before_of, due_by, tables_of}
 use Rattle.seg_rules.specs.Certified.{ReadHolds, TablesHold, before_at, due_at}
-use Rattle.seg_rules.specs.Planned.{Begins, ConfigurationHolds, accept_by, begins_in, next_number, plan_of, read_at, relation_of}
+use Rattle.seg_rules.specs.Passed.{IsPassed}
+use Rattle.seg_rules.specs.Planned.{ConfigurationHolds, accept_by, next_number, plan_of, read_at, relation_of}
 use Rattle.seg_rules.specs.Places.{IsPlan, stands_for}
 use Rattle.seg_rules.specs.Plain.{plain_places}
 use Rattle.seg_rules.proofs.Claims.{get-mapped, get-mapped-past}
-use Rattle.seg_rules.proofs.Numbers.{get-is, get-past, number_of, read-verdict, read-due, reads_of, reads-beyond}
+use Rattle.seg_rules.proofs.Numbers.{get-is, get-past, number_of, read-verdict, read-due, reads-beyond}
 use Rattle.seg_rules.proofs.Planned.{next-is, step-some}
 use Rattle.seg_rules.proofs.Soundness.{bool-cases, same-config}
 use Rattle.seg_rules.proofs.TableLemmas.{TablesAre, due_of, row-within}
@@ -30,7 +30,7 @@ use Rattle.seg_rules.proofs.Scans.{BeginsRight, Checked, Passed, boundary-scan}
 use Rattle.seg_rules.proofs.Law.{planned-law}
 
 below-or-not : (i n : ℕ) → (i < n) ⊎ (n ≤ i)
-below-or-not i n = elim (bool-cases (nat_lt i n)) [ | inl less ↦ inl (ltb-true i n less) | inr not_less ↦ inr (ltb-false i n not_less) ]
+below-or-not i n = elim (bool-cases (nat_lt i n)) [ inl less ↦ inl (ltb-true i n less) | inr not_less ↦ inr (ltb-false i n not_less) ]
 
 -- ---- the plan of a machine
 
@@ -183,17 +183,6 @@ among-all P c (d ∷ group) all h = elim (or_cases (same_configuration c d) (amo
 among-none : (c : Configuration) → among c [] ≡ false
 unfolding among
 among-none c = refl
-
--- the check as code, passed
-pub record IsPassed (rules : RowRules) (n : ℕ) (certificate : Certificate) (m : Machine) : Type 0 where
-  pub some : 2 ≤ length m.states
-  pub count : symbol_count m ≡ suc n
-  pub fit : All (λ state. stands_for state (accept_by state) ≡ true) m.states
-  pub tables : TablesHold rules n certificate
-  pub start : begins_in (relation_of certificate) 0 1 ≡ true
-  pub begins : (i : ℕ) → i < length certificate.befores.now → Begins certificate i
-  pub groups : (q : ℕ) → q < length certificate.relation.now
-      → All (ConfigurationHolds rules n (tables_of rules n certificate) (plan_of m n) (relation_of certificate) q) (get [] (relation_of certificate) q)
 
 module _ (rules : RowRules) (n : ℕ) (certificate : Certificate) (m : Machine) (passed : IsPassed rules n certificate m) where
   abbrev tables : Tables

@@ -1,6 +1,6 @@
 -- What the rules and the certificates of the code stand for.
-use Rattle.std.specs.Prelude.{ℕ, zero, suc, ◌+◌, ◌/◌, ◌%◌, Bool, true, false, ◌==◌, List, [], ◌∷◌, ◌++◌, length, map, replicate}
-use Rattle.seg_rules.specs.declared.rules.Count.TheVariants.{One, Optional, Star, Pairs}
+use Rattle.std.specs.Prelude.{ℕ, suc, ◌/◌, ◌%◌, Bool, true, false, ◌==◌, List, [], ◌∷◌, map, replicate}
+use Rattle.seg_rules.specs.declared.rules.Count.TheVariants.{Pairs}
 use Rattle.seg_rules.specs.declared.rules.Row.{Row as GivenRow}
 use Rattle.seg_rules.specs.declared.rules.Rules.{Rules}
 use Rattle.seg_rules.specs.declared.certificate.Before.{Before as GivenBefore}
@@ -9,7 +9,6 @@ use Rattle.seg_rules.specs.declared.certificate.Entry.TheVariants.{Marks as Give
 use Rattle.seg_rules.specs.declared.certificate.Due.{Due as GivenDue}
 use Rattle.seg_rules.specs.declared.certificate.Certificate.{Certificate}
 use Rattle.seg_rules.specs.RowRules.{Pattern, Row, RowRules, Before, Entry, Marks, Owed, Due, DueOf}
-use Rattle.seg_rules.specs.declared.certificate.Configuration.{Configuration}
 use Rattle.seg_rules.specs.Check.{Tables, get}
 
 abbrev pub row_of : GivenRow → Row

@@ -8,3 +8,4 @@ pub mod Given
 pub mod Claims
 pub mod Certified
 pub mod Planned
+pub mod Passed

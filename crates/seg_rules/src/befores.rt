@@ -9,7 +9,12 @@ use crate::rules::{Class, Count, Row, Rules, is_in};
 
 // Whether a symbol leads from what stands before a place to this.
 #[tactic(auto, unfolding(crate::specs::RowRules::moves_on))]
-pub(crate) fn before_moves(rules: &Rules<'_>, from: &Before<'_>, symbol: u8, to: &Before<'_>) -> bool
+pub(crate) fn before_moves(
+    rules: &Rules<'_>,
+    from: &Before<'_>,
+    symbol: u8,
+    to: &Before<'_>,
+) -> bool
     ensures { IsTrue result → moves_on (rules_of rules.now) (before_of (rules_of rules.now) from.now) symbol ≡ before_of (rules_of rules.now) to.now }
 {
     moved(rules.above, from.above, symbol, to.above)

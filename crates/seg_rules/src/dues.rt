@@ -6,9 +6,9 @@ ghost use Rattle.seg_rules.specs.declared.certificate.Entry.TheVariants.{Above, 
 ghost use Rattle.seg_rules.specs.Given.{before_of, entry_of, flags_by, lives_by, owed_of, row_of, rules_of};
 ghost use Rattle.seg_rules.specs.Claims.{HasVerdict, IsPart, IsReading, reading_by, reading_of, row_at, rows_at};
 
+use crate::befores::unmarked;
 use crate::certificate::{Before, Entry};
 use crate::flow::{flow_within, is_full, is_live};
-use crate::befores::unmarked;
 use crate::rules::{Row, Rules, is_in};
 
 /// How many of the last entries of a claim are owed, and the verdict where none of them comes to fit.
@@ -88,7 +88,13 @@ fn owe_row(row: &Row<'_>, live: u32, number: Number, part: Part, claim: &[Entry]
 const MAX_ROWS: usize = 255;
 
 // What rows owe before what is owed besides, where so much of their left patterns is live.
-fn owe_rows(rows: &[Row<'_>], lives: &[u32], below: bool, part: Part, claim: &[Entry]) -> Option<Part>
+fn owe_rows(
+    rows: &[Row<'_>],
+    lives: &[u32],
+    below: bool,
+    part: Part,
+    claim: &[Entry],
+) -> Option<Part>
     ensures { (rules : RowRules) (due : OwedDue) → map row_of rows.now ≡ rows_at rules below → IsPart rules claim.now (Some part) due
         → IsPart rules claim.now result (owed_rows below (map row_of rows.now) (lives_by (map row_of rows.now) lives.now) due) }
 {
@@ -181,7 +187,13 @@ fn read_above(rules: &Rules<'_>, row: u8, live: u32, read: Read) -> Option<Readi
         return None;
     }
     let number = Number { below: false, row };
-    read_right(&rules.above[row as usize], number, live, read.symbol, read.symbol == 0)
+    read_right(
+        &rules.above[row as usize],
+        number,
+        live,
+        read.symbol,
+        read.symbol == 0,
+    )
 }
 
 // Whether a mark is read that is glued.
@@ -202,7 +214,13 @@ fn read_below(rules: &Rules<'_>, row: u8, live: u32, read: Read) -> Option<Readi
         return Some(Reading::Stays(Entry::Below(row, live), rules.below[row as usize].verdict));
     }
     let number = Number { below: true, row };
-    read_right(&rules.below[row as usize], number, live, unmarked(rules, read.symbol), read.symbol == 0)
+    read_right(
+        &rules.below[row as usize],
+        number,
+        live,
+        unmarked(rules, read.symbol),
+        read.symbol == 0,
+    )
 }
 
 // What becomes of an entry when this is read.
@@ -243,7 +261,13 @@ fn put_reading(reading: Reading, part: Part, claim: &[Entry]) -> Option<Part>
 }
 
 // What is owed after this is read, of entries and a verdict, as part of a claim.
-pub(crate) fn read_entries(rules: &Rules<'_>, entries: &[Entry], otherwise: u8, read: Read, claim: &[Entry]) -> Option<Part>
+pub(crate) fn read_entries(
+    rules: &Rules<'_>,
+    entries: &[Entry],
+    otherwise: u8,
+    read: Read,
+    claim: &[Entry],
+) -> Option<Part>
     ensures { IsPart (rules_of rules.now) claim.now result (read_all (rules_of rules.now) read.glues read.symbol (map (entry_of (rules_of rules.now)) entries.now) otherwise) }
 {
     let mut owed = Part {

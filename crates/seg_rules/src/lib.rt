@@ -1,11 +1,12 @@
 //! Rules of boundaries as data, and a check that a machine finds their places.
 #![tactic(auto)]
 
-pub mod certificate;
 mod befores;
+pub mod certificate;
+pub mod check;
 mod dues;
 mod flow;
 pub mod laws;
-pub mod rules;
 mod relation;
+pub mod rules;
 mod tables;

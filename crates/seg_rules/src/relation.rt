@@ -123,7 +123,13 @@ fn picks_named(c: Configuration, status: u8, kept: u8) -> bool
 
 #[tactic(auto, unfolding(crate::specs::Check::entered))]
 // Whether a state may be entered: what it accepts then is known, or is the first boundary.
-fn may_enter(relation: &[&[Configuration]], state: u8, entry: (Acceptance, Option<Lookahead>), kept: u8, c: Configuration) -> bool
+fn may_enter(
+    relation: &[&[Configuration]],
+    state: u8,
+    entry: (Acceptance, Option<Lookahead>),
+    kept: u8,
+    c: Configuration,
+) -> bool
     ensures { (rules : RowRules) (t : Tables) (plan : Plan) → IsTrue result
         → entered rules t plan (map (λ group. group.now) relation.now) state (accept_by entry) kept c ≡ true }
 {
@@ -144,7 +150,11 @@ fn may_enter(relation: &[&[Configuration]], state: u8, entry: (Acceptance, Optio
 fn kept(owed: Owed) -> u8
     ensures { result ≡ (if owed.older == 0 then owed.newest else owed.older) }
 {
-    if owed.older == 0 { owed.newest } else { owed.older }
+    if owed.older == 0 {
+        owed.newest
+    } else {
+        owed.older
+    }
 }
 
 // Whether this is the verdict of a boundary.
@@ -178,13 +188,13 @@ fn owes(befores: &[Before<'_>], before: u16) -> u8
 fn stepped(befores: &[Before<'_>], c: Configuration, before: u16, owed: Owed) -> Configuration
     ensures { let kept = if owed.older == 0 then owed.newest else owed.older in
         result ≡ record {
-            before = before;
-            doubt = owed.doubt;
-            older = kept;
-            newest = not (nat_lt kept 3 && not (kept == 0)) && not (get 0 (map (λ b. b.owes) befores.now) before == 0);
-            last = place_after owed.older owed.newest c.last;
-            status = c.status;
-            named = place_after owed.older owed.newest c.named;
+          before = before;
+          doubt = owed.doubt;
+          older = kept;
+          newest = not (nat_lt kept 3 && not (kept == 0)) && not (get 0 (map (λ b. b.owes) befores.now) before == 0);
+          last = place_after owed.older owed.newest c.last;
+          status = c.status;
+          named = place_after owed.older owed.newest c.named;
         } }
 {
     let kept = kept(owed);
@@ -223,7 +233,13 @@ fn is_followed(state: u8, owed: Owed) -> bool
 }
 
 // Whether a step from a configuration is right: where nothing is left to check, where the scan stops, and where it goes on.
-fn goes_on(scans: &Scans<'_>, c: Configuration, before: u16, next: Option<State>, owed: Owed) -> bool
+fn goes_on(
+    scans: &Scans<'_>,
+    c: Configuration,
+    before: u16,
+    next: Option<State>,
+    owed: Owed,
+) -> bool
     requires { IfSome next (λ state. (state < length (machine_of scans.now.machine).states) × (state < 255)) }
     ensures { (rules : RowRules) (n : ℕ) → IsTrue result
         → goes rules (tables_of rules n scans.now.certificate) (plan_of (machine_of scans.now.machine) n) (relation_of scans.now.certificate)
@@ -269,7 +285,13 @@ fn found_at_end(found: Found, status: u8, name: Option<Lookahead>) -> Found
 }
 
 // Whether the states that the end leads to, again and again, pick what is wanted.
-fn ends(machine: TailoredMachineBorrowed<'_>, fuel: u8, state: State, found: Found, wanted: Wanted) -> bool
+fn ends(
+    machine: TailoredMachineBorrowed<'_>,
+    fuel: u8,
+    state: State,
+    found: Found,
+    wanted: Wanted,
+) -> bool
     requires state { state < length (machine_of machine).states }
     requires symbol { 0 < symbol_count (machine_of machine) }
     ensures { (n : ℕ) → IsTrue result → ends_by (plan_of (machine_of machine.entry) n) fuel state found.last found.status found.named wanted.place wanted.status ≡ true }
@@ -284,7 +306,13 @@ fn ends(machine: TailoredMachineBorrowed<'_>, fuel: u8, state: State, found: Fou
     match acceptance {
         Acceptance::Continue => ends(machine, fuel - 1, next, found, wanted),
         Acceptance::Accept(status) => {
-            ends(machine, fuel - 1, next, found_at_end(found, status, name), wanted)
+            ends(
+                machine,
+                fuel - 1,
+                next,
+                found_at_end(found, status, name),
+                wanted,
+            )
         }
         Acceptance::Conditional(_, status) => {
             if found.named == 0 {
@@ -352,7 +380,13 @@ fn ends_well(scans: &Scans<'_>, at_end: u8, state: State, c: Configuration, owed
         status: c.status,
         named: end_place(owed.older, c.named),
     };
-    ends(scans.machine, 2, state, found, wanted_at_end(owed.older, at_end))
+    ends(
+        scans.machine,
+        2,
+        state,
+        found,
+        wanted_at_end(owed.older, at_end),
+    )
 }
 
 // The place that a scan has to pick at the end: the older one, if that is a boundary, or else the end.
@@ -526,7 +560,7 @@ fn group_holds(scans: &Scans<'_>, state: State, group: &[Configuration]) -> bool
 }
 
 // Whether the configurations of each state are right.
-fn groups_hold(scans: &Scans<'_>) -> bool
+pub(crate) fn groups_hold(scans: &Scans<'_>) -> bool
     requires symbol { scans.now.symbols + 1 ≡ symbol_count (machine_of scans.now.machine) }
     requires byte { scans.now.symbols < 256 }
     ensures { (rules : RowRules) → let n = scans.now.symbols in rules.at_end ≡ scans.now.at_end → IsTrue result
@@ -548,7 +582,7 @@ fn groups_hold(scans: &Scans<'_>) -> bool
 }
 
 // Whether a scan may begin, by the relation, where this stands before a place to which that is owed, or there is no boundary.
-fn may_begin(relation: &[&[Configuration]], before: u16, owes: u8) -> bool
+pub(crate) fn may_begin(relation: &[&[Configuration]], before: u16, owes: u8) -> bool
     ensures { IsTrue result → begins_in (map (λ group. group.now) relation.now) before owes ≡ true }
 {
     let start = Configuration {
@@ -564,7 +598,7 @@ fn may_begin(relation: &[&[Configuration]], before: u16, owes: u8) -> bool
 }
 
 // Whether a scan may begin wherever there may be a boundary.
-fn each_begins(certificate: &Certificate<'_>) -> bool
+pub(crate) fn each_begins(certificate: &Certificate<'_>) -> bool
     ensures { IsTrue result → (i : ℕ) → i < length certificate.now.befores.now → Begins certificate.now i }
 {
     let befores = certificate.befores;
@@ -593,7 +627,7 @@ fn fits(state: (Acceptance, Option<Lookahead>)) -> bool
 }
 
 // Whether it is so of each state.
-fn states_fit(states: &[(Acceptance, Option<Lookahead>)]) -> bool
+pub(crate) fn states_fit(states: &[(Acceptance, Option<Lookahead>)]) -> bool
     ensures { IsTrue result → All (λ state. stands_for state (accept_by state) ≡ true) states.now }
 {
     states.iter().all(|state| fits(*state))

@@ -47,7 +47,11 @@ fn is_owed(rules: &Rules<'_>, dues: &[Due<'_>], from: &Before<'_>) -> bool
     ensures { IsTrue result → owed (rules_of rules.now) (before_of (rules_of rules.now) from.now) ≡ due_at (rules_of rules.now) dues.now from.now.owes }
 {
     match claim_at(dues, from.owes) {
-        Some(claim) => is_whole(owe(rules, from, claim.entries), claim.entries, claim.otherwise),
+        Some(claim) => is_whole(
+            owe(rules, from, claim.entries),
+            claim.entries,
+            claim.otherwise,
+        ),
         None => false,
     }
 }
@@ -83,7 +87,12 @@ fn moves_hold(rules: &Rules<'_>, befores: &[Before<'_>], from: &Before<'_>) -> b
 }
 
 // Whether the tables say what may follow what stands before a place, and what is owed to it.
-fn before_holds(rules: &Rules<'_>, symbols: usize, certificate: &Certificate<'_>, from: &Before<'_>) -> bool
+fn before_holds(
+    rules: &Rules<'_>,
+    symbols: usize,
+    certificate: &Certificate<'_>,
+    from: &Before<'_>,
+) -> bool
     ensures { IsTrue result → BeforeHolds (rules_of rules.now) symbols certificate.now.befores.now certificate.now.dues.now from.now }
 {
     from.moves.len() == symbols
@@ -107,7 +116,13 @@ fn reads_hold(rules: &Rules<'_>, dues: &[Due<'_>], due: &Due<'_>) -> bool
 }
 
 // Whether these numbers stand for what is owed after a symbol, where a mark isn't glued and where it is.
-fn read_holds(rules: &Rules<'_>, dues: &[Due<'_>], due: &Due<'_>, symbol: u8, numbers: (u8, u8)) -> bool
+fn read_holds(
+    rules: &Rules<'_>,
+    dues: &[Due<'_>],
+    due: &Due<'_>,
+    symbol: u8,
+    numbers: (u8, u8),
+) -> bool
     ensures { IsTrue result → (due_after (rules_of rules.now) false symbol (due_by (rules_of rules.now) due.now) ≡ due_at (rules_of rules.now) dues.now numbers.0)
         × (due_after (rules_of rules.now) true symbol (due_by (rules_of rules.now) due.now) ≡ due_at (rules_of rules.now) dues.now numbers.1) }
 {
@@ -134,7 +149,10 @@ fn due_holds(rules: &Rules<'_>, symbols: usize, dues: &[Due<'_>], due: &Due<'_>)
 fn befores_hold(rules: &Rules<'_>, symbols: usize, certificate: &Certificate<'_>) -> bool
     ensures { IsTrue result → All (BeforeHolds (rules_of rules.now) symbols certificate.now.befores.now certificate.now.dues.now) certificate.now.befores.now }
 {
-    certificate.befores.iter().all(|from| before_holds(rules, symbols, certificate, from))
+    certificate
+        .befores
+        .iter()
+        .all(|from| before_holds(rules, symbols, certificate, from))
 }
 
 // Whether they say so of all that may be owed to one.

@@ -1,4 +1,4 @@
-use Rattle.std.proofs.Common.{arith, refl}
+use Rattle.std.proofs.Common.{arith}
 use Rattle.seg_rules.proofs.Moves.{moves-step, moves-none}
 use Rattle.seg_rules.proofs.befores.moved.Goals as goal
 

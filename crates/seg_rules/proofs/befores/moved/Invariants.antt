@@ -1,4 +1,4 @@
-use Rattle.std.proofs.Common.{length, drop, ◌≡◌}
+use Rattle.std.proofs.Common.{drop}
 use Rattle.seg_rules.proofs.Moves.{Moves}
 use Rattle.seg_rules.proofs.befores.moved.Given as goal
 

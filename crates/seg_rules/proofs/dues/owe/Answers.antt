@@ -1,4 +1,4 @@
-use Rattle.std.proofs.Common.{refl, [], ◌∷◌}
+use Rattle.std.proofs.Common.{refl, []}
 use Rattle.seg_rules.specs.RowRules.{DueOf, owed}
 use Rattle.seg_rules.specs.Given.{rules_of}
 use Rattle.seg_rules.proofs.Claims.{decided-last}

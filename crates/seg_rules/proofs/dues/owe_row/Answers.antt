@@ -1,6 +1,6 @@
-use Rattle.std.proofs.Common.{refl, sym, ap, ◌∙◌, subst}
+use Rattle.std.proofs.Common.{sym, ap, ◌∙◌, subst}
 use Rattle.seg_rules.specs.RowRules.{put, verdict_of_entry}
-use Rattle.seg_rules.specs.Given.{row_of, flags_by, owed_of, entry_of}
+use Rattle.seg_rules.specs.Given.{row_of, owed_of}
 use Rattle.seg_rules.specs.Claims.{IsLast, IsPart}
 use Rattle.seg_rules.proofs.Claims.{decided-last, owes-nothing, owes-verdict, owes-entry}
 use Rattle.seg_rules.proofs.dues.owe_row.Goals as goal

@@ -9,7 +9,7 @@ pub loop-i-init : goal.loop-i-init
 loop-i-init c = (
   omega arith,
   λ rules due is last.
-    subst (IsLast rules c.args.claim.now c.args.part) (sym (owed-none c.args.below c.args.rows.now c.args.lives.now due (length c.args.rows.now) refl)) last,
+      subst (IsLast rules c.args.claim.now c.args.part) (sym (owed-none c.args.below c.args.rows.now c.args.lives.now due (length c.args.rows.now) refl)) last,
 )
 
 pub loop-i-preserved : goal.loop-i-preserved
@@ -20,10 +20,10 @@ loop-i-preserved c =
     let in_lives : at < length c.args.lives.now = omega arith in (
       omega arith,
       λ rules due is last.
-        subst (IsLast rules c.args.claim.now c.in_ok-owed.owed) (sym (owed-step c.args.below c.args.rows.now c.args.lives.now due at _ in_rows in_lives))
-        (c.in_ok-owed.ensures rules _ (get-map c.args.rows.now at _ in_rows ∙ ap (λ rows. get no_row rows at) is)
-        (subst (λ n. IsLast rules c.args.claim.now c.loop-i.owed (owed_by c.args.below (drop n c.args.rows.now) (drop n c.args.lives.now) due)) next
-        (c.loop-i.invariant.1 rules due is last))),
+          subst (IsLast rules c.args.claim.now c.in_ok-owed.owed) (sym (owed-step c.args.below c.args.rows.now c.args.lives.now due at _ in_rows in_lives))
+          (c.in_ok-owed.ensures rules _ (get-map c.args.rows.now at _ in_rows ∙ ap (λ rows. get no_row rows at) is)
+          (subst (λ n. IsLast rules c.args.claim.now c.loop-i.owed (owed_by c.args.below (drop n c.args.rows.now) (drop n c.args.lives.now) due)) next
+          (c.loop-i.invariant.1 rules due is last))),
     )
 
 pub returns : goal.returns

@@ -1,7 +1,7 @@
 use Rattle.std.proofs.Common.{◌<◌, ◌==◌, get_or, length, map, true, false, arith, sym, ap, ◌∙◌, subst}
 use Rattle.std.proofs.lemmas.Bool.{and_parts}
 use Rattle.seg_rules.specs.Check.{get}
-use Rattle.seg_rules.specs.RowRules.{Row, Stays, flow, reading}
+use Rattle.seg_rules.specs.RowRules.{Row, flow, reading}
 use Rattle.seg_rules.specs.Given.{flags_by, no_row, owed_of, row_of, rules_of}
 use Rattle.seg_rules.specs.Claims.{IsReading, reading_by}
 use Rattle.seg_rules.proofs.Claims.{below-reading, stuck-reading, default_row, get-map}
@@ -25,5 +25,5 @@ returns c =
     (below-reading rules c.args.read.glues c.args.read.symbol (row_of (get_or c.args.rules.now.below.now c.args.row default_row)) c.args.live (sym c.is_glued.ensures ∙ c.if-is_glued.false)
     ∙ ap (λ row. reading rules c.args.read.glues c.args.read.symbol (owed_of true row c.args.live)) is)
     (subst (λ symbol. IsReading rules c.read_right.result
-        (reading_by true (row_of row) (flow false row.right.now (flags_by row.right.now c.args.live) symbol) (c.args.read.symbol == 0)))
+    (reading_by true (row_of row) (flow false row.right.now (flags_by row.right.now c.args.live) symbol) (c.args.read.symbol == 0)))
     c.unmarked.ensures (c.read_right.ensures rules is))

@@ -10,7 +10,7 @@ loop-i-init c =
     let rules = rules_of c.args.rules.now in (
       omega arith,
       subst (IsLast rules c.args.claim.now _) (sym (read-none rules c.args.read.glues c.args.read.symbol c.args.entries.now c.args.otherwise (length c.args.entries.now) refl))
-      (decided-last rules c.args.claim.now c.args.otherwise),
+          (decided-last rules c.args.claim.now c.args.otherwise),
     )
 
 pub loop-i-preserved : goal.loop-i-preserved
@@ -22,6 +22,6 @@ loop-i-preserved c =
     let before = subst (λ n. IsLast rules c.args.claim.now c.loop-i.owed (read_by rules c.args.read.glues c.args.read.symbol (drop n c.args.entries.now) c.args.otherwise)) next c.loop-i.invariant.1 in (
       omega arith,
       subst (IsLast rules c.args.claim.now c.in_ok-owed.owed) (sym (read-step rules c.args.read.glues c.args.read.symbol c.args.entries.now c.args.otherwise at _ within))
-      (subst (λ reading. IsLast rules c.args.claim.now c.in_ok-owed.owed (onto reading (read_by rules c.args.read.glues c.args.read.symbol (drop (at + 1) c.args.entries.now) c.args.otherwise)))
-      c.in_ok-reading.ensures.0 (c.in_ok-owed.ensures rules _ c.in_ok-reading.ensures.1 before)),
+          (subst (λ reading. IsLast rules c.args.claim.now c.in_ok-owed.owed (onto reading (read_by rules c.args.read.glues c.args.read.symbol (drop (at + 1) c.args.entries.now) c.args.otherwise)))
+          c.in_ok-reading.ensures.0 (c.in_ok-owed.ensures rules _ c.in_ok-reading.ensures.1 before)),
     )

@@ -1,4 +1,4 @@
-use Rattle.std.proofs.Common.{◌≡◌, ◌-◌, ◌==◌, true, arith, refl, sym, ap, ap₂, ◌∙◌, eq-eqb, None}
+use Rattle.std.proofs.Common.{◌-◌, ◌==◌, arith, sym, ap, ◌∙◌, eq-eqb}
 use Rattle.std.proofs.lemmas.Bool.{and_from, cond-true, cond-false}
 use Rattle.seg_machine.specs.Tailored.{machine_of}
 use Rattle.seg_rules.specs.Check.{ends}

@@ -1,4 +1,4 @@
-use Rattle.std.proofs.Common.{◌≡◌, suc, ◌<◌, false, arith, sym, ap, ◌∙◌}
+use Rattle.std.proofs.Common.{suc, ◌<◌, arith, sym, ap, ◌∙◌}
 use Rattle.seg_machine.specs.Tailored.{machine_of}
 use Rattle.seg_rules.specs.declared.relation.Owed.{Owed}
 use Rattle.seg_rules.specs.Check.{ends_well}

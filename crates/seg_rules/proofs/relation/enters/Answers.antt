@@ -1,5 +1,5 @@
-use Rattle.std.proofs.Common.{◌≡◌, ◌==◌, true, false, arith, sym, ap, ◌∙◌, None}
-use Rattle.std.proofs.lemmas.Bool.{and_parts, and_from}
+use Rattle.std.proofs.Common.{false, sym, ap, ◌∙◌, None}
+use Rattle.std.proofs.lemmas.Bool.{and_from}
 use Rattle.seg_machine.specs.declared.provider.Acceptance.TheVariants.{Continue}
 use Rattle.seg_machine.specs.Machine.{state_at}
 use Rattle.seg_machine.specs.Tailored.{machine_of}

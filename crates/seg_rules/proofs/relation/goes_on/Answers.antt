@@ -1,4 +1,4 @@
-use Rattle.std.proofs.Common.{◌≡◌, ◌<◌, length, IfSome, true, arith, sym, ap, ◌∙◌, subst}
+use Rattle.std.proofs.Common.{◌≡◌, ◌<◌, length, IfSome, true, arith, sym, ◌∙◌, subst}
 use Rattle.std.proofs.lemmas.Bool.{cond-false}
 use Rattle.seg_machine.specs.Tailored.{machine_of}
 use Rattle.seg_rules.specs.Check.{goes_on}

@@ -1,4 +1,4 @@
-use Rattle.std.proofs.Common.{◌≡◌, ◌<◌, ◌≤◌, length, get_or, arith, subst, below_more}
+use Rattle.std.proofs.Common.{◌≤◌, length, get_or, arith, subst, below_more}
 use Rattle.std.proofs.lemmas.List.{get_or_default}
 use Rattle.seg_machine.specs.Tailored.{machine_of}
 use Rattle.seg_rules.specs.Given.{tables_of}

@@ -1,4 +1,4 @@
-use Rattle.std.proofs.Common.{◌<◌, ◌≤◌, All, List, [], length, arith, subst, below_more}
+use Rattle.std.proofs.Common.{◌≤◌, All, List, [], length, arith, subst, below_more}
 use denote.Bor.{Bor}
 use Rattle.seg_machine.specs.Tailored.{machine_of}
 use Rattle.seg_rules.specs.declared.certificate.Configuration.{Configuration}

@@ -1,4 +1,4 @@
-use Rattle.std.proofs.Common.{◌<◌, ◌-◌, length, arith, ◌∙◌}
+use Rattle.std.proofs.Common.{◌∙◌}
 use Rattle.seg_rules.proofs.Numbers.{read-verdict, read-none, read-due}
 use Rattle.seg_rules.proofs.relation.read_number.Goals as goal
 

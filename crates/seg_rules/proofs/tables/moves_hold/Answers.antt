@@ -1,8 +1,7 @@
-use Rattle.std.proofs.Common.{◌≡◌, ◌+◌, ◌<◌, ℕ, suc, length, get_or, arith, sym, ap, ◌∙◌, below_more}
+use Rattle.std.proofs.Common.{◌≡◌, ◌+◌, ◌<◌, suc, length, get_or, arith, ap, ◌∙◌, below_more}
 use Rattle.seg_rules.specs.RowRules.{moves_on}
 use Rattle.seg_rules.specs.Check.{no_before}
 use Rattle.seg_rules.specs.Given.{before_of, rules_of}
-use Rattle.seg_rules.specs.Certified.{MoveHolds}
 use Rattle.seg_rules.proofs.Claims.{get-mapped}
 use Rattle.seg_rules.proofs.tables.moves_hold.Goals as goal
 
