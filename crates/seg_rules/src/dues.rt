@@ -48,6 +48,17 @@ fn put(entry: Entry, verdict: u8, part: Part, claim: &[Entry]) -> Option<Part>
     })
 }
 
+// The same, before entries of which nothing may be known.
+fn put_if(entry: Entry, verdict: u8, part: Option<Part>, claim: &[Entry]) -> Option<Part>
+    ensures { (rules : RowRules) (due : OwedDue) → verdict ≡ verdict_of_entry (entry_of rules entry) → IsPart rules claim.now part due
+        → IsPart rules claim.now result (put_onto (entry_of rules entry) due) }
+{
+    match part {
+        Some(part) => put(entry, verdict, part, claim),
+        None => None,
+    }
+}
+
 /// A row: whether it is below that of marks, and its number.
 #[derive(Clone, Copy, Debug)]
 struct Number {
@@ -67,12 +78,18 @@ fn entry(number: Number, live: u32) -> Entry
 }
 
 // What a row owes before what is owed besides, where so much of its left pattern is live.
-fn owe_row(row: &Row<'_>, live: u32, number: Number, part: Part, claim: &[Entry]) -> Option<Part>
-    ensures { (rules : RowRules) (due : OwedDue) → row_of row.now ≡ row_at rules number → IsPart rules claim.now (Some part) due
+fn owe_row(
+    row: &Row<'_>,
+    live: u32,
+    number: Number,
+    part: Option<Part>,
+    claim: &[Entry],
+) -> Option<Part>
+    ensures { (rules : RowRules) (due : OwedDue) → row_of row.now ≡ row_at rules number → IsPart rules claim.now part due
         → IsPart rules claim.now result (onto (begun number.below (row_of row.now) (has_whole (flags_by row.now.left.now live))) due) }
 {
     if !is_full(row.left, live) {
-        return Some(part);
+        return part;
     }
     let start = flow_within(true, row.right, 0, 0)?;
     if is_full(row.right, start) {
@@ -81,7 +98,7 @@ fn owe_row(row: &Row<'_>, live: u32, number: Number, part: Part, claim: &[Entry]
             otherwise: row.verdict,
         });
     }
-    put(entry(number, start), row.verdict, part, claim)
+    put_if(entry(number, start), row.verdict, part, claim)
 }
 
 // Rows have numbers of eight bits.
@@ -92,10 +109,10 @@ fn owe_rows(
     rows: &[Row<'_>],
     lives: &[u32],
     below: bool,
-    part: Part,
+    part: Option<Part>,
     claim: &[Entry],
 ) -> Option<Part>
-    ensures { (rules : RowRules) (due : OwedDue) → map row_of rows.now ≡ rows_at rules below → IsPart rules claim.now (Some part) due
+    ensures { (rules : RowRules) (due : OwedDue) → map row_of rows.now ≡ rows_at rules below → IsPart rules claim.now part due
         → IsPart rules claim.now result (owed_rows below (map row_of rows.now) (lives_by (map row_of rows.now) lives.now) due) }
 {
     if rows.len() > MAX_ROWS || lives.len() != rows.len() {
@@ -109,20 +126,20 @@ fn owe_rows(
             below,
             row: i as u8,
         };
-        owed = owe_row(&rows[i], lives[i], number, owed, claim)?;
+        owed = owe_row(&rows[i], lives[i], number, owed, claim);
     }
-    Some(owed)
+    owed
 }
 
 // What marks owe, if there are some.
-fn owe_marks(has_marks: bool, part: Part, claim: &[Entry]) -> Option<Part>
-    ensures { (rules : RowRules) (due : OwedDue) → IsPart rules claim.now (Some part) due
+fn owe_marks(has_marks: bool, part: Option<Part>, claim: &[Entry]) -> Option<Part>
+    ensures { (rules : RowRules) (due : OwedDue) → IsPart rules claim.now part due
         → IsPart rules claim.now result (if has_marks then put_onto Marks due else due) }
 {
     if has_marks {
-        put(Entry::Marks, 0, part, claim)
+        put_if(Entry::Marks, 0, part, claim)
     } else {
-        Some(part)
+        part
     }
 }
 
@@ -134,8 +151,8 @@ pub(crate) fn owe(rules: &Rules<'_>, from: &Before<'_>, claim: &[Entry]) -> Opti
         matched: 0,
         otherwise: 0,
     };
-    let lower = owe_rows(rules.below, from.below, true, none, claim)?;
-    let marked = owe_marks(rules.has_marks, lower, claim)?;
+    let lower = owe_rows(rules.below, from.below, true, Some(none), claim);
+    let marked = owe_marks(rules.has_marks, lower, claim);
     owe_rows(rules.above, from.above, false, marked, claim)
 }
 
@@ -246,8 +263,8 @@ fn read_marks(is_glued: bool) -> Reading
 }
 
 // What is owed of an entry and of those after it.
-fn put_reading(reading: Reading, part: Part, claim: &[Entry]) -> Option<Part>
-    ensures { (rules : RowRules) (due : OwedDue) → HasVerdict rules reading → IsPart rules claim.now (Some part) due
+fn put_reading(reading: Reading, part: Option<Part>, claim: &[Entry]) -> Option<Part>
+    ensures { (rules : RowRules) (due : OwedDue) → HasVerdict rules reading → IsPart rules claim.now part due
         → IsPart rules claim.now result (onto (reading_of rules reading) due) }
 {
     match reading {
@@ -255,8 +272,8 @@ fn put_reading(reading: Reading, part: Part, claim: &[Entry]) -> Option<Part>
             matched: 0,
             otherwise: verdict,
         }),
-        Reading::Stays(entry, verdict) => put(entry, verdict, part, claim),
-        Reading::Drops => Some(part),
+        Reading::Stays(entry, verdict) => put_if(entry, verdict, part, claim),
+        Reading::Drops => part,
     }
 }
 
@@ -270,15 +287,15 @@ pub(crate) fn read_entries(
 ) -> Option<Part>
     ensures { IsPart (rules_of rules.now) claim.now result (read_all (rules_of rules.now) read.glues read.symbol (map (entry_of (rules_of rules.now)) entries.now) otherwise) }
 {
-    let mut owed = Part {
+    let mut owed = Some(Part {
         matched: 0,
         otherwise,
-    };
+    });
     let mut i = entries.len();
     while i > 0 {
         i -= 1;
         let reading = read_entry(rules, entries[i], read)?;
-        owed = put_reading(reading, owed, claim)?;
+        owed = put_reading(reading, owed, claim);
     }
-    Some(owed)
+    owed
 }

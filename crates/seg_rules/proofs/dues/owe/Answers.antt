@@ -8,4 +8,4 @@ pub returns : goal.returns
 unfolding owed
 returns c =
     let rules = rules_of c.args.rules.now in
-    c.owe_rows-2.ensures rules _ refl (c.in_ok-marked.ensures rules _ (c.in_ok-lower.ensures rules (DueOf [] 0) refl (decided-last rules c.args.claim.now 0)))
+    c.owe_rows.ensures rules _ refl (c.owe_marks-marked.ensures rules _ (c.owe_rows-lower.ensures rules (DueOf [] 0) refl (decided-last rules c.args.claim.now 0)))

@@ -12,10 +12,10 @@ returns-in-Decides c = λ rules due has last.
 pub returns-in-Stays : goal.returns-in-Stays
 unfolding onto
 returns-in-Stays c = λ rules due has last.
-    subst (λ reading. IsPart rules c.args.claim.now c.put.result (onto (reading_of rules reading) due)) (sym c.in-Stays.is)
-    (c.put.ensures rules due (subst (HasVerdict rules) c.in-Stays.is has) last)
+    subst (λ reading. IsPart rules c.args.claim.now c.put_if.result (onto (reading_of rules reading) due)) (sym c.in-Stays.is)
+    (c.put_if.ensures rules due (subst (HasVerdict rules) c.in-Stays.is has) last)
 
 pub returns-in-Drops : goal.returns-in-Drops
 unfolding onto
 returns-in-Drops c = λ rules due has last.
-    subst (λ reading. IsLast rules c.args.claim.now c.args.part (onto (reading_of rules reading) due)) (sym c.in-Drops.is) last
+    subst (λ reading. IsPart rules c.args.claim.now c.args.part (onto (reading_of rules reading) due)) (sym c.in-Drops.is) last
