@@ -6,7 +6,7 @@ ghost use Rattle.seg_rules.specs.RowRules.{RowRules};
 ghost use Rattle.seg_rules.specs.Check.{Plan, Tables, among, end_place as place_at_end, ends as ends_by, ends_well as ends_rightly, entered, get, goes_on as goes, moved_place as place_after, same_configuration};
 ghost use Rattle.seg_rules.specs.Given.{tables_of};
 ghost use Rattle.seg_rules.specs.Places.{stands_for};
-ghost use Rattle.seg_rules.specs.Planned.{Begins, ConfigurationHolds, accept_by, begins_in, ends_at, enters_plain, glues_at, goes_at, is_named, newest_at, next_number, plan_of, read_at, relation_of, stops_plain};
+ghost use Rattle.seg_rules.specs.Planned.{Begins, ConfigurationHolds, accept_by, begins_in, ends_at, enters_plain, glues_at, goes_at, is_named, is_verdict, kept_of, newest_at, next_number, plan_of, read_at, relation_of, stops_plain};
 
 use crate::certificate::{Before, Certificate, Configuration};
 use seg_machine::provider::{Acceptance, Lookahead, State};
@@ -148,7 +148,7 @@ fn may_enter(
 
 // What is owed to the older place that is kept: the newest one, if there is no older.
 fn kept(owed: Owed) -> u8
-    ensures { result ≡ (if owed.older == 0 then owed.newest else owed.older) }
+    ensures { result ≡ kept_of owed.older owed.newest }
 {
     if owed.older == 0 {
         owed.newest
@@ -159,15 +159,14 @@ fn kept(owed: Owed) -> u8
 
 // Whether this is the verdict of a boundary.
 fn is_sure(kept: u8) -> bool
-    ensures { result ≡ (nat_lt kept 3 && not (kept == 0)) }
+    ensures { result ≡ is_verdict kept }
 {
     kept < VERDICTS && kept != 0
 }
 
 // Whether a scan that stops has accepted the first boundary last.
 fn stops(c: Configuration, owed: Owed) -> bool
-    ensures { result ≡ ((nat_lt (if owed.older == 0 then owed.newest else owed.older) 3 && not ((if owed.older == 0 then owed.newest else owed.older) == 0))
-        && (place_after owed.older owed.newest c.last == 3 && (if owed.older == 0 then owed.newest else owed.older) == suc c.status)) }
+    ensures { result ≡ stops_plain c owed.older owed.newest }
 {
     is_sure(kept(owed))
         && moved_place(owed.older, owed.newest, c.last) == 3
@@ -186,12 +185,12 @@ fn owes(befores: &[Before<'_>], before: u16) -> u8
 
 // What may be true after a symbol that isn't the end, where a scan goes on.
 fn stepped(befores: &[Before<'_>], c: Configuration, before: u16, owed: Owed) -> Configuration
-    ensures { let kept = if owed.older == 0 then owed.newest else owed.older in
+    ensures { let kept = kept_of owed.older owed.newest in
         result ≡ record {
           before = before;
           doubt = owed.doubt;
           older = kept;
-          newest = not (nat_lt kept 3 && not (kept == 0)) && not (get 0 (map (λ b. b.owes) befores.now) before == 0);
+          newest = not (is_verdict kept) && not (get 0 (map (λ b. b.owes) befores.now) before == 0);
           last = place_after owed.older owed.newest c.last;
           status = c.status;
           named = place_after owed.older owed.newest c.named;
