@@ -133,13 +133,6 @@ owed-step below rows lives due i d in_rows in_lives =
     ∙ ap (λ lives. owed_by below (get_or rows i d ∷ drop (i + 1) rows) lives due) (drop_more lives i 0 in_lives)
     ∙ owed-one below (get_or rows i d) (drop (i + 1) rows) (get_or lives i 0) (drop (i + 1) lives) due
 
--- a part that is the whole claim
-pub whole-is : (rules : RowRules) (claim : List GivenEntry) (part : Part) (due : Due) (otherwise : ℕ) → IsLast rules claim part due
-    → part.matched ≡ length claim → part.otherwise ≡ otherwise → due ≡ DueOf (map (entry_of rules) claim) otherwise
-whole-is rules claim part due otherwise last all same =
-    let none : length claim - part.matched ≡ 0 = omega (arith, all) in
-    last.is ∙ (λ i. DueOf (map (entry_of rules) (drop (none i) claim)) (same i))
-
 -- what becomes of an entry above that of marks, of one below it that a glued mark leaves, and of another one below
 pub above-reading : (rules : RowRules) (glues : Bool) (x : ℕ) (row : Row) (live : ℕ)
     → reading rules glues x (owed_of false row live) ≡ reading_by false row (flow false row.right (flags_by row.right live) x) (x == 0)

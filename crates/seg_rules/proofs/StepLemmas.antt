@@ -103,58 +103,6 @@ module _ (rules : RowRules) (t : Tables) (plan : Plan) (relation : List (List Co
   each-at c glues (b ∷ bs) (q ∷ qs) (d ∷ ds) [] ws j h below = let no : false ≡ true = h in cc
   each-at c glues (b ∷ bs) (q ∷ qs) (d ∷ ds) (o ∷ os) [] j h below = let no : false ≡ true = h in cc
 
-  one-is-not-three : (n : ℕ) → n ≡ 1 → n ≡ 3 → ⊥
-  one-is-not-three n one three = omega (arith, one, three)
-
-  -- where the older place is after a symbol, that a place is then
-  pub moved-old : {A : Type 0} (o w place p k : ℕ) (found : A) (at : ℕ → A) → (place ≡ 2 → found ≡ at k) → (place ≡ 3 → found ≡ at p)
-      → moved_place o w place ≡ 3 → found ≡ at (if o == 0 then k else p)
-  moved-old o w place p k found at new old h =
-      elim (bool-cases (place == 3)) [
-        | inl three ↦
-            let here = sym (cond-true _ _ _ three) ∙ h in
-            elim (bool-cases (o == 0)) [
-              | inl none ↦ let is = sym (cond-true _ _ _ none) ∙ here in absurd (one-is-not-three 1 refl is)
-              | inr some ↦ old (eqb-true place 3 three) ∙ ap at (sym (cond-false _ _ _ some))
-            ]
-        | inr other ↦
-            let here = sym (cond-false _ _ _ other) ∙ h in
-            elim (bool-cases (place == 2)) [
-              | inl two ↦
-                  let there = sym (cond-true _ _ _ two) ∙ here in
-                  elim (bool-cases (o == 0 && not (w == 0))) [
-                    | inl none ↦ new (eqb-true place 2 two) ∙ ap at (sym (cond-true (o == 0) k p (and_parts (o == 0) (not (w == 0)) none).0))
-                    | inr some ↦ let is = sym (cond-false _ _ _ some) ∙ there in absurd (one-is-not-three 1 refl is)
-                  ]
-              | inr neither ↦
-                  let is : place ≡ 3 = sym (cond-false _ _ _ neither) ∙ here in
-                  let no : true ≡ false = sym (ap (λ n. n == 3) is) ∙ other in
-                  let no2 : false ≡ true = sym no in cc
-            ]
-      ]
-
-  pub moved-none : (o w place : ℕ) → moved_place o w place ≡ 0 → place ≡ 0
-  moved-none o w place h =
-      elim (bool-cases (place == 3)) [
-        | inl three ↦
-            let here = sym (cond-true _ _ _ three) ∙ h in
-            elim (bool-cases (o == 0)) [
-              | inl none ↦ let no : 1 ≡ 0 = sym (cond-true _ _ _ none) ∙ here in absurd (omega (arith, no))
-              | inr some ↦ let no : 3 ≡ 0 = sym (cond-false _ _ _ some) ∙ here in absurd (omega (arith, no))
-            ]
-        | inr other ↦
-            let here = sym (cond-false _ _ _ other) ∙ h in
-            elim (bool-cases (place == 2)) [
-              | inl two ↦
-                  let there = sym (cond-true _ _ _ two) ∙ here in
-                  elim (bool-cases (o == 0 && not (w == 0))) [
-                    | inl none ↦ let no : 3 ≡ 0 = sym (cond-true _ _ _ none) ∙ there in absurd (omega (arith, no))
-                    | inr some ↦ let no : 1 ≡ 0 = sym (cond-false _ _ _ some) ∙ there in absurd (omega (arith, no))
-                  ]
-              | inr neither ↦ sym (cond-false _ _ _ neither) ∙ here
-            ]
-      ]
-
   -- what is in the relation, or picked, once a state is entered
   pub data Entering (q kind status : ℕ) (names : Bool) (kept : ℕ) (c : Configuration) : Type 0 where
     Passes : (kind == 1) ≡ false → (kind ≡ 0) ⊎ (c.named ≡ 0) → known rules t plan relation q c ≡ true → Entering q kind status names kept c

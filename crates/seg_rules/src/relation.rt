@@ -1,6 +1,6 @@
 //! Whether the scans of a machine find the places of the rules, by the relation of a certificate.
-ghost use Rattle.std.specs.Prelude.{◌≡◌, ◌<◌, ◌≤◌, ◌&&◌, ◌||◌, ◌+◌, ◌-◌, List, if◌then◌else◌, ℕ, suc, true, false, not, ◌==◌, nat_lt, All, IfSome, IsTrue, [], length, map};
-ghost use Rattle.seg_machine.specs.Machine.{Machine, symbol_count};
+ghost use Rattle.std.specs.Prelude.{◌≡◌, ◌<◌, ◌&&◌, ◌||◌, ◌+◌, ◌-◌, List, if◌then◌else◌, ℕ, suc, true, false, not, ◌==◌, nat_lt, All, IfSome, IsTrue, [], length, map};
+ghost use Rattle.seg_machine.specs.Machine.{symbol_count};
 ghost use Rattle.seg_machine.specs.Tailored.{machine_of};
 ghost use Rattle.seg_rules.specs.RowRules.{RowRules};
 ghost use Rattle.seg_rules.specs.Check.{Plan, Tables, among, end_place as place_at_end, ends as ends_by, ends_well as ends_rightly, entered, get, goes_on as goes, moved_place as place_after, same_configuration};

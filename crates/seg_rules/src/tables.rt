@@ -1,5 +1,5 @@
 //! Whether the tables of a certificate are those of the rules.
-ghost use Rattle.std.specs.Prelude.{◌≡◌, ◌<◌, ℕ, suc, true, false, IsTrue, IfSome, All, length, map};
+ghost use Rattle.std.specs.Prelude.{◌≡◌, ◌<◌, ℕ, true, false, IsTrue, IfSome, All, length, map};
 ghost use Rattle.seg_rules.specs.RowRules.{DueOf, RowRules, at_start, due_after, owed};
 ghost use Rattle.seg_rules.specs.Given.{before_of, due_by, entry_of, rules_of};
 ghost use Rattle.seg_rules.specs.Certified.{BeforeHolds, DueHolds, MoveHolds, ReadHolds, TablesHold, before_at, due_at};
