@@ -1,6 +1,6 @@
 pub mod Transitions
 pub mod Picks
-pub mod Plain
+pub mod ReadAhead
 pub mod Walks
 pub mod Bare
 pub mod Sets

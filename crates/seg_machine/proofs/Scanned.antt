@@ -1,6 +1,5 @@
 -- The scan of a text, step by step.
-use Rattle.std.proofs.Common.{◌≡◌, ◌≢◌, ℕ, zero, suc, ◌<◌, ◌≤◌, ◌==◌, Bool, true, false, Option, Some, None, List, [], ◌∷◌, ◌++◌, length, replicate, min, IsSome, refl, sym, ◌∙◌, ap, arith, eq-eqb, ◌+◌, append_assoc, append-nil, length-append, inl, inr, subst}
-use Rattle.std.specs.Prelude.{is_some, IsNone}
+use Rattle.std.proofs.Common.{◌≡◌, ◌≢◌, ℕ, zero, suc, ◌<◌, ◌≤◌, ◌==◌, Option, Some, None, List, [], ◌∷◌, ◌++◌, length, replicate, min, IsSome, refl, sym, ◌∙◌, ap, arith, eq-eqb, ◌+◌, append_assoc, append-nil, length-append, inl, inr, subst}
 use Rattle.std.specs.Option.{option_map, option_map_or, option_or}
 use Rattle.seg_text.specs.declared.boundary.Boundary.{Boundary}
 use Rattle.seg_text.specs.Boundaries.{boundary, boundary_in}
@@ -200,7 +199,7 @@ pub within : (m : Machine) (state : ℕ) (kept : List (Option ℕ)) → IsChecke
 within m state kept checked size past = checked.lookaheads state (past-fewer m.num_lookaheads (length kept) _ size past)
 
 -- a turn of the loop that goes on
-scanned-step : (m : Machine) (text : Text) (state : ℕ) (left : Text) (kept : List (Option ℕ)) (last : Option Boundary)
+pub scanned-step : (m : Machine) (text : Text) (state : ℕ) (left : Text) (kept : List (Option ℕ)) (last : Option Boundary)
     (symbol : ℕ) (rest : Text) (next place : ℕ)
     → IsChecked m → Scanned m text state left kept last → BeginsBy m state left symbol rest → step m state symbol ≡ Some next
     → next < length m.states → rest ≡ rest_after 1 left → place ≡ start_of rest → None ≡ condition_end kept (state_at m next)
@@ -229,7 +228,7 @@ scanned-step m text state left kept last symbol rest next place checked s begins
     }
 
 -- no step more: the pick is the last acceptance
-scanned-stop : (m : Machine) (text : Text) (state : ℕ) (left : Text) (kept : List (Option ℕ)) (last : Option Boundary)
+pub scanned-stop : (m : Machine) (text : Text) (state : ℕ) (left : Text) (kept : List (Option ℕ)) (last : Option Boundary)
     (symbol : ℕ) (rest : Text)
     → Scanned m text state left kept last → BeginsBy m state left symbol rest → step m state symbol ≡ None
     → last ≡ option_map (boundary_in text) (pick m (symbols_of m (code_points text.items)))
@@ -244,7 +243,7 @@ scanned-stop m text state left kept last symbol rest s begins stops =
     ∙ ap (λ (xs : List ℕ). last_step acceptance_status (entries m xs)) all))
 
 -- a condition holds: it is the first, and the pick
-scanned-held : (m : Machine) (text : Text) (state : ℕ) (left : Text) (kept : List (Option ℕ)) (last : Option Boundary)
+pub scanned-held : (m : Machine) (text : Text) (state : ℕ) (left : Text) (kept : List (Option ℕ)) (last : Option Boundary)
     (symbol : ℕ) (rest : Text) (next : ℕ) (found : Boundary)
     → IsChecked m → Scanned m text state left kept last → BeginsBy m state left symbol rest → step m state symbol ≡ Some next
     → Some found ≡ condition_end kept (state_at m next)
@@ -258,48 +257,6 @@ scanned-held m text state left kept last symbol rest next found checked s begins
     ∙ first_condition-some (entries m s.entered) (entries m (future m next rest)) (state_at m next) picked.0 picked.1 in
     ap Some picked.2
     ∙ sym (pick-placed m text (Some picked.0) (ap (λ (f : Option Boundary). option_or f (last_step acceptance_status (entries m (scan m (symbols_of m (code_points text.items)))))) first))
-
-none-from : (found : Option Boundary) → is_some found ≡ false → found ≡ None
-none-from None is = refl
-none-from (Some f) is = cc
-
-some-from : (found : Option Boundary) → is_some found ≡ true → (f : Boundary) × (found ≡ Some f)
-some-from None is = cc
-some-from (Some f) is = (f, refl)
-
--- the same three of what the code has in hand: a step, an entry, what is found there, and the test of it
-pub turn-stop : (m : Machine) (text : Text) (state : ℕ) (left : Text) (kept : List (Option ℕ)) (last : Option Boundary)
-    (symbol : ℕ) (rest : Text) (to : Option ℕ)
-    → Scanned m text state left kept last → ((q : ℕ) → q < length m.states → BeginsBy m q left symbol rest) → rest ≡ rest_after 1 left
-    → to ≡ step m state symbol → to ≡ None
-    → last ≡ option_map (boundary_in text) (pick m (symbols_of m (code_points text.items)))
-turn-stop m text state left kept last symbol rest to s begins r value none =
-    scanned-stop m text state left kept last symbol rest s (begins state s.in_range) (sym value ∙ none)
-
-pub turn : (m : Machine) (text : Text) (state : ℕ) (left : Text) (kept : List (Option ℕ)) (last : Option Boundary)
-    (symbol : ℕ) (rest : Text) (to : Option ℕ) (next place : ℕ) (entry : Acceptance × Option ℕ) (found : Option Boundary)
-    (test : Bool) (kept-after : List (Option ℕ)) (last-after : Option Boundary)
-    → IsChecked m → Scanned m text state left kept last → ((q : ℕ) → q < length m.states → BeginsBy m q left symbol rest)
-    → to ≡ step m state symbol → to ≡ Some next → next < length m.states
-    → rest ≡ rest_after 1 left → place ≡ start_of rest
-    → entry ≡ state_at m next → found ≡ condition_end kept entry → test ≡ is_some found → test ≡ false
-    → (IsNone found → last-after ≡ acceptance_after place entry last) → (IsNone found → kept-after ≡ places_after place entry kept)
-    → Scanned m text next rest kept-after last-after
-turn m text state left kept last symbol rest to next place entry found test kept-after last-after checked s begins value leads bound r p e h tests fails l k =
-    let is : found ≡ None = none-from found (sym tests ∙ fails) in
-    let none : None ≡ condition_end kept (state_at m next) = sym is ∙ h ∙ ap (condition_end kept) e in
-    rw (l (rw is refl), k (rw is refl), e)
-    (scanned-step m text state left kept last symbol rest next place checked s (begins state s.in_range) (sym value ∙ leads) bound r p none)
-
-pub turn-held : (m : Machine) (text : Text) (state : ℕ) (left : Text) (kept : List (Option ℕ)) (last : Option Boundary)
-    (symbol : ℕ) (rest : Text) (to : Option ℕ) (next : ℕ) (entry : Acceptance × Option ℕ) (found : Option Boundary) (test : Bool)
-    → IsChecked m → Scanned m text state left kept last → ((q : ℕ) → q < length m.states → BeginsBy m q left symbol rest) → rest ≡ rest_after 1 left
-    → to ≡ step m state symbol → to ≡ Some next
-    → entry ≡ state_at m next → found ≡ condition_end kept entry → test ≡ is_some found → test ≡ true
-    → found ≡ option_map (boundary_in text) (pick m (symbols_of m (code_points text.items)))
-turn-held m text state left kept last symbol rest to next entry found test checked s begins r value leads e h tests holds =
-    let f = some-from found (sym tests ∙ holds) in
-    f.1 ∙ scanned-held m text state left kept last symbol rest next f.0 checked s (begins state s.in_range) (sym value ∙ leads) (sym f.1 ∙ h ∙ ap (condition_end kept) e)
 
 -- what is left after an item, and after none
 pub one-less : (old new : Text) (item : Item) → old.items ≡ item ∷ new.items → new.end ≡ old.end → new ≡ rest_after 1 old

@@ -26,9 +26,13 @@ unfoldable pub condition_end : List (Option ℕ) → Acceptance × Option ℕ �
 condition_end kept (Conditional lookahead status, _) = option_map (λ place. boundary place status) (place_for kept lookahead)
 condition_end kept (_, _) = None
 
+-- the acceptance of a state that is entered at a place
+abbrev pub acceptance_at : ℕ → Acceptance × Option ℕ → Option Boundary
+acceptance_at place state = option_map (λ status. boundary place status) (acceptance_status state)
+
 -- the last acceptance, once a state is entered at a place
 unfoldable pub acceptance_after : ℕ → Acceptance × Option ℕ → Option Boundary → Option Boundary
-acceptance_after place state last = option_or (option_map (λ status. boundary place status) (acceptance_status state)) last
+acceptance_after place state last = option_or (acceptance_at place state) last
 
 -- the places kept, once a state is entered at a place
 unfoldable pub places_after : ℕ → Acceptance × Option ℕ → List (Option ℕ) → List (Option ℕ)
@@ -68,6 +72,10 @@ pub record IsSymbolAhead (m : Machine) (text : Text) (symbol : ℕ) (after : Tex
       (state : ℕ) → state < length m.states
       → future m state text ≡ option_map_or {T = ℕ} {U = List ℕ} (λ next. next ∷ future m next after) (step m state symbol) []
   pub left : after ≡ rest_after 1 text
+
+-- the boundary, by its place, is what the machine picks of a text
+abbrev pub IsPicked : Machine → Text → Boundary → Type 0
+IsPicked m text found = Some found ≡ option_map (boundary_in text) (pick m (symbols_of m (code_points text.items)))
 
 -- a text begins with the segment that the machine picks, with this status, and this is left after it
 abbrev pub IsSegment : Machine → Text → Text → ℕ → Type 0

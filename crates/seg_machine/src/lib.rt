@@ -3,6 +3,7 @@
 
 pub mod laws;
 pub mod machine_parts;
+mod places;
 pub mod provider;
 pub mod rule_segmenter_v2;
 pub mod tailored_machine;

@@ -1,17 +1,18 @@
 //! Segments by a state machine.
 
-ghost use Rattle.std.specs.Prelude.{◌≡◌, ◌≢◌, ◌<◌, ◌≤◌, ⊤, ℕ, Some, None, IsNone, [], ◌∷◌, length};
-ghost use Rattle.std.specs.Option.{option_map, option_map_or};
+ghost use Rattle.std.specs.Prelude.{◌≡◌, ◌≢◌, ◌<◌, ◌≤◌, ⊤, ℕ, Some, None, IsTrue, false, unwrap_or, [], ◌∷◌, length, replicate};
+ghost use Rattle.std.specs.Option.{option_map_or};
 ghost use Rattle.std.specs.Iterator.{YieldsFirst, MakesProgress, item_count};
 ghost use Rattle.seg_text.specs.Items.{code_points, start_of, rest_after};
 ghost use Rattle.seg_text.specs.declared.boundary.Boundary.{Boundary as AnyBoundary};
-ghost use Rattle.seg_text.specs.Boundaries.{GivesNext, IsCover, boundaries_in, boundary_in, offsets_left};
+ghost use Rattle.seg_text.specs.Boundaries.{GivesNext, IsCover, boundaries_in, offsets_left};
 ghost use Rattle.seg_machine.specs.MachineFaults.{NamesPast};
 ghost use Rattle.seg_machine.specs.Machine.{symbols_of};
 ghost use Rattle.seg_machine.specs.Pick.{pick, machine_boundaries};
 ghost use Rattle.seg_machine.specs.Tailored.{machine_of};
-ghost use Rattle.seg_machine.specs.Scan.{acceptance_after, condition_end, places_after, IsSymbolAhead, IsSegment};
+ghost use Rattle.seg_machine.specs.Scan.{acceptance_at, condition_end, places_after, IsPicked, IsSymbolAhead, IsSegment};
 
+use crate::places::{EightPlaces, NoPlaces, OnePlace, Places};
 use crate::provider::{Acceptance, Lookahead, SegmenterStateMachine, Symbol};
 use crate::tailored_machine::TailoredMachineBorrowed;
 use seg_text::boundary::Boundary;
@@ -27,9 +28,7 @@ pub struct RuleBreakIterator<'data, I: Cursor> {
     machine: TailoredMachineBorrowed<'data>,
     // What is left after the boundary that was given last.
     rest: I,
-    // The symbol of the first item of that, which is read already, and what is left after it.
-    first: Symbol,
-    ahead: I,
+    ahead: Ahead<I>,
     started: bool,
     status: u8,
 }
@@ -46,7 +45,7 @@ impl<'data, I: Cursor> Model for RuleBreakIterator<'data, I> {
     ghost view = { λ s. remainder s.started (machine_stretch (machine_of s.machine)) (I.text s.rest) s.status };
 
     ghost invariant = { λ s. (s.started ≡ false → s.status ≡ 0)
-        × IsSymbolAhead (machine_of s.machine) (I.text s.rest) s.first (I.text s.ahead) };
+        × IsSymbolAhead (machine_of s.machine) (I.text s.rest) s.ahead.symbol (I.text s.ahead.after) };
 }
 
 impl<'data, I: Cursor> RuleBreakIterator<'data, I> {
@@ -57,13 +56,12 @@ impl<'data, I: Cursor> RuleBreakIterator<'data, I> {
         ensures status { result.status ≡ 0 }
     {
         machine.facts();
-        let mut ahead = text.fork();
-        let first = next_symbol(&machine, &mut ahead);
+        let mut after = text.fork();
+        let symbol = next_symbol(&machine, &mut after);
         RuleBreakIterator {
             machine,
             rest: text,
-            first,
-            ahead,
+            ahead: Ahead { symbol, after },
             started: false,
             status: 0,
         }
@@ -83,8 +81,10 @@ impl<'data, I: Cursor> RuleBreakIterator<'data, I> {
         RuleBreakIterator {
             machine: self.machine,
             rest: self.rest.fork(),
-            first: self.first,
-            ahead: self.ahead.fork(),
+            ahead: Ahead {
+                symbol: self.ahead.symbol,
+                after: self.ahead.after.fork(),
+            },
             started: self.started,
             status: self.status,
         }
@@ -111,12 +111,7 @@ impl<'data, I: Cursor> Iterator for RuleBreakIterator<'data, I> {
             self.status = 0;
             return None;
         }
-        self.status = next_segment(
-            &self.machine,
-            &mut self.rest,
-            &mut self.first,
-            &mut self.ahead,
-        );
+        self.status = next_segment(&self.machine, &mut self.rest, &mut self.ahead);
         Some(self.rest.place())
     }
 
@@ -131,128 +126,135 @@ impl<'data, I: Cursor> Iterator for RuleBreakIterator<'data, I> {
     }
 }
 
-/// Goes on to the end of the next segment, and gives its status. `first` and `ahead` are the symbol of the first item of
-/// `rest`, and what is left after it.
+/// The first symbol of a text, which is read already, and what is left after its item.
+#[derive(Debug, Drop)]
+struct Ahead<I: Cursor> {
+    symbol: Symbol,
+    after: I,
+}
+
+impl<I: Cursor> Ahead<I> {
+    /// Reads the first symbol of what is left of a text.
+    #[inline(always)]
+    fn read(&mut self, machine: &TailoredMachineBorrowed<'_>, rest: &I)
+        ensures { IsSymbolAhead (machine_of machine.now) (I.text rest.now) self.new.symbol (I.text self.new.after) }
+    {
+        self.after = rest.fork();
+        self.symbol = next_symbol(machine, &mut self.after);
+    }
+}
+
+/// Goes on to the end of the next segment, and gives its status.
 #[inline(always)]
 fn next_segment<I: Cursor>(
     machine: &TailoredMachineBorrowed<'_>,
     rest: &mut I,
-    first: &mut Symbol,
-    ahead: &mut I,
+    ahead: &mut Ahead<I>,
 ) -> u8
     requires some { (I.text rest.old).items ≢ [] }
-    requires ahead { IsSymbolAhead (machine_of machine.now) (I.text rest.old) first.old (I.text ahead.old) }
+    requires ahead { IsSymbolAhead (machine_of machine.now) (I.text rest.old) ahead.old.symbol (I.text ahead.old.after) }
     ensures segment { IsSegment (machine_of machine.now) (I.text rest.old) (I.text rest.new) result }
-    ensures ahead { IsSymbolAhead (machine_of machine.now) (I.text rest.new) first.new (I.text ahead.new) }
+    ensures ahead { IsSymbolAhead (machine_of machine.now) (I.text rest.new) ahead.new.symbol (I.text ahead.new.after) }
 {
     machine.facts();
-    if machine.num_lookaheads() != 0 {
-        return next_kept_segment(machine, rest, first, ahead);
-    }
-    let (picked, stood) = scan_plain(machine, rest, first, ahead);
-    let Some(picked) = picked else { unreachable!() };
+    let mut picked = Boundary {
+        offset: rest.place(),
+        status: 0,
+    };
+    let stood = match machine.num_lookaheads() {
+        0 => scan(machine, rest, ahead, NoPlaces, &mut picked),
+        1 => scan(machine, rest, ahead, OnePlace(None), &mut picked),
+        _ => scan_apart(machine, rest, ahead, &mut picked),
+    };
     rest.seek(picked.offset);
     if picked.offset != stood {
-        read_first(machine, rest, first, ahead);
+        ahead.read(machine, rest);
     }
     picked.status
 }
 
-/// The same by a machine that keeps places for lookaheads.
-#[inline(never)]
-fn next_kept_segment<I: Cursor>(
-    machine: &TailoredMachineBorrowed<'_>,
-    rest: &mut I,
-    first: &mut Symbol,
-    ahead: &mut I,
-) -> u8
-    requires { (I.text rest.old).items ≢ [] }
-    ensures segment { IsSegment (machine_of machine.now) (I.text rest.old) (I.text rest.new) result }
-    ensures ahead { IsSymbolAhead (machine_of machine.now) (I.text rest.new) first.new (I.text ahead.new) }
-{
-    machine.facts();
-    let Some(found) = scan(machine, rest) else {
-        unreachable!()
-    };
-    rest.seek(found.offset);
-    read_first(machine, rest, first, ahead);
-    found.status
-}
-
-/// Reads the first symbol of what is left of a text.
-#[inline(never)]
-fn read_first<I: Cursor>(
-    machine: &TailoredMachineBorrowed<'_>,
-    rest: &I,
-    first: &mut Symbol,
-    ahead: &mut I,
-)
-    ensures { IsSymbolAhead (machine_of machine.now) (I.text rest.now) first.new (I.text ahead.new) }
-{
-    *ahead = rest.fork();
-    *first = next_symbol(machine, ahead);
-}
-
-/// The pick of what is left of a text: where the segment ends, and its status.
-#[inline(never)]
-fn scan<I: Cursor>(machine: &TailoredMachineBorrowed<'_>, rest: &I) -> Option<Boundary>
-    ensures { result ≡ option_map (boundary_in (I.text rest.now))
-        (pick (machine_of machine.now) (symbols_of (machine_of machine.now) (code_points (I.text rest.now).items))) }
-{
-    machine.facts();
-    let mut iter = rest.fork();
-    let mut kept: Places = [None; 8];
-    let mut last: Option<Boundary> = None;
-    let mut state = SegmenterStateMachine::START_STATE;
-    'scan: loop {
-        let symbol = next_symbol(machine, &mut iter);
-        let Some(next) = machine.next_state(state, symbol) else {
-            return last;
-        };
-        let found = enter(machine.entry(next), iter.place(), &mut kept, &mut last);
-        if found.is_some() {
-            return found;
-        }
-        state = next;
-    }
-}
-
-/// The same by a machine without lookaheads, which keeps no places; and where the symbol was read that led nowhere. `first` is
-/// that symbol then, and `ahead` is what is left after it.
+/// Finds the pick of what is left of a text: where the segment ends, and its status. Gives where the symbol stands that was
+/// looked up last, or comes next: that is `ahead` then. `kept` has places for the machine's lookaheads.
 #[inline(always)]
-fn scan_plain<I: Cursor>(
+fn scan<I: Cursor, P: Places>(
     machine: &TailoredMachineBorrowed<'_>,
     rest: &I,
-    first: &mut Symbol,
-    ahead: &mut I,
-) -> (Option<Boundary>, usize)
-    requires plain { (machine_of machine.now).num_lookaheads ≡ 0 }
-    requires ahead { IsSymbolAhead (machine_of machine.now) (I.text rest.now) first.old (I.text ahead.old) }
-    ensures pick { result.0 ≡ option_map (boundary_in (I.text rest.now))
-        (pick (machine_of machine.now) (symbols_of (machine_of machine.now) (code_points (I.text rest.now).items))) }
-    ensures stood { (k : ℕ) × (result.1 ≡ start_of (rest_after k (I.text rest.now)))
-        × IsSymbolAhead (machine_of machine.now) (rest_after k (I.text rest.now)) first.new (I.text ahead.new) }
+    ahead: &mut Ahead<I>,
+    mut kept: P,
+    picked: &mut Boundary,
+) -> usize
+    requires some { (I.text rest.now).items ≢ [] }
+    requires none { P.kept kept ≡ replicate (length (P.kept kept)) None }
+    requires enough { (machine_of machine.now).num_lookaheads ≤ length (P.kept kept) }
+    requires ahead { IsSymbolAhead (machine_of machine.now) (I.text rest.now) ahead.old.symbol (I.text ahead.old.after) }
+    ensures pick { IsPicked (machine_of machine.now) (I.text rest.now) picked.new }
+    ensures stood { (k : ℕ) × (result ≡ start_of (rest_after k (I.text rest.now)))
+        × IsSymbolAhead (machine_of machine.now) (rest_after k (I.text rest.now)) ahead.new.symbol (I.text ahead.new.after) }
 {
     machine.facts();
-    let mut last: Option<Boundary> = None;
     let mut state = SegmenterStateMachine::START_STATE;
-    let mut symbol = *first;
     let mut stood = rest.place();
     'scan: loop {
-        let Some(next) = machine.next_state(state, symbol) else {
-            *first = symbol;
-            return (last, stood);
+        let Some(next) = machine.next_state(state, ahead.symbol) else {
+            return stood;
         };
-        stood = ahead.place();
-        symbol = next_symbol(machine, ahead);
+        stood = ahead.after.place();
+        ahead.symbol = next_symbol(machine, &mut ahead.after);
         state = next;
-        if let Acceptance::Accept(status) = machine.entry(next).0 {
-            last = Some(Boundary {
-                offset: stood,
-                status,
-            });
+        if enter(machine.entry(next), stood, &mut kept, picked) {
+            return stood;
         }
     }
+}
+
+/// The same by a machine with several lookaheads, on copies, so that what the caller has can stay in registers.
+#[inline(always)]
+fn scan_apart<I: Cursor>(
+    machine: &TailoredMachineBorrowed<'_>,
+    rest: &I,
+    ahead: &mut Ahead<I>,
+    picked: &mut Boundary,
+) -> usize
+    requires some { (I.text rest.now).items ≢ [] }
+    requires ahead { IsSymbolAhead (machine_of machine.now) (I.text rest.now) ahead.old.symbol (I.text ahead.old.after) }
+    ensures pick { IsPicked (machine_of machine.now) (I.text rest.now) picked.new }
+    ensures stood { (k : ℕ) × (result ≡ start_of (rest_after k (I.text rest.now)))
+        × IsSymbolAhead (machine_of machine.now) (rest_after k (I.text rest.now)) ahead.new.symbol (I.text ahead.new.after) }
+{
+    let machine = *machine;
+    let rest = rest.fork();
+    let mut found = Boundary {
+        offset: 0,
+        status: 0,
+    };
+    let mut next = Ahead {
+        symbol: ahead.symbol,
+        after: ahead.after.fork(),
+    };
+    let stood = scan_with_eight(&machine, &rest, &mut next, &mut found);
+    ahead.symbol = next.symbol;
+    ahead.after = next.after;
+    picked.offset = found.offset;
+    picked.status = found.status;
+    stood
+}
+
+/// The same by a machine with several lookaheads.
+#[inline(never)]
+fn scan_with_eight<I: Cursor>(
+    machine: &TailoredMachineBorrowed<'_>,
+    rest: &I,
+    ahead: &mut Ahead<I>,
+    picked: &mut Boundary,
+) -> usize
+    requires some { (I.text rest.now).items ≢ [] }
+    requires ahead { IsSymbolAhead (machine_of machine.now) (I.text rest.now) ahead.old.symbol (I.text ahead.old.after) }
+    ensures pick { IsPicked (machine_of machine.now) (I.text rest.now) picked.new }
+    ensures stood { (k : ℕ) × (result ≡ start_of (rest_after k (I.text rest.now)))
+        × IsSymbolAhead (machine_of machine.now) (rest_after k (I.text rest.now)) ahead.new.symbol (I.text ahead.new.after) }
+{
+    machine.facts();
+    scan(machine, rest, ahead, EightPlaces([None; 8]), picked)
 }
 
 /// The symbol of the next item; after the last one that of the end, as often as it is asked for.
@@ -267,40 +269,38 @@ fn next_symbol<I: Cursor>(machine: &TailoredMachineBorrowed<'_>, iter: &mut I) -
     }
 }
 
-/// For each lookahead the place of the last state that named it. A checked machine has 8 at most.
-type Places = [Option<usize>; 8];
-
-/// Enters a state at a place, and gives the segment's end and status where its condition holds: at
-/// the place kept for its lookahead. Else an acceptance is remembered, and the place is kept for
-/// the lookahead that the state names.
+/// Enters a state at a place, and gives whether its condition holds: then the segment ends at the place kept for its lookahead.
+/// Else an acceptance is remembered, and the place is kept for the lookahead that the state names.
+#[inline(always)]
 #[tactic(auto, unfolding(crate::specs::Scan::condition_end, crate::specs::Scan::acceptance_after, crate::specs::Scan::places_after))]
-fn enter(
+fn enter<P: Places>(
     state: (Acceptance, Option<Lookahead>),
     place: usize,
-    kept: &mut Places,
-    last: &mut Option<Boundary>,
-) -> Option<Boundary>
-    requires { NamesPast (length kept.old) state → ⊥ }
-    ensures condition_end { result ≡ condition_end kept.old state }
-    ensures last { IsNone result → last.new ≡ acceptance_after place state last.old }
-    ensures kept { IsNone result → kept.new ≡ places_after place state kept.old }
+    kept: &mut P,
+    last: &mut Boundary,
+) -> bool
+    requires { NamesPast (length (P.kept kept.old)) state → ⊥ }
+    ensures holds { IsTrue result → condition_end (P.kept kept.old) state ≡ Some last.new }
+    ensures none { result ≡ false → condition_end (P.kept kept.old) state ≡ None }
+    ensures last { result ≡ false → last.new ≡ unwrap_or (acceptance_at place state) last.old }
+    ensures kept { result ≡ false → P.kept kept.new ≡ places_after place state (P.kept kept.old) }
 {
     match state.0 {
         Acceptance::Accept(status) => {
-            *last = Some(Boundary {
-                offset: place,
-                status,
-            });
+            last.offset = place;
+            last.status = status;
         }
         Acceptance::Conditional(lookahead, status) => {
-            if let Some(offset) = kept[lookahead as usize] {
-                return Some(Boundary { offset, status });
+            if let Some(offset) = kept.place_for(lookahead) {
+                last.offset = offset;
+                last.status = status;
+                return true;
             }
         }
         Acceptance::Continue => {}
     }
     if let Some(lookahead) = state.1 {
-        kept[lookahead as usize] = Some(place);
+        kept.keep(lookahead, place);
     }
-    None
+    false
 }

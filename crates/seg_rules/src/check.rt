@@ -19,7 +19,7 @@ const MAX_SYMBOLS: usize = 256;
 /// It takes no memory.
 ///
 /// It knows one lookahead, 0, at most one older place that is undecided within a scan, verdicts up to 2, classes of symbols
-/// below 64, patterns of up to 7 items and up to 255 rows above, and below, that of marks. Of others it answers `false`.
+/// below 128, patterns of up to 7 items and up to 255 rows above, and below, that of marks. Of others it answers `false`.
 pub fn check(
     rules: &Rules<'_>,
     machine: TailoredMachineBorrowed<'_>,

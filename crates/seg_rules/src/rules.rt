@@ -16,7 +16,7 @@ pub enum Count {
 }
 
 /// A class of symbols: the number whose bits are its symbols.
-pub type Class = u64;
+pub type Class = u128;
 
 /// A row: the verdict on a place where some of the symbols before it fit its left pattern, and some after it its right one.
 #[derive(Clone, Copy, Debug)]
@@ -52,5 +52,5 @@ pub struct Rules<'a> {
 pub(crate) fn is_in(class: Class, symbol: u8) -> bool
     ensures { result ≡ has class symbol }
 {
-    symbol < 64 && (class >> symbol) & 1 == 1
+    symbol < 128 && (class >> symbol) & 1 == 1
 }

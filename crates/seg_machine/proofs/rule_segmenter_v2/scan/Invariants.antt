@@ -1,11 +1,11 @@
 use Rattle.std.proofs.Common.{length}
 use Rattle.seg_machine.specs.Tailored.{machine_of}
-use Rattle.seg_machine.specs.Scan.{future, Scanned}
+use Rattle.seg_machine.proofs.ReadAhead.{IsRead, come}
 use Rattle.seg_machine.proofs.rule_segmenter_v2.scan.Given as goal
 
 abbrev pub invariant-scan : goal.invariant-scan
 invariant-scan g l =
-    Scanned (machine_of l.machine) (g.I.Cursor.text l.rest) l.state (g.I.Cursor.text l.iter) l.kept l.last
+    IsRead (machine_of l.machine) (g.I.Cursor.text l.rest) l.state l.ahead.symbol (g.I.Cursor.text l.ahead.after) (g.P.Places.kept l.kept) l.picked l.stood
 
 abbrev pub decreases-scan : goal.decreases-scan
-decreases-scan g l = length (future (machine_of l.machine) l.state (g.I.Cursor.text l.iter))
+decreases-scan g l = length (come (machine_of l.machine) l.state l.ahead.symbol (g.I.Cursor.text l.ahead.after))

@@ -9,11 +9,11 @@ nothing-over class high less some =
     let below = div_below class high 1 some (omega (arith, less)) in
     omega (arith, below)
 
--- a class of 64 bits has no symbol from 64 on
-has-none : (class symbol : ℕ) → class < 2 ^ 64 → 64 ≤ symbol → has class symbol ≡ false
+-- a class of 128 bits has no symbol from 128 on
+has-none : (class symbol : ℕ) → class < 2 ^ 128 → 128 ≤ symbol → has class symbol ≡ false
 has-none class symbol fits above =
-    let wide : 2 ^ 64 ≤ 2 ^ symbol = pow-le-pow_right (lit≤ tt) above in
+    let wide : 2 ^ 128 ≤ 2 ^ symbol = pow-le-pow_right (lit≤ tt) above in
     ap (λ over. over % 2 == 1) (nothing-over class (2 ^ symbol) (omega (arith, wide, fits)) (pow_pos symbol))
 
-pub returns-else-symbol-lt64 : goal.returns-else-symbol-lt64
-returns-else-symbol-lt64 c = le-ltb _ _ c.if-symbol-lt64.false ∙ sym (has-none c.args.class c.args.symbol c.ranges.class.fits c.if-symbol-lt64.false)
+pub returns-else-symbol-lt128 : goal.returns-else-symbol-lt128
+returns-else-symbol-lt128 c = le-ltb _ _ c.if-symbol-lt128.false ∙ sym (has-none c.args.class c.args.symbol c.ranges.class.fits c.if-symbol-lt128.false)
