@@ -1,0 +1,4 @@
+pub mod LineClasses
+pub mod LineRules
+pub mod LineValues
+pub mod Lines
