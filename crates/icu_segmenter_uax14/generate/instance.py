@@ -125,6 +125,16 @@ class Instance:
         where, status = last or (None, 0)
         return f"at {before} {self.numbers.of(doubt)} {self.numbers.of(older)} {truth(newest)} {place[where]} {status} {place[named]}"
 
+    def waiting(self):
+        """Of each state whether a scan comes there before anything was accepted."""
+        found, todo = [False] * len(self.machine.accepts), [0]
+        for state in todo:
+            for to in self.machine.nexts[state]:
+                if to is not None and self.machine.accepts[to] is None and not found[to]:
+                    found[to] = True
+                    todo.append(to)
+        return found
+
     def text(self):
         rules, machine, numbers = self.rules, self.machine, self.numbers
         groups = [[] for _ in machine.accepts]
@@ -147,6 +157,7 @@ class Instance:
         self.define("accepts", "List (ℕ × ℕ × Bool)", map(self.accept, machine.accepts))
         self.define("nexts", "List (List ℕ)", (f"({chain(str(NONE if to is None else to) for to in row)})" for row in machine.nexts))
         self.lines += ["unfoldable pub plan : Plan", "plan = record { accepts = accepts; nexts = nexts }", ""]
+        self.define("waits", "List Bool", map(truth, self.waiting()))
         self.define("relation", "List (List Configuration)", (f"({chain(group)})" for group in groups))
         ruled = "numbered_above numbered_below numbered_rules".split()
         listed = [f"{name}_{k}" for name in ("befores", "moves", "owes") for k in range(parts)] + "befores moves owes dues reads tables".split()

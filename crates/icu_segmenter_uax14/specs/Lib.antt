@@ -1,3 +1,4 @@
+pub mod Characters
 pub mod LineClasses
 pub mod LineRules
 pub mod LineValues

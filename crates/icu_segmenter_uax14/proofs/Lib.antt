@@ -1,0 +1,4 @@
+mod Lists
+mod Values
+mod LineSymbols
+mod LineTables
