@@ -2,3 +2,5 @@ mod Lists
 mod Values
 mod LineSymbols
 mod LineTables
+mod MachineTests
+mod Machines

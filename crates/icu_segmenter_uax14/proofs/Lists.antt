@@ -1,5 +1,5 @@
 -- Lists of numbers whose elements pass a test by their place.
-use Rattle.std.proofs.Common.{◌≡◌, ℕ, zero, suc, ◌+◌, ◌*◌, ◌/◌, ◌%◌, ◌<◌, ◌⊎◌, Bool, true, false, ◌&&◌, List, [], ◌∷◌, length, get_or, refl, ap, subst, ◌∙◌, arith, inl, inr, sym}
+use Rattle.std.proofs.Common.{◌≡◌, ℕ, zero, suc, ◌+◌, ◌*◌, ◌/◌, ◌%◌, ◌<◌, Bool, true, false, ◌&&◌, List, [], ◌∷◌, length, get_or, ap, ◌∙◌, arith, sym, zero-add}
 use Rattle.std.proofs.lemmas.Bool.{and_parts}
 use Rattle.std.proofs.lemmas.Nat.{div-mul-add, mod-mul-add}
 
@@ -7,15 +7,18 @@ unfoldable pub cells : (ℕ → ℕ → Bool) → ℕ → List ℕ → Bool
 cells test k [] = true
 cells test k (x ∷ xs) = test k x && cells test (suc k) xs
 
-pub cell-at : (test : ℕ → ℕ → Bool) (k i : ℕ) (xs : List ℕ) → cells test k xs ≡ true → i < length xs → test (k + i) (get_or xs i 0) ≡ true
+cell-from : (test : ℕ → ℕ → Bool) (k i : ℕ) (xs : List ℕ) → cells test k xs ≡ true → i < length xs → test (k + i) (get_or xs i 0) ≡ true
 unfolding cells
-cell-at test k i [] all below = absurd (omega (arith, below))
-cell-at test k zero (x ∷ xs) all below =
+cell-from test k i [] all below = absurd (omega (arith, below))
+cell-from test k zero (x ∷ xs) all below =
     let here : k ≡ k + 0 = omega arith in
     ap (λ n. test n x) (sym here) ∙ (and_parts (test k x) _ all).0
-cell-at test k (suc i) (x ∷ xs) all below =
+cell-from test k (suc i) (x ∷ xs) all below =
     let here : suc k + i ≡ k + suc i = omega arith in
-    ap (λ n. test n (get_or xs i 0)) (sym here) ∙ cell-at test (suc k) i xs (and_parts (test k x) _ all).1 (omega (arith, below))
+    ap (λ n. test n (get_or xs i 0)) (sym here) ∙ cell-from test (suc k) i xs (and_parts (test k x) _ all).1 (omega (arith, below))
+
+pub cell-at : (test : ℕ → ℕ → Bool) (i : ℕ) (xs : List ℕ) → cells test 0 xs ≡ true → i < length xs → test i (get_or xs i 0) ≡ true
+cell-at test i xs all below = ap (λ n. test n (get_or xs i 0)) (sym (zero-add i)) ∙ cell-from test 0 i xs all below
 
 -- a cell of rows of a width
 pub row-of : (q x width : ℕ) → q < width → (q + x * width) / width ≡ x
