@@ -4,3 +4,4 @@ mod LineSymbols
 mod LineTables
 mod MachineTests
 mod Machines
+mod TailoringTests
