@@ -2,6 +2,8 @@ mod Lists
 mod Values
 mod LineSymbols
 mod LineTables
+mod LineLaw
 mod MachineTests
 mod Machines
 mod TailoringTests
+mod Tailorings

@@ -21,7 +21,7 @@ use Rattle.ucd_emoji.specs.Binary.{is_extended_pictographic}
 use Rattle.ucd_emoji.proofs.BinaryLemmas.{is_extended_pictographic_stepped}
 use Rattle.seg_data.specs.declared.provider.ComplexScript.{ComplexScript}
 use Rattle.seg_machine.specs.Machine.{Replacement, replaced, symbol_and_script}
-use Rattle.icu_segmenter_uax14.specs.Characters.{Character, Sign, NoSign, Tailoring, HasTailored, character, sign_rows, strict, break_all, keep_all, ja_loose, loose, ja_normal, normal}
+use Rattle.icu_segmenter_uax14.specs.Characters.{Character, Sign, NoSign, LineStyle, HasStyle, character, sign_rows, strict, break_all, keep_all, ja_loose, loose, ja_normal, normal}
 use Rattle.icu_segmenter_uax14.specs.Lines.{tailored_machine}
 use Rattle.icu_segmenter_uax14.specs.LineValues.{LineProperties, Trait, Usual, Edge, Opening, Closing, Unassigned, Dotted, Loose, Kept, StandsFor, properties_of, trait_number}
 use Rattle.icu_segmenter_uax14.specs.declared.data.TheConstants as parts
@@ -86,73 +86,73 @@ character_stepped =
     (zip_stepped (λ a b. (a, b)) (λ c. (east_asian_width c, is_extended_pictographic c)) (value_in NoSign sign_rows)
     (zip_stepped (λ a b. (a, b)) east_asian_width is_extended_pictographic east_asian_width_stepped is_extended_pictographic_stepped) sign_stepped)
 
-abbrev passes : Tailoring → List (ℕ × ComplexScript) → List Replacement → Character → ℕ → Bool
+abbrev passes : LineStyle → List (ℕ × ComplexScript) → List Replacement → Character → ℕ → Bool
 passes tailored map replacements c v = says (tailored c) (symbol_by map replacements v).0
 
-abbrev test : Tailoring → List (ℕ × ComplexScript) → List Replacement → ℕ → Bool
+abbrev test : LineStyle → List (ℕ × ComplexScript) → List Replacement → ℕ → Bool
 test tailored map replacements c = passes tailored map replacements (character c) (value c)
 
-abbrev test_stepped : (tailored : Tailoring) (map : List (ℕ × ComplexScript)) (replacements : List Replacement) → Stepped (test tailored map replacements)
+abbrev test_stepped : (tailored : LineStyle) (map : List (ℕ × ComplexScript)) (replacements : List Replacement) → Stepped (test tailored map replacements)
 test_stepped tailored map replacements = zip_stepped (passes tailored map replacements) character value character_stepped value_stepped
 
-stands : (tailored : Tailoring) (map : List (ℕ × ComplexScript)) (replacements : List Replacement) → ((c : ℕ) → test tailored map replacements c ≡ true)
-    → (c : ℕ) → HasTailored tailored c (symbol_and_script (tailored_machine map replacements) c).0
+stands : (tailored : LineStyle) (map : List (ℕ × ComplexScript)) (replacements : List Replacement) → ((c : ℕ) → test tailored map replacements c ≡ true)
+    → (c : ℕ) → HasStyle tailored c (symbol_and_script (tailored_machine map replacements) c).0
 stands tailored map replacements all c =
-    subst (λ s. HasTailored tailored c s) (ap (λ (given : ℕ × ComplexScript). given.0) (sym (symbol-is map replacements c)))
+    subst (λ s. HasStyle tailored c s) (ap (λ (given : ℕ × ComplexScript). given.0) (sym (symbol-is map replacements c)))
     (said (tailored (character c)) (symbol_by map replacements (value c)).0 (all c))
 
 strict-passes : (c : ℕ) → test strict parts.MAP [] c ≡ true
 unfolding tables replaced character_stepped sign_stepped line_break_stepped general_category_stepped east_asian_width_stepped is_extended_pictographic_stepped value_stepped
 strict-passes = Stepped-everywhere (test strict parts.MAP []) (test_stepped strict parts.MAP []) refl
 
-pub strict-stands : (c : ℕ) → HasTailored strict c (symbol_and_script (tailored_machine parts.MAP []) c).0
+pub strict-stands : (c : ℕ) → HasStyle strict c (symbol_and_script (tailored_machine parts.MAP []) c).0
 strict-stands = stands strict parts.MAP [] strict-passes
 
 break-all-passes : (c : ℕ) → test break_all parts.BREAK_ALL parts.BREAK_ALL_REPLACED c ≡ true
 unfolding tables replaced character_stepped sign_stepped line_break_stepped general_category_stepped east_asian_width_stepped is_extended_pictographic_stepped value_stepped
 break-all-passes = Stepped-everywhere (test break_all parts.BREAK_ALL parts.BREAK_ALL_REPLACED) (test_stepped break_all parts.BREAK_ALL parts.BREAK_ALL_REPLACED) refl
 
-pub break-all-stands : (c : ℕ) → HasTailored break_all c (symbol_and_script (tailored_machine parts.BREAK_ALL parts.BREAK_ALL_REPLACED) c).0
+pub break-all-stands : (c : ℕ) → HasStyle break_all c (symbol_and_script (tailored_machine parts.BREAK_ALL parts.BREAK_ALL_REPLACED) c).0
 break-all-stands = stands break_all parts.BREAK_ALL parts.BREAK_ALL_REPLACED break-all-passes
 
 keep-all-passes : (c : ℕ) → test keep_all parts.KEEP_ALL parts.KEEP_ALL_REPLACED c ≡ true
 unfolding tables replaced character_stepped sign_stepped line_break_stepped general_category_stepped east_asian_width_stepped is_extended_pictographic_stepped value_stepped
 keep-all-passes = Stepped-everywhere (test keep_all parts.KEEP_ALL parts.KEEP_ALL_REPLACED) (test_stepped keep_all parts.KEEP_ALL parts.KEEP_ALL_REPLACED) refl
 
-pub keep-all-stands : (c : ℕ) → HasTailored keep_all c (symbol_and_script (tailored_machine parts.KEEP_ALL parts.KEEP_ALL_REPLACED) c).0
+pub keep-all-stands : (c : ℕ) → HasStyle keep_all c (symbol_and_script (tailored_machine parts.KEEP_ALL parts.KEEP_ALL_REPLACED) c).0
 keep-all-stands = stands keep_all parts.KEEP_ALL parts.KEEP_ALL_REPLACED keep-all-passes
 
 ja-loose-passes : (c : ℕ) → test ja_loose parts.JA_LOOSE [] c ≡ true
 unfolding tables replaced character_stepped sign_stepped line_break_stepped general_category_stepped east_asian_width_stepped is_extended_pictographic_stepped value_stepped
 ja-loose-passes = Stepped-everywhere (test ja_loose parts.JA_LOOSE []) (test_stepped ja_loose parts.JA_LOOSE []) refl
 
-pub ja-loose-stands : (c : ℕ) → HasTailored ja_loose c (symbol_and_script (tailored_machine parts.JA_LOOSE []) c).0
+pub ja-loose-stands : (c : ℕ) → HasStyle ja_loose c (symbol_and_script (tailored_machine parts.JA_LOOSE []) c).0
 ja-loose-stands = stands ja_loose parts.JA_LOOSE [] ja-loose-passes
 
 loose-passes : (c : ℕ) → test loose parts.LOOSE [] c ≡ true
 unfolding tables replaced character_stepped sign_stepped line_break_stepped general_category_stepped east_asian_width_stepped is_extended_pictographic_stepped value_stepped
 loose-passes = Stepped-everywhere (test loose parts.LOOSE []) (test_stepped loose parts.LOOSE []) refl
 
-pub loose-stands : (c : ℕ) → HasTailored loose c (symbol_and_script (tailored_machine parts.LOOSE []) c).0
+pub loose-stands : (c : ℕ) → HasStyle loose c (symbol_and_script (tailored_machine parts.LOOSE []) c).0
 loose-stands = stands loose parts.LOOSE [] loose-passes
 
 ja-normal-passes : (c : ℕ) → test ja_normal parts.JA_NORMAL [] c ≡ true
 unfolding tables replaced character_stepped sign_stepped line_break_stepped general_category_stepped east_asian_width_stepped is_extended_pictographic_stepped value_stepped
 ja-normal-passes = Stepped-everywhere (test ja_normal parts.JA_NORMAL []) (test_stepped ja_normal parts.JA_NORMAL []) refl
 
-pub ja-normal-stands : (c : ℕ) → HasTailored ja_normal c (symbol_and_script (tailored_machine parts.JA_NORMAL []) c).0
+pub ja-normal-stands : (c : ℕ) → HasStyle ja_normal c (symbol_and_script (tailored_machine parts.JA_NORMAL []) c).0
 ja-normal-stands = stands ja_normal parts.JA_NORMAL [] ja-normal-passes
 
 normal-passes : (c : ℕ) → test normal parts.NORMAL [] c ≡ true
 unfolding tables replaced character_stepped sign_stepped line_break_stepped general_category_stepped east_asian_width_stepped is_extended_pictographic_stepped value_stepped
 normal-passes = Stepped-everywhere (test normal parts.NORMAL []) (test_stepped normal parts.NORMAL []) refl
 
-pub normal-stands : (c : ℕ) → HasTailored normal c (symbol_and_script (tailored_machine parts.NORMAL []) c).0
+pub normal-stands : (c : ℕ) → HasStyle normal c (symbol_and_script (tailored_machine parts.NORMAL []) c).0
 normal-stands = stands normal parts.NORMAL [] normal-passes
 
 ja-passes : (c : ℕ) → test strict parts.JA [] c ≡ true
 unfolding tables replaced character_stepped sign_stepped line_break_stepped general_category_stepped east_asian_width_stepped is_extended_pictographic_stepped value_stepped
 ja-passes = Stepped-everywhere (test strict parts.JA []) (test_stepped strict parts.JA []) refl
 
-pub ja-stands : (c : ℕ) → HasTailored strict c (symbol_and_script (tailored_machine parts.JA []) c).0
+pub ja-stands : (c : ℕ) → HasStyle strict c (symbol_and_script (tailored_machine parts.JA []) c).0
 ja-stands = stands strict parts.JA [] ja-passes

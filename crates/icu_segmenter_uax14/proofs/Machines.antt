@@ -5,7 +5,7 @@ use Rattle.seg_data.specs.declared.provider.ComplexScript.{ComplexScript}
 use Rattle.seg_machine.specs.Machine.{Replacement, IsTextSymbol, state_at, step, symbol_and_script, symbol_count, tailoring}
 use Rattle.seg_machine.specs.MachineFaults.{HasTextSymbols, IsChecked}
 use Rattle.seg_machine.proofs.Bare.{checked-tailored}
-use Rattle.icu_segmenter_uax14.specs.Characters.{Tailoring, HasTailored, strict}
+use Rattle.icu_segmenter_uax14.specs.Characters.{LineStyle, HasStyle, strict}
 use Rattle.icu_segmenter_uax14.specs.Lines.{line_machine, tailored_machine}
 use Rattle.icu_segmenter_uax14.specs.declared.data.TheConstants.{MAP}
 use Rattle.icu_segmenter_uax14.proofs.Lists.{cells}
@@ -36,8 +36,8 @@ line-machine-is-sound =
     }
 
 -- what stands for properties is a symbol of a text
-text-symbols : (map : List (ℕ × ComplexScript)) (replacements : List Replacement) (tailored : Tailoring)
-    → ((c : ℕ) → HasTailored tailored c (symbol_and_script (tailored_machine map replacements) c).0) → HasTextSymbols (tailored_machine map replacements)
+text-symbols : (map : List (ℕ × ComplexScript)) (replacements : List Replacement) (tailored : LineStyle)
+    → ((c : ℕ) → HasStyle tailored c (symbol_and_script (tailored_machine map replacements) c).0) → HasTextSymbols (tailored_machine map replacements)
 unfolding line_machine symbol_count
 text-symbols map replacements tailored stands c = ((stands c).some, (stands c).below)
 
@@ -45,7 +45,7 @@ pub line-machine-is-checked : IsChecked line_machine
 unfolding line_machine
 line-machine-is-checked = is-checked line_machine 126 72 waits line-machine-is-sound (text-symbols MAP [] strict strict-stands)
 
-pub tailored-is-checked : (map : List (ℕ × ComplexScript)) (replacements : List Replacement) (tailored : Tailoring)
-    → ((c : ℕ) → HasTailored tailored c (symbol_and_script (tailored_machine map replacements) c).0) → IsChecked (tailored_machine map replacements)
+pub tailored-is-checked : (map : List (ℕ × ComplexScript)) (replacements : List Replacement) (tailored : LineStyle)
+    → ((c : ℕ) → HasStyle tailored c (symbol_and_script (tailored_machine map replacements) c).0) → IsChecked (tailored_machine map replacements)
 tailored-is-checked map replacements tailored stands =
     checked-tailored line_machine (tailoring map replacements) line-machine-is-checked (text-symbols map replacements tailored stands)

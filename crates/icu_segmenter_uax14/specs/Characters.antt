@@ -107,30 +107,30 @@ trait_of c =
     then Unassigned
     else (if is_sign DottedCircle c then Dotted else Usual))
 
--- the properties that the rules ask, untailored
+-- the style that nothing is tailored in
 abbrev pub strict : Character → LineProperties
 strict c = (class_of c, is_east_asian c, trait_of c)
 
--- Tailorings, each of the properties.
+-- Styles of lines, each of the properties that a character has.
 
-abbrev pub Tailoring : Type 0
-Tailoring = Character → LineProperties
+abbrev pub LineStyle : Type 0
+LineStyle = Character → LineProperties
 
 abbrev pub is_small_kana : Character → Bool
 is_small_kana c = line_break_eq c.line_break ConditionalJapaneseStarter
 
 -- ideographs; hyphens and others that are broken more loosely
-abbrev pub with_ideographs : (Character → Bool) → Tailoring → Tailoring
+abbrev pub with_ideographs : (Character → Bool) → LineStyle → LineStyle
 with_ideographs are tailored c = if are c then (Ideographic, is_east_asian c, Usual) else tailored c
 
-abbrev pub with_loose : (Character → Bool) → Tailoring → Tailoring
+abbrev pub with_loose : (Character → Bool) → LineStyle → LineStyle
 with_loose are tailored c = if are c then ((tailored c).0, (tailored c).1, Loose) else tailored c
 
 -- line-break: normal, where small kana are ideographs; in Chinese and Japanese, wave dashes too
-abbrev pub normal : Tailoring
+abbrev pub normal : LineStyle
 normal = with_ideographs is_small_kana strict
 
-abbrev pub ja_normal : Tailoring
+abbrev pub ja_normal : LineStyle
 ja_normal = with_ideographs (is_sign WaveDash) normal
 
 -- line-break: loose, where iteration marks are too; in Chinese and Japanese, wave dashes and centred signs, and prefixes and suffixes break
@@ -142,14 +142,14 @@ is_affix c =
     is_among (PostfixNumeric ∷ PrefixNumeric ∷ []) (class_of c)
     && (east_asian_width_eq c.width Fullwidth || (east_asian_width_eq c.width Wide || east_asian_width_eq c.width AmbiguousWidth))
 
-abbrev pub loose : Tailoring
+abbrev pub loose : LineStyle
 loose = with_loose is_loose (with_ideographs (is_sign IterationMark) normal)
 
-abbrev pub ja_loose : Tailoring
+abbrev pub ja_loose : LineStyle
 ja_loose = with_loose is_affix (with_ideographs (is_sign CentredSign) (with_ideographs (is_sign WaveDash) loose))
 
 -- the viramas of aksaras that are tailored are marks
-abbrev pub without_viramas : Tailoring → Tailoring
+abbrev pub without_viramas : LineStyle → LineStyle
 without_viramas tailored c =
     if is_among (Virama ∷ ViramaFinal ∷ []) (class_of c) then (CombiningMark, false, Usual) else tailored c
 
@@ -161,7 +161,7 @@ abbrev pub is_aksara : Character → Bool
 is_aksara c = is_among (Aksara ∷ AksaraPrebase ∷ AksaraStart ∷ []) (class_of c)
 
 -- word-break: break-all, where letters and digits are ideographs
-abbrev pub break_all : Tailoring
+abbrev pub break_all : LineStyle
 break_all = without_viramas (λ c.
     if is_aksara c || (is_small_kana c || is_among (Alphabetic ∷ HebrewLetter ∷ Numeric ∷ []) (class_of c))
     then (Ideographic, is_east_asian c, if_unassigned (trait_of c))
@@ -171,7 +171,7 @@ break_all = without_viramas (λ c.
 abbrev pub is_kept : Character → Bool
 is_kept c = is_among (Ideographic ∷ H2 ∷ H3 ∷ Jl ∷ Jv ∷ Jt ∷ []) (class_of c) && not (general_category_eq c.category NotAssigned && c.is_pictograph)
 
-abbrev pub keep_all : Tailoring
+abbrev pub keep_all : LineStyle
 keep_all = without_viramas (λ c.
     if is_small_kana c
     then (Nonstarter, is_east_asian c, Kept)
@@ -179,9 +179,6 @@ keep_all = without_viramas (λ c.
     then (Ideographic, is_east_asian c, Kept)
     else (if is_aksara c then (Alphabetic, is_east_asian c, Usual) else strict c)))
 
--- the symbol stands for the properties of the code point by a tailoring, and for those without
-abbrev pub HasTailored : Tailoring → ℕ → ℕ → Type 0
-HasTailored tailored code_point symbol = StandsFor (tailored (character code_point)) symbol
-
-abbrev pub HasLineProperties : ℕ → ℕ → Type 0
-HasLineProperties code_point symbol = HasTailored strict code_point symbol
+-- the symbol stands for the properties of the code point by a style
+abbrev pub HasStyle : LineStyle → ℕ → ℕ → Type 0
+HasStyle style code_point symbol = StandsFor (style (character code_point)) symbol

@@ -3,3 +3,4 @@ pub mod LineClasses
 pub mod LineRules
 pub mod LineValues
 pub mod Lines
+pub mod Tailored

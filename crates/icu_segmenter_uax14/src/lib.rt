@@ -7,6 +7,7 @@
 #![tactic(auto)]
 
 mod data;
+pub mod laws;
 mod machine;
 mod parts;
 
