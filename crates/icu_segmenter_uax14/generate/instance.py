@@ -3,29 +3,22 @@ from automata import HALF, MARKS, PAIR, is_open
 from compiler import CONDITION
 from relation import LOST, NEWEST, OLDER
 
-NAMES = {
-    "std.specs.Prelude": "◌≡◌ ℕ Bool true false ◌&&◌ nat_lt Option Some None List [] ◌∷◌ length",
-    "std.proofs.Common": "refl",
-    "std.proofs.lemmas.Bool": "and_from",
-    "seg_data.specs.declared.provider.ComplexScript": "ComplexScript",
-    "seg_data.specs.Table": "Table",
-    "seg_machine.specs.declared.provider.Acceptance": "Acceptance",
-    "seg_machine.specs.declared.provider.Acceptance.TheVariants": "Continue Accept Conditional",
-    "seg_machine.specs.Machine": "Machine Replacement",
-    "seg_rules.specs.declared.certificate.Configuration": "Configuration",
-    "seg_rules.specs.declared.rules.Count.TheVariants": "One Star Pairs",
-    "seg_rules.specs.RowRules": "Row RowRules Before Marks Owed Due DueOf at_start",
-    "seg_rules.specs.Check": "Plan Tables no_before same_before verdicts tables_hold scans_hold",
-    "seg_rules.specs.Places": "plan_holds",
-    "icu_segmenter_uax14.specs.LineRules": "line_rules",
-}
 # What the tests unfold.
 ROW_RULES = ("once once_number once_flags flow no_flags is_full is_live moved unread moves_on put_on put onto begun owed_rows owed reading "
              "read_all read").split()
 CHECK = ("get same_flags same_lives same_pattern same_entries same_due moves_hold befores_hold reads_hold dues_hold append_dues all_below "
          "rows_below among ends entered goes_on each_goes configurations_hold configuration_holds relation_holds starts_hold").split()
-PLACES = "states_hold column columns same_numbers nexts_below all_nexts_below".split()
 LINE_RULES = "bits_from rows_above_marks rows_below_marks line_rules".split()
+NAMES = {
+    "std.specs.Prelude": "◌≡◌ ℕ Bool true false ◌&&◌ nat_lt List [] ◌∷◌ length",
+    "std.proofs.Common": "refl",
+    "std.proofs.lemmas.Bool": "and_from",
+    "seg_rules.specs.declared.certificate.Configuration": "Configuration",
+    "seg_rules.specs.declared.rules.Count.TheVariants": "One Star Pairs",
+    "seg_rules.specs.RowRules": "Row RowRules Before Marks Owed Due DueOf at_start " + " ".join(ROW_RULES),
+    "seg_rules.specs.Check": "Plan Tables no_before same_before verdicts tables_hold scans_hold " + " ".join(CHECK),
+    "icu_segmenter_uax14.specs.LineRules": " ".join(LINE_RULES),
+}
 NONE = 255
 # How many of what stands before a place one proof is about.
 PART = 30
@@ -182,10 +175,7 @@ class Instance:
         self.lines += [f"pub tables-hold : tables_hold numbered_rules {rules.last} tables ≡ true", "unfolding tables",
                        "tables-hold = and_from _ _ start-holds (and_from _ _ befores-hold (and_from _ _ dues-hold moves-below))", ""]
         head = ["-- The certificate of the machine of lines: written by generate/generate.py. Do not edit."]
-        used = {**NAMES, "seg_rules.specs.RowRules": NAMES["seg_rules.specs.RowRules"] + " " + " ".join(ROW_RULES),
-                "seg_rules.specs.Check": NAMES["seg_rules.specs.Check"] + " " + " ".join(CHECK),
-                "icu_segmenter_uax14.specs.LineRules": " ".join(LINE_RULES)}
-        head += [f"use Rattle.{module}.{{{', '.join(names.split())}}}" for module, names in used.items()]
+        head += [f"use Rattle.{module}.{{{', '.join(names.split())}}}" for module, names in NAMES.items()]
         head += ["", "abbrev at : (before doubt older : ℕ) (newest : Bool) (last status named : ℕ) → Configuration",
                  "at before doubt older newest last status named =",
                  "    record { before = before; doubt = doubt; older = older; newest = newest; last = last; status = status; named = named }", "",

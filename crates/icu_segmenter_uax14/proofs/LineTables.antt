@@ -1,17 +1,11 @@
 -- The certificate of the machine of lines: written by generate/generate.py. Do not edit.
-use Rattle.std.specs.Prelude.{◌≡◌, ℕ, Bool, true, false, ◌&&◌, nat_lt, Option, Some, None, List, [], ◌∷◌, length}
+use Rattle.std.specs.Prelude.{◌≡◌, ℕ, Bool, true, false, ◌&&◌, nat_lt, List, [], ◌∷◌, length}
 use Rattle.std.proofs.Common.{refl}
 use Rattle.std.proofs.lemmas.Bool.{and_from}
-use Rattle.seg_data.specs.declared.provider.ComplexScript.{ComplexScript}
-use Rattle.seg_data.specs.Table.{Table}
-use Rattle.seg_machine.specs.declared.provider.Acceptance.{Acceptance}
-use Rattle.seg_machine.specs.declared.provider.Acceptance.TheVariants.{Continue, Accept, Conditional}
-use Rattle.seg_machine.specs.Machine.{Machine, Replacement}
 use Rattle.seg_rules.specs.declared.certificate.Configuration.{Configuration}
 use Rattle.seg_rules.specs.declared.rules.Count.TheVariants.{One, Star, Pairs}
 use Rattle.seg_rules.specs.RowRules.{Row, RowRules, Before, Marks, Owed, Due, DueOf, at_start, once, once_number, once_flags, flow, no_flags, is_full, is_live, moved, unread, moves_on, put_on, put, onto, begun, owed_rows, owed, reading, read_all, read}
 use Rattle.seg_rules.specs.Check.{Plan, Tables, no_before, same_before, verdicts, tables_hold, scans_hold, get, same_flags, same_lives, same_pattern, same_entries, same_due, moves_hold, befores_hold, reads_hold, dues_hold, append_dues, all_below, rows_below, among, ends, entered, goes_on, each_goes, configurations_hold, configuration_holds, relation_holds, starts_hold}
-use Rattle.seg_rules.specs.Places.{plan_holds}
 use Rattle.icu_segmenter_uax14.specs.LineRules.{bits_from, rows_above_marks, rows_below_marks, line_rules}
 
 abbrev at : (before doubt older : ℕ) (newest : Bool) (last status named : ℕ) → Configuration

@@ -1,8 +1,8 @@
 -- The machine of lines, and the machine by each tailoring, have no fault and are checked.
-use Rattle.std.proofs.Common.{ℕ, ◌∙◌, sym, subst, ap, refl, arith, List, []}
+use Rattle.std.proofs.Common.{ℕ, refl, arith, List, []}
 use Rattle.ucd_table.proofs.TrieCheck.{all_below}
 use Rattle.seg_data.specs.declared.provider.ComplexScript.{ComplexScript}
-use Rattle.seg_machine.specs.Machine.{Replacement, IsTextSymbol, state_at, step, symbol_and_script, symbol_count, tailoring}
+use Rattle.seg_machine.specs.Machine.{Replacement, state_at, step, symbol_and_script, symbol_count, tailoring}
 use Rattle.seg_machine.specs.MachineFaults.{HasTextSymbols, IsChecked}
 use Rattle.seg_machine.proofs.Bare.{checked-tailored}
 use Rattle.icu_segmenter_uax14.specs.Characters.{LineStyle, HasStyle, strict}

@@ -1,5 +1,5 @@
 -- Tailorings that name no end of the text, and replace no symbol twice, have no fault.
-use Rattle.std.proofs.Common.{◌≡◌, ℕ, ◌⊎◌, Bool, true, false, not, ◌&&◌, ◌==◌, nat_lt, List, [], ◌∷◌, map, refl, ap, sym, ◌∙◌, arith, inl, inr, eq-eqb}
+use Rattle.std.proofs.Common.{◌≡◌, ℕ, ◌⊎◌, Bool, true, not, ◌&&◌, ◌==◌, nat_lt, List, [], ◌∷◌, map, refl, ◌∙◌, arith, inl, inr, eq-eqb}
 use Rattle.std.specs.List.{Any}
 use Rattle.std.specs.Prelude.{Result, Ok, Err, IfErr}
 use Rattle.std.specs.Result.{IsErrAnd}

@@ -1,13 +1,13 @@
 -- The symbol of a code point, by the value of its range.
-use Rattle.std.proofs.Common.{◌≡◌, ℕ, ◌-◌, Bool, cond, nat_lt, List, [], ◌∷◌, find, Some, refl, sym, ap, ◌∙◌}
+use Rattle.std.proofs.Common.{◌≡◌, ℕ, ◌-◌, cond, nat_lt, List, [], ◌∷◌, find, Some, refl, sym, ap, ◌∙◌}
 use Rattle.std.specs.Prelude.{if◌then◌else◌, slice_index_or}
 use Rattle.std.specs.Option.{option_map_or}
 use Rattle.std.proofs.lemmas.Bool.{cond_both, cond-true, cond-false}
 use Rattle.ucd_table.specs.Rows.{value_in}
 use Rattle.seg_data.specs.declared.provider.ComplexScript.{ComplexScript}
 use Rattle.seg_data.specs.declared.provider.ComplexScript.TheVariants.{None as NoScript}
-use Rattle.seg_data.specs.Table.{holds, table, value_of}
-use Rattle.seg_machine.specs.Machine.{Machine, Replacement, replaced, symbol_and_script}
+use Rattle.seg_data.specs.Table.{holds, value_of}
+use Rattle.seg_machine.specs.Machine.{Replacement, replaced, symbol_and_script}
 use Rattle.icu_segmenter_uax14.specs.Lines.{line_machine, tailored_machine}
 use Rattle.icu_segmenter_uax14.specs.declared.data.TheConstants.{RANGES, OTHER, SHIFT}
 

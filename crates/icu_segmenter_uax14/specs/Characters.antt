@@ -1,5 +1,5 @@
 -- What the rules of lines ask of a code point: LB1, and what CSS Text 3 tailors.
-use Rattle.std.specs.Prelude.{ℕ, Bool, true, false, not, ◌&&◌, ◌||◌, ◌==◌, if◌then◌else◌, List, [], ◌∷◌}
+use Rattle.std.specs.Prelude.{ℕ, Bool, false, not, ◌&&◌, ◌||◌, ◌==◌, if◌then◌else◌, List, [], ◌∷◌}
 use Rattle.ucd_table.specs.Rows.{Row, value_in}
 use Rattle.ucd_breaks.specs.declared.LineBreak.{LineBreak}
 use Rattle.ucd_breaks.specs.declared.LineBreak.TheVariants.{Ambiguous, Aksara, Alphabetic, AksaraPrebase, AksaraStart, ConditionalJapaneseStarter, CombiningMark, H2, H3, HebrewLetter, Ideographic, Inseparable, Jl, Jt, Jv, Nonstarter, Numeric, PostfixNumeric, PrefixNumeric, Quotation, ComplexContext, Surrogate, ViramaFinal, Virama, Unknown}

@@ -1,6 +1,6 @@
 -- The rules of lines: UAX #14, in the form of revision 55, and what CSS Text 3 tailors. The first row whose left side fits what ends at a
 -- place and whose right side fits what begins there decides it. The start and the end of a text are those of LB2 and LB3, LB1 is in LineValues.
-use Rattle.std.specs.Prelude.{ℕ, zero, suc, ◌+◌, ◌^◌, true, if◌then◌else◌, List, [], ◌∷◌}
+use Rattle.std.specs.Prelude.{ℕ, suc, ◌+◌, ◌^◌, true, if◌then◌else◌, List, [], ◌∷◌}
 use Rattle.seg_rules.specs.declared.rules.Count.{Count}
 use Rattle.seg_rules.specs.declared.rules.Count.TheVariants.{One, Star, Pairs}
 use Rattle.seg_rules.specs.RowRules.{Pattern, Row, RowRules}
