@@ -19,9 +19,13 @@ use Rattle.ucd_east_asian.specs.EastAsianWidth.{east_asian_width}
 use Rattle.ucd_east_asian.proofs.EastAsianWidthLemmas.{east_asian_width_stepped}
 use Rattle.ucd_emoji.specs.Binary.{is_extended_pictographic}
 use Rattle.ucd_emoji.proofs.BinaryLemmas.{is_extended_pictographic_stepped}
+use Rattle.ucd_script.specs.declared.Script.{Script}
+use Rattle.ucd_script.specs.Script.{script}
+use Rattle.ucd_script.proofs.ScriptLemmas.{script_stepped}
 use Rattle.seg_data.specs.declared.provider.ComplexScript.{ComplexScript}
+use Rattle.seg_data.specs.declared.provider.ComplexScript.TheVariants as complex
 use Rattle.seg_machine.specs.Machine.{Replacement, replaced, symbol_and_script}
-use Rattle.icu_segmenter_uax14.specs.Characters.{Character, Sign, NoSign, LineStyle, HasStyle, character, sign_rows, strict, break_all, keep_all, ja_loose, loose, ja_normal, normal}
+use Rattle.icu_segmenter_uax14.specs.Characters.{Character, Sign, NoSign, LineStyle, HasStyle, character, complex_script, no_script, sign_rows, strict, break_all, keep_all, ja_loose, loose, ja_normal, normal}
 use Rattle.icu_segmenter_uax14.specs.Lines.{tailored_machine}
 use Rattle.icu_segmenter_uax14.specs.LineValues.{LineProperties, Trait, Usual, Edge, Opening, Closing, Unassigned, Dotted, Loose, Kept, StandsFor, properties_of, trait_number}
 use Rattle.icu_segmenter_uax14.specs.declared.data.TheConstants as parts
@@ -42,6 +46,29 @@ trait-back Kept = refl
 
 same-trait : (s t : Trait) → trait_number s ≡ trait_number t → s ≡ t
 same-trait s t same = sym (trait-back s) ∙ ap trait_from same ∙ trait-back t
+
+abbrev complex_number : ComplexScript → ℕ
+complex_number complex.None = 0
+complex_number complex.Myanmar = 1
+complex_number complex.ChineseOrJapanese = 2
+complex_number complex.Khmer = 3
+complex_number complex.Lao = 4
+complex_number complex.Thai = 5
+
+abbrev complex_from : ℕ → ComplexScript
+complex_from n =
+    slice_index_or (complex.None ∷ complex.Myanmar ∷ complex.ChineseOrJapanese ∷ complex.Khmer ∷ complex.Lao ∷ complex.Thai ∷ []) n complex.None
+
+complex-back : (s : ComplexScript) → complex_from (complex_number s) ≡ s
+complex-back complex.None = refl
+complex-back complex.Myanmar = refl
+complex-back complex.ChineseOrJapanese = refl
+complex-back complex.Khmer = refl
+complex-back complex.Lao = refl
+complex-back complex.Thai = refl
+
+same-complex : (s t : ComplexScript) → complex_number s ≡ complex_number t → s ≡ t
+same-complex s t same = sym (complex-back s) ∙ ap complex_from same ∙ complex-back t
 
 -- the symbol says the properties, and is one of a text
 abbrev same_properties : LineProperties → LineProperties → Bool
@@ -76,83 +103,100 @@ unfoldable sign_stepped : Stepped (value_in NoSign sign_rows)
 unfolding rises_from
 sign_stepped = of_rows NoSign sign_rows refl
 
-abbrev known_by : LineBreak × GeneralCategory → (EastAsianWidth × Bool) × Sign → Character
-known_by a b = record { line_break = a.0; category = a.1; width = b.0.0; is_pictograph = b.0.1; sign = b.1 }
+abbrev known_by : LineBreak × GeneralCategory → (EastAsianWidth × Bool) × (Sign × Script) → Character
+known_by a b = record { line_break = a.0; category = a.1; width = b.0.0; is_pictograph = b.0.1; sign = b.1.0; script = b.1.1 }
+
+abbrev pair : {X Y : Type 0} → X → Y → X × Y
+pair x y = (x, y)
 
 unfoldable character_stepped : Stepped character
 character_stepped =
-    zip_stepped known_by (λ c. (line_break c, general_category c)) (λ c. ((east_asian_width c, is_extended_pictographic c), value_in NoSign sign_rows c))
-    (zip_stepped (λ a b. (a, b)) line_break general_category line_break_stepped general_category_stepped)
-    (zip_stepped (λ a b. (a, b)) (λ c. (east_asian_width c, is_extended_pictographic c)) (value_in NoSign sign_rows)
-    (zip_stepped (λ a b. (a, b)) east_asian_width is_extended_pictographic east_asian_width_stepped is_extended_pictographic_stepped) sign_stepped)
+    zip_stepped known_by (λ c. (line_break c, general_category c)) (λ c. ((east_asian_width c, is_extended_pictographic c), (value_in NoSign sign_rows c, script c)))
+    (zip_stepped pair line_break general_category line_break_stepped general_category_stepped)
+    (zip_stepped pair (λ c. (east_asian_width c, is_extended_pictographic c)) (λ c. (value_in NoSign sign_rows c, script c))
+    (zip_stepped pair east_asian_width is_extended_pictographic east_asian_width_stepped is_extended_pictographic_stepped)
+    (zip_stepped pair (value_in NoSign sign_rows) script sign_stepped script_stepped))
 
-abbrev passes : LineStyle → List (ℕ × ComplexScript) → List Replacement → Character → ℕ → Bool
-passes tailored map replacements c v = says (tailored c) (symbol_by map replacements v).0
+abbrev Scripts : Type 0
+Scripts = Character → ComplexScript
 
-abbrev test : LineStyle → List (ℕ × ComplexScript) → List Replacement → ℕ → Bool
-test tailored map replacements c = passes tailored map replacements (character c) (value c)
+module _ (style : LineStyle) (scripts : Scripts) (map : List (ℕ × ComplexScript)) (replacements : List Replacement) where
+  abbrev passes : Character → ℕ → Bool
+  passes c v = says (style c) (symbol_by map replacements v).0 && complex_number (symbol_by map replacements v).1 == complex_number (scripts c)
 
-abbrev test_stepped : (tailored : LineStyle) (map : List (ℕ × ComplexScript)) (replacements : List Replacement) → Stepped (test tailored map replacements)
-test_stepped tailored map replacements = zip_stepped (passes tailored map replacements) character value character_stepped value_stepped
+  abbrev test : ℕ → Bool
+  test c = passes (character c) (value c)
 
-stands : (tailored : LineStyle) (map : List (ℕ × ComplexScript)) (replacements : List Replacement) → ((c : ℕ) → test tailored map replacements c ≡ true)
-    → (c : ℕ) → HasStyle tailored c (symbol_and_script (tailored_machine map replacements) c).0
-stands tailored map replacements all c =
-    subst (λ s. HasStyle tailored c s) (ap (λ (given : ℕ × ComplexScript). given.0) (sym (symbol-is map replacements c)))
-    (said (tailored (character c)) (symbol_by map replacements (value c)).0 (all c))
+  abbrev test_stepped : Stepped test
+  test_stepped = zip_stepped passes character value character_stepped value_stepped
 
-strict-passes : (c : ℕ) → test strict parts.MAP [] c ≡ true
-unfolding tables replaced character_stepped sign_stepped line_break_stepped general_category_stepped east_asian_width_stepped is_extended_pictographic_stepped value_stepped
-strict-passes = Stepped-everywhere (test strict parts.MAP []) (test_stepped strict parts.MAP []) refl
+  -- what a tailoring gives each code point: a symbol and a script
+  pub record Given : Type 0 where
+    pub symbols : (c : ℕ) → HasStyle style c (symbol_and_script (tailored_machine map replacements) c).0
+    pub scripts_are : (c : ℕ) → (symbol_and_script (tailored_machine map replacements) c).1 ≡ scripts (character c)
 
-pub strict-stands : (c : ℕ) → HasStyle strict c (symbol_and_script (tailored_machine parts.MAP []) c).0
-strict-stands = stands strict parts.MAP [] strict-passes
+  given : ((c : ℕ) → test c ≡ true) → Given
+  given all = record {
+    symbols = λ c.
+        subst (λ s. HasStyle style c s) (ap (λ (given : ℕ × ComplexScript). given.0) (sym (symbol-is map replacements c)))
+        (said (style (character c)) (symbol_by map replacements (value c)).0 (and_parts _ _ (all c)).0);
+    scripts_are = λ c.
+        ap (λ (given : ℕ × ComplexScript). given.1) (symbol-is map replacements c)
+        ∙ same-complex _ _ (eqb-true _ _ (and_parts (says (style (character c)) (symbol_by map replacements (value c)).0) _ (all c)).1);
+  }
 
-break-all-passes : (c : ℕ) → test break_all parts.BREAK_ALL parts.BREAK_ALL_REPLACED c ≡ true
-unfolding tables replaced character_stepped sign_stepped line_break_stepped general_category_stepped east_asian_width_stepped is_extended_pictographic_stepped value_stepped
-break-all-passes = Stepped-everywhere (test break_all parts.BREAK_ALL parts.BREAK_ALL_REPLACED) (test_stepped break_all parts.BREAK_ALL parts.BREAK_ALL_REPLACED) refl
+strict-passes : (c : ℕ) → test strict complex_script parts.MAP [] c ≡ true
+unfolding tables replaced character_stepped sign_stepped line_break_stepped general_category_stepped east_asian_width_stepped is_extended_pictographic_stepped script_stepped value_stepped
+strict-passes = Stepped-everywhere (test strict complex_script parts.MAP []) (test_stepped strict complex_script parts.MAP []) refl
 
-pub break-all-stands : (c : ℕ) → HasStyle break_all c (symbol_and_script (tailored_machine parts.BREAK_ALL parts.BREAK_ALL_REPLACED) c).0
-break-all-stands = stands break_all parts.BREAK_ALL parts.BREAK_ALL_REPLACED break-all-passes
+pub strict-given : Given strict complex_script parts.MAP []
+strict-given = given strict complex_script parts.MAP [] strict-passes
 
-keep-all-passes : (c : ℕ) → test keep_all parts.KEEP_ALL parts.KEEP_ALL_REPLACED c ≡ true
-unfolding tables replaced character_stepped sign_stepped line_break_stepped general_category_stepped east_asian_width_stepped is_extended_pictographic_stepped value_stepped
-keep-all-passes = Stepped-everywhere (test keep_all parts.KEEP_ALL parts.KEEP_ALL_REPLACED) (test_stepped keep_all parts.KEEP_ALL parts.KEEP_ALL_REPLACED) refl
+break-all-passes : (c : ℕ) → test break_all no_script parts.BREAK_ALL parts.BREAK_ALL_REPLACED c ≡ true
+unfolding tables replaced character_stepped sign_stepped line_break_stepped general_category_stepped east_asian_width_stepped is_extended_pictographic_stepped script_stepped value_stepped
+break-all-passes = Stepped-everywhere (test break_all no_script parts.BREAK_ALL parts.BREAK_ALL_REPLACED) (test_stepped break_all no_script parts.BREAK_ALL parts.BREAK_ALL_REPLACED) refl
 
-pub keep-all-stands : (c : ℕ) → HasStyle keep_all c (symbol_and_script (tailored_machine parts.KEEP_ALL parts.KEEP_ALL_REPLACED) c).0
-keep-all-stands = stands keep_all parts.KEEP_ALL parts.KEEP_ALL_REPLACED keep-all-passes
+pub break-all-given : Given break_all no_script parts.BREAK_ALL parts.BREAK_ALL_REPLACED
+break-all-given = given break_all no_script parts.BREAK_ALL parts.BREAK_ALL_REPLACED break-all-passes
 
-ja-loose-passes : (c : ℕ) → test ja_loose parts.JA_LOOSE [] c ≡ true
-unfolding tables replaced character_stepped sign_stepped line_break_stepped general_category_stepped east_asian_width_stepped is_extended_pictographic_stepped value_stepped
-ja-loose-passes = Stepped-everywhere (test ja_loose parts.JA_LOOSE []) (test_stepped ja_loose parts.JA_LOOSE []) refl
+keep-all-passes : (c : ℕ) → test keep_all complex_script parts.KEEP_ALL parts.KEEP_ALL_REPLACED c ≡ true
+unfolding tables replaced character_stepped sign_stepped line_break_stepped general_category_stepped east_asian_width_stepped is_extended_pictographic_stepped script_stepped value_stepped
+keep-all-passes = Stepped-everywhere (test keep_all complex_script parts.KEEP_ALL parts.KEEP_ALL_REPLACED) (test_stepped keep_all complex_script parts.KEEP_ALL parts.KEEP_ALL_REPLACED) refl
 
-pub ja-loose-stands : (c : ℕ) → HasStyle ja_loose c (symbol_and_script (tailored_machine parts.JA_LOOSE []) c).0
-ja-loose-stands = stands ja_loose parts.JA_LOOSE [] ja-loose-passes
+pub keep-all-given : Given keep_all complex_script parts.KEEP_ALL parts.KEEP_ALL_REPLACED
+keep-all-given = given keep_all complex_script parts.KEEP_ALL parts.KEEP_ALL_REPLACED keep-all-passes
 
-loose-passes : (c : ℕ) → test loose parts.LOOSE [] c ≡ true
-unfolding tables replaced character_stepped sign_stepped line_break_stepped general_category_stepped east_asian_width_stepped is_extended_pictographic_stepped value_stepped
-loose-passes = Stepped-everywhere (test loose parts.LOOSE []) (test_stepped loose parts.LOOSE []) refl
+ja-loose-passes : (c : ℕ) → test ja_loose complex_script parts.JA_LOOSE [] c ≡ true
+unfolding tables replaced character_stepped sign_stepped line_break_stepped general_category_stepped east_asian_width_stepped is_extended_pictographic_stepped script_stepped value_stepped
+ja-loose-passes = Stepped-everywhere (test ja_loose complex_script parts.JA_LOOSE []) (test_stepped ja_loose complex_script parts.JA_LOOSE []) refl
 
-pub loose-stands : (c : ℕ) → HasStyle loose c (symbol_and_script (tailored_machine parts.LOOSE []) c).0
-loose-stands = stands loose parts.LOOSE [] loose-passes
+pub ja-loose-given : Given ja_loose complex_script parts.JA_LOOSE []
+ja-loose-given = given ja_loose complex_script parts.JA_LOOSE [] ja-loose-passes
 
-ja-normal-passes : (c : ℕ) → test ja_normal parts.JA_NORMAL [] c ≡ true
-unfolding tables replaced character_stepped sign_stepped line_break_stepped general_category_stepped east_asian_width_stepped is_extended_pictographic_stepped value_stepped
-ja-normal-passes = Stepped-everywhere (test ja_normal parts.JA_NORMAL []) (test_stepped ja_normal parts.JA_NORMAL []) refl
+loose-passes : (c : ℕ) → test loose complex_script parts.LOOSE [] c ≡ true
+unfolding tables replaced character_stepped sign_stepped line_break_stepped general_category_stepped east_asian_width_stepped is_extended_pictographic_stepped script_stepped value_stepped
+loose-passes = Stepped-everywhere (test loose complex_script parts.LOOSE []) (test_stepped loose complex_script parts.LOOSE []) refl
 
-pub ja-normal-stands : (c : ℕ) → HasStyle ja_normal c (symbol_and_script (tailored_machine parts.JA_NORMAL []) c).0
-ja-normal-stands = stands ja_normal parts.JA_NORMAL [] ja-normal-passes
+pub loose-given : Given loose complex_script parts.LOOSE []
+loose-given = given loose complex_script parts.LOOSE [] loose-passes
 
-normal-passes : (c : ℕ) → test normal parts.NORMAL [] c ≡ true
-unfolding tables replaced character_stepped sign_stepped line_break_stepped general_category_stepped east_asian_width_stepped is_extended_pictographic_stepped value_stepped
-normal-passes = Stepped-everywhere (test normal parts.NORMAL []) (test_stepped normal parts.NORMAL []) refl
+ja-normal-passes : (c : ℕ) → test ja_normal complex_script parts.JA_NORMAL [] c ≡ true
+unfolding tables replaced character_stepped sign_stepped line_break_stepped general_category_stepped east_asian_width_stepped is_extended_pictographic_stepped script_stepped value_stepped
+ja-normal-passes = Stepped-everywhere (test ja_normal complex_script parts.JA_NORMAL []) (test_stepped ja_normal complex_script parts.JA_NORMAL []) refl
 
-pub normal-stands : (c : ℕ) → HasStyle normal c (symbol_and_script (tailored_machine parts.NORMAL []) c).0
-normal-stands = stands normal parts.NORMAL [] normal-passes
+pub ja-normal-given : Given ja_normal complex_script parts.JA_NORMAL []
+ja-normal-given = given ja_normal complex_script parts.JA_NORMAL [] ja-normal-passes
 
-ja-passes : (c : ℕ) → test strict parts.JA [] c ≡ true
-unfolding tables replaced character_stepped sign_stepped line_break_stepped general_category_stepped east_asian_width_stepped is_extended_pictographic_stepped value_stepped
-ja-passes = Stepped-everywhere (test strict parts.JA []) (test_stepped strict parts.JA []) refl
+normal-passes : (c : ℕ) → test normal complex_script parts.NORMAL [] c ≡ true
+unfolding tables replaced character_stepped sign_stepped line_break_stepped general_category_stepped east_asian_width_stepped is_extended_pictographic_stepped script_stepped value_stepped
+normal-passes = Stepped-everywhere (test normal complex_script parts.NORMAL []) (test_stepped normal complex_script parts.NORMAL []) refl
 
-pub ja-stands : (c : ℕ) → HasStyle strict c (symbol_and_script (tailored_machine parts.JA []) c).0
-ja-stands = stands strict parts.JA [] ja-passes
+pub normal-given : Given normal complex_script parts.NORMAL []
+normal-given = given normal complex_script parts.NORMAL [] normal-passes
+
+ja-passes : (c : ℕ) → test strict complex_script parts.JA [] c ≡ true
+unfolding tables replaced character_stepped sign_stepped line_break_stepped general_category_stepped east_asian_width_stepped is_extended_pictographic_stepped script_stepped value_stepped
+ja-passes = Stepped-everywhere (test strict complex_script parts.JA []) (test_stepped strict complex_script parts.JA []) refl
+
+pub ja-given : Given strict complex_script parts.JA []
+ja-given = given strict complex_script parts.JA [] ja-passes

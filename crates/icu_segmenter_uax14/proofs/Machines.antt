@@ -10,7 +10,7 @@ use Rattle.icu_segmenter_uax14.specs.Lines.{line_machine, tailored_machine}
 use Rattle.icu_segmenter_uax14.specs.declared.data.TheConstants.{MAP}
 use Rattle.icu_segmenter_uax14.proofs.Lists.{cells}
 use Rattle.icu_segmenter_uax14.proofs.LineTables.{waits}
-use Rattle.icu_segmenter_uax14.proofs.LineSymbols.{strict-stands}
+use Rattle.icu_segmenter_uax14.proofs.LineSymbols.{strict-given}
 use Rattle.icu_segmenter_uax14.proofs.MachineTests.{IsSound, is-checked}
 
 pub line-machine-is-sound : IsSound line_machine 126 72 waits
@@ -43,7 +43,7 @@ text-symbols map replacements tailored stands c = ((stands c).some, (stands c).b
 
 pub line-machine-is-checked : IsChecked line_machine
 unfolding line_machine
-line-machine-is-checked = is-checked line_machine 126 72 waits line-machine-is-sound (text-symbols MAP [] strict strict-stands)
+line-machine-is-checked = is-checked line_machine 126 72 waits line-machine-is-sound (text-symbols MAP [] strict strict-given.symbols)
 
 pub tailored-is-checked : (map : List (ℕ × ComplexScript)) (replacements : List Replacement) (tailored : LineStyle)
     → ((c : ℕ) → HasStyle tailored c (symbol_and_script (tailored_machine map replacements) c).0) → IsChecked (tailored_machine map replacements)

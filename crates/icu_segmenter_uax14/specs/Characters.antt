@@ -11,6 +11,11 @@ use Rattle.ucd_east_asian.specs.declared.EastAsianWidth.{EastAsianWidth}
 use Rattle.ucd_east_asian.specs.declared.EastAsianWidth.TheVariants.{Ambiguous as AmbiguousWidth, Fullwidth, Halfwidth, Wide}
 use Rattle.ucd_east_asian.specs.EastAsianWidth.{east_asian_width, east_asian_width_eq}
 use Rattle.ucd_emoji.specs.Binary.{is_extended_pictographic}
+use Rattle.ucd_script.specs.declared.Script.{Script}
+use Rattle.ucd_script.specs.declared.Script.TheVariants.{Khmer, Lao, Myanmar, Thai}
+use Rattle.ucd_script.specs.Script.{script}
+use Rattle.seg_data.specs.declared.provider.ComplexScript.{ComplexScript}
+use Rattle.seg_data.specs.declared.provider.ComplexScript.TheVariants as complex
 use Rattle.icu_segmenter_uax14.specs.LineValues.{LineProperties, Trait, Usual, Opening, Closing, Unassigned, Dotted, Loose, Kept, StandsFor}
 
 -- the code points that UAX #14 and CSS Text 3 name
@@ -61,6 +66,7 @@ pub record Character : Type 0 where
   pub width : EastAsianWidth
   pub is_pictograph : Bool
   pub sign : Sign
+  pub script : Script
 
 abbrev pub character : ℕ → Character
 character c = record {
@@ -69,6 +75,7 @@ character c = record {
   width = east_asian_width c;
   is_pictograph = is_extended_pictographic c;
   sign = value_in NoSign sign_rows c;
+  script = script c;
 }
 
 -- one of some classes
@@ -182,3 +189,17 @@ keep_all = without_viramas (λ c.
 -- the symbol stands for the properties of the code point by a style
 abbrev pub HasStyle : LineStyle → ℕ → ℕ → Type 0
 HasStyle style code_point symbol = StandsFor (style (character code_point)) symbol
+
+-- the script by which a dictionary may cut: that of what has complex context
+abbrev pub dictionary_script : Script → ComplexScript
+dictionary_script Khmer = complex.Khmer
+dictionary_script Lao = complex.Lao
+dictionary_script Myanmar = complex.Myanmar
+dictionary_script Thai = complex.Thai
+dictionary_script _ = complex.None
+
+abbrev pub complex_script : Character → ComplexScript
+complex_script c = if line_break_eq c.line_break ComplexContext then dictionary_script c.script else complex.None
+
+abbrev pub no_script : Character → ComplexScript
+no_script c = complex.None

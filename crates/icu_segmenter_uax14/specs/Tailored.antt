@@ -1,10 +1,11 @@
 -- The machine of lines by each tailoring, and the style that it is of.
 use Rattle.std.specs.Prelude.{◌≡◌, ℕ, List, [], ◌∷◌}
 use Rattle.seg_text.specs.Boundaries.{start}
+use Rattle.seg_data.specs.declared.provider.ComplexScript.{ComplexScript}
 use Rattle.seg_machine.specs.Machine.{Machine, symbol_and_script, symbols_of, with_tailoring}
 use Rattle.seg_machine.specs.Pick.{machine_boundaries}
 use Rattle.seg_rules.specs.Plain.{plain_places}
-use Rattle.icu_segmenter_uax14.specs.Characters.{LineStyle, HasStyle, strict, break_all, keep_all, ja_loose, loose, ja_normal, normal}
+use Rattle.icu_segmenter_uax14.specs.Characters.{Character, LineStyle, HasStyle, character, complex_script, no_script, strict, break_all, keep_all, ja_loose, loose, ja_normal, normal}
 use Rattle.icu_segmenter_uax14.specs.LineRules.{line_rules}
 use Rattle.icu_segmenter_uax14.specs.Lines.{line_machine, line_tailorings}
 
@@ -29,6 +30,11 @@ style_of JaNormal = ja_normal
 style_of Normal = normal
 style_of Ja = strict
 
+-- the scripts of a tailoring, by which dictionaries cut: where words break anywhere, none
+abbrev pub scripts_of : Tailoring → Character → ComplexScript
+scripts_of BreakAll = no_script
+scripts_of _ = complex_script
+
 -- the machine of lines by a tailoring
 abbrev pub machine_by : Tailoring → Machine
 machine_by Untailored = line_machine
@@ -47,3 +53,7 @@ FollowsRules m = (cs : List ℕ) → machine_boundaries m cs ≡ start ∷ plain
 -- the symbol of every code point stands for its properties by a style
 abbrev pub HasSymbolsOf : LineStyle → Machine → Type 0
 HasSymbolsOf style m = (c : ℕ) → HasStyle style c (symbol_and_script m c).0
+
+-- the script of every code point is that by which a dictionary may cut it
+abbrev pub HasScriptsOf : (Character → ComplexScript) → Machine → Type 0
+HasScriptsOf scripts m = (c : ℕ) → (symbol_and_script m c).1 ≡ scripts (character c)

@@ -1,5 +1,5 @@
 //! Laws of the machine's boundaries, of every list of code points. So they hold of texts in every encoding, in code points.
-ghost use Rattle.icu_segmenter_uax14.specs.Tailored.{FollowsRules, HasSymbolsOf, Tailoring, machine_by, style_of};
+ghost use Rattle.icu_segmenter_uax14.specs.Tailored.{FollowsRules, HasScriptsOf, HasSymbolsOf, Tailoring, machine_by, scripts_of, style_of};
 
 use seg_rules::laws::boundaries_are_places;
 
@@ -14,4 +14,10 @@ pub fn lines_follow_rules()
 /// Law: the symbol of every code point stands for its properties in Unicode 18.0, by each tailoring for those that CSS Text 3 has in their place.
 pub fn symbols_have_properties()
     ensures { (tailoring : Tailoring) → HasSymbolsOf (style_of tailoring) (machine_by tailoring) }
+{}
+
+/// Law: the script of every code point is that by which a dictionary may cut it: Thai, Lao, Khmer or Myanmar where it has complex
+/// context, but where CSS Text 3 breaks words anywhere.
+pub fn symbols_have_scripts()
+    ensures { (tailoring : Tailoring) → HasScriptsOf (scripts_of tailoring) (machine_by tailoring) }
 {}
