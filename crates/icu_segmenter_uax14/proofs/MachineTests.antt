@@ -237,8 +237,8 @@ module _ (m : Machine) (count last : ℕ) (waits : List Bool) (is : IsSound m co
   unfolding pick scan
   some-pick s list are =
       let found = subst (λ n. accepted m (run m 0 (s ∷ (list ++ replicate n 0))) ≡ true) (sym states-are)
-          (advance 0 s (list ++ replicate (suc (suc (count - 2))) 0) some-states (All-head (IsSymbolOf (suc last)) s list are) refl
-          (λ t small waits. from-waiting list (suc (count - 2)) t small waits (All-tail (IsSymbolOf (suc last)) s list are))) in
+      (advance 0 s (list ++ replicate (suc (suc (count - 2))) 0) some-states (All-head (IsSymbolOf (suc last)) s list are) refl
+      (λ t small waits. from-waiting list (suc (count - 2)) t small waits (All-tail (IsSymbolOf (suc last)) s list are))) in
       some-map (λ (f : Boundary). boundary (min f.offset (length (s ∷ list))) f.status) (picked_step (map (state_at m) (scan m (s ∷ list))))
       (some-or (first_condition [] (map (state_at m) (scan m (s ∷ list)))) (last_step acceptance_status (map (state_at m) (scan m (s ∷ list)))) found)
 
