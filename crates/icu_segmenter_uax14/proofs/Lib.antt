@@ -1,0 +1,9 @@
+mod Lists
+mod Values
+mod LineSymbols
+mod LineTables
+mod LineLaw
+mod MachineTests
+mod Machines
+mod TailoringTests
+mod Tailorings

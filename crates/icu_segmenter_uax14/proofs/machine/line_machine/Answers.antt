@@ -1,0 +1,9 @@
+use Rattle.icu_segmenter_uax14.specs.Lines.{line_machine}
+use Rattle.icu_segmenter_uax14.proofs.LineTables.{waits}
+use Rattle.icu_segmenter_uax14.proofs.MachineTests.{memory-alone}
+use Rattle.icu_segmenter_uax14.proofs.Machines.{line-machine-is-sound}
+use Rattle.icu_segmenter_uax14.proofs.machine.line_machine.Goals as goal
+
+pub returns-clause-refused : goal.returns-clause-refused
+unfolding line_machine
+returns-clause-refused c = memory-alone line_machine 126 72 waits line-machine-is-sound c.machine_of.result c.machine_of.ensures.refused

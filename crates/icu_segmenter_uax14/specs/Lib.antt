@@ -1,0 +1,6 @@
+pub mod Characters
+pub mod LineClasses
+pub mod LineRules
+pub mod LineValues
+pub mod Lines
+pub mod Tailored
