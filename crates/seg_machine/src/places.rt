@@ -10,13 +10,11 @@ pub(crate) trait Places: Drop {
 
     /// The place for a lookahead, if one is kept.
     fn place_for(&self, lookahead: Lookahead) -> Option<usize>
-        requires { lookahead < length (kept self.now) }
-        ensures { result ≡ place_for (kept self.now) lookahead };
+        ensures { lookahead < length (kept self.now) → result ≡ place_for (kept self.now) lookahead };
 
     /// Keeps a place for a lookahead.
     fn keep(&mut self, lookahead: Lookahead, place: usize)
-        requires { lookahead < length (kept self.old) }
-        ensures { kept self.new ≡ slice_set (kept self.old) lookahead (Some place) };
+        ensures { lookahead < length (kept self.old) → kept self.new ≡ slice_set (kept self.old) lookahead (Some place) };
 }
 
 /// None, for a machine without lookaheads.
@@ -61,10 +59,13 @@ impl Places for EightPlaces {
     ghost kept = { λ s. s.0 };
 
     fn place_for(&self, lookahead: Lookahead) -> Option<usize> {
-        self.0[lookahead as usize]
+        *self.0.get(lookahead as usize)?
     }
 
     fn keep(&mut self, lookahead: Lookahead, place: usize) {
-        self.0[lookahead as usize] = Some(place);
+        let index = lookahead as usize;
+        if index < self.0.len() {
+            self.0[index] = Some(place);
+        }
     }
 }
