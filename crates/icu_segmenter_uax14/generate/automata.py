@@ -62,7 +62,7 @@ class Rules:
     def rows(self, text, name):
         rows = []
         for line in text.split(f"{name} =\n")[1].split("    ∷ []\n\n")[0].splitlines():
-            rule = re.fullmatch(r" *-- (.*)", line)
+            rule = re.match(r" *-- (\w+)", line)
             if rule:
                 number = rule[1]
                 continue

@@ -178,9 +178,8 @@ def smallest(accepts, edges, last):
         if len(split) == len(set(group)):
             break
         group = finer
-    found = Machine([None] * len(split), [None] * len(split))
+    found_accepts, found_nexts = [None] * len(split), [None] * len(split)
     for q, key in enumerate(keys):
-        found.accepts[finer[q]] = accepts[key]
-        found.nexts[finer[q]] = [None if to is None else finer[to] for to in nexts[q]]
-    found.lookaheads = 1 + max((a[2] for a in found.accepts if a and a[2] is not None), default=-1)
-    return found
+        found_accepts[finer[q]] = accepts[key]
+        found_nexts[finer[q]] = [None if to is None else finer[to] for to in nexts[q]]
+    return Machine(found_accepts, found_nexts)

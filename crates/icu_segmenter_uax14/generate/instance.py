@@ -1,5 +1,5 @@
 """The instance of seg_rules' law, as text: the rules as numbers, tables, plan and relation, and that they pass the tests."""
-from automata import HALF, MARKS, PAIR, is_open
+from automata import HALF, MARKS
 from compiler import CONDITION
 from relation import LOST, NEWEST, OLDER
 

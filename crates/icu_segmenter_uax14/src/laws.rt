@@ -3,7 +3,7 @@ ghost use Rattle.icu_segmenter_uax14.specs.Tailored.{FollowsRules, HasScriptsOf,
 
 use seg_rules::laws::boundaries_are_places;
 
-/// Law: for every text the boundaries of the machine of lines, and of it by each tailoring, are just the places where the rules of
+/// Law: for every text the boundaries of the line machine, with any tailoring or none, are exactly the places where the rules of
 /// UAX #14 break, with status 1 where they must break.
 pub fn lines_follow_rules()
     ensures { (tailoring : Tailoring) → FollowsRules (machine_by tailoring) }
@@ -11,13 +11,14 @@ pub fn lines_follow_rules()
     boundaries_are_places();
 }
 
-/// Law: the symbol of every code point stands for its properties in Unicode 18.0, by each tailoring for those that CSS Text 3 has in their place.
+/// Law: the symbol of every code point stands for its properties in Unicode 18.0; with a tailoring, for those that CSS Text 3 puts
+/// in their place.
 pub fn symbols_have_properties()
     ensures { (tailoring : Tailoring) → HasSymbolsOf (style_of tailoring) (machine_by tailoring) }
 {}
 
-/// Law: the script of every code point is that by which a dictionary may cut it: Thai, Lao, Khmer or Myanmar where it has complex
-/// context, but where CSS Text 3 breaks words anywhere.
+/// Law: the script of every code point is the one whose dictionary may cut it: Thai, Lao, Khmer or Myanmar for class SA, else none;
+/// with `break-all`, none at all.
 pub fn symbols_have_scripts()
     ensures { (tailoring : Tailoring) → HasScriptsOf (scripts_of tailoring) (machine_by tailoring) }
 {}

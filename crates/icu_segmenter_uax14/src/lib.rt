@@ -1,9 +1,9 @@
-//! Lines, of which it is proved that they are those of UAX #14, in the form of revision 55, with the properties of Unicode 18.0.
+//! Line breaking, proved to be that of UAX #14, revision 55, with the properties of Unicode 18.0.
 //!
-//! The rules are rows of data, one for each line of the standard (specs/LineRules.antt). The machine is arrays that
-//! `generate/generate.py` writes, and that the segmenters of `icu_segmenter` read. Nothing of the arrays is trusted: it is proved
-//! of every code point that its symbol stands for its properties, and of the machine and each of its tailorings that its
-//! boundaries are, for every text, the places of the rules.
+//! The rules are data: a row for each line of the standard (specs/LineRules.antt). The machine is arrays that
+//! `generate/generate.py` writes, and that the segmenters of `icu_segmenter` read. The arrays aren't trusted: it is proved that the
+//! symbol of every code point stands for its properties, and that the boundaries of the machine, and of each of its tailorings,
+//! are for every text the places where the rules break.
 #![tactic(auto)]
 
 mod data;

@@ -13,8 +13,8 @@ use seg_lines::provider::LineTailorings;
 use seg_machine::provider::SegmenterStateMachine;
 use std::alloc::Global;
 
-/// The machine of the lines of UAX #14, with the properties of Unicode 18.0. Status 1 is a mandatory break. What has complex
-/// context in Thai, Lao, Khmer and Myanmar has its script, so that dictionaries can cut it. The only error is want of memory.
+/// The machine of the lines of UAX #14, with the properties of Unicode 18.0. Status 1 is a mandatory break. Letters and marks of
+/// Thai, Lao, Khmer and Myanmar have their script, so that dictionaries can cut them. The only error is out of memory.
 #[tactic(auto, unfolding(crate::specs::Lines::line_machine))]
 pub fn line_machine(alloc: Global) -> Result<SegmenterStateMachine, DataError>
     ensures made { IfOk result (λ m. m ≡ line_machine) }
@@ -23,8 +23,8 @@ pub fn line_machine(alloc: Global) -> Result<SegmenterStateMachine, DataError>
     machine_of(alloc, &RANGES, OTHER, &STATES, &TRANSITIONS, SHIFT, &MAP)
 }
 
-/// The tailorings of that machine, all seven, by the properties `line-break` and `word-break` of CSS Text 3. The only error is
-/// want of memory.
+/// The tailorings of that machine, all seven, for the properties `line-break` and `word-break` of CSS Text 3. The only error is
+/// out of memory.
 #[tactic(auto, unfolding(crate::specs::Lines::line_tailorings))]
 pub fn line_tailorings(alloc: Global) -> Result<LineTailorings, DataError>
     ensures made { IfOk result (λ tailorings. tailorings ≡ line_tailorings) }

@@ -25,7 +25,7 @@ pub(crate) const ACCEPT_0_NAMED: Entry = (Acceptance::Accept(0), Some(0));
 
 pub(crate) const CONDITION_0: Entry = (Acceptance::Conditional(0, 0), None);
 
-/// The machine of these parts, with one lookahead. The errors are want of memory, and what is wrong with the parts.
+/// The machine of these parts, with one lookahead. The errors are out of memory, and what is wrong with the parts.
 pub(crate) fn machine_of(
     alloc: Global,
     ranges: &[(u32, u32, Symbol)],
@@ -47,7 +47,7 @@ pub(crate) fn machine_of(
     SegmenterStateMachine::try_from_parts(symbols, states, transitions, 1, shift, map)
 }
 
-/// The tailoring by this map and these symbols in the place of symbols. The errors are want of memory, and what is wrong with the parts.
+/// The tailoring by this map and these symbols in the place of symbols. The errors are out of memory, and what is wrong with the parts.
 pub(crate) fn tailoring_of(
     alloc: Global,
     map: &[(Symbol, ComplexScript)],
