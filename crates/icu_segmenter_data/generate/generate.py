@@ -137,9 +137,8 @@ def by_table(table, machine, symbol_of, default):
 
 # The kinds of segments.
 
-STATE_USES = "use icu_segmenter::provider::{State, Symbol};"
 PLAIN_RANGES = "The code points of each symbol; others have OTHER. The numbers of symbols are those of the rows of TRANSITIONS."
-SHARED = "\nThey are the classes of the pair table too."
+CLASS_RANGES = "The code points of each class; others have OTHER_CLASS."
 
 
 def numbered(machine, symbol_of, default):
@@ -149,6 +148,10 @@ def numbered(machine, symbol_of, default):
 
 def other(value):
     return constant("The symbol of the code points that no range holds.", "OTHER", "Symbol", value)
+
+
+def other_class(value):
+    return constant("The class of the code points that no range of CLASSES holds.", "OTHER_CLASS", "u8", value)
 
 
 def shift(machine):
@@ -177,10 +180,8 @@ def clusters(database, version):
     verify(database.folder, "GraphemeBreakTest.txt", "by machine", by_machine(machine, symbol_of, "XX"))
     verify(database.folder, "GraphemeBreakTest.txt", "by pair table", by_table(table, machine, symbol_of, "XX"))
     ranges, default = numbered(machine, symbol_of, "XX")
-    return file("clusters/data.rt", version, "Grapheme clusters: the parts of the machine and of the pair table, by UAX #29.",
-          [*table_uses(machine, table), STATE_USES], [
-        *ranges_array(PLAIN_RANGES + SHARED, "RANGES", "Symbol", ranges), *other(default),
-        *states_array(machine), *transitions_array(machine), *shift(machine), *entries_array(table, classes(machine)),
+    return file("clusters/data.rt", version, "Grapheme clusters: the parts of the pair table, by UAX #29.", table_uses(None, table), [
+        *ranges_array(CLASS_RANGES, "CLASSES", "u8", ranges), *other_class(default), *entries_array(table, classes(machine)),
         *numbers_of(table, complex_class=0)])
 
 
@@ -225,30 +226,21 @@ def sentences(database, version):
     verify(database.folder, "SentenceBreakTest.txt", "by machine", by_machine(machine, symbol_of, "XX"))
     verify(database.folder, "SentenceBreakTest.txt", "by pair table", by_table(table, machine, symbol_of, "XX"))
     ranges, default = numbered(machine, symbol_of, "XX")
-    return file("sentences/data.rt", version, "Sentences: the parts of the machine and of the pair table, by UAX #29.",
-          [*table_uses(machine, table), STATE_USES], [
-        *ranges_array(PLAIN_RANGES + SHARED, "RANGES", "Symbol", ranges), *other(default),
-        *states_array(machine), *transitions_array(machine), *shift(machine), *entries_array(table, classes(machine)),
+    return file("sentences/data.rt", version, "Sentences: the parts of the pair table, by UAX #29.", table_uses(None, table), [
+        *ranges_array(CLASS_RANGES, "CLASSES", "u8", ranges), *other_class(default), *entries_array(table, classes(machine)),
         *numbers_of(table, complex_class=0)])
 
 
+def line_machine():
+    """The machine of lines without tailorings, out of which the pair tables are made."""
+    return machines.Rules(rules.LINES, rules.LINE_SYMBOLS, rules.LINE_GROUPS, rules.LINE_STATUS, rules.LINE_STATUS_AT_END).machine()
+
+
 def lines(database, version):
-    machine = machines.Rules(rules.LINES, rules.LINE_SYMBOLS, rules.LINE_GROUPS, rules.LINE_STATUS,
-                             rules.LINE_STATUS_AT_END).machine()
-    numbers = {symbol: k + 1 for k, symbol in enumerate(machine.symbols)}
-    kinds = properties.line_values(database)
-    symbol_of = {c: symbol for code_points, symbol, _, _ in kinds for c in code_points}
+    machine = line_machine()
+    symbol_of = {c: symbol for code_points, symbol, _, _ in properties.line_values(database) for c in code_points}
     verify(database.folder, "LineBreakTest.txt", "by machine", by_machine(machine, symbol_of, "AL"), with_marks=True)
-    # A kind that no tailoring changes and that has no script is a symbol, each other one a pseudo symbol of its own.
-    value_of, pseudo = {}, []
-    for code_points, symbol, script, tailored in kinds:
-        value = numbers[symbol]
-        if tailored or script != "None":
-            value = len(machine.symbols) + 1 + len(pseudo)
-            pseudo.append((symbol, script, tailored))
-        value_of.update(dict.fromkeys(code_points, value))
-    default = len(machine.symbols) + 1
-    # The classes of pair tables are those that the engine of lines names; it glues marks itself.
+    # The classes are those that the engine of lines names; it glues marks itself.
     class_numbers = {name: k for k, name in enumerate(properties.LINE_CLASSES) if name}
     class_of = {c: class_numbers[name] for c, name in properties.line_classes(database).items()}
     class_names = {k: name for name, k in class_numbers.items()}
@@ -256,35 +248,21 @@ def lines(database, version):
     marks, keeps_none = ({class_numbers[name] for name in names.split()} for names in ("CM ZWJ", "BK CR LF NL SP ZW"))
     verify(database.folder, "LineBreakTest.txt", "by pair table", lambda text: check_machines.line_table_segments(
         table, [class_of.get(c, class_numbers["XX"]) for c in text], marks, keeps_none, class_numbers["ZWJ"]))
-    maps = []
-    for name in properties.TAILORINGS:
-        pairs = [tailored.get(name, (symbol, script)) for symbol, script, tailored in pseudo]
-        maps += map_array(f"The map by the tailoring {name}.", name.upper(), [(numbers[s], script) for s, script in pairs])
-    return file("lines/data.rt", version, "Lines: the parts of the machine, its tailorings and the pair table, by UAX #14 and CSS Text 3.", [
-        *table_uses(machine, table), "use icu_segmenter::provider::{ComplexScript, State, Symbol};"], [
-        *ranges_array(PLAIN_RANGES.replace("symbol;", "symbol and pseudo symbol;"), "RANGES", "Symbol",
-                      properties.ranges(value_of, default)), *other(default),
-        *states_array(machine), *transitions_array(machine), *shift(machine),
-        *map_array("The symbol and the script of each pseudo symbol.", "MAP",
-                   [(numbers[symbol], script) for symbol, script, _ in pseudo]), *maps,
-        *ranges_array("The code points of each class of the pair table; others have OTHER_CLASS.", "CLASSES", "u8",
-                      properties.ranges(class_of, class_numbers["XX"])),
-        *constant("The class of the code points that no range of CLASSES holds.", "OTHER_CLASS", "u8", class_numbers["XX"]),
+    return file("lines/data.rt", version, "Lines: the parts of the pair table, by UAX #14.", table_uses(None, table), [
+        *ranges_array(CLASS_RANGES, "CLASSES", "u8", properties.ranges(class_of, class_numbers["XX"])), *other_class(class_numbers["XX"]),
         *entries_array(table, class_names), *numbers_of(table, class_numbers["SA"])])
 
 
 def lines_17(database, version):
     # Its rules are those of lines, over the classes that the engine 17 names; it glues marks itself.
-    machine = machines.Rules(rules.LINES, rules.LINE_SYMBOLS, rules.LINE_GROUPS, rules.LINE_STATUS,
-                             rules.LINE_STATUS_AT_END).machine()
+    machine = line_machine()
     names = {k: name for k, name in enumerate(properties.LINE_17_CLASSES) if name}
     numbers = {name: k for k, name in names.items()}
     alike = [k for k, name in names.items() if properties.LINE_17_CLASS_SYMBOLS[name] == name]
     table = pair_tables.pair_table(machine, {k: properties.LINE_17_CLASS_SYMBOLS[name] for k, name in names.items()}, alike)
     class_of = {c: numbers[name] for c, name in properties.line_17_classes(database).items()}
     return file("lines_17/data.rt", version, "Lines by the engine 17: the parts of the pair table, by UAX #14.", table_uses(None, table), [
-        *ranges_array("The code points of each class; others have OTHER_CLASS.", "CLASSES", "u8", properties.ranges(class_of, numbers["XX"])),
-        *constant("The class of the code points that no range of CLASSES holds.", "OTHER_CLASS", "u8", numbers["XX"]),
+        *ranges_array(CLASS_RANGES, "CLASSES", "u8", properties.ranges(class_of, numbers["XX"])), *other_class(numbers["XX"]),
         *entries_array(table, names), *numbers_of(table, numbers["SA"])])
 
 

@@ -1,5 +1,5 @@
 mod MachineTests
+mod ChosenLines
 mod TableTests
 mod Machines
 mod Tables
-mod TailoringTests

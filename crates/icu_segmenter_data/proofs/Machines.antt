@@ -1,79 +1,13 @@
--- The machines of Unicode's data have no fault: computations.
+-- The machine of words has no fault: a computation.
 use Rattle.std.proofs.Common.{refl, arith}
 use Rattle.ucd_table.proofs.TrieCheck.{all_below}
 use Rattle.icu_segmenter.specs.Machine.{state_at, step, symbol_count}
-use Rattle.icu_segmenter_data.specs.Unicode.{cluster_machine, line_machine, sentence_machine, word_machine}
+use Rattle.icu_segmenter_data.specs.Unicode.{word_machine}
 use Rattle.icu_segmenter_data.proofs.MachineTests.{IsSound}
-
-pub cluster-machine-is-sound : IsSound cluster_machine 11 15
-unfolding all_below state_at step symbol_count
-cluster-machine-is-sound =
-    record {
-      ranges_are = refl;
-      ranges_rise = refl;
-      values_are = refl;
-      entries_are = refl;
-      nothing_replaced = refl;
-      nexts_are = refl;
-      states_are = refl;
-      state_count = refl;
-      some_states = omega arith;
-      few_states = omega arith;
-      size = refl;
-      few_symbols = omega arith;
-      symbols_are = refl;
-      no_lookaheads = refl;
-      starts_are = refl;
-      ends_are = refl;
-    }
 
 pub word-machine-is-sound : IsSound word_machine 29 22
 unfolding all_below state_at step symbol_count
 word-machine-is-sound =
-    record {
-      ranges_are = refl;
-      ranges_rise = refl;
-      values_are = refl;
-      entries_are = refl;
-      nothing_replaced = refl;
-      nexts_are = refl;
-      states_are = refl;
-      state_count = refl;
-      some_states = omega arith;
-      few_states = omega arith;
-      size = refl;
-      few_symbols = omega arith;
-      symbols_are = refl;
-      no_lookaheads = refl;
-      starts_are = refl;
-      ends_are = refl;
-    }
-
-pub sentence-machine-is-sound : IsSound sentence_machine 12 15
-unfolding all_below state_at step symbol_count
-sentence-machine-is-sound =
-    record {
-      ranges_are = refl;
-      ranges_rise = refl;
-      values_are = refl;
-      entries_are = refl;
-      nothing_replaced = refl;
-      nexts_are = refl;
-      states_are = refl;
-      state_count = refl;
-      some_states = omega arith;
-      few_states = omega arith;
-      size = refl;
-      few_symbols = omega arith;
-      symbols_are = refl;
-      no_lookaheads = refl;
-      starts_are = refl;
-      ends_are = refl;
-    }
-
-pub line-machine-is-sound : IsSound line_machine 73 46
-unfolding all_below state_at step symbol_count
-line-machine-is-sound =
     record {
       ranges_are = refl;
       ranges_rise = refl;

@@ -1,2 +1,1 @@
-pub mod Tailorings
 pub mod Unicode

@@ -1,27 +1,20 @@
 //! Grapheme clusters.
 ghost use Rattle.std.specs.Prelude.{◌≡◌, IfOk, IfErr};
 ghost use Rattle.seg_data.specs.declared.provider.DataError.TheVariants.{Memory};
-ghost use Rattle.icu_segmenter_data.specs.Unicode.{cluster_machine, cluster_table};
+ghost use Rattle.icu_segmenter_data.specs.Unicode.{cluster_table};
 
 mod data;
 
-use crate::parts::{machine_of, table_of};
-use data::{ENTRIES, NUMBERS, OTHER, RANGES, SHIFT, STATES, TRANSITIONS};
-use icu_segmenter::provider::{DataError, RuleBreakData, SegmenterStateMachine};
+use crate::parts::table_of;
+use data::{CLASSES, ENTRIES, NUMBERS, OTHER_CLASS};
+use icu_segmenter::provider::{DataError, RuleBreakData};
 use std::alloc::Global;
 
-/// The machine of extended grapheme clusters, by UAX #29. The only error is want of memory.
-pub fn cluster_machine(alloc: Global) -> Result<SegmenterStateMachine, DataError>
-    ensures made { IfOk result (λ m. m ≡ cluster_machine) }
-    ensures refused { IfErr result (λ fault. fault ≡ Memory) }
-{
-    machine_of(alloc, &RANGES, OTHER, &STATES, &TRANSITIONS, SHIFT, &[])
-}
-
-/// The pair table of the same clusters, which words and lines with dictionaries ask for too. The only error is want of memory.
+/// The pair table of extended grapheme clusters, by UAX #29, which words and lines by pair tables ask for too. The only error is
+/// want of memory.
 pub fn cluster_table(alloc: Global) -> Result<RuleBreakData, DataError>
     ensures made { IfOk result (λ t. t ≡ cluster_table) }
     ensures refused { IfErr result (λ fault. fault ≡ Memory) }
 {
-    table_of(alloc, &RANGES, OTHER, &ENTRIES, &[], NUMBERS)
+    table_of(alloc, &CLASSES, OTHER_CLASS, &ENTRIES, &[], NUMBERS)
 }

@@ -2,15 +2,15 @@
 ghost use Rattle.std.specs.Prelude.{◌≡◌, ◌⊎◌, IfOk, IfErr, []};
 ghost use Rattle.seg_data.specs.declared.provider.DataError.TheVariants.{Memory};
 ghost use Rattle.icu_segmenter.specs.Faults.{HasRangeFault};
-ghost use Rattle.icu_segmenter.specs.Machine.{machine, tailoring};
-ghost use Rattle.icu_segmenter.specs.MachineFaults.{HasMachineFault, HasOverrideFault};
+ghost use Rattle.icu_segmenter.specs.Machine.{machine};
+ghost use Rattle.icu_segmenter.specs.MachineFaults.{HasMachineFault};
 ghost use Rattle.icu_segmenter.specs.PairData.{HasPairFault};
 ghost use Rattle.icu_segmenter.specs.PairTable.{pair_table};
 ghost use Rattle.icu_segmenter.specs.Table.{table};
 
 use icu_segmenter::provider::{
     Acceptance, BreakState, ClassTable, ComplexScript, DataError, Lookahead, RuleBreakData,
-    SegmenterStateMachine, SegmenterStateMachineOverride, State, Symbol,
+    SegmenterStateMachine, State, Symbol,
 };
 use std::alloc::Global;
 
@@ -51,18 +51,6 @@ pub(crate) fn machine_of(
     let transitions = Vec::from_slice(alloc, transitions)?;
     let map = Vec::from_slice(alloc, map)?;
     SegmenterStateMachine::try_from_parts(symbols, states, transitions, 0, shift, map)
-}
-
-/// The tailoring by this map, which replaces no symbols. The errors are want of memory, and that the map names symbol 0.
-pub(crate) fn tailoring_of(
-    alloc: Global,
-    map: &[(Symbol, ComplexScript)],
-) -> Result<SegmenterStateMachineOverride, DataError>
-    ensures made { IfOk result (λ made. made ≡ tailoring map.now []) }
-    ensures refused { IfErr result (λ fault. (fault ≡ Memory) ⊎ HasOverrideFault (tailoring map.now []) fault) }
-{
-    let pseudo_symbol_map = Vec::from_slice(alloc, map)?;
-    SegmenterStateMachineOverride::try_from_parts(pseudo_symbol_map, Vec::new(alloc))
 }
 
 /// The numbers of a pair table.

@@ -1,4 +1,5 @@
-//! Segmenters by Unicode's machines, each in one call: of clusters and of sentences by those that are proved to follow UAX #29.
+//! Segmenters by Unicode's machines, each in one call: of clusters, sentences and lines by those that are proved to follow UAX #29 and
+//! UAX #14.
 ghost use Rattle.std.specs.Prelude.{◌≡◌, IfOk};
 ghost use Rattle.icu_segmenter.specs.Clusters.{owned_cluster_rules, owned_sentence_rules};
 ghost use Rattle.icu_segmenter.specs.Lines.{chosen_rules, owned_line_rules};
@@ -7,24 +8,28 @@ ghost use Rattle.icu_segmenter.specs.Rules.Rules.{ByMachine};
 ghost use Rattle.icu_segmenter.specs.ScriptWords.{no_words};
 ghost use Rattle.icu_segmenter.specs.WordRules.{machine_words};
 ghost use Rattle.icu_segmenter.specs.Words.{owned_word_rules};
-ghost use Rattle.icu_segmenter_data.specs.Unicode.{cluster_machine, cluster_table, line_machine, line_tailorings, word_machine};
-ghost use Rattle.icu_segmenter_uax29.specs.Clusters.{cluster_machine as proved_clusters};
-ghost use Rattle.icu_segmenter_uax29.specs.Sentences.{sentence_machine as proved_sentences};
+ghost use Rattle.icu_segmenter_data.specs.Unicode.{cluster_table, word_machine};
+ghost use Rattle.icu_segmenter_uax14.specs.Lines.{line_machine, line_tailorings};
+ghost use Rattle.icu_segmenter_uax14.specs.Tailored.{AreLines};
+ghost use Rattle.icu_segmenter_uax29.specs.Clusters.{cluster_machine};
+ghost use Rattle.icu_segmenter_uax29.specs.Sentences.{sentence_machine};
 
-use crate::clusters::{cluster_machine, cluster_table};
-use crate::lines::{line_machine, line_tailorings};
+use crate::clusters::cluster_table;
 use crate::words::word_machine;
 use icu_segmenter::options::{LineBreakOptions, SentenceBreakOptions, WordBreakOptions};
 use icu_segmenter::provider::DataError;
 use icu_segmenter::{GraphemeClusterSegmenter, LineSegmenter, SentenceSegmenter, WordSegmenter};
+use icu_segmenter_uax14::laws::segmenters_follow_rules;
+use icu_segmenter_uax14::{line_machine, line_tailorings};
+use icu_segmenter_uax29::{cluster_machine, sentence_machine};
 use std::alloc::Global;
 
 /// A segmenter of extended grapheme clusters, by the machine of which it is proved that they are those of UAX #29 as it is in Unicode
 /// 18.0 (`icu_segmenter_uax29::laws::clusters_are_uax29`). The only error that is met is want of memory.
 pub fn grapheme_segmenter(alloc: Global) -> Result<GraphemeClusterSegmenter, DataError>
-    ensures { IfOk result (λ clusters. owned_cluster_rules clusters ≡ ByMachine proved_clusters) }
+    ensures { IfOk result (λ clusters. owned_cluster_rules clusters ≡ ByMachine cluster_machine) }
 {
-    GraphemeClusterSegmenter::try_new_neo(icu_segmenter_uax29::cluster_machine(alloc)?)
+    GraphemeClusterSegmenter::try_new_neo(cluster_machine(alloc)?)
 }
 
 /// A segmenter of words, by the machine of UAX #29 of Unicode 15.0, which knows their types, without dictionaries: `load_dictionary`
@@ -42,20 +47,24 @@ pub fn word_segmenter(alloc: Global) -> Result<WordSegmenter, DataError>
 /// A segmenter of sentences, by the machine of which it is proved that they are those of UAX #29 as it is in Unicode 18.0
 /// (`icu_segmenter_uax29::laws::sentences_are_uax29`). The only error that is met is want of memory.
 pub fn sentence_segmenter(alloc: Global) -> Result<SentenceSegmenter, DataError>
-    ensures { IfOk result (λ sentences. owned_sentence_rules sentences ≡ ByMachine proved_sentences) }
+    ensures { IfOk result (λ sentences. owned_sentence_rules sentences ≡ ByMachine sentence_machine) }
 {
-    let machine = icu_segmenter_uax29::sentence_machine(alloc)?;
+    let machine = sentence_machine(alloc)?;
     SentenceSegmenter::try_new_neo(machine, None, SentenceBreakOptions::default())
 }
 
-/// A segmenter of lines, by the machine of UAX #14 with the tailoring of CSS Text 3 that these options choose, or by the machine of clusters
-/// where they are `Anywhere`; without dictionaries: `load_dictionary` takes them. The only error that is met is want of memory.
+/// A segmenter of lines, by the machine of which it is proved that they are those of UAX #14, in the form of revision 55, with the
+/// properties of Unicode 18.0 (`icu_segmenter_uax14::laws::lines_follow_rules`), and the tailoring of CSS Text 3 that these options
+/// choose; or by the machine of clusters where they are `Anywhere`. It has no dictionaries: `load_dictionary` takes them. The only
+/// error that is met is want of memory.
 pub fn line_segmenter(
     alloc: Global,
     options: LineBreakOptions<'_>,
 ) -> Result<LineSegmenter, DataError>
-    ensures { IfOk result (λ lines. owned_line_rules lines ≡ chosen_rules line_machine line_tailorings cluster_machine (machine_choice options.entry)) }
+    ensures machines { IfOk result (λ lines. owned_line_rules lines ≡ chosen_rules line_machine line_tailorings cluster_machine (machine_choice options.entry)) }
+    ensures lines { IfOk result (λ lines. AreLines (owned_line_rules lines)) }
 {
+    segmenters_follow_rules();
     LineSegmenter::try_new_neo_for_non_complex_scripts(
         line_machine(alloc)?,
         line_tailorings(alloc)?,

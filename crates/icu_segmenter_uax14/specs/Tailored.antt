@@ -1,9 +1,14 @@
 -- The machine of lines by each tailoring, and the style that it is of.
-use Rattle.std.specs.Prelude.{◌≡◌, ℕ, List, [], ◌∷◌}
+use Rattle.std.specs.Prelude.{◌≡◌, ◌⊎◌, ℕ, List, [], ◌∷◌}
+use Rattle.seg_text.specs.declared.boundary.Boundary.{Boundary}
 use Rattle.seg_text.specs.Boundaries.{start}
 use Rattle.seg_data.specs.declared.provider.ComplexScript.{ComplexScript}
+use Rattle.seg_data.specs.ScriptWords.{no_words}
 use Rattle.seg_machine.specs.Machine.{Machine, symbol_and_script, symbols_of, with_tailoring}
 use Rattle.seg_machine.specs.Pick.{machine_boundaries}
+use Rattle.seg_complex.specs.Spans.{inner_cuts}
+use Rattle.seg_lines.specs.LineBreaks.{LineRules, joined, line_boundaries_by}
+use Rattle.seg_lines.specs.LineBreaks.LineFinder.{ByClusters, ByMachine}
 use Rattle.seg_rules.specs.Plain.{plain_places}
 use Rattle.icu_segmenter_uax14.specs.Characters.{Character, LineStyle, HasStyle, character, complex_script, no_script, strict, break_all, keep_all, ja_loose, loose, ja_normal, normal}
 use Rattle.icu_segmenter_uax14.specs.LineRules.{line_rules}
@@ -46,9 +51,23 @@ machine_by JaNormal = with_tailoring line_machine line_tailorings.ja_normal
 machine_by Normal = with_tailoring line_machine line_tailorings.normal
 machine_by Ja = with_tailoring line_machine line_tailorings.ja
 
--- for every list of code points the machine's boundaries are, with their statuses, the places of the rules of lines
+-- the places where the rules of lines break some code points, by the symbols of a machine: the start, and then each, with its status
+abbrev pub line_places : Machine → List ℕ → List Boundary
+line_places m cs = start ∷ plain_places line_rules 0 [] (symbols_of m cs)
+
+-- for every list of code points the machine's boundaries are those places
 abbrev pub FollowsRules : Machine → Type 0
-FollowsRules m = (cs : List ℕ) → machine_boundaries m cs ≡ start ∷ plain_places line_rules 0 [] (symbols_of m cs)
+FollowsRules m = (cs : List ℕ) → machine_boundaries m cs ≡ line_places m cs
+
+-- lines that the machine finds are broken at those places, and within runs where words of scripts end
+pub record LinesFollowRules (rules : LineRules) (m : Machine) : Type 0 where
+  pub with_words : (cs : List ℕ) → line_boundaries_by rules cs ≡ joined (line_places m cs) (inner_cuts m rules.payloads cs)
+  pub without_words : rules.payloads.words ≡ no_words → (cs : List ℕ) → line_boundaries_by rules cs ≡ line_places m cs
+
+-- lines that are broken between any clusters, or follow the rules of UAX #14 by the machine or a tailoring of it
+abbrev pub AreLines : LineRules → Type 0
+AreLines rules = (rules.finder ≡ ByClusters)
+    ⊎ ((tailoring : Tailoring) × (rules.finder ≡ ByMachine (machine_by tailoring)) × LinesFollowRules rules (machine_by tailoring))
 
 -- the symbol of every code point stands for its properties by a style
 abbrev pub HasSymbolsOf : LineStyle → Machine → Type 0

@@ -1,5 +1,8 @@
 //! Laws of the machine's boundaries, of every list of code points. So they hold of texts in every encoding, in code points.
-ghost use Rattle.icu_segmenter_uax14.specs.Tailored.{FollowsRules, HasScriptsOf, HasSymbolsOf, Tailoring, machine_by, scripts_of, style_of};
+ghost use Rattle.std.specs.Prelude.{◌≡◌};
+ghost use Rattle.seg_lines.specs.LineBreaks.{LineRules};
+ghost use Rattle.seg_lines.specs.LineBreaks.LineFinder.{ByMachine};
+ghost use Rattle.icu_segmenter_uax14.specs.Tailored.{FollowsRules, HasScriptsOf, HasSymbolsOf, LinesFollowRules, Tailoring, machine_by, scripts_of, style_of};
 
 use seg_rules::laws::boundaries_are_places;
 
@@ -9,6 +12,15 @@ pub fn lines_follow_rules()
     ensures { (tailoring : Tailoring) → FollowsRules (machine_by tailoring) }
 {
     boundaries_are_places();
+}
+
+/// Law: so a segmenter by one of these machines breaks lines just at those places, and within runs where words of scripts end, if
+/// it has any.
+pub fn segmenters_follow_rules()
+    ensures { (rules : LineRules) (tailoring : Tailoring) → rules.finder ≡ ByMachine (machine_by tailoring)
+        → LinesFollowRules rules (machine_by tailoring) }
+{
+    lines_follow_rules();
 }
 
 /// Law: the symbol of every code point stands for its properties in Unicode 18.0; with a tailoring, for those that CSS Text 3 puts

@@ -1,14 +1,12 @@
-//! Grapheme clusters: the parts of the machine and of the pair table, by UAX #29.
+//! Grapheme clusters: the parts of the pair table, by UAX #29.
 // Written by generate/generate.py from the data of Unicode 15.0.0. Do not edit.
 
-use crate::parts::{ACCEPT_0, BREAK, CONTINUE, Entry, KEEP, Numbers};
+use crate::parts::{BREAK, KEEP, Numbers};
 use icu_segmenter::provider::BreakState::{self, Index};
-use icu_segmenter::provider::{State, Symbol};
 
-/// The code points of each symbol; others have OTHER. The numbers of symbols are those of the rows of TRANSITIONS.
-/// They are the classes of the pair table too.
+/// The code points of each class; others have OTHER_CLASS.
 #[rattlefmt::skip]
-pub(super) static RANGES: [(u32, u32, Symbol); 1449] = [
+pub(super) static CLASSES: [(u32, u32, u8); 1449] = [
     (0x0, 0x9, 4), (0xA, 0xA, 3), (0xB, 0xC, 4), (0xD, 0xD, 2), (0xE, 0x1F, 4), (0x7F, 0x9F, 4), (0xA9, 0xA9, 15),
     (0xAD, 0xAD, 4), (0xAE, 0xAE, 15), (0x300, 0x36F, 5), (0x483, 0x489, 5), (0x591, 0x5BD, 5), (0x5BF, 0x5BF, 5),
     (0x5C1, 0x5C2, 5), (0x5C4, 0x5C5, 5), (0x5C7, 0x5C7, 5), (0x600, 0x605, 8), (0x610, 0x61A, 5), (0x61C, 0x61C, 4),
@@ -297,54 +295,8 @@ pub(super) static RANGES: [(u32, u32, Symbol); 1449] = [
     (0xE0080, 0xE00FF, 4), (0xE0100, 0xE01EF, 5), (0xE01F0, 0xE0FFF, 4),
 ];
 
-/// The symbol of the code points that no range holds.
-pub(super) const OTHER: Symbol = 1;
-
-/// What each state accepts; the first is the one that a segment begins in.
-#[rattlefmt::skip]
-pub(super) static STATES: [Entry; 11] = [
-    CONTINUE, ACCEPT_0, ACCEPT_0, ACCEPT_0, ACCEPT_0, ACCEPT_0, ACCEPT_0, ACCEPT_0, ACCEPT_0, ACCEPT_0, ACCEPT_0,
-];
-
-/// A row for each symbol, in it what each state leads to; 255 is none.
-#[rattlefmt::skip]
-pub(super) static TRANSITIONS: [State; 176] = [
-    // 0 the end of the text
-    255, 255, 255, 255, 255, 255, 255, 255, 255, 255, 255,
-    // 1 XX
-    1, 255, 255, 255, 255, 1, 255, 255, 255, 255, 255,
-    // 2 CR
-    2, 255, 255, 255, 255, 255, 255, 255, 255, 255, 255,
-    // 3 LF
-    3, 255, 3, 255, 255, 255, 255, 255, 255, 255, 255,
-    // 4 Control
-    3, 255, 255, 255, 255, 255, 255, 255, 255, 255, 255,
-    // 5 Extend
-    1, 1, 255, 255, 1, 1, 1, 1, 1, 9, 1,
-    // 6 ZWJ
-    1, 1, 255, 255, 1, 1, 1, 1, 1, 10, 1,
-    // 7 RI
-    4, 255, 255, 255, 1, 4, 255, 255, 255, 255, 255,
-    // 8 Prepend
-    5, 255, 255, 255, 255, 5, 255, 255, 255, 255, 255,
-    // 9 SpacingMark
-    1, 1, 255, 255, 1, 1, 1, 1, 1, 1, 1,
-    // 10 L
-    6, 255, 255, 255, 255, 6, 6, 255, 255, 255, 255,
-    // 11 V
-    7, 255, 255, 255, 255, 7, 7, 7, 255, 255, 255,
-    // 12 T
-    8, 255, 255, 255, 255, 8, 255, 8, 8, 255, 255,
-    // 13 LV
-    7, 255, 255, 255, 255, 7, 7, 255, 255, 255, 255,
-    // 14 LVT
-    8, 255, 255, 255, 255, 8, 8, 255, 255, 255, 255,
-    // 15 ExtPict
-    9, 255, 255, 255, 255, 9, 255, 255, 255, 255, 9,
-];
-
-/// The first value of RANGES that is a pseudo symbol: less this, it is a place in the map.
-pub(super) const SHIFT: u8 = 16;
+/// The class of the code points that no range of CLASSES holds.
+pub(super) const OTHER_CLASS: u8 = 1;
 
 /// A row for each class and composite, in it what stands between it and each.
 #[rattlefmt::skip]

@@ -1,14 +1,12 @@
-//! Sentences: the parts of the machine and of the pair table, by UAX #29.
+//! Sentences: the parts of the pair table, by UAX #29.
 // Written by generate/generate.py from the data of Unicode 15.0.0. Do not edit.
 
-use crate::parts::{ACCEPT_0, BREAK, CONTINUE, Entry, KEEP, NO_MATCH, Numbers};
+use crate::parts::{BREAK, KEEP, NO_MATCH, Numbers};
 use icu_segmenter::provider::BreakState::{self, Index, Intermediate};
-use icu_segmenter::provider::{State, Symbol};
 
-/// The code points of each symbol; others have OTHER. The numbers of symbols are those of the rows of TRANSITIONS.
-/// They are the classes of the pair table too.
+/// The code points of each class; others have OTHER_CLASS.
 #[rattlefmt::skip]
-pub(super) static RANGES: [(u32, u32, Symbol); 2421] = [
+pub(super) static CLASSES: [(u32, u32, u8); 2421] = [
     (0x9, 0x9, 7), (0xA, 0xA, 3), (0xB, 0xC, 7), (0xD, 0xD, 2), (0x20, 0x20, 7), (0x21, 0x21, 13), (0x22, 0x22, 14),
     (0x27, 0x29, 14), (0x2C, 0x2D, 15), (0x2E, 0x2E, 12), (0x30, 0x39, 11), (0x3A, 0x3A, 15), (0x3F, 0x3F, 13),
     (0x41, 0x5A, 9), (0x5B, 0x5B, 14), (0x5D, 0x5D, 14), (0x61, 0x7A, 8), (0x7B, 0x7B, 14), (0x7D, 0x7D, 14),
@@ -497,55 +495,8 @@ pub(super) static RANGES: [(u32, u32, Symbol); 2421] = [
     (0x31350, 0x323AF, 10), (0xE0001, 0xE0001, 6), (0xE0020, 0xE007F, 5), (0xE0100, 0xE01EF, 5),
 ];
 
-/// The symbol of the code points that no range holds.
-pub(super) const OTHER: Symbol = 1;
-
-/// What each state accepts; the first is the one that a segment begins in.
-#[rattlefmt::skip]
-pub(super) static STATES: [Entry; 12] = [
-    CONTINUE, ACCEPT_0, ACCEPT_0, ACCEPT_0, ACCEPT_0, ACCEPT_0, ACCEPT_0, ACCEPT_0, CONTINUE, ACCEPT_0, ACCEPT_0,
-    ACCEPT_0,
-];
-
-/// A row for each symbol, in it what each state leads to; 255 is none.
-#[rattlefmt::skip]
-pub(super) static TRANSITIONS: [State; 192] = [
-    // 0 the end of the text
-    255, 255, 255, 255, 255, 255, 255, 255, 255, 255, 255, 255,
-    // 1 XX
-    1, 1, 255, 255, 1, 8, 255, 8, 8, 8, 8, 255,
-    // 2 CR
-    2, 2, 255, 255, 2, 2, 2, 2, 255, 2, 2, 2,
-    // 3 LF
-    3, 3, 3, 255, 3, 3, 3, 3, 255, 3, 3, 3,
-    // 4 Sep
-    3, 3, 255, 255, 3, 3, 3, 3, 255, 3, 3, 3,
-    // 5 Extend
-    1, 1, 255, 255, 4, 5, 6, 7, 8, 9, 10, 11,
-    // 6 Format
-    1, 1, 255, 255, 4, 5, 6, 7, 8, 9, 10, 11,
-    // 7 Sp
-    1, 1, 255, 255, 1, 9, 11, 9, 8, 9, 9, 11,
-    // 8 Lower
-    4, 4, 255, 255, 4, 4, 255, 4, 4, 4, 4, 255,
-    // 9 Upper
-    4, 4, 255, 255, 4, 255, 255, 4, 255, 255, 255, 255,
-    // 10 OLetter
-    1, 1, 255, 255, 1, 255, 255, 255, 255, 255, 255, 255,
-    // 11 Numeric
-    1, 1, 255, 255, 1, 1, 255, 1, 8, 8, 8, 255,
-    // 12 ATerm
-    5, 5, 255, 255, 7, 5, 5, 5, 255, 5, 5, 5,
-    // 13 STerm
-    6, 6, 255, 255, 6, 6, 6, 6, 255, 6, 6, 6,
-    // 14 Close
-    1, 1, 255, 255, 1, 10, 6, 10, 8, 8, 10, 255,
-    // 15 SContinue
-    1, 1, 255, 255, 1, 1, 1, 1, 8, 1, 1, 1,
-];
-
-/// The first value of RANGES that is a pseudo symbol: less this, it is a place in the map.
-pub(super) const SHIFT: u8 = 16;
+/// The class of the code points that no range of CLASSES holds.
+pub(super) const OTHER_CLASS: u8 = 1;
 
 /// A row for each class and composite, in it what stands between it and each.
 #[rattlefmt::skip]
