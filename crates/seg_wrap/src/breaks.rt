@@ -6,7 +6,7 @@ ghost use Rattle.seg_text.specs.declared.boundary.Boundary.{Boundary};
 ghost use Rattle.seg_wrap.specs.Walk.{ReadsBreak};
 
 use seg_lines::line::LineBreakIterator;
-use seg_text::scaffold::{PotentiallyIllFormedUtf8, Utf8};
+use seg_text::scaffold::RuleBreakType;
 
 /// A place where a line may end.
 #[derive(Clone, Copy, Debug)]
@@ -31,24 +31,7 @@ pub(crate) trait Breaks: Drop {
         ensures { left result ≡ left self.now };
 }
 
-impl<'data, 's> Breaks for LineBreakIterator<'data, 's, Utf8> {
-    ghost left = { λ lines. lines_left lines };
-
-    fn next_break(&mut self) -> Option<Break> {
-        let end = self.next()?;
-        let is_mandatory = self.is_mandatory();
-        Some(Break { end, is_mandatory })
-    }
-
-    fn fork(&self) -> Self {
-        let Ok(lines) = self.clone() else {
-            unreachable!()
-        };
-        lines
-    }
-}
-
-impl<'data, 's> Breaks for LineBreakIterator<'data, 's, PotentiallyIllFormedUtf8> {
+impl<'data, 's, Y: RuleBreakType<'s>> Breaks for LineBreakIterator<'data, 's, Y> {
     ghost left = { λ lines. lines_left lines };
 
     fn next_break(&mut self) -> Option<Break> {
