@@ -9,7 +9,7 @@
 //! cursor.is_boundary(1)           false
 //! ```
 
-ghost use Rattle.std.specs.Prelude.{◌≡◌, ◌↔◌, ◌≤◌, ◌+◌, ℕ, IsTrue, IfSome, List, Contains, length};
+ghost use Rattle.std.specs.Prelude.{◌≡◌, ◌↔◌, ◌<◌, ◌≤◌, ◌+◌, ◌^◌, ℕ, IsTrue, IfSome, List, Contains, length};
 ghost use Rattle.seg_text.specs.declared.boundary.Boundary.{Boundary};
 ghost use Rattle.seg_text.specs.Boundaries.{IsCover};
 ghost use Rattle.seg_text.specs.Decoding.{utf8, utf16};
@@ -159,9 +159,11 @@ fn part_at<T: CursorText, S: SegmenterOf<T>>(
     requires cover { IsCover 0 (length (T.units text)) (boundaries_of_units T.decode (S.find segmenter.now) (T.units text)) }
     requires parts { IsTrue has_parts → PartsBehind (boundaries_of_units T.decode (S.find segmenter.now)) line_feed }
     ensures order { result.0 ≤ place }
-    ensures within { result.0 + length (T.units result.1) ≤ length (T.units text) }
+    ensures fits { result.0 + length (T.units result.1) < 2 ^ 64 }
     ensures part { IsPart (places_of_units T.decode (S.find segmenter.now) (T.units text)) result.0 (places_of_units T.decode (S.find segmenter.now) (T.units result.1)) }
 {
+    // So each place in the text is a number of this type.
+    let _end = text.len();
     if !has_parts {
         return (0, text);
     }
