@@ -3,8 +3,8 @@
 ghost use Rattle.seg_clusters.specs.Clusters.{cluster_rules};
 ghost use Rattle.seg_clusters.specs.Rules.{boundaries_by};
 
-use crate::cursor::{Segmenter, SegmenterOf};
 use crate::cursor::nearest::{nearest_above, nearest_below};
+use crate::cursor::{Segmenter, SegmenterOf};
 use seg_clusters::grapheme::GraphemeClusterSegmenterBorrowed;
 use seg_clusters::laws::grapheme::parts_behind_resets;
 

@@ -3,8 +3,8 @@
 ghost use Rattle.seg_lines.specs.LineBreaks.{line_boundaries_by};
 ghost use Rattle.seg_lines.specs.Lines.{line_rules};
 
-use crate::cursor::{Segmenter, SegmenterOf};
 use crate::cursor::nearest::{nearest_above, nearest_below};
+use crate::cursor::{Segmenter, SegmenterOf};
 use seg_lines::laws::parts_behind_resets;
 use seg_lines::line::LineSegmenterBorrowed;
 

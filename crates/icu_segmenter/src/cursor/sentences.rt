@@ -3,8 +3,8 @@
 ghost use Rattle.seg_clusters.specs.Clusters.{sentence_rules};
 ghost use Rattle.seg_clusters.specs.Rules.{boundaries_by};
 
-use crate::cursor::{Segmenter, SegmenterOf};
 use crate::cursor::nearest::{nearest_above, nearest_below};
+use crate::cursor::{Segmenter, SegmenterOf};
 use seg_clusters::laws::sentence::parts_behind_resets;
 use seg_clusters::sentence::SentenceSegmenterBorrowed;
 

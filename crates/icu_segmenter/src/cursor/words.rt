@@ -3,8 +3,8 @@
 ghost use Rattle.seg_words.specs.Words.{word_rules};
 ghost use Rattle.seg_words.specs.WordRules.{word_boundaries_by};
 
-use crate::cursor::{Segmenter, SegmenterOf};
 use crate::cursor::nearest::{nearest_above, nearest_below};
+use crate::cursor::{Segmenter, SegmenterOf};
 use seg_words::laws::parts_behind_resets;
 use seg_words::word::WordSegmenterBorrowed;
 

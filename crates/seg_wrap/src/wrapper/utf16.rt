@@ -1,10 +1,10 @@
 //! Wrapped lines of UTF-16.
 
-ghost use Rattle.std.specs.Prelude.{◌≡◌, ⊤};
+ghost use Rattle.std.specs.Prelude.{◌≡◌, ◌≤◌, ⊤, length};
 ghost use Rattle.std.specs.Iterator.{YieldsFirstBy, MakesProgress, item_count};
 ghost use Rattle.seg_text.specs.Items.{start_of};
 ghost use Rattle.seg_text.specs.Decoding.{utf16};
-ghost use Rattle.seg_wrap.specs.Wrapping.{rest_from};
+ghost use Rattle.seg_wrap.specs.Wrapping.{between, rest_from};
 
 use crate::wrapper::LineWrapper;
 use crate::wrapping::Wrapping;
@@ -103,7 +103,7 @@ impl<'data, 's> Iterator for WrapUtf16Iterator<'data, 's> {
     fn next(&mut self) -> Option<WrappedUtf16Line<'s>> {
         let line = self.lines.next_span()?;
         Some(WrappedUtf16Line {
-            units: &self.units[line.start..line.end],
+            units: part(self.units, line.start, line.end),
             columns: line.columns,
             is_mandatory: line.is_mandatory,
         })
@@ -112,4 +112,13 @@ impl<'data, 's> Iterator for WrapUtf16Iterator<'data, 's> {
     fn size_hint(&self) -> (usize, Option<usize>) {
         self.lines.size_hint()
     }
+}
+
+/// The units from one place up to another.
+fn part<'s>(units: &'s [u16], start: usize, end: usize) -> &'s [u16]
+    requires order { start ≤ end }
+    requires within { end ≤ length units.now }
+    ensures { result.now ≡ between start end units.now }
+{
+    &units[start..end]
 }

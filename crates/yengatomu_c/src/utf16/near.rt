@@ -38,15 +38,11 @@ fn next(segmenter: &Segmenter, text: &[u16], place: usize) -> Option<usize>
         Segmenter::Clusters(s) => BoundaryCursor::of_utf16(s.as_borrowed(), text).next_boundary(
             place,
         ),
-        Segmenter::Words(s) => BoundaryCursor::of_utf16(s.as_borrowed(), text).next_boundary(
-            place,
-        ),
+        Segmenter::Words(s) => BoundaryCursor::of_utf16(s.as_borrowed(), text).next_boundary(place),
         Segmenter::Sentences(s) => BoundaryCursor::of_utf16(s.as_borrowed(), text).next_boundary(
             place,
         ),
-        Segmenter::Lines(s) => BoundaryCursor::of_utf16(s.as_borrowed(), text).next_boundary(
-            place,
-        ),
+        Segmenter::Lines(s) => BoundaryCursor::of_utf16(s.as_borrowed(), text).next_boundary(place),
     }
 }
 
@@ -80,9 +76,10 @@ fn previous(segmenter: &Segmenter, text: &[u16], place: usize) -> Option<usize>
         Segmenter::Words(s) => BoundaryCursor::of_utf16(s.as_borrowed(), text).previous_boundary(
             place,
         ),
-        Segmenter::Sentences(s) => BoundaryCursor::of_utf16(s.as_borrowed(), text).previous_boundary(
-            place,
-        ),
+        Segmenter::Sentences(s) => BoundaryCursor::of_utf16(
+            s.as_borrowed(),
+            text,
+        ).previous_boundary(place),
         Segmenter::Lines(s) => BoundaryCursor::of_utf16(s.as_borrowed(), text).previous_boundary(
             place,
         ),

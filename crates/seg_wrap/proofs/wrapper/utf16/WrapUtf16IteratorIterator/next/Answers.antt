@@ -11,17 +11,14 @@ invariant_of-self c = record { rest = rest-next (utf16 c.args.self.now.units.now
 pub returns-in_err-line-clause-steps : goal.returns-in_err-line-clause-steps
 returns-in_err-line-clause-steps c = rw c.from_residual.ensures (lines-none _ _ _ c.in_err-line.ensures)
 
-pub slice_bounds-result-count : goal.slice_bounds-result-count
-slice_bounds-result-count c = span-order (utf16 c.args.self.now.units.now) _ _ _ (utf16_items-rises 0 c.args.self.now.units.now) c.args.self.now.rest c.in_ok-line.ensures
+pub part-requires-clause-order : goal.part-requires-clause-order
+part-requires-clause-order c = span-order (utf16 c.args.self.now.units.now) _ _ _ (utf16_items-rises 0 c.args.self.now.units.now) c.args.self.now.rest c.in_ok-line.ensures
 
-pub slice_bounds-result-start : goal.slice_bounds-result-start
-slice_bounds-result-start c = span-order (utf16 c.args.self.now.units.now) _ _ _ (utf16_items-rises 0 c.args.self.now.units.now) c.args.self.now.rest c.in_ok-line.ensures
-
-pub slice_bounds-result-end : goal.slice_bounds-result-end
-slice_bounds-result-end c = omega (arith, end-within (utf16 c.args.self.now.units.now) _ _ _ (utf16_items-rises 0 c.args.self.now.units.now) c.args.self.now.rest c.in_ok-line.ensures)
+pub part-requires-clause-within : goal.part-requires-clause-within
+part-requires-clause-within c = omega (arith, end-within (utf16 c.args.self.now.units.now) _ _ _ (utf16_items-rises 0 c.args.self.now.units.now) c.args.self.now.rest c.in_ok-line.ensures)
 
 pub returns-clause-steps : goal.returns-clause-steps
-returns-clause-steps c = lines-next _ _ _ _ c.in_ok-line.ensures
+returns-clause-steps c = rw c.part.ensures (lines-next _ _ _ _ c.in_ok-line.ensures)
 
 pub returns-clause-goes : goal.returns-clause-goes
 returns-clause-goes c = fewer utf16_lines_to_come _ _ _ _ (returns-clause-steps c)

@@ -4,7 +4,7 @@ use Rattle.seg_lines.specs.Lines.{line_rules, lines_left}
 use Rattle.seg_wrap.proofs.Joined.{units-joined}
 use Rattle.seg_wrap.proofs.Starts.{after-first}
 use Rattle.seg_wrap.proofs.Texts.{utf16-text}
-use Rattle.seg_wrap.proofs.wrapper.utf16.LineWrapper.wrap_utf16.Goals as goal
+use Rattle.seg_wrap.proofs.wrapper.LineWrapper.wrap_utf16.Goals as goal
 
 pub new-requires-2 : goal.new-requires-2
 new-requires-2 c =
