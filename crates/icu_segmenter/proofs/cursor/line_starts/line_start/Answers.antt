@@ -1,4 +1,4 @@
-use Rattle.std.proofs.Common.{arith, eqb-true, sym, ◌∙◌, rules}
+use Rattle.std.proofs.Common.{arith, eqb-true, sym, ◌∙◌}
 use Rattle.icu_segmenter.proofs.Parts.{feed-before}
 use Rattle.icu_segmenter.proofs.cursor.line_starts.line_start.Goals as goal
 
