@@ -69,6 +69,24 @@ impl<'a, U, E> Indices<'a, U, E> {
     }
 }
 
+impl<'a> Parted for &'a [u16] {
+    fn halves(self) -> usize {
+        self.len() / 2
+    }
+}
+
+impl<'a> FinderOf<&'a [u8]> for Latin1 {
+    fn cover(&self, text: &'a [u8]) {
+        let _ = text;
+    }
+}
+
+impl<'a, S: FinderOf<&'a [u16]>> Indices<&'a [u16], S> {
+    pub fn of_units(units: &'a [u16]) -> usize {
+        units.len()
+    }
+}
+
 pub fn seek(
     place: usize,
 ) -> usize {
@@ -108,6 +126,9 @@ class Places(unittest.TestCase):
         self.assertEqual(self.place("        input\n", "        &input[1..]\n"), "indices::units::Indices::new")
         self.assertEqual(self.place("        input\n", "        &input[1..]\n", homes={"Indices": "indices"}), "indices::Indices::new")
         self.assertEqual(self.place("input.len()", "1"), "indices::units::Indices+u8+E::new_of_bytes")
+        self.assertEqual(self.place("self.len() / 2", "0"), "indices::units::RefSliceU16Parted::halves")
+        self.assertEqual(self.place("let _ = text;", ""), "indices::units::Latin1FinderOfRefSliceU8::cover")
+        self.assertEqual(self.place("        units.len()\n", "        0\n"), "indices::units::Indices+ref+slice+u16+S::of_units")
         self.assertEqual(self.place("    place\n", "    place + 1\n"), "indices::units::seek")
         self.assertEqual(self.place("seek(place)", "seek(0)"), "indices::units::seek_for_c")
         self.assertEqual(self.place("    place\n", "    place + 1\n", path="src/lib.rt"), "seek")

@@ -113,10 +113,19 @@ static void print_rooms(void) {
     let_go(wanted);
 }
 
+static size_t first_ends(size_t from, size_t columns, size_t *ends, size_t room) {
+    return is_utf16 ? yengatomu_wrap_utf16(&slot, units, len, from, columns, ends, room) : yengatomu_wrap(&slot, text, len, from, columns, ends, room);
+}
+
+static size_t first_wrapped(size_t from, size_t columns, size_t *ends, size_t *widths, size_t room) {
+    return is_utf16 ? yengatomu_wrap_columns_utf16(&slot, units, len, from, columns, ends, room, widths, room)
+                    : yengatomu_wrap_columns(&slot, text, len, from, columns, ends, room, widths, room);
+}
+
 static void print_wrapped(size_t columns) {
     size_t ends[100], same[100], widths[100], from = 0, count;
-    while ((count = yengatomu_wrap_columns(&slot, text, len, from, columns, ends, 100, widths, 100))) {
-        CHECK(yengatomu_wrap(&slot, text, len, from, columns, same, 100) == count && !memcmp(ends, same, count * sizeof(size_t)));
+    while ((count = first_wrapped(from, columns, ends, widths, 100))) {
+        CHECK(first_ends(from, columns, same, 100) == count && !memcmp(ends, same, count * sizeof(size_t)));
         for (size_t i = 0; i < count; i++) printf("%zu:%zu ", ends[i], widths[i]);
         from = ends[count - 1];
     }
@@ -124,7 +133,8 @@ static void print_wrapped(size_t columns) {
 }
 
 static void print_near(size_t place) {
-    size_t found[] = {yengatomu_previous(&slot, text, len, place), yengatomu_next(&slot, text, len, place)};
+    size_t found[] = {is_utf16 ? yengatomu_previous_utf16(&slot, units, len, place) : yengatomu_previous(&slot, text, len, place),
+                      is_utf16 ? yengatomu_next_utf16(&slot, units, len, place) : yengatomu_next(&slot, text, len, place)};
     for (int i = 0; i < 2; i++) {
         if (found[i] == YENGATOMU_NONE)
             printf("- ");

@@ -32,9 +32,13 @@ static void check_empty(yengatomu_slot *slot) {
     CHECK(yengatomu_marked_boundaries_utf16(slot, units, 3, 0, places, 4, marks, 4) == 0);
     CHECK(yengatomu_wrap(slot, text, 3, 0, 1, places, 4) == 0);
     CHECK(yengatomu_wrap_columns(slot, text, 3, 0, 1, places, 4, widths, 4) == 0);
+    CHECK(yengatomu_wrap_utf16(slot, units, 3, 0, 1, places, 4) == 0);
+    CHECK(yengatomu_wrap_columns_utf16(slot, units, 3, 0, 1, places, 4, widths, 4) == 0);
     CHECK(places[0] == 7 && widths[0] == 7 && marks[0] == 7);
     CHECK(yengatomu_next(slot, text, 3, 0) == YENGATOMU_NONE);
+    CHECK(yengatomu_next_utf16(slot, units, 3, 0) == YENGATOMU_NONE);
     CHECK(yengatomu_previous(slot, text, 3, 3) == YENGATOMU_NONE);
+    CHECK(yengatomu_previous_utf16(slot, units, 3, 3) == YENGATOMU_NONE);
     CHECK(yengatomu_count(slot, text, 3) == 0);
     CHECK(yengatomu_count_utf16(slot, units, 3) == 0);
     CHECK(yengatomu_count_words(slot, text, 3) == 0);
@@ -167,6 +171,11 @@ static void check_empty_text(yengatomu_slot *slot) {
     CHECK(yengatomu_marked_boundaries_utf16(slot, units, 0, 0, places, 1, marks, 1) == 0);
     CHECK(yengatomu_wrap(slot, text, 0, 0, 80, places, 1) == 0);
     CHECK(yengatomu_wrap_columns(slot, text, 0, 0, 80, places, 1, widths, 1) == 0);
+    CHECK(yengatomu_wrap_utf16(slot, units, 0, 0, 80, places, 1) == 0);
+    CHECK(yengatomu_wrap_columns_utf16(slot, units, 0, 0, 80, places, 1, widths, 1) == 0);
+    CHECK(yengatomu_next_utf16(slot, units, 0, 0) == YENGATOMU_NONE);
+    CHECK(yengatomu_previous_utf16(slot, units, 0, 0) == YENGATOMU_NONE);
+    CHECK(yengatomu_previous_utf16(slot, units, 0, 1) == 0);
     CHECK(yengatomu_next(slot, text, 0, 0) == YENGATOMU_NONE);
     CHECK(yengatomu_previous(slot, text, 0, 0) == YENGATOMU_NONE);
     CHECK(yengatomu_previous(slot, text, 0, 1) == 0);

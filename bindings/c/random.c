@@ -77,23 +77,40 @@ static list all_of(kind *it, const void *text, bool is_utf16, size_t len) {
     return all;
 }
 
-static void check_near(kind *it, const uint8_t *text, size_t len, list all) {
+static size_t next(kind *it, const void *text, bool is_utf16, size_t len, size_t place) {
+    return is_utf16 ? yengatomu_next_utf16(&it->slot, text, len, place) : yengatomu_next(&it->slot, text, len, place);
+}
+
+static size_t previous(kind *it, const void *text, bool is_utf16, size_t len, size_t place) {
+    return is_utf16 ? yengatomu_previous_utf16(&it->slot, text, len, place) : yengatomu_previous(&it->slot, text, len, place);
+}
+
+static void check_near(kind *it, const void *text, bool is_utf16, size_t len, list all) {
     for (size_t place = 0; place <= len + 1; place++) {
         size_t above = YENGATOMU_NONE, under = place ? 0 : YENGATOMU_NONE;
         for (size_t i = all.count; i-- > 0;)
             if (all.places[i] > place) above = all.places[i];
         for (size_t i = 0; i < all.count; i++)
             if (all.places[i] < place) under = all.places[i];
-        CHECK(yengatomu_next(&it->slot, text, len, place) == above);
-        CHECK(yengatomu_previous(&it->slot, text, len, place) == under);
+        CHECK(next(it, text, is_utf16, len, place) == above);
+        CHECK(previous(it, text, is_utf16, len, place) == under);
     }
 }
 
+static size_t wrapped(kind *it, const void *text, bool is_utf16, size_t len, size_t columns, size_t *ends) {
+    return is_utf16 ? yengatomu_wrap_utf16(&it->slot, text, len, 0, columns, ends, MOST) : yengatomu_wrap(&it->slot, text, len, 0, columns, ends, MOST);
+}
+
+static size_t wrapped_columns(kind *it, const void *text, bool is_utf16, size_t len, size_t columns, size_t *ends, size_t *widths) {
+    return is_utf16 ? yengatomu_wrap_columns_utf16(&it->slot, text, len, 0, columns, ends, MOST, widths, MOST)
+                    : yengatomu_wrap_columns(&it->slot, text, len, 0, columns, ends, MOST, widths, MOST);
+}
+
 /* Lines end at boundaries, and where they must; one that is wider than there is room for has one segment alone. */
-static void check_wrapped(kind *it, const uint8_t *text, size_t len, list all) {
+static void check_wrapped(kind *it, const void *text, bool is_utf16, size_t len, list all) {
     size_t columns = below(10), ends[MOST], same[MOST], widths[MOST];
-    size_t count = yengatomu_wrap_columns(&it->slot, text, len, 0, columns, ends, MOST, widths, MOST), at = 0;
-    CHECK(yengatomu_wrap(&it->slot, text, len, 0, columns, same, MOST) == count && !memcmp(ends, same, count * sizeof *ends));
+    size_t count = wrapped_columns(it, text, is_utf16, len, columns, ends, widths), at = 0;
+    CHECK(wrapped(it, text, is_utf16, len, columns, same) == count && !memcmp(ends, same, count * sizeof *ends));
     if (it->number != YENGATOMU_LINES) {
         CHECK(!count);
         return;
@@ -119,8 +136,8 @@ static void try_bytes(kind *kinds, size_t count) {
     memcpy(text, room, len);
     for (size_t i = 0; i < count; i++) {
         list all = all_of(&kinds[i], text, false, len);
-        check_near(&kinds[i], text, len, all);
-        check_wrapped(&kinds[i], text, len, all);
+        check_near(&kinds[i], text, false, len, all);
+        check_wrapped(&kinds[i], text, false, len, all);
         free(all.places);
         free(all.marks);
     }
@@ -133,6 +150,8 @@ static void try_units(kind *kinds, size_t count) {
     for (size_t i = 0; i < len; i++) text[i] = below(4) ? units_of[below(sizeof units_of / sizeof *units_of)] : (uint16_t)below(1 << 16);
     for (size_t i = 0; i < count; i++) {
         list all = all_of(&kinds[i], text, true, len);
+        check_near(&kinds[i], text, true, len, all);
+        check_wrapped(&kinds[i], text, true, len, all);
         free(all.places);
         free(all.marks);
     }

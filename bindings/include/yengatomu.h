@@ -85,15 +85,20 @@ size_t yengatomu_marked_boundaries_utf16(yengatomu_slot *slot, const uint16_t *t
 /* The nearest boundary above the place, which may be inside a character; and the nearest below it, which may be past the end.
  * YENGATOMU_NONE where there is none, and where the slot is empty. */
 size_t yengatomu_next(yengatomu_slot *slot, const uint8_t *text, size_t len, size_t place);
+size_t yengatomu_next_utf16(yengatomu_slot *slot, const uint16_t *text, size_t len, size_t place);
 size_t yengatomu_previous(yengatomu_slot *slot, const uint8_t *text, size_t len, size_t place);
+size_t yengatomu_previous_utf16(yengatomu_slot *slot, const uint16_t *text, size_t len, size_t place);
 
 /* Writes where the first lines end that the text from there on is wrapped to, as many as there is room for, and returns how many.
  * A line takes as many segments as fit in the columns, at least one, and ends where it must. Spaces, line feeds and carriage returns
  * at its end take no columns. 0 of other kinds than lines. */
 size_t yengatomu_wrap(yengatomu_slot *slot, const uint8_t *text, size_t len, size_t from, size_t columns, size_t *ends, size_t room);
+size_t yengatomu_wrap_utf16(yengatomu_slot *slot, const uint16_t *text, size_t len, size_t from, size_t columns, size_t *ends, size_t room);
 /* The same, with how many columns each line takes. It writes as many as both buffers have room for. */
 size_t yengatomu_wrap_columns(yengatomu_slot *slot, const uint8_t *text, size_t len, size_t from, size_t columns, size_t *ends, size_t room,
                               size_t *widths, size_t widths_room);
+size_t yengatomu_wrap_columns_utf16(yengatomu_slot *slot, const uint16_t *text, size_t len, size_t from, size_t columns, size_t *ends,
+                                    size_t room, size_t *widths, size_t widths_room);
 
 /* How many segments the text has: one less than it has boundaries. 0 where the slot is empty. */
 size_t yengatomu_count(yengatomu_slot *slot, const uint8_t *text, size_t len);

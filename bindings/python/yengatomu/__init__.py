@@ -133,13 +133,6 @@ def _units_of(text: Union[str, bytes]) -> _Units:
     return _Units(units, length, 2, [it.start() + number for number, it in enumerate(pairs, 1)])
 
 
-def _utf8_of(text: Union[str, bytes]) -> Tuple[bytes, bool]:
-    """Returns a text in UTF-8, and whether its places are the text's own."""
-    if isinstance(text, str):
-        return text.encode("utf-8", _REPLACED), text.isascii()
-    return _units_of(text).units, True
-
-
 def _size(number: int, name: str) -> int:
     """Returns a number as a size, and as the highest one if it is above that."""
     number = operator.index(number)
@@ -240,11 +233,11 @@ class Segmenter:
 
         In bytes it takes as long as the place's line up to there. A str that isn't ASCII is encoded by each call.
         """
-        return self._near(_library.next_boundary, text, place)
+        return self._near(_library.next_boundary, _library.next_boundary_utf16, text, place)
 
     def previous(self, text: Union[str, bytes], place: int) -> Optional[int]:
         """Returns the nearest boundary below a place, which may be past the end. None where there is none."""
-        return self._near(_library.previous_boundary, text, place)
+        return self._near(_library.previous_boundary, _library.previous_boundary_utf16, text, place)
 
     def wrap(self, text: AnyStr, columns: int) -> Iterator[AnyStr]:
         """Returns the lines that a text is wrapped to, without the spaces, line feeds and carriage returns at their ends.
@@ -258,17 +251,17 @@ class Segmenter:
     def wrapped(self, text: AnyStr, columns: int) -> Iterator[Tuple[AnyStr, int]]:
         """Returns the same lines, whole, each with how many columns it takes without what `wrap` leaves out."""
         self._must_be(Kind.LINES)
-        units, is_same = _utf8_of(text)
-        found = self._found(_library.wrap_columns, _Units(units, len(units), 1, []), "Q", _size(columns, "columns"))
-        return self._lines(text, units, is_same, found)
+        it = _units_of(text)
+        call = _library.wrap_columns if it.size == 1 else _library.wrap_columns_utf16
+        return self._lines(text, it, self._found(call, it, "Q", _size(columns, "columns")))
 
-    def _lines(self, text, units, is_same, found):
-        index = place = 0
-        for ends, widths in found:
-            for end, width in zip(ends, widths):
-                start, index = index, end if is_same else index + len(units[place:end].decode())
-                place = end
-                yield text[start:index], width
+    @staticmethod
+    def _lines(text: AnyStr, it: _Units, found: Iterator[Tuple["array[int]", "array[int]"]]) -> Iterator[Tuple[AnyStr, int]]:
+        start = 0
+        for places, widths in found:
+            for end, width in zip(it.indices(places), widths):
+                yield text[start:end], width
+                start = end
 
     def _must_be(self, kind: Kind) -> None:
         if self._kind is not kind:
@@ -309,15 +302,13 @@ class Segmenter:
             count -= 1
         return count
 
-    def _near(self, call, text: Union[str, bytes], place: int) -> Optional[int]:
-        place = _size(place, "place")
-        units, is_same = _utf8_of(text)
-        at = place if is_same else min(len(text[:place].encode("utf-8", _REPLACED)) + max(place - len(text), 0), _library.NONE)
+    def _near(self, of_bytes, of_utf16, text: Union[str, bytes], place: int) -> Optional[int]:
+        place, it = _size(place, "place"), _units_of(text)
+        # The place in units: as many more as there are pairs below.
+        at = min(place + len(_PAIR.findall(text, 0, min(place, len(text)))), _library.NONE) if it.seconds else place
         with self._lock:
-            found = call(self._slot, units, len(units), at)
-        if found == _library.NONE:
-            return None
-        return found if is_same else len(units[:found].decode())
+            found = (of_bytes if it.size == 1 else of_utf16)(self._slot, it.units, it.length, at)
+        return None if found == _library.NONE else it.indices(array("Q", [found]))[0]
 
 
 class _Segmenters(threading.local):

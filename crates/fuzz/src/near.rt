@@ -4,7 +4,7 @@ use crate::failure::{Failure, check};
 use bench::found::Found;
 use bench::segmenter::SegmenterBorrowed;
 use icu_segmenter::WordSegmenterBorrowed;
-use icu_segmenter::cursor::{BoundaryCursor, Segmenter};
+use icu_segmenter::cursor::{BoundaryCursor, SegmenterOf};
 use icu_segmenter::segments::{BreakIterator, WordBreaks};
 
 /// A cursor over a text is to find the boundaries next to a place.
@@ -22,9 +22,9 @@ pub fn check_near(
     }
 }
 
-fn check_cursor<S: Segmenter>(
+fn check_cursor<'s, S: SegmenterOf<&'s [u8]>>(
     segmenter: S,
-    text: &str,
+    text: &'s str,
     place: usize,
     found: &Found,
 ) -> Result<(), Failure> {

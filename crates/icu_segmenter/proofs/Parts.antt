@@ -6,8 +6,10 @@ use Rattle.std.proofs.Math.Seq.{drop-append_seam, drop-cons, take-append_seam}
 use Rattle.std.proofs.lemmas.List.Elements.{Contains-append_left, Contains-append_right, Contains-append_cases}
 use Rattle.seg_text.specs.declared.boundary.Boundary.{Boundary}
 use Rattle.seg_text.specs.Boundaries.{IsCover, RisesTo, offsets, shift_all}
+use Rattle.seg_text.specs.Decoding.{utf8, utf16}
+use Rattle.seg_text.specs.Items.{Text}
 use Rattle.seg_clusters.specs.Rules.{PartsBehind, PartsTexts}
-use Rattle.icu_segmenter.specs.NearBoundaries.{BeginsLine, IsNearestAbove, IsNearestBelow, IsPart, boundaries_of_bytes, boundary_places, line_feed}
+use Rattle.icu_segmenter.specs.NearBoundaries.{BeginsLine, IsNearestAbove, IsNearestBelow, IsPart, boundaries_of_units, line_feed, places_of_units}
 use Rattle.icu_segmenter.proofs.Nearest.{has-none, has-cases, has-here, has-later}
 
 -- ---- what covers contain
@@ -104,69 +106,73 @@ whole-part end boundaries cover = record {
   all = λ place has. inr (place, has, omega arith);
 }
 
-parted : (find : List ℕ → List Boundary) (before second : List ℕ) → PartsBehind (boundaries_of_bytes find) line_feed
-    → IsCover 0 (length (before ++ line_feed)) (boundaries_of_bytes find (before ++ line_feed)) → IsCover 0 (length second) (boundaries_of_bytes find second)
-    → IsPart (boundary_places find ((before ++ line_feed) ++ second)) (length (before ++ line_feed)) (boundary_places find second)
-parted find before second parts covers cover =
+parted : (decode : List ℕ → Text) (find : List ℕ → List Boundary) (before second : List ℕ) → PartsBehind (boundaries_of_units decode find) line_feed
+    → IsCover 0 (length (before ++ line_feed)) (boundaries_of_units decode find (before ++ line_feed)) → IsCover 0 (length second) (boundaries_of_units decode find second)
+    → IsPart (places_of_units decode find ((before ++ line_feed) ++ second)) (length (before ++ line_feed)) (places_of_units decode find second)
+parted decode find before second parts covers cover =
     let first : List ℕ = before ++ line_feed in
-    subst (λ (places : List ℕ). IsPart places (length first) (boundary_places find second))
-    (sym (ap offsets (parts before second) ∙ joined-offsets (length first) (boundaries_of_bytes find first) (drop 1 (boundaries_of_bytes find second))))
-    (joined-part (length first) (length second) (boundaries_of_bytes find first) (boundaries_of_bytes find second) covers cover)
+    subst (λ (places : List ℕ). IsPart places (length first) (places_of_units decode find second))
+    (sym (ap offsets (parts before second) ∙ joined-offsets (length first) (boundaries_of_units decode find first) (drop 1 (boundaries_of_units decode find second))))
+    (joined-part (length first) (length second) (boundaries_of_units decode find first) (boundaries_of_units decode find second) covers cover)
 
-line-parts : (find : List ℕ → List Boundary) (bytes : List ℕ) (start : ℕ) → BeginsLine bytes start → PartsBehind (boundaries_of_bytes find) line_feed
-    → IsCover 0 (length bytes) (boundaries_of_bytes find bytes)
-    → IsCover 0 (length (take start bytes)) (boundaries_of_bytes find (take start bytes))
-    → IsCover 0 (length (drop start bytes)) (boundaries_of_bytes find (drop start bytes))
-    → IsPart (boundary_places find bytes) start (boundary_places find (drop start bytes))
-line-parts find bytes start (inl is) parts whole covers cover =
-    subst (λ (place : ℕ). IsPart (boundary_places find bytes) place (boundary_places find (drop place bytes))) (sym is)
-    (whole-part (length bytes) (boundaries_of_bytes find bytes) whole)
-line-parts find bytes start (inr (before, second, is, at)) parts whole covers cover =
+line-parts : (decode : List ℕ → Text) (find : List ℕ → List Boundary) (units : List ℕ) (start : ℕ) → BeginsLine units start → PartsBehind (boundaries_of_units decode find) line_feed
+    → IsCover 0 (length units) (boundaries_of_units decode find units)
+    → IsCover 0 (length (take start units)) (boundaries_of_units decode find (take start units))
+    → IsCover 0 (length (drop start units)) (boundaries_of_units decode find (drop start units))
+    → IsPart (places_of_units decode find units) start (places_of_units decode find (drop start units))
+line-parts decode find units start (inl is) parts whole covers cover =
+    subst (λ (place : ℕ). IsPart (places_of_units decode find units) place (places_of_units decode find (drop place units))) (sym is)
+    (whole-part (length units) (boundaries_of_units decode find units) whole)
+line-parts decode find units start (inr (before, second, is, at)) parts whole covers cover =
     let first : List ℕ = before ++ line_feed in
-    let taken : take start bytes ≡ first = ap (λ (n : ℕ). take n bytes) at ∙ ap (take (length first)) is ∙ take-append_seam first second in
-    let rest : drop start bytes ≡ second = ap (λ (n : ℕ). drop n bytes) at ∙ ap (drop (length first)) is ∙ drop-append_seam first second in
-    let part : IsPart (boundary_places find (first ++ second)) (length first) (boundary_places find second) =
-    parted find before second parts
-    (subst (λ (text : List ℕ). IsCover 0 (length text) (boundaries_of_bytes find text)) taken covers)
-    (subst (λ (text : List ℕ). IsCover 0 (length text) (boundaries_of_bytes find text)) rest cover) in
-    subst (λ (text : List ℕ). IsPart (boundary_places find bytes) start (boundary_places find text)) (sym rest)
-    (subst (λ (place : ℕ). IsPart (boundary_places find bytes) place (boundary_places find second)) (sym at)
-    (subst (λ (text : List ℕ). IsPart (boundary_places find text) (length first) (boundary_places find second)) (sym is) part))
+    let taken : take start units ≡ first = ap (λ (n : ℕ). take n units) at ∙ ap (take (length first)) is ∙ take-append_seam first second in
+    let rest : drop start units ≡ second = ap (λ (n : ℕ). drop n units) at ∙ ap (drop (length first)) is ∙ drop-append_seam first second in
+    let part : IsPart (places_of_units decode find (first ++ second)) (length first) (places_of_units decode find second) =
+    parted decode find before second parts
+    (subst (λ (text : List ℕ). IsCover 0 (length text) (boundaries_of_units decode find text)) taken covers)
+    (subst (λ (text : List ℕ). IsCover 0 (length text) (boundaries_of_units decode find text)) rest cover) in
+    subst (λ (text : List ℕ). IsPart (places_of_units decode find units) start (places_of_units decode find text)) (sym rest)
+    (subst (λ (place : ℕ). IsPart (places_of_units decode find units) place (places_of_units decode find second)) (sym at)
+    (subst (λ (text : List ℕ). IsPart (places_of_units decode find text) (length first) (places_of_units decode find second)) (sym is) part))
 
-pub line-part : (find : List ℕ → List Boundary) (bytes first part : List ℕ) (start : ℕ) → first ≡ take start bytes → part ≡ drop start bytes
-    → BeginsLine bytes start → PartsBehind (boundaries_of_bytes find) line_feed → IsCover 0 (length bytes) (boundaries_of_bytes find bytes)
-    → IsCover 0 (length first) (boundaries_of_bytes find first) → IsCover 0 (length part) (boundaries_of_bytes find part)
-    → IsPart (boundary_places find bytes) start (boundary_places find part)
-line-part find bytes first part start is_first is_part begins parts whole covers cover =
-    subst (λ (text : List ℕ). IsPart (boundary_places find bytes) start (boundary_places find text)) (sym is_part)
-    (line-parts find bytes start begins parts whole
-    (subst (λ (text : List ℕ). IsCover 0 (length text) (boundaries_of_bytes find text)) is_first covers)
-    (subst (λ (text : List ℕ). IsCover 0 (length text) (boundaries_of_bytes find text)) is_part cover))
+pub line-part : (decode : List ℕ → Text) (find : List ℕ → List Boundary) (units first part : List ℕ) (start : ℕ) → first ≡ take start units → part ≡ drop start units
+    → BeginsLine units start → PartsBehind (boundaries_of_units decode find) line_feed → IsCover 0 (length units) (boundaries_of_units decode find units)
+    → IsCover 0 (length first) (boundaries_of_units decode find first) → IsCover 0 (length part) (boundaries_of_units decode find part)
+    → IsPart (places_of_units decode find units) start (places_of_units decode find part)
+line-part decode find units first part start is_first is_part begins parts whole covers cover =
+    subst (λ (text : List ℕ). IsPart (places_of_units decode find units) start (places_of_units decode find text)) (sym is_part)
+    (line-parts decode find units start begins parts whole
+    (subst (λ (text : List ℕ). IsCover 0 (length text) (boundaries_of_units decode find text)) is_first covers)
+    (subst (λ (text : List ℕ). IsCover 0 (length text) (boundaries_of_units decode find text)) is_part cover))
 
-behind-feed : (bytes : List ℕ) (last other : ℕ) → last < length bytes → get_or bytes last other ≡ 0x0A → BeginsLine bytes (last + 1)
-behind-feed bytes last other within is = inr (
-  take last bytes,
-  drop (last + 1) bytes,
-  sym (take-append-drop last bytes) ∙ ap (λ (rest : List ℕ). take last bytes ++ rest) (rest-at ∙ ap (λ (n : ℕ). 0x0A ∷ drop n bytes) next)
-      ∙ sym (append_assoc (take last bytes) line_feed (drop (last + 1) bytes)),
-  omega (arith, within, length-take-le last bytes (omega (arith, within)), length-append (take last bytes) line_feed),
+behind-feed : (units : List ℕ) (last other : ℕ) → last < length units → get_or units last other ≡ 0x0A → BeginsLine units (last + 1)
+behind-feed units last other within is = inr (
+  take last units,
+  drop (last + 1) units,
+  sym (take-append-drop last units) ∙ ap (λ (rest : List ℕ). take last units ++ rest) (rest-at ∙ ap (λ (n : ℕ). 0x0A ∷ drop n units) next)
+      ∙ sym (append_assoc (take last units) line_feed (drop (last + 1) units)),
+  omega (arith, within, length-take-le last units (omega (arith, within)), length-append (take last units) line_feed),
 )
   where
     next : suc last ≡ last + 1
     next = omega arith
 
-    rest-at : drop last bytes ≡ 0x0A ∷ drop (suc last) bytes
-    rest-at = drop-cons bytes last other within ∙ ap (λ (byte : ℕ). byte ∷ drop (suc last) bytes) is
+    rest-at : drop last units ≡ 0x0A ∷ drop (suc last) units
+    rest-at = drop-cons units last other within ∙ ap (λ (unit : ℕ). unit ∷ drop (suc last) units) is
 
-pub feed-before : (bytes : List ℕ) (start other : ℕ) → 0 < start → start ≤ length bytes → get_or bytes (start - 1) other ≡ 0x0A → BeginsLine bytes start
-feed-before bytes start other some within is =
+pub feed-before : (units : List ℕ) (start other : ℕ) → 0 < start → start ≤ length units → get_or units (start - 1) other ≡ 0x0A → BeginsLine units start
+feed-before units start other some within is =
     let next : start - 1 + 1 ≡ start = omega (arith, some) in
-    subst (BeginsLine bytes) next (behind-feed bytes (start - 1) other (omega (arith, some, within)) is)
+    subst (BeginsLine units) next (behind-feed units (start - 1) other (omega (arith, some, within)) is)
 
--- a line feed is one byte
-pub line-feeds : (find : List ℕ → List Boundary) → PartsTexts find 0x0A → PartsBehind (boundaries_of_bytes find) line_feed
+-- a line feed is one unit
+
+pub feeds-utf8 : (find : List ℕ → List Boundary) → PartsTexts find 0x0A → PartsBehind (boundaries_of_units utf8 find) line_feed
 unfolding lib.Utf8.encode
-line-feeds find parts = parts.in_utf8
+feeds-utf8 find parts = parts.in_utf8
+
+pub feeds-utf16 : (find : List ℕ → List Boundary) → PartsTexts find 0x0A → PartsBehind (boundaries_of_units utf16 find) line_feed
+feeds-utf16 find parts = parts.in_utf16
 
 -- ---- the nearest of a whole text
 

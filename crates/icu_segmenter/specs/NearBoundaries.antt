@@ -3,13 +3,19 @@ use Rattle.std.specs.Prelude.{◌≡◌, ℕ, ◌+◌, ◌<◌, ◌≤◌, ◌�
 use Rattle.seg_text.specs.declared.boundary.Boundary.{Boundary}
 use Rattle.seg_text.specs.Boundaries.{boundaries_in, offsets}
 use Rattle.seg_text.specs.Decoding.{utf8}
+use Rattle.seg_text.specs.Items.{Text}
 
--- the boundaries of a text of bytes, where this finds those of a list of code points; and their places
-abbrev pub boundaries_of_bytes : (List ℕ → List Boundary) → List ℕ → List Boundary
-boundaries_of_bytes find bytes = boundaries_in find (utf8 bytes)
+-- the boundaries of a text that stands in some units, which the first decodes, where the second finds those of a list of code points; and
+-- their places
+abbrev pub boundaries_of_units : (List ℕ → Text) → (List ℕ → List Boundary) → List ℕ → List Boundary
+boundaries_of_units decode find units = boundaries_in find (decode units)
 
+abbrev pub places_of_units : (List ℕ → Text) → (List ℕ → List Boundary) → List ℕ → List ℕ
+places_of_units decode find units = offsets (boundaries_of_units decode find units)
+
+-- .. of bytes, as possibly ill-formed UTF-8
 abbrev pub boundary_places : (List ℕ → List Boundary) → List ℕ → List ℕ
-boundary_places find bytes = offsets (boundaries_of_bytes find bytes)
+boundary_places find bytes = places_of_units utf8 find bytes
 
 -- the nearest of some places above another one, if there is one
 abbrev pub IsNearestAbove : List ℕ → ℕ → Option ℕ → Type 0
@@ -23,13 +29,13 @@ IsNearestBelow places place nearest =
     MatchOption nearest ((other : ℕ) → Contains places other → place ≤ other)
     (λ found. Contains places found × (found < place) × ((other : ℕ) → Contains places other → other < place → other ≤ found))
 
--- a line feed, in bytes
+-- a line feed: one unit, in UTF-8 and in UTF-16
 abbrev pub line_feed : List ℕ
 line_feed = 0x0A ∷ []
 
--- a line of bytes begins at the place: the start, or right behind a line feed
+-- a line begins at the place: the start, or right behind a line feed
 abbrev pub BeginsLine : List ℕ → ℕ → Type 0
-BeginsLine bytes place = (place ≡ 0) ⊎ ((before second : List ℕ) × (bytes ≡ (before ++ line_feed) ++ second) × (place ≡ length (before ++ line_feed)))
+BeginsLine units place = (place ≡ 0) ⊎ ((before second : List ℕ) × (units ≡ (before ++ line_feed) ++ second) × (place ≡ length (before ++ line_feed)))
 
 -- the part of a text from one place on: its places, so much later, are places of the whole text, and all of those above its start
 pub record IsPart (places : List ℕ) (start : ℕ) (part : List ℕ) : Type 0 where

@@ -9,21 +9,24 @@
 //! cursor.is_boundary(1)           false
 //! ```
 
-ghost use Rattle.std.specs.Prelude.{◌≡◌, ◌↔◌, ◌≤◌, ◌+◌, ℕ, IsTrue, IfSome, List, Contains, length};
+ghost use Rattle.std.specs.Prelude.{◌≡◌, ◌↔◌, ◌<◌, ◌≤◌, ◌+◌, ◌^◌, ℕ, IsTrue, IfSome, List, Contains, length};
 ghost use Rattle.seg_text.specs.declared.boundary.Boundary.{Boundary};
 ghost use Rattle.seg_text.specs.Boundaries.{IsCover};
+ghost use Rattle.seg_text.specs.Decoding.{utf8, utf16};
 ghost use Rattle.seg_clusters.specs.Rules.{PartsBehind};
-ghost use Rattle.icu_segmenter.specs.NearBoundaries.{IsNearestAbove, IsNearestBelow, IsPart, boundaries_of_bytes, boundary_places, line_feed};
+ghost use Rattle.icu_segmenter.specs.NearBoundaries.{IsNearestAbove, IsNearestBelow, IsPart, boundaries_of_units, boundary_places, line_feed, places_of_units};
 
 mod clusters;
 mod line_starts;
 mod lines;
 mod nearest;
 mod sentences;
+mod texts;
 mod words;
 
 use line_starts::line_start;
 use std::marker::Model;
+pub use texts::CursorText;
 
 /// A segmenter, as cursors ask it.
 pub trait Segmenter: Drop {
@@ -33,49 +36,54 @@ pub trait Segmenter: Drop {
     /// Whether each text may be parted behind its line feeds, so that each part has the boundaries that it has alone. If `false`,
     /// nothing is said.
     fn parts_behind_line_feeds(&self) -> bool
-        ensures { IsTrue result → PartsBehind (boundaries_of_bytes (find self.now)) line_feed };
-
-    /// The first boundary of possibly ill-formed UTF-8 is at its start, and the last at its end. Takes no memory.
-    fn cover(&self, text: &[u8])
-        ensures { IsCover 0 (length text.now) (boundaries_of_bytes (find self.now) text.now) };
-
-    /// The nearest boundary of possibly ill-formed UTF-8 above a place, if there is one. Takes no memory.
-    fn nearest_above(&self, text: &[u8], place: usize) -> Option<usize>
-        ensures nearest { IsNearestAbove (boundary_places (find self.now) text.now) place result }
-        ensures within { IfSome result (λ found. found ≤ length text.now) };
-
-    /// The nearest boundary below it, if there is one.
-    fn nearest_below(&self, text: &[u8], place: usize) -> Option<usize>
-        ensures nearest { IsNearestBelow (boundary_places (find self.now) text.now) place result }
-        ensures within { IfSome result (λ found. found ≤ length text.now) };
+        ensures utf8 { IsTrue result → PartsBehind (boundaries_of_units utf8 (find self.now)) line_feed }
+        ensures utf16 { IsTrue result → PartsBehind (boundaries_of_units utf16 (find self.now)) line_feed };
 }
 
-/// A text with the segmenter that finds its boundaries: it answers which are near a place. Places are bytes from the start.
+/// A segmenter of texts of one form: of `&[u8]`, possibly ill-formed UTF-8, or of `&[u16]`, possibly ill-formed UTF-16.
+pub trait SegmenterOf<T: CursorText>: Segmenter {
+    /// The first boundary of a text is at its start, and the last at its end. Takes no memory.
+    fn cover(&self, text: T)
+        ensures { IsCover 0 (length (T.units text)) (boundaries_of_units T.decode (Self.find self.now) (T.units text)) };
+
+    /// The nearest boundary of a text above a place, if there is one. Takes no memory.
+    fn nearest_above(&self, text: T, place: usize) -> Option<usize>
+        ensures nearest { IsNearestAbove (places_of_units T.decode (Self.find self.now) (T.units text)) place result }
+        ensures within { IfSome result (λ found. found ≤ length (T.units text)) };
+
+    /// The nearest boundary below it, if there is one.
+    fn nearest_below(&self, text: T, place: usize) -> Option<usize>
+        ensures nearest { IsNearestBelow (places_of_units T.decode (Self.find self.now) (T.units text)) place result }
+        ensures within { IfSome result (λ found. found ≤ length (T.units text)) };
+}
+
+/// A text with the segmenter that finds its boundaries: it answers which are near a place. Places are units from the start: bytes of
+/// UTF-8, 16-bit units of UTF-16.
 ///
 /// An answer takes no memory. Where the segmenter's rules part texts behind line feeds, it takes as long as finding the boundaries
 /// from the start of the place's line up to the one above the place; by other rules, from the start of the text.
 #[derive(Drop)]
-pub struct BoundaryCursor<'s, S: Segmenter> {
+pub struct BoundaryCursor<T: CursorText, S: SegmenterOf<T>> {
     segmenter: S,
-    text: &'s [u8],
+    text: T,
     has_parts: bool,
 }
 
-impl<'s, S: Segmenter> Model for BoundaryCursor<'s, S> {
+impl<T: CursorText, S: SegmenterOf<T>> Model for BoundaryCursor<T, S> {
     ghost use Rattle.std.specs.Prelude.{ℕ, List, IsTrue, length};
     ghost use Rattle.seg_text.specs.Boundaries.{IsCover};
     ghost use Rattle.seg_clusters.specs.Rules.{PartsBehind};
-    ghost use Rattle.icu_segmenter.specs.NearBoundaries.{boundaries_of_bytes, boundary_places, line_feed};
+    ghost use Rattle.icu_segmenter.specs.NearBoundaries.{boundaries_of_units, line_feed, places_of_units};
 
     ghost Value = { List ℕ };
 
-    ghost view = { λ s. boundary_places (S.find s.segmenter) s.text.now };
+    ghost view = { λ s. places_of_units T.decode (S.find s.segmenter) (T.units s.text) };
 
-    ghost invariant = { λ s. IsCover 0 (length s.text.now) (boundaries_of_bytes (S.find s.segmenter) s.text.now)
-        × (IsTrue s.has_parts → PartsBehind (boundaries_of_bytes (S.find s.segmenter)) line_feed) };
+    ghost invariant = { λ s. IsCover 0 (length (T.units s.text)) (boundaries_of_units T.decode (S.find s.segmenter) (T.units s.text))
+        × (IsTrue s.has_parts → PartsBehind (boundaries_of_units T.decode (S.find s.segmenter)) line_feed) };
 }
 
-impl<'s, S: Segmenter> BoundaryCursor<'s, S> {
+impl<'s, S: SegmenterOf<&'s [u8]>> BoundaryCursor<&'s [u8], S> {
     /// A cursor over a `str`. Takes no memory.
     pub fn new(segmenter: S, text: &'s str) -> Self
         ensures { result ≡ boundary_places (S.find segmenter) text.now }
@@ -94,7 +102,23 @@ impl<'s, S: Segmenter> BoundaryCursor<'s, S> {
             text,
         }
     }
+}
 
+impl<'s, S: SegmenterOf<&'s [u16]>> BoundaryCursor<&'s [u16], S> {
+    /// A cursor over possibly ill-formed UTF-16. Takes no memory.
+    pub fn of_utf16(segmenter: S, units: &'s [u16]) -> Self
+        ensures { result ≡ places_of_units utf16 (S.find segmenter) units.now }
+    {
+        segmenter.cover(units);
+        BoundaryCursor {
+            has_parts: segmenter.parts_behind_line_feeds(),
+            segmenter,
+            text: units,
+        }
+    }
+}
+
+impl<T: CursorText, S: SegmenterOf<T>> BoundaryCursor<T, S> {
     /// Whether a boundary is at the place. There is none inside a character, nor past the end.
     pub fn is_boundary(&self, place: usize) -> bool
         ensures { IsTrue result ↔ Contains self.now place }
@@ -125,24 +149,26 @@ impl<'s, S: Segmenter> BoundaryCursor<'s, S> {
     }
 }
 
-/// The part of a text from the last start of a line up to a place on, or the whole text: where it begins, and its bytes.
-fn part_at<'s, S: Segmenter>(
+/// The part of a text from the last start of a line up to a place on, or the whole text: where it begins, and its units.
+fn part_at<T: CursorText, S: SegmenterOf<T>>(
     segmenter: &S,
-    text: &'s [u8],
+    text: T,
     has_parts: bool,
     place: usize,
-) -> (usize, &'s [u8])
-    requires cover { IsCover 0 (length text.now) (boundaries_of_bytes (S.find segmenter.now) text.now) }
-    requires parts { IsTrue has_parts → PartsBehind (boundaries_of_bytes (S.find segmenter.now)) line_feed }
+) -> (usize, T)
+    requires cover { IsCover 0 (length (T.units text)) (boundaries_of_units T.decode (S.find segmenter.now) (T.units text)) }
+    requires parts { IsTrue has_parts → PartsBehind (boundaries_of_units T.decode (S.find segmenter.now)) line_feed }
     ensures order { result.0 ≤ place }
-    ensures within { result.0 + length result.1.now ≤ length text.now }
-    ensures part { IsPart (boundary_places (S.find segmenter.now) text.now) result.0 (boundary_places (S.find segmenter.now) result.1.now) }
+    ensures fits { result.0 + length (T.units result.1) < 2 ^ 64 }
+    ensures part { IsPart (places_of_units T.decode (S.find segmenter.now) (T.units text)) result.0 (places_of_units T.decode (S.find segmenter.now) (T.units result.1)) }
 {
+    // So each place in the text is a number of this type.
+    let _end = text.len();
     if !has_parts {
         return (0, text);
     }
     let start = line_start(text, place);
-    let (before, part) = text.split_at(start);
+    let (before, part) = text.parted_at(start);
     segmenter.cover(before);
     segmenter.cover(part);
     (start, part)

@@ -59,7 +59,8 @@ pub mod memo {
 /// Lines of a text, wrapped to columns.
 pub mod wrap {
     pub use seg_wrap::wrapper::{
-        LineWrapper, WrapError, WrapIterator, WrapUtf8Iterator, WrappedLine, WrappedUtf8Line,
+        LineWrapper, WrapError, WrapIterator, WrapUtf8Iterator, WrapUtf16Iterator, WrappedLine,
+        WrappedUtf8Line, WrappedUtf16Line,
     };
 }
 

@@ -6,12 +6,10 @@ use Rattle.std.proofs.Math.Seq.{take-add}
 use Rattle.std.proofs.lemmas.List.{drop-drop, length-append, length-drop, nil_from_length, take_all}
 use Rattle.seg_text.specs.declared.boundary.Boundary.{Boundary}
 use Rattle.seg_text.specs.Items.{IsRising, Item, Text, place_of, rest_after, start_of}
-use Rattle.seg_text.specs.Decoding.{utf8}
 use Rattle.seg_text.proofs.Places.{IsRising-drop}
 use Rattle.seg_wrap.specs.Walk.{AreCuts}
 use Rattle.seg_wrap.specs.Wrapping.{Line, Segment, TextLine, between, count_before, ends_before, line_of, lines_from, as_one, rest_from, segments_from, text_lines, wrapped_lines}
-use Rattle.seg_wrap.proofs.Given.{utf8-rises}
-use Rattle.seg_wrap.proofs.Starts.{start-utf8}
+use Rattle.seg_wrap.proofs.Texts.{IsTextOf}
 use Rattle.seg_wrap.proofs.Places.{characters-length, count-within, place-grows, place-within}
 
 between-join : (units : List ℕ) (from mid to : ℕ) → from ≤ mid → mid ≤ to → between from mid units ++ between mid to units ≡ between from to units
@@ -77,10 +75,10 @@ wrapped-joined limit units text boundaries rises cuts =
     on [] = refl
     on (first ∷ segments) = length-of-lines limit first segments
 
--- and those of bytes are the bytes
-pub bytes-joined : (limit : ℕ) (bytes : List ℕ) (boundaries : List Boundary) → AreCuts (utf8 bytes) boundaries
-    → flat_map (λ (line : TextLine). line.units) (text_lines bytes (utf8 bytes) (wrapped_lines limit (segments_from (utf8 bytes) boundaries))) ≡ bytes
-bytes-joined limit bytes boundaries cuts =
-    wrapped-joined limit bytes (utf8 bytes) boundaries (utf8-rises bytes) cuts
-    ∙ ap (λ (n : ℕ). between n (0 + length bytes) bytes) (start-utf8 bytes)
-    ∙ take_all (0 + length bytes - 0) bytes (omega arith)
+-- and those of a text that stands in some units are the units
+pub units-joined : (limit : ℕ) (units : List ℕ) (text : Text) (boundaries : List Boundary) → IsTextOf units text → AreCuts text boundaries
+    → flat_map (λ (line : TextLine). line.units) (text_lines units text (wrapped_lines limit (segments_from text boundaries))) ≡ units
+units-joined limit units text boundaries is cuts =
+    wrapped-joined limit units text boundaries is.rises cuts
+    ∙ ap (λ (n : ℕ). between n text.end units) is.start
+    ∙ take_all (text.end - 0) units (omega (arith, is.end))

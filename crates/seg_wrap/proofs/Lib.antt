@@ -2,6 +2,7 @@ pub mod Places
 pub mod Extents
 pub mod Greedy
 pub mod Walks
+pub mod Texts
 pub mod Starts
 pub mod Joined
 pub mod Given

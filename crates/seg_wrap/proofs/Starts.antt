@@ -4,12 +4,10 @@ use Rattle.std.specs.Prelude.{Option, Some, None}
 use Rattle.seg_text.specs.declared.boundary.Boundary.{Boundary}
 use Rattle.seg_text.specs.Boundaries.{GivesNext, IsCover, Remainder, RisesTo, boundaries_in, boundary_in}
 use Rattle.seg_text.specs.Items.{IsRising, Text, code_points, rest_after, start_of}
-use Rattle.seg_text.specs.Decoding.{utf8, utf8_items, read_utf8}
-use Rattle.seg_text.specs.Lemmas.Readers.{place_of-items_by}
-use Rattle.seg_text.specs.Lemmas.Rising.{read_utf8-reader}
 use Rattle.seg_text.proofs.Places.{IsRising-drop}
 use Rattle.seg_wrap.specs.Walk.{AreCuts}
 use Rattle.seg_wrap.specs.Wrapping.{count_before, rest_from}
+use Rattle.seg_wrap.proofs.Texts.{IsTextOf}
 use Rattle.seg_wrap.proofs.Places.{none-left, place-within, rest-at, rest-on, some-before}
 
 cuts-from : (text : Text) (counted : List Boundary) (from : ℕ) → IsRising text.items text.end → from ≡ start_of (rest_from from text)
@@ -48,14 +46,9 @@ after-start text counted before after given rises left cover gives = on given gi
               (cuts-from text counted (start_of text) rises (ap start_of (sym whole)) cover.1)),
         )
 
-pub start-utf8 : (bytes : List ℕ) → start_of (utf8 bytes) ≡ 0
-unfolding utf8_items
-start-utf8 bytes = place_of-items_by read_utf8 read_utf8-reader 0 bytes
-
--- the same of bytes
-pub after-first : (bytes : List ℕ) (find : List ℕ → List Boundary) (before after : Remainder) (given : Option ℕ) → IsRising (utf8 bytes).items (utf8 bytes).end
-    → before.left ≡ boundaries_in find (utf8 bytes) → IsCover 0 (length bytes) before.left → GivesNext before given after
-    → (after.left ≡ drop 1 before.left) × AreCuts (utf8 bytes) after.left
-after-first bytes find before after given rises left cover gives =
-    after-start (utf8 bytes) (find (code_points (utf8 bytes).items)) before after given rises left
-    (rw (start-utf8 bytes) (subst (λ (n : ℕ). IsCover 0 n before.left) (omega arith) cover)) gives
+-- the same of a text that stands in some units
+pub after-first : (units : List ℕ) (text : Text) (find : List ℕ → List Boundary) (before after : Remainder) (given : Option ℕ) → IsTextOf units text
+    → before.left ≡ boundaries_in find text → IsCover 0 (length units) before.left → GivesNext before given after
+    → (after.left ≡ drop 1 before.left) × AreCuts text after.left
+after-first units text find before after given is left cover gives =
+    after-start text (find (code_points text.items)) before after given is.rises left (rw (is.start, is.end) cover) gives

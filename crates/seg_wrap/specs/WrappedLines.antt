@@ -2,6 +2,7 @@
 use Rattle.std.specs.Prelude.{ℕ, List}
 use Rattle.std.specs.List.{flat_map}
 use Rattle.seg_text.specs.Decoding.{utf8}
+use Rattle.seg_text.specs.Items.{Text}
 use Rattle.seg_lines.specs.LineBreaks.{LineRules, line_boundaries_of}
 use Rattle.seg_lines.specs.Lines.{line_rules}
 use Rattle.seg_wrap.specs.declared.wrapper.LineWrapper.{LineWrapper}
@@ -9,12 +10,18 @@ use Rattle.seg_wrap.specs.declared.wrapper.WrappedLine.{WrappedLine}
 use Rattle.seg_wrap.specs.declared.wrapper.WrapIterator.{WrapIterator}
 use Rattle.seg_wrap.specs.declared.wrapper.WrappedUtf8Line.{WrappedUtf8Line}
 use Rattle.seg_wrap.specs.declared.wrapper.WrapUtf8Iterator.{WrapUtf8Iterator}
+use Rattle.seg_wrap.specs.declared.wrapper.utf16.WrappedUtf16Line.{WrappedUtf16Line}
+use Rattle.seg_wrap.specs.declared.wrapper.utf16.WrapUtf16Iterator.{WrapUtf16Iterator}
 use Rattle.seg_wrap.specs.Wrapping.{TextLine, segments_of, text_lines, wrapped_lines}
 
--- the lines of possibly ill-formed UTF-8, wrapped to so many columns at the breaks that these rules find
+-- the lines of a text that stands in some units, which this decodes, wrapped to so many columns at the breaks that these rules find
+abbrev pub wrapped_units : (List ℕ → Text) → LineRules → ℕ → List ℕ → List TextLine
+wrapped_units decode rules limit units =
+    text_lines units (decode units) (wrapped_lines limit (segments_of (decode units) (line_boundaries_of rules (decode units))))
+
+-- the same of possibly ill-formed UTF-8
 abbrev pub wrapped_text : LineRules → ℕ → List ℕ → List TextLine
-wrapped_text rules limit bytes =
-    text_lines bytes (utf8 bytes) (wrapped_lines limit (segments_of (utf8 bytes) (line_boundaries_of rules (utf8 bytes))))
+wrapped_text rules limit bytes = wrapped_units utf8 rules limit bytes
 
 -- what lines stand in, one after another
 abbrev pub joined_units : List TextLine → List ℕ
@@ -31,9 +38,15 @@ line_in line = record { units = line.text.now; columns = line.columns; is_mandat
 abbrev pub utf8_line_in : WrappedUtf8Line → TextLine
 utf8_line_in line = record { units = line.bytes.now; columns = line.columns; is_mandatory = line.is_mandatory }
 
+abbrev pub utf16_line_in : WrappedUtf16Line → TextLine
+utf16_line_in line = record { units = line.units.now; columns = line.columns; is_mandatory = line.is_mandatory }
+
 -- the lines that an iterator has still to give
 abbrev pub lines_to_come : WrapIterator → List TextLine
 lines_to_come iterator = text_lines iterator.text.now iterator.lines.text iterator.lines.lines
 
 abbrev pub utf8_lines_to_come : WrapUtf8Iterator → List TextLine
 utf8_lines_to_come iterator = text_lines iterator.bytes.now iterator.lines.text iterator.lines.lines
+
+abbrev pub utf16_lines_to_come : WrapUtf16Iterator → List TextLine
+utf16_lines_to_come iterator = text_lines iterator.units.now iterator.lines.text iterator.lines.lines

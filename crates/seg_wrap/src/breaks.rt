@@ -6,7 +6,7 @@ ghost use Rattle.seg_text.specs.declared.boundary.Boundary.{Boundary};
 ghost use Rattle.seg_wrap.specs.Walk.{ReadsBreak};
 
 use seg_lines::line::LineBreakIterator;
-use seg_text::scaffold::{PotentiallyIllFormedUtf8, Utf8};
+use seg_text::scaffold::{PotentiallyIllFormedUtf8, RuleBreakType, Utf8, Utf16};
 
 /// A place where a line may end.
 #[derive(Clone, Copy, Debug)]
@@ -31,20 +31,38 @@ pub(crate) trait Breaks: Drop {
         ensures { left result ≡ left self.now };
 }
 
+// The next break of a text in any encoding.
+fn next_line_break<'s, Y: RuleBreakType<'s>>(
+    lines: &mut LineBreakIterator<'_, 's, Y>,
+) -> Option<Break>
+    ensures { ReadsBreak (lines_left lines.old) result (lines_left lines.new) }
+{
+    let end = lines.next()?;
+    let is_mandatory = lines.is_mandatory();
+    Some(Break { end, is_mandatory })
+}
+
+// The same lines once more.
+fn copy_of<'data, 's, Y: RuleBreakType<'s>>(
+    lines: &LineBreakIterator<'data, 's, Y>,
+) -> LineBreakIterator<'data, 's, Y>
+    ensures { result ≡ lines.now }
+{
+    let Ok(copy) = lines.clone() else {
+        unreachable!()
+    };
+    copy
+}
+
 impl<'data, 's> Breaks for LineBreakIterator<'data, 's, Utf8> {
     ghost left = { λ lines. lines_left lines };
 
     fn next_break(&mut self) -> Option<Break> {
-        let end = self.next()?;
-        let is_mandatory = self.is_mandatory();
-        Some(Break { end, is_mandatory })
+        next_line_break(self)
     }
 
     fn fork(&self) -> Self {
-        let Ok(lines) = self.clone() else {
-            unreachable!()
-        };
-        lines
+        copy_of(self)
     }
 }
 
@@ -52,15 +70,22 @@ impl<'data, 's> Breaks for LineBreakIterator<'data, 's, PotentiallyIllFormedUtf8
     ghost left = { λ lines. lines_left lines };
 
     fn next_break(&mut self) -> Option<Break> {
-        let end = self.next()?;
-        let is_mandatory = self.is_mandatory();
-        Some(Break { end, is_mandatory })
+        next_line_break(self)
     }
 
     fn fork(&self) -> Self {
-        let Ok(lines) = self.clone() else {
-            unreachable!()
-        };
-        lines
+        copy_of(self)
+    }
+}
+
+impl<'data, 's> Breaks for LineBreakIterator<'data, 's, Utf16> {
+    ghost left = { λ lines. lines_left lines };
+
+    fn next_break(&mut self) -> Option<Break> {
+        next_line_break(self)
+    }
+
+    fn fork(&self) -> Self {
+        copy_of(self)
     }
 }

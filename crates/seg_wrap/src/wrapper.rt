@@ -8,6 +8,8 @@ ghost use Rattle.seg_lines.specs.Lines.{line_rules};
 ghost use Rattle.seg_wrap.specs.Wrapping.{between, rest_from};
 ghost use Rattle.seg_lines.specs.LineBreaks.{IsByPairTable};
 
+mod utf16;
+
 use crate::wrapping::Wrapping;
 use seg_lines::inner::is_neo;
 use seg_lines::line::{LineBreakIterator, LineSegmenterBorrowed};
@@ -15,6 +17,7 @@ use seg_text::indices::{StrCharIndices, Utf8CharIndices};
 use seg_text::scaffold::{PotentiallyIllFormedUtf8, Utf8};
 use std::alloc::AllocError;
 use thiserror::Error;
+pub use utf16::{WrapUtf16Iterator, WrappedUtf16Line};
 
 /// Why there is no wrapper. Each has a number.
 #[derive(Clone, Copy, Debug, PartialEq, Eq, Error)]

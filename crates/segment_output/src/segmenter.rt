@@ -14,7 +14,7 @@ ghost use Rattle.segment_output.specs.Segmenter.{boundaries_by, cluster_rules_by
 
 use crate::marks::{HasMark, Marked};
 use crate::output::{Style, print_segments};
-use icu_segmenter::cursor::Segmenter as Cursor;
+use icu_segmenter::cursor::{Segmenter as Cursor, SegmenterOf};
 use icu_segmenter::options::LineBreakOptions;
 use icu_segmenter::provider::{DataError, Dictionaries};
 use icu_segmenter::segments::BreakIterator;

@@ -1,9 +1,10 @@
 -- Where wrapped lines end.
-use Rattle.std.specs.Prelude.{ℕ, ◌+◌, ◌-◌, ◌^◌, List, [], ◌∷◌, drop, length, map, min}
+use Rattle.std.specs.Prelude.{◌≡◌, ℕ, ◌+◌, ◌-◌, ◌^◌, List, [], ◌∷◌, MatchOption, Option, drop, length, map, min}
+use Rattle.icu_segmenter.specs.Items.{Text}
 use Rattle.icu_segmenter.specs.LineBreaks.{LineFinder}
 use Rattle.icu_segmenter.specs.LineBreaks.LineFinder.{ByClusters, ByPlaces, ByTable, ByTurns, ByMachine}
 use Rattle.icu_segmenter.specs.Wrapping.{TextLine}
-use Rattle.icu_segmenter.specs.WrappedLines.{wrapped_text}
+use Rattle.icu_segmenter.specs.WrappedLines.{wrapped_units}
 use Rattle.yengatomu_c.specs.Finders.{Finder}
 use Rattle.yengatomu_c.specs.Finders.Finder.{Clusters, Words, Sentences, Lines}
 
@@ -15,12 +16,12 @@ if_by_machine (ByTable rules) lines = []
 if_by_machine (ByTurns rules) lines = []
 if_by_machine (ByMachine m) lines = lines
 
--- the lines that a text is wrapped to from one place on; other kinds have none
-abbrev pub wrapped_behind : Finder → ℕ → List ℕ → ℕ → List TextLine
-wrapped_behind (Lines rules) columns bytes from = if_by_machine rules.finder (wrapped_text rules columns (drop from bytes))
-wrapped_behind (Clusters rules) columns bytes from = []
-wrapped_behind (Words rules) columns bytes from = []
-wrapped_behind (Sentences rules) columns bytes from = []
+-- the lines that a text that stands in some units, which this decodes, is wrapped to from one place on; other kinds have none
+abbrev pub wrapped_behind : Finder → (List ℕ → Text) → ℕ → List ℕ → ℕ → List TextLine
+wrapped_behind (Lines rules) decode columns units from = if_by_machine rules.finder (wrapped_units decode rules columns (drop from units))
+wrapped_behind (Clusters rules) decode columns units from = []
+wrapped_behind (Words rules) decode columns units from = []
+wrapped_behind (Sentences rules) decode columns units from = []
 
 -- where lines end that stand one after another from a place on
 unfoldable pub ends_from : ℕ → List TextLine → List ℕ
@@ -30,3 +31,9 @@ ends_from from (line ∷ lines) = let end = from + length line.units in end ∷ 
 -- how many columns they take
 abbrev pub widths_of : List TextLine → List ℕ
 widths_of lines = map (λ (line : TextLine). min line.columns (2 ^ 64 - 1)) lines
+
+-- the first line that is left is given, by how many units and how many columns it has, if there is one
+abbrev pub GivesLine : List TextLine → Option (ℕ × ℕ) → List TextLine → Type 0
+GivesLine before given after =
+    MatchOption given ((before ≡ []) × (after ≡ []))
+    (λ found. (line : TextLine) × ((before ≡ line ∷ after) × ((found.0 ≡ length line.units) × (found.1 ≡ line.columns))))

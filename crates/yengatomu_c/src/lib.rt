@@ -176,7 +176,7 @@ pub extern "C" fn yengatomu_wrap(
 ) -> usize
     ensures kept { finder_in slot.new ≡ finder_in slot.old }
     ensures empty { finder_in slot.old ≡ None → IsFilled [] ends.old ends.new result }
-    ensures lines { IfSome (finder_in slot.old) (λ finder. IsFilled (ends_from from (wrapped_behind finder columns text.now from)) ends.old ends.new result) }
+    ensures lines { IfSome (finder_in slot.old) (λ finder. IsFilled (ends_from from (wrapped_behind finder utf8 columns text.now from)) ends.old ends.new result) }
 {
     let Some(segmenter) = slot.take(alloc) else {
         return 0;
@@ -199,8 +199,8 @@ pub extern "C" fn yengatomu_wrap_columns(
 ) -> usize
     ensures kept { finder_in slot.new ≡ finder_in slot.old }
     ensures empty { finder_in slot.old ≡ None → (result ≡ 0) × (ends.new ≡ ends.old) × (widths.new ≡ widths.old) }
-    ensures lines { IfSome (finder_in slot.old) (λ finder. TakesFirst (min (length ends.old) (length widths.old)) (ends_from from (wrapped_behind finder columns text.now from)) ends.old ends.new result) }
-    ensures widths { IfSome (finder_in slot.old) (λ finder. TakesFirst (min (length ends.old) (length widths.old)) (widths_of (wrapped_behind finder columns text.now from)) widths.old widths.new result) }
+    ensures lines { IfSome (finder_in slot.old) (λ finder. TakesFirst (min (length ends.old) (length widths.old)) (ends_from from (wrapped_behind finder utf8 columns text.now from)) ends.old ends.new result) }
+    ensures widths { IfSome (finder_in slot.old) (λ finder. TakesFirst (min (length ends.old) (length widths.old)) (widths_of (wrapped_behind finder utf8 columns text.now from)) widths.old widths.new result) }
 {
     let Some(segmenter) = slot.take(alloc) else {
         return 0;

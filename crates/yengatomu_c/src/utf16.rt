@@ -7,6 +7,9 @@ ghost use Rattle.yengatomu_c.specs.Buffers.{IsFilled, TakesFirst};
 ghost use Rattle.yengatomu_c.specs.Finders.{GoesOnAt, find_by, finder_in, finder_of, marks_behind, places_behind, places_in};
 ghost use Rattle.yengatomu_c.specs.Words.{word_count};
 
+mod near;
+mod wrapped;
+
 use crate::buffers;
 use crate::segmenter::Segmenter;
 use crate::slot::Slot;

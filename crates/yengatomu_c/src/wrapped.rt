@@ -1,14 +1,45 @@
 //! Where wrapped lines end, and how wide they are.
 
 ghost use Rattle.std.specs.Prelude.{◌≡◌, ◌+◌, ◌<◌, ◌^◌, ℕ, List, [], MatchOption, drop, length, min};
-ghost use Rattle.icu_segmenter.specs.WrappedLines.{joined_units, utf8_lines_to_come, wrapped_text, wrapper_rules};
+ghost use Rattle.icu_segmenter.specs.Decoding.{utf8};
+ghost use Rattle.icu_segmenter.specs.Items.{Text};
+ghost use Rattle.icu_segmenter.specs.Wrapping.{TextLine};
+ghost use Rattle.icu_segmenter.specs.WrappedLines.{joined_units, utf16_lines_to_come, utf8_lines_to_come, wrapped_units, wrapper_rules};
 ghost use Rattle.yengatomu_c.specs.Buffers.{IsFilled, TakesFirst};
 ghost use Rattle.yengatomu_c.specs.Finders.{finder_of};
-ghost use Rattle.yengatomu_c.specs.Wrapped.{ends_from, widths_of, wrapped_behind};
+ghost use Rattle.yengatomu_c.specs.Wrapped.{GivesLine, ends_from, widths_of, wrapped_behind};
 
 use crate::segmenter::Segmenter;
 use crate::texts::rest_of;
-use icu_segmenter::wrap::{LineWrapper, WrapUtf8Iterator};
+use icu_segmenter::wrap::{LineWrapper, WrapUtf8Iterator, WrapUtf16Iterator};
+
+/// Lines that a text is wrapped to, in any encoding.
+pub trait WrappedLines: Drop {
+    /// Those that are still to come.
+    ghost left: { Self → List TextLine };
+
+    /// How many units and how many columns the next line has. None at the end, and from then on.
+    fn next_line(&mut self) -> Option<(usize, u128)>
+        ensures { GivesLine (left self.old) result (left self.new) };
+}
+
+impl<'data, 's> WrappedLines for WrapUtf8Iterator<'data, 's> {
+    ghost left = { utf8_lines_to_come };
+
+    fn next_line(&mut self) -> Option<(usize, u128)> {
+        let line = self.next()?;
+        Some((line.bytes().len(), line.columns()))
+    }
+}
+
+impl<'data, 's> WrappedLines for WrapUtf16Iterator<'data, 's> {
+    ghost left = { utf16_lines_to_come };
+
+    fn next_line(&mut self) -> Option<(usize, u128)> {
+        let line = self.next()?;
+        Some((line.units().len(), line.columns()))
+    }
+}
 
 pub fn ends(
     segmenter: &Segmenter,
@@ -17,7 +48,7 @@ pub fn ends(
     columns: usize,
     ends: &mut [usize],
 ) -> usize
-    ensures { IsFilled (ends_from from (wrapped_behind (finder_of segmenter.now) columns text.now from)) ends.old ends.new result }
+    ensures { IsFilled (ends_from from (wrapped_behind (finder_of segmenter.now) utf8 columns text.now from)) ends.old ends.new result }
 {
     match wrapper_of(segmenter) {
         Some(wrapper) => fill(wrapper.wrap_utf8(rest_of(text, from), columns), from, ends),
@@ -33,8 +64,8 @@ pub fn ends_and_widths(
     ends: &mut [usize],
     widths: &mut [usize],
 ) -> usize
-    ensures lines { TakesFirst (min (length ends.old) (length widths.old)) (ends_from from (wrapped_behind (finder_of segmenter.now) columns text.now from)) ends.old ends.new result }
-    ensures widths { TakesFirst (min (length ends.old) (length widths.old)) (widths_of (wrapped_behind (finder_of segmenter.now) columns text.now from)) widths.old widths.new result }
+    ensures lines { TakesFirst (min (length ends.old) (length widths.old)) (ends_from from (wrapped_behind (finder_of segmenter.now) utf8 columns text.now from)) ends.old ends.new result }
+    ensures widths { TakesFirst (min (length ends.old) (length widths.old)) (widths_of (wrapped_behind (finder_of segmenter.now) utf8 columns text.now from)) widths.old widths.new result }
 {
     match wrapper_of(segmenter) {
         Some(wrapper) => {
@@ -45,10 +76,10 @@ pub fn ends_and_widths(
     }
 }
 
-// The wrapper by a segmenter of lines, if it is one by a machine.
-fn wrapper_of(segmenter: &Segmenter) -> Option<LineWrapper<'_>>
-    ensures { MatchOption result ((columns : ℕ) (bytes : List ℕ) (from : ℕ) → wrapped_behind (finder_of segmenter.now) columns bytes from ≡ [])
-        (λ wrapper. (columns : ℕ) (bytes : List ℕ) (from : ℕ) → wrapped_behind (finder_of segmenter.now) columns bytes from ≡ wrapped_text (wrapper_rules wrapper) columns (drop from bytes)) }
+/// The wrapper by a segmenter of lines, if it is one by a machine.
+pub fn wrapper_of(segmenter: &Segmenter) -> Option<LineWrapper<'_>>
+    ensures { MatchOption result ((decode : List ℕ → Text) (columns : ℕ) (units : List ℕ) (from : ℕ) → wrapped_behind (finder_of segmenter.now) decode columns units from ≡ [])
+        (λ wrapper. (decode : List ℕ → Text) (columns : ℕ) (units : List ℕ) (from : ℕ) → wrapped_behind (finder_of segmenter.now) decode columns units from ≡ wrapped_units decode (wrapper_rules wrapper) columns (drop from units)) }
 {
     match segmenter {
         Segmenter::Lines(lines) => LineWrapper::new(lines.as_borrowed()).ok(),
@@ -56,16 +87,17 @@ fn wrapper_of(segmenter: &Segmenter) -> Option<LineWrapper<'_>>
     }
 }
 
-fn fill(lines: WrapUtf8Iterator<'_, '_>, from: usize, ends: &mut [usize]) -> usize
-    requires { from + length (joined_units (utf8_lines_to_come lines)) < 2 ^ 64 }
-    ensures { IsFilled (ends_from from (utf8_lines_to_come lines.entry)) ends.old ends.new result }
+/// Writes where the first lines end, as many as there is room for, and returns how many.
+pub fn fill<L: WrappedLines>(lines: L, from: usize, ends: &mut [usize]) -> usize
+    requires { from + length (joined_units (L.left lines)) < 2 ^ 64 }
+    ensures { IsFilled (ends_from from (L.left lines)) ends.old ends.new result }
 {
     let mut lines = lines;
     let mut end = from;
     for index in 0..ends.len() {
-        match lines.next() {
-            Some(line) => {
-                end += line.bytes().len();
+        match lines.next_line() {
+            Some((units, _)) => {
+                end += units;
                 ends[index] = end;
             }
             None => return index,
@@ -74,25 +106,26 @@ fn fill(lines: WrapUtf8Iterator<'_, '_>, from: usize, ends: &mut [usize]) -> usi
     ends.len()
 }
 
-fn fill_both(
-    lines: WrapUtf8Iterator<'_, '_>,
+/// The same with how wide they are, as many as both buffers have room for.
+pub fn fill_both<L: WrappedLines>(
+    lines: L,
     from: usize,
     ends: &mut [usize],
     widths: &mut [usize],
 ) -> usize
-    requires { from + length (joined_units (utf8_lines_to_come lines)) < 2 ^ 64 }
-    ensures lines { TakesFirst (min (length ends.old) (length widths.old)) (ends_from from (utf8_lines_to_come lines.entry)) ends.old ends.new result }
-    ensures widths { TakesFirst (min (length ends.old) (length widths.old)) (widths_of (utf8_lines_to_come lines.entry)) widths.old widths.new result }
+    requires { from + length (joined_units (L.left lines)) < 2 ^ 64 }
+    ensures lines { TakesFirst (min (length ends.old) (length widths.old)) (ends_from from (L.left lines)) ends.old ends.new result }
+    ensures widths { TakesFirst (min (length ends.old) (length widths.old)) (widths_of (L.left lines)) widths.old widths.new result }
 {
     let mut lines = lines;
     let mut end = from;
     let room = ends.len().min(widths.len());
     for index in 0..room {
-        match lines.next() {
-            Some(line) => {
-                end += line.bytes().len();
+        match lines.next_line() {
+            Some((units, columns)) => {
+                end += units;
                 ends[index] = end;
-                widths[index] = line.columns().min(usize::MAX as u128) as usize;
+                widths[index] = columns.min(usize::MAX as u128) as usize;
             }
             None => return index,
         }

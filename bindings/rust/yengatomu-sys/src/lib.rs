@@ -159,9 +159,15 @@ extern "C" {
     /// empty.
     pub fn yengatomu_next(slot: *mut yengatomu_slot, text: *const u8, len: usize, place: usize) -> usize;
 
+    /// [`yengatomu_next`] of UTF-16; places are 16-bit units.
+    pub fn yengatomu_next_utf16(slot: *mut yengatomu_slot, text: *const u16, len: usize, place: usize) -> usize;
+
     /// The nearest boundary below the place, which may be past the end. `YENGATOMU_NONE` where there is none, and where the slot is
     /// empty.
     pub fn yengatomu_previous(slot: *mut yengatomu_slot, text: *const u8, len: usize, place: usize) -> usize;
+
+    /// [`yengatomu_previous`] of UTF-16; places are 16-bit units.
+    pub fn yengatomu_previous_utf16(slot: *mut yengatomu_slot, text: *const u16, len: usize, place: usize) -> usize;
 
     /// Writes where the first lines end that the text from `from` on is wrapped to, as many as there is room for, and returns how many.
     /// A line takes as many segments as fit in the columns, at least one, and ends where it must. Spaces, line feeds and carriage returns
@@ -176,10 +182,34 @@ extern "C" {
         room: usize,
     ) -> usize;
 
+    /// [`yengatomu_wrap`] of UTF-16; places are 16-bit units.
+    pub fn yengatomu_wrap_utf16(
+        slot: *mut yengatomu_slot,
+        text: *const u16,
+        len: usize,
+        from: usize,
+        columns: usize,
+        ends: *mut usize,
+        room: usize,
+    ) -> usize;
+
     /// [`yengatomu_wrap`], with how many columns each line takes. It writes as many as both buffers have room for.
     pub fn yengatomu_wrap_columns(
         slot: *mut yengatomu_slot,
         text: *const u8,
+        len: usize,
+        from: usize,
+        columns: usize,
+        ends: *mut usize,
+        room: usize,
+        widths: *mut usize,
+        widths_room: usize,
+    ) -> usize;
+
+    /// [`yengatomu_wrap_columns`] of UTF-16; places are 16-bit units.
+    pub fn yengatomu_wrap_columns_utf16(
+        slot: *mut yengatomu_slot,
+        text: *const u16,
         len: usize,
         from: usize,
         columns: usize,

@@ -113,7 +113,7 @@ fn of_crate() -> Calls {
 #[test]
 fn calls() {
     let stated = of_header();
-    assert_eq!(stated.len(), 17);
+    assert_eq!(stated.len(), 21);
     assert_eq!(of_crate(), stated);
 }
 

@@ -278,7 +278,7 @@ impl<'t, S: ?Sized + Slice> Ask<'t> for Marks<'_, 't, S> {
     }
 }
 
-impl<'t, S: ?Sized + Slice<Unit = u8>> Ask<'t> for Wraps<'_, 't, S> {
+impl<'t, S: ?Sized + Slice> Ask<'t> for Wraps<'_, 't, S> {
     type Slice = S;
     type More = usize;
 
@@ -297,7 +297,7 @@ impl<'t, S: ?Sized + Slice<Unit = u8>> Ask<'t> for Wraps<'_, 't, S> {
 
     #[inline]
     fn ask(&self, from: usize, ends: &mut [usize], widths: &mut [usize]) -> usize {
-        self.slot.wrap(self.text.units(), from, self.columns, ends, widths)
+        S::Unit::wrap(self.slot, self.text.units(), from, self.columns, ends, widths)
     }
 }
 

@@ -161,14 +161,14 @@ over_pieces!(MarkedSegments<K: Marked> of (usize, &'t S, K::Mark), 1);
 over_pieces!(Words<> of (usize, &'t S, WordType), 0);
 
 /// The lines that a text is wrapped to, from [`LineSegmenter::wrap`](crate::LineSegmenter::wrap).
-pub struct Lines<'s, 't, S: ?Sized + Slice<Unit = u8>> {
+pub struct Lines<'s, 't, S: ?Sized + Slice> {
     feed: Feed<'t, Wraps<'s, 't, S>>,
     /// What is left of the text, and where it begins.
     rest: &'t S,
     start: usize,
 }
 
-impl<'s, 't, S: ?Sized + Slice<Unit = u8>> Lines<'s, 't, S> {
+impl<'s, 't, S: ?Sized + Slice> Lines<'s, 't, S> {
     pub(crate) fn new(ask: Wraps<'s, 't, S>) -> Self {
         Self { feed: Feed::new(ask, 0), rest: ask.text, start: 0 }
     }
@@ -180,7 +180,7 @@ impl<'s, 't, S: ?Sized + Slice<Unit = u8>> Lines<'s, 't, S> {
     }
 }
 
-impl<'t, S: ?Sized + Slice<Unit = u8>> Iterator for Lines<'_, 't, S> {
+impl<'t, S: ?Sized + Slice> Iterator for Lines<'_, 't, S> {
     type Item = Line<'t, S>;
 
     #[inline]
@@ -197,15 +197,15 @@ impl<'t, S: ?Sized + Slice<Unit = u8>> Iterator for Lines<'_, 't, S> {
     }
 }
 
-impl<S: ?Sized + Slice<Unit = u8>> FusedIterator for Lines<'_, '_, S> {}
+impl<S: ?Sized + Slice> FusedIterator for Lines<'_, '_, S> {}
 
-impl<S: ?Sized + Slice<Unit = u8>> Clone for Lines<'_, '_, S> {
+impl<S: ?Sized + Slice> Clone for Lines<'_, '_, S> {
     fn clone(&self) -> Self {
         Self { feed: self.feed.clone(), rest: self.rest, start: self.start }
     }
 }
 
-impl<S: ?Sized + Slice<Unit = u8>> fmt::Debug for Lines<'_, '_, S> {
+impl<S: ?Sized + Slice> fmt::Debug for Lines<'_, '_, S> {
     fn fmt(&self, f: &mut fmt::Formatter<'_>) -> fmt::Result {
         f.debug_struct("Lines").field("feed", &self.feed).finish_non_exhaustive()
     }

@@ -193,10 +193,7 @@ impl LineSegmenter {
     /// assert_eq!(wrapped, [(9, "The quick "), (9, "brown fox\n"), (6, "jumps.")]);
     /// ```
     #[inline]
-    pub fn wrap<'t, T: ?Sized + Text>(&self, text: &'t T, columns: usize) -> Lines<'_, 't, T::Slice>
-    where
-        T::Slice: Slice<Unit = u8>,
-    {
+    pub fn wrap<'t, T: ?Sized + Text>(&self, text: &'t T, columns: usize) -> Lines<'_, 't, T::Slice> {
         Lines::new(Wraps { slot: &self.slot, text: text.as_slice(), columns })
     }
 }
@@ -314,11 +311,8 @@ impl<K: Kind> Segmenter<K> {
     /// assert_eq!(graphemes.next_boundary("ae\u{301}", 1), Some(4));
     /// assert_eq!(graphemes.next_boundary("ae\u{301}", 4), None);
     /// ```
-    pub fn next_boundary<T: ?Sized + Text>(&self, text: &T, place: usize) -> Option<usize>
-    where
-        T::Slice: Slice<Unit = u8>,
-    {
-        self.slot.next(text.as_slice().units(), place)
+    pub fn next_boundary<T: ?Sized + Text>(&self, text: &T, place: usize) -> Option<usize> {
+        Calls::next(&self.slot, text.as_slice().units(), place)
     }
 
     /// The nearest boundary below a place. The place may be any number; at 0 the answer is None.
@@ -329,11 +323,8 @@ impl<K: Kind> Segmenter<K> {
     /// assert_eq!(graphemes.previous_boundary("ae\u{301}", 4), Some(1));
     /// assert_eq!(graphemes.previous_boundary("ae\u{301}", 0), None);
     /// ```
-    pub fn previous_boundary<T: ?Sized + Text>(&self, text: &T, place: usize) -> Option<usize>
-    where
-        T::Slice: Slice<Unit = u8>,
-    {
-        self.slot.previous(text.as_slice().units(), place)
+    pub fn previous_boundary<T: ?Sized + Text>(&self, text: &T, place: usize) -> Option<usize> {
+        Calls::previous(&self.slot, text.as_slice().units(), place)
     }
 
     /// Whether a place is a boundary.
@@ -344,10 +335,7 @@ impl<K: Kind> Segmenter<K> {
     /// assert!(graphemes.is_boundary("ae\u{301}", 1));
     /// assert!(!graphemes.is_boundary("ae\u{301}", 2));
     /// ```
-    pub fn is_boundary<T: ?Sized + Text>(&self, text: &T, place: usize) -> bool
-    where
-        T::Slice: Slice<Unit = u8>,
-    {
+    pub fn is_boundary<T: ?Sized + Text>(&self, text: &T, place: usize) -> bool {
         match place.checked_sub(1) {
             None => true,
             Some(before) => self.next_boundary(text, before) == Some(place),

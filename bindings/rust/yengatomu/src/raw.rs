@@ -56,35 +56,6 @@ impl Slot {
     pub(crate) fn has_dictionary(&self) -> bool {
         self.has_dictionary
     }
-
-    pub(crate) fn next(&self, text: &[u8], place: usize) -> Option<usize> {
-        // SAFETY: above.
-        let found = unsafe { sys::yengatomu_next(self.slot.get(), text.as_ptr(), text.len(), place) };
-        (found != sys::YENGATOMU_NONE).then_some(found)
-    }
-
-    pub(crate) fn previous(&self, text: &[u8], place: usize) -> Option<usize> {
-        // SAFETY: above.
-        let found = unsafe { sys::yengatomu_previous(self.slot.get(), text.as_ptr(), text.len(), place) };
-        (found != sys::YENGATOMU_NONE).then_some(found)
-    }
-
-    pub(crate) fn wrap(&self, text: &[u8], from: usize, columns: usize, ends: &mut [usize], widths: &mut [usize]) -> usize {
-        // SAFETY: above.
-        unsafe {
-            sys::yengatomu_wrap_columns(
-                self.slot.get(),
-                text.as_ptr(),
-                text.len(),
-                from,
-                columns,
-                ends.as_mut_ptr(),
-                ends.len(),
-                widths.as_mut_ptr(),
-                widths.len(),
-            )
-        }
-    }
 }
 
 impl Drop for Slot {
@@ -100,10 +71,18 @@ pub(crate) trait Calls: Sized {
     fn marked_boundaries(slot: &Slot, text: &[Self], from: usize, out: &mut [usize], marks: &mut [u8]) -> usize;
     fn count(slot: &Slot, text: &[Self]) -> usize;
     fn count_words(slot: &Slot, text: &[Self]) -> usize;
+    fn next(slot: &Slot, text: &[Self], place: usize) -> Option<usize>;
+    fn previous(slot: &Slot, text: &[Self], place: usize) -> Option<usize>;
+    fn wrap(slot: &Slot, text: &[Self], from: usize, columns: usize, ends: &mut [usize], widths: &mut [usize]) -> usize;
+}
+
+/// The place that a call returns, if there is one.
+fn place(found: usize) -> Option<usize> {
+    (found != sys::YENGATOMU_NONE).then_some(found)
 }
 
 macro_rules! calls {
-    ($unit:ty: $boundaries:ident, $marked_boundaries:ident, $count:ident, $count_words:ident) => {
+    ($unit:ty: $boundaries:ident, $marked_boundaries:ident, $count:ident, $count_words:ident, $next:ident, $previous:ident, $wrap:ident) => {
         impl Calls for $unit {
             #[inline]
             fn boundaries(slot: &Slot, text: &[Self], from: usize, out: &mut [usize]) -> usize {
@@ -137,12 +116,55 @@ macro_rules! calls {
                 // SAFETY: above.
                 unsafe { sys::$count_words(slot.slot.get(), text.as_ptr(), text.len()) }
             }
+
+            fn next(slot: &Slot, text: &[Self], from: usize) -> Option<usize> {
+                // SAFETY: above.
+                place(unsafe { sys::$next(slot.slot.get(), text.as_ptr(), text.len(), from) })
+            }
+
+            fn previous(slot: &Slot, text: &[Self], from: usize) -> Option<usize> {
+                // SAFETY: above.
+                place(unsafe { sys::$previous(slot.slot.get(), text.as_ptr(), text.len(), from) })
+            }
+
+            fn wrap(slot: &Slot, text: &[Self], from: usize, columns: usize, ends: &mut [usize], widths: &mut [usize]) -> usize {
+                // SAFETY: above.
+                unsafe {
+                    sys::$wrap(
+                        slot.slot.get(),
+                        text.as_ptr(),
+                        text.len(),
+                        from,
+                        columns,
+                        ends.as_mut_ptr(),
+                        ends.len(),
+                        widths.as_mut_ptr(),
+                        widths.len(),
+                    )
+                }
+            }
         }
     };
 }
 
-calls!(u8: yengatomu_boundaries, yengatomu_marked_boundaries, yengatomu_count, yengatomu_count_words);
-calls!(u16: yengatomu_boundaries_utf16, yengatomu_marked_boundaries_utf16, yengatomu_count_utf16, yengatomu_count_words_utf16);
+calls!(
+    u8: yengatomu_boundaries,
+    yengatomu_marked_boundaries,
+    yengatomu_count,
+    yengatomu_count_words,
+    yengatomu_next,
+    yengatomu_previous,
+    yengatomu_wrap_columns
+);
+calls!(
+    u16: yengatomu_boundaries_utf16,
+    yengatomu_marked_boundaries_utf16,
+    yengatomu_count_utf16,
+    yengatomu_count_words_utf16,
+    yengatomu_next_utf16,
+    yengatomu_previous_utf16,
+    yengatomu_wrap_columns_utf16
+);
 
 pub(crate) fn version() -> u32 {
     // SAFETY: it takes nothing.

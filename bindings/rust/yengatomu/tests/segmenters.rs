@@ -324,20 +324,34 @@ fn wrapped_lines() {
             let bytes = ill_formed(&text);
             let ends: Vec<_> = segmenter.wrap(&bytes, 7).map(|line| line.start + line.text.len()).collect();
             assert_eq!(ends, whole.wrap(&bytes, 7));
+
+            // Equal code points have equal lines.
+            let units: Vec<u16> = text.encode_utf16().collect();
+            let of_units = segmenter.wrap(&units, 7).map(|line| (String::from_utf16(line.text).unwrap(), line.columns));
+            assert!(of_units.eq(segmenter.wrap(&text, 7).map(|line| (line.text.to_owned(), line.columns))));
+            let units = ill_formed_utf16(&text);
+            assert_eq!(segmenter.wrap(&units, 7).flat_map(|line| line.text).copied().collect::<Vec<_>>(), units);
         }
+    }
+}
+
+fn nearest_in<K: Kind, T: ?Sized + Text>(segmenter: &Segmenter<K>, text: &T, len: usize) {
+    let boundaries: Vec<_> = segmenter.boundaries(text).collect();
+    for place in (0..len + 3).chain([usize::MAX]) {
+        let above = boundaries.iter().copied().find(|&boundary| boundary > place);
+        assert_eq!(segmenter.next_boundary(text, place), above);
+        let below = boundaries.iter().copied().rev().find(|&boundary| boundary < place);
+        assert_eq!(segmenter.previous_boundary(text, place), below);
+        assert_eq!(segmenter.is_boundary(text, place), boundaries.contains(&place));
     }
 }
 
 fn nearest_places<K: Kind>(segmenter: &Segmenter<K>) {
     for text in texts().into_iter().filter(|text| text.len() < 400) {
-        let boundaries: Vec<_> = segmenter.boundaries(&text).collect();
-        for place in (0..text.len() + 3).chain([usize::MAX]) {
-            let above = boundaries.iter().copied().find(|&boundary| boundary > place);
-            assert_eq!(segmenter.next_boundary(&text, place), above);
-            let below = boundaries.iter().copied().rev().find(|&boundary| boundary < place);
-            assert_eq!(segmenter.previous_boundary(text.as_bytes(), place), below);
-            assert_eq!(segmenter.is_boundary(&text, place), boundaries.contains(&place));
-        }
+        nearest_in(segmenter, &text, text.len());
+        nearest_in(segmenter, text.as_bytes(), text.len());
+        let units = ill_formed_utf16(&text);
+        nearest_in(segmenter, &units, units.len());
     }
 }
 

@@ -3,8 +3,8 @@
 ghost use Rattle.seg_clusters.specs.Clusters.{cluster_rules};
 ghost use Rattle.seg_clusters.specs.Rules.{boundaries_by};
 
-use crate::cursor::Segmenter;
 use crate::cursor::nearest::{nearest_above, nearest_below};
+use crate::cursor::{Segmenter, SegmenterOf};
 use seg_clusters::grapheme::GraphemeClusterSegmenterBorrowed;
 use seg_clusters::laws::grapheme::parts_behind_resets;
 
@@ -15,16 +15,32 @@ impl<'data> Segmenter for GraphemeClusterSegmenterBorrowed<'data> {
         parts_behind_resets(*self, '\n');
         self.resets_after('\n')
     }
+}
 
-    fn cover(&self, text: &[u8]) {
+impl<'data, 's> SegmenterOf<&'s [u8]> for GraphemeClusterSegmenterBorrowed<'data> {
+    fn cover(&self, text: &'s [u8]) {
         let _ = self.segment_utf8(text);
     }
 
-    fn nearest_above(&self, text: &[u8], place: usize) -> Option<usize> {
+    fn nearest_above(&self, text: &'s [u8], place: usize) -> Option<usize> {
         nearest_above(self.segment_utf8(text), place)
     }
 
-    fn nearest_below(&self, text: &[u8], place: usize) -> Option<usize> {
+    fn nearest_below(&self, text: &'s [u8], place: usize) -> Option<usize> {
         nearest_below(self.segment_utf8(text), place)
+    }
+}
+
+impl<'data, 's> SegmenterOf<&'s [u16]> for GraphemeClusterSegmenterBorrowed<'data> {
+    fn cover(&self, text: &'s [u16]) {
+        let _ = self.segment_utf16(text);
+    }
+
+    fn nearest_above(&self, text: &'s [u16], place: usize) -> Option<usize> {
+        nearest_above(self.segment_utf16(text), place)
+    }
+
+    fn nearest_below(&self, text: &'s [u16], place: usize) -> Option<usize> {
+        nearest_below(self.segment_utf16(text), place)
     }
 }

@@ -1,16 +1,18 @@
-//! The lines of bytes.
+//! The lines of a text.
 
 ghost use Rattle.std.specs.Prelude.{◌≤◌, length};
 ghost use Rattle.icu_segmenter.specs.NearBoundaries.{BeginsLine};
 
+use crate::cursor::CursorText;
+
 /// The greatest place up to another one where a line begins.
-pub(super) fn line_start(bytes: &[u8], place: usize) -> usize
+pub(super) fn line_start<T: CursorText>(text: T, place: usize) -> usize
     ensures order { result ≤ place }
-    ensures within { result ≤ length bytes.now }
-    ensures begins { BeginsLine bytes.now result }
+    ensures within { result ≤ length (T.units text) }
+    ensures begins { BeginsLine (T.units text) result }
 {
-    let mut start = place.min(bytes.len());
-    while start > 0 && bytes[start - 1] != b'\n' {
+    let mut start = place.min(text.len());
+    while start > 0 && !text.has_line_feed_at(start - 1) {
         start -= 1;
     }
     start

@@ -3,8 +3,8 @@
 ghost use Rattle.seg_lines.specs.LineBreaks.{line_boundaries_by};
 ghost use Rattle.seg_lines.specs.Lines.{line_rules};
 
-use crate::cursor::Segmenter;
 use crate::cursor::nearest::{nearest_above, nearest_below};
+use crate::cursor::{Segmenter, SegmenterOf};
 use seg_lines::laws::parts_behind_resets;
 use seg_lines::line::LineSegmenterBorrowed;
 
@@ -15,16 +15,32 @@ impl<'data> Segmenter for LineSegmenterBorrowed<'data> {
         parts_behind_resets(*self, '\n');
         self.resets_after('\n')
     }
+}
 
-    fn cover(&self, text: &[u8]) {
+impl<'data, 's> SegmenterOf<&'s [u8]> for LineSegmenterBorrowed<'data> {
+    fn cover(&self, text: &'s [u8]) {
         let _ = self.segment_utf8(text);
     }
 
-    fn nearest_above(&self, text: &[u8], place: usize) -> Option<usize> {
+    fn nearest_above(&self, text: &'s [u8], place: usize) -> Option<usize> {
         nearest_above(self.segment_utf8(text), place)
     }
 
-    fn nearest_below(&self, text: &[u8], place: usize) -> Option<usize> {
+    fn nearest_below(&self, text: &'s [u8], place: usize) -> Option<usize> {
         nearest_below(self.segment_utf8(text), place)
+    }
+}
+
+impl<'data, 's> SegmenterOf<&'s [u16]> for LineSegmenterBorrowed<'data> {
+    fn cover(&self, text: &'s [u16]) {
+        let _ = self.segment_utf16(text);
+    }
+
+    fn nearest_above(&self, text: &'s [u16], place: usize) -> Option<usize> {
+        nearest_above(self.segment_utf16(text), place)
+    }
+
+    fn nearest_below(&self, text: &'s [u16], place: usize) -> Option<usize> {
+        nearest_below(self.segment_utf16(text), place)
     }
 }

@@ -3,8 +3,8 @@
 ghost use Rattle.seg_words.specs.Words.{word_rules};
 ghost use Rattle.seg_words.specs.WordRules.{word_boundaries_by};
 
-use crate::cursor::Segmenter;
 use crate::cursor::nearest::{nearest_above, nearest_below};
+use crate::cursor::{Segmenter, SegmenterOf};
 use seg_words::laws::parts_behind_resets;
 use seg_words::word::WordSegmenterBorrowed;
 
@@ -15,16 +15,32 @@ impl<'data> Segmenter for WordSegmenterBorrowed<'data> {
         parts_behind_resets(*self, '\n');
         self.resets_after('\n')
     }
+}
 
-    fn cover(&self, text: &[u8]) {
+impl<'data, 's> SegmenterOf<&'s [u8]> for WordSegmenterBorrowed<'data> {
+    fn cover(&self, text: &'s [u8]) {
         let _ = self.segment_utf8(text);
     }
 
-    fn nearest_above(&self, text: &[u8], place: usize) -> Option<usize> {
+    fn nearest_above(&self, text: &'s [u8], place: usize) -> Option<usize> {
         nearest_above(self.segment_utf8(text), place)
     }
 
-    fn nearest_below(&self, text: &[u8], place: usize) -> Option<usize> {
+    fn nearest_below(&self, text: &'s [u8], place: usize) -> Option<usize> {
         nearest_below(self.segment_utf8(text), place)
+    }
+}
+
+impl<'data, 's> SegmenterOf<&'s [u16]> for WordSegmenterBorrowed<'data> {
+    fn cover(&self, text: &'s [u16]) {
+        let _ = self.segment_utf16(text);
+    }
+
+    fn nearest_above(&self, text: &'s [u16], place: usize) -> Option<usize> {
+        nearest_above(self.segment_utf16(text), place)
+    }
+
+    fn nearest_below(&self, text: &'s [u16], place: usize) -> Option<usize> {
+        nearest_below(self.segment_utf16(text), place)
     }
 }

@@ -1,4 +1,5 @@
 use Rattle.std.proofs.Common.{ℕ, List, length, sym, subst}
+use Rattle.icu_segmenter.specs.Decoding.{utf8}
 use Rattle.yengatomu_c.specs.Buffers.{TakesFirst}
 use Rattle.yengatomu_c.proofs.Filling.{nothing}
 use Rattle.yengatomu_c.proofs.Lines.{ends-none}
@@ -7,4 +8,4 @@ use Rattle.yengatomu_c.proofs.wrapped.ends.Goals as goal
 pub returns-in-None : goal.returns-in-None
 returns-in-None c =
     subst (λ (all : List ℕ). TakesFirst (length c.args.ends.now) all c.args.ends.now c.args.ends.now 0)
-    (sym (ends-none c.args.from _ (c.in-None.ensures c.args.columns c.args.text.now c.args.from))) (nothing _ _)
+    (sym (ends-none c.args.from _ (c.in-None.ensures utf8 c.args.columns c.args.text.now c.args.from))) (nothing _ _)
