@@ -5,8 +5,8 @@ use anyhow::Result;
 use icu_segmenter::options::{LineBreakOptions, SentenceBreakOptions, WordBreakOptions};
 use icu_segmenter::{GraphemeClusterSegmenter, LineSegmenter, SentenceSegmenter, WordSegmenter};
 use icu_segmenter_data::{
-    cluster_machine, cluster_table, line_17_table, line_segmenter, line_table, sentence_machine,
-    sentence_table, word_segmenter, word_table,
+    cluster_table, line_17_table, line_segmenter, line_table, sentence_table, word_segmenter,
+    word_table,
 };
 use icu_segmenter_uax29 as uax29;
 use std::alloc::Global;
@@ -14,20 +14,14 @@ use std::alloc::Global;
 /// What is found, and by which engine.
 #[derive(Clone, Copy)]
 pub enum Engine {
-    /// Grapheme clusters, by the machine.
-    ClusterMachine,
     /// Grapheme clusters, by the pair table.
     ClusterTable,
     /// Words, by the machine.
     WordMachine,
     /// Words, by the pair table.
     WordTable,
-    /// Sentences, by the machine.
-    SentenceMachine,
     /// Sentences, by the pair table.
     SentenceTable,
-    /// Lines, by the machine.
-    LineMachine,
     /// Lines, by the pair table.
     LineTable,
     /// Lines, by the engine 17.
@@ -38,49 +32,43 @@ pub enum Engine {
     ProvedWords,
     /// Sentences, by the machine that is proved to follow UAX #29.
     ProvedSentences,
+    /// Lines, by the machine that is proved to follow UAX #14.
+    ProvedLines,
 }
 
 /// All engines, in the order in which they are tested.
-pub const ENGINES: [Engine; 12] = [
-    Engine::ClusterMachine,
+pub const ENGINES: [Engine; 10] = [
     Engine::ClusterTable,
     Engine::WordMachine,
     Engine::WordTable,
-    Engine::SentenceMachine,
     Engine::SentenceTable,
-    Engine::LineMachine,
     Engine::LineTable,
     Engine::LineTurns,
     Engine::ProvedClusters,
     Engine::ProvedWords,
     Engine::ProvedSentences,
+    Engine::ProvedLines,
 ];
 
 impl Engine {
     /// The file of its tests.
     pub fn file(self) -> &'static str {
         match self {
-            Engine::ClusterMachine | Engine::ClusterTable | Engine::ProvedClusters => {
-                "GraphemeBreakTest.txt"
-            }
+            Engine::ClusterTable | Engine::ProvedClusters => "GraphemeBreakTest.txt",
             Engine::WordMachine | Engine::WordTable | Engine::ProvedWords => { "WordBreakTest.txt" }
-            Engine::SentenceMachine | Engine::SentenceTable | Engine::ProvedSentences => {
-                "SentenceBreakTest.txt"
-            }
-            Engine::LineMachine | Engine::LineTable | Engine::LineTurns => "LineBreakTest.txt",
+            Engine::SentenceTable | Engine::ProvedSentences => "SentenceBreakTest.txt",
+            Engine::LineTable | Engine::LineTurns | Engine::ProvedLines => "LineBreakTest.txt",
         }
     }
 
     /// What is printed of it.
     pub fn name(self) -> &'static str {
         match self {
-            Engine::ClusterMachine => "clusters by machine",
             Engine::ClusterTable => "clusters by pair table",
             Engine::WordMachine => "words by machine",
             Engine::WordTable => "words by pair table",
-            Engine::SentenceMachine => "sentences by machine",
             Engine::SentenceTable => "sentences by pair table",
-            Engine::LineMachine => "lines by machine",
+            Engine::ProvedLines => "lines of UAX #14",
             Engine::LineTable => "lines by pair table",
             Engine::LineTurns => "lines by the engine 17",
             Engine::ProvedClusters => "clusters of UAX #29",
@@ -89,11 +77,13 @@ impl Engine {
         }
     }
 
-    /// How many tests of its file are of rules that have changed since: the engine 17 has a break between a space and `.35`, as UAX #14
-    /// has since version 16.0 (LB15c), and 15.0 has none; and by UAX #29 of Unicode 18.0 one of clusters and two of words differ, which hold
-    /// U+2701, no longer Extended_Pictographic.
+    /// How many tests of its file are of rules that have changed since. The engine 17 has a break between a space and `.35`, as UAX #14
+    /// has since version 16.0 (LB15c), and 15.0 has none. By UAX #29 of Unicode 18.0 one of clusters and two of words differ, which hold
+    /// U+2701, no longer Extended_Pictographic. By UAX #14 in the form of revision 55 it is 33 of lines: 13 by LB25, 10 by LB20a, 6 by LB15
+    /// (which is gone), 2 by LB15a, 1 by LB15c and 1 by LB21a.
     pub fn changed_since(self) -> u32 {
         match self {
+            Engine::ProvedLines => 33,
             Engine::LineTurns | Engine::ProvedClusters => 1,
             Engine::ProvedWords => 2,
             _ => 0,
@@ -103,16 +93,10 @@ impl Engine {
     /// The segmenter with its data. The errors are want of memory, and data that are refused.
     pub fn segmenter(self, alloc: Global) -> Result<Segmenter> {
         match self {
-            Engine::ClusterMachine => cluster_machine_segmenter(alloc),
             Engine::ClusterTable => cluster_table_segmenter(alloc),
             Engine::WordMachine => Ok(Segmenter::Words(word_segmenter(alloc)?)),
             Engine::WordTable => word_table_segmenter(alloc),
-            Engine::SentenceMachine => sentence_machine_segmenter(alloc),
             Engine::SentenceTable => sentence_table_segmenter(alloc),
-            Engine::LineMachine => {
-                let options = LineBreakOptions::default();
-                Ok(Segmenter::Lines(line_segmenter(alloc, options)?))
-            }
             Engine::LineTable => line_table_segmenter(alloc),
             Engine::LineTurns => line_17_segmenter(alloc),
             Engine::ProvedClusters => {
@@ -124,13 +108,12 @@ impl Engine {
             Engine::ProvedSentences => {
                 Ok(Segmenter::ProvedSentences(uax29::SentenceSegmenter::try_new(alloc)?))
             }
+            Engine::ProvedLines => {
+                let options = LineBreakOptions::default();
+                Ok(Segmenter::Lines(line_segmenter(alloc, options)?))
+            }
         }
     }
-}
-
-fn cluster_machine_segmenter(alloc: Global) -> Result<Segmenter> {
-    let segmenter = GraphemeClusterSegmenter::try_new_neo(cluster_machine(alloc)?)?;
-    Ok(Segmenter::Clusters(segmenter))
 }
 
 fn cluster_table_segmenter(alloc: Global) -> Result<Segmenter> {
@@ -143,11 +126,6 @@ fn word_table_segmenter(alloc: Global) -> Result<Segmenter> {
     let options = WordBreakOptions::default();
     let segmenter = WordSegmenter::try_new_for_non_complex_scripts(table, None, clusters, options)?;
     Ok(Segmenter::Words(segmenter))
-}
-
-fn sentence_machine_segmenter(alloc: Global) -> Result<Segmenter> {
-    let (machine, options) = (sentence_machine(alloc)?, SentenceBreakOptions::default());
-    Ok(Segmenter::Sentences(SentenceSegmenter::try_new_neo(machine, None, options)?))
 }
 
 fn sentence_table_segmenter(alloc: Global) -> Result<Segmenter> {

@@ -1,5 +1,5 @@
 //! Runs the official break tests of Unicode 15.0 through the library, with the data of `icu_segmenter_data`, and rows of lines with
-//! options; and through the segmenters whose boundaries are proved to be those of UAX #29, as it is in Unicode 18.0.
+//! options; and through the segmenters whose boundaries are proved to be those of UAX #29 and UAX #14, by Unicode 18.0.
 //!
 //! A test is passed where the text has just the boundaries that its line says, as str, as UTF-8 and as UTF-16; in lines also just the
 //! mandatory ones that the rules named in its comment make so. Lines that aren't passed are printed: those of rules that have changed

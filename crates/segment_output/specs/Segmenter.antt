@@ -14,9 +14,10 @@ use Rattle.icu_segmenter.specs.Decoding.{utf8}
 use Rattle.icu_segmenter.specs.WordRules.{WordRules, machine_words, table_words, word_boundaries_of}
 use Rattle.icu_segmenter.specs.Words.{owned_word_rules}
 use Rattle.icu_segmenter.specs.declared.options.LineBreakOptions.{LineBreakOptions}
-use Rattle.icu_segmenter_data.specs.Unicode.{cluster_machine, cluster_table, line_machine, line_table, line_17_table, line_tailorings, sentence_table, word_machine, word_table}
-use Rattle.icu_segmenter_uax29.specs.Clusters.{cluster_machine as proved_clusters}
-use Rattle.icu_segmenter_uax29.specs.Sentences.{sentence_machine as proved_sentences}
+use Rattle.icu_segmenter_data.specs.Unicode.{cluster_table, line_table, line_17_table, sentence_table, word_machine, word_table}
+use Rattle.icu_segmenter_uax14.specs.Lines.{line_machine, line_tailorings}
+use Rattle.icu_segmenter_uax29.specs.Clusters.{cluster_machine}
+use Rattle.icu_segmenter_uax29.specs.Sentences.{sentence_machine}
 use Rattle.segment_output.specs.Marks.{mark_of}
 use Rattle.segment_output.specs.Output.{Segment, segments}
 use Rattle.segment_output.specs.declared.segmenter.Engine.{Engine}
@@ -59,16 +60,16 @@ segments_by segmenter bytes = segments (has_words_alone segmenter) (marked (mark
 -- ---- the rules of each engine, over Unicode's data
 
 abbrev pub cluster_rules_by : Engine → Rules
-cluster_rules_by engine.Neo = ByMachine proved_clusters
+cluster_rules_by engine.Neo = ByMachine cluster_machine
 cluster_rules_by engine.Classic = ByTable cluster_table None
 cluster_rules_by engine.Seventeen = ByTable cluster_table None
-cluster_rules_by engine.Memo = ByMachine proved_clusters
+cluster_rules_by engine.Memo = ByMachine cluster_machine
 
 abbrev pub sentence_rules_by : Engine → Rules
-sentence_rules_by engine.Neo = ByMachine proved_sentences
+sentence_rules_by engine.Neo = ByMachine sentence_machine
 sentence_rules_by engine.Classic = ByTable sentence_table None
 sentence_rules_by engine.Seventeen = ByTable sentence_table None
-sentence_rules_by engine.Memo = ByMachine proved_sentences
+sentence_rules_by engine.Memo = ByMachine sentence_machine
 
 -- with the words of scripts
 abbrev pub word_rules_by : Engine → ScriptWords → WordRules

@@ -7,7 +7,7 @@ use Rattle.icu_segmenter.specs.Rules.Rules.{ByMachine}
 use Rattle.icu_segmenter.specs.ScriptWords.{no_words}
 use Rattle.icu_segmenter.specs.Wrapping.{TextLine, hangs}
 use Rattle.icu_segmenter.specs.WrappedLines.{wrapped_text}
-use Rattle.icu_segmenter_data.specs.Unicode.{cluster_machine}
+use Rattle.icu_segmenter_uax29.specs.Clusters.{cluster_machine}
 
 -- the bytes of a line without those of the characters that hang at its end, which have one byte each
 abbrev pub without_hanging : List ℕ → List ℕ

@@ -4,7 +4,7 @@ use Rattle.std.specs.Prelude.{Option, Some, None, IfSome}
 use Rattle.std.specs.Option.{is_some, option_map_or}
 use Rattle.ucd_table.proofs.TrieCheck.{all_below, all_below-at}
 use Rattle.icu_segmenter.specs.LineBreaks.{LinesResetAfter, lines_with_words}
-use Rattle.icu_segmenter.specs.Machine.{Machine, MachineTailoring, replaced, step, symbol_and_script, symbol_count, tailoring, with_tailoring}
+use Rattle.icu_segmenter.specs.Machine.{Machine, MachineTailoring, Replacement, replaced, step, symbol_and_script, symbol_count, tailoring, with_tailoring}
 use Rattle.icu_segmenter.specs.Rules.{IsLastState, IsReset, ResetsAfter}
 use Rattle.icu_segmenter.specs.Rules.Rules.{ByMachine}
 use Rattle.icu_segmenter.specs.ScriptWords.{ScriptWords, words_in}
@@ -16,9 +16,11 @@ use Rattle.icu_segmenter.specs.declared.options.LineBreakWordOption.{LineBreakWo
 use Rattle.icu_segmenter.specs.declared.options.LineBreakWordOption.TheVariants as word_option
 use Rattle.icu_segmenter.specs.declared.provider.ComplexScript.{ComplexScript}
 use Rattle.icu_segmenter.specs.declared.provider.ComplexScript.TheVariants.{None as NoScript}
-use Rattle.icu_segmenter_data.specs.Unicode.{cluster_machine, line_machine, word_machine}
-use Rattle.icu_segmenter_uax29.specs.Clusters.{cluster_machine as proved_clusters}
-use Rattle.icu_segmenter_uax29.specs.Sentences.{sentence_machine as proved_sentences}
+use Rattle.icu_segmenter_data.specs.Unicode.{word_machine}
+use Rattle.icu_segmenter_uax14.specs.Lines.{line_machine, line_tailorings, tailored_machine}
+use Rattle.icu_segmenter_uax14.specs.declared.data.TheConstants.{BREAK_ALL, BREAK_ALL_REPLACED, JA, JA_LOOSE, JA_NORMAL, KEEP_ALL, KEEP_ALL_REPLACED, LOOSE, NORMAL}
+use Rattle.icu_segmenter_uax29.specs.Clusters.{cluster_machine}
+use Rattle.icu_segmenter_uax29.specs.Sentences.{sentence_machine}
 use Rattle.yengatomu_c.specs.Finders.{Finder, LineFeedsReset}
 use Rattle.yengatomu_c.specs.Finders.Finder.{Clusters as ByClusters, Words as ByWords, Sentences as BySentences, Lines as ByLines}
 use Rattle.yengatomu_c.specs.Loaded.{with_dictionary}
@@ -63,20 +65,20 @@ tailored-reset : (m : Machine) (t : MachineTailoring) (symbol : ℕ) → IsReset
 unfolding step symbol_count
 tailored-reset m t symbol reset = reset
 
-clusters-resets : Resets proved_clusters 3 14 20 3
-unfolding proved_clusters all_below step symbol_count
+clusters-resets : Resets cluster_machine 3 14 20 3
+unfolding cluster_machine all_below step symbol_count
 clusters-resets = record { states_are = refl; symbols_are = refl; leads = refl; ends = refl }
 
-clusters-feed : symbol_and_script proved_clusters 0x0A ≡ (3, NoScript)
-unfolding proved_clusters symbol_and_script value_of replaced
+clusters-feed : symbol_and_script cluster_machine 0x0A ≡ (3, NoScript)
+unfolding cluster_machine symbol_and_script value_of replaced
 clusters-feed = refl
 
-sentences-resets : Resets proved_sentences 3 12 16 3
-unfolding proved_sentences all_below step symbol_count
+sentences-resets : Resets sentence_machine 3 12 16 3
+unfolding sentence_machine all_below step symbol_count
 sentences-resets = record { states_are = refl; symbols_are = refl; leads = refl; ends = refl }
 
-sentences-feed : symbol_and_script proved_sentences 0x0A ≡ (3, NoScript)
-unfolding proved_sentences symbol_and_script value_of replaced
+sentences-feed : symbol_and_script sentence_machine 0x0A ≡ (3, NoScript)
+unfolding sentence_machine symbol_and_script value_of replaced
 sentences-feed = refl
 
 words-resets : Resets word_machine 3 29 23 3
@@ -87,60 +89,66 @@ words-feed : symbol_and_script word_machine 0x0A ≡ (3, NoScript)
 unfolding symbol_and_script value_of replaced
 words-feed = refl
 
-anywhere-resets : Resets cluster_machine 3 11 16 3
-unfolding all_below step symbol_count
-anywhere-resets = record { states_are = refl; symbols_are = refl; leads = refl; ends = refl }
-
-anywhere-feed : symbol_and_script cluster_machine 0x0A ≡ (3, NoScript)
-unfolding symbol_and_script value_of replaced
-anywhere-feed = refl
-
-lines-resets : Resets line_machine 25 73 47 5
-unfolding all_below step symbol_count
+lines-resets : Resets line_machine 46 126 73 11
+unfolding line_machine all_below step symbol_count
 lines-resets = record { states_are = refl; symbols_are = refl; leads = refl; ends = refl }
 
-lines-feed : symbol_and_script line_machine 0x0A ≡ (25, NoScript)
-unfolding symbol_and_script value_of replaced
+lines-feed : symbol_and_script line_machine 0x0A ≡ (46, NoScript)
+unfolding line_machine symbol_and_script value_of replaced
 lines-feed = refl
 
-tailored-feed : (map : List (ℕ × ComplexScript)) → symbol_and_script (with_tailoring line_machine (Some (tailoring map []))) 0x0A ≡ (25, NoScript)
-unfolding symbol_and_script value_of replaced
-tailored-feed map = refl
+mapped-feed : (map : List (ℕ × ComplexScript)) → symbol_and_script (tailored_machine map []) 0x0A ≡ (46, NoScript)
+unfolding line_machine symbol_and_script value_of replaced
+mapped-feed map = refl
 
-line-reset : IsReset line_machine 25
-line-reset = resets line_machine 25 73 47 5 lines-resets
+break-all-feed : symbol_and_script (tailored_machine BREAK_ALL BREAK_ALL_REPLACED) 0x0A ≡ (46, NoScript)
+unfolding line_machine symbol_and_script value_of replaced
+break-all-feed = refl
+
+keep-all-feed : symbol_and_script (tailored_machine KEEP_ALL KEEP_ALL_REPLACED) 0x0A ≡ (46, NoScript)
+unfolding line_machine symbol_and_script value_of replaced
+keep-all-feed = refl
+
+line-reset : IsReset line_machine 46
+line-reset = resets line_machine 46 126 73 11 lines-resets
 
 plain : (words : ScriptWords) → ResetsAfter (ByMachine line_machine) 0x0A × IsOutsideRuns line_machine words 0x0A
-plain words = (after line_machine 25 lines-feed line-reset, outside line_machine 25 words lines-feed)
+plain words = (after line_machine 46 lines-feed line-reset, outside line_machine 46 words lines-feed)
 
-tailored : (map : List (ℕ × ComplexScript)) (words : ScriptWords) → let m = with_tailoring line_machine (Some (tailoring map [])) in
-    ResetsAfter (ByMachine m) 0x0A × IsOutsideRuns m words 0x0A
-tailored map words =
-    let m = with_tailoring line_machine (Some (tailoring map [])) in
-    (after m 25 (tailored-feed map) (tailored-reset line_machine (tailoring map []) 25 line-reset), outside m 25 words (tailored-feed map))
+tailored : (map : List (ℕ × ComplexScript)) (replacements : List Replacement) (words : ScriptWords)
+    → symbol_and_script (tailored_machine map replacements) 0x0A ≡ (46, NoScript)
+    → ResetsAfter (ByMachine (tailored_machine map replacements)) 0x0A × IsOutsideRuns (tailored_machine map replacements) words 0x0A
+tailored map replacements words feed =
+    let m = tailored_machine map replacements in
+    (after m 46 feed (tailored-reset line_machine (tailoring map replacements) 46 line-reset), outside m 46 words feed)
+
+mapped : (map : List (ℕ × ComplexScript)) (words : ScriptWords)
+    → ResetsAfter (ByMachine (tailored_machine map [])) 0x0A × IsOutsideRuns (tailored_machine map []) words 0x0A
+mapped map words = tailored map [] words (mapped-feed map)
 
 lines : (strictness : LineBreakStrictness) (option : LineBreakWordOption) (is_ja_or_zh : Bool) (words : ScriptWords)
     → LinesResetAfter (lines_with_words (line_rules_for strictness option is_ja_or_zh) words) 0x0A
-lines strictness.Strict word_option.BreakAll is_ja_or_zh words = tailored _ words
-lines strictness.Normal word_option.BreakAll is_ja_or_zh words = tailored _ words
-lines strictness.Loose word_option.BreakAll is_ja_or_zh words = tailored _ words
-lines strictness.Anywhere word_option.BreakAll is_ja_or_zh words = tailored _ words
-lines strictness.Strict word_option.KeepAll is_ja_or_zh words = tailored _ words
-lines strictness.Normal word_option.KeepAll is_ja_or_zh words = tailored _ words
-lines strictness.Loose word_option.KeepAll is_ja_or_zh words = tailored _ words
-lines strictness.Anywhere word_option.KeepAll is_ja_or_zh words = tailored _ words
-lines strictness.Anywhere word_option.Normal is_ja_or_zh words = after cluster_machine 3 anywhere-feed (resets cluster_machine 3 11 16 3 anywhere-resets)
-lines strictness.Loose word_option.Normal true words = tailored _ words
-lines strictness.Loose word_option.Normal false words = tailored _ words
-lines strictness.Normal word_option.Normal true words = tailored _ words
-lines strictness.Normal word_option.Normal false words = tailored _ words
-lines strictness.Strict word_option.Normal true words = tailored _ words
+unfolding line_tailorings
+lines strictness.Strict word_option.BreakAll is_ja_or_zh words = tailored BREAK_ALL BREAK_ALL_REPLACED words break-all-feed
+lines strictness.Normal word_option.BreakAll is_ja_or_zh words = tailored BREAK_ALL BREAK_ALL_REPLACED words break-all-feed
+lines strictness.Loose word_option.BreakAll is_ja_or_zh words = tailored BREAK_ALL BREAK_ALL_REPLACED words break-all-feed
+lines strictness.Anywhere word_option.BreakAll is_ja_or_zh words = tailored BREAK_ALL BREAK_ALL_REPLACED words break-all-feed
+lines strictness.Strict word_option.KeepAll is_ja_or_zh words = tailored KEEP_ALL KEEP_ALL_REPLACED words keep-all-feed
+lines strictness.Normal word_option.KeepAll is_ja_or_zh words = tailored KEEP_ALL KEEP_ALL_REPLACED words keep-all-feed
+lines strictness.Loose word_option.KeepAll is_ja_or_zh words = tailored KEEP_ALL KEEP_ALL_REPLACED words keep-all-feed
+lines strictness.Anywhere word_option.KeepAll is_ja_or_zh words = tailored KEEP_ALL KEEP_ALL_REPLACED words keep-all-feed
+lines strictness.Anywhere word_option.Normal is_ja_or_zh words = after cluster_machine 3 clusters-feed (resets cluster_machine 3 14 20 3 clusters-resets)
+lines strictness.Loose word_option.Normal true words = mapped JA_LOOSE words
+lines strictness.Loose word_option.Normal false words = mapped LOOSE words
+lines strictness.Normal word_option.Normal true words = mapped JA_NORMAL words
+lines strictness.Normal word_option.Normal false words = mapped NORMAL words
+lines strictness.Strict word_option.Normal true words = mapped JA words
 lines strictness.Strict word_option.Normal false words = plain words
 
 pub feeds-reset : (request : Request) → LineFeedsReset (finder_asked request)
-feeds-reset Clusters = after proved_clusters 3 clusters-feed (resets proved_clusters 3 14 20 3 clusters-resets)
+feeds-reset Clusters = after cluster_machine 3 clusters-feed (resets cluster_machine 3 14 20 3 clusters-resets)
 feeds-reset Words = λ words. (after word_machine 3 words-feed (resets word_machine 3 29 23 3 words-resets), outside word_machine 3 words words-feed)
-feeds-reset Sentences = after proved_sentences 3 sentences-feed (resets proved_sentences 3 12 16 3 sentences-resets)
+feeds-reset Sentences = after sentence_machine 3 sentences-feed (resets sentence_machine 3 12 16 3 sentences-resets)
 feeds-reset (Lines options) = lines options.strictness options.word_option options.is_chinese_or_japanese
 
 -- words of scripts change nothing of it
