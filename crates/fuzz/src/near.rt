@@ -4,7 +4,7 @@ use crate::failure::{Failure, check};
 use bench::found::Found;
 use bench::segmenter::SegmenterBorrowed;
 use icu_segmenter::WordSegmenterBorrowed;
-use icu_segmenter::cursor::{BoundaryCursor, SegmenterOf};
+use icu_segmenter::cursor::{BoundaryCursor, CursorText, SegmenterOf};
 use icu_segmenter::segments::{BreakIterator, WordBreaks};
 
 /// A cursor over a text is to find the boundaries next to a place.
@@ -15,20 +15,34 @@ pub fn check_near(
     found: &Found,
 ) -> Result<(), Failure> {
     match segmenter {
-        SegmenterBorrowed::Clusters(clusters) => check_cursor(clusters, text, place, found),
-        SegmenterBorrowed::Sentences(sentences) => check_cursor(sentences, text, place, found),
-        SegmenterBorrowed::Words(words) => check_cursor(words, text, place, found),
-        SegmenterBorrowed::Lines(lines) => check_cursor(lines, text, place, found),
+        SegmenterBorrowed::Clusters(clusters) => check_cursor(
+            BoundaryCursor::new(clusters, text),
+            place,
+            found,
+        ),
+        SegmenterBorrowed::Sentences(sentences) => check_cursor(
+            BoundaryCursor::new(sentences, text),
+            place,
+            found,
+        ),
+        SegmenterBorrowed::Words(words) => check_cursor(
+            BoundaryCursor::new(words, text),
+            place,
+            found,
+        ),
+        SegmenterBorrowed::Lines(lines) => check_cursor(
+            BoundaryCursor::new(lines, text),
+            place,
+            found,
+        ),
     }
 }
 
-fn check_cursor<'s, S: SegmenterOf<&'s [u8]>>(
-    segmenter: S,
-    text: &'s str,
+fn check_cursor<T: CursorText, S: SegmenterOf<T>>(
+    cursor: BoundaryCursor<T, S>,
     place: usize,
     found: &Found,
 ) -> Result<(), Failure> {
-    let cursor = BoundaryCursor::new(segmenter, text);
     let near = neighbours(found.as_slice(), place);
     check(
         cursor.previous_boundary(place) == near.below
