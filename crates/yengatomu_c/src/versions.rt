@@ -13,14 +13,14 @@ pub extern "C" fn yengatomu_version() -> u32
     100
 }
 
-/// That of the Unicode data of a kind: clusters and sentences are those of `icu_segmenter_uax29`. 0 for no such kind.
+/// That of the Unicode data of a kind: all but words are those of `icu_segmenter_uax29` and `icu_segmenter_uax14`. 0 for no such kind.
 #[unsafe(no_mangle)]
 pub extern "C" fn yengatomu_unicode_version(kind: u32) -> u32
     ensures { result ≡ unicode_version kind }
 {
     match kind {
-        0 | 2 => 180000,
-        1 | 3 => of_data(),
+        0 | 2 | 3 => 180000,
+        1 => of_data(),
         _ => 0,
     }
 }
