@@ -4,7 +4,7 @@ use Rattle.std.specs.Prelude.{Option, Some, None, IfSome}
 use Rattle.std.specs.Option.{is_some, option_map_or}
 use Rattle.ucd_table.proofs.TrieCheck.{all_below, all_below-at}
 use Rattle.icu_segmenter.specs.LineBreaks.{LinesResetAfter, lines_with_words}
-use Rattle.icu_segmenter.specs.Machine.{Machine, MachineTailoring, Replacement, replaced, step, symbol_and_script, symbol_count, tailoring, with_tailoring}
+use Rattle.icu_segmenter.specs.Machine.{Machine, MachineTailoring, replaced, step, symbol_and_script, symbol_count, tailoring, with_tailoring}
 use Rattle.icu_segmenter.specs.Rules.{IsLastState, IsReset, ResetsAfter}
 use Rattle.icu_segmenter.specs.Rules.Rules.{ByMachine}
 use Rattle.icu_segmenter.specs.ScriptWords.{ScriptWords, words_in}
@@ -18,7 +18,6 @@ use Rattle.icu_segmenter.specs.declared.provider.ComplexScript.{ComplexScript}
 use Rattle.icu_segmenter.specs.declared.provider.ComplexScript.TheVariants.{None as NoScript}
 use Rattle.icu_segmenter_data.specs.Unicode.{word_machine}
 use Rattle.icu_segmenter_uax14.specs.Lines.{line_machine, line_tailorings, tailored_machine}
-use Rattle.icu_segmenter_uax14.specs.declared.data.TheConstants.{BREAK_ALL, BREAK_ALL_REPLACED, JA, JA_LOOSE, JA_NORMAL, KEEP_ALL, KEEP_ALL_REPLACED, LOOSE, NORMAL}
 use Rattle.icu_segmenter_uax29.specs.Clusters.{cluster_machine}
 use Rattle.icu_segmenter_uax29.specs.Sentences.{sentence_machine}
 use Rattle.yengatomu_c.specs.Finders.{Finder, LineFeedsReset}
@@ -101,12 +100,12 @@ mapped-feed : (map : List (ℕ × ComplexScript)) → symbol_and_script (tailore
 unfolding line_machine symbol_and_script value_of replaced
 mapped-feed map = refl
 
-break-all-feed : symbol_and_script (tailored_machine BREAK_ALL BREAK_ALL_REPLACED) 0x0A ≡ (46, NoScript)
-unfolding line_machine symbol_and_script value_of replaced
+break-all-feed : symbol_and_script (with_tailoring line_machine line_tailorings.breakall) 0x0A ≡ (46, NoScript)
+unfolding line_machine line_tailorings symbol_and_script value_of replaced
 break-all-feed = refl
 
-keep-all-feed : symbol_and_script (tailored_machine KEEP_ALL KEEP_ALL_REPLACED) 0x0A ≡ (46, NoScript)
-unfolding line_machine symbol_and_script value_of replaced
+keep-all-feed : symbol_and_script (with_tailoring line_machine line_tailorings.keepall) 0x0A ≡ (46, NoScript)
+unfolding line_machine line_tailorings symbol_and_script value_of replaced
 keep-all-feed = refl
 
 line-reset : IsReset line_machine 46
@@ -115,34 +114,33 @@ line-reset = resets line_machine 46 126 73 11 lines-resets
 plain : (words : ScriptWords) → ResetsAfter (ByMachine line_machine) 0x0A × IsOutsideRuns line_machine words 0x0A
 plain words = (after line_machine 46 lines-feed line-reset, outside line_machine 46 words lines-feed)
 
-tailored : (map : List (ℕ × ComplexScript)) (replacements : List Replacement) (words : ScriptWords)
-    → symbol_and_script (tailored_machine map replacements) 0x0A ≡ (46, NoScript)
-    → ResetsAfter (ByMachine (tailored_machine map replacements)) 0x0A × IsOutsideRuns (tailored_machine map replacements) words 0x0A
-tailored map replacements words feed =
-    let m = tailored_machine map replacements in
-    (after m 46 feed (tailored-reset line_machine (tailoring map replacements) 46 line-reset), outside m 46 words feed)
+tailored : (t : MachineTailoring) (words : ScriptWords) → symbol_and_script (with_tailoring line_machine (Some t)) 0x0A ≡ (46, NoScript)
+    → ResetsAfter (ByMachine (with_tailoring line_machine (Some t))) 0x0A × IsOutsideRuns (with_tailoring line_machine (Some t)) words 0x0A
+tailored t words feed =
+    let m = with_tailoring line_machine (Some t) in
+    (after m 46 feed (tailored-reset line_machine t 46 line-reset), outside m 46 words feed)
 
 mapped : (map : List (ℕ × ComplexScript)) (words : ScriptWords)
     → ResetsAfter (ByMachine (tailored_machine map [])) 0x0A × IsOutsideRuns (tailored_machine map []) words 0x0A
-mapped map words = tailored map [] words (mapped-feed map)
+mapped map words = tailored (tailoring map []) words (mapped-feed map)
 
 lines : (strictness : LineBreakStrictness) (option : LineBreakWordOption) (is_ja_or_zh : Bool) (words : ScriptWords)
     → LinesResetAfter (lines_with_words (line_rules_for strictness option is_ja_or_zh) words) 0x0A
 unfolding line_tailorings
-lines strictness.Strict word_option.BreakAll is_ja_or_zh words = tailored BREAK_ALL BREAK_ALL_REPLACED words break-all-feed
-lines strictness.Normal word_option.BreakAll is_ja_or_zh words = tailored BREAK_ALL BREAK_ALL_REPLACED words break-all-feed
-lines strictness.Loose word_option.BreakAll is_ja_or_zh words = tailored BREAK_ALL BREAK_ALL_REPLACED words break-all-feed
-lines strictness.Anywhere word_option.BreakAll is_ja_or_zh words = tailored BREAK_ALL BREAK_ALL_REPLACED words break-all-feed
-lines strictness.Strict word_option.KeepAll is_ja_or_zh words = tailored KEEP_ALL KEEP_ALL_REPLACED words keep-all-feed
-lines strictness.Normal word_option.KeepAll is_ja_or_zh words = tailored KEEP_ALL KEEP_ALL_REPLACED words keep-all-feed
-lines strictness.Loose word_option.KeepAll is_ja_or_zh words = tailored KEEP_ALL KEEP_ALL_REPLACED words keep-all-feed
-lines strictness.Anywhere word_option.KeepAll is_ja_or_zh words = tailored KEEP_ALL KEEP_ALL_REPLACED words keep-all-feed
+lines strictness.Strict word_option.BreakAll is_ja_or_zh words = tailored _ words break-all-feed
+lines strictness.Normal word_option.BreakAll is_ja_or_zh words = tailored _ words break-all-feed
+lines strictness.Loose word_option.BreakAll is_ja_or_zh words = tailored _ words break-all-feed
+lines strictness.Anywhere word_option.BreakAll is_ja_or_zh words = tailored _ words break-all-feed
+lines strictness.Strict word_option.KeepAll is_ja_or_zh words = tailored _ words keep-all-feed
+lines strictness.Normal word_option.KeepAll is_ja_or_zh words = tailored _ words keep-all-feed
+lines strictness.Loose word_option.KeepAll is_ja_or_zh words = tailored _ words keep-all-feed
+lines strictness.Anywhere word_option.KeepAll is_ja_or_zh words = tailored _ words keep-all-feed
 lines strictness.Anywhere word_option.Normal is_ja_or_zh words = after cluster_machine 3 clusters-feed (resets cluster_machine 3 14 20 3 clusters-resets)
-lines strictness.Loose word_option.Normal true words = mapped JA_LOOSE words
-lines strictness.Loose word_option.Normal false words = mapped LOOSE words
-lines strictness.Normal word_option.Normal true words = mapped JA_NORMAL words
-lines strictness.Normal word_option.Normal false words = mapped NORMAL words
-lines strictness.Strict word_option.Normal true words = mapped JA words
+lines strictness.Loose word_option.Normal true words = mapped _ words
+lines strictness.Loose word_option.Normal false words = mapped _ words
+lines strictness.Normal word_option.Normal true words = mapped _ words
+lines strictness.Normal word_option.Normal false words = mapped _ words
+lines strictness.Strict word_option.Normal true words = mapped _ words
 lines strictness.Strict word_option.Normal false words = plain words
 
 pub feeds-reset : (request : Request) → LineFeedsReset (finder_asked request)
