@@ -1,5 +1,6 @@
 pub mod Tests
 pub mod Lists
+pub mod Cells
 mod Entries
 mod RangeSymbols
 mod Picks
@@ -11,6 +12,7 @@ mod Texts
 mod Parts
 mod Segments
 pub mod Faultless
+pub mod MachineTests
 mod Properties
 mod Knowledge
 mod Tables
@@ -32,3 +34,7 @@ mod WordWalks
 mod WordFaults
 mod WordSequences
 mod SentenceSequences
+mod ClusterCertificate
+mod WordCertificate
+mod SentenceCertificate
+mod RuleLaws

@@ -1,8 +1,13 @@
+pub mod Classes
+pub mod ClusterRules
 pub mod Clusters
+pub mod Following
 pub mod Neighbours
 pub mod Pieces
 pub mod Properties
+pub mod SentenceRules
 pub mod SentenceValues
 pub mod Sentences
+pub mod WordRules
 pub mod WordValues
 pub mod Words

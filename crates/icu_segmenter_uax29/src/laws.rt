@@ -14,14 +14,20 @@ ghost use Rattle.unicode_segmentation.specs.Word.{is_word_break};
 ghost use Rattle.seg_text.specs.Boundaries.{offsets};
 ghost use Rattle.seg_machine.specs.Machine.{symbol_and_script};
 ghost use Rattle.seg_machine.specs.Pick.{machine_boundaries};
+ghost use Rattle.icu_segmenter_uax29.specs.ClusterRules.{cluster_rules};
 ghost use Rattle.icu_segmenter_uax29.specs.Clusters.{cluster_machine, clusters};
+ghost use Rattle.icu_segmenter_uax29.specs.Following.{FollowsRules};
 ghost use Rattle.icu_segmenter_uax29.specs.Neighbours.{IsBoundary, IsJoined, IsSentenceBoundary, IsSentenceJoined, IsWordBoundary, WordsHoldTogether, WordsStayTogether, all_but_line_ends, StayTogether, all_but_controls, EndsInWholeFlags, AllExtend, AllInConjunct};
 ghost use Rattle.icu_segmenter_uax29.specs.Pieces.{piece_bounds};
 ghost use Rattle.icu_segmenter_uax29.specs.Properties.{HasProperties};
+ghost use Rattle.icu_segmenter_uax29.specs.SentenceRules.{sentence_rules};
 ghost use Rattle.icu_segmenter_uax29.specs.SentenceValues.{HasSentenceBreak};
 ghost use Rattle.icu_segmenter_uax29.specs.Sentences.{sentence_machine, sentences};
+ghost use Rattle.icu_segmenter_uax29.specs.WordRules.{word_rules};
 ghost use Rattle.icu_segmenter_uax29.specs.WordValues.{HasWordBreak};
 ghost use Rattle.icu_segmenter_uax29.specs.Words.{word_machine, words};
+
+use seg_rules::laws::boundaries_are_places;
 
 /// Law: the symbol of every code point in the machine of clusters stands for its Grapheme_Cluster_Break, Indic_Conjunct_Break and Extended_Pictographic.
 pub fn symbols_are_properties()
@@ -34,6 +40,14 @@ pub fn clusters_are_uax29()
     ensures clusters { (code_points : List ℕ) → offsets (machine_boundaries cluster_machine code_points) ≡ piece_bounds (clusters code_points) }
     ensures places { (before after : List ℕ) → IsBoundary before after ↔ (is_grapheme_break true (reverse before) after ≡ true) }
 {}
+
+/// Law: the boundaries of the machine of clusters are for every text exactly the places where the rows of specs/ClusterRules.antt
+/// break, GB3 to GB999 of UAX #29.
+pub fn clusters_follow_rules()
+    ensures { FollowsRules cluster_rules cluster_machine }
+{
+    boundaries_are_places();
+}
 
 /// Law: a cluster never parts CR LF.
 pub fn line_ends_stay()
@@ -87,6 +101,14 @@ pub fn sentences_are_uax29()
     ensures places { (before after : List ℕ) → IsSentenceBoundary before after ↔ (is_sentence_break (reverse before) after ≡ true) }
 {}
 
+/// Law: the boundaries of the machine of sentences are for every text exactly the places where the rows of specs/SentenceRules.antt
+/// break, SB3 to SB998 of UAX #29.
+pub fn sentences_follow_rules()
+    ensures { FollowsRules sentence_rules sentence_machine }
+{
+    boundaries_are_places();
+}
+
 /// Law: the symbol of every code point in the machine of words stands for its Word_Break and Extended_Pictographic.
 pub fn word_symbols_are_properties()
     ensures { (code_point : ℕ) → HasWordBreak code_point (symbol_and_script word_machine code_point).0 }
@@ -98,6 +120,14 @@ pub fn words_are_uax29()
     ensures words { (code_points : List ℕ) → offsets (machine_boundaries word_machine code_points) ≡ piece_bounds (words code_points) }
     ensures places { (before after : List ℕ) → IsWordBoundary before after ↔ (is_word_break (reverse before) after ≡ true) }
 {}
+
+/// Law: the boundaries of the machine of words are for every text exactly the places where the rows of specs/WordRules.antt
+/// break, WB3 to WB999 of UAX #29.
+pub fn words_follow_rules()
+    ensures { FollowsRules word_rules word_machine }
+{
+    boundaries_are_places();
+}
 
 /// Law: no boundary of words parts CR LF, nor spaces from one another.
 pub fn line_ends_and_spaces_stay()
