@@ -38,3 +38,8 @@ mod ClusterCertificate
 mod WordCertificate
 mod SentenceCertificate
 mod RuleLaws
+mod TypedStates
+mod TypedSymbols
+mod TypedPicks
+mod TypedBoundaries
+mod TypedFaults

@@ -8,6 +8,8 @@ pub mod Properties
 pub mod SentenceRules
 pub mod SentenceValues
 pub mod Sentences
+pub mod TypedWords
 pub mod WordRules
+pub mod WordTypes
 pub mod WordValues
 pub mod Words

@@ -11,7 +11,7 @@ ghost use Rattle.ucd_emoji.specs.Binary.{is_extended_pictographic};
 ghost use Rattle.unicode_segmentation.specs.Grapheme.{is_grapheme_break};
 ghost use Rattle.unicode_segmentation.specs.Sentence.{before_close_sp, is_para_sep, is_sa_term, is_sentence_break, significant};
 ghost use Rattle.unicode_segmentation.specs.Word.{is_word_break};
-ghost use Rattle.seg_text.specs.Boundaries.{offsets};
+ghost use Rattle.seg_text.specs.Boundaries.{offsets, start};
 ghost use Rattle.seg_machine.specs.Machine.{symbol_and_script};
 ghost use Rattle.seg_machine.specs.Pick.{machine_boundaries};
 ghost use Rattle.icu_segmenter_uax29.specs.ClusterRules.{cluster_rules};
@@ -23,7 +23,9 @@ ghost use Rattle.icu_segmenter_uax29.specs.Properties.{HasProperties};
 ghost use Rattle.icu_segmenter_uax29.specs.SentenceRules.{sentence_rules};
 ghost use Rattle.icu_segmenter_uax29.specs.SentenceValues.{HasSentenceBreak};
 ghost use Rattle.icu_segmenter_uax29.specs.Sentences.{sentence_machine, sentences};
+ghost use Rattle.icu_segmenter_uax29.specs.TypedWords.{typed_word_machine};
 ghost use Rattle.icu_segmenter_uax29.specs.WordRules.{word_rules};
+ghost use Rattle.icu_segmenter_uax29.specs.WordTypes.{HasTypedWordBreak, character, typed_ends, word_script};
 ghost use Rattle.icu_segmenter_uax29.specs.WordValues.{HasWordBreak};
 ghost use Rattle.icu_segmenter_uax29.specs.Words.{word_machine, words};
 
@@ -128,6 +130,30 @@ pub fn words_follow_rules()
 {
     boundaries_are_places();
 }
+
+/// Law: in the machine of typed words the symbol of every code point stands for its Word_Break and Extended_Pictographic, and
+/// says whether it is a letter that the rules know nothing of.
+pub fn typed_symbols_have_properties()
+    ensures { (code_point : ℕ) → HasTypedWordBreak code_point (symbol_and_script typed_word_machine code_point).0 }
+{}
+
+/// Law: and its script is the one whose dictionary may cut it: Thai, Lao, Khmer or Myanmar where its Line_Break is SA, Chinese or
+/// Japanese where it is Han, Hiragana or Katakana, and else none.
+pub fn typed_symbols_have_scripts()
+    ensures { (code_point : ℕ) → (symbol_and_script typed_word_machine code_point).1 ≡ word_script (character code_point) }
+{}
+
+/// Law: the boundaries of the machine of typed words are those of the machine of words, and so the start and the ends of the words
+/// of UAX #29, and no others.
+pub fn typed_words_are_words()
+    ensures same { (code_points : List ℕ) → offsets (machine_boundaries typed_word_machine code_points) ≡ offsets (machine_boundaries word_machine code_points) }
+    ensures words { (code_points : List ℕ) → offsets (machine_boundaries typed_word_machine code_points) ≡ piece_bounds (words code_points) }
+{}
+
+/// Law: the status of each boundary but the first is the type of the word before it.
+pub fn word_types()
+    ensures { (code_points : List ℕ) → machine_boundaries typed_word_machine code_points ≡ start ∷ typed_ends 0 (words code_points) }
+{}
 
 /// Law: no boundary of words parts CR LF, nor spaces from one another.
 pub fn line_ends_and_spaces_stay()
