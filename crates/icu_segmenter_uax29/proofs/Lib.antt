@@ -13,6 +13,7 @@ mod Parts
 mod Segments
 pub mod Faultless
 pub mod MachineTests
+pub mod Scripts
 mod Properties
 mod Knowledge
 mod Tables

@@ -1,5 +1,5 @@
 -- The boundaries of the machine of typed words are the ends of words, each with the type of its word.
-use Rattle.std.proofs.Common.{◌≡◌, ℕ, zero, suc, ◌+◌, ◌-◌, ◌≤◌, Bool, List, [], ◌∷◌, ◌++◌, take, drop, length, refl, sym, ap, ap₂, ◌∙◌, arith, append_assoc}
+use Rattle.std.proofs.Common.{◌≡◌, ℕ, zero, suc, ◌+◌, ◌-◌, ◌≤◌, List, [], ◌∷◌, ◌++◌, take, drop, length, refl, sym, ap, ap₂, ◌∙◌, arith}
 use Rattle.std.specs.List.{concat}
 use Rattle.std.proofs.lemmas.Bool.{cond_both}
 use Rattle.std.proofs.lemmas.List.{length-drop}
@@ -13,8 +13,8 @@ use Rattle.icu_segmenter_uax29.specs.Pieces.{piece_ends}
 use Rattle.icu_segmenter_uax29.specs.TypedWords.{typed_word_machine}
 use Rattle.icu_segmenter_uax29.specs.Words.{word_machine, words}
 use Rattle.icu_segmenter_uax29.specs.WordTypes.{typed_ends, word_type}
-use Rattle.icu_segmenter_uax29.proofs.Picks.{ended as plain_ended, stretch-reach}
-use Rattle.icu_segmenter_uax29.proofs.TypedPicks.{ended, stretch-typed}
+use Rattle.icu_segmenter_uax29.proofs.Picks.{stretch-reach}
+use Rattle.icu_segmenter_uax29.proofs.TypedPicks.{stretch-typed}
 use Rattle.icu_segmenter_uax29.proofs.Waits.{start-reaches}
 use Rattle.icu_segmenter_uax29.proofs.Walks.{shift-shift, shift-zero}
 use Rattle.icu_segmenter_uax29.proofs.WordWalks.{fits, follows, known, meets, word-plain, words-are}

@@ -1,5 +1,5 @@
 -- The symbol and the script of a code point in the machine of typed words say its properties: a computation over the kit's rows.
-use Rattle.std.proofs.Common.{◌≡◌, ℕ, ◌-◌, Bool, true, ◌&&◌, ◌==◌, nat_lt, [], ◌∷◌, if◌then◌else◌, refl, eqb-true, ap, subst, sym, ◌∙◌}
+use Rattle.std.proofs.Common.{◌≡◌, ℕ, ◌-◌, Bool, true, ◌&&◌, ◌==◌, nat_lt, if◌then◌else◌, refl, eqb-true, ap, subst, sym, ◌∙◌}
 use Rattle.std.specs.Prelude.{slice_index_or}
 use Rattle.std.specs.Bool.{beq}
 use Rattle.std.proofs.lemmas.Bool.{and_parts, ltb-true}
@@ -28,31 +28,9 @@ use Rattle.icu_segmenter_uax29.specs.WordTypes.{Character, HasTypedWordBreak, ch
 use Rattle.icu_segmenter_uax29.specs.WordValues.{HasWordBreak}
 use Rattle.icu_segmenter_uax29.specs.declared.words.typed.data.TheConstants.{MAP, RANGES, SHIFT}
 use Rattle.icu_segmenter_uax29.proofs.RangeSymbols.{find-value_in, symbol_in}
+use Rattle.icu_segmenter_uax29.proofs.Scripts.{complex_number, same-complex}
 use Rattle.icu_segmenter_uax29.proofs.WordSymbols.{symbol, symbol-says, symbol-value}
 use Rattle.icu_segmenter_uax29.proofs.WordSymbols.{value as plain_value, value_stepped as plain_value_stepped}
-
-abbrev complex_number : ComplexScript → ℕ
-complex_number complex.None = 0
-complex_number complex.Myanmar = 1
-complex_number complex.ChineseOrJapanese = 2
-complex_number complex.Khmer = 3
-complex_number complex.Lao = 4
-complex_number complex.Thai = 5
-
-abbrev complex_from : ℕ → ComplexScript
-complex_from n =
-    slice_index_or (complex.None ∷ complex.Myanmar ∷ complex.ChineseOrJapanese ∷ complex.Khmer ∷ complex.Lao ∷ complex.Thai ∷ []) n complex.None
-
-complex-back : (s : ComplexScript) → complex_from (complex_number s) ≡ s
-complex-back complex.None = refl
-complex-back complex.Myanmar = refl
-complex-back complex.ChineseOrJapanese = refl
-complex-back complex.Khmer = refl
-complex-back complex.Lao = refl
-complex-back complex.Thai = refl
-
-same-complex : (s t : ComplexScript) → complex_number s ≡ complex_number t → s ≡ t
-same-complex s t same = sym (complex-back s) ∙ ap complex_from same ∙ complex-back t
 
 -- ---- the symbol and the script, by the value of a range
 

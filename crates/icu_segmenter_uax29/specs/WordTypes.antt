@@ -70,18 +70,19 @@ unfoldable pub typed_ends : ℕ → List (List ℕ) → List Boundary
 typed_ends from [] = []
 typed_ends from (word ∷ words) = boundary (from + length word) (word_type word) ∷ typed_ends (from + length word) words
 
--- the script by which a dictionary may cut a word: Thai, Lao, Khmer and Myanmar of complex context, and Chinese or Japanese
-abbrev pub complex_script : Script → ComplexScript
-complex_script Khmer = complex.Khmer
-complex_script Lao = complex.Lao
-complex_script Myanmar = complex.Myanmar
-complex_script Thai = complex.Thai
-complex_script _ = complex.None
+-- the script by which a dictionary may cut what has complex context
+abbrev pub dictionary_script : Script → ComplexScript
+dictionary_script Khmer = complex.Khmer
+dictionary_script Lao = complex.Lao
+dictionary_script Myanmar = complex.Myanmar
+dictionary_script Thai = complex.Thai
+dictionary_script _ = complex.None
 
+-- that of words: Thai, Lao, Khmer and Myanmar of complex context, and Chinese or Japanese
 abbrev pub word_script : Character → ComplexScript
 word_script c =
     if is_complex c
-    then complex_script c.script
+    then dictionary_script c.script
     else (if is_han_or_hiragana c || word_break_eq c.word_break Katakana then complex.ChineseOrJapanese else complex.None)
 
 -- The symbols are those of the machine of words, and one more, of letters that the rules know nothing of, else as `OTHER`.

@@ -12,8 +12,9 @@ ghost use Rattle.unicode_segmentation.specs.Grapheme.{is_grapheme_break};
 ghost use Rattle.unicode_segmentation.specs.Sentence.{before_close_sp, is_para_sep, is_sa_term, is_sentence_break, significant};
 ghost use Rattle.unicode_segmentation.specs.Word.{is_word_break};
 ghost use Rattle.seg_text.specs.Boundaries.{offsets, start};
-ghost use Rattle.seg_machine.specs.Machine.{symbol_and_script};
+ghost use Rattle.seg_machine.specs.Machine.{symbol_and_script, symbols_of};
 ghost use Rattle.seg_machine.specs.Pick.{machine_boundaries};
+ghost use Rattle.seg_rules.specs.Plain.{plain_places};
 ghost use Rattle.icu_segmenter_uax29.specs.ClusterRules.{cluster_rules};
 ghost use Rattle.icu_segmenter_uax29.specs.Clusters.{cluster_machine, clusters};
 ghost use Rattle.icu_segmenter_uax29.specs.Following.{FollowsRules};
@@ -144,11 +145,15 @@ pub fn typed_symbols_have_scripts()
 {}
 
 /// Law: the boundaries of the machine of typed words are those of the machine of words, and so the start and the ends of the words
-/// of UAX #29, and no others.
+/// of UAX #29, and the places of the rows of specs/WordRules.antt, and no others.
 pub fn typed_words_are_words()
     ensures same { (code_points : List ℕ) → offsets (machine_boundaries typed_word_machine code_points) ≡ offsets (machine_boundaries word_machine code_points) }
     ensures words { (code_points : List ℕ) → offsets (machine_boundaries typed_word_machine code_points) ≡ piece_bounds (words code_points) }
-{}
+    ensures rows { (code_points : List ℕ) → offsets (machine_boundaries typed_word_machine code_points)
+        ≡ offsets (start ∷ plain_places word_rules 0 [] (symbols_of word_machine code_points)) }
+{
+    words_follow_rules();
+}
 
 /// Law: the status of each boundary but the first is the type of the word before it.
 pub fn word_types()
