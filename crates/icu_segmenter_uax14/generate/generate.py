@@ -89,7 +89,8 @@ def main():
     machine = Compiler(rules).machine()
     relation = Relation(rules, machine)
     write("src/data.rt", data(rules, machine, Values(Characters(folder))))
-    words = {"icu_segmenter_uax14.specs.LineRules": "bits_from rows_above_marks rows_below_marks line_rules"}
+    words = {"seg_rules.specs.Classes": "bits_from pattern_of rows_of",
+             "icu_segmenter_uax14.specs.LineRules": "rows_above_marks rows_below_marks line_rules"}
     write("proofs/LineTables.antt", Instance(rules, machine, relation).text("the machine of lines", "line_rules", words))
     print(f"{len(rules.all)} rows, {rules.last} symbols, {len(rules.befores)} before a place, {len(machine.accepts)} states, "
           f"{machine.lookaheads} lookahead, {len(relation.configurations)} configurations")

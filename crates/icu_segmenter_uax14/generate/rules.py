@@ -18,7 +18,7 @@ def line_classes(properties):
     for k, kind in ((0, "class"), (2, "trait")):
         for name, value in re.findall(rf"^(\w+) = {kind} (\w+)$", text, re.M):
             value = {"HangulLv": "H2", "HangulLvt": "H3"}.get(value, value)
-            classes[name] = frozenset(s for s, p in enumerate(properties) if p[k] == value and (s or value == "Edge"))
+            classes[name] = frozenset(s for s, p in enumerate(properties) if s and p[k] == value)
     classes["EA"] = frozenset(s for s, p in enumerate(properties) if s and p[1])
     for name, expression in re.findall(r"^(\w+) = (\w+ but .*)$", text, re.M):
         classes[name] = classes.of(expression)
@@ -28,7 +28,7 @@ def line_classes(properties):
 def line_rules():
     properties, text = symbol_properties(), read("LineRules.antt")
     classes = line_classes(properties)
-    marks, bare = (classes.of(re.search(rf"^  {name} = bits (.*);$", text, re.M)[1]) for name in ("marks", "bare"))
+    marks, bare = (classes.of(re.search(rf"^  {name} = bits \(.*?\) (.*);$", text, re.M)[1]) for name in ("marks", "bare"))
     (names, above), (others, below) = classes.rows(text, "rows_above_marks"), classes.rows(text, "rows_below_marks")
     rules = Rules(len(properties) - 1, above, below, int(re.search(r"^  at_end = (\d+);$", text, re.M)[1]), marks, bare, 1)
     rules.properties, rules.names = properties, names + others

@@ -23,7 +23,6 @@ NAMES = {"cluster": "extended grapheme clusters", "word": "words", "sentence": "
 def classes_of(text, properties, parts):
     """The classes that a file names; symbol 0 is the edge of a text."""
     classes = Classes(len(properties))
-    classes["sot"] = frozenset([0])
     for name, expression in re.findall(r"^abbrev pub \w+ : Class \w+\n(\w+) = (.*)$", text, re.M):
         word = re.match(r"(\w+) (?:\w+\.(\w+)|\(λ p\. p\.\d\))$", expression)
         if word and word[1] in parts:
@@ -62,7 +61,7 @@ def certificate(kind, properties, machine):
     instance = Instance(rules, machine, relation)
     module, _ = KINDS[kind]
     rows = f"{kind}_rows" if not rules.has_marks else f"{kind}_rows_above_marks {kind}_rows_below_marks"
-    words = {"icu_segmenter_uax29.specs.Classes": "bits_from pattern_of rows_of", f"icu_segmenter_uax29.specs.{module}": f"{rows} {kind}_rules"}
+    words = {"seg_rules.specs.Classes": "bits_from pattern_of rows_of", f"icu_segmenter_uax29.specs.{module}": f"{rows} {kind}_rules"}
     text = instance.text(f"the machine of {NAMES[kind]}", f"{kind}_rules", words)
     return text, (f"{kind}: {len(rules.all)} rows, {rules.last} symbols, {len(rules.befores)} before a place, {len(machine.accepts)} states, "
                   f"{len(relation.configurations)} configurations")

@@ -8,7 +8,7 @@ use Rattle.ucd_derived.specs.declared.IndicConjunctBreak.{IndicConjunctBreak}
 use Rattle.ucd_derived.specs.declared.IndicConjunctBreak.TheVariants as InCb
 use Rattle.ucd_derived.specs.IndicConjunctBreak.{indic_conjunct_break_eq}
 use Rattle.seg_rules.specs.RowRules.{RowRules}
-use Rattle.icu_segmenter_uax29.specs.Classes.{Class, ClassRow, those, sot, no, ◌or◌, one, many, pairs, joins, breaks, row, rows_of, tail}
+use Rattle.seg_rules.specs.Classes.{Class, ClassRow, those, sot, no, ◌or◌, one, many, pairs, joins, breaks, row, rows_of, tail}
 use Rattle.icu_segmenter_uax29.specs.Properties.{Properties, symbol_properties}
 
 -- what the values of the properties are called in the standard

@@ -1,4 +1,3 @@
-pub mod Classes
 pub mod ClusterRules
 pub mod Clusters
 pub mod Following

@@ -5,7 +5,7 @@ use Rattle.ucd_breaks.specs.declared.SentenceBreak.{SentenceBreak}
 use Rattle.ucd_breaks.specs.declared.SentenceBreak.TheVariants as Sb
 use Rattle.ucd_breaks.specs.SentenceBreak.{sentence_break_eq}
 use Rattle.seg_rules.specs.RowRules.{RowRules}
-use Rattle.icu_segmenter_uax29.specs.Classes.{Class, ClassRow, those, no, ◌or◌, one, maybe, many, joins, breaks, row, bits, rows_of, tail}
+use Rattle.seg_rules.specs.Classes.{Class, ClassRow, those, no, ◌or◌, one, maybe, many, joins, breaks, row, bits, rows_of, tail}
 use Rattle.icu_segmenter_uax29.specs.SentenceValues.{symbol_values}
 
 -- what the values of Sentence_Break are called in the standard

@@ -5,7 +5,7 @@ use Rattle.ucd_breaks.specs.declared.WordBreak.{WordBreak}
 use Rattle.ucd_breaks.specs.declared.WordBreak.TheVariants as Wb
 use Rattle.ucd_breaks.specs.WordBreak.{word_break_eq}
 use Rattle.seg_rules.specs.RowRules.{RowRules}
-use Rattle.icu_segmenter_uax29.specs.Classes.{Class, ClassRow, those, sot, no, ◌or◌, one, pairs, joins, breaks, row, bits, rows_of, tail}
+use Rattle.seg_rules.specs.Classes.{Class, ClassRow, those, sot, no, ◌or◌, one, pairs, joins, breaks, row, bits, rows_of, tail}
 use Rattle.icu_segmenter_uax29.specs.WordValues.{word_symbol_properties}
 
 -- Word_Break, and whether it is Extended_Pictographic

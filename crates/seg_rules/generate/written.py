@@ -8,10 +8,11 @@ WORDS = {"one": [ONE], "maybe": [MAYBE], "many": [MANY], "pairs": [PAIR, HALF]}
 
 
 class Classes(dict):
-    """Sets of symbols by name, of the symbols from 1 up to `last`."""
+    """Sets of symbols by name, of the symbols from 1 up to `last`; 0 is the edge of a text."""
 
     def __init__(self, last):
         everything = frozenset(range(1, last + 1))
+        self["sot"] = self["eot"] = frozenset([0])
         self["no"] = lambda symbols: everything - symbols
 
     def of(self, expression):

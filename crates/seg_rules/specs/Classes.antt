@@ -1,5 +1,5 @@
 -- Rows of rules as the standard writes them: of classes of symbols, by the properties that the symbols stand for.
-use Rattle.std.specs.Prelude.{ℕ, suc, ◌+◌, ◌^◌, Bool, true, false, not, ◌||◌, if◌then◌else◌, Option, Some, None, List, [], ◌∷◌}
+use Rattle.std.specs.Prelude.{ℕ, suc, ◌+◌, ◌^◌, Bool, true, false, not, ◌&&◌, ◌||◌, if◌then◌else◌, Option, Some, None, List, [], ◌∷◌}
 use Rattle.seg_rules.specs.declared.rules.Count.{Count}
 use Rattle.seg_rules.specs.declared.rules.Count.TheVariants.{One, Optional, Star, Pairs}
 use Rattle.seg_rules.specs.RowRules.{Pattern, Row}
@@ -17,6 +17,9 @@ abbrev pub sot : {P : Type 0} → Class P
 sot None = true
 sot (Some p) = false
 
+abbrev pub eot : {P : Type 0} → Class P
+eot = sot
+
 -- the symbols of a text that aren't in a class
 abbrev pub no : {P : Type 0} → Class P → Class P
 no a None = false
@@ -25,6 +28,15 @@ no a (Some p) = not (a (Some p))
 infixl 20 ◌or◌
 abbrev pub ◌or◌ : {P : Type 0} → Class P → Class P → Class P
 (a or b) p = a p || b p
+
+-- those of the first that are in the second too, or that aren't
+infixl 30 ◌also◌
+abbrev pub ◌also◌ : {P : Type 0} → Class P → Class P → Class P
+(a also b) p = a p && b p
+
+infixl 30 ◌but◌
+abbrev pub ◌but◌ : {P : Type 0} → Class P → Class P → Class P
+(a but b) p = a p && not (b p)
 
 -- one symbol of a class; at most one; any number of them; an even number of them
 abbrev pub Item : Type 0 → Type 0
@@ -42,12 +54,15 @@ many is = (is, Star)
 abbrev pub pairs : {P : Type 0} → Class P → Item P
 pairs is = (is, Pairs)
 
--- what a row says of a place: no boundary, or one
+-- what a row says of a place: no boundary, one, or one of status 1, as where lines must break
 abbrev pub joins : ℕ
 joins = 0
 
 abbrev pub breaks : ℕ
 breaks = 1
+
+abbrev pub must_break : ℕ
+must_break = 2
 
 -- a row: what stands before a place, the verdict, and what comes after it
 pub record ClassRow (P : Type 0) : Type 0 where
