@@ -11,12 +11,12 @@ import shutil
 import sys
 
 sys.dont_write_bytecode = True
-from automata import Rules  # noqa: E402
-from compiler import CONDITION, Compiler  # noqa: E402
-from instance import instance  # noqa: E402
-from relation import Relation  # noqa: E402
 from symbols import HERE, TAILORINGS, Characters, Values  # noqa: E402
+from compiler import CONDITION, Compiler  # noqa: E402
+from instance import Instance  # noqa: E402
+from relation import Relation  # noqa: E402
 from rows import lines_of  # noqa: E402
+from rules import line_rules  # noqa: E402
 
 NONE = 255
 
@@ -85,11 +85,13 @@ def write(name, text):
 
 def main():
     folder = sys.argv[1] if len(sys.argv) > 1 else os.path.join(os.path.dirname(os.path.realpath(shutil.which("rt"))), "..", "rattle")
-    rules = Rules()
+    rules = line_rules()
     machine = Compiler(rules).machine()
     relation = Relation(rules, machine)
     write("src/data.rt", data(rules, machine, Values(Characters(folder))))
-    write("proofs/LineTables.antt", instance(rules, machine, relation))
+    words = {"seg_rules.specs.Classes": "bits_from pattern_of rows_of",
+             "icu_segmenter_uax14.specs.LineRules": "rows_above_marks rows_below_marks line_rules"}
+    write("proofs/LineTables.antt", Instance(rules, machine, relation).text("the machine of lines", "line_rules", words))
     print(f"{len(rules.all)} rows, {rules.last} symbols, {len(rules.befores)} before a place, {len(machine.accepts)} states, "
           f"{machine.lookaheads} lookahead, {len(relation.configurations)} configurations")
 

@@ -10,8 +10,8 @@ import sys
 from collections import Counter
 
 sys.dont_write_bytecode = True
-from automata import Rules  # noqa: E402
 from compiler import Compiler  # noqa: E402
+from rules import line_rules  # noqa: E402
 from symbols import Characters, Values  # noqa: E402
 
 
@@ -68,7 +68,7 @@ def rule_at(rules, symbols, place):
 
 def main():
     folder = sys.argv[2] if len(sys.argv) > 2 else os.path.join(os.path.dirname(os.path.realpath(shutil.which("rt"))), "..", "rattle")
-    rules, values = Rules(), Values(Characters(folder))
+    rules, values = line_rules(), Values(Characters(folder))
     machine = Compiler(rules).machine()
     passed, failed = 0, Counter()
     for code_points, wanted in tests(sys.argv[1]):

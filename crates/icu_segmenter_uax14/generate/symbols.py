@@ -5,7 +5,7 @@ import sys
 from collections import Counter
 
 HERE = os.path.dirname(os.path.abspath(__file__))
-sys.path.append(os.path.join(HERE, "..", "..", "icu_segmenter_uax29", "generate"))
+sys.path += [os.path.join(HERE, "..", "..", crate, "generate") for crate in ("icu_segmenter_uax29", "seg_rules")]
 from rows import filled, rows_of  # noqa: E402
 
 SPECS = os.path.join(HERE, "..", "specs")

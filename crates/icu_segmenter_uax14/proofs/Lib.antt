@@ -1,9 +1,7 @@
-mod Lists
 mod Values
 mod LineSymbols
 mod LineTables
 mod LineLaw
-mod MachineTests
 mod Machines
 mod TailoringTests
 mod Tailorings

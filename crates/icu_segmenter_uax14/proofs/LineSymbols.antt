@@ -23,12 +23,12 @@ use Rattle.ucd_script.specs.declared.Script.{Script}
 use Rattle.ucd_script.specs.Script.{script}
 use Rattle.ucd_script.proofs.ScriptLemmas.{script_stepped}
 use Rattle.seg_data.specs.declared.provider.ComplexScript.{ComplexScript}
-use Rattle.seg_data.specs.declared.provider.ComplexScript.TheVariants as complex
 use Rattle.seg_machine.specs.Machine.{Replacement, replaced, symbol_and_script}
 use Rattle.icu_segmenter_uax14.specs.Characters.{Character, Sign, NoSign, LineStyle, HasStyle, character, complex_script, no_script, sign_rows, strict, break_all, keep_all, ja_loose, loose, ja_normal, normal}
 use Rattle.icu_segmenter_uax14.specs.Lines.{tailored_machine}
 use Rattle.icu_segmenter_uax14.specs.LineValues.{LineProperties, Trait, Usual, Edge, Opening, Closing, Unassigned, Dotted, Loose, Kept, StandsFor, properties_of, trait_number}
 use Rattle.icu_segmenter_uax14.specs.declared.data.TheConstants as parts
+use Rattle.icu_segmenter_uax29.proofs.Scripts.{complex_number, same-complex}
 use Rattle.icu_segmenter_uax14.proofs.Values.{symbol_by, symbol-is, value}
 
 abbrev trait_from : ℕ → Trait
@@ -46,29 +46,6 @@ trait-back Kept = refl
 
 same-trait : (s t : Trait) → trait_number s ≡ trait_number t → s ≡ t
 same-trait s t same = sym (trait-back s) ∙ ap trait_from same ∙ trait-back t
-
-abbrev complex_number : ComplexScript → ℕ
-complex_number complex.None = 0
-complex_number complex.Myanmar = 1
-complex_number complex.ChineseOrJapanese = 2
-complex_number complex.Khmer = 3
-complex_number complex.Lao = 4
-complex_number complex.Thai = 5
-
-abbrev complex_from : ℕ → ComplexScript
-complex_from n =
-    slice_index_or (complex.None ∷ complex.Myanmar ∷ complex.ChineseOrJapanese ∷ complex.Khmer ∷ complex.Lao ∷ complex.Thai ∷ []) n complex.None
-
-complex-back : (s : ComplexScript) → complex_from (complex_number s) ≡ s
-complex-back complex.None = refl
-complex-back complex.Myanmar = refl
-complex-back complex.ChineseOrJapanese = refl
-complex-back complex.Khmer = refl
-complex-back complex.Lao = refl
-complex-back complex.Thai = refl
-
-same-complex : (s t : ComplexScript) → complex_number s ≡ complex_number t → s ≡ t
-same-complex s t same = sym (complex-back s) ∙ ap complex_from same ∙ complex-back t
 
 -- the symbol says the properties, and is one of a text
 abbrev same_properties : LineProperties → LineProperties → Bool

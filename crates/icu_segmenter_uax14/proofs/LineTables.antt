@@ -6,7 +6,8 @@ use Rattle.seg_rules.specs.declared.certificate.Configuration.{Configuration}
 use Rattle.seg_rules.specs.declared.rules.Count.TheVariants.{One, Star, Pairs}
 use Rattle.seg_rules.specs.RowRules.{Row, RowRules, Before, Marks, Owed, Due, DueOf, at_start, once, once_number, once_flags, flow, no_flags, is_full, is_live, moved, unread, moves_on, put_on, put, onto, begun, owed_rows, owed, reading, read_all, read}
 use Rattle.seg_rules.specs.Check.{Plan, Tables, no_before, same_before, verdicts, tables_hold, scans_hold, get, same_flags, same_lives, same_pattern, same_entries, same_due, moves_hold, befores_hold, reads_hold, dues_hold, append_dues, all_below, rows_below, among, ends, entered, goes_on, each_goes, configurations_hold, configuration_holds, relation_holds, starts_hold}
-use Rattle.icu_segmenter_uax14.specs.LineRules.{bits_from, rows_above_marks, rows_below_marks, line_rules}
+use Rattle.seg_rules.specs.Classes.{bits_from, pattern_of, rows_of}
+use Rattle.icu_segmenter_uax14.specs.LineRules.{rows_above_marks, rows_below_marks, line_rules}
 
 abbrev at : (before doubt older : ℕ) (newest : Bool) (last status named : ℕ) → Configuration
 at before doubt older newest last status named =
@@ -1339,7 +1340,7 @@ relation =
     []
 
 pub rules-are : line_rules ≡ numbered_rules
-unfolding bits_from rows_above_marks rows_below_marks line_rules numbered_above numbered_below numbered_rules
+unfolding bits_from pattern_of rows_of rows_above_marks rows_below_marks line_rules numbered_above numbered_below numbered_rules
 rules-are = refl
 
 befores-hold-0 : (ss : List Before) (rows : List (List ℕ)) (os : List ℕ) → befores_hold numbered_rules tables 72 ss rows os ≡ true

@@ -8,10 +8,10 @@ use Rattle.seg_machine.proofs.Bare.{checked-tailored}
 use Rattle.icu_segmenter_uax14.specs.Characters.{LineStyle, HasStyle, strict}
 use Rattle.icu_segmenter_uax14.specs.Lines.{line_machine, tailored_machine}
 use Rattle.icu_segmenter_uax14.specs.declared.data.TheConstants.{MAP}
-use Rattle.icu_segmenter_uax14.proofs.Lists.{cells}
+use Rattle.icu_segmenter_uax29.proofs.Cells.{cells}
 use Rattle.icu_segmenter_uax14.proofs.LineTables.{waits}
 use Rattle.icu_segmenter_uax14.proofs.LineSymbols.{strict-given}
-use Rattle.icu_segmenter_uax14.proofs.MachineTests.{IsSound, is-checked}
+use Rattle.icu_segmenter_uax29.proofs.MachineTests.{IsSound, is-checked}
 
 pub line-machine-is-sound : IsSound line_machine 126 72 waits
 unfolding line_machine all_below state_at step symbol_count cells waits

@@ -12,10 +12,10 @@ use Rattle.ucd_east_asian.specs.declared.EastAsianWidth.TheVariants.{Ambiguous a
 use Rattle.ucd_east_asian.specs.EastAsianWidth.{east_asian_width, east_asian_width_eq}
 use Rattle.ucd_emoji.specs.Binary.{is_extended_pictographic}
 use Rattle.ucd_script.specs.declared.Script.{Script}
-use Rattle.ucd_script.specs.declared.Script.TheVariants.{Khmer, Lao, Myanmar, Thai}
 use Rattle.ucd_script.specs.Script.{script}
 use Rattle.seg_data.specs.declared.provider.ComplexScript.{ComplexScript}
 use Rattle.seg_data.specs.declared.provider.ComplexScript.TheVariants as complex
+use Rattle.icu_segmenter_uax29.specs.WordTypes.{dictionary_script}
 use Rattle.icu_segmenter_uax14.specs.LineValues.{LineProperties, Trait, Usual, Opening, Closing, Unassigned, Dotted, Loose, Kept, StandsFor}
 
 -- the code points that UAX #14 and CSS Text 3 name
@@ -191,13 +191,6 @@ abbrev pub HasStyle : LineStyle → ℕ → ℕ → Type 0
 HasStyle style code_point symbol = StandsFor (style (character code_point)) symbol
 
 -- the script by which a dictionary may cut: that of what has complex context
-abbrev pub dictionary_script : Script → ComplexScript
-dictionary_script Khmer = complex.Khmer
-dictionary_script Lao = complex.Lao
-dictionary_script Myanmar = complex.Myanmar
-dictionary_script Thai = complex.Thai
-dictionary_script _ = complex.None
-
 abbrev pub complex_script : Character → ComplexScript
 complex_script c = if line_break_eq c.line_break ComplexContext then dictionary_script c.script else complex.None
 

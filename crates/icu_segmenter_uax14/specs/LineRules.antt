@@ -1,45 +1,13 @@
 -- The rules of lines: UAX #14, in the form of revision 55, and what CSS Text 3 tailors. The first row whose left side fits what ends at a
 -- place and whose right side fits what begins there decides it. The start and the end of a text are those of LB2 and LB3, LB1 is in LineValues.
-use Rattle.std.specs.Prelude.{ℕ, suc, ◌+◌, ◌^◌, true, if◌then◌else◌, List, [], ◌∷◌}
-use Rattle.seg_rules.specs.declared.rules.Count.{Count}
-use Rattle.seg_rules.specs.declared.rules.Count.TheVariants.{One, Star, Pairs}
-use Rattle.seg_rules.specs.RowRules.{Pattern, Row, RowRules}
-use Rattle.icu_segmenter_uax14.specs.LineClasses.{Class, ◌or◌, ◌also◌, ◌but◌, no, sot, eot, AK, AL, AP, AS, B2, BA, BB, BK, CB, CL, CM, CP, CR, EB, EM, EX, GL, H2, H3, HH, HL, HY, ID, IN, IS, JL, JT, JV, LF, NL, NS, NU, OP, PO, PR, QU, RI, SP, SY, VF, VI, WJ, ZW, ZWJ, EA, QU_PI, QU_PF, QU_PLAIN, OP_NARROW, CP_NARROW, DOTTED, PICTOGRAPH, LOOSE, KEPT}
+use Rattle.std.specs.Prelude.{true, List, [], ◌∷◌}
+use Rattle.seg_rules.specs.RowRules.{RowRules}
+use Rattle.seg_rules.specs.Classes.{ClassRow, ◌or◌, ◌also◌, ◌but◌, sot, eot, no, one, many, pairs, joins, breaks, must_break, row, bits, rows_of, tail}
+use Rattle.icu_segmenter_uax14.specs.LineClasses.{AK, AL, AP, AS, B2, BA, BB, BK, CB, CL, CM, CP, CR, EB, EM, EX, GL, H2, H3, HH, HL, HY, ID, IN, IS, JL, JT, JV, LF, NL, NS, NU, OP, PO, PR, QU, RI, SP, SY, VF, VI, WJ, ZW, ZWJ, EA, QU_PI, QU_PF, QU_PLAIN, OP_NARROW, CP_NARROW, DOTTED, PICTOGRAPH, LOOSE, KEPT}
 use Rattle.icu_segmenter_uax14.specs.LineValues.{LineProperties, symbol_properties, letter}
 
--- the number whose bits are the symbols of a class, from a symbol on
-unfoldable pub bits_from : ℕ → List LineProperties → Class → ℕ
-bits_from symbol [] is = 0
-bits_from symbol (p ∷ ps) is = (if is p then 2 ^ symbol else 0) + bits_from (suc symbol) ps is
-
-abbrev pub bits : Class → ℕ
-bits is = bits_from 0 symbol_properties is
-
--- one symbol of a class; any number of them; an even number of them
-abbrev pub one : Class → ℕ × Count
-one is = (bits is, One)
-
-abbrev pub many : Class → ℕ × Count
-many is = (bits is, Star)
-
-abbrev pub pairs : Class → ℕ × Count
-pairs is = (bits is, Pairs)
-
--- what a row says of a place: no boundary, one, or a mandatory one, of status 1
-abbrev pub joins : ℕ
-joins = 0
-
-abbrev pub breaks : ℕ
-breaks = 1
-
-abbrev pub must_break : ℕ
-must_break = 2
-
-abbrev pub row : Pattern → ℕ → Pattern → Row
-row left verdict right = record { left = left; right = right; verdict = verdict }
-
 -- the rows that read each symbol
-unfoldable pub rows_above_marks : List Row
+unfoldable pub rows_above_marks : List (ClassRow LineProperties)
 rows_above_marks =
     -- LB4
     row (one BK ∷ []) must_break []
@@ -57,7 +25,7 @@ rows_above_marks =
     ∷ []
 
 -- the rows below LB9 and LB10, which read a symbol with its marks as one
-unfoldable pub rows_below_marks : List Row
+unfoldable pub rows_below_marks : List (ClassRow LineProperties)
 rows_below_marks =
     -- LB11
     row [] joins (one WJ ∷ [])
@@ -173,11 +141,11 @@ rows_below_marks =
 -- LB9: a mark is one with what it follows, but for spaces and ends of lines. LB10: another one is a letter. LB3: the end is mandatory.
 unfoldable pub line_rules : RowRules
 line_rules = record {
-  above = rows_above_marks;
-  below = rows_below_marks;
+  above = rows_of (tail symbol_properties) rows_above_marks;
+  below = rows_of (tail symbol_properties) rows_below_marks;
   has_marks = true;
-  marks = bits (CM or ZWJ);
-  bare = bits (BK or CR or LF or NL or SP or ZW);
+  marks = bits (tail symbol_properties) (CM or ZWJ);
+  bare = bits (tail symbol_properties) (BK or CR or LF or NL or SP or ZW);
   alone = letter;
   at_end = 1;
 }

@@ -80,3 +80,12 @@ def transitions():
     """A row for each symbol: where it leads from each state."""
     return [("the end of the text", ["NONE"] * len(STATES)),
             *((SYMBOLS[p], [next_state(known, p) for known in STATES]) for p in SYMBOLS)]
+
+
+def state_names():
+    return list(STATES.values())
+
+
+def accepting():
+    """The states in which a cluster may end."""
+    return [name for known, name in STATES.items() if known]

@@ -69,3 +69,12 @@ def transitions():
     return [("the end of the text", ["NONE"] * (len(STATES) + 2)),
             *((SYMBOLS[value], [STATES[knowledge_after(NOTHING, value)], *(next_state(known, value) for known in STATES), next_of_wait(value)])
               for value in SYMBOLS)]
+
+
+def state_names():
+    return ["START", *STATES.values(), "WAIT"]
+
+
+def accepting():
+    """The states in which a sentence may end."""
+    return list(STATES.values())

@@ -99,3 +99,12 @@ def transitions():
     return [("the end of the text", ["NONE"] * (1 + len(STATES) + len(WAITS))),
             *((SYMBOLS[p], [STATES[knowledge_after(NOTHING, p[0])], *(next_state(known, p) for known in STATES),
                             *(next_of_wait(wait, p) for wait in WAITS)]) for p in SYMBOLS)]
+
+
+def state_names():
+    return ["START", *STATES.values(), *WAITS]
+
+
+def accepting():
+    """The states in which a word may end."""
+    return list(STATES.values())

@@ -1,5 +1,6 @@
 pub mod Tests
 pub mod Lists
+pub mod Cells
 mod Entries
 mod RangeSymbols
 mod Picks
@@ -11,6 +12,8 @@ mod Texts
 mod Parts
 mod Segments
 pub mod Faultless
+pub mod MachineTests
+pub mod Scripts
 mod Properties
 mod Knowledge
 mod Tables
@@ -32,3 +35,12 @@ mod WordWalks
 mod WordFaults
 mod WordSequences
 mod SentenceSequences
+mod ClusterCertificate
+mod WordCertificate
+mod SentenceCertificate
+mod RuleLaws
+mod TypedStates
+mod TypedSymbols
+mod TypedPicks
+mod TypedBoundaries
+mod TypedFaults

@@ -23,20 +23,20 @@ pub record IsPlain (m : Machine) (count : ℕ) : Type 0 where
 -- ---- what is entered
 
 -- from a state on, by the code points and then the end, as often as there are states
-abbrev entered : Machine → ℕ → List ℕ → List Entry
+abbrev pub entered : Machine → ℕ → List ℕ → List Entry
 entered m q cs = map (state_at m) (run m q (map (symbol_in m) cs ++ replicate (length m.states) 0))
 
-run-end : (m : Machine) (q k : ℕ) → step m q 0 ≡ None → run m q (replicate k 0) ≡ []
+pub run-end : (m : Machine) (q k : ℕ) → step m q 0 ≡ None → run m q (replicate k 0) ≡ []
 unfolding run
 run-end m q zero none = refl
 run-end m q (suc k) none = ap (λ next. option_map_or (λ t. t ∷ run m t (replicate k 0)) next []) none
 
-entered-none : (m : Machine) (q c : ℕ) (cs : List ℕ) → step m q (symbol_in m c) ≡ None → entered m q (c ∷ cs) ≡ []
+pub entered-none : (m : Machine) (q c : ℕ) (cs : List ℕ) → step m q (symbol_in m c) ≡ None → entered m q (c ∷ cs) ≡ []
 unfolding run
 entered-none m q c cs none =
     ap (λ next. map (state_at m) (option_map_or (λ t. t ∷ run m t (map (symbol_in m) cs ++ replicate (length m.states) 0)) next [])) none
 
-entered-some : (m : Machine) (q c t : ℕ) (cs : List ℕ) → step m q (symbol_in m c) ≡ Some t → entered m q (c ∷ cs) ≡ state_at m t ∷ entered m t cs
+pub entered-some : (m : Machine) (q c t : ℕ) (cs : List ℕ) → step m q (symbol_in m c) ≡ Some t → entered m q (c ∷ cs) ≡ state_at m t ∷ entered m t cs
 unfolding run
 entered-some m q c t cs leads =
     ap (λ next. map (state_at m) (option_map_or (λ t. t ∷ run m t (map (symbol_in m) cs ++ replicate (length m.states) 0)) next [])) leads
@@ -50,7 +50,7 @@ plain-states m (q ∷ states) are =
 -- ---- the last acceptance
 
 -- where it stands, with one more before, which accepts or doesn't; 0 where there is none
-abbrev grown : Bool → ℕ → ℕ
+abbrev pub grown : Bool → ℕ → ℕ
 grown true n = suc n
 grown false zero = 0
 grown false (suc n) = suc (suc n)
@@ -109,7 +109,7 @@ pub reach-none : (m : Machine) (q c : ℕ) (cs : List ℕ) → step m q (symbol_
 unfolding reach last_accepted
 reach-none m q c cs none = ap last_accepted (entered-none m q c cs none)
 
-reach-some : (m : Machine) (q c t : ℕ) (cs : List ℕ) → step m q (symbol_in m c) ≡ Some t → reach m q (c ∷ cs) ≡ grown (accepts (state_at m t)) (reach m t cs)
+pub reach-some : (m : Machine) (q c t : ℕ) (cs : List ℕ) → step m q (symbol_in m c) ≡ Some t → reach m q (c ∷ cs) ≡ grown (accepts (state_at m t)) (reach m t cs)
 unfolding reach last_accepted
 reach-some m q c t cs leads = ap last_accepted (entered-some m q c t cs leads)
 
@@ -131,7 +131,7 @@ grown-within true n = omega arith
 grown-within false zero = omega arith
 grown-within false (suc n) = omega arith
 
-reach-within : (m : Machine) (count q : ℕ) (cs : List ℕ) → IsPlain m count → q < count → reach m q cs ≤ length cs
+pub reach-within : (m : Machine) (count q : ℕ) (cs : List ℕ) → IsPlain m count → q < count → reach m q cs ≤ length cs
 reach-within m count q [] plain below = rw (reach-end m q (plain.ends q below)) (omega arith)
 reach-within m count q (c ∷ cs) plain below =
     elim (option-cases (step m q (symbol_in m c))) [

@@ -12,7 +12,7 @@ use Rattle.icu_segmenter_uax29.proofs.Entries.{Entry}
 abbrev pub symbol_in : Machine → ℕ → ℕ
 symbol_in m c = (symbol_and_script m c).0
 
-find-value_in : (ranges : List (ℕ × ℕ × ℕ)) (default c : ℕ) → option_map_or (λ range. range.2) (find (holds c) ranges) default ≡ value_in default ranges c
+pub find-value_in : (ranges : List (ℕ × ℕ × ℕ)) (default c : ℕ) → option_map_or (λ range. range.2) (find (holds c) ranges) default ≡ value_in default ranges c
 unfolding value_in
 find-value_in [] default c = refl
 find-value_in (range ∷ ranges) default c =

@@ -22,10 +22,10 @@ use Rattle.icu_segmenter_uax29.proofs.RangeSymbols.{symbol_in, range-symbol}
 abbrev pub symbol : ℕ → ℕ
 symbol = symbol_in word_machine
 
-abbrev value : ℕ → ℕ
+abbrev pub value : ℕ → ℕ
 value = value_in 1 RANGES
 
-unfoldable value_stepped : Stepped value
+unfoldable pub value_stepped : Stepped value
 unfolding rises_from
 value_stepped = of_rows 1 RANGES refl
 
@@ -54,7 +54,7 @@ value-says c =
       below = ltb-true _ _ three.1;
     }
 
-symbol-value : (c : ℕ) → symbol c ≡ value c
+pub symbol-value : (c : ℕ) → symbol c ≡ value c
 unfolding word_machine
 symbol-value c =
     let below = (value-says c).below in

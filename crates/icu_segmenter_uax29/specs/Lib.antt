@@ -1,8 +1,14 @@
+pub mod ClusterRules
 pub mod Clusters
+pub mod Following
 pub mod Neighbours
 pub mod Pieces
 pub mod Properties
+pub mod SentenceRules
 pub mod SentenceValues
 pub mod Sentences
+pub mod TypedWords
+pub mod WordRules
+pub mod WordTypes
 pub mod WordValues
 pub mod Words

@@ -11,17 +11,26 @@ ghost use Rattle.ucd_emoji.specs.Binary.{is_extended_pictographic};
 ghost use Rattle.unicode_segmentation.specs.Grapheme.{is_grapheme_break};
 ghost use Rattle.unicode_segmentation.specs.Sentence.{before_close_sp, is_para_sep, is_sa_term, is_sentence_break, significant};
 ghost use Rattle.unicode_segmentation.specs.Word.{is_word_break};
-ghost use Rattle.seg_text.specs.Boundaries.{offsets};
-ghost use Rattle.seg_machine.specs.Machine.{symbol_and_script};
+ghost use Rattle.seg_text.specs.Boundaries.{offsets, start};
+ghost use Rattle.seg_machine.specs.Machine.{symbol_and_script, symbols_of};
 ghost use Rattle.seg_machine.specs.Pick.{machine_boundaries};
+ghost use Rattle.seg_rules.specs.Plain.{plain_places};
+ghost use Rattle.icu_segmenter_uax29.specs.ClusterRules.{cluster_rules};
 ghost use Rattle.icu_segmenter_uax29.specs.Clusters.{cluster_machine, clusters};
+ghost use Rattle.icu_segmenter_uax29.specs.Following.{FollowsRules};
 ghost use Rattle.icu_segmenter_uax29.specs.Neighbours.{IsBoundary, IsJoined, IsSentenceBoundary, IsSentenceJoined, IsWordBoundary, WordsHoldTogether, WordsStayTogether, all_but_line_ends, StayTogether, all_but_controls, EndsInWholeFlags, AllExtend, AllInConjunct};
 ghost use Rattle.icu_segmenter_uax29.specs.Pieces.{piece_bounds};
 ghost use Rattle.icu_segmenter_uax29.specs.Properties.{HasProperties};
+ghost use Rattle.icu_segmenter_uax29.specs.SentenceRules.{sentence_rules};
 ghost use Rattle.icu_segmenter_uax29.specs.SentenceValues.{HasSentenceBreak};
 ghost use Rattle.icu_segmenter_uax29.specs.Sentences.{sentence_machine, sentences};
+ghost use Rattle.icu_segmenter_uax29.specs.TypedWords.{typed_word_machine};
+ghost use Rattle.icu_segmenter_uax29.specs.WordRules.{word_rules};
+ghost use Rattle.icu_segmenter_uax29.specs.WordTypes.{HasTypedWordBreak, character, typed_ends, word_script};
 ghost use Rattle.icu_segmenter_uax29.specs.WordValues.{HasWordBreak};
 ghost use Rattle.icu_segmenter_uax29.specs.Words.{word_machine, words};
+
+use seg_rules::laws::boundaries_are_places;
 
 /// Law: the symbol of every code point in the machine of clusters stands for its Grapheme_Cluster_Break, Indic_Conjunct_Break and Extended_Pictographic.
 pub fn symbols_are_properties()
@@ -34,6 +43,14 @@ pub fn clusters_are_uax29()
     ensures clusters { (code_points : List ℕ) → offsets (machine_boundaries cluster_machine code_points) ≡ piece_bounds (clusters code_points) }
     ensures places { (before after : List ℕ) → IsBoundary before after ↔ (is_grapheme_break true (reverse before) after ≡ true) }
 {}
+
+/// Law: the boundaries of the machine of clusters are for every text exactly the places where the rows of specs/ClusterRules.antt
+/// break, GB3 to GB999 of UAX #29.
+pub fn clusters_follow_rules()
+    ensures { FollowsRules cluster_rules cluster_machine }
+{
+    boundaries_are_places();
+}
 
 /// Law: a cluster never parts CR LF.
 pub fn line_ends_stay()
@@ -87,6 +104,14 @@ pub fn sentences_are_uax29()
     ensures places { (before after : List ℕ) → IsSentenceBoundary before after ↔ (is_sentence_break (reverse before) after ≡ true) }
 {}
 
+/// Law: the boundaries of the machine of sentences are for every text exactly the places where the rows of specs/SentenceRules.antt
+/// break, SB3 to SB998 of UAX #29.
+pub fn sentences_follow_rules()
+    ensures { FollowsRules sentence_rules sentence_machine }
+{
+    boundaries_are_places();
+}
+
 /// Law: the symbol of every code point in the machine of words stands for its Word_Break and Extended_Pictographic.
 pub fn word_symbols_are_properties()
     ensures { (code_point : ℕ) → HasWordBreak code_point (symbol_and_script word_machine code_point).0 }
@@ -97,6 +122,42 @@ pub fn word_symbols_are_properties()
 pub fn words_are_uax29()
     ensures words { (code_points : List ℕ) → offsets (machine_boundaries word_machine code_points) ≡ piece_bounds (words code_points) }
     ensures places { (before after : List ℕ) → IsWordBoundary before after ↔ (is_word_break (reverse before) after ≡ true) }
+{}
+
+/// Law: the boundaries of the machine of words are for every text exactly the places where the rows of specs/WordRules.antt
+/// break, WB3 to WB999 of UAX #29.
+pub fn words_follow_rules()
+    ensures { FollowsRules word_rules word_machine }
+{
+    boundaries_are_places();
+}
+
+/// Law: in the machine of typed words the symbol of every code point stands for its Word_Break and Extended_Pictographic, and
+/// says whether it is a letter that the rules know nothing of.
+pub fn typed_symbols_have_properties()
+    ensures { (code_point : ℕ) → HasTypedWordBreak code_point (symbol_and_script typed_word_machine code_point).0 }
+{}
+
+/// Law: and its script is the one whose dictionary may cut it: Thai, Lao, Khmer or Myanmar where its Line_Break is SA, Chinese or
+/// Japanese where it is Han, Hiragana or Katakana, and else none.
+pub fn typed_symbols_have_scripts()
+    ensures { (code_point : ℕ) → (symbol_and_script typed_word_machine code_point).1 ≡ word_script (character code_point) }
+{}
+
+/// Law: the boundaries of the machine of typed words are those of the machine of words, and so the start and the ends of the words
+/// of UAX #29, and the places of the rows of specs/WordRules.antt, and no others.
+pub fn typed_words_are_words()
+    ensures same { (code_points : List ℕ) → offsets (machine_boundaries typed_word_machine code_points) ≡ offsets (machine_boundaries word_machine code_points) }
+    ensures words { (code_points : List ℕ) → offsets (machine_boundaries typed_word_machine code_points) ≡ piece_bounds (words code_points) }
+    ensures rows { (code_points : List ℕ) → offsets (machine_boundaries typed_word_machine code_points)
+        ≡ offsets (start ∷ plain_places word_rules 0 [] (symbols_of word_machine code_points)) }
+{
+    words_follow_rules();
+}
+
+/// Law: the status of each boundary but the first is the type of the word before it.
+pub fn word_types()
+    ensures { (code_points : List ℕ) → machine_boundaries typed_word_machine code_points ≡ start ∷ typed_ends 0 (words code_points) }
 {}
 
 /// Law: no boundary of words parts CR LF, nor spaces from one another.

@@ -20,4 +20,4 @@ pub mod words;
 pub use machine::cluster_machine;
 pub use segmenter::ClusterSegmenter;
 pub use sentences::{SentenceSegmenter, sentence_machine};
-pub use words::{WordSegmenter, word_machine};
+pub use words::{WordSegmenter, typed_word_machine, word_machine};

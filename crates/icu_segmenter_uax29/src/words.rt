@@ -6,6 +6,8 @@ mod segmenter;
 mod states;
 mod symbols;
 mod transitions;
+mod typed;
 
 pub use machine::word_machine;
 pub use segmenter::WordSegmenter;
+pub use typed::typed_word_machine;

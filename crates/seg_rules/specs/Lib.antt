@@ -1,4 +1,5 @@
 pub mod RowRules
+pub mod Classes
 pub mod Patterns
 pub mod Plain
 pub mod Places

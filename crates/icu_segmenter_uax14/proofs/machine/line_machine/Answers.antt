@@ -1,6 +1,6 @@
 use Rattle.icu_segmenter_uax14.specs.Lines.{line_machine}
 use Rattle.icu_segmenter_uax14.proofs.LineTables.{waits}
-use Rattle.icu_segmenter_uax14.proofs.MachineTests.{memory-alone}
+use Rattle.icu_segmenter_uax29.proofs.MachineTests.{memory-alone}
 use Rattle.icu_segmenter_uax14.proofs.Machines.{line-machine-is-sound}
 use Rattle.icu_segmenter_uax14.proofs.machine.line_machine.Goals as goal
 

@@ -23,7 +23,7 @@ use Rattle.seg_machine.proofs.Bare.{stall_free-from}
 use Rattle.icu_segmenter_uax29.proofs.Faultless.{is_next, is_range, is_symbol, next-state, no-range-fault, rises}
 use Rattle.icu_segmenter_uax29.proofs.Lists.{any-passes, bool-cases, every, every-at, none-from, option-cases}
 use Rattle.icu_segmenter_uax29.proofs.Tests.{either, implied, implies, not-true}
-use Rattle.icu_segmenter_uax14.proofs.Lists.{cell-at, cells, column-of, row-of}
+use Rattle.icu_segmenter_uax29.proofs.Cells.{cell-at, cells, column-of, row-of}
 
 abbrev Entry : Type 0
 Entry = Acceptance × Option ℕ

@@ -1,24 +1,28 @@
 """The instance of seg_rules' law, as text: the rules as numbers, tables, plan and relation, and that they pass the tests."""
-from automata import HALF, MARKS
+import re
+
+from automata import MARKS
 from compiler import CONDITION
 from relation import LOST, NEWEST, OLDER
+from written import HALF
 
 # What the tests unfold.
 ROW_RULES = ("once once_number once_flags flow no_flags is_full is_live moved unread moves_on put_on put onto begun owed_rows owed reading "
              "read_all read").split()
 CHECK = ("get same_flags same_lives same_pattern same_entries same_due moves_hold befores_hold reads_hold dues_hold append_dues all_below "
          "rows_below among ends entered goes_on each_goes configurations_hold configuration_holds relation_holds starts_hold").split()
-LINE_RULES = "bits_from rows_above_marks rows_below_marks line_rules".split()
 NAMES = {
     "std.specs.Prelude": "◌≡◌ ℕ Bool true false ◌&&◌ nat_lt List [] ◌∷◌ length",
     "std.proofs.Common": "refl",
     "std.proofs.lemmas.Bool": "and_from",
     "seg_rules.specs.declared.certificate.Configuration": "Configuration",
-    "seg_rules.specs.declared.rules.Count.TheVariants": "One Star Pairs",
+    "seg_rules.specs.declared.rules.Count.TheVariants": "One Optional Star Pairs",
     "seg_rules.specs.RowRules": "Row RowRules Before Marks Owed Due DueOf at_start " + " ".join(ROW_RULES),
     "seg_rules.specs.Check": "Plan Tables no_before same_before verdicts tables_hold scans_hold " + " ".join(CHECK),
-    "icu_segmenter_uax14.specs.LineRules": " ".join(LINE_RULES),
 }
+AT = ["abbrev at : (before doubt older : ℕ) (newest : Bool) (last status named : ℕ) → Configuration",
+      "at before doubt older newest last status named =",
+      "    record { before = before; doubt = doubt; older = older; newest = newest; last = last; status = status; named = named }"]
 NONE = 255
 # How many of what stands before a place one proof is about.
 PART = 30
@@ -128,7 +132,8 @@ class Instance:
                     todo.append(to)
         return found
 
-    def text(self):
+    def text(self, what, name, words):
+        """The file of the certificate of `what`, for the rules of this name; of each module, the words by which those unfold."""
         rules, machine, numbers = self.rules, self.machine, self.numbers
         groups = [[] for _ in machine.accepts]
         for configuration in self.relation.configurations:
@@ -137,7 +142,7 @@ class Instance:
         self.define("numbered_below", "List Row", map(self.row, rules.below))
         self.lines += [
             "unfoldable pub numbered_rules : RowRules", "numbered_rules = record {", "  above = numbered_above;", "  below = numbered_below;",
-            "  has_marks = true;", f"  marks = {bits(rules.marks)};", f"  bare = {bits(rules.bare)};", f"  alone = {rules.alone};",
+            f"  has_marks = {truth(rules.has_marks)};", f"  marks = {bits(rules.marks)};", f"  bare = {bits(rules.bare)};", f"  alone = {rules.alone};",
             f"  at_end = {rules.at_end};", "}", ""]
         parts = self.in_parts("befores", "Before", list(map(self.before, rules.befores)))
         self.in_parts("moves", "List ℕ", [f"({chain(map(str, row[1:]))})" for row in rules.moves])
@@ -154,12 +159,13 @@ class Instance:
         self.define("relation", "List (List Configuration)", (f"({chain(group)})" for group in groups))
         ruled = "numbered_above numbered_below numbered_rules".split()
         listed = [f"{name}_{k}" for name in ("befores", "moves", "owes") for k in range(parts)] + "befores moves owes dues reads tables".split()
-        unfolded = " ".join(ruled + listed + ROW_RULES + CHECK)
-        self.lines += ["pub rules-are : line_rules ≡ numbered_rules", "unfolding " + " ".join(LINE_RULES + ruled), "rules-are = refl", ""]
+        tests = " ".join(ruled + listed + ROW_RULES + CHECK)
+        defined = [word for names in words.values() for word in names.split()]
+        self.lines += [f"pub rules-are : {name} ≡ numbered_rules", "unfolding " + " ".join(defined + ruled), "rules-are = refl", ""]
         of = f"numbered_rules tables {rules.last}"
         for k in range(parts):
             self.lines += [f"befores-hold-{k} : (ss : List Before) (rows : List (List ℕ)) (os : List ℕ) → befores_hold {of} ss rows os ≡ true",
-                           f"    → befores_hold {of} (befores_{k} ss) (moves_{k} rows) (owes_{k} os) ≡ true", f"unfolding {unfolded}",
+                           f"    → befores_hold {of} (befores_{k} ss) (moves_{k} rows) (owes_{k} os) ≡ true", f"unfolding {tests}",
                            f"befores-hold-{k} ss rows os h = h", ""]
         whole = "refl"
         for k in reversed(range(parts)):
@@ -171,19 +177,19 @@ class Instance:
                 ("dues-hold", f"dues_hold {of} (append_dues verdicts dues) reads ≡ true", ""),
                 ("moves-below", "once_number (length befores) (λ many. nat_lt 0 many && rows_below many moves) ≡ true", ""),
                 ("scans-hold", "scans_hold numbered_rules tables plan relation ≡ true", " accepts nexts plan relation")):
-            self.lines += [f"{'pub ' if more else ''}{name} : {claim}", f"unfolding {unfolded}{more}", f"{name} = refl", ""]
+            self.lines += [f"{'pub ' if more else ''}{name} : {claim}", f"unfolding {tests}{more}", f"{name} = refl", ""]
         self.lines += [f"pub tables-hold : tables_hold numbered_rules {rules.last} tables ≡ true", "unfolding tables",
                        "tables-hold = and_from _ _ start-holds (and_from _ _ befores-hold (and_from _ _ dues-hold moves-below))", ""]
-        head = ["-- The certificate of the machine of lines: written by generate/generate.py. Do not edit."]
-        head += [f"use Rattle.{module}.{{{', '.join(names.split())}}}" for module, names in NAMES.items()]
-        head += ["", "abbrev at : (before doubt older : ℕ) (newest : Bool) (last status named : ℕ) → Configuration",
-                 "at before doubt older newest last status named =",
-                 "    record { before = before; doubt = doubt; older = older; newest = newest; last = last; status = status; named = named }", "",
-                 "-- which rests of a pattern may come next"]
+        return "\n".join(self.head(what, words) + self.lines[:-1]) + "\n"
+
+    def head(self, what, words):
+        """What stands above: imports of the words that are used, and the flags of patterns."""
+        used = set(re.findall(r"[^ \n(){},;]+", "\n".join(self.lines + list(self.lives.values()) + AT)))
+        lines = [f"-- The certificate of {what}: written by generate/generate.py. Do not edit."]
+        for module, names in {**NAMES, **words}.items():
+            names = [name for name in names.split() if name in used or name.strip("◌") in used]
+            lines += [f"use Rattle.{module}.{{{', '.join(names)}}}"] if names else []
+        lines += ["", *AT, "", "-- which rests of a pattern may come next"]
         for name in sorted(self.lives):
-            head += [f"abbrev {name} : List Bool", f"{name} = {self.lives[name]}", ""]
-        return "\n".join(head + self.lines[:-1]) + "\n"
-
-
-def instance(rules, machine, relation):
-    return Instance(rules, machine, relation).text()
+            lines += [f"abbrev {name} : List Bool", f"{name} = {self.lives[name]}", ""]
+        return lines
