@@ -1,5 +1,4 @@
-mod MachineTests
 mod ChosenLines
+mod TypedWords
 mod TableTests
-mod Machines
 mod Tables

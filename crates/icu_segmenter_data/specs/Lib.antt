@@ -1,1 +1,2 @@
 pub mod Unicode
+pub mod Words

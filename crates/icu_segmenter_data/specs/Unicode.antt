@@ -1,6 +1,5 @@
--- Unicode's data: the machine of words with types, and pair tables, of just the arrays that stand in the code.
+-- Unicode's data for pair tables: of just the arrays that stand in the code.
 use Rattle.std.specs.Prelude.{[]}
-use Rattle.icu_segmenter.specs.Machine.{Machine, machine}
 use Rattle.icu_segmenter.specs.PairTable.{PairTable, pair_table}
 use Rattle.icu_segmenter.specs.Table.{table}
 use Rattle.icu_segmenter_data.specs.declared.clusters.data.TheConstants as clusters
@@ -14,13 +13,10 @@ cluster_table =
     let numbers = clusters.NUMBERS in
     pair_table (table clusters.CLASSES clusters.OTHER_CLASS) clusters.ENTRIES [] numbers.count numbers.last numbers.start_of_text numbers.end_of_text numbers.complex
 
-abbrev pub word_machine : Machine
-word_machine = machine (table words.RANGES words.OTHER) words.STATES words.TRANSITIONS 0 words.SHIFT words.MAP
-
 abbrev pub word_table : PairTable
 word_table =
     let numbers = words.NUMBERS in
-    pair_table (table words.CLASSES words.OTHER) words.ENTRIES words.STATUSES numbers.count numbers.last numbers.start_of_text numbers.end_of_text numbers.complex
+    pair_table (table words.CLASSES words.OTHER_CLASS) words.ENTRIES words.STATUSES numbers.count numbers.last numbers.start_of_text numbers.end_of_text numbers.complex
 
 abbrev pub sentence_table : PairTable
 sentence_table =

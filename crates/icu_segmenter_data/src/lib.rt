@@ -1,9 +1,9 @@
 //! The segmenters of `icu_segmenter` over Unicode's data, each in one call.
 //!
-//! Clusters, sentences and lines are by machines of Unicode 18.0, of which it is proved that they follow UAX #29 and UAX #14
-//! (`icu_segmenter_uax29`, `icu_segmenter_uax14`). The machine of words with types and the pair tables are of Unicode 15.0: arrays
-//! that `generate/generate.py` writes out of the Unicode Character Database. That they agree with the standards is tested, by the
-//! official tests, and isn't proved. It is proved that their checks refuse none of them.
+//! They are by machines of Unicode 18.0, of which it is proved that they follow UAX #29 and UAX #14 (`icu_segmenter_uax29`,
+//! `icu_segmenter_uax14`). The pair tables (`classic`) are of Unicode 15.0: arrays that `generate/generate.py` writes out of the
+//! Unicode Character Database. That they agree with the standards is tested, by the official tests, and isn't proved. It is proved
+//! that their checks refuse none of them.
 #![tactic(auto)]
 
 pub mod classic;
@@ -18,10 +18,10 @@ mod words;
 
 pub use clusters::cluster_table;
 pub use icu_segmenter_uax14::{line_machine, line_tailorings};
-pub use icu_segmenter_uax29::{cluster_machine, sentence_machine};
+pub use icu_segmenter_uax29::{cluster_machine, sentence_machine, typed_word_machine};
 pub use lines::line_table;
 pub use lines_17::line_17_table;
 pub use segmenters::{grapheme_segmenter, line_segmenter, sentence_segmenter, word_segmenter};
 pub use sentences::sentence_table;
 pub use version::UNICODE_VERSION;
-pub use words::{word_machine, word_table};
+pub use words::word_table;

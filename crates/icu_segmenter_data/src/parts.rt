@@ -1,57 +1,19 @@
 //! Checked values of parts that stand in the code.
-ghost use Rattle.std.specs.Prelude.{◌≡◌, ◌⊎◌, IfOk, IfErr, []};
+ghost use Rattle.std.specs.Prelude.{◌≡◌, ◌⊎◌, IfOk, IfErr};
 ghost use Rattle.seg_data.specs.declared.provider.DataError.TheVariants.{Memory};
 ghost use Rattle.icu_segmenter.specs.Faults.{HasRangeFault};
-ghost use Rattle.icu_segmenter.specs.Machine.{machine};
-ghost use Rattle.icu_segmenter.specs.MachineFaults.{HasMachineFault};
 ghost use Rattle.icu_segmenter.specs.PairData.{HasPairFault};
 ghost use Rattle.icu_segmenter.specs.PairTable.{pair_table};
 ghost use Rattle.icu_segmenter.specs.Table.{table};
 
-use icu_segmenter::provider::{
-    Acceptance, BreakState, ClassTable, ComplexScript, DataError, Lookahead, RuleBreakData,
-    SegmenterStateMachine, State, Symbol,
-};
+use icu_segmenter::provider::{BreakState, ClassTable, DataError, RuleBreakData};
 use std::alloc::Global;
-
-/// What a state accepts, and the lookahead that it names.
-pub(crate) type Entry = (Acceptance, Option<Lookahead>);
-
-pub(crate) const CONTINUE: Entry = (Acceptance::Continue, None);
-
-pub(crate) const ACCEPT_0: Entry = (Acceptance::Accept(0), None);
-
-pub(crate) const ACCEPT_1: Entry = (Acceptance::Accept(1), None);
-
-pub(crate) const ACCEPT_2: Entry = (Acceptance::Accept(2), None);
 
 pub(crate) const BREAK: BreakState = BreakState::Break;
 
 pub(crate) const KEEP: BreakState = BreakState::Keep;
 
 pub(crate) const NO_MATCH: BreakState = BreakState::NoMatch;
-
-/// The machine of these parts, without lookaheads. The errors are want of memory, and what is wrong with the parts.
-pub(crate) fn machine_of(
-    alloc: Global,
-    ranges: &[(u32, u32, Symbol)],
-    other: Symbol,
-    states: &[Entry],
-    transitions: &[State],
-    shift: u8,
-    map: &[(Symbol, ComplexScript)],
-) -> Result<SegmenterStateMachine, DataError>
-    ensures made { IfOk result (λ m. m ≡ machine (table ranges.now other) states.now transitions.now 0 shift map.now) }
-    ensures refused { IfErr result (λ fault. (fault ≡ Memory) ⊎ HasRangeFault ranges.now fault
-        ⊎ HasMachineFault (machine (table ranges.now other) states.now transitions.now 0 shift map.now) fault) }
-{
-    let symbols = ClassTable::try_from_ranges(Vec::from_slice(alloc, ranges)?, other)?;
-    let symbols = symbols.indexed(alloc)?;
-    let states = Vec::from_slice(alloc, states)?;
-    let transitions = Vec::from_slice(alloc, transitions)?;
-    let map = Vec::from_slice(alloc, map)?;
-    SegmenterStateMachine::try_from_parts(symbols, states, transitions, 0, shift, map)
-}
 
 /// The numbers of a pair table.
 #[derive(Clone, Copy)]

@@ -1,5 +1,4 @@
-//! Segmenters by Unicode's machines, each in one call: of clusters, sentences and lines by those that are proved to follow UAX #29 and
-//! UAX #14.
+//! Segmenters by Unicode's machines, each in one call: they are proved to follow UAX #29 and UAX #14.
 ghost use Rattle.std.specs.Prelude.{◌≡◌, IfOk};
 ghost use Rattle.icu_segmenter.specs.Clusters.{owned_cluster_rules, owned_sentence_rules};
 ghost use Rattle.icu_segmenter.specs.Lines.{chosen_rules, owned_line_rules};
@@ -8,20 +7,22 @@ ghost use Rattle.icu_segmenter.specs.Rules.Rules.{ByMachine};
 ghost use Rattle.icu_segmenter.specs.ScriptWords.{no_words};
 ghost use Rattle.icu_segmenter.specs.WordRules.{machine_words};
 ghost use Rattle.icu_segmenter.specs.Words.{owned_word_rules};
-ghost use Rattle.icu_segmenter_data.specs.Unicode.{cluster_table, word_machine};
+ghost use Rattle.icu_segmenter_data.specs.Unicode.{cluster_table};
+ghost use Rattle.icu_segmenter_data.specs.Words.{AreWords};
 ghost use Rattle.icu_segmenter_uax14.specs.Lines.{line_machine, line_tailorings};
 ghost use Rattle.icu_segmenter_uax14.specs.Tailored.{AreLines};
 ghost use Rattle.icu_segmenter_uax29.specs.Clusters.{cluster_machine};
 ghost use Rattle.icu_segmenter_uax29.specs.Sentences.{sentence_machine};
+ghost use Rattle.icu_segmenter_uax29.specs.TypedWords.{typed_word_machine};
 
 use crate::clusters::cluster_table;
-use crate::words::word_machine;
 use icu_segmenter::options::{LineBreakOptions, SentenceBreakOptions, WordBreakOptions};
 use icu_segmenter::provider::DataError;
 use icu_segmenter::{GraphemeClusterSegmenter, LineSegmenter, SentenceSegmenter, WordSegmenter};
 use icu_segmenter_uax14::laws::segmenters_follow_rules;
 use icu_segmenter_uax14::{line_machine, line_tailorings};
-use icu_segmenter_uax29::{cluster_machine, sentence_machine};
+use icu_segmenter_uax29::laws::word_types;
+use icu_segmenter_uax29::{cluster_machine, sentence_machine, typed_word_machine};
 use std::alloc::Global;
 
 /// A segmenter of extended grapheme clusters, by the machine of which it is proved that they are those of UAX #29 as it is in Unicode
@@ -32,13 +33,16 @@ pub fn grapheme_segmenter(alloc: Global) -> Result<GraphemeClusterSegmenter, Dat
     GraphemeClusterSegmenter::try_new_neo(cluster_machine(alloc)?)
 }
 
-/// A segmenter of words, by the machine of UAX #29 of Unicode 15.0, which knows their types, without dictionaries: `load_dictionary`
-/// takes them. The only error that is met is want of memory.
+/// A segmenter of words, by the machine of which it is proved that they are those of UAX #29 as it is in Unicode 18.0, with their types
+/// (`icu_segmenter_uax29::laws::word_types`). It has no dictionaries: `load_dictionary` takes them. The only error that is met is
+/// want of memory.
 pub fn word_segmenter(alloc: Global) -> Result<WordSegmenter, DataError>
-    ensures { IfOk result (λ words. owned_word_rules words ≡ machine_words word_machine cluster_table no_words) }
+    ensures machines { IfOk result (λ words. owned_word_rules words ≡ machine_words typed_word_machine cluster_table no_words) }
+    ensures words { IfOk result (λ words. AreWords (owned_word_rules words)) }
 {
+    word_types();
     WordSegmenter::try_new_neo_for_non_complex_scripts(
-        word_machine(alloc)?,
+        typed_word_machine(alloc)?,
         cluster_table(alloc)?,
         WordBreakOptions::default(),
     )
