@@ -10,9 +10,9 @@ import sys
 from collections import Counter
 
 sys.dont_write_bytecode = True
+from symbols import Characters, Values  # noqa: E402
 from compiler import Compiler  # noqa: E402
 from rules import line_rules  # noqa: E402
-from symbols import Characters, Values  # noqa: E402
 
 
 def tests(path):

@@ -44,3 +44,4 @@ mod TypedSymbols
 mod TypedPicks
 mod TypedBoundaries
 mod TypedFaults
+mod TypeExamples

@@ -26,7 +26,7 @@ ghost use Rattle.icu_segmenter_uax29.specs.SentenceValues.{HasSentenceBreak};
 ghost use Rattle.icu_segmenter_uax29.specs.Sentences.{sentence_machine, sentences};
 ghost use Rattle.icu_segmenter_uax29.specs.TypedWords.{typed_word_machine};
 ghost use Rattle.icu_segmenter_uax29.specs.WordRules.{word_rules};
-ghost use Rattle.icu_segmenter_uax29.specs.WordTypes.{HasTypedWordBreak, character, typed_ends, word_script};
+ghost use Rattle.icu_segmenter_uax29.specs.WordTypes.{HasTypedWordBreak, character, typed_ends, word_script, word_type};
 ghost use Rattle.icu_segmenter_uax29.specs.WordValues.{HasWordBreak};
 ghost use Rattle.icu_segmenter_uax29.specs.Words.{word_machine, words};
 
@@ -158,6 +158,15 @@ pub fn typed_words_are_words()
 /// Law: the status of each boundary but the first is the type of the word before it.
 pub fn word_types()
     ensures { (code_points : List ℕ) → machine_boundaries typed_word_machine code_points ≡ start ∷ typed_ends 0 (words code_points) }
+{}
+
+/// Law: the types of `can't`, `3.14`, `a1_`, `_` and `漢`.
+pub fn some_words_have_types()
+    ensures letters { word_type (0x63 ∷ 0x61 ∷ 0x6E ∷ 0x27 ∷ 0x74 ∷ []) ≡ 2 }
+    ensures digits { word_type (0x33 ∷ 0x2E ∷ 0x31 ∷ 0x34 ∷ []) ≡ 1 }
+    ensures both { word_type (0x61 ∷ 0x31 ∷ 0x5F ∷ []) ≡ 1 }
+    ensures neither { word_type (0x5F ∷ []) ≡ 0 }
+    ensures ideograph { word_type (0x6F22 ∷ []) ≡ 2 }
 {}
 
 /// Law: no boundary of words parts CR LF, nor spaces from one another.

@@ -6,7 +6,7 @@ and the verdict where none of them comes to fit: a number if nothing is left to 
 seg_rules/specs/RowRules.antt, which the proof computes again."""
 from written import HALF, MANY, MAYBE, PAIR
 
-JOINED, BROKEN, MANDATORY = 0, 1, 2
+JOINED = 0
 MARKS = None
 
 

@@ -20,6 +20,8 @@ NAMES = {
     "seg_rules.specs.RowRules": "Row RowRules Before Marks Owed Due DueOf at_start " + " ".join(ROW_RULES),
     "seg_rules.specs.Check": "Plan Tables no_before same_before verdicts tables_hold scans_hold " + " ".join(CHECK),
 }
+# The rules by numbers.
+RULED = "numbered_above numbered_below numbered_rules".split()
 AT = ["abbrev at : (before doubt older : ℕ) (newest : Bool) (last status named : ℕ) → Configuration",
       "at before doubt older newest last status named =",
       "    record { before = before; doubt = doubt; older = older; newest = newest; last = last; status = status; named = named }"]
@@ -134,16 +136,26 @@ class Instance:
 
     def text(self, what, name, words):
         """The file of the certificate of `what`, for the rules of this name; of each module, the words by which those unfold."""
-        rules, machine, numbers = self.rules, self.machine, self.numbers
-        groups = [[] for _ in machine.accepts]
-        for configuration in self.relation.configurations:
-            groups[configuration[2]].append(self.configuration(configuration))
+        self.define_rules()
+        parts = self.define_tables()
+        self.define_machine()
+        defined = [word for names in words.values() for word in names.split()] + RULED
+        self.lines += [f"pub rules-are : {name} ≡ numbered_rules", "unfolding " + " ".join(defined), "rules-are = refl", ""]
+        self.prove(parts)
+        return "\n".join(self.head(what, words) + self.lines[:-1]) + "\n"
+
+    def define_rules(self):
+        rules = self.rules
         self.define("numbered_above", "List Row", map(self.row, rules.above))
         self.define("numbered_below", "List Row", map(self.row, rules.below))
         self.lines += [
             "unfoldable pub numbered_rules : RowRules", "numbered_rules = record {", "  above = numbered_above;", "  below = numbered_below;",
             f"  has_marks = {truth(rules.has_marks)};", f"  marks = {bits(rules.marks)};", f"  bare = {bits(rules.bare)};", f"  alone = {rules.alone};",
             f"  at_end = {rules.at_end};", "}", ""]
+
+    def define_tables(self):
+        """The tables; how many parts those have that are in parts."""
+        rules, numbers = self.rules, self.numbers
         parts = self.in_parts("befores", "Before", list(map(self.before, rules.befores)))
         self.in_parts("moves", "List ℕ", [f"({chain(map(str, row[1:]))})" for row in rules.moves])
         self.in_parts("owes", "ℕ", [str(numbers.of(due)) for due in rules.owes])
@@ -152,17 +164,24 @@ class Instance:
         self.define("reads", "List (List (ℕ × ℕ))", (f"({chain(map(str, row))})" for row in verdicts + numbers.reads))
         self.lines += ["unfoldable pub tables : Tables",
                        "tables = record { befores = befores; moves = moves; owes = owes; dues = dues; reads = reads }", ""]
+        return parts
+
+    def define_machine(self):
+        machine = self.machine
+        groups = [[] for _ in machine.accepts]
+        for configuration in self.relation.configurations:
+            groups[configuration[2]].append(self.configuration(configuration))
         self.define("accepts", "List (ℕ × ℕ × Bool)", map(self.accept, machine.accepts))
         self.define("nexts", "List (List ℕ)", (f"({chain(str(NONE if to is None else to) for to in row)})" for row in machine.nexts))
         self.lines += ["unfoldable pub plan : Plan", "plan = record { accepts = accepts; nexts = nexts }", ""]
         self.define("waits", "List Bool", map(truth, self.waiting()))
         self.define("relation", "List (List Configuration)", (f"({chain(group)})" for group in groups))
-        ruled = "numbered_above numbered_below numbered_rules".split()
+
+    def prove(self, parts):
+        """That the tables and the relation pass their tests."""
         listed = [f"{name}_{k}" for name in ("befores", "moves", "owes") for k in range(parts)] + "befores moves owes dues reads tables".split()
-        tests = " ".join(ruled + listed + ROW_RULES + CHECK)
-        defined = [word for names in words.values() for word in names.split()]
-        self.lines += [f"pub rules-are : {name} ≡ numbered_rules", "unfolding " + " ".join(defined + ruled), "rules-are = refl", ""]
-        of = f"numbered_rules tables {rules.last}"
+        tests = " ".join(RULED + listed + ROW_RULES + CHECK)
+        of = f"numbered_rules tables {self.rules.last}"
         for k in range(parts):
             self.lines += [f"befores-hold-{k} : (ss : List Before) (rows : List (List ℕ)) (os : List ℕ) → befores_hold {of} ss rows os ≡ true",
                            f"    → befores_hold {of} (befores_{k} ss) (moves_{k} rows) (owes_{k} os) ≡ true", f"unfolding {tests}",
@@ -178,9 +197,8 @@ class Instance:
                 ("moves-below", "once_number (length befores) (λ many. nat_lt 0 many && rows_below many moves) ≡ true", ""),
                 ("scans-hold", "scans_hold numbered_rules tables plan relation ≡ true", " accepts nexts plan relation")):
             self.lines += [f"{'pub ' if more else ''}{name} : {claim}", f"unfolding {tests}{more}", f"{name} = refl", ""]
-        self.lines += [f"pub tables-hold : tables_hold numbered_rules {rules.last} tables ≡ true", "unfolding tables",
+        self.lines += [f"pub tables-hold : tables_hold numbered_rules {self.rules.last} tables ≡ true", "unfolding tables",
                        "tables-hold = and_from _ _ start-holds (and_from _ _ befores-hold (and_from _ _ dues-hold moves-below))", ""]
-        return "\n".join(self.head(what, words) + self.lines[:-1]) + "\n"
 
     def head(self, what, words):
         """What stands above: imports of the words that are used, and the flags of patterns."""
