@@ -16,8 +16,6 @@ use std::alloc::Global;
 pub enum Engine {
     /// Grapheme clusters, by the pair table.
     ClusterTable,
-    /// Words, by the machine.
-    WordMachine,
     /// Words, by the pair table.
     WordTable,
     /// Sentences, by the pair table.
@@ -30,6 +28,8 @@ pub enum Engine {
     ProvedClusters,
     /// Words, by the machine that is proved to follow UAX #29.
     ProvedWords,
+    /// Words with types, by the machine that is proved to follow UAX #29.
+    TypedWords,
     /// Sentences, by the machine that is proved to follow UAX #29.
     ProvedSentences,
     /// Lines, by the machine that is proved to follow UAX #14.
@@ -39,13 +39,13 @@ pub enum Engine {
 /// All engines, in the order in which they are tested.
 pub const ENGINES: [Engine; 10] = [
     Engine::ClusterTable,
-    Engine::WordMachine,
     Engine::WordTable,
     Engine::SentenceTable,
     Engine::LineTable,
     Engine::LineTurns,
     Engine::ProvedClusters,
     Engine::ProvedWords,
+    Engine::TypedWords,
     Engine::ProvedSentences,
     Engine::ProvedLines,
 ];
@@ -55,7 +55,7 @@ impl Engine {
     pub fn file(self) -> &'static str {
         match self {
             Engine::ClusterTable | Engine::ProvedClusters => "GraphemeBreakTest.txt",
-            Engine::WordMachine | Engine::WordTable | Engine::ProvedWords => { "WordBreakTest.txt" }
+            Engine::WordTable | Engine::ProvedWords | Engine::TypedWords => "WordBreakTest.txt",
             Engine::SentenceTable | Engine::ProvedSentences => "SentenceBreakTest.txt",
             Engine::LineTable | Engine::LineTurns | Engine::ProvedLines => "LineBreakTest.txt",
         }
@@ -65,7 +65,6 @@ impl Engine {
     pub fn name(self) -> &'static str {
         match self {
             Engine::ClusterTable => "clusters by pair table",
-            Engine::WordMachine => "words by machine",
             Engine::WordTable => "words by pair table",
             Engine::SentenceTable => "sentences by pair table",
             Engine::ProvedLines => "lines of UAX #14",
@@ -73,6 +72,7 @@ impl Engine {
             Engine::LineTurns => "lines by the engine 17",
             Engine::ProvedClusters => "clusters of UAX #29",
             Engine::ProvedWords => "words of UAX #29",
+            Engine::TypedWords => "words of UAX #29 with types",
             Engine::ProvedSentences => "sentences of UAX #29",
         }
     }
@@ -85,7 +85,7 @@ impl Engine {
         match self {
             Engine::ProvedLines => 33,
             Engine::LineTurns | Engine::ProvedClusters => 1,
-            Engine::ProvedWords => 2,
+            Engine::ProvedWords | Engine::TypedWords => 2,
             _ => 0,
         }
     }
@@ -94,7 +94,6 @@ impl Engine {
     pub fn segmenter(self, alloc: Global) -> Result<Segmenter> {
         match self {
             Engine::ClusterTable => cluster_table_segmenter(alloc),
-            Engine::WordMachine => Ok(Segmenter::Words(word_segmenter(alloc)?)),
             Engine::WordTable => word_table_segmenter(alloc),
             Engine::SentenceTable => sentence_table_segmenter(alloc),
             Engine::LineTable => line_table_segmenter(alloc),
@@ -105,6 +104,7 @@ impl Engine {
             Engine::ProvedWords => {
                 Ok(Segmenter::ProvedWords(uax29::WordSegmenter::try_new(alloc)?))
             }
+            Engine::TypedWords => Ok(Segmenter::Words(word_segmenter(alloc)?)),
             Engine::ProvedSentences => {
                 Ok(Segmenter::ProvedSentences(uax29::SentenceSegmenter::try_new(alloc)?))
             }

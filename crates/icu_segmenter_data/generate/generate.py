@@ -49,25 +49,6 @@ def ranges_array(documentation, name, kind, ranges):
     return array(documentation, name, f"(u32, u32, {kind})", len(ranges), lines_of(items))
 
 
-def states_array(machine):
-    items = ["CONTINUE" if status is None else f"ACCEPT_{status}" for status in machine.accepted]
-    return array("What each state accepts; the first is the one that a segment begins in.", "STATES", "Entry", len(items),
-                 lines_of(items))
-
-
-def transitions_array(machine):
-    count, body = len(machine.accepted), []
-    for s, symbol in enumerate(["the end of the text"] + machine.symbols):
-        body += [f"    // {s} {symbol}", *lines_of(str(t) for t in machine.transitions[s * count:(s + 1) * count])]
-    return array("A row for each symbol, in it what each state leads to; 255 is none.", "TRANSITIONS", "State",
-                 len(machine.transitions), body)
-
-
-def map_array(documentation, name, pairs):
-    items = (f"({symbol}, ComplexScript::{script})" for symbol, script in pairs)
-    return array(documentation, name, "(Symbol, ComplexScript)", len(pairs), lines_of(items))
-
-
 def constant(documentation, name, kind, value):
     return [f"/// {documentation}", f"pub(super) const {name}: {kind} = {value};", ""]
 
@@ -137,7 +118,6 @@ def by_table(table, machine, symbol_of, default):
 
 # The kinds of segments.
 
-PLAIN_RANGES = "The code points of each symbol; others have OTHER. The numbers of symbols are those of the rows of TRANSITIONS."
 CLASS_RANGES = "The code points of each class; others have OTHER_CLASS."
 
 
@@ -146,17 +126,8 @@ def numbered(machine, symbol_of, default):
     return properties.ranges({c: numbers[s] for c, s in symbol_of.items()}, numbers[default]), numbers[default]
 
 
-def other(value):
-    return constant("The symbol of the code points that no range holds.", "OTHER", "Symbol", value)
-
-
 def other_class(value):
     return constant("The class of the code points that no range of CLASSES holds.", "OTHER_CLASS", "u8", value)
-
-
-def shift(machine):
-    return constant("The first value of RANGES that is a pseudo symbol: less this, it is a place in the map.", "SHIFT", "u8",
-                    len(machine.symbols) + 1)
 
 
 def classes(machine):
@@ -164,11 +135,9 @@ def classes(machine):
     return {k + 1: symbol for k, symbol in enumerate(machine.symbols)}
 
 
-def table_uses(machine, table):
+def table_uses(table):
     entries = [e if isinstance(e, str) else e[0] for row in table.entries for e in row]
     names = {"Numbers"} | {e for e in entries if e.isupper()}
-    if machine:
-        names |= {"Entry"} | {"CONTINUE" if status is None else f"ACCEPT_{status}" for status in machine.accepted}
     variants = ", ".join(["self"] + sorted({e for e in entries if not e.isupper()}))
     return [f"use crate::parts::{{{', '.join(sorted(names))}}};", f"use icu_segmenter::provider::BreakState::{{{variants}}};"]
 
@@ -180,18 +149,9 @@ def clusters(database, version):
     verify(database.folder, "GraphemeBreakTest.txt", "by machine", by_machine(machine, symbol_of, "XX"))
     verify(database.folder, "GraphemeBreakTest.txt", "by pair table", by_table(table, machine, symbol_of, "XX"))
     ranges, default = numbered(machine, symbol_of, "XX")
-    return file("clusters/data.rt", version, "Grapheme clusters: the parts of the pair table, by UAX #29.", table_uses(None, table), [
+    return file("clusters/data.rt", version, "Grapheme clusters: the parts of the pair table, by UAX #29.", table_uses(table), [
         *ranges_array(CLASS_RANGES, "CLASSES", "u8", ranges), *other_class(default), *entries_array(table, classes(machine)),
         *numbers_of(table, complex_class=0)])
-
-
-def with_scripts(symbol_of, default, symbols):
-    """Symbols and pseudo symbols of code points, what is the default, and the map of the pseudo symbols."""
-    numbers = {symbol: k + 1 for k, symbol in enumerate(symbols)}
-    pairs = sorted({(numbers[s], script) for s, script in symbol_of.values() if script != "None"}, key=lambda p: (p[1], p[0]))
-    places = {pair: len(symbols) + 1 + k for k, pair in enumerate(pairs)}
-    values = {c: places.get((numbers[s], script), numbers[s]) for c, (s, script) in symbol_of.items()}
-    return properties.ranges(values, numbers[default]), numbers[default], pairs
 
 
 def words(database, version):
@@ -205,14 +165,8 @@ def words(database, version):
     table = pair_tables.pair_table(machine, {**classes(machine), complex_class: "XX_Letter"})
     verify(database.folder, "WordBreakTest.txt", "by machine", by_machine(machine, plain, "XX"))
     verify(database.folder, "WordBreakTest.txt", "by pair table", by_table(table, machine, plain, "XX"))
-    ranges, default, pairs = with_scripts(symbol_of, "XX", machine.symbols)
-    return file("words/data.rt", version, "Words: the parts of the machine and of the pair table, by UAX #29.", [
-        *table_uses(machine, table), "use icu_segmenter::provider::{ComplexScript, State, Symbol};"], [
-        *ranges_array(PLAIN_RANGES.replace("symbol;", "symbol and pseudo symbol;"), "RANGES", "Symbol", ranges), *other(default),
-        *states_array(machine), *transitions_array(machine), *shift(machine),
-        *map_array("The symbol and the script of each pseudo symbol.", "MAP", pairs),
-        *ranges_array("The code points of each class of the pair table; others have OTHER.", "CLASSES", "u8",
-                      properties.ranges(class_of, default)),
+    return file("words/data.rt", version, "Words: the parts of the pair table, by UAX #29.", table_uses(table), [
+        *ranges_array(CLASS_RANGES, "CLASSES", "u8", properties.ranges(class_of, numbers["XX"])), *other_class(numbers["XX"]),
         *entries_array(table, {**classes(machine), complex_class: "what dictionaries cut"}),
         *array("The status of each class and composite, from 1 on.", "STATUSES", "u8", len(table.statuses),
                lines_of(map(str, table.statuses))),
@@ -226,7 +180,7 @@ def sentences(database, version):
     verify(database.folder, "SentenceBreakTest.txt", "by machine", by_machine(machine, symbol_of, "XX"))
     verify(database.folder, "SentenceBreakTest.txt", "by pair table", by_table(table, machine, symbol_of, "XX"))
     ranges, default = numbered(machine, symbol_of, "XX")
-    return file("sentences/data.rt", version, "Sentences: the parts of the pair table, by UAX #29.", table_uses(None, table), [
+    return file("sentences/data.rt", version, "Sentences: the parts of the pair table, by UAX #29.", table_uses(table), [
         *ranges_array(CLASS_RANGES, "CLASSES", "u8", ranges), *other_class(default), *entries_array(table, classes(machine)),
         *numbers_of(table, complex_class=0)])
 
@@ -248,7 +202,7 @@ def lines(database, version):
     marks, keeps_none = ({class_numbers[name] for name in names.split()} for names in ("CM ZWJ", "BK CR LF NL SP ZW"))
     verify(database.folder, "LineBreakTest.txt", "by pair table", lambda text: check_machines.line_table_segments(
         table, [class_of.get(c, class_numbers["XX"]) for c in text], marks, keeps_none, class_numbers["ZWJ"]))
-    return file("lines/data.rt", version, "Lines: the parts of the pair table, by UAX #14.", table_uses(None, table), [
+    return file("lines/data.rt", version, "Lines: the parts of the pair table, by UAX #14.", table_uses(table), [
         *ranges_array(CLASS_RANGES, "CLASSES", "u8", properties.ranges(class_of, class_numbers["XX"])), *other_class(class_numbers["XX"]),
         *entries_array(table, class_names), *numbers_of(table, class_numbers["SA"])])
 
@@ -261,7 +215,7 @@ def lines_17(database, version):
     alike = [k for k, name in names.items() if properties.LINE_17_CLASS_SYMBOLS[name] == name]
     table = pair_tables.pair_table(machine, {k: properties.LINE_17_CLASS_SYMBOLS[name] for k, name in names.items()}, alike)
     class_of = {c: numbers[name] for c, name in properties.line_17_classes(database).items()}
-    return file("lines_17/data.rt", version, "Lines by the engine 17: the parts of the pair table, by UAX #14.", table_uses(None, table), [
+    return file("lines_17/data.rt", version, "Lines by the engine 17: the parts of the pair table, by UAX #14.", table_uses(table), [
         *ranges_array(CLASS_RANGES, "CLASSES", "u8", properties.ranges(class_of, numbers["XX"])), *other_class(numbers["XX"]),
         *entries_array(table, names), *numbers_of(table, numbers["SA"])])
 
@@ -273,7 +227,7 @@ def main():
     dotted = ".".join(map(str, version))
     files = [kind(database, dotted) for kind in (clusters, words, sentences, lines, lines_17)]
     files.append(file("version.rt", dotted, "The version of the Unicode Standard.", [], [
-        "/// The version of the Unicode Standard whose data these are: major, minor and update.",
+        "/// The version of the Unicode Standard whose data the pair tables are: major, minor and update.",
         f"pub const UNICODE_VERSION: (u8, u8, u8) = {version};"]))
     for name, text in files:
         write(name, text)

@@ -14,10 +14,11 @@ use Rattle.icu_segmenter.specs.Decoding.{utf8}
 use Rattle.icu_segmenter.specs.WordRules.{WordRules, machine_words, table_words, word_boundaries_of}
 use Rattle.icu_segmenter.specs.Words.{owned_word_rules}
 use Rattle.icu_segmenter.specs.declared.options.LineBreakOptions.{LineBreakOptions}
-use Rattle.icu_segmenter_data.specs.Unicode.{cluster_table, line_table, line_17_table, sentence_table, word_machine, word_table}
+use Rattle.icu_segmenter_data.specs.Unicode.{cluster_table, line_table, line_17_table, sentence_table, word_table}
 use Rattle.icu_segmenter_uax14.specs.Lines.{line_machine, line_tailorings}
 use Rattle.icu_segmenter_uax29.specs.Clusters.{cluster_machine}
 use Rattle.icu_segmenter_uax29.specs.Sentences.{sentence_machine}
+use Rattle.icu_segmenter_uax29.specs.TypedWords.{typed_word_machine}
 use Rattle.segment_output.specs.Marks.{mark_of}
 use Rattle.segment_output.specs.Output.{Segment, segments}
 use Rattle.segment_output.specs.declared.segmenter.Engine.{Engine}
@@ -73,10 +74,10 @@ sentence_rules_by engine.Memo = ByMachine sentence_machine
 
 -- with the words of scripts
 abbrev pub word_rules_by : Engine → ScriptWords → WordRules
-word_rules_by engine.Neo words = machine_words word_machine cluster_table words
+word_rules_by engine.Neo words = machine_words typed_word_machine cluster_table words
 word_rules_by engine.Classic words = table_words word_table None cluster_table words
 word_rules_by engine.Seventeen words = table_words word_table None cluster_table words
-word_rules_by engine.Memo words = machine_words word_machine cluster_table words
+word_rules_by engine.Memo words = machine_words typed_word_machine cluster_table words
 
 -- as options choose them
 abbrev pub line_rules_of : Engine → LineBreakOptions → LineRules

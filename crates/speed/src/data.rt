@@ -51,7 +51,7 @@ pub fn word_table(alloc: Global, source: Data) -> Result<RuleBreakData> {
 pub fn word_machine(alloc: Global, source: Data) -> Result<SegmenterStateMachine> {
     match source {
         Data::Small => Ok(words::word_machine(alloc)?),
-        Data::Real => Ok(unicode::word_machine(alloc)?),
+        Data::Real => Ok(unicode::typed_word_machine(alloc)?),
     }
 }
 

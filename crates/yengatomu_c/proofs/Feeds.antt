@@ -16,10 +16,10 @@ use Rattle.icu_segmenter.specs.declared.options.LineBreakWordOption.{LineBreakWo
 use Rattle.icu_segmenter.specs.declared.options.LineBreakWordOption.TheVariants as word_option
 use Rattle.icu_segmenter.specs.declared.provider.ComplexScript.{ComplexScript}
 use Rattle.icu_segmenter.specs.declared.provider.ComplexScript.TheVariants.{None as NoScript}
-use Rattle.icu_segmenter_data.specs.Unicode.{word_machine}
 use Rattle.icu_segmenter_uax14.specs.Lines.{line_machine, line_tailorings, tailored_machine}
 use Rattle.icu_segmenter_uax29.specs.Clusters.{cluster_machine}
 use Rattle.icu_segmenter_uax29.specs.Sentences.{sentence_machine}
+use Rattle.icu_segmenter_uax29.specs.TypedWords.{typed_word_machine}
 use Rattle.yengatomu_c.specs.Finders.{Finder, LineFeedsReset}
 use Rattle.yengatomu_c.specs.Finders.Finder.{Clusters as ByClusters, Words as ByWords, Sentences as BySentences, Lines as ByLines}
 use Rattle.yengatomu_c.specs.Loaded.{with_dictionary}
@@ -80,12 +80,12 @@ sentences-feed : symbol_and_script sentence_machine 0x0A ≡ (3, NoScript)
 unfolding sentence_machine symbol_and_script value_of replaced
 sentences-feed = refl
 
-words-resets : Resets word_machine 3 29 23 3
-unfolding all_below step symbol_count
+words-resets : Resets typed_word_machine 3 29 23 3
+unfolding typed_word_machine all_below step symbol_count
 words-resets = record { states_are = refl; symbols_are = refl; leads = refl; ends = refl }
 
-words-feed : symbol_and_script word_machine 0x0A ≡ (3, NoScript)
-unfolding symbol_and_script value_of replaced
+words-feed : symbol_and_script typed_word_machine 0x0A ≡ (3, NoScript)
+unfolding typed_word_machine symbol_and_script value_of replaced
 words-feed = refl
 
 lines-resets : Resets line_machine 46 126 73 11
@@ -145,7 +145,7 @@ lines strictness.Strict word_option.Normal false words = plain words
 
 pub feeds-reset : (request : Request) → LineFeedsReset (finder_asked request)
 feeds-reset Clusters = after cluster_machine 3 clusters-feed (resets cluster_machine 3 14 20 3 clusters-resets)
-feeds-reset Words = λ words. (after word_machine 3 words-feed (resets word_machine 3 29 23 3 words-resets), outside word_machine 3 words words-feed)
+feeds-reset Words = λ words. (after typed_word_machine 3 words-feed (resets typed_word_machine 3 29 23 3 words-resets), outside typed_word_machine 3 words words-feed)
 feeds-reset Sentences = after sentence_machine 3 sentences-feed (resets sentence_machine 3 12 16 3 sentences-resets)
 feeds-reset (Lines options) = lines options.strictness options.word_option options.is_chinese_or_japanese
 

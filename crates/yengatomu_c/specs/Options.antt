@@ -11,10 +11,11 @@ use Rattle.icu_segmenter.specs.declared.options.LineBreakStrictness.{LineBreakSt
 use Rattle.icu_segmenter.specs.declared.options.LineBreakStrictness.TheVariants.{Strict, Normal, Loose, Anywhere}
 use Rattle.icu_segmenter.specs.declared.options.LineBreakWordOption.{LineBreakWordOption}
 use Rattle.icu_segmenter.specs.declared.options.LineBreakWordOption.TheVariants as words
-use Rattle.icu_segmenter_data.specs.Unicode.{cluster_table, word_machine}
+use Rattle.icu_segmenter_data.specs.Unicode.{cluster_table}
 use Rattle.icu_segmenter_uax14.specs.Lines.{line_machine, line_tailorings}
 use Rattle.icu_segmenter_uax29.specs.Clusters.{cluster_machine}
 use Rattle.icu_segmenter_uax29.specs.Sentences.{sentence_machine}
+use Rattle.icu_segmenter_uax29.specs.TypedWords.{typed_word_machine}
 use Rattle.yengatomu_c.specs.Finders.{Finder}
 use Rattle.yengatomu_c.specs.Finders.Finder.{Clusters, Words, Sentences, Lines}
 use Rattle.yengatomu_c.specs.declared.request.Kind.{Kind}
@@ -46,7 +47,7 @@ numbered_line_rules strictness word_break is_chinese_or_japanese =
 -- what a segmenter of a kind finds boundaries by, over Unicode's data: lines by rules that may not be there
 abbrev pub finder_of_kind : Kind → Option LineRules → Option Finder
 finder_of_kind kind.Clusters lines = Some (Clusters (ByMachine cluster_machine))
-finder_of_kind kind.Words lines = Some (Words (machine_words word_machine cluster_table no_words))
+finder_of_kind kind.Words lines = Some (Words (machine_words typed_word_machine cluster_table no_words))
 finder_of_kind kind.Sentences lines = Some (Sentences (ByMachine sentence_machine))
 finder_of_kind kind.Lines lines = option_map Lines lines
 
@@ -58,7 +59,7 @@ numbered_finder kind strictness word_break is_chinese_or_japanese =
 -- what a request asks for
 abbrev pub finder_asked : Request → Finder
 finder_asked asked.Clusters = Clusters (ByMachine cluster_machine)
-finder_asked asked.Words = Words (machine_words word_machine cluster_table no_words)
+finder_asked asked.Words = Words (machine_words typed_word_machine cluster_table no_words)
 finder_asked asked.Sentences = Sentences (ByMachine sentence_machine)
 finder_asked (asked.Lines style) = Lines (line_rules_for style.strictness style.word_option style.is_chinese_or_japanese)
 

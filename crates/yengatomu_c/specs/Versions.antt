@@ -3,4 +3,4 @@ use Rattle.std.specs.Prelude.{ℕ, [], ◌∷◌, slice_index}
 
 -- clusters, words, sentences and lines
 abbrev pub unicode_version : ℕ → ℕ
-unicode_version kind = slice_index (180000 ∷ 150000 ∷ 180000 ∷ 180000 ∷ []) kind
+unicode_version kind = slice_index (180000 ∷ 180000 ∷ 180000 ∷ 180000 ∷ []) kind
