@@ -1,5 +1,5 @@
 -- The words of a segmenter by the machine of typed words are those of UAX #29, with their types.
-use Rattle.std.proofs.Common.{◌≡◌, ◌∙◌, ◌∷◌, ap, refl, sym, subst, ℕ, List}
+use Rattle.std.proofs.Common.{◌≡◌, ◌∙◌, ◌∷◌, refl, sym, subst, ℕ, List}
 use Rattle.std.specs.Prelude.{Result, Ok, Err, IfOk}
 use Rattle.seg_data.specs.declared.provider.DataError.{DataError}
 use Rattle.seg_machine.specs.Machine.{Machine}
@@ -8,7 +8,7 @@ use Rattle.seg_words.proofs.Spans.{without-words}
 use Rattle.icu_segmenter.specs.Boundaries.{start}
 use Rattle.icu_segmenter.specs.PairTable.{PairTable}
 use Rattle.icu_segmenter.specs.ScriptWords.{no_words}
-use Rattle.icu_segmenter.specs.WordRules.{WordRules, machine_words, word_boundaries_by}
+use Rattle.icu_segmenter.specs.WordRules.{machine_words}
 use Rattle.icu_segmenter.specs.Words.{owned_word_rules}
 use Rattle.seg_words.specs.declared.word.WordSegmenter.{WordSegmenter}
 use Rattle.icu_segmenter_uax29.specs.TypedWords.{typed_word_machine}
