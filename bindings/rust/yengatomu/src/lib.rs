@@ -32,8 +32,8 @@
 //! # What is proved
 //!
 //! The library behind this crate, `libyengatomu.a`, is proved: for every text it finds exactly the boundaries of its rules, and it never reads or
-//! writes out of range, overflows, aborts or runs for ever. The rules of clusters and sentences are proved to be those of UAX #29, and
-//! those of lines to be those of UAX #14, by Unicode 18.0; those of words are Unicode's tables of 15.0, which pass the official tests. This crate, some Rust around the library, is tested.
+//! writes out of range, overflows, aborts or runs for ever. They are proved to be those of UAX #29, and of
+//! lines those of UAX #14, by Unicode 18.0. This crate, some Rust around the library, is tested.
 //!
 //! # Threads
 //!
