@@ -7,3 +7,5 @@ mod MachineTests
 mod Machines
 mod TailoringTests
 mod Tailorings
+mod RowTests
+mod PlaceTests
