@@ -9,3 +9,5 @@ mod TailoringTests
 mod Tailorings
 mod RowTests
 mod PlaceTests
+mod Neighbours
+mod NeighbourTests

@@ -2,9 +2,11 @@
 ghost use Rattle.std.specs.Prelude.{◌≡◌};
 ghost use Rattle.seg_lines.specs.LineBreaks.{LineRules};
 ghost use Rattle.seg_lines.specs.LineBreaks.LineFinder.{ByMachine};
+ghost use Rattle.icu_segmenter_uax14.specs.LineClasses.{◌or◌, no, BK, CM, CR, LF, NL, SP, ZW, ZWJ};
+ghost use Rattle.icu_segmenter_uax14.specs.Neighbours.{StayTogether};
 ghost use Rattle.icu_segmenter_uax14.specs.Tailored.{FollowsRules, HasScriptsOf, HasSymbolsOf, LinesFollowRules, Tailoring, machine_by, scripts_of, style_of};
 
-use seg_rules::laws::boundaries_are_places;
+use seg_rules::laws::{boundaries_are_places, boundary_is_verdict, row_fits_by_patterns};
 
 /// Law: for every text the boundaries of the line machine, with any tailoring or none, are exactly the places where the rules of
 /// UAX #14 break, with status 1 where they must break.
@@ -34,3 +36,12 @@ pub fn symbols_have_properties()
 pub fn symbols_have_scripts()
     ensures { (tailoring : Tailoring) → HasScriptsOf (scripts_of tailoring) (machine_by tailoring) }
 {}
+
+/// Law: no line breaks between a character and the marks after it (LB9: CM and ZWJ), unless it is a space or ends a line (BK, CR, LF,
+/// NL, SP, ZW).
+pub fn marks_stay()
+    ensures { StayTogether (no (BK or CR or LF or NL or SP or ZW)) (CM or ZWJ) }
+{
+    boundary_is_verdict();
+    row_fits_by_patterns();
+}
