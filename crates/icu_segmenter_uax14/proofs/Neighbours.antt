@@ -1,6 +1,7 @@
 -- Between which characters lines may break: tests of the rows, computed for every pair of symbols of two classes.
-use Rattle.std.proofs.Common.{◌≡◌, ℕ, zero, suc, ◌<◌, Bool, true, ◌==◌, List, [], ◌∷◌, ◌++◌, length, map, reverse, refl, sym, ap, ap₂, ◌∙◌, arith, eqb-true}
+use Rattle.std.proofs.Common.{◌≡◌, ◌⊎◌, ℕ, zero, suc, ◌<◌, Bool, true, not, ◌||◌, ◌==◌, List, [], ◌∷◌, ◌++◌, length, map, reverse, refl, sym, ap, ap₂, ◌∙◌, arith, eqb-true, eq-eqb, inl, inr}
 use Rattle.std.specs.Prelude.{◌↔◌, Contains}
+use Rattle.std.proofs.lemmas.Bool.{and_from, false_from_ne_true, not_from_false, or_cases}
 use Rattle.std.proofs.lemmas.List.{length-append, map-append, reverse-append}
 use Rattle.ucd_table.proofs.TrieCheck.{all_below, all_below-at}
 use Rattle.seg_text.specs.Boundaries.{boundary}
@@ -12,16 +13,17 @@ use Rattle.seg_rules.specs.Check.{Plan, Tables}
 use Rattle.seg_rules.specs.Places.{Passes}
 use Rattle.seg_rules.specs.Plain.{plain_verdict}
 use Rattle.seg_rules.specs.RowRules.{RowRules}
+use Rattle.icu_segmenter_uax29.proofs.Lists.{bool-cases}
 use Rattle.icu_segmenter_uax29.proofs.Tests.{implied, implies}
 use Rattle.icu_segmenter_uax14.specs.Characters.{character}
-use Rattle.icu_segmenter_uax14.specs.LineClasses.{Class}
+use Rattle.icu_segmenter_uax14.specs.LineClasses.{Class, ◌or◌, ◌but◌, every, no, BK, CR, LF, NL}
 use Rattle.icu_segmenter_uax14.specs.LineRules.{line_rules}
 use Rattle.icu_segmenter_uax14.specs.LineValues.{properties_of}
-use Rattle.icu_segmenter_uax14.specs.Neighbours.{BreaksWith, Is, IsJoined, StayTogether}
-use Rattle.icu_segmenter_uax14.specs.Tailored.{Tailoring, machine_by}
+use Rattle.icu_segmenter_uax14.specs.Neighbours.{BreaksWith, EndsLine, Is, IsJoined, MustBreak, StayTogether}
+use Rattle.icu_segmenter_uax14.specs.Tailored.{Tailoring, machine_by, style_of}
 use Rattle.icu_segmenter_uax14.proofs.LineTables.{numbered_rules, plan, relation, rules-are, tables}
 use Rattle.icu_segmenter_uax14.proofs.PlaceTests.{pair-kept, pair_keeps}
-use Rattle.icu_segmenter_uax14.proofs.RowTests.{ByPatterns}
+use Rattle.icu_segmenter_uax14.proofs.RowTests.{ByPatterns, clash}
 use Rattle.icu_segmenter_uax14.proofs.Tailorings.{are-checked, pass, symbols-have-properties}
 
 -- what boundaries are, by verdicts
@@ -43,6 +45,20 @@ verdict_between tailoring before after =
 
 pub in-class : (tailoring : Tailoring) (class : Class) (c : ℕ) → Is tailoring class c → class (properties_of (symbol tailoring c)) ≡ true
 in-class tailoring class c is = sym (ap class (symbols-have-properties tailoring c).value) ∙ is
+
+-- every character of a text is of this class
+all-every : all_below (λ s. s == 0 || every (properties_of s)) 73 ≡ true
+unfolding all_below
+all-every = refl
+
+pub is-every : (tailoring : Tailoring) (c : ℕ) → Is tailoring every c
+is-every tailoring c =
+    let stands = symbols-have-properties tailoring c in
+    ap every stands.value
+    ∙ elim (or_cases (symbol tailoring c == 0) _ (all_below-at (λ s. s == 0 || every (properties_of s)) 73 (symbol tailoring c) all-every stands.below)) [
+      | inl none ↦ let zero_symbol = eqb-true _ _ none in let some = stands.some in absurd (omega (arith, zero_symbol, some))
+      | inr is ↦ is
+    ]
 
 -- for every pair of symbols of two classes, the verdict passes a test
 unfoldable pub pairs_keep : (ℕ → Bool) → Class → Class → Bool
@@ -97,3 +113,56 @@ module _ (by_patterns : ByPatterns) where
     pub stay-together : (lasts nexts : Class) → pairs_keep (λ v. v == 0) lasts nexts ≡ true → StayTogether lasts nexts
     stay-together lasts nexts kept tailoring before after last next is_last is_next =
         joined tailoring before (next ∷ after) last (pair-passes (λ v. v == 0) lasts nexts kept tailoring before after last next is_last is_next)
+
+    -- a break of a status isn't where the verdict is another
+    pub not-with : (tailoring : Tailoring) (before after : List ℕ) (last status : ℕ)
+        → not (verdict_between tailoring (before ++ (last ∷ [])) after == suc status) ≡ true
+        → BreaksWith tailoring status (before ++ (last ∷ [])) after → ⊥
+    not-with tailoring before after last status other breaks =
+        clash (eq-eqb _ _ ((verdict-is tailoring before after last status).0 breaks)) other
+
+    -- ---- mandatory breaks
+
+    must : (lasts nexts : Class) → pairs_keep (λ v. v == 2) lasts nexts ≡ true
+        → (tailoring : Tailoring) (before after : List ℕ) (last next : ℕ) → Is tailoring lasts last → Is tailoring nexts next
+        → MustBreak tailoring (before ++ (last ∷ [])) (next ∷ after)
+    must lasts nexts kept tailoring before after last next is_last is_next =
+        (verdict-is tailoring before (next ∷ after) last 1).1
+        (eqb-true _ _ (pair-passes (λ v. v == 2) lasts nexts kept tailoring before after last next is_last is_next))
+
+    must-not : (lasts nexts : Class) → pairs_keep (λ v. not (v == 2)) lasts nexts ≡ true
+        → (tailoring : Tailoring) (before after : List ℕ) (last next : ℕ) → Is tailoring lasts last → Is tailoring nexts next
+        → MustBreak tailoring (before ++ (last ∷ [])) (next ∷ after) → ⊥
+    must-not lasts nexts kept tailoring before after last next is_last is_next =
+        not-with tailoring before (next ∷ after) last 1 (pair-passes (λ v. not (v == 2)) lasts nexts kept tailoring before after last next is_last is_next)
+
+    pub must-where : (after_ends : pairs_keep (λ v. v == 2) (BK or LF or NL) every ≡ true) (after_returns : pairs_keep (λ v. v == 2) CR (no LF) ≡ true)
+        (else_where : pairs_keep (λ v. not (v == 2)) (no CR but (BK or LF or NL)) every ≡ true) (within : pairs_keep (λ v. not (v == 2)) CR LF ≡ true)
+        → (tailoring : Tailoring) (before after : List ℕ) (last next : ℕ)
+        → MustBreak tailoring (before ++ (last ∷ [])) (next ∷ after) ↔ EndsLine tailoring last next
+    must-where after_ends after_returns else_where within tailoring before after last next =
+        let p = style_of tailoring (character last) in
+        let q = style_of tailoring (character next) in
+        (λ breaks. elim (bool-cases ((BK or LF or NL) p)) [
+          | inl ends ↦ inl ends
+          | inr no_end ↦ elim (bool-cases (CR p)) [
+            | inl return ↦ inr (return, λ feed. must-not CR LF within tailoring before after last next return feed breaks)
+            | inr no_return ↦
+                absurd (must-not (no CR but (BK or LF or NL)) every else_where tailoring before after last next
+                (and_from _ _ (and_from _ _ (is-every tailoring last) (not_from_false (CR p) no_return)) (not_from_false _ no_end))
+                (is-every tailoring next) breaks)
+          ]
+        ],
+        λ ends. elim ends [
+          | inl ends ↦ must (BK or LF or NL) every after_ends tailoring before after last next ends (is-every tailoring next)
+          | inr (return, no_feed) ↦
+              must CR (no LF) after_returns tailoring before after last next return
+              (and_from _ _ (is-every tailoring next) (not_from_false (LF q) (false_from_ne_true (LF q) no_feed)))
+        ])
+
+    -- the end of a text
+    pub ends-with : (tailoring : Tailoring) (before : List ℕ) (last status : ℕ) → BreaksWith tailoring status (before ++ (last ∷ [])) [] ↔ (status ≡ 1)
+    unfolding plain_verdict line_rules
+    ends-with tailoring before last status =
+        (λ breaks. let is = (verdict-is tailoring before [] last status).0 breaks in omega (arith, is),
+        λ is. (verdict-is tailoring before [] last status).1 (ap suc (sym is)))

@@ -1,9 +1,9 @@
 -- Between which characters lines may break, in the words of UAX #14.
-use Rattle.std.specs.Prelude.{◌≡◌, ℕ, true, List, [], ◌∷◌, ◌++◌, length, Contains}
+use Rattle.std.specs.Prelude.{◌≡◌, ◌⊎◌, ℕ, true, List, [], ◌∷◌, ◌++◌, length, Contains}
 use Rattle.seg_text.specs.Boundaries.{boundary}
 use Rattle.seg_machine.specs.Pick.{machine_boundaries}
 use Rattle.icu_segmenter_uax14.specs.Characters.{character}
-use Rattle.icu_segmenter_uax14.specs.LineClasses.{Class}
+use Rattle.icu_segmenter_uax14.specs.LineClasses.{Class, ◌or◌, BK, CR, LF, NL}
 use Rattle.icu_segmenter_uax14.specs.Tailored.{Tailoring, machine_by, style_of}
 
 -- a character is of a class, by its properties in Unicode 18.0 as the tailoring has them
@@ -27,3 +27,7 @@ abbrev pub StayTogether : Class → Class → Type 0
 StayTogether lasts nexts =
     (tailoring : Tailoring) (before after : List ℕ) (last next : ℕ) → Is tailoring lasts last → Is tailoring nexts next
     → IsJoined tailoring (before ++ last ∷ []) (next ∷ after)
+
+-- a line ends between two characters: after BK, LF and NL, and after CR but before LF
+abbrev pub EndsLine : Tailoring → ℕ → ℕ → Type 0
+EndsLine tailoring last next = Is tailoring (BK or LF or NL) last ⊎ (Is tailoring CR last × (Is tailoring LF next → ⊥))
