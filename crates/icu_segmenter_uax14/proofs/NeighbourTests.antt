@@ -14,49 +14,49 @@ use Rattle.icu_segmenter_uax14.proofs.RowTests.{keeps, may_begin, may_end}
 abbrev Joins : Class → Class → Type 0
 Joins lasts nexts = pairs_keep (λ v. v == 0) lasts nexts ≡ true
 
-pub marks-join : Joins (no (BK or CR or LF or NL or SP or ZW)) (CM or ZWJ)
-unfolding pairs_keep place_keeps keeps may_end may_begin all_below flags flow is_full no_flags once right_fits numbered_above numbered_below numbered_rules
-marks-join = refl
-
 pub spaces-join : Joins (no (BK or CR or LF or NL)) (SP or ZW or BK or CR or LF or NL)
 unfolding pairs_keep place_keeps keeps may_end may_begin all_below flags flow is_full no_flags once right_fits numbered_above numbered_below numbered_rules
 spaces-join = refl
 
-pub returns-join : Joins (CR) (LF)
+pub returns-join : Joins CR LF
 unfolding pairs_keep place_keeps keeps may_end may_begin all_below flags flow is_full no_flags once right_fits numbered_above numbered_below numbered_rules
 returns-join = refl
 
-pub closings-join : Joins (no (BK or CR or LF or NL or SP or ZW)) (CL or CP or EX or IS or SY)
+pub marks-join : Joins (no (BK or CR or LF or NL or SP or ZW)) (CM or ZWJ)
 unfolding pairs_keep place_keeps keeps may_end may_begin all_below flags flow is_full no_flags once right_fits numbered_above numbered_below numbered_rules
-closings-join = refl
+marks-join = refl
 
-pub joiners-join : Joins (WJ or GL or ZWJ) (every)
+pub joiners-join : Joins (ZWJ or WJ or GL) every
 unfolding pairs_keep place_keeps keeps may_end may_begin all_below flags flow is_full no_flags once right_fits numbered_above numbered_below numbered_rules
 joiners-join = refl
 
-pub before-joiners-join : Joins (no (BK or CR or LF or NL or SP or ZW)) (WJ)
+pub before-joiners-join : Joins (no (BK or CR or LF or NL or SP or ZW)) WJ
 unfolding pairs_keep place_keeps keeps may_end may_begin all_below flags flow is_full no_flags once right_fits numbered_above numbered_below numbered_rules
 before-joiners-join = refl
 
-pub openings-join : Joins (OP) (every)
+pub closings-join : Joins (no (BK or CR or LF or NL or SP or ZW)) (CL or CP or EX or SY or IS)
+unfolding pairs_keep place_keeps keeps may_end may_begin all_below flags flow is_full no_flags once right_fits numbered_above numbered_below numbered_rules
+closings-join = refl
+
+pub openings-join : Joins OP every
 unfolding pairs_keep place_keeps keeps may_end may_begin all_below flags flow is_full no_flags once right_fits numbered_above numbered_below numbered_rules
 openings-join = refl
 
-pub digits-join : Joins (NU) (NU or IS or SY)
+pub letters-join : Joins (AL or HL or NU) (AL or HL or NU)
+unfolding pairs_keep place_keeps keeps may_end may_begin all_below flags flow is_full no_flags once right_fits numbered_above numbered_below numbered_rules
+letters-join = refl
+
+pub digits-join : Joins NU (NU or IS or SY)
 unfolding pairs_keep place_keeps keeps may_end may_begin all_below flags flow is_full no_flags once right_fits numbered_above numbered_below numbered_rules
 digits-join = refl
 
-pub to-digits-join : Joins (HY or IS or PO or (PR but LOOSE) or AL or HL or CP_NARROW) (NU)
+pub to-digits-join : Joins (HY or IS or PO or PR but LOOSE or CP_NARROW) NU
 unfolding pairs_keep place_keeps keeps may_end may_begin all_below flags flow is_full no_flags once right_fits numbered_above numbered_below numbered_rules
 to-digits-join = refl
 
-pub from-digits-join : Joins (NU) (PR or (PO but LOOSE) or AL or HL or OP_NARROW)
+pub from-digits-join : Joins NU (PR or PO but LOOSE or OP_NARROW)
 unfolding pairs_keep place_keeps keeps may_end may_begin all_below flags flow is_full no_flags once right_fits numbered_above numbered_below numbered_rules
 from-digits-join = refl
-
-pub letters-join : Joins (AL or HL) (AL or HL)
-unfolding pairs_keep place_keeps keeps may_end may_begin all_below flags flow is_full no_flags once right_fits numbered_above numbered_below numbered_rules
-letters-join = refl
 
 -- mandatory breaks
 
