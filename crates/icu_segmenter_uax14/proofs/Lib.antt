@@ -11,3 +11,4 @@ mod RowTests
 mod PlaceTests
 mod Neighbours
 mod NeighbourTests
+mod LineExamples

@@ -1,8 +1,11 @@
 //! Laws of the machine's boundaries, of every list of code points. So they hold of texts in every encoding, in code points.
 ghost use Rattle.std.specs.Prelude.{◌≡◌, ◌↔◌, ℕ, List, [], ◌∷◌, ◌++◌};
+ghost use Rattle.seg_text.specs.Boundaries.{boundary, start};
+ghost use Rattle.seg_machine.specs.Pick.{machine_boundaries};
 ghost use Rattle.seg_lines.specs.LineBreaks.{LineRules};
 ghost use Rattle.seg_lines.specs.LineBreaks.LineFinder.{ByMachine};
 ghost use Rattle.icu_segmenter_uax14.specs.LineClasses.{◌or◌, ◌but◌, every, no, AL, BK, CL, CM, CP, CR, EX, GL, HL, HY, IS, LF, NL, NU, OP, PO, PR, SP, SY, WJ, ZW, ZWJ, CP_NARROW, OP_NARROW, LOOSE};
+ghost use Rattle.icu_segmenter_uax14.specs.Lines.{line_machine};
 ghost use Rattle.icu_segmenter_uax14.specs.Neighbours.{BreaksWith, EndsLine, MustBreak, StayTogether};
 ghost use Rattle.icu_segmenter_uax14.specs.Tailored.{FollowsRules, HasScriptsOf, HasSymbolsOf, LinesFollowRules, Tailoring, machine_by, scripts_of, style_of};
 
@@ -113,4 +116,14 @@ pub fn numbers_stay()
 {
     boundary_is_verdict();
     row_fits_by_patterns();
+}
+
+/// Law: where lines break in `$3.14`, `(12.50)` and `hey, you!`: only at their ends, and after the space.
+pub fn lines_of_examples()
+    ensures price { machine_boundaries line_machine (0x24 ∷ 0x33 ∷ 0x2E ∷ 0x31 ∷ 0x34 ∷ []) ≡ start ∷ boundary 5 1 ∷ [] }
+    ensures sum { machine_boundaries line_machine (0x28 ∷ 0x31 ∷ 0x32 ∷ 0x2E ∷ 0x35 ∷ 0x30 ∷ 0x29 ∷ []) ≡ start ∷ boundary 7 1 ∷ [] }
+    ensures greeting { machine_boundaries line_machine (0x68 ∷ 0x65 ∷ 0x79 ∷ 0x2C ∷ 0x20 ∷ 0x79 ∷ 0x6F ∷ 0x75 ∷ 0x21 ∷ [])
+        ≡ start ∷ boundary 5 0 ∷ boundary 9 1 ∷ [] }
+{
+    lines_follow_rules();
 }
