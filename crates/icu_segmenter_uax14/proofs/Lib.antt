@@ -12,3 +12,4 @@ mod PlaceTests
 mod Neighbours
 mod NeighbourTests
 mod LineExamples
+mod Sequences

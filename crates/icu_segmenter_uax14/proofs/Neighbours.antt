@@ -94,6 +94,13 @@ module _ (by_patterns : ByPatterns) where
       ∙ pair-kept numbered_rules by_patterns refl (omega arith) refl f (λ c. (symbols-have-properties tailoring c).below) test last next (reverse before) after to_y
 
   module _ (by_verdicts : ByVerdicts) where
+    pub joined-at : (tailoring : Tailoring) (before after : List ℕ) → 0 < length before → (verdict_between tailoring before after == 0) ≡ true
+        → IsJoined tailoring before after
+    joined-at tailoring before after some none status breaks =
+        let is = (by_verdicts line_rules 72 tables plan relation (machine_by tailoring) (pass tailoring) (are-checked tailoring) before after status some).0 breaks in
+        let nothing = eqb-true _ _ none in
+        omega (arith, is, nothing)
+
     some-before : (before : List ℕ) (last : ℕ) → 0 < length (before ++ (last ∷ []))
     some-before before last = omega (arith, length-append before (last ∷ []))
 

@@ -1,7 +1,9 @@
 -- What a test of the symbols next to a place says of the verdict there.
 use Rattle.std.proofs.Common.{◌≡◌, ℕ, ◌<◌, ◌⊎◌, Bool, true, false, not, ◌&&◌, ◌||◌, List, [], ◌∷◌, ◌++◌, map, refl, sym, ap, ap₂, ◌∙◌, inl, inr, arith, subst}
+use Rattle.std.specs.List.{All}
 use Rattle.std.specs.Prelude.{if◌then◌else◌}
 use Rattle.std.proofs.lemmas.Bool.{and_parts, and_left, and_right, cond-true, cond-false, not_from_false, not_from_true, not-true, or_cases, or_from, or_right}
+use Rattle.std.proofs.lemmas.List.Elements.{All-head, All-tail}
 use Rattle.ucd_table.proofs.TrieCheck.{all_below, all_below-at}
 use Rattle.seg_rules.specs.RowRules.{Row, RowRules, has}
 use Rattle.seg_rules.specs.Plain.{bases_after, bases_before, first_row, is_base, is_marked, plain_verdict, row_fits, unmarked}
@@ -31,6 +33,12 @@ place_keeps rules may test x y = keeps test may (sure_fit (x ∷ []) (y ∷ []))
 -- and whatever text they stand in
 abbrev pub pair_keeps : RowRules → (ℕ → Bool) → ℕ → ℕ → Bool
 pair_keeps rules test x y = place_keeps rules (may_fit x y) test x y
+
+-- the verdict between two symbols that aren't marks passes a test, where of the rows above these may fit, and of those below these surely do
+unfoldable pub around_keeps : RowRules → (may sure : Row → Bool) → (ℕ → Bool) → ℕ → ℕ → Bool
+around_keeps rules may sure test x y =
+    not (has rules.marks x)
+    && (not (has rules.marks y) && keeps test may (sure_fit (x ∷ []) (y ∷ [])) rules.above (keeps test (may_fit x y) sure rules.below false))
 
 -- rules that read marks, and the symbols of code points
 module _ (rules : RowRules) (by : ByPatterns) (reads_marks : rules.has_marks ≡ true) (alone : rules.alone < 73)
@@ -187,3 +195,42 @@ module _ (rules : RowRules) (by : ByPatterns) (reads_marks : rules.has_marks ≡
     pub pair-kept : (c d : ℕ) (cs ds : List ℕ) → pair_keeps rules test (f c) (f d) ≡ true → test (plain_verdict rules (map f (c ∷ cs)) (map f (d ∷ ds))) ≡ true
     pair-kept c d cs ds =
         place-kept (may_fit (f c) (f d)) c d cs ds (λ row. fits-may by row (f c) (f d) (map f cs ++ (0 ∷ [])) (map f ds ++ (0 ∷ [])))
+
+    pub around-kept : (may sure : Row → Bool) (c d : ℕ) (cs ds : List ℕ)
+        → ((row : Row) → row_fits row (map f (c ∷ cs) ++ (0 ∷ [])) (map f (d ∷ ds) ++ (0 ∷ [])) ≡ true → may row ≡ true)
+        → ((row : Row) → sure row ≡ true → row_fits row (bases_before rules (map f (c ∷ cs))) (bases_after rules (is_base rules (map f (c ∷ cs))) (map f (d ∷ ds))) ≡ true)
+        → around_keeps rules may sure test (f c) (f d) ≡ true → test (plain_verdict rules (map f (c ∷ cs)) (map f (d ∷ ds))) ≡ true
+    unfolding around_keeps plain_verdict
+    around-kept may sure c d cs ds may_be surely kept =
+        let x = f c in
+        let y = f d in
+        let past = map f cs in
+        let parts = and_parts (not (has rules.marks x)) _ kept in
+        let more_parts = and_parts (not (has rules.marks y)) _ parts.1 in
+        let plain_before = not-true (has rules.marks x) parts.0 in
+        let plain_after = not-true (has rules.marks y) more_parts.0 in
+        let before = bases_before rules (x ∷ past) in
+        let after = bases_after rules (is_base rules (x ∷ past)) (y ∷ map f ds) in
+        let further = bases_after rules ((has rules.marks y && is_base rules (x ∷ past)) || (rules.has_marks && not (has rules.bare y))) (map f ds) in
+        first-kept test may (sure_fit (x ∷ []) (y ∷ [])) (map f (c ∷ cs) ++ (0 ∷ [])) (map f (d ∷ ds) ++ (0 ∷ [])) may_be
+        (λ row. sure-fits by row (x ∷ []) (y ∷ []) (past ++ (0 ∷ [])) (map f ds ++ (0 ∷ [])))
+        rules.above (keeps test (may_fit x y) sure rules.below false) (lower_verdict (x ∷ past) y (map f ds)) more_parts.1
+        (λ below. unmarked-kept (x ∷ past) y (map f ds) plain_after
+            (first-kept test (may_fit x y) sure before after
+            (λ row fits. fits-may by row x y (bases_before rules past) further
+                (sym (ap₂ (λ (b a : List ℕ). row_fits row b a) (base-alone x past plain_before) (next-alone (is_base rules (x ∷ past)) y (map f ds) plain_after)) ∙ fits))
+            surely rules.below false 0 below (λ no. cc)))
+
+  -- symbols that aren't marks are read as they are
+  pub plain-before : (cs : List ℕ) (past : List ℕ) → All (λ c. has rules.marks (f c) ≡ false) cs → bases_before rules (map f cs ++ past) ≡ map f cs ++ bases_before rules past
+  plain-before [] past plain = refl
+  plain-before (c ∷ cs) past plain =
+      base-alone (f c) (map f cs ++ past) (All-head (λ c. has rules.marks (f c) ≡ false) c cs plain) ∙ ap (λ s. f c ∷ s) (plain-before cs past (All-tail (λ c. has rules.marks (f c) ≡ false) c cs plain))
+
+  pub plain-after : (ds : List ℕ) (base : Bool) (rest : List ℕ) → All (λ d. has rules.marks (f d) ≡ false) ds
+      → (further : List ℕ) × (bases_after rules base (map f ds ++ rest) ≡ map f ds ++ further)
+  plain-after [] base rest plain = (bases_after rules base rest, refl)
+  plain-after (d ∷ ds) base rest plain =
+      let next_base = (has rules.marks (f d) && base) || (rules.has_marks && not (has rules.bare (f d))) in
+      let (further, is) = plain-after ds next_base rest (All-tail (λ d. has rules.marks (f d) ≡ false) d ds plain) in
+      (further, next-alone base (f d) (map f ds ++ rest) (All-head (λ d. has rules.marks (f d) ≡ false) d ds plain) ∙ ap (λ s. f d ∷ s) is)

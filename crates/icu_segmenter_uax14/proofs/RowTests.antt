@@ -113,6 +113,62 @@ sure-fits by row xs ys past rest sure =
     ((own, farther ++ past, (ap (λ all. all ++ past) left ∙ append_assoc own farther past, ends)),
     (mine, further ++ rest, (ap (λ all. all ++ rest) right ∙ append_assoc mine further rest, begins)))
 
+-- ---- a left side that is known to fit
+
+abbrev count_number : Count → ℕ
+count_number One = 0
+count_number Optional = 1
+count_number Star = 2
+count_number Pairs = 3
+
+abbrev count_from : ℕ → Count
+count_from n = slice_index_or (One ∷ Optional ∷ Star ∷ Pairs ∷ []) n One
+
+count-back : (count : Count) → count_from (count_number count) ≡ count
+count-back One = refl
+count-back Optional = refl
+count-back Star = refl
+count-back Pairs = refl
+
+unfoldable pub same_items : Pattern → Pattern → Bool
+same_items [] [] = true
+same_items [] (item ∷ items) = false
+same_items (item ∷ items) [] = false
+same_items ((class, count) ∷ items) ((class2, count2) ∷ items2) = (class == class2 && count_number count == count_number count2) && same_items items items2
+
+pub same-items : (p q : Pattern) → same_items p q ≡ true → p ≡ q
+unfolding same_items
+same-items [] [] same = refl
+same-items [] (item ∷ items) same = cc
+same-items (item ∷ items) [] same = cc
+same-items ((class, count) ∷ items) ((class2, count2) ∷ items2) same =
+    let parts = and_parts (class == class2 && count_number count == count_number count2) _ same in
+    let here = and_parts (class == class2) _ parts.0 in
+    let class_is = eqb-true class class2 here.0 in
+    let count_is = sym (count-back count) ∙ ap count_from (eqb-true _ _ here.1) ∙ count-back count2 in
+    let rest = same-items items items2 parts.1 in
+    λ i. (class_is i, count_is i) ∷ rest i
+
+-- the row without its left side
+abbrev right_side : Row → Row
+right_side row = record { left = []; right = row.right; verdict = 0 }
+
+-- a row surely fits between some symbols, or where this left side fits before the next
+abbrev pub sure_after : Pattern → ℕ → ℕ → Row → Bool
+sure_after left x y row = sure_fit (x ∷ []) (y ∷ []) row || (same_items row.left left && row_fits (right_side row) [] (y ∷ []))
+
+pub after-fits : ByPatterns → (row : Row) (left : Pattern) (x y : ℕ) (more further : List ℕ) → EndsIn left (x ∷ more) → sure_after left x y row ≡ true
+    → row_fits row (x ∷ more) (y ∷ further) ≡ true
+after-fits by row left x y more further ends sure = elim (or_cases (sure_fit (x ∷ []) (y ∷ []) row) _ sure) [
+  | inl fits ↦ sure-fits by row (x ∷ []) (y ∷ []) more further fits
+  | inr after ↦
+      let parts = and_parts (same_items row.left left) _ after in
+      let (nothing, (mine, rest, (right, begins))) = (by (right_side row) [] (y ∷ [])).0 parts.1 in
+      (by row (x ∷ more) (y ∷ further)).1
+      (subst (λ p. EndsIn p (x ∷ more)) (sym (same-items row.left left parts.0)) ends,
+      (mine, rest ++ further, (ap (λ all. all ++ further) right ∙ append_assoc mine rest further, begins)))
+]
+
 -- ---- the first row that fits
 
 -- whatever row is the first that fits, its verdict passes a test: rows of other verdicts can't fit, up to one that surely does

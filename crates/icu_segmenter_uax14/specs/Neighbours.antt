@@ -1,9 +1,9 @@
 -- Between which characters lines may break, in the words of UAX #14.
-use Rattle.std.specs.Prelude.{◌≡◌, ◌⊎◌, ℕ, true, List, [], ◌∷◌, ◌++◌, length, Contains}
+use Rattle.std.specs.Prelude.{◌≡◌, ◌⊎◌, ℕ, Bool, true, false, ◌&&◌, ◌||◌, List, [], ◌∷◌, ◌++◌, length, reverse, Contains}
 use Rattle.seg_text.specs.Boundaries.{boundary}
 use Rattle.seg_machine.specs.Pick.{machine_boundaries}
 use Rattle.icu_segmenter_uax14.specs.Characters.{character}
-use Rattle.icu_segmenter_uax14.specs.LineClasses.{Class, ◌or◌, BK, CR, LF, NL}
+use Rattle.icu_segmenter_uax14.specs.LineClasses.{Class, ◌or◌, BK, CR, LF, NL, SP, ZW}
 use Rattle.icu_segmenter_uax14.specs.Tailored.{Tailoring, machine_by, style_of}
 
 -- a character is of a class, by its properties in Unicode 18.0 as the tailoring has them
@@ -31,3 +31,12 @@ StayTogether lasts nexts =
 -- a line ends between two characters: after BK, LF and NL, and after CR but before LF
 abbrev pub EndsLine : Tailoring → ℕ → ℕ → Type 0
 EndsLine tailoring last next = Is tailoring (BK or LF or NL) last ⊎ (Is tailoring CR last × (Is tailoring LF next → ⊥))
+
+-- the text ends in a zero-width space, and spaces after it or none (ZW SP*)
+abbrev pub ends_in_zero_width : Tailoring → List ℕ → Bool
+ends_in_zero_width tailoring [] = false
+ends_in_zero_width tailoring (c ∷ past) =
+    let p = style_of tailoring (character c) in ZW p || (SP p && ends_in_zero_width tailoring past)
+
+abbrev pub EndsInZeroWidth : Tailoring → List ℕ → Type 0
+EndsInZeroWidth tailoring before = ends_in_zero_width tailoring (reverse before) ≡ true
