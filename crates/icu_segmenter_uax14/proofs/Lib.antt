@@ -13,3 +13,4 @@ mod Neighbours
 mod NeighbourTests
 mod LineExamples
 mod Sequences
+mod Numbers

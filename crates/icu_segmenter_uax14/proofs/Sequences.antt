@@ -40,7 +40,7 @@ pair-at test lasts nexts all tailoring c d is_last is_next =
     (in-class tailoring nexts d is_next)
 
 -- the verdict between two parts of a text, by the numbered rules
-numbered-verdict : (tailoring : Tailoring) (before after : List ℕ) (c : ℕ) (cs : List ℕ) → reverse before ≡ c ∷ cs
+pub numbered-verdict : (tailoring : Tailoring) (before after : List ℕ) (c : ℕ) (cs : List ℕ) → reverse before ≡ c ∷ cs
     → (plain_verdict numbered_rules (map (symbol tailoring) (c ∷ cs)) (map (symbol tailoring) after) == 0) ≡ true
     → (verdict_between tailoring before after == 0) ≡ true
 numbered-verdict tailoring before after c cs turned none =
@@ -49,7 +49,7 @@ numbered-verdict tailoring before after c cs turned none =
     ∙ ap (λ rules. plain_verdict rules (map f (c ∷ cs)) (map f after) == 0) rules-are
     ∙ none
 
-some-list : (before : List ℕ) (c : ℕ) (cs : List ℕ) → reverse before ≡ c ∷ cs → 0 < length before
+pub some-list : (before : List ℕ) (c : ℕ) (cs : List ℕ) → reverse before ≡ c ∷ cs → 0 < length before
 some-list [] c cs turned = let clash : length (c ∷ cs) ≡ 0 = ap length (sym turned) in absurd (omega (arith, clash))
 some-list (b ∷ before) c cs turned = omega arith
 
