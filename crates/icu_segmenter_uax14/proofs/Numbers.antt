@@ -11,7 +11,7 @@ use Rattle.seg_rules.specs.Plain.{bases_after, bases_before, is_base, right_fits
 use Rattle.seg_rules.specs.RowRules.{Pattern, Row, flow, has, is_full, no_flags, once}
 use Rattle.icu_segmenter_uax29.proofs.Tests.{implied, implies}
 use Rattle.icu_segmenter_uax14.specs.Characters.{character}
-use Rattle.icu_segmenter_uax14.specs.LineClasses.{Class, ◌or◌, ◌but◌, CL, CP, IS, NU, PO, PR, SY, LOOSE}
+use Rattle.icu_segmenter_uax14.specs.LineClasses.{Class, ◌or◌, ◌but◌, CL, CP, IS, NU, OP, PO, PR, SY, LOOSE}
 use Rattle.icu_segmenter_uax14.specs.LineValues.{properties_of}
 use Rattle.icu_segmenter_uax14.specs.Neighbours.{Is, IsJoined}
 use Rattle.icu_segmenter_uax14.specs.Tailored.{Tailoring, style_of}
@@ -197,6 +197,91 @@ module _ (tailoring : Tailoring) where
           after-joined (closed_number bits) class nexts kept ((before ++ (digit ∷ infixes)) ++ (closing ∷ [])) after closing (reverse infixes ++ (digit ∷ reverse before)) next
           (reverse-append (before ++ (digit ∷ infixes)) (closing ∷ []) ∙ ap (λ l. closing ∷ l) (turned-number before infixes digit))
           closes is_next (ends-closed class bits held closing (reverse infixes) digit (reverse before) closes (reversed infixes all) is_digit)
+
+-- ---- before brackets
+
+-- a row surely fits between a symbol and these
+abbrev opened_keeps : ℕ → List ℕ → ℕ → Bool
+opened_keeps x rest y = around_keeps numbered_rules (may_fit x y) (sure_fit (x ∷ []) (y ∷ rest)) (λ v. v == 0) x y
+
+-- a prefix, an opening mark and a digit; and what stands within numbers before it
+abbrev bracket_keeps : ℕ → ℕ → ℕ → Bool
+bracket_keeps z x y = opened_keeps x (z ∷ []) y
+
+abbrev point_keeps : ℕ → ℕ → ℕ → ℕ → Bool
+point_keeps w z x y = opened_keeps x (w ∷ (z ∷ [])) y
+
+abbrev each_bracket : Class → Class → Class → Bool
+each_bracket lasts openings digits = all_below (λ z. implies (digits (properties_of z)) (each_pair (bracket_keeps z) lasts openings)) 73
+
+abbrev each_point : Class → Class → Class → Class → Bool
+each_point lasts openings points digits =
+    all_below (λ w. implies (points (properties_of w)) (all_below (λ z. implies (digits (properties_of z)) (each_pair (point_keeps w z) lasts openings)) 73)) 73
+
+bracketed-tests : each_bracket (PO or PR but LOOSE) OP NU ≡ true
+unfolding around_keeps keeps may_end may_begin all_below flags flow is_full no_flags once right_fits numbered_above numbered_below numbered_rules
+bracketed-tests = refl
+
+point-tests : each_point (PO or PR but LOOSE) OP IS NU ≡ true
+unfolding around_keeps keeps may_end may_begin all_below flags flow is_full no_flags once right_fits numbered_above numbered_below numbered_rules
+point-tests = refl
+
+module _ (tailoring : Tailoring) (by_patterns : ByPatterns) (by_verdicts : ByVerdicts) where
+  opened-joined : (before after : List ℕ) (last next : ℕ) (known : List ℕ) → All (IsPlain tailoring) known
+      → opened_keeps (symbol tailoring last) (map (symbol tailoring) known) (symbol tailoring next) ≡ true
+      → IsJoined tailoring (before ++ (last ∷ [])) (next ∷ (known ++ after))
+  unfolding numbered_rules around_keeps
+  opened-joined before after last next known plain here =
+      let g = symbol tailoring in
+      let x = g last in
+      let y = g next in
+      let few_g = few tailoring by_patterns in
+      let parts = and_parts (not (has numbered_rules.marks x)) _ here in
+      let more_parts = and_parts (not (has numbered_rules.marks y)) _ parts.1 in
+      let cs = reverse before in
+      let base = is_base numbered_rules (map g (last ∷ cs)) in
+      let before_is = base-alone numbered_rules by_patterns refl (omega arith) refl g few_g x (map g cs) (not-true _ parts.0) in
+      let (further, after_is) = plain-after numbered_rules by_patterns refl (omega arith) refl g few_g (next ∷ known) base (map g after)
+          (All-cons (IsPlain tailoring) next known (not-true _ more_parts.0) plain) in
+      let turned = reverse-append before (last ∷ []) in
+      joined-at by_patterns by_verdicts tailoring (before ++ (last ∷ [])) (next ∷ (known ++ after)) (some-list (before ++ (last ∷ [])) last cs turned)
+      (numbered-verdict tailoring (before ++ (last ∷ [])) (next ∷ (known ++ after)) last cs turned
+      (around-kept numbered_rules by_patterns refl (omega arith) refl g few_g (λ v. v == 0) (may_fit x y) (sure_fit (x ∷ []) (y ∷ map g known)) last next cs (known ++ after)
+      (λ row. fits-may by_patterns row x y (map g cs ++ (0 ∷ [])) (map g (known ++ after) ++ (0 ∷ [])))
+      (λ row sure.
+          ap₂ (λ (b a : List ℕ). row_fits row b a) before_is (ap (λ l. bases_after numbered_rules base (y ∷ l)) (map-append g known after) ∙ after_is)
+          ∙ sure-fits by_patterns row (x ∷ []) (y ∷ map g known) (bases_before numbered_rules (map g cs)) further sure)
+      here))
+
+  -- Law: no break before a bracket that a number stands in, after a prefix or a suffix
+  pub brackets-stay : (before after : List ℕ) (last opening digit : ℕ) → Is tailoring (PO or PR but LOOSE) last → Is tailoring OP opening → Is tailoring NU digit
+      → IsJoined tailoring (before ++ (last ∷ [])) (opening ∷ (digit ∷ after))
+  brackets-stay before after last opening digit is_last opens is_digit =
+      let z = symbol tailoring digit in
+      opened-joined before after last opening (digit ∷ [])
+      (All-cons (IsPlain tailoring) digit [] (read-at NU digit_bits digits-hold tailoring digit is_digit).1 (All-nil (IsPlain tailoring)))
+      (pair-at (bracket_keeps z) (PO or PR but LOOSE) OP
+      (implied (NU (properties_of z)) _
+      (all_below-at (λ z. implies (NU (properties_of z)) (each_pair (bracket_keeps z) (PO or PR but LOOSE) OP)) 73 z bracketed-tests (symbols-have-properties tailoring digit).below)
+      (in-class tailoring NU digit is_digit))
+      tailoring last opening is_last opens)
+
+  pub points-stay : (before after : List ℕ) (last opening point digit : ℕ) → Is tailoring (PO or PR but LOOSE) last → Is tailoring OP opening → Is tailoring IS point
+      → Is tailoring NU digit → IsJoined tailoring (before ++ (last ∷ [])) (opening ∷ (point ∷ (digit ∷ after)))
+  points-stay before after last opening point digit is_last opens is_point is_digit =
+      let w = symbol tailoring point in
+      let z = symbol tailoring digit in
+      let by_point = implied (IS (properties_of w)) _
+          (all_below-at (λ w. implies (IS (properties_of w)) (all_below (λ z. implies (NU (properties_of z)) (each_pair (point_keeps w z) (PO or PR but LOOSE) OP)) 73)) 73 w point-tests (symbols-have-properties tailoring point).below)
+          (in-class tailoring IS point is_point) in
+      opened-joined before after last opening (point ∷ (digit ∷ []))
+      (All-cons (IsPlain tailoring) point (digit ∷ []) (read-at (IS or SY) infix_bits infixes-hold tailoring point (or_left _ _ is_point)).1
+      (All-cons (IsPlain tailoring) digit [] (read-at NU digit_bits digits-hold tailoring digit is_digit).1 (All-nil (IsPlain tailoring))))
+      (pair-at (point_keeps w z) (PO or PR but LOOSE) OP
+      (implied (NU (properties_of z)) _
+      (all_below-at (λ z. implies (NU (properties_of z)) (each_pair (point_keeps w z) (PO or PR but LOOSE) OP)) 73 z by_point (symbols-have-properties tailoring digit).below)
+      (in-class tailoring NU digit is_digit))
+      tailoring last opening is_last opens)
 
 -- the tests of it, computed
 infix-tests : each_pair (after_keeps in_number) (NU or (IS or SY)) (NU or PR or PO but LOOSE) ≡ true

@@ -6,20 +6,20 @@ use Rattle.std.proofs.lemmas.List.{length-append, map-append, reverse-append}
 use Rattle.std.proofs.lemmas.List.Elements.{All-append, All-cons, All-head, All-nil, All-tail}
 use Rattle.ucd_table.proofs.TrieCheck.{all_below, all_below-at}
 use Rattle.seg_rules.specs.declared.rules.Count.TheVariants.{One, Star}
-use Rattle.seg_rules.specs.Patterns.{Each, EndsIn, Fits}
-use Rattle.seg_rules.specs.Plain.{bases_after, bases_before, is_base, plain_verdict, row_fits}
-use Rattle.seg_rules.specs.RowRules.{Pattern, Row, has}
+use Rattle.seg_rules.specs.Patterns.{Each, EndsIn, Fits, flags}
+use Rattle.seg_rules.specs.Plain.{bases_after, bases_before, is_base, plain_verdict, right_fits, row_fits}
+use Rattle.seg_rules.specs.RowRules.{Pattern, Row, flow, has, is_full, no_flags, once}
 use Rattle.icu_segmenter_uax29.proofs.Tests.{implied, implies}
 use Rattle.icu_segmenter_uax14.specs.Characters.{character}
-use Rattle.icu_segmenter_uax14.specs.LineClasses.{Class, SP, ZW}
+use Rattle.icu_segmenter_uax14.specs.LineClasses.{Class, ◌or◌, no, BK, CL, CP, CR, EX, LF, NL, SP, SY, ZW}
 use Rattle.icu_segmenter_uax14.specs.LineRules.{line_rules}
 use Rattle.icu_segmenter_uax14.specs.LineValues.{properties_of}
 use Rattle.icu_segmenter_uax14.specs.Neighbours.{EndsInZeroWidth, Is, IsJoined, ends_in_zero_width}
 use Rattle.icu_segmenter_uax14.specs.Tailored.{Tailoring, machine_by, style_of}
-use Rattle.icu_segmenter_uax14.proofs.LineTables.{numbered_rules, rules-are}
+use Rattle.icu_segmenter_uax14.proofs.LineTables.{numbered_above, numbered_below, numbered_rules, rules-are}
 use Rattle.icu_segmenter_uax14.proofs.Neighbours.{ByVerdicts, in-class, joined-at, symbol, turned-last, turned-map, verdict_between}
 use Rattle.icu_segmenter_uax14.proofs.PlaceTests.{around-kept, around_keeps, base-alone, next-alone, place-kept, place_keeps, plain-after, plain-before}
-use Rattle.icu_segmenter_uax14.proofs.RowTests.{ByPatterns, after-fits, clash, fits-may, may_fit, same-items, same_items, sure-fits, sure_after, sure_fit}
+use Rattle.icu_segmenter_uax14.proofs.RowTests.{ByPatterns, after-fits, clash, fits-may, keeps, may_begin, may_end, may_fit, same-items, same_items, sure-fits, sure_after, sure_fit}
 use Rattle.icu_segmenter_uax14.proofs.Tailorings.{symbols-have-properties}
 
 -- for every pair of symbols of two classes, a test holds
@@ -129,3 +129,11 @@ module _ (by_patterns : ByPatterns) where
         (may_fit_spaced (f last) (f next)) last next (reverse before) after
         (may-be-spaced tailoring last next (reverse before) after (λ ends. no_zero_width (ap (ends_in_zero_width tailoring) turned ∙ ends)))
         (pair-at spaced_keeps lasts nexts kept tailoring last next is_last is_next)))
+
+closing-tests : each_pair spaced_keeps (no (BK or CR or LF or NL)) (CL or CP or EX or SY) ≡ true
+unfolding place_keeps same_items keeps may_end may_begin all_below flags flow is_full no_flags once right_fits numbered_above numbered_below numbered_rules
+closing-tests = refl
+
+pub closings-stay : ByPatterns → ByVerdicts → (tailoring : Tailoring) (before after : List ℕ) (last next : ℕ) → Is tailoring (no (BK or CR or LF or NL)) last
+    → Is tailoring (CL or CP or EX or SY) next → (EndsInZeroWidth tailoring (before ++ (last ∷ [])) → ⊥) → IsJoined tailoring (before ++ (last ∷ [])) (next ∷ after)
+closings-stay by_patterns by_verdicts = stay-spaced by_patterns by_verdicts (no (BK or CR or LF or NL)) (CL or CP or EX or SY) closing-tests
