@@ -1,12 +1,12 @@
 //! Laws of the machine's boundaries, of every list of code points. So they hold of texts in every encoding, in code points.
-ghost use Rattle.std.specs.Prelude.{◌≡◌, ◌↔◌, ℕ, List, [], ◌∷◌, ◌++◌};
+ghost use Rattle.std.specs.Prelude.{◌≡◌, ◌↔◌, ℕ, List, [], ◌∷◌, ◌++◌, All};
 ghost use Rattle.seg_text.specs.Boundaries.{boundary, start};
 ghost use Rattle.seg_machine.specs.Pick.{machine_boundaries};
 ghost use Rattle.seg_lines.specs.LineBreaks.{LineRules};
 ghost use Rattle.seg_lines.specs.LineBreaks.LineFinder.{ByMachine};
 ghost use Rattle.icu_segmenter_uax14.specs.LineClasses.{◌or◌, ◌but◌, every, no, AL, BK, CL, CM, CP, CR, EX, GL, HL, HY, IS, LF, NL, NU, OP, PO, PR, SP, SY, WJ, ZW, ZWJ, CP_NARROW, OP_NARROW, LOOSE};
 ghost use Rattle.icu_segmenter_uax14.specs.Lines.{line_machine};
-ghost use Rattle.icu_segmenter_uax14.specs.Neighbours.{BreaksWith, EndsLine, MustBreak, StayTogether};
+ghost use Rattle.icu_segmenter_uax14.specs.Neighbours.{BreaksWith, EndsInZeroWidth, EndsLine, Is, IsJoined, MustBreak, StayTogether};
 ghost use Rattle.icu_segmenter_uax14.specs.Tailored.{FollowsRules, HasScriptsOf, HasSymbolsOf, LinesFollowRules, Tailoring, machine_by, scripts_of, style_of};
 
 use seg_rules::laws::{boundaries_are_places, boundary_is_verdict, row_fits_by_patterns};
@@ -81,9 +81,13 @@ pub fn joiners_stay()
 }
 
 /// Law: no line breaks before a closing mark, an exclamation or a slash (LB13: CL, CP, EX, SY), nor before what stands within numbers, as
-/// a comma or a full stop (LB15d: IS), but after spaces and what ends a line.
+/// a comma or a full stop (LB15d: IS), but after spaces and what ends a line. Before the first four none breaks even after spaces, but
+/// after those that a zero-width space stands before (LB8).
 pub fn closings_stay()
-    ensures { StayTogether (no (BK or CR or LF or NL or SP or ZW)) (CL or CP or EX or SY or IS) }
+    ensures characters { StayTogether (no (BK or CR or LF or NL or SP or ZW)) (CL or CP or EX or SY or IS) }
+    ensures after_spaces { (tailoring : Tailoring) (before after : List ℕ) (last next : ℕ) → Is tailoring (no (BK or CR or LF or NL)) last
+        → Is tailoring (CL or CP or EX or SY) next → (EndsInZeroWidth tailoring (before ++ last ∷ []) → ⊥)
+        → IsJoined tailoring (before ++ last ∷ []) (next ∷ after) }
 {
     boundary_is_verdict();
     row_fits_by_patterns();
@@ -113,6 +117,26 @@ pub fn numbers_stay()
     ensures within { StayTogether NU (NU or IS or SY) }
     ensures before { StayTogether (HY or IS or PO or PR but LOOSE or CP_NARROW) NU }
     ensures after { StayTogether NU (PR or PO but LOOSE or OP_NARROW) }
+{
+    boundary_is_verdict();
+    row_fits_by_patterns();
+}
+
+/// Law: nor does one break within a longer number, as `1,234/5`, `(12.5)%` or `$(.5`: after digits and what stands within numbers, before
+/// more of them, a prefix or a suffix, with or without a closing mark between; nor between a prefix or a suffix and the opening mark
+/// that a number follows (LB25).
+pub fn long_numbers_stay()
+    ensures infixes { (tailoring : Tailoring) (before infixes after : List ℕ) (digit next : ℕ) → Is tailoring NU digit
+        → All (Is tailoring (IS or SY)) infixes → Is tailoring (NU or PR or PO but LOOSE) next
+        → IsJoined tailoring (before ++ digit ∷ infixes) (next ∷ after) }
+    ensures closings { (tailoring : Tailoring) (before infixes after : List ℕ) (digit closing next : ℕ) → Is tailoring NU digit
+        → All (Is tailoring (IS or SY)) infixes → Is tailoring (CL or CP) closing → Is tailoring (PR or PO but LOOSE) next
+        → IsJoined tailoring ((before ++ digit ∷ infixes) ++ closing ∷ []) (next ∷ after) }
+    ensures brackets { (tailoring : Tailoring) (before after : List ℕ) (last opening digit : ℕ) → Is tailoring (PO or PR but LOOSE) last
+        → Is tailoring OP opening → Is tailoring NU digit → IsJoined tailoring (before ++ last ∷ []) (opening ∷ digit ∷ after) }
+    ensures points { (tailoring : Tailoring) (before after : List ℕ) (last opening point digit : ℕ) → Is tailoring (PO or PR but LOOSE) last
+        → Is tailoring OP opening → Is tailoring IS point → Is tailoring NU digit
+        → IsJoined tailoring (before ++ last ∷ []) (opening ∷ point ∷ digit ∷ after) }
 {
     boundary_is_verdict();
     row_fits_by_patterns();
