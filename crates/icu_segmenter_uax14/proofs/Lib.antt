@@ -5,3 +5,10 @@ mod LineLaw
 mod Machines
 mod TailoringTests
 mod Tailorings
+mod RowTests
+mod PlaceTests
+mod Neighbours
+mod NeighbourTests
+mod LineExamples
+mod Sequences
+mod Numbers

@@ -1,10 +1,15 @@
 //! Laws of the machine's boundaries, of every list of code points. So they hold of texts in every encoding, in code points.
-ghost use Rattle.std.specs.Prelude.{◌≡◌};
+ghost use Rattle.std.specs.Prelude.{◌≡◌, ◌↔◌, ℕ, List, [], ◌∷◌, ◌++◌, All};
+ghost use Rattle.seg_text.specs.Boundaries.{boundary, start};
+ghost use Rattle.seg_machine.specs.Pick.{machine_boundaries};
 ghost use Rattle.seg_lines.specs.LineBreaks.{LineRules};
 ghost use Rattle.seg_lines.specs.LineBreaks.LineFinder.{ByMachine};
+ghost use Rattle.icu_segmenter_uax14.specs.LineClasses.{◌or◌, ◌but◌, every, no, AL, BK, CL, CM, CP, CR, EX, GL, HL, HY, IS, LF, NL, NU, OP, PO, PR, SP, SY, WJ, ZW, ZWJ, CP_NARROW, OP_NARROW, LOOSE};
+ghost use Rattle.icu_segmenter_uax14.specs.Lines.{line_machine};
+ghost use Rattle.icu_segmenter_uax14.specs.Neighbours.{BreaksWith, EndsInZeroWidth, EndsLine, Is, IsJoined, MustBreak, StayTogether};
 ghost use Rattle.icu_segmenter_uax14.specs.Tailored.{FollowsRules, HasScriptsOf, HasSymbolsOf, LinesFollowRules, Tailoring, machine_by, scripts_of, style_of};
 
-use seg_rules::laws::boundaries_are_places;
+use seg_rules::laws::{boundaries_are_places, boundary_is_verdict, row_fits_by_patterns};
 
 /// Law: for every text the boundaries of the line machine, with any tailoring or none, are exactly the places where the rules of
 /// UAX #14 break, with status 1 where they must break.
@@ -34,3 +39,115 @@ pub fn symbols_have_properties()
 pub fn symbols_have_scripts()
     ensures { (tailoring : Tailoring) → HasScriptsOf (scripts_of tailoring) (machine_by tailoring) }
 {}
+
+/// Law: a line must end after BK, LF and NL, after CR but before LF, and at the end of a text, and nowhere else (LB3 to LB5).
+pub fn mandatory_breaks()
+    ensures within { (tailoring : Tailoring) (before after : List ℕ) (last next : ℕ)
+        → MustBreak tailoring (before ++ last ∷ []) (next ∷ after) ↔ EndsLine tailoring last next }
+    ensures end { (tailoring : Tailoring) (before : List ℕ) (last status : ℕ)
+        → BreaksWith tailoring status (before ++ last ∷ []) [] ↔ (status ≡ 1) }
+{
+    boundary_is_verdict();
+    row_fits_by_patterns();
+}
+
+/// Law: no line breaks before a space, a zero-width space or what ends a line (LB5 to LB7: SP, ZW, BK, CR, LF, NL), but after what
+/// ends one; and none breaks CR LF.
+pub fn spaces_stay()
+    ensures spaces { StayTogether (no (BK or CR or LF or NL)) (SP or ZW or BK or CR or LF or NL) }
+    ensures line_ends { StayTogether CR LF }
+{
+    boundary_is_verdict();
+    row_fits_by_patterns();
+}
+
+/// Law: no line breaks between a character and the marks after it (LB9: CM, ZWJ), unless it is a space or ends a line (BK, CR, LF, NL,
+/// SP, ZW).
+pub fn marks_stay()
+    ensures { StayTogether (no (BK or CR or LF or NL or SP or ZW)) (CM or ZWJ) }
+{
+    boundary_is_verdict();
+    row_fits_by_patterns();
+}
+
+/// Law: no line breaks after a zero-width joiner (LB8a), after a word joiner (LB11) or after glue, as a no-break space (LB12). Nor does
+/// one before a word joiner, but after spaces and what ends a line.
+pub fn joiners_stay()
+    ensures after { StayTogether (ZWJ or WJ or GL) every }
+    ensures before { StayTogether (no (BK or CR or LF or NL or SP or ZW)) WJ }
+{
+    boundary_is_verdict();
+    row_fits_by_patterns();
+}
+
+/// Law: no line breaks before a closing mark, an exclamation or a slash (LB13: CL, CP, EX, SY), nor before what stands within numbers, as
+/// a comma or a full stop (LB15d: IS), but after spaces and what ends a line. Before the first four none breaks even after spaces, but
+/// after those that a zero-width space stands before (LB8).
+pub fn closings_stay()
+    ensures characters { StayTogether (no (BK or CR or LF or NL or SP or ZW)) (CL or CP or EX or SY or IS) }
+    ensures after_spaces { (tailoring : Tailoring) (before after : List ℕ) (last next : ℕ) → Is tailoring (no (BK or CR or LF or NL)) last
+        → Is tailoring (CL or CP or EX or SY) next → (EndsInZeroWidth tailoring (before ++ last ∷ []) → ⊥)
+        → IsJoined tailoring (before ++ last ∷ []) (next ∷ after) }
+{
+    boundary_is_verdict();
+    row_fits_by_patterns();
+}
+
+/// Law: no line breaks after an opening mark (LB14: OP).
+pub fn openings_stay()
+    ensures { StayTogether OP every }
+{
+    boundary_is_verdict();
+    row_fits_by_patterns();
+}
+
+/// Law: no line breaks between letters (LB28: AL, HL), nor between letters and digits (LB23).
+pub fn letters_and_digits_stay()
+    ensures { StayTogether (AL or HL or NU) (AL or HL or NU) }
+{
+    boundary_is_verdict();
+    row_fits_by_patterns();
+}
+
+/// Law: no line breaks within a number, as `-3.14`, `$100`, `50%` or `f(2)`: between digits and what stands within numbers, before digits
+/// after a hyphen, a prefix or a suffix, and after digits before one (LB25: NU, IS, SY, HY, PR, PO; LB13, LB15d), nor between digits and
+/// brackets that aren't East Asian (LB30). A tailoring that breaks prefixes and suffixes more loosely, `loose` in Chinese and Japanese,
+/// may break after such a prefix and before such a suffix.
+pub fn numbers_stay()
+    ensures within { StayTogether NU (NU or IS or SY) }
+    ensures before { StayTogether (HY or IS or PO or PR but LOOSE or CP_NARROW) NU }
+    ensures after { StayTogether NU (PR or PO but LOOSE or OP_NARROW) }
+{
+    boundary_is_verdict();
+    row_fits_by_patterns();
+}
+
+/// Law: nor does one break within a longer number, as `1,234/5`, `(12.5)%` or `$(.5`: after digits and what stands within numbers, before
+/// more of them, a prefix or a suffix, with or without a closing mark between; nor between a prefix or a suffix and the opening mark
+/// that a number follows (LB25).
+pub fn long_numbers_stay()
+    ensures infixes { (tailoring : Tailoring) (before infixes after : List ℕ) (digit next : ℕ) → Is tailoring NU digit
+        → All (Is tailoring (IS or SY)) infixes → Is tailoring (NU or PR or PO but LOOSE) next
+        → IsJoined tailoring (before ++ digit ∷ infixes) (next ∷ after) }
+    ensures closings { (tailoring : Tailoring) (before infixes after : List ℕ) (digit closing next : ℕ) → Is tailoring NU digit
+        → All (Is tailoring (IS or SY)) infixes → Is tailoring (CL or CP) closing → Is tailoring (PR or PO but LOOSE) next
+        → IsJoined tailoring ((before ++ digit ∷ infixes) ++ closing ∷ []) (next ∷ after) }
+    ensures brackets { (tailoring : Tailoring) (before after : List ℕ) (last opening digit : ℕ) → Is tailoring (PO or PR but LOOSE) last
+        → Is tailoring OP opening → Is tailoring NU digit → IsJoined tailoring (before ++ last ∷ []) (opening ∷ digit ∷ after) }
+    ensures points { (tailoring : Tailoring) (before after : List ℕ) (last opening point digit : ℕ) → Is tailoring (PO or PR but LOOSE) last
+        → Is tailoring OP opening → Is tailoring IS point → Is tailoring NU digit
+        → IsJoined tailoring (before ++ last ∷ []) (opening ∷ point ∷ digit ∷ after) }
+{
+    boundary_is_verdict();
+    row_fits_by_patterns();
+}
+
+/// Law: where lines break in `$3.14`, `(12.50)` and `hey, you!`: only at their ends, and after the space.
+pub fn lines_of_examples()
+    ensures price { machine_boundaries line_machine (0x24 ∷ 0x33 ∷ 0x2E ∷ 0x31 ∷ 0x34 ∷ []) ≡ start ∷ boundary 5 1 ∷ [] }
+    ensures sum { machine_boundaries line_machine (0x28 ∷ 0x31 ∷ 0x32 ∷ 0x2E ∷ 0x35 ∷ 0x30 ∷ 0x29 ∷ []) ≡ start ∷ boundary 7 1 ∷ [] }
+    ensures greeting { machine_boundaries line_machine (0x68 ∷ 0x65 ∷ 0x79 ∷ 0x2C ∷ 0x20 ∷ 0x79 ∷ 0x6F ∷ 0x75 ∷ 0x21 ∷ [])
+        ≡ start ∷ boundary 5 0 ∷ boundary 9 1 ∷ [] }
+{
+    lines_follow_rules();
+}
