@@ -4,14 +4,15 @@ use Rattle.ucd_table.proofs.TrieCheck.{all_below}
 use Rattle.seg_rules.specs.Patterns.{flags}
 use Rattle.seg_rules.specs.Plain.{right_fits}
 use Rattle.seg_rules.specs.RowRules.{flow, is_full, no_flags, once}
-use Rattle.icu_segmenter_uax14.specs.LineClasses.{Class, ◌or◌, ◌but◌, no, every, AL, BK, CL, CM, CP, CR, EX, GL, HL, HY, IS, LF, NL, NU, OP, PO, PR, SP, SY, WJ, ZW, ZWJ, CP_NARROW, OP_NARROW, LOOSE}
+use Rattle.seg_rules.specs.Classes.{◌or◌, ◌but◌, no}
+use Rattle.icu_segmenter_uax14.specs.LineClasses.{LineClass, every, AL, BK, CL, CM, CP, CR, EX, GL, HL, HY, IS, LF, NL, NU, OP, PO, PR, SP, SY, WJ, ZW, ZWJ, CP_NARROW, OP_NARROW, LOOSE}
 use Rattle.icu_segmenter_uax14.proofs.LineTables.{numbered_above, numbered_below, numbered_rules}
 use Rattle.icu_segmenter_uax14.proofs.Neighbours.{pairs_keep}
 use Rattle.icu_segmenter_uax14.proofs.PlaceTests.{place_keeps}
 use Rattle.icu_segmenter_uax14.proofs.RowTests.{keeps, may_begin, may_end}
 
 -- no row that breaks can fit before one that joins surely does
-abbrev Joins : Class → Class → Type 0
+abbrev Joins : LineClass → LineClass → Type 0
 Joins lasts nexts = pairs_keep (λ v. v == 0) lasts nexts ≡ true
 
 pub spaces-join : Joins (no (BK or CR or LF or NL)) (SP or ZW or BK or CR or LF or NL)

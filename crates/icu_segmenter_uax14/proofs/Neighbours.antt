@@ -1,5 +1,5 @@
 -- Between which characters lines may break: tests of the rows, computed for every pair of symbols of two classes.
-use Rattle.std.proofs.Common.{◌≡◌, ◌⊎◌, ℕ, zero, suc, ◌<◌, Bool, true, not, ◌||◌, ◌==◌, List, [], ◌∷◌, ◌++◌, length, map, reverse, refl, sym, ap, ap₂, ◌∙◌, arith, eqb-true, eq-eqb, inl, inr}
+use Rattle.std.proofs.Common.{Some, ◌≡◌, ◌⊎◌, ℕ, zero, suc, ◌<◌, Bool, true, not, ◌||◌, ◌==◌, List, [], ◌∷◌, ◌++◌, length, map, reverse, refl, sym, ap, ap₂, ◌∙◌, arith, eqb-true, eq-eqb, inl, inr}
 use Rattle.std.specs.Prelude.{◌↔◌, Contains}
 use Rattle.std.proofs.lemmas.Bool.{and_from, false_from_ne_true, not_from_false, or_cases}
 use Rattle.std.proofs.lemmas.List.{length-append, map-append, reverse-append}
@@ -16,7 +16,8 @@ use Rattle.seg_rules.specs.RowRules.{RowRules}
 use Rattle.icu_segmenter_uax29.proofs.Lists.{bool-cases}
 use Rattle.icu_segmenter_uax29.proofs.Tests.{implied, implies}
 use Rattle.icu_segmenter_uax14.specs.Characters.{character}
-use Rattle.icu_segmenter_uax14.specs.LineClasses.{Class, ◌or◌, ◌but◌, every, no, BK, CR, LF, NL}
+use Rattle.seg_rules.specs.Classes.{◌or◌, ◌but◌, no}
+use Rattle.icu_segmenter_uax14.specs.LineClasses.{LineClass, every, BK, CR, LF, NL}
 use Rattle.icu_segmenter_uax14.specs.LineRules.{line_rules}
 use Rattle.icu_segmenter_uax14.specs.LineValues.{properties_of}
 use Rattle.icu_segmenter_uax14.specs.Neighbours.{BreaksWith, EndsLine, Is, IsJoined, MustBreak, StayTogether}
@@ -43,27 +44,17 @@ abbrev pub verdict_between : Tailoring → List ℕ → List ℕ → ℕ
 verdict_between tailoring before after =
     plain_verdict line_rules (reverse (symbols_of (machine_by tailoring) before)) (symbols_of (machine_by tailoring) after)
 
-pub in-class : (tailoring : Tailoring) (class : Class) (c : ℕ) → Is tailoring class c → class (properties_of (symbol tailoring c)) ≡ true
-in-class tailoring class c is = sym (ap class (symbols-have-properties tailoring c).value) ∙ is
+pub in-class : (tailoring : Tailoring) (class : LineClass) (c : ℕ) → Is tailoring class c → class (Some (properties_of (symbol tailoring c))) ≡ true
+in-class tailoring class c is = sym (ap (λ p. class (Some p)) (symbols-have-properties tailoring c).value) ∙ is
 
 -- every character of a text is of this class
-all-every : all_below (λ s. s == 0 || every (properties_of s)) 73 ≡ true
-unfolding all_below
-all-every = refl
-
 pub is-every : (tailoring : Tailoring) (c : ℕ) → Is tailoring every c
-is-every tailoring c =
-    let stands = symbols-have-properties tailoring c in
-    ap every stands.value
-    ∙ elim (or_cases (symbol tailoring c == 0) _ (all_below-at (λ s. s == 0 || every (properties_of s)) 73 (symbol tailoring c) all-every stands.below)) [
-      | inl none ↦ let zero_symbol = eqb-true _ _ none in let some = stands.some in absurd (omega (arith, zero_symbol, some))
-      | inr is ↦ is
-    ]
+is-every tailoring c = refl
 
 -- for every pair of symbols of two classes, the verdict passes a test
-unfoldable pub pairs_keep : (ℕ → Bool) → Class → Class → Bool
+unfoldable pub pairs_keep : (ℕ → Bool) → LineClass → LineClass → Bool
 pairs_keep test lasts nexts =
-    all_below (λ x. implies (lasts (properties_of x)) (all_below (λ y. implies (nexts (properties_of y)) (pair_keeps numbered_rules test x y)) 73)) 73
+    all_below (λ x. implies (lasts (Some (properties_of x))) (all_below (λ y. implies (nexts (Some (properties_of y))) (pair_keeps numbered_rules test x y)) 73)) 73
 
 pub turned-map : (f : ℕ → ℕ) (cs : List ℕ) → reverse (map f cs) ≡ map f (reverse cs)
 turned-map f [] = refl
@@ -75,7 +66,7 @@ pub turned-last : (f : ℕ → ℕ) (before : List ℕ) (last : ℕ) → reverse
 turned-last f before last = turned-map f (before ++ (last ∷ [])) ∙ ap (map f) (reverse-append before (last ∷ []))
 
 module _ (by_patterns : ByPatterns) where
-  pub pair-passes : (test : ℕ → Bool) (lasts nexts : Class) → pairs_keep test lasts nexts ≡ true
+  pub pair-passes : (test : ℕ → Bool) (lasts nexts : LineClass) → pairs_keep test lasts nexts ≡ true
       → (tailoring : Tailoring) (before after : List ℕ) (last next : ℕ) → Is tailoring lasts last → Is tailoring nexts next
       → test (verdict_between tailoring (before ++ (last ∷ [])) (next ∷ after)) ≡ true
   unfolding pairs_keep numbered_rules
@@ -83,11 +74,11 @@ module _ (by_patterns : ByPatterns) where
       let f = symbol tailoring in
       let x = f last in
       let y = f next in
-      let from_x = implied (lasts (properties_of x)) _
-          (all_below-at (λ x. implies (lasts (properties_of x)) (all_below (λ y. implies (nexts (properties_of y)) (pair_keeps numbered_rules test x y)) 73)) 73 x kept (symbols-have-properties tailoring last).below)
+      let from_x = implied (lasts (Some (properties_of x))) _
+          (all_below-at (λ x. implies (lasts (Some (properties_of x))) (all_below (λ y. implies (nexts (Some (properties_of y))) (pair_keeps numbered_rules test x y)) 73)) 73 x kept (symbols-have-properties tailoring last).below)
           (in-class tailoring lasts last is_last) in
-      let to_y = implied (nexts (properties_of y)) _
-          (all_below-at (λ y. implies (nexts (properties_of y)) (pair_keeps numbered_rules test x y)) 73 y from_x (symbols-have-properties tailoring next).below)
+      let to_y = implied (nexts (Some (properties_of y))) _
+          (all_below-at (λ y. implies (nexts (Some (properties_of y))) (pair_keeps numbered_rules test x y)) 73 y from_x (symbols-have-properties tailoring next).below)
           (in-class tailoring nexts next is_next) in
       ap (λ past. test (plain_verdict line_rules past (map f (next ∷ after)))) (turned-last f before last)
       ∙ ap (λ rules. test (plain_verdict rules (map f (last ∷ reverse before)) (map f (next ∷ after)))) rules-are
@@ -117,7 +108,7 @@ module _ (by_patterns : ByPatterns) where
         let nothing = eqb-true _ _ none in
         omega (arith, is, nothing)
 
-    pub stay-together : (lasts nexts : Class) → pairs_keep (λ v. v == 0) lasts nexts ≡ true → StayTogether lasts nexts
+    pub stay-together : (lasts nexts : LineClass) → pairs_keep (λ v. v == 0) lasts nexts ≡ true → StayTogether lasts nexts
     stay-together lasts nexts kept tailoring before after last next is_last is_next =
         joined tailoring before (next ∷ after) last (pair-passes (λ v. v == 0) lasts nexts kept tailoring before after last next is_last is_next)
 
@@ -130,14 +121,14 @@ module _ (by_patterns : ByPatterns) where
 
     -- ---- mandatory breaks
 
-    must : (lasts nexts : Class) → pairs_keep (λ v. v == 2) lasts nexts ≡ true
+    must : (lasts nexts : LineClass) → pairs_keep (λ v. v == 2) lasts nexts ≡ true
         → (tailoring : Tailoring) (before after : List ℕ) (last next : ℕ) → Is tailoring lasts last → Is tailoring nexts next
         → MustBreak tailoring (before ++ (last ∷ [])) (next ∷ after)
     must lasts nexts kept tailoring before after last next is_last is_next =
         (verdict-is tailoring before (next ∷ after) last 1).1
         (eqb-true _ _ (pair-passes (λ v. v == 2) lasts nexts kept tailoring before after last next is_last is_next))
 
-    must-not : (lasts nexts : Class) → pairs_keep (λ v. not (v == 2)) lasts nexts ≡ true
+    must-not : (lasts nexts : LineClass) → pairs_keep (λ v. not (v == 2)) lasts nexts ≡ true
         → (tailoring : Tailoring) (before after : List ℕ) (last next : ℕ) → Is tailoring lasts last → Is tailoring nexts next
         → MustBreak tailoring (before ++ (last ∷ [])) (next ∷ after) → ⊥
     must-not lasts nexts kept tailoring before after last next is_last is_next =
@@ -148,15 +139,15 @@ module _ (by_patterns : ByPatterns) where
         → (tailoring : Tailoring) (before after : List ℕ) (last next : ℕ)
         → MustBreak tailoring (before ++ (last ∷ [])) (next ∷ after) ↔ EndsLine tailoring last next
     must-where after_ends after_returns else_where within tailoring before after last next =
-        let p = style_of tailoring (character last) in
-        let q = style_of tailoring (character next) in
+        let p = Some (style_of tailoring (character last)) in
+        let q = Some (style_of tailoring (character next)) in
         (λ breaks. elim (bool-cases ((BK or LF or NL) p)) [
           | inl ends ↦ inl ends
           | inr no_end ↦ elim (bool-cases (CR p)) [
             | inl return ↦ inr (return, λ feed. must-not CR LF within tailoring before after last next return feed breaks)
             | inr no_return ↦
                 absurd (must-not (no CR but (BK or LF or NL)) every else_where tailoring before after last next
-                (and_from _ _ (and_from _ _ (is-every tailoring last) (not_from_false (CR p) no_return)) (not_from_false _ no_end))
+                (and_from _ _ (not_from_false (CR p) no_return) (not_from_false _ no_end))
                 (is-every tailoring next) breaks)
           ]
         ],
@@ -164,7 +155,7 @@ module _ (by_patterns : ByPatterns) where
           | inl ends ↦ must (BK or LF or NL) every after_ends tailoring before after last next ends (is-every tailoring next)
           | inr (return, no_feed) ↦
               must CR (no LF) after_returns tailoring before after last next return
-              (and_from _ _ (is-every tailoring next) (not_from_false (LF q) (false_from_ne_true (LF q) no_feed)))
+              (not_from_false (LF q) (false_from_ne_true (LF q) no_feed))
         ])
 
     -- the end of a text

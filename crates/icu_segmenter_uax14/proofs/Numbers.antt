@@ -1,5 +1,5 @@
 -- Numbers that lines don't break.
-use Rattle.std.proofs.Common.{◌≡◌, ◌⊎◌, ℕ, zero, suc, ◌<◌, Bool, true, false, not, ◌&&◌, ◌||◌, ◌==◌, List, [], ◌∷◌, ◌++◌, length, map, reverse, refl, sym, ap, ap₂, ◌∙◌, arith, inl, inr, append_assoc, subst}
+use Rattle.std.proofs.Common.{Some, ◌≡◌, ◌⊎◌, ℕ, zero, suc, ◌<◌, Bool, true, false, not, ◌&&◌, ◌||◌, ◌==◌, List, [], ◌∷◌, ◌++◌, length, map, reverse, refl, sym, ap, ap₂, ◌∙◌, arith, inl, inr, append_assoc, subst}
 use Rattle.std.specs.List.{All}
 use Rattle.std.proofs.lemmas.Bool.{and_parts, not-true, or_cases, or_left, or_right}
 use Rattle.std.proofs.lemmas.List.{map-append, reverse-append}
@@ -11,7 +11,8 @@ use Rattle.seg_rules.specs.Plain.{bases_after, bases_before, is_base, right_fits
 use Rattle.seg_rules.specs.RowRules.{Pattern, Row, flow, has, is_full, no_flags, once}
 use Rattle.icu_segmenter_uax29.proofs.Tests.{implied, implies}
 use Rattle.icu_segmenter_uax14.specs.Characters.{character}
-use Rattle.icu_segmenter_uax14.specs.LineClasses.{Class, ◌or◌, ◌but◌, CL, CP, IS, NU, OP, PO, PR, SY, LOOSE}
+use Rattle.seg_rules.specs.Classes.{◌or◌, ◌but◌}
+use Rattle.icu_segmenter_uax14.specs.LineClasses.{LineClass, CL, CP, IS, NU, OP, PO, PR, SY, LOOSE}
 use Rattle.icu_segmenter_uax14.specs.LineValues.{properties_of}
 use Rattle.icu_segmenter_uax14.specs.Neighbours.{Is, IsJoined}
 use Rattle.icu_segmenter_uax14.specs.Tailored.{Tailoring, style_of}
@@ -23,15 +24,15 @@ use Rattle.icu_segmenter_uax14.proofs.Sequences.{each_pair, numbered-verdict, pa
 use Rattle.icu_segmenter_uax14.proofs.Tailorings.{symbols-have-properties}
 
 -- the bit of a class is set of each of its symbols, and none of them is a mark
-abbrev holds : Class → ℕ → Bool
-holds class number = all_below (λ s. implies (class (properties_of s)) (has number s && not (has numbered_rules.marks s))) 73
+abbrev holds : LineClass → ℕ → Bool
+holds class number = all_below (λ s. implies (class (Some (properties_of s))) (has number s && not (has numbered_rules.marks s))) 73
 
-read-at : (class : Class) (number : ℕ) → holds class number ≡ true → (tailoring : Tailoring) (c : ℕ) → Is tailoring class c
+read-at : (class : LineClass) (number : ℕ) → holds class number ≡ true → (tailoring : Tailoring) (c : ℕ) → Is tailoring class c
     → (has number (symbol tailoring c) ≡ true) × (has numbered_rules.marks (symbol tailoring c) ≡ false)
 read-at class number all tailoring c is =
     let s = symbol tailoring c in
-    let parts = and_parts (has number s) _ (implied (class (properties_of s)) _
-        (all_below-at (λ s. implies (class (properties_of s)) (has number s && not (has numbered_rules.marks s))) 73 s all (symbols-have-properties tailoring c).below)
+    let parts = and_parts (has number s) _ (implied (class (Some (properties_of s))) _
+        (all_below-at (λ s. implies (class (Some (properties_of s))) (has number s && not (has numbered_rules.marks s))) 73 s all (symbols-have-properties tailoring c).below)
         (in-class tailoring class c is)) in
     (parts.0, not-true _ parts.1)
 
@@ -125,7 +126,7 @@ module _ (tailoring : Tailoring) where
         (map f infixes ++ (f digit ∷ []), bases_before numbered_rules (map f past), (digit-bases infixes digit past all is,
         (map f infixes, f digit ∷ [], (refl, ((f digit, (refl, has_digit)), ([], map f infixes, (refl, (each-infix infixes all, refl))))))))
 
-    ends-closed : (class : Class) (bits : ℕ) → holds class bits ≡ true → (closing : ℕ) (infixes : List ℕ) (digit : ℕ) (past : List ℕ) → Is tailoring class closing
+    ends-closed : (class : LineClass) (bits : ℕ) → holds class bits ≡ true → (closing : ℕ) (infixes : List ℕ) (digit : ℕ) (past : List ℕ) → Is tailoring class closing
         → Infixes tailoring infixes → Is tailoring NU digit → EndsIn (closed_number bits) (bases_before numbered_rules (map f (closing ∷ (infixes ++ (digit ∷ past)))))
     unfolding numbered_rules
     ends-closed class bits held closing infixes digit past closes all is =
@@ -141,7 +142,7 @@ module _ (tailoring : Tailoring) where
 
     module _ (by_verdicts : ByVerdicts) where
       -- no break after what fits a left side
-      pub after-joined : (left : Pattern) (lasts nexts : Class) → each_pair (after_keeps left) lasts nexts ≡ true
+      pub after-joined : (left : Pattern) (lasts nexts : LineClass) → each_pair (after_keeps left) lasts nexts ≡ true
           → (before after : List ℕ) (c : ℕ) (cs : List ℕ) (d : ℕ) → reverse before ≡ c ∷ cs → Is tailoring lasts c → Is tailoring nexts d
           → EndsIn left (bases_before numbered_rules (map f (c ∷ cs))) → IsJoined tailoring before (d ∷ after)
       unfolding numbered_rules around_keeps
@@ -169,7 +170,7 @@ module _ (tailoring : Tailoring) where
           reverse-append before (digit ∷ infixes) ∙ ap (λ l. l ++ reverse before) (reverse-append (digit ∷ []) infixes)
           ∙ append_assoc (reverse infixes) (digit ∷ []) (reverse before)
 
-      by-near : (nexts : Class) → each_pair (after_keeps in_number) (NU or (IS or SY)) nexts ≡ true
+      by-near : (nexts : LineClass) → each_pair (after_keeps in_number) (NU or (IS or SY)) nexts ≡ true
           → (before infixes after : List ℕ) (digit next : ℕ) (near : List ℕ) → reverse infixes ≡ near → Is tailoring NU digit → Infixes tailoring near → Is tailoring nexts next
           → IsJoined tailoring (before ++ (digit ∷ infixes)) (next ∷ after)
       by-near nexts kept before infixes after digit next [] turned is_digit all is_next =
@@ -179,18 +180,18 @@ module _ (tailoring : Tailoring) where
       by-near nexts kept before infixes after digit next (c ∷ near) turned is_digit all is_next =
           after-joined in_number (NU or (IS or SY)) nexts kept (before ++ (digit ∷ infixes)) after c (near ++ (digit ∷ reverse before)) next
           (turned-number before infixes digit ∙ ap (λ l. l ++ (digit ∷ reverse before)) turned)
-          (or_right (NU (style_of tailoring (character c))) _ (All-head (λ c. Is tailoring (IS or SY) c) c near all)) is_next
+          (or_right (NU (Some (style_of tailoring (character c)))) _ (All-head (λ c. Is tailoring (IS or SY) c) c near all)) is_next
           (ends-in-number (c ∷ near) digit (reverse before) all is_digit)
 
       -- Law: after digits and what stands within numbers
-      pub number-stays : (nexts : Class) → each_pair (after_keeps in_number) (NU or (IS or SY)) nexts ≡ true
+      pub number-stays : (nexts : LineClass) → each_pair (after_keeps in_number) (NU or (IS or SY)) nexts ≡ true
           → (before infixes after : List ℕ) (digit next : ℕ) → Is tailoring NU digit → Infixes tailoring infixes → Is tailoring nexts next
           → IsJoined tailoring (before ++ (digit ∷ infixes)) (next ∷ after)
       number-stays nexts kept before infixes after digit next is_digit all is_next =
           by-near nexts kept before infixes after digit next (reverse infixes) refl is_digit (reversed infixes all) is_next
 
       -- Law: and after a closing mark behind them
-      pub closed-stays : (class : Class) (bits : ℕ) → holds class bits ≡ true → (nexts : Class) → each_pair (after_keeps (closed_number bits)) class nexts ≡ true
+      pub closed-stays : (class : LineClass) (bits : ℕ) → holds class bits ≡ true → (nexts : LineClass) → each_pair (after_keeps (closed_number bits)) class nexts ≡ true
           → (before infixes after : List ℕ) (digit closing next : ℕ) → Is tailoring NU digit → Infixes tailoring infixes → Is tailoring class closing → Is tailoring nexts next
           → IsJoined tailoring ((before ++ (digit ∷ infixes)) ++ (closing ∷ [])) (next ∷ after)
       closed-stays class bits held nexts kept before infixes after digit closing next is_digit all closes is_next =
@@ -211,12 +212,12 @@ bracket_keeps z x y = opened_keeps x (z ∷ []) y
 abbrev point_keeps : ℕ → ℕ → ℕ → ℕ → Bool
 point_keeps w z x y = opened_keeps x (w ∷ (z ∷ [])) y
 
-abbrev each_bracket : Class → Class → Class → Bool
-each_bracket lasts openings digits = all_below (λ z. implies (digits (properties_of z)) (each_pair (bracket_keeps z) lasts openings)) 73
+abbrev each_bracket : LineClass → LineClass → LineClass → Bool
+each_bracket lasts openings digits = all_below (λ z. implies (digits (Some (properties_of z))) (each_pair (bracket_keeps z) lasts openings)) 73
 
-abbrev each_point : Class → Class → Class → Class → Bool
+abbrev each_point : LineClass → LineClass → LineClass → LineClass → Bool
 each_point lasts openings points digits =
-    all_below (λ w. implies (points (properties_of w)) (all_below (λ z. implies (digits (properties_of z)) (each_pair (point_keeps w z) lasts openings)) 73)) 73
+    all_below (λ w. implies (points (Some (properties_of w))) (all_below (λ z. implies (digits (Some (properties_of z))) (each_pair (point_keeps w z) lasts openings)) 73)) 73
 
 bracketed-tests : each_bracket (PO or PR but LOOSE) OP NU ≡ true
 unfolding around_keeps keeps may_end may_begin all_below flags flow is_full no_flags once right_fits numbered_above numbered_below numbered_rules
@@ -261,8 +262,8 @@ module _ (tailoring : Tailoring) (by_patterns : ByPatterns) (by_verdicts : ByVer
       opened-joined before after last opening (digit ∷ [])
       (All-cons (IsPlain tailoring) digit [] (read-at NU digit_bits digits-hold tailoring digit is_digit).1 (All-nil (IsPlain tailoring)))
       (pair-at (bracket_keeps z) (PO or PR but LOOSE) OP
-      (implied (NU (properties_of z)) _
-      (all_below-at (λ z. implies (NU (properties_of z)) (each_pair (bracket_keeps z) (PO or PR but LOOSE) OP)) 73 z bracketed-tests (symbols-have-properties tailoring digit).below)
+      (implied (NU (Some (properties_of z))) _
+      (all_below-at (λ z. implies (NU (Some (properties_of z))) (each_pair (bracket_keeps z) (PO or PR but LOOSE) OP)) 73 z bracketed-tests (symbols-have-properties tailoring digit).below)
       (in-class tailoring NU digit is_digit))
       tailoring last opening is_last opens)
 
@@ -271,15 +272,15 @@ module _ (tailoring : Tailoring) (by_patterns : ByPatterns) (by_verdicts : ByVer
   points-stay before after last opening point digit is_last opens is_point is_digit =
       let w = symbol tailoring point in
       let z = symbol tailoring digit in
-      let by_point = implied (IS (properties_of w)) _
-          (all_below-at (λ w. implies (IS (properties_of w)) (all_below (λ z. implies (NU (properties_of z)) (each_pair (point_keeps w z) (PO or PR but LOOSE) OP)) 73)) 73 w point-tests (symbols-have-properties tailoring point).below)
+      let by_point = implied (IS (Some (properties_of w))) _
+          (all_below-at (λ w. implies (IS (Some (properties_of w))) (all_below (λ z. implies (NU (Some (properties_of z))) (each_pair (point_keeps w z) (PO or PR but LOOSE) OP)) 73)) 73 w point-tests (symbols-have-properties tailoring point).below)
           (in-class tailoring IS point is_point) in
       opened-joined before after last opening (point ∷ (digit ∷ []))
       (All-cons (IsPlain tailoring) point (digit ∷ []) (read-at (IS or SY) infix_bits infixes-hold tailoring point (or_left _ _ is_point)).1
       (All-cons (IsPlain tailoring) digit [] (read-at NU digit_bits digits-hold tailoring digit is_digit).1 (All-nil (IsPlain tailoring))))
       (pair-at (point_keeps w z) (PO or PR but LOOSE) OP
-      (implied (NU (properties_of z)) _
-      (all_below-at (λ z. implies (NU (properties_of z)) (each_pair (point_keeps w z) (PO or PR but LOOSE) OP)) 73 z by_point (symbols-have-properties tailoring digit).below)
+      (implied (NU (Some (properties_of z))) _
+      (all_below-at (λ z. implies (NU (Some (properties_of z))) (each_pair (point_keeps w z) (PO or PR but LOOSE) OP)) 73 z by_point (symbols-have-properties tailoring digit).below)
       (in-class tailoring NU digit is_digit))
       tailoring last opening is_last opens)
 
@@ -306,7 +307,7 @@ module _ (by_patterns : ByPatterns) (by_verdicts : ByVerdicts) where
       → All (Is tailoring (IS or SY)) infixes → Is tailoring (CL or CP) closing → Is tailoring (PR or PO but LOOSE) next
       → IsJoined tailoring ((before ++ (digit ∷ infixes)) ++ (closing ∷ [])) (next ∷ after)
   closed-numbers-stay tailoring before infixes after digit closing next is_digit all closes is_next =
-      elim (or_cases (CL (style_of tailoring (character closing))) _ closes) [
+      elim (or_cases (CL (Some (style_of tailoring (character closing)))) _ closes) [
         | inl mark ↦
             closed-stays tailoring by_patterns by_verdicts CL closing_bits closings-hold (PR or PO but LOOSE) closing-tests before infixes after digit closing next is_digit all mark is_next
         | inr bracket ↦

@@ -1,5 +1,5 @@
 -- Where more than two characters say that lines don't break: after spaces, and within numbers.
-use Rattle.std.proofs.Common.{◌≡◌, ◌⊎◌, ℕ, zero, suc, ◌+◌, ◌^◌, ◌<◌, Bool, true, false, not, ◌&&◌, ◌||◌, ◌==◌, List, [], ◌∷◌, ◌++◌, drop, get_or, length, map, reverse, refl, sym, ap, ap₂, ◌∙◌, arith, inl, inr, append_assoc, subst}
+use Rattle.std.proofs.Common.{Some, ◌≡◌, ◌⊎◌, ℕ, zero, suc, ◌+◌, ◌^◌, ◌<◌, Bool, true, false, not, ◌&&◌, ◌||◌, ◌==◌, List, [], ◌∷◌, ◌++◌, drop, get_or, length, map, reverse, refl, sym, ap, ap₂, ◌∙◌, arith, inl, inr, append_assoc, subst}
 use Rattle.std.specs.List.{All}
 use Rattle.std.proofs.lemmas.Bool.{and_from, and_parts, cases_Bool, false_from_ne_true, not_from_false, not-true, or_left, or_right}
 use Rattle.std.proofs.lemmas.List.{length-append, map-append, reverse-append}
@@ -11,7 +11,8 @@ use Rattle.seg_rules.specs.Plain.{bases_after, bases_before, is_base, plain_verd
 use Rattle.seg_rules.specs.RowRules.{Pattern, Row, flow, has, is_full, no_flags, once}
 use Rattle.icu_segmenter_uax29.proofs.Tests.{implied, implies}
 use Rattle.icu_segmenter_uax14.specs.Characters.{character}
-use Rattle.icu_segmenter_uax14.specs.LineClasses.{Class, ◌or◌, no, BK, CL, CP, CR, EX, LF, NL, SP, SY, ZW}
+use Rattle.seg_rules.specs.Classes.{◌or◌, no}
+use Rattle.icu_segmenter_uax14.specs.LineClasses.{LineClass, BK, CL, CP, CR, EX, LF, NL, SP, SY, ZW}
 use Rattle.icu_segmenter_uax14.specs.LineRules.{line_rules}
 use Rattle.icu_segmenter_uax14.specs.LineValues.{properties_of}
 use Rattle.icu_segmenter_uax14.specs.Neighbours.{EndsInZeroWidth, Is, IsJoined, ends_in_zero_width}
@@ -23,20 +24,20 @@ use Rattle.icu_segmenter_uax14.proofs.RowTests.{ByPatterns, after-fits, clash, f
 use Rattle.icu_segmenter_uax14.proofs.Tailorings.{symbols-have-properties}
 
 -- for every pair of symbols of two classes, a test holds
-abbrev pub each_pair : (ℕ → ℕ → Bool) → Class → Class → Bool
+abbrev pub each_pair : (ℕ → ℕ → Bool) → LineClass → LineClass → Bool
 each_pair test lasts nexts =
-    all_below (λ x. implies (lasts (properties_of x)) (all_below (λ y. implies (nexts (properties_of y)) (test x y)) 73)) 73
+    all_below (λ x. implies (lasts (Some (properties_of x))) (all_below (λ y. implies (nexts (Some (properties_of y))) (test x y)) 73)) 73
 
-pub pair-at : (test : ℕ → ℕ → Bool) (lasts nexts : Class) → each_pair test lasts nexts ≡ true
+pub pair-at : (test : ℕ → ℕ → Bool) (lasts nexts : LineClass) → each_pair test lasts nexts ≡ true
     → (tailoring : Tailoring) (c d : ℕ) → Is tailoring lasts c → Is tailoring nexts d → test (symbol tailoring c) (symbol tailoring d) ≡ true
 pair-at test lasts nexts all tailoring c d is_last is_next =
     let x = symbol tailoring c in
     let y = symbol tailoring d in
-    let from_x = implied (lasts (properties_of x)) _
-        (all_below-at (λ x. implies (lasts (properties_of x)) (all_below (λ y. implies (nexts (properties_of y)) (test x y)) 73)) 73 x all (symbols-have-properties tailoring c).below)
+    let from_x = implied (lasts (Some (properties_of x))) _
+        (all_below-at (λ x. implies (lasts (Some (properties_of x))) (all_below (λ y. implies (nexts (Some (properties_of y))) (test x y)) 73)) 73 x all (symbols-have-properties tailoring c).below)
         (in-class tailoring lasts c is_last) in
-    implied (nexts (properties_of y)) _
-    (all_below-at (λ y. implies (nexts (properties_of y)) (test x y)) 73 y from_x (symbols-have-properties tailoring d).below)
+    implied (nexts (Some (properties_of y))) _
+    (all_below-at (λ y. implies (nexts (Some (properties_of y))) (test x y)) 73 y from_x (symbols-have-properties tailoring d).below)
     (in-class tailoring nexts d is_next)
 
 -- the verdict between two parts of a text, by the numbered rules
@@ -64,7 +65,7 @@ may_fit_spaced x y row = may_fit x y row && not (same_items row.left zero_width)
 abbrev pub spaced_keeps : ℕ → ℕ → Bool
 spaced_keeps x y = place_keeps numbered_rules (may_fit_spaced x y) (λ v. v == 0) x y
 
-are-zero-width : all_below (λ s. implies (has 2361183241434822606848 s) (ZW (properties_of s)) && implies (has 73786976294838206464 s) (SP (properties_of s))) 73 ≡ true
+are-zero-width : all_below (λ s. implies (has 2361183241434822606848 s) (ZW (Some (properties_of s))) && implies (has 73786976294838206464 s) (SP (Some (properties_of s)))) 73 ≡ true
 unfolding all_below
 are-zero-width = refl
 
@@ -72,15 +73,15 @@ is-zero-width : (tailoring : Tailoring) (c : ℕ) → has 2361183241434822606848
 is-zero-width tailoring c has_it =
     let s = symbol tailoring c in
     let stands = symbols-have-properties tailoring c in
-    let both = all_below-at (λ s. implies (has 2361183241434822606848 s) (ZW (properties_of s)) && implies (has 73786976294838206464 s) (SP (properties_of s))) 73 s are-zero-width stands.below in
-    ap ZW stands.value ∙ implied (has 2361183241434822606848 s) _ (and_parts (implies (has 2361183241434822606848 s) (ZW (properties_of s))) _ both).0 has_it
+    let both = all_below-at (λ s. implies (has 2361183241434822606848 s) (ZW (Some (properties_of s))) && implies (has 73786976294838206464 s) (SP (Some (properties_of s)))) 73 s are-zero-width stands.below in
+    ap (λ p. ZW (Some p)) stands.value ∙ implied (has 2361183241434822606848 s) _ (and_parts (implies (has 2361183241434822606848 s) (ZW (Some (properties_of s)))) _ both).0 has_it
 
 is-space : (tailoring : Tailoring) (c : ℕ) → has 73786976294838206464 (symbol tailoring c) ≡ true → Is tailoring SP c
 is-space tailoring c has_it =
     let s = symbol tailoring c in
     let stands = symbols-have-properties tailoring c in
-    let both = all_below-at (λ s. implies (has 2361183241434822606848 s) (ZW (properties_of s)) && implies (has 73786976294838206464 s) (SP (properties_of s))) 73 s are-zero-width stands.below in
-    ap SP stands.value ∙ implied (has 73786976294838206464 s) _ (and_parts (implies (has 2361183241434822606848 s) (ZW (properties_of s))) _ both).1 has_it
+    let both = all_below-at (λ s. implies (has 2361183241434822606848 s) (ZW (Some (properties_of s))) && implies (has 73786976294838206464 s) (SP (Some (properties_of s)))) 73 s are-zero-width stands.below in
+    ap (λ p. SP (Some p)) stands.value ∙ implied (has 73786976294838206464 s) _ (and_parts (implies (has 2361183241434822606848 s) (ZW (Some (properties_of s)))) _ both).1 has_it
 
 first-is : (x y : ℕ) (xs ys : List ℕ) → x ∷ xs ≡ y ∷ ys → y ≡ x
 first-is x y xs ys is = ap (λ all. get_or all 0 0) (sym is)
@@ -95,7 +96,7 @@ ends-there tailoring (c ∷ cs) [] z past each has_z is =
     or_left _ _ (is-zero-width tailoring c (subst (λ s. has 2361183241434822606848 s ≡ true) (first-is (symbol tailoring c) z (map (symbol tailoring) cs ++ (0 ∷ [])) past is) has_z))
 ends-there tailoring (c ∷ cs) (s ∷ spaces) z past (has_s, each) has_z is =
     let space = is-space tailoring c (subst (λ s. has 73786976294838206464 s ≡ true) (first-is (symbol tailoring c) s (map (symbol tailoring) cs ++ (0 ∷ [])) (spaces ++ (z ∷ past)) is) has_s) in
-    or_right (ZW (style_of tailoring (character c))) _ (and_from _ _ space (ends-there tailoring cs spaces z past each has_z (ap (drop 1) is)))
+    or_right (ZW (Some (style_of tailoring (character c)))) _ (and_from _ _ space (ends-there tailoring cs spaces z past each has_z (ap (drop 1) is)))
 
 zero-width-ends : (tailoring : Tailoring) (cs : List ℕ) → EndsIn zero_width (map (symbol tailoring) cs ++ (0 ∷ [])) → ends_in_zero_width tailoring cs ≡ true
 zero-width-ends tailoring cs (own, past, (is, (later, mine, (split, ((z, (alone, has_z)), (nothing, spaces, (all_spaces, (each, none)))))))) =
@@ -116,7 +117,7 @@ module _ (by_patterns : ByPatterns) where
           ((by_patterns row (map f (c ∷ cs) ++ (0 ∷ [])) (map f (d ∷ ds) ++ (0 ∷ []))).0 fits).0)))))
 
   module _ (by_verdicts : ByVerdicts) where
-    pub stay-spaced : (lasts nexts : Class) → each_pair spaced_keeps lasts nexts ≡ true
+    pub stay-spaced : (lasts nexts : LineClass) → each_pair spaced_keeps lasts nexts ≡ true
         → (tailoring : Tailoring) (before after : List ℕ) (last next : ℕ) → Is tailoring lasts last → Is tailoring nexts next
         → (EndsInZeroWidth tailoring (before ++ (last ∷ [])) → ⊥) → IsJoined tailoring (before ++ (last ∷ [])) (next ∷ after)
     unfolding numbered_rules

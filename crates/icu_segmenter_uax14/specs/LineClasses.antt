@@ -1,4 +1,5 @@
 -- The classes of UAX #14 by their short names, as sets of symbols.
+use Rattle.std.specs.Prelude.{true}
 use Rattle.ucd_breaks.specs.declared.LineBreak.{LineBreak}
 use Rattle.ucd_breaks.specs.declared.LineBreak.TheVariants.{Aksara, Alphabetic, AksaraPrebase, AksaraStart, BreakBoth, BreakAfter, BreakBefore, MandatoryBreak, ContingentBreak, ClosePunctuation, CombiningMark, CloseParenthesis, CarriageReturn, EBase, EModifier, Exclamation, Glue, UnambiguousHyphen, HebrewLetter, Hyphen, Ideographic, Inseparable, InfixNumeric, Jl, Jt, Jv, LineFeed, NextLine, Nonstarter, Numeric, OpenPunctuation, PostfixNumeric, PrefixNumeric, Quotation, RegionalIndicator, Space, BreakSymbols, ViramaFinal, Virama, WordJoiner, ZWSpace, Zwj}
 use Rattle.ucd_breaks.specs.declared.LineBreak.TheVariants.{H2 as HangulLv, H3 as HangulLvt}
@@ -14,6 +15,10 @@ class value = those (λ p. line_break_eq p.0 value)
 
 abbrev pub trait : Trait → LineClass
 trait value = those (λ p. trait_eq p.2 value)
+
+-- every symbol of a text
+abbrev pub every : LineClass
+every = those (λ p. true)
 
 abbrev pub AK : LineClass
 AK = class Aksara

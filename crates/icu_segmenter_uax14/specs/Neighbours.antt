@@ -1,14 +1,15 @@
 -- Between which characters lines may break, in the words of UAX #14.
-use Rattle.std.specs.Prelude.{◌≡◌, ◌⊎◌, ℕ, Bool, true, false, ◌&&◌, ◌||◌, List, [], ◌∷◌, ◌++◌, length, reverse, Contains}
+use Rattle.std.specs.Prelude.{Some, ◌≡◌, ◌⊎◌, ℕ, Bool, true, false, ◌&&◌, ◌||◌, List, [], ◌∷◌, ◌++◌, length, reverse, Contains}
 use Rattle.seg_text.specs.Boundaries.{boundary}
 use Rattle.seg_machine.specs.Pick.{machine_boundaries}
 use Rattle.icu_segmenter_uax14.specs.Characters.{character}
-use Rattle.icu_segmenter_uax14.specs.LineClasses.{Class, ◌or◌, BK, CR, LF, NL, SP, ZW}
+use Rattle.seg_rules.specs.Classes.{◌or◌}
+use Rattle.icu_segmenter_uax14.specs.LineClasses.{LineClass, BK, CR, LF, NL, SP, ZW}
 use Rattle.icu_segmenter_uax14.specs.Tailored.{Tailoring, machine_by, style_of}
 
 -- a character is of a class, by its properties in Unicode 18.0 as the tailoring has them
-abbrev pub Is : Tailoring → Class → ℕ → Type 0
-Is tailoring class c = class (style_of tailoring (character c)) ≡ true
+abbrev pub Is : Tailoring → LineClass → ℕ → Type 0
+Is tailoring class c = class (Some (style_of tailoring (character c))) ≡ true
 
 -- the line breaks between two parts of a text, with this status
 abbrev pub BreaksWith : Tailoring → ℕ → List ℕ → List ℕ → Type 0
@@ -23,7 +24,7 @@ abbrev pub MustBreak : Tailoring → List ℕ → List ℕ → Type 0
 MustBreak tailoring before after = BreaksWith tailoring 1 before after
 
 -- by any tailoring or none, and whatever text they stand in, no line breaks between a character of one class and a next one of the other
-abbrev pub StayTogether : Class → Class → Type 0
+abbrev pub StayTogether : LineClass → LineClass → Type 0
 StayTogether lasts nexts =
     (tailoring : Tailoring) (before after : List ℕ) (last next : ℕ) → Is tailoring lasts last → Is tailoring nexts next
     → IsJoined tailoring (before ++ last ∷ []) (next ∷ after)
@@ -36,7 +37,7 @@ EndsLine tailoring last next = Is tailoring (BK or LF or NL) last ⊎ (Is tailor
 abbrev pub ends_in_zero_width : Tailoring → List ℕ → Bool
 ends_in_zero_width tailoring [] = false
 ends_in_zero_width tailoring (c ∷ past) =
-    let p = style_of tailoring (character c) in ZW p || (SP p && ends_in_zero_width tailoring past)
+    let p = Some (style_of tailoring (character c)) in ZW p || (SP p && ends_in_zero_width tailoring past)
 
 abbrev pub EndsInZeroWidth : Tailoring → List ℕ → Type 0
 EndsInZeroWidth tailoring before = ends_in_zero_width tailoring (reverse before) ≡ true

@@ -1,4 +1,5 @@
-use Rattle.icu_segmenter_uax14.specs.LineClasses.{◌or◌, no, BK, CL, CP, CR, EX, IS, LF, NL, SP, SY, ZW}
+use Rattle.seg_rules.specs.Classes.{◌or◌, no}
+use Rattle.icu_segmenter_uax14.specs.LineClasses.{BK, CL, CP, CR, EX, IS, LF, NL, SP, SY, ZW}
 use Rattle.icu_segmenter_uax14.proofs.Neighbours.{stay-together}
 use Rattle.icu_segmenter_uax14.proofs.NeighbourTests.{closings-join}
 use Rattle.icu_segmenter_uax14.proofs.Sequences.{closings-stay}

@@ -1,4 +1,5 @@
-use Rattle.icu_segmenter_uax14.specs.LineClasses.{◌or◌, every, no, BK, CR, GL, LF, NL, SP, WJ, ZW, ZWJ}
+use Rattle.seg_rules.specs.Classes.{◌or◌, no}
+use Rattle.icu_segmenter_uax14.specs.LineClasses.{every, BK, CR, GL, LF, NL, SP, WJ, ZW, ZWJ}
 use Rattle.icu_segmenter_uax14.proofs.Neighbours.{stay-together}
 use Rattle.icu_segmenter_uax14.proofs.NeighbourTests.{before-joiners-join, joiners-join}
 use Rattle.icu_segmenter_uax14.proofs.laws.joiners_stay.Goals as goal

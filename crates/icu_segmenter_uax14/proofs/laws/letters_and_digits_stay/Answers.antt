@@ -1,4 +1,5 @@
-use Rattle.icu_segmenter_uax14.specs.LineClasses.{◌or◌, AL, HL, NU}
+use Rattle.seg_rules.specs.Classes.{◌or◌}
+use Rattle.icu_segmenter_uax14.specs.LineClasses.{AL, HL, NU}
 use Rattle.icu_segmenter_uax14.proofs.Neighbours.{stay-together}
 use Rattle.icu_segmenter_uax14.proofs.NeighbourTests.{letters-join}
 use Rattle.icu_segmenter_uax14.proofs.laws.letters_and_digits_stay.Goals as goal

@@ -1,4 +1,5 @@
-use Rattle.icu_segmenter_uax14.specs.LineClasses.{◌or◌, no, BK, CM, CR, LF, NL, SP, ZW, ZWJ}
+use Rattle.seg_rules.specs.Classes.{◌or◌, no}
+use Rattle.icu_segmenter_uax14.specs.LineClasses.{BK, CM, CR, LF, NL, SP, ZW, ZWJ}
 use Rattle.icu_segmenter_uax14.proofs.Neighbours.{stay-together}
 use Rattle.icu_segmenter_uax14.proofs.NeighbourTests.{marks-join}
 use Rattle.icu_segmenter_uax14.proofs.laws.marks_stay.Goals as goal

@@ -1,4 +1,5 @@
-use Rattle.icu_segmenter_uax14.specs.LineClasses.{◌or◌, ◌but◌, HY, IS, NU, PO, PR, SY, CP_NARROW, OP_NARROW, LOOSE}
+use Rattle.seg_rules.specs.Classes.{◌or◌, ◌but◌}
+use Rattle.icu_segmenter_uax14.specs.LineClasses.{HY, IS, NU, PO, PR, SY, CP_NARROW, OP_NARROW, LOOSE}
 use Rattle.icu_segmenter_uax14.proofs.Neighbours.{stay-together}
 use Rattle.icu_segmenter_uax14.proofs.NeighbourTests.{digits-join, from-digits-join, to-digits-join}
 use Rattle.icu_segmenter_uax14.proofs.laws.numbers_stay.Goals as goal

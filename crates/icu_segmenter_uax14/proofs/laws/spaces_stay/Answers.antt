@@ -1,4 +1,5 @@
-use Rattle.icu_segmenter_uax14.specs.LineClasses.{◌or◌, no, BK, CR, LF, NL, SP, ZW}
+use Rattle.seg_rules.specs.Classes.{◌or◌, no}
+use Rattle.icu_segmenter_uax14.specs.LineClasses.{BK, CR, LF, NL, SP, ZW}
 use Rattle.icu_segmenter_uax14.proofs.Neighbours.{stay-together}
 use Rattle.icu_segmenter_uax14.proofs.NeighbourTests.{returns-join, spaces-join}
 use Rattle.icu_segmenter_uax14.proofs.laws.spaces_stay.Goals as goal
