@@ -14,3 +14,4 @@ mod NeighbourTests
 mod LineExamples
 mod Sequences
 mod Numbers
+mod Marks

@@ -1,6 +1,6 @@
 -- What the symbols next to a place say of a row there: that it may fit, or that it surely does; and so of the first row that fits.
-use Rattle.std.proofs.Common.{◌≡◌, ℕ, ◌⊎◌, Bool, true, false, not, ◌&&◌, ◌||◌, ◌==◌, List, [], ◌∷◌, ◌++◌, reverse, get_or, refl, sym, ap, ap₂, ◌∙◌, inl, inr, append_assoc, subst, eqb-true}
-use Rattle.std.specs.Prelude.{◌↔◌, if◌then◌else◌, slice_index_or}
+use Rattle.std.proofs.Common.{◌≡◌, ℕ, Bool, true, false, not, ◌&&◌, ◌||◌, ◌==◌, List, [], ◌∷◌, ◌++◌, reverse, get_or, refl, sym, ap, ap₂, ◌∙◌, inl, inr, append_assoc, subst, eqb-true}
+use Rattle.std.specs.Prelude.{◌↔◌, slice_index_or}
 use Rattle.std.proofs.lemmas.Bool.{and_parts, cond-true, cond-false, or_cases, or_left, or_right, not_from_true}
 use Rattle.std.proofs.lemmas.List.{reverse-append, reverse-reverse}
 use Rattle.seg_rules.specs.declared.rules.Count.{Count}
