@@ -15,3 +15,4 @@ mod LineExamples
 mod Sequences
 mod Numbers
 mod Marks
+mod Spaces

@@ -39,7 +39,7 @@ has-same : (class z x : ℕ) → z ≡ x → has class z ≡ true → has class 
 has-same class z x is has_z = subst (λ n. has class n ≡ true) is has_z
 
 -- what fits an item begins with a symbol of its class
-nearest-has : (class : ℕ) (count : Count) (x : ℕ) (xs : List ℕ) → FitsItem class count (x ∷ xs) → has class x ≡ true
+pub nearest-has : (class : ℕ) (count : Count) (x : ℕ) (xs : List ℕ) → FitsItem class count (x ∷ xs) → has class x ≡ true
 nearest-has class One x xs (z, (is, has_z)) = has-same class z x (sym (same-head x z xs [] is)) has_z
 nearest-has class Optional x xs (inl none) = cc
 nearest-has class Optional x xs (inr (z, (is, has_z))) = has-same class z x (sym (same-head x z xs [] is)) has_z
