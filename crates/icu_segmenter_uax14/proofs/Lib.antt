@@ -12,3 +12,5 @@ mod NeighbourTests
 mod LineExamples
 mod Sequences
 mod Numbers
+mod Marks
+mod Spaces

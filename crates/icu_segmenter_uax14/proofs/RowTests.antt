@@ -1,6 +1,6 @@
 -- What the symbols next to a place say of a row there: that it may fit, or that it surely does; and so of the first row that fits.
-use Rattle.std.proofs.Common.{◌≡◌, ℕ, ◌⊎◌, Bool, true, false, not, ◌&&◌, ◌||◌, ◌==◌, List, [], ◌∷◌, ◌++◌, reverse, get_or, refl, sym, ap, ap₂, ◌∙◌, inl, inr, append_assoc, subst, eqb-true}
-use Rattle.std.specs.Prelude.{◌↔◌, if◌then◌else◌, slice_index_or}
+use Rattle.std.proofs.Common.{◌≡◌, ℕ, Bool, true, false, not, ◌&&◌, ◌||◌, ◌==◌, List, [], ◌∷◌, ◌++◌, reverse, get_or, refl, sym, ap, ap₂, ◌∙◌, inl, inr, append_assoc, subst, eqb-true}
+use Rattle.std.specs.Prelude.{◌↔◌, slice_index_or}
 use Rattle.std.proofs.lemmas.Bool.{and_parts, cond-true, cond-false, or_cases, or_left, or_right, not_from_true}
 use Rattle.std.proofs.lemmas.List.{reverse-append, reverse-reverse}
 use Rattle.seg_rules.specs.declared.rules.Count.{Count}
@@ -39,7 +39,7 @@ has-same : (class z x : ℕ) → z ≡ x → has class z ≡ true → has class 
 has-same class z x is has_z = subst (λ n. has class n ≡ true) is has_z
 
 -- what fits an item begins with a symbol of its class
-nearest-has : (class : ℕ) (count : Count) (x : ℕ) (xs : List ℕ) → FitsItem class count (x ∷ xs) → has class x ≡ true
+pub nearest-has : (class : ℕ) (count : Count) (x : ℕ) (xs : List ℕ) → FitsItem class count (x ∷ xs) → has class x ≡ true
 nearest-has class One x xs (z, (is, has_z)) = has-same class z x (sym (same-head x z xs [] is)) has_z
 nearest-has class Optional x xs (inl none) = cc
 nearest-has class Optional x xs (inr (z, (is, has_z))) = has-same class z x (sym (same-head x z xs [] is)) has_z

@@ -1,13 +1,11 @@
 -- Where more than two characters say that lines don't break: after spaces, and within numbers.
-use Rattle.std.proofs.Common.{Some, ◌≡◌, ◌⊎◌, ℕ, zero, suc, ◌+◌, ◌^◌, ◌<◌, Bool, true, false, not, ◌&&◌, ◌||◌, ◌==◌, List, [], ◌∷◌, ◌++◌, drop, get_or, length, map, reverse, refl, sym, ap, ap₂, ◌∙◌, arith, inl, inr, append_assoc, subst}
-use Rattle.std.specs.List.{All}
-use Rattle.std.proofs.lemmas.Bool.{and_from, and_parts, cases_Bool, false_from_ne_true, not_from_false, not-true, or_left, or_right}
-use Rattle.std.proofs.lemmas.List.{length-append, map-append, reverse-append}
-use Rattle.std.proofs.lemmas.List.Elements.{All-append, All-cons, All-head, All-nil, All-tail}
+use Rattle.std.proofs.Common.{Some, ◌≡◌, ℕ, ◌<◌, Bool, true, not, ◌&&◌, ◌==◌, List, [], ◌∷◌, ◌++◌, drop, get_or, length, map, reverse, refl, sym, ap, ap₂, ◌∙◌, arith, append_assoc, subst}
+use Rattle.std.proofs.lemmas.Bool.{and_from, and_parts, false_from_ne_true, not_from_false, or_left, or_right}
+use Rattle.std.proofs.lemmas.List.{reverse-append}
 use Rattle.ucd_table.proofs.TrieCheck.{all_below, all_below-at}
 use Rattle.seg_rules.specs.declared.rules.Count.TheVariants.{One, Star}
-use Rattle.seg_rules.specs.Patterns.{Each, EndsIn, Fits, flags}
-use Rattle.seg_rules.specs.Plain.{bases_after, bases_before, is_base, plain_verdict, right_fits, row_fits}
+use Rattle.seg_rules.specs.Patterns.{Each, EndsIn, flags}
+use Rattle.seg_rules.specs.Plain.{plain_verdict, right_fits, row_fits}
 use Rattle.seg_rules.specs.RowRules.{Pattern, Row, flow, has, is_full, no_flags, once}
 use Rattle.icu_segmenter_uax29.proofs.Tests.{implied, implies}
 use Rattle.icu_segmenter_uax14.specs.Characters.{character}
@@ -16,11 +14,11 @@ use Rattle.icu_segmenter_uax14.specs.LineClasses.{LineClass, BK, CL, CP, CR, EX,
 use Rattle.icu_segmenter_uax14.specs.LineRules.{line_rules}
 use Rattle.icu_segmenter_uax14.specs.LineValues.{properties_of}
 use Rattle.icu_segmenter_uax14.specs.Neighbours.{EndsInZeroWidth, Is, IsJoined, ends_in_zero_width}
-use Rattle.icu_segmenter_uax14.specs.Tailored.{Tailoring, machine_by, style_of}
+use Rattle.icu_segmenter_uax14.specs.Tailored.{Tailoring, style_of}
 use Rattle.icu_segmenter_uax14.proofs.LineTables.{numbered_above, numbered_below, numbered_rules, rules-are}
-use Rattle.icu_segmenter_uax14.proofs.Neighbours.{ByVerdicts, in-class, joined-at, symbol, turned-last, turned-map, verdict_between}
-use Rattle.icu_segmenter_uax14.proofs.PlaceTests.{around-kept, around_keeps, base-alone, next-alone, place-kept, place_keeps, plain-after, plain-before}
-use Rattle.icu_segmenter_uax14.proofs.RowTests.{ByPatterns, after-fits, clash, fits-may, keeps, may_begin, may_end, may_fit, same-items, same_items, sure-fits, sure_after, sure_fit}
+use Rattle.icu_segmenter_uax14.proofs.Neighbours.{ByVerdicts, in-class, joined-at, symbol, turned-map, verdict_between}
+use Rattle.icu_segmenter_uax14.proofs.PlaceTests.{place-kept, place_keeps}
+use Rattle.icu_segmenter_uax14.proofs.RowTests.{ByPatterns, fits-may, keeps, may_begin, may_end, may_fit, same-items, same_items}
 use Rattle.icu_segmenter_uax14.proofs.Tailorings.{symbols-have-properties}
 
 -- for every pair of symbols of two classes, a test holds

@@ -71,6 +71,17 @@ pub fn marks_stay()
     row_fits_by_patterns();
 }
 
+/// Law: so such marks change nothing: after a character with any number of them, the last a CM, a line breaks just where it would after
+/// the character alone, and with the same status (LB9).
+pub fn marks_change_nothing()
+    ensures { (tailoring : Tailoring) (before marks after : List ℕ) (last mark status : ℕ)
+        → Is tailoring (no (BK or CR or LF or NL or SP or ZW or CM or ZWJ)) last → All (Is tailoring (CM or ZWJ)) marks → Is tailoring CM mark
+        → BreaksWith tailoring status ((before ++ last ∷ marks) ++ mark ∷ []) after ↔ BreaksWith tailoring status (before ++ last ∷ []) after }
+{
+    boundary_is_verdict();
+    row_fits_by_patterns();
+}
+
 /// Law: no line breaks after a zero-width joiner (LB8a), after a word joiner (LB11) or after glue, as a no-break space (LB12). Nor does
 /// one before a word joiner, but after spaces and what ends a line.
 pub fn joiners_stay()
