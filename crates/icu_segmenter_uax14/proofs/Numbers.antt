@@ -17,7 +17,7 @@ use Rattle.icu_segmenter_uax14.specs.Neighbours.{Is, IsJoined}
 use Rattle.icu_segmenter_uax14.specs.Tailored.{Tailoring, style_of}
 use Rattle.icu_segmenter_uax14.proofs.LineTables.{numbered_above, numbered_below, numbered_rules}
 use Rattle.icu_segmenter_uax14.proofs.Neighbours.{ByVerdicts, in-class, joined-at, symbol}
-use Rattle.icu_segmenter_uax14.proofs.PlaceTests.{around-kept, around_keeps, base-alone, next-alone, plain-after, plain-before}
+use Rattle.icu_segmenter_uax14.proofs.PlaceTests.{around-kept, around_by, around_keeps, base-alone, next-alone, plain-after, plain-before}
 use Rattle.icu_segmenter_uax14.proofs.RowTests.{ByPatterns, after-fits, fits-may, keeps, may_begin, may_end, may_fit, same_items, sure-fits, sure_after, sure_fit}
 use Rattle.icu_segmenter_uax14.proofs.Sequences.{each_pair, numbered-verdict, pair-at, some-list}
 use Rattle.icu_segmenter_uax14.proofs.Tailorings.{symbols-have-properties}
@@ -144,7 +144,7 @@ module _ (tailoring : Tailoring) where
       pub after-joined : (left : Pattern) (lasts nexts : Class) → each_pair (after_keeps left) lasts nexts ≡ true
           → (before after : List ℕ) (c : ℕ) (cs : List ℕ) (d : ℕ) → reverse before ≡ c ∷ cs → Is tailoring lasts c → Is tailoring nexts d
           → EndsIn left (bases_before numbered_rules (map f (c ∷ cs))) → IsJoined tailoring before (d ∷ after)
-      unfolding numbered_rules around_keeps
+      unfolding numbered_rules around_by
       after-joined left lasts nexts kept before after c cs d turned is_last is_next ends =
           let x = f c in
           let y = f d in
@@ -219,18 +219,18 @@ each_point lasts openings points digits =
     all_below (λ w. implies (points (properties_of w)) (all_below (λ z. implies (digits (properties_of z)) (each_pair (point_keeps w z) lasts openings)) 73)) 73
 
 bracketed-tests : each_bracket (PO or PR but LOOSE) OP NU ≡ true
-unfolding around_keeps keeps may_end may_begin all_below flags flow is_full no_flags once right_fits numbered_above numbered_below numbered_rules
+unfolding around_by keeps may_end may_begin all_below flags flow is_full no_flags once right_fits numbered_above numbered_below numbered_rules
 bracketed-tests = refl
 
 point-tests : each_point (PO or PR but LOOSE) OP IS NU ≡ true
-unfolding around_keeps keeps may_end may_begin all_below flags flow is_full no_flags once right_fits numbered_above numbered_below numbered_rules
+unfolding around_by keeps may_end may_begin all_below flags flow is_full no_flags once right_fits numbered_above numbered_below numbered_rules
 point-tests = refl
 
 module _ (tailoring : Tailoring) (by_patterns : ByPatterns) (by_verdicts : ByVerdicts) where
   opened-joined : (before after : List ℕ) (last next : ℕ) (known : List ℕ) → All (IsPlain tailoring) known
       → opened_keeps (symbol tailoring last) (map (symbol tailoring) known) (symbol tailoring next) ≡ true
       → IsJoined tailoring (before ++ (last ∷ [])) (next ∷ (known ++ after))
-  unfolding numbered_rules around_keeps
+  unfolding numbered_rules around_by
   opened-joined before after last next known plain here =
       let g = symbol tailoring in
       let x = g last in
@@ -285,15 +285,15 @@ module _ (tailoring : Tailoring) (by_patterns : ByPatterns) (by_verdicts : ByVer
 
 -- the tests of it, computed
 infix-tests : each_pair (after_keeps in_number) (NU or (IS or SY)) (NU or PR or PO but LOOSE) ≡ true
-unfolding around_keeps same_items keeps may_end may_begin all_below flags flow is_full no_flags once right_fits numbered_above numbered_below numbered_rules
+unfolding around_by same_items keeps may_end may_begin all_below flags flow is_full no_flags once right_fits numbered_above numbered_below numbered_rules
 infix-tests = refl
 
 closing-tests : each_pair (after_keeps (closed_number closing_bits)) CL (PR or PO but LOOSE) ≡ true
-unfolding around_keeps same_items keeps may_end may_begin all_below flags flow is_full no_flags once right_fits numbered_above numbered_below numbered_rules
+unfolding around_by same_items keeps may_end may_begin all_below flags flow is_full no_flags once right_fits numbered_above numbered_below numbered_rules
 closing-tests = refl
 
 bracket-tests : each_pair (after_keeps (closed_number bracket_bits)) CP (PR or PO but LOOSE) ≡ true
-unfolding around_keeps same_items keeps may_end may_begin all_below flags flow is_full no_flags once right_fits numbered_above numbered_below numbered_rules
+unfolding around_by same_items keeps may_end may_begin all_below flags flow is_full no_flags once right_fits numbered_above numbered_below numbered_rules
 bracket-tests = refl
 
 module _ (by_patterns : ByPatterns) (by_verdicts : ByVerdicts) where
