@@ -19,7 +19,7 @@ use Rattle.icu_segmenter_uax14.specs.Characters.{character}
 use Rattle.icu_segmenter_uax14.specs.LineClasses.{Class, ◌or◌, ◌but◌, every, no, BK, CR, LF, NL}
 use Rattle.icu_segmenter_uax14.specs.LineRules.{line_rules}
 use Rattle.icu_segmenter_uax14.specs.LineValues.{properties_of}
-use Rattle.icu_segmenter_uax14.specs.Neighbours.{BreaksWith, EndsLine, Is, IsJoined, MustBreak, StayTogether}
+use Rattle.icu_segmenter_uax14.specs.Neighbours.{BreaksWith, ComeApart, EndsLine, Is, IsJoined, MustBreak, StayTogether}
 use Rattle.icu_segmenter_uax14.specs.Tailored.{Tailoring, machine_by, style_of}
 use Rattle.icu_segmenter_uax14.proofs.LineTables.{numbered_rules, plan, relation, rules-are, tables}
 use Rattle.icu_segmenter_uax14.proofs.PlaceTests.{pair-kept, pair_keeps}
@@ -120,6 +120,11 @@ module _ (by_patterns : ByPatterns) where
     pub stay-together : (lasts nexts : Class) → pairs_keep (λ v. v == 0) lasts nexts ≡ true → StayTogether lasts nexts
     stay-together lasts nexts kept tailoring before after last next is_last is_next =
         joined tailoring before (next ∷ after) last (pair-passes (λ v. v == 0) lasts nexts kept tailoring before after last next is_last is_next)
+
+    pub come-apart : (lasts nexts : Class) → pairs_keep (λ v. v == 1) lasts nexts ≡ true → ComeApart lasts nexts
+    come-apart lasts nexts kept tailoring before after last next is_last is_next =
+        (verdict-is tailoring before (next ∷ after) last 0).1
+        (eqb-true _ _ (pair-passes (λ v. v == 1) lasts nexts kept tailoring before after last next is_last is_next))
 
     -- a break of a status isn't where the verdict is another
     pub not-with : (tailoring : Tailoring) (before after : List ℕ) (last status : ℕ)
