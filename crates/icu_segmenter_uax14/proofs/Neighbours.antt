@@ -84,11 +84,11 @@ module _ (by_patterns : ByPatterns) where
       let x = f last in
       let y = f next in
       let from_x = implied (lasts (properties_of x)) _
-          (all_below-at (λ x. implies (lasts (properties_of x)) (all_below (λ y. implies (nexts (properties_of y)) (pair_keeps numbered_rules test x y)) 73)) 73 x kept (symbols-have-properties tailoring last).below)
-          (in-class tailoring lasts last is_last) in
+      (all_below-at (λ x. implies (lasts (properties_of x)) (all_below (λ y. implies (nexts (properties_of y)) (pair_keeps numbered_rules test x y)) 73)) 73 x kept (symbols-have-properties tailoring last).below)
+      (in-class tailoring lasts last is_last) in
       let to_y = implied (nexts (properties_of y)) _
-          (all_below-at (λ y. implies (nexts (properties_of y)) (pair_keeps numbered_rules test x y)) 73 y from_x (symbols-have-properties tailoring next).below)
-          (in-class tailoring nexts next is_next) in
+      (all_below-at (λ y. implies (nexts (properties_of y)) (pair_keeps numbered_rules test x y)) 73 y from_x (symbols-have-properties tailoring next).below)
+      (in-class tailoring nexts next is_next) in
       ap (λ past. test (plain_verdict line_rules past (map f (next ∷ after)))) (turned-last f before last)
       ∙ ap (λ rules. test (plain_verdict rules (map f (last ∷ reverse before)) (map f (next ∷ after)))) rules-are
       ∙ pair-kept numbered_rules by_patterns refl (omega arith) refl f (λ c. (symbols-have-properties tailoring c).below) test last next (reverse before) after to_y
@@ -154,27 +154,29 @@ module _ (by_patterns : ByPatterns) where
         → MustBreak tailoring (before ++ (last ∷ [])) (next ∷ after) ↔ EndsLine tailoring last next
     must-where after_ends after_returns else_where within tailoring before after last next =
         let p = style_of tailoring (character last) in
-        let q = style_of tailoring (character next) in
-        (λ breaks. elim (bool-cases ((BK or LF or NL) p)) [
-          | inl ends ↦ inl ends
-          | inr no_end ↦ elim (bool-cases (CR p)) [
-            | inl return ↦ inr (return, λ feed. must-not CR LF within tailoring before after last next return feed breaks)
-            | inr no_return ↦
-                absurd (must-not (no CR but (BK or LF or NL)) every else_where tailoring before after last next
-                (and_from _ _ (and_from _ _ (is-every tailoring last) (not_from_false (CR p) no_return)) (not_from_false _ no_end))
-                (is-every tailoring next) breaks)
-          ]
-        ],
-        λ ends. elim ends [
-          | inl ends ↦ must (BK or LF or NL) every after_ends tailoring before after last next ends (is-every tailoring next)
-          | inr (return, no_feed) ↦
-              must CR (no LF) after_returns tailoring before after last next return
-              (and_from _ _ (is-every tailoring next) (not_from_false (LF q) (false_from_ne_true (LF q) no_feed)))
-        ])
+        let q = style_of tailoring (character next) in (
+          λ breaks. elim (bool-cases ((BK or LF or NL) p)) [
+            | inl ends ↦ inl ends
+            | inr no_end ↦ elim (bool-cases (CR p)) [
+              | inl return ↦ inr (return, λ feed. must-not CR LF within tailoring before after last next return feed breaks)
+              | inr no_return ↦
+                  absurd (must-not (no CR but (BK or LF or NL)) every else_where tailoring before after last next
+                  (and_from _ _ (and_from _ _ (is-every tailoring last) (not_from_false (CR p) no_return)) (not_from_false _ no_end))
+                  (is-every tailoring next) breaks)
+            ]
+          ],
+          λ ends. elim ends [
+            | inl ends ↦ must (BK or LF or NL) every after_ends tailoring before after last next ends (is-every tailoring next)
+            | inr (return, no_feed) ↦
+                must CR (no LF) after_returns tailoring before after last next return
+                (and_from _ _ (is-every tailoring next) (not_from_false (LF q) (false_from_ne_true (LF q) no_feed)))
+          ],
+        )
 
     -- the end of a text
     pub ends-with : (tailoring : Tailoring) (before : List ℕ) (last status : ℕ) → BreaksWith tailoring status (before ++ (last ∷ [])) [] ↔ (status ≡ 1)
     unfolding plain_verdict line_rules
-    ends-with tailoring before last status =
-        (λ breaks. let is = (verdict-is tailoring before [] last status).0 breaks in omega (arith, is),
-        λ is. (verdict-is tailoring before [] last status).1 (ap suc (sym is)))
+    ends-with tailoring before last status = (
+      λ breaks. let is = (verdict-is tailoring before [] last status).0 breaks in omega (arith, is),
+      λ is. (verdict-is tailoring before [] last status).1 (ap suc (sym is)),
+    )

@@ -31,8 +31,8 @@ read-at : (class : Class) (number : ℕ) → holds class number ≡ true → (ta
 read-at class number all tailoring c is =
     let s = symbol tailoring c in
     let parts = and_parts (has number s) _ (implied (class (properties_of s)) _
-        (all_below-at (λ s. implies (class (properties_of s)) (has number s && not (has numbered_rules.marks s))) 73 s all (symbols-have-properties tailoring c).below)
-        (in-class tailoring class c is)) in
+    (all_below-at (λ s. implies (class (properties_of s)) (has number s && not (has numbered_rules.marks s))) 73 s all (symbols-have-properties tailoring c).below)
+    (in-class tailoring class c is)) in
     (parts.0, not-true _ parts.1)
 
 abbrev digit_bits : ℕ
@@ -85,9 +85,10 @@ module _ (tailoring : Tailoring) where
 
   each-infix : (cs : List ℕ) → Infixes tailoring cs → Each infix_bits (map f cs)
   each-infix [] all = tt
-  each-infix (c ∷ cs) all =
-      ((read-at (IS or SY) infix_bits infixes-hold tailoring c (All-head (λ c. Is tailoring (IS or SY) c) c cs all)).0,
-      each-infix cs (All-tail (λ c. Is tailoring (IS or SY) c) c cs all))
+  each-infix (c ∷ cs) all = (
+    (read-at (IS or SY) infix_bits infixes-hold tailoring c (All-head (λ c. Is tailoring (IS or SY) c) c cs all)).0,
+    each-infix cs (All-tail (λ c. Is tailoring (IS or SY) c) c cs all),
+  )
 
   plain-infixes : (cs : List ℕ) → Infixes tailoring cs → All IsPlain cs
   plain-infixes [] all = All-nil IsPlain
@@ -113,7 +114,7 @@ module _ (tailoring : Tailoring) where
     digit-bases infixes digit past all is =
         let known = infixes ++ (digit ∷ []) in
         let plain = All-append IsPlain infixes (digit ∷ []) (plain-infixes infixes all)
-            (All-cons IsPlain digit [] (read-at NU digit_bits digits-hold tailoring digit is).1 (All-nil IsPlain)) in
+        (All-cons IsPlain digit [] (read-at NU digit_bits digits-hold tailoring digit is).1 (All-nil IsPlain)) in
         ap (bases_before numbered_rules) (ap (map f) (sym (append_assoc infixes (digit ∷ []) past)) ∙ map-append f known past)
         ∙ plain-before numbered_rules by_patterns refl (omega arith) refl f few known (map f past) plain
         ∙ ap (λ l. l ++ bases_before numbered_rules (map f past)) (map-append f infixes (digit ∷ []))
@@ -121,9 +122,14 @@ module _ (tailoring : Tailoring) where
     ends-in-number : (infixes : List ℕ) (digit : ℕ) (past : List ℕ) → Infixes tailoring infixes → Is tailoring NU digit
         → EndsIn in_number (bases_before numbered_rules (map f (infixes ++ (digit ∷ past))))
     ends-in-number infixes digit past all is =
-        let has_digit = (read-at NU digit_bits digits-hold tailoring digit is).0 in
-        (map f infixes ++ (f digit ∷ []), bases_before numbered_rules (map f past), (digit-bases infixes digit past all is,
-        (map f infixes, f digit ∷ [], (refl, ((f digit, (refl, has_digit)), ([], map f infixes, (refl, (each-infix infixes all, refl))))))))
+        let has_digit = (read-at NU digit_bits digits-hold tailoring digit is).0 in (
+          map f infixes ++ (f digit ∷ []),
+          bases_before numbered_rules (map f past),
+          (
+            digit-bases infixes digit past all is,
+            (map f infixes, f digit ∷ [], (refl, ((f digit, (refl, has_digit)), ([], map f infixes, (refl, (each-infix infixes all, refl)))))),
+          ),
+        )
 
     ends-closed : (class : Class) (bits : ℕ) → holds class bits ≡ true → (closing : ℕ) (infixes : List ℕ) (digit : ℕ) (past : List ℕ) → Is tailoring class closing
         → Infixes tailoring infixes → Is tailoring NU digit → EndsIn (closed_number bits) (bases_before numbered_rules (map f (closing ∷ (infixes ++ (digit ∷ past)))))
@@ -131,13 +137,35 @@ module _ (tailoring : Tailoring) where
     ends-closed class bits held closing infixes digit past closes all is =
         let has_digit = (read-at NU digit_bits digits-hold tailoring digit is).0 in
         let (has_closing, plain) = read-at class bits held tailoring closing closes in
-        let own = map f infixes ++ (f digit ∷ []) in
-        (f closing ∷ own, bases_before numbered_rules (map f past),
-        (base-alone numbered_rules by_patterns refl (omega arith) refl f few (f closing) (map f (infixes ++ (digit ∷ past))) plain
-        ∙ ap (λ l. f closing ∷ l) (digit-bases infixes digit past all is),
-        (f closing ∷ map f infixes, f digit ∷ [], (refl, ((f digit, (refl, has_digit)),
-        (f closing ∷ [], map f infixes, (refl, (each-infix infixes all,
-        ([], f closing ∷ [], (refl, ((f closing, (refl, has_closing)), refl)))))))))))
+        let own = map f infixes ++ (f digit ∷ []) in (
+          f closing ∷ own,
+          bases_before numbered_rules (map f past),
+          (
+            base-alone numbered_rules by_patterns refl (omega arith) refl f few (f closing) (map f (infixes ++ (digit ∷ past))) plain
+                ∙ ap (λ l. f closing ∷ l) (digit-bases infixes digit past all is),
+            (
+              f closing ∷ map f infixes,
+              f digit ∷ [],
+              (
+                refl,
+                (
+                  (f digit, (refl, has_digit)),
+                  (
+                    f closing ∷ [],
+                    map f infixes,
+                    (
+                      refl,
+                      (
+                        each-infix infixes all,
+                        ([], f closing ∷ [], (refl, ((f closing, (refl, has_closing)), refl))),
+                      ),
+                    ),
+                  ),
+                ),
+              ),
+            ),
+          ),
+        )
 
     module _ (by_verdicts : ByVerdicts) where
       -- no break after what fits a left side
@@ -160,8 +188,8 @@ module _ (tailoring : Tailoring) where
           (around-kept numbered_rules by_patterns refl (omega arith) refl f few (λ v. v == 0) (may_fit x y) (sure_after left x y) c d cs after
           (λ row. fits-may by_patterns row x y (map f cs ++ (0 ∷ [])) (map f after ++ (0 ∷ [])))
           (λ row sure.
-              ap₂ (λ (b a : List ℕ). row_fits row b a) before_is after_is
-              ∙ after-fits by_patterns row left x y (bases_before numbered_rules (map f cs)) further (subst (EndsIn left) before_is ends) sure)
+          ap₂ (λ (b a : List ℕ). row_fits row b a) before_is after_is
+          ∙ after-fits by_patterns row left x y (bases_before numbered_rules (map f cs)) further (subst (EndsIn left) before_is ends) sure)
           here))
 
       turned-number : (before infixes : List ℕ) (digit : ℕ) → reverse (before ++ (digit ∷ infixes)) ≡ reverse infixes ++ (digit ∷ reverse before)
@@ -242,15 +270,15 @@ module _ (tailoring : Tailoring) (by_patterns : ByPatterns) (by_verdicts : ByVer
       let base = is_base numbered_rules (map g (last ∷ cs)) in
       let before_is = base-alone numbered_rules by_patterns refl (omega arith) refl g few_g x (map g cs) (not-true _ parts.0) in
       let (further, after_is) = plain-after numbered_rules by_patterns refl (omega arith) refl g few_g (next ∷ known) base (map g after)
-          (All-cons (IsPlain tailoring) next known (not-true _ more_parts.0) plain) in
+      (All-cons (IsPlain tailoring) next known (not-true _ more_parts.0) plain) in
       let turned = reverse-append before (last ∷ []) in
       joined-at by_patterns by_verdicts tailoring (before ++ (last ∷ [])) (next ∷ (known ++ after)) (some-list (before ++ (last ∷ [])) last cs turned)
       (numbered-verdict tailoring (before ++ (last ∷ [])) (next ∷ (known ++ after)) last cs turned
       (around-kept numbered_rules by_patterns refl (omega arith) refl g few_g (λ v. v == 0) (may_fit x y) (sure_fit (x ∷ []) (y ∷ map g known)) last next cs (known ++ after)
       (λ row. fits-may by_patterns row x y (map g cs ++ (0 ∷ [])) (map g (known ++ after) ++ (0 ∷ [])))
       (λ row sure.
-          ap₂ (λ (b a : List ℕ). row_fits row b a) before_is (ap (λ l. bases_after numbered_rules base (y ∷ l)) (map-append g known after) ∙ after_is)
-          ∙ sure-fits by_patterns row (x ∷ []) (y ∷ map g known) (bases_before numbered_rules (map g cs)) further sure)
+      ap₂ (λ (b a : List ℕ). row_fits row b a) before_is (ap (λ l. bases_after numbered_rules base (y ∷ l)) (map-append g known after) ∙ after_is)
+      ∙ sure-fits by_patterns row (x ∷ []) (y ∷ map g known) (bases_before numbered_rules (map g cs)) further sure)
       here))
 
   -- Law: no break before a bracket that a number stands in, after a prefix or a suffix
@@ -272,8 +300,8 @@ module _ (tailoring : Tailoring) (by_patterns : ByPatterns) (by_verdicts : ByVer
       let w = symbol tailoring point in
       let z = symbol tailoring digit in
       let by_point = implied (IS (properties_of w)) _
-          (all_below-at (λ w. implies (IS (properties_of w)) (all_below (λ z. implies (NU (properties_of z)) (each_pair (point_keeps w z) (PO or PR but LOOSE) OP)) 73)) 73 w point-tests (symbols-have-properties tailoring point).below)
-          (in-class tailoring IS point is_point) in
+      (all_below-at (λ w. implies (IS (properties_of w)) (all_below (λ z. implies (NU (properties_of z)) (each_pair (point_keeps w z) (PO or PR but LOOSE) OP)) 73)) 73 w point-tests (symbols-have-properties tailoring point).below)
+      (in-class tailoring IS point is_point) in
       opened-joined before after last opening (point ∷ (digit ∷ []))
       (All-cons (IsPlain tailoring) point (digit ∷ []) (read-at (IS or SY) infix_bits infixes-hold tailoring point (or_left _ _ is_point)).1
       (All-cons (IsPlain tailoring) digit [] (read-at NU digit_bits digits-hold tailoring digit is_digit).1 (All-nil (IsPlain tailoring))))

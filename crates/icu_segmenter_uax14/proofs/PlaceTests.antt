@@ -118,7 +118,7 @@ module _ (rules : RowRules) (by : ByPatterns) (reads_marks : rules.has_marks ≡
     marked x past y rest mark not_bare passes =
         let base : is_base rules (x ∷ past) ≡ true = or_right (has rules.marks x && is_base rules past) _ (ap₂ (λ (a b : Bool). a && b) reads_marks not_bare) in
         let glued : (rules.has_marks && is_marked rules (is_base rules (x ∷ past)) (y ∷ rest)) ≡ true =
-            ap₂ (λ (a b : Bool). a && b) reads_marks (ap₂ (λ (a b : Bool). a && b) mark base) in
+        ap₂ (λ (a b : Bool). a && b) reads_marks (ap₂ (λ (a b : Bool). a && b) mark base) in
         ap test (cond-true _ 0 _ glued) ∙ passes
 
     pub unmarked-kept : (past : List ℕ) (y : ℕ) (rest : List ℕ) → has rules.marks y ≡ false
@@ -135,13 +135,13 @@ module _ (rules : RowRules) (by : ByPatterns) (reads_marks : rules.has_marks ≡
     mark-alone x past y rest mark bare plain kept =
         let other = not-true (has rules.marks x) plain in
         let no_base : is_base rules (x ∷ past) ≡ false =
-            or_from (has rules.marks x && is_base rules past) _ (and_left (has rules.marks x) _ other)
-            (and_right rules.has_marks _ (not_from_true (has rules.bare x) bare)) in
+        or_from (has rules.marks x && is_base rules past) _ (and_left (has rules.marks x) _ other)
+        (and_right rules.has_marks _ (not_from_true (has rules.bare x) bare)) in
         let apart : (has rules.marks y && is_base rules (x ∷ past)) ≡ false = and_right (has rules.marks y) _ no_base in
         let further = bases_after rules ((has rules.marks y && is_base rules (x ∷ past)) || (rules.has_marks && not (has rules.bare y))) rest in
         let next : bases_after rules (is_base rules (x ∷ past)) (y ∷ rest) ≡ rules.alone ∷ further =
-            cond-false (has rules.marks y && is_base rules (x ∷ past)) further (unmarked rules y ∷ further) apart
-            ∙ ap (λ s. s ∷ further) (cond-true (has rules.marks y) rules.alone y mark) in
+        cond-false (has rules.marks y && is_base rules (x ∷ past)) further (unmarked rules y ∷ further) apart
+        ∙ ap (λ s. s ∷ further) (cond-true (has rules.marks y) rules.alone y mark) in
         ap test (cond-false _ 0 _ (and_right rules.has_marks _ apart))
         ∙ ap test (ap₂ (λ (b a : List ℕ). first_row rules.below b a 0) (base-alone x past other) next)
         ∙ below-kept x rules.alone (bases_before rules past) further kept
@@ -215,8 +215,8 @@ module _ (rules : RowRules) (by : ByPatterns) (reads_marks : rules.has_marks ≡
         (λ row. sure-fits by row (x ∷ []) (y ∷ []) (past ++ (0 ∷ [])) (map f ds ++ (0 ∷ [])))
         rules.above (keeps test low sure rules.below false) (lower_verdict (x ∷ past) y (map f ds)) more_parts.1
         (λ below. unmarked-kept (x ∷ past) y (map f ds) (not-true (has rules.marks y) more_parts.0)
-            (first-kept test low sure (bases_before rules (x ∷ past)) (bases_after rules (is_base rules (x ∷ past)) (y ∷ map f ds)) low_be
-            surely rules.below false 0 below (λ no. cc)))
+        (first-kept test low sure (bases_before rules (x ∷ past)) (bases_after rules (is_base rules (x ∷ past)) (y ∷ map f ds)) low_be
+        surely rules.below false 0 below (λ no. cc)))
 
     pub around-kept : (may sure : Row → Bool) (c d : ℕ) (cs ds : List ℕ)
         → ((row : Row) → row_fits row (map f (c ∷ cs) ++ (0 ∷ [])) (map f (d ∷ ds) ++ (0 ∷ [])) ≡ true → may row ≡ true)

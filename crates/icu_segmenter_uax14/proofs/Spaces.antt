@@ -1,5 +1,5 @@
 -- Where lines may break: after a space, by the character before it and the one after.
-use Rattle.std.proofs.Common.{◌≡◌, ◌⊎◌, ℕ, suc, ◌<◌, Bool, true, false, not, ◌&&◌, ◌||◌, ◌==◌, List, [], ◌∷◌, ◌++◌, drop, get_or, length, map, reverse, refl, sym, ap, ap₂, ◌∙◌, arith, inl, inr, append_assoc, append-nil, subst, eqb-true}
+use Rattle.std.proofs.Common.{◌≡◌, ℕ, suc, ◌<◌, Bool, true, not, ◌&&◌, ◌||◌, ◌==◌, List, [], ◌∷◌, ◌++◌, get_or, length, map, reverse, refl, sym, ap, ap₂, ◌∙◌, arith, inl, inr, append_assoc, subst, eqb-true}
 use Rattle.std.proofs.lemmas.Bool.{and_from, and_parts, not-true, or_left, or_right}
 use Rattle.std.proofs.lemmas.List.{reverse-append}
 use Rattle.ucd_table.proofs.TrieCheck.{all_below, all_below-at}
@@ -78,30 +78,30 @@ two-there ((class, One) ∷ items) nearest farther at_w at_x x w rest (later, ow
     two-there items later (own ++ farther) (has class w) (at_w && has class x) x w rest fits all
     (λ later_is. same-at class 1 (x ∷ (z ∷ farther)) (x ∷ (w ∷ rest)) (sym (ap₂ (λ (l o : List ℕ). l ++ (o ++ farther)) later_is alone) ∙ all) has_z)
     (λ nothing.
-        let here : z ∷ farther ≡ x ∷ (w ∷ rest) = sym (ap₂ (λ (l o : List ℕ). l ++ (o ++ farther)) nothing alone) ∙ all in
-        let first : z ≡ x = ap (λ all. get_or all 0 0) here in
-        and_from _ _ (one (is ∙ ap₂ (λ (l o : List ℕ). l ++ o) nothing alone ∙ ap (λ n. n ∷ []) first)) (same-at class 0 (z ∷ farther) (x ∷ (w ∷ rest)) here has_z))
+    let here : z ∷ farther ≡ x ∷ (w ∷ rest) = sym (ap₂ (λ (l o : List ℕ). l ++ (o ++ farther)) nothing alone) ∙ all in
+    let first : z ≡ x = ap (λ all. get_or all 0 0) here in
+    and_from _ _ (one (is ∙ ap₂ (λ (l o : List ℕ). l ++ o) nothing alone ∙ ap (λ n. n ∷ []) first)) (same-at class 0 (z ∷ farther) (x ∷ (w ∷ rest)) here has_z))
 two-there ((class, Optional) ∷ items) nearest farther at_w at_x x w rest (later, own, (is, (item, fits))) are one none =
     let all = sym (append_assoc later own farther) ∙ ap (λ xs. xs ++ farther) (sym is) ∙ are in
     two-there items later (own ++ farther) (at_w || has class w) (at_x || ((at_w || has class w) && has class x)) x w rest fits all
     (λ later_is. w-next class Optional own farther at_w x w rest item (ap (λ l. l ++ (own ++ farther)) (sym later_is) ∙ all)
-        (λ empty. one (is ∙ ap₂ (λ (l o : List ℕ). l ++ o) later_is empty)))
+    (λ empty. one (is ∙ ap₂ (λ (l o : List ℕ). l ++ o) later_is empty)))
     (λ nothing. x-next class Optional own farther at_w at_x x w rest item (ap (λ l. l ++ (own ++ farther)) (sym nothing) ∙ all)
-        (λ empty. none (is ∙ ap₂ (λ (l o : List ℕ). l ++ o) nothing empty)) (λ own_is. one (is ∙ ap₂ (λ (l o : List ℕ). l ++ o) nothing own_is)))
+    (λ empty. none (is ∙ ap₂ (λ (l o : List ℕ). l ++ o) nothing empty)) (λ own_is. one (is ∙ ap₂ (λ (l o : List ℕ). l ++ o) nothing own_is)))
 two-there ((class, Star) ∷ items) nearest farther at_w at_x x w rest (later, own, (is, (item, fits))) are one none =
     let all = sym (append_assoc later own farther) ∙ ap (λ xs. xs ++ farther) (sym is) ∙ are in
     two-there items later (own ++ farther) (at_w || has class w) (at_x || ((at_w || has class w) && has class x)) x w rest fits all
     (λ later_is. w-next class Star own farther at_w x w rest item (ap (λ l. l ++ (own ++ farther)) (sym later_is) ∙ all)
-        (λ empty. one (is ∙ ap₂ (λ (l o : List ℕ). l ++ o) later_is empty)))
+    (λ empty. one (is ∙ ap₂ (λ (l o : List ℕ). l ++ o) later_is empty)))
     (λ nothing. x-next class Star own farther at_w at_x x w rest item (ap (λ l. l ++ (own ++ farther)) (sym nothing) ∙ all)
-        (λ empty. none (is ∙ ap₂ (λ (l o : List ℕ). l ++ o) nothing empty)) (λ own_is. one (is ∙ ap₂ (λ (l o : List ℕ). l ++ o) nothing own_is)))
+    (λ empty. none (is ∙ ap₂ (λ (l o : List ℕ). l ++ o) nothing empty)) (λ own_is. one (is ∙ ap₂ (λ (l o : List ℕ). l ++ o) nothing own_is)))
 two-there ((class, Pairs) ∷ items) nearest farther at_w at_x x w rest (later, own, (is, (item, fits))) are one none =
     let all = sym (append_assoc later own farther) ∙ ap (λ xs. xs ++ farther) (sym is) ∙ are in
     two-there items later (own ++ farther) (at_w || has class w) (at_x || ((at_w || has class w) && has class x)) x w rest fits all
     (λ later_is. w-next class Pairs own farther at_w x w rest item (ap (λ l. l ++ (own ++ farther)) (sym later_is) ∙ all)
-        (λ empty. one (is ∙ ap₂ (λ (l o : List ℕ). l ++ o) later_is empty)))
+    (λ empty. one (is ∙ ap₂ (λ (l o : List ℕ). l ++ o) later_is empty)))
     (λ nothing. x-next class Pairs own farther at_w at_x x w rest item (ap (λ l. l ++ (own ++ farther)) (sym nothing) ∙ all)
-        (λ empty. none (is ∙ ap₂ (λ (l o : List ℕ). l ++ o) nothing empty)) (λ own_is. one (is ∙ ap₂ (λ (l o : List ℕ). l ++ o) nothing own_is)))
+    (λ empty. none (is ∙ ap₂ (λ (l o : List ℕ). l ++ o) nothing empty)) (λ own_is. one (is ∙ ap₂ (λ (l o : List ℕ). l ++ o) nothing own_is)))
 
 -- a row may fit after two symbols and before another
 abbrev pub may_fit_two : ℕ → ℕ → ℕ → Row → Bool
@@ -147,20 +147,20 @@ module _ (tailoring : Tailoring) (by : ByPatterns) (by_verdicts : ByVerdicts) wh
       let y = f next in
       let past = map f (reverse before) in
       let tested = pair-at (space_keeps w) SP Nexts
-          (implied (Lasts (properties_of w)) _
-          (all_below-at (λ w. implies (Lasts (properties_of w)) (each_pair (space_keeps w) SP Nexts)) 73 w space-tests (few last)) (in-class tailoring Lasts last is_last))
-          tailoring space next is_space is_next in
+      (implied (Lasts (properties_of w)) _
+      (all_below-at (λ w. implies (Lasts (properties_of w)) (each_pair (space_keeps w) SP Nexts)) 73 w space-tests (few last)) (in-class tailoring Lasts last is_last))
+      tailoring space next is_space is_next in
       let whole = and_parts (not (has numbered_rules.marks w)) _ tested in
       let parts = and_parts (not (has numbered_rules.marks x)) _ whole.1 in
       let more_parts = and_parts (not (has numbered_rules.marks y)) _ parts.1 in
       let base = is_base numbered_rules (x ∷ (w ∷ past)) in
       let before_is = base-alone numbered_rules by refl (omega arith) refl f few x (w ∷ past) (not-true _ parts.0)
-          ∙ ap (λ s. x ∷ s) (base-alone numbered_rules by refl (omega arith) refl f few w past (not-true _ whole.0)) in
+      ∙ ap (λ s. x ∷ s) (base-alone numbered_rules by refl (omega arith) refl f few w past (not-true _ whole.0)) in
       let after_is = next-alone numbered_rules by refl (omega arith) refl f few base y (map f after) (not-true _ more_parts.0) in
       let further = bases_after numbered_rules ((has numbered_rules.marks y && base) || (numbered_rules.has_marks && not (has numbered_rules.bare y))) (map f after) in
       let same = λ (row : Row). ap₂ (λ (b a : List ℕ). row_fits row b a) before_is after_is in
       let turned : reverse ((before ++ (last ∷ [])) ++ (space ∷ [])) ≡ space ∷ (last ∷ reverse before) =
-          reverse-append (before ++ (last ∷ [])) (space ∷ []) ∙ ap (λ l. space ∷ l) (reverse-append before (last ∷ [])) in
+      reverse-append (before ++ (last ∷ [])) (space ∷ []) ∙ ap (λ l. space ∷ l) (reverse-append before (last ∷ [])) in
       (verdict-is by by_verdicts tailoring (before ++ (last ∷ [])) (next ∷ after) space 0).1
       (ap₂ (λ (rules : RowRules) (past : List ℕ). plain_verdict rules past (map f (next ∷ after))) rules-are
       (turned-map f ((before ++ (last ∷ [])) ++ (space ∷ [])) ∙ ap (map f) turned)
