@@ -49,9 +49,9 @@ module _ (by : ByPatterns) where
   fits-not : (row : Row) (x : ℕ) (past : List ℕ) → decides row x false ≡ true → left_fits row.left (x ∷ past) ≡ false
   fits-not row x past is =
       false_from_ne_true _ (λ fits.
-          let may = and_parts (may_end true row.left x) _
-              (fits-may by (left_side row) x 0 past [] (and_from (left_fits row.left (x ∷ past)) (right_fits [] [] (0 ∷ [])) fits nothing-fits)) in
-          let no : true ≡ false = sym may.0 ∙ not-true (may_end true row.left x) is in cc)
+      let may = and_parts (may_end true row.left x) _
+      (fits-may by (left_side row) x 0 past [] (and_from (left_fits row.left (x ∷ past)) (right_fits [] [] (0 ∷ [])) fits nothing-fits)) in
+      let no : true ≡ false = sym may.0 ∙ not-true (may_end true row.left x) is in cc)
 
   same-left : (row : Row) (x m : ℕ) (past past2 : List ℕ) → alike x m row ≡ true → left_fits row.left (x ∷ past) ≡ left_fits row.left (m ∷ past2)
   same-left row x m past past2 is = elim (or_cases (decides row x true && decides row m true) _ is) [
@@ -140,8 +140,8 @@ module _ (tailoring : Tailoring) where
         sym (same-first by numbered_rules.above (f last) (f mark) (map f past ++ (0 ∷ [])) (map f (marks ++ (last ∷ past)) ++ (0 ∷ [])) (map f (d ∷ ds) ++ (0 ∷ []))
         _ _ (and_parts (not (is_mark (f last))) _ parts.1).1
         (sym (ap₂ (λ (b : Bool) (xs : List ℕ).
-            if numbered_rules.has_marks && is_marked numbered_rules b (map f (d ∷ ds)) then 0 else first_row numbered_rules.below xs (bases_after numbered_rules b (map f (d ∷ ds))) 0)
-            base bases)))
+        if numbered_rules.has_marks && is_marked numbered_rules b (map f (d ∷ ds)) then 0 else first_row numbered_rules.below xs (bases_after numbered_rules b (map f (d ∷ ds))) 0)
+        base bases)))
 
     module _ (by_verdicts : ByVerdicts) where
       -- Law: so lines break after the marks as after the character
@@ -150,13 +150,13 @@ module _ (tailoring : Tailoring) where
           → BreaksWith tailoring status ((before ++ (last ∷ marks)) ++ (mark ∷ [])) after ↔ BreaksWith tailoring status (before ++ (last ∷ [])) after
       marks-nothing before marks after last mark status is_last all is_mark_too =
           let turned : reverse (before ++ (last ∷ marks)) ≡ reverse marks ++ (last ∷ reverse before) =
-              reverse-append before (last ∷ marks) ∙ ap (λ l. l ++ reverse before) (reverse-append (last ∷ []) marks)
-              ∙ append_assoc (reverse marks) (last ∷ []) (reverse before) in
+          reverse-append before (last ∷ marks) ∙ ap (λ l. l ++ reverse before) (reverse-append (last ∷ []) marks)
+          ∙ append_assoc (reverse marks) (last ∷ []) (reverse before) in
           let same : verdict_between tailoring ((before ++ (last ∷ marks)) ++ (mark ∷ [])) after ≡ verdict_between tailoring (before ++ (last ∷ [])) after =
-              ap₂ (λ (rules : RowRules) (past : List ℕ). plain_verdict rules past (map f after)) rules-are
-              (turned-last f (before ++ (last ∷ marks)) mark ∙ ap (λ l. map f (mark ∷ l)) turned)
-              ∙ same-verdict mark (reverse marks) last (reverse before) after is_mark_too (reversed marks all) is_last
-              ∙ sym (ap₂ (λ (rules : RowRules) (past : List ℕ). plain_verdict rules past (map f after)) rules-are (turned-last f before last)) in
+          ap₂ (λ (rules : RowRules) (past : List ℕ). plain_verdict rules past (map f after)) rules-are
+          (turned-last f (before ++ (last ∷ marks)) mark ∙ ap (λ l. map f (mark ∷ l)) turned)
+          ∙ same-verdict mark (reverse marks) last (reverse before) after is_mark_too (reversed marks all) is_last
+          ∙ sym (ap₂ (λ (rules : RowRules) (past : List ℕ). plain_verdict rules past (map f after)) rules-are (turned-last f before last)) in
           let with_marks = verdict-is by by_verdicts tailoring (before ++ (last ∷ marks)) after mark status in
           let alone = verdict-is by by_verdicts tailoring before after last status in
           (λ breaks. alone.1 (sym same ∙ with_marks.0 breaks), λ breaks. with_marks.1 (same ∙ alone.0 breaks))

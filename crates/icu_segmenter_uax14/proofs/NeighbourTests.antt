@@ -4,8 +4,7 @@ use Rattle.ucd_table.proofs.TrieCheck.{all_below}
 use Rattle.seg_rules.specs.Patterns.{flags}
 use Rattle.seg_rules.specs.Plain.{right_fits}
 use Rattle.seg_rules.specs.RowRules.{flow, is_full, no_flags, once}
-use Rattle.seg_rules.specs.Classes.{◌or◌, ◌but◌, no}
-use Rattle.icu_segmenter_uax14.specs.LineClasses.{LineClass, every, AL, BK, CL, CM, CP, CR, EX, GL, HL, HY, IS, LF, NL, NU, OP, PO, PR, SP, SY, WJ, ZW, ZWJ, CP_NARROW, OP_NARROW, LOOSE}
+use Rattle.icu_segmenter_uax14.specs.LineClasses.{Class, ◌or◌, ◌but◌, no, every, AL, BA, BB, BK, CL, CM, CP, CR, EX, GL, HL, HY, ID, IS, LF, NL, NU, OP, PO, PR, SP, SY, WJ, ZW, ZWJ, CP_NARROW, OP_NARROW, KEPT, LOOSE}
 use Rattle.icu_segmenter_uax14.proofs.LineTables.{numbered_above, numbered_below, numbered_rules}
 use Rattle.icu_segmenter_uax14.proofs.Neighbours.{pairs_keep}
 use Rattle.icu_segmenter_uax14.proofs.PlaceTests.{place_keeps}
@@ -58,6 +57,22 @@ to-digits-join = refl
 pub from-digits-join : Joins NU (PR or PO but LOOSE or OP_NARROW)
 unfolding pairs_keep place_keeps keeps may_end may_begin all_below flags flow is_full no_flags once right_fits numbered_above numbered_below numbered_rules
 from-digits-join = refl
+
+-- no row that joins, or must break, can fit before one that breaks surely does
+abbrev Parts : Class → Class → Type 0
+Parts lasts nexts = pairs_keep (λ v. v == 1) lasts nexts ≡ true
+
+pub ideographs-part : Parts (ID but KEPT) (ID but KEPT)
+unfolding pairs_keep place_keeps keeps may_end may_begin all_below flags flow is_full no_flags once right_fits numbered_above numbered_below numbered_rules
+ideographs-part = refl
+
+pub after-parts : Parts BA (AL or HL or NU or ID)
+unfolding pairs_keep place_keeps keeps may_end may_begin all_below flags flow is_full no_flags once right_fits numbered_above numbered_below numbered_rules
+after-parts = refl
+
+pub before-parts : Parts (AL or HL or NU or ID) BB
+unfolding pairs_keep place_keeps keeps may_end may_begin all_below flags flow is_full no_flags once right_fits numbered_above numbered_below numbered_rules
+before-parts = refl
 
 -- mandatory breaks
 

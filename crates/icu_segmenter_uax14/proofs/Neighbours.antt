@@ -20,7 +20,7 @@ use Rattle.seg_rules.specs.Classes.{◌or◌, ◌but◌, no}
 use Rattle.icu_segmenter_uax14.specs.LineClasses.{LineClass, every, BK, CR, LF, NL}
 use Rattle.icu_segmenter_uax14.specs.LineRules.{line_rules}
 use Rattle.icu_segmenter_uax14.specs.LineValues.{properties_of}
-use Rattle.icu_segmenter_uax14.specs.Neighbours.{BreaksWith, EndsLine, Is, IsJoined, MustBreak, StayTogether}
+use Rattle.icu_segmenter_uax14.specs.Neighbours.{BreaksWith, ComeApart, EndsLine, Is, IsJoined, MustBreak, StayTogether}
 use Rattle.icu_segmenter_uax14.specs.Tailored.{Tailoring, machine_by, style_of}
 use Rattle.icu_segmenter_uax14.proofs.LineTables.{numbered_rules, plan, relation, rules-are, tables}
 use Rattle.icu_segmenter_uax14.proofs.PlaceTests.{pair-kept, pair_keeps}
@@ -74,12 +74,12 @@ module _ (by_patterns : ByPatterns) where
       let f = symbol tailoring in
       let x = f last in
       let y = f next in
-      let from_x = implied (lasts (Some (properties_of x))) _
-          (all_below-at (λ x. implies (lasts (Some (properties_of x))) (all_below (λ y. implies (nexts (Some (properties_of y))) (pair_keeps numbered_rules test x y)) 73)) 73 x kept (symbols-have-properties tailoring last).below)
-          (in-class tailoring lasts last is_last) in
-      let to_y = implied (nexts (Some (properties_of y))) _
-          (all_below-at (λ y. implies (nexts (Some (properties_of y))) (pair_keeps numbered_rules test x y)) 73 y from_x (symbols-have-properties tailoring next).below)
-          (in-class tailoring nexts next is_next) in
+      let from_x = implied (lasts (properties_of x)) _
+      (all_below-at (λ x. implies (lasts (properties_of x)) (all_below (λ y. implies (nexts (properties_of y)) (pair_keeps numbered_rules test x y)) 73)) 73 x kept (symbols-have-properties tailoring last).below)
+      (in-class tailoring lasts last is_last) in
+      let to_y = implied (nexts (properties_of y)) _
+      (all_below-at (λ y. implies (nexts (properties_of y)) (pair_keeps numbered_rules test x y)) 73 y from_x (symbols-have-properties tailoring next).below)
+      (in-class tailoring nexts next is_next) in
       ap (λ past. test (plain_verdict line_rules past (map f (next ∷ after)))) (turned-last f before last)
       ∙ ap (λ rules. test (plain_verdict rules (map f (last ∷ reverse before)) (map f (next ∷ after)))) rules-are
       ∙ pair-kept numbered_rules by_patterns refl (omega arith) refl f (λ c. (symbols-have-properties tailoring c).below) test last next (reverse before) after to_y
@@ -112,6 +112,11 @@ module _ (by_patterns : ByPatterns) where
     stay-together lasts nexts kept tailoring before after last next is_last is_next =
         joined tailoring before (next ∷ after) last (pair-passes (λ v. v == 0) lasts nexts kept tailoring before after last next is_last is_next)
 
+    pub come-apart : (lasts nexts : Class) → pairs_keep (λ v. v == 1) lasts nexts ≡ true → ComeApart lasts nexts
+    come-apart lasts nexts kept tailoring before after last next is_last is_next =
+        (verdict-is tailoring before (next ∷ after) last 0).1
+        (eqb-true _ _ (pair-passes (λ v. v == 1) lasts nexts kept tailoring before after last next is_last is_next))
+
     -- a break of a status isn't where the verdict is another
     pub not-with : (tailoring : Tailoring) (before after : List ℕ) (last status : ℕ)
         → not (verdict_between tailoring (before ++ (last ∷ [])) after == suc status) ≡ true
@@ -139,28 +144,30 @@ module _ (by_patterns : ByPatterns) where
         → (tailoring : Tailoring) (before after : List ℕ) (last next : ℕ)
         → MustBreak tailoring (before ++ (last ∷ [])) (next ∷ after) ↔ EndsLine tailoring last next
     must-where after_ends after_returns else_where within tailoring before after last next =
-        let p = Some (style_of tailoring (character last)) in
-        let q = Some (style_of tailoring (character next)) in
-        (λ breaks. elim (bool-cases ((BK or LF or NL) p)) [
-          | inl ends ↦ inl ends
-          | inr no_end ↦ elim (bool-cases (CR p)) [
-            | inl return ↦ inr (return, λ feed. must-not CR LF within tailoring before after last next return feed breaks)
-            | inr no_return ↦
-                absurd (must-not (no CR but (BK or LF or NL)) every else_where tailoring before after last next
-                (and_from _ _ (not_from_false (CR p) no_return) (not_from_false _ no_end))
-                (is-every tailoring next) breaks)
-          ]
-        ],
-        λ ends. elim ends [
-          | inl ends ↦ must (BK or LF or NL) every after_ends tailoring before after last next ends (is-every tailoring next)
-          | inr (return, no_feed) ↦
-              must CR (no LF) after_returns tailoring before after last next return
-              (not_from_false (LF q) (false_from_ne_true (LF q) no_feed))
-        ])
+        let p = style_of tailoring (character last) in
+        let q = style_of tailoring (character next) in (
+          λ breaks. elim (bool-cases ((BK or LF or NL) p)) [
+            | inl ends ↦ inl ends
+            | inr no_end ↦ elim (bool-cases (CR p)) [
+              | inl return ↦ inr (return, λ feed. must-not CR LF within tailoring before after last next return feed breaks)
+              | inr no_return ↦
+                  absurd (must-not (no CR but (BK or LF or NL)) every else_where tailoring before after last next
+                  (and_from _ _ (and_from _ _ (is-every tailoring last) (not_from_false (CR p) no_return)) (not_from_false _ no_end))
+                  (is-every tailoring next) breaks)
+            ]
+          ],
+          λ ends. elim ends [
+            | inl ends ↦ must (BK or LF or NL) every after_ends tailoring before after last next ends (is-every tailoring next)
+            | inr (return, no_feed) ↦
+                must CR (no LF) after_returns tailoring before after last next return
+                (and_from _ _ (is-every tailoring next) (not_from_false (LF q) (false_from_ne_true (LF q) no_feed)))
+          ],
+        )
 
     -- the end of a text
     pub ends-with : (tailoring : Tailoring) (before : List ℕ) (last status : ℕ) → BreaksWith tailoring status (before ++ (last ∷ [])) [] ↔ (status ≡ 1)
     unfolding plain_verdict line_rules
-    ends-with tailoring before last status =
-        (λ breaks. let is = (verdict-is tailoring before [] last status).0 breaks in omega (arith, is),
-        λ is. (verdict-is tailoring before [] last status).1 (ap suc (sym is)))
+    ends-with tailoring before last status = (
+      λ breaks. let is = (verdict-is tailoring before [] last status).0 breaks in omega (arith, is),
+      λ is. (verdict-is tailoring before [] last status).1 (ap suc (sym is)),
+    )

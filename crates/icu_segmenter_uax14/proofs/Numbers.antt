@@ -18,7 +18,7 @@ use Rattle.icu_segmenter_uax14.specs.Neighbours.{Is, IsJoined}
 use Rattle.icu_segmenter_uax14.specs.Tailored.{Tailoring, style_of}
 use Rattle.icu_segmenter_uax14.proofs.LineTables.{numbered_above, numbered_below, numbered_rules}
 use Rattle.icu_segmenter_uax14.proofs.Neighbours.{ByVerdicts, in-class, joined-at, symbol}
-use Rattle.icu_segmenter_uax14.proofs.PlaceTests.{around-kept, around_keeps, base-alone, next-alone, plain-after, plain-before}
+use Rattle.icu_segmenter_uax14.proofs.PlaceTests.{around-kept, around_by, around_keeps, base-alone, next-alone, plain-after, plain-before}
 use Rattle.icu_segmenter_uax14.proofs.RowTests.{ByPatterns, after-fits, fits-may, keeps, may_begin, may_end, may_fit, same_items, sure-fits, sure_after, sure_fit}
 use Rattle.icu_segmenter_uax14.proofs.Sequences.{each_pair, numbered-verdict, pair-at, some-list}
 use Rattle.icu_segmenter_uax14.proofs.Tailorings.{symbols-have-properties}
@@ -31,9 +31,9 @@ read-at : (class : LineClass) (number : ℕ) → holds class number ≡ true →
     → (has number (symbol tailoring c) ≡ true) × (has numbered_rules.marks (symbol tailoring c) ≡ false)
 read-at class number all tailoring c is =
     let s = symbol tailoring c in
-    let parts = and_parts (has number s) _ (implied (class (Some (properties_of s))) _
-        (all_below-at (λ s. implies (class (Some (properties_of s))) (has number s && not (has numbered_rules.marks s))) 73 s all (symbols-have-properties tailoring c).below)
-        (in-class tailoring class c is)) in
+    let parts = and_parts (has number s) _ (implied (class (properties_of s)) _
+    (all_below-at (λ s. implies (class (properties_of s)) (has number s && not (has numbered_rules.marks s))) 73 s all (symbols-have-properties tailoring c).below)
+    (in-class tailoring class c is)) in
     (parts.0, not-true _ parts.1)
 
 abbrev digit_bits : ℕ
@@ -86,9 +86,10 @@ module _ (tailoring : Tailoring) where
 
   each-infix : (cs : List ℕ) → Infixes tailoring cs → Each infix_bits (map f cs)
   each-infix [] all = tt
-  each-infix (c ∷ cs) all =
-      ((read-at (IS or SY) infix_bits infixes-hold tailoring c (All-head (λ c. Is tailoring (IS or SY) c) c cs all)).0,
-      each-infix cs (All-tail (λ c. Is tailoring (IS or SY) c) c cs all))
+  each-infix (c ∷ cs) all = (
+    (read-at (IS or SY) infix_bits infixes-hold tailoring c (All-head (λ c. Is tailoring (IS or SY) c) c cs all)).0,
+    each-infix cs (All-tail (λ c. Is tailoring (IS or SY) c) c cs all),
+  )
 
   plain-infixes : (cs : List ℕ) → Infixes tailoring cs → All IsPlain cs
   plain-infixes [] all = All-nil IsPlain
@@ -114,7 +115,7 @@ module _ (tailoring : Tailoring) where
     digit-bases infixes digit past all is =
         let known = infixes ++ (digit ∷ []) in
         let plain = All-append IsPlain infixes (digit ∷ []) (plain-infixes infixes all)
-            (All-cons IsPlain digit [] (read-at NU digit_bits digits-hold tailoring digit is).1 (All-nil IsPlain)) in
+        (All-cons IsPlain digit [] (read-at NU digit_bits digits-hold tailoring digit is).1 (All-nil IsPlain)) in
         ap (bases_before numbered_rules) (ap (map f) (sym (append_assoc infixes (digit ∷ []) past)) ∙ map-append f known past)
         ∙ plain-before numbered_rules by_patterns refl (omega arith) refl f few known (map f past) plain
         ∙ ap (λ l. l ++ bases_before numbered_rules (map f past)) (map-append f infixes (digit ∷ []))
@@ -122,9 +123,14 @@ module _ (tailoring : Tailoring) where
     ends-in-number : (infixes : List ℕ) (digit : ℕ) (past : List ℕ) → Infixes tailoring infixes → Is tailoring NU digit
         → EndsIn in_number (bases_before numbered_rules (map f (infixes ++ (digit ∷ past))))
     ends-in-number infixes digit past all is =
-        let has_digit = (read-at NU digit_bits digits-hold tailoring digit is).0 in
-        (map f infixes ++ (f digit ∷ []), bases_before numbered_rules (map f past), (digit-bases infixes digit past all is,
-        (map f infixes, f digit ∷ [], (refl, ((f digit, (refl, has_digit)), ([], map f infixes, (refl, (each-infix infixes all, refl))))))))
+        let has_digit = (read-at NU digit_bits digits-hold tailoring digit is).0 in (
+          map f infixes ++ (f digit ∷ []),
+          bases_before numbered_rules (map f past),
+          (
+            digit-bases infixes digit past all is,
+            (map f infixes, f digit ∷ [], (refl, ((f digit, (refl, has_digit)), ([], map f infixes, (refl, (each-infix infixes all, refl)))))),
+          ),
+        )
 
     ends-closed : (class : LineClass) (bits : ℕ) → holds class bits ≡ true → (closing : ℕ) (infixes : List ℕ) (digit : ℕ) (past : List ℕ) → Is tailoring class closing
         → Infixes tailoring infixes → Is tailoring NU digit → EndsIn (closed_number bits) (bases_before numbered_rules (map f (closing ∷ (infixes ++ (digit ∷ past)))))
@@ -132,20 +138,42 @@ module _ (tailoring : Tailoring) where
     ends-closed class bits held closing infixes digit past closes all is =
         let has_digit = (read-at NU digit_bits digits-hold tailoring digit is).0 in
         let (has_closing, plain) = read-at class bits held tailoring closing closes in
-        let own = map f infixes ++ (f digit ∷ []) in
-        (f closing ∷ own, bases_before numbered_rules (map f past),
-        (base-alone numbered_rules by_patterns refl (omega arith) refl f few (f closing) (map f (infixes ++ (digit ∷ past))) plain
-        ∙ ap (λ l. f closing ∷ l) (digit-bases infixes digit past all is),
-        (f closing ∷ map f infixes, f digit ∷ [], (refl, ((f digit, (refl, has_digit)),
-        (f closing ∷ [], map f infixes, (refl, (each-infix infixes all,
-        ([], f closing ∷ [], (refl, ((f closing, (refl, has_closing)), refl)))))))))))
+        let own = map f infixes ++ (f digit ∷ []) in (
+          f closing ∷ own,
+          bases_before numbered_rules (map f past),
+          (
+            base-alone numbered_rules by_patterns refl (omega arith) refl f few (f closing) (map f (infixes ++ (digit ∷ past))) plain
+                ∙ ap (λ l. f closing ∷ l) (digit-bases infixes digit past all is),
+            (
+              f closing ∷ map f infixes,
+              f digit ∷ [],
+              (
+                refl,
+                (
+                  (f digit, (refl, has_digit)),
+                  (
+                    f closing ∷ [],
+                    map f infixes,
+                    (
+                      refl,
+                      (
+                        each-infix infixes all,
+                        ([], f closing ∷ [], (refl, ((f closing, (refl, has_closing)), refl))),
+                      ),
+                    ),
+                  ),
+                ),
+              ),
+            ),
+          ),
+        )
 
     module _ (by_verdicts : ByVerdicts) where
       -- no break after what fits a left side
       pub after-joined : (left : Pattern) (lasts nexts : LineClass) → each_pair (after_keeps left) lasts nexts ≡ true
           → (before after : List ℕ) (c : ℕ) (cs : List ℕ) (d : ℕ) → reverse before ≡ c ∷ cs → Is tailoring lasts c → Is tailoring nexts d
           → EndsIn left (bases_before numbered_rules (map f (c ∷ cs))) → IsJoined tailoring before (d ∷ after)
-      unfolding numbered_rules around_keeps
+      unfolding numbered_rules around_by
       after-joined left lasts nexts kept before after c cs d turned is_last is_next ends =
           let x = f c in
           let y = f d in
@@ -161,8 +189,8 @@ module _ (tailoring : Tailoring) where
           (around-kept numbered_rules by_patterns refl (omega arith) refl f few (λ v. v == 0) (may_fit x y) (sure_after left x y) c d cs after
           (λ row. fits-may by_patterns row x y (map f cs ++ (0 ∷ [])) (map f after ++ (0 ∷ [])))
           (λ row sure.
-              ap₂ (λ (b a : List ℕ). row_fits row b a) before_is after_is
-              ∙ after-fits by_patterns row left x y (bases_before numbered_rules (map f cs)) further (subst (EndsIn left) before_is ends) sure)
+          ap₂ (λ (b a : List ℕ). row_fits row b a) before_is after_is
+          ∙ after-fits by_patterns row left x y (bases_before numbered_rules (map f cs)) further (subst (EndsIn left) before_is ends) sure)
           here))
 
       turned-number : (before infixes : List ℕ) (digit : ℕ) → reverse (before ++ (digit ∷ infixes)) ≡ reverse infixes ++ (digit ∷ reverse before)
@@ -220,18 +248,18 @@ each_point lasts openings points digits =
     all_below (λ w. implies (points (Some (properties_of w))) (all_below (λ z. implies (digits (Some (properties_of z))) (each_pair (point_keeps w z) lasts openings)) 73)) 73
 
 bracketed-tests : each_bracket (PO or PR but LOOSE) OP NU ≡ true
-unfolding around_keeps keeps may_end may_begin all_below flags flow is_full no_flags once right_fits numbered_above numbered_below numbered_rules
+unfolding around_by keeps may_end may_begin all_below flags flow is_full no_flags once right_fits numbered_above numbered_below numbered_rules
 bracketed-tests = refl
 
 point-tests : each_point (PO or PR but LOOSE) OP IS NU ≡ true
-unfolding around_keeps keeps may_end may_begin all_below flags flow is_full no_flags once right_fits numbered_above numbered_below numbered_rules
+unfolding around_by keeps may_end may_begin all_below flags flow is_full no_flags once right_fits numbered_above numbered_below numbered_rules
 point-tests = refl
 
 module _ (tailoring : Tailoring) (by_patterns : ByPatterns) (by_verdicts : ByVerdicts) where
   opened-joined : (before after : List ℕ) (last next : ℕ) (known : List ℕ) → All (IsPlain tailoring) known
       → opened_keeps (symbol tailoring last) (map (symbol tailoring) known) (symbol tailoring next) ≡ true
       → IsJoined tailoring (before ++ (last ∷ [])) (next ∷ (known ++ after))
-  unfolding numbered_rules around_keeps
+  unfolding numbered_rules around_by
   opened-joined before after last next known plain here =
       let g = symbol tailoring in
       let x = g last in
@@ -243,15 +271,15 @@ module _ (tailoring : Tailoring) (by_patterns : ByPatterns) (by_verdicts : ByVer
       let base = is_base numbered_rules (map g (last ∷ cs)) in
       let before_is = base-alone numbered_rules by_patterns refl (omega arith) refl g few_g x (map g cs) (not-true _ parts.0) in
       let (further, after_is) = plain-after numbered_rules by_patterns refl (omega arith) refl g few_g (next ∷ known) base (map g after)
-          (All-cons (IsPlain tailoring) next known (not-true _ more_parts.0) plain) in
+      (All-cons (IsPlain tailoring) next known (not-true _ more_parts.0) plain) in
       let turned = reverse-append before (last ∷ []) in
       joined-at by_patterns by_verdicts tailoring (before ++ (last ∷ [])) (next ∷ (known ++ after)) (some-list (before ++ (last ∷ [])) last cs turned)
       (numbered-verdict tailoring (before ++ (last ∷ [])) (next ∷ (known ++ after)) last cs turned
       (around-kept numbered_rules by_patterns refl (omega arith) refl g few_g (λ v. v == 0) (may_fit x y) (sure_fit (x ∷ []) (y ∷ map g known)) last next cs (known ++ after)
       (λ row. fits-may by_patterns row x y (map g cs ++ (0 ∷ [])) (map g (known ++ after) ++ (0 ∷ [])))
       (λ row sure.
-          ap₂ (λ (b a : List ℕ). row_fits row b a) before_is (ap (λ l. bases_after numbered_rules base (y ∷ l)) (map-append g known after) ∙ after_is)
-          ∙ sure-fits by_patterns row (x ∷ []) (y ∷ map g known) (bases_before numbered_rules (map g cs)) further sure)
+      ap₂ (λ (b a : List ℕ). row_fits row b a) before_is (ap (λ l. bases_after numbered_rules base (y ∷ l)) (map-append g known after) ∙ after_is)
+      ∙ sure-fits by_patterns row (x ∷ []) (y ∷ map g known) (bases_before numbered_rules (map g cs)) further sure)
       here))
 
   -- Law: no break before a bracket that a number stands in, after a prefix or a suffix
@@ -272,9 +300,9 @@ module _ (tailoring : Tailoring) (by_patterns : ByPatterns) (by_verdicts : ByVer
   points-stay before after last opening point digit is_last opens is_point is_digit =
       let w = symbol tailoring point in
       let z = symbol tailoring digit in
-      let by_point = implied (IS (Some (properties_of w))) _
-          (all_below-at (λ w. implies (IS (Some (properties_of w))) (all_below (λ z. implies (NU (Some (properties_of z))) (each_pair (point_keeps w z) (PO or PR but LOOSE) OP)) 73)) 73 w point-tests (symbols-have-properties tailoring point).below)
-          (in-class tailoring IS point is_point) in
+      let by_point = implied (IS (properties_of w)) _
+      (all_below-at (λ w. implies (IS (properties_of w)) (all_below (λ z. implies (NU (properties_of z)) (each_pair (point_keeps w z) (PO or PR but LOOSE) OP)) 73)) 73 w point-tests (symbols-have-properties tailoring point).below)
+      (in-class tailoring IS point is_point) in
       opened-joined before after last opening (point ∷ (digit ∷ []))
       (All-cons (IsPlain tailoring) point (digit ∷ []) (read-at (IS or SY) infix_bits infixes-hold tailoring point (or_left _ _ is_point)).1
       (All-cons (IsPlain tailoring) digit [] (read-at NU digit_bits digits-hold tailoring digit is_digit).1 (All-nil (IsPlain tailoring))))
@@ -286,15 +314,15 @@ module _ (tailoring : Tailoring) (by_patterns : ByPatterns) (by_verdicts : ByVer
 
 -- the tests of it, computed
 infix-tests : each_pair (after_keeps in_number) (NU or (IS or SY)) (NU or PR or PO but LOOSE) ≡ true
-unfolding around_keeps same_items keeps may_end may_begin all_below flags flow is_full no_flags once right_fits numbered_above numbered_below numbered_rules
+unfolding around_by same_items keeps may_end may_begin all_below flags flow is_full no_flags once right_fits numbered_above numbered_below numbered_rules
 infix-tests = refl
 
 closing-tests : each_pair (after_keeps (closed_number closing_bits)) CL (PR or PO but LOOSE) ≡ true
-unfolding around_keeps same_items keeps may_end may_begin all_below flags flow is_full no_flags once right_fits numbered_above numbered_below numbered_rules
+unfolding around_by same_items keeps may_end may_begin all_below flags flow is_full no_flags once right_fits numbered_above numbered_below numbered_rules
 closing-tests = refl
 
 bracket-tests : each_pair (after_keeps (closed_number bracket_bits)) CP (PR or PO but LOOSE) ≡ true
-unfolding around_keeps same_items keeps may_end may_begin all_below flags flow is_full no_flags once right_fits numbered_above numbered_below numbered_rules
+unfolding around_by same_items keeps may_end may_begin all_below flags flow is_full no_flags once right_fits numbered_above numbered_below numbered_rules
 bracket-tests = refl
 
 module _ (by_patterns : ByPatterns) (by_verdicts : ByVerdicts) where

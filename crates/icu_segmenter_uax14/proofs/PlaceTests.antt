@@ -34,11 +34,14 @@ place_keeps rules may test x y = keeps test may (sure_fit (x ∷ []) (y ∷ []))
 abbrev pub pair_keeps : RowRules → (ℕ → Bool) → ℕ → ℕ → Bool
 pair_keeps rules test x y = place_keeps rules (may_fit x y) test x y
 
--- the verdict between two symbols that aren't marks passes a test, where of the rows above these may fit, and of those below these surely do
-unfoldable pub around_keeps : RowRules → (may sure : Row → Bool) → (ℕ → Bool) → ℕ → ℕ → Bool
-around_keeps rules may sure test x y =
-    not (has rules.marks x)
-    && (not (has rules.marks y) && keeps test may (sure_fit (x ∷ []) (y ∷ [])) rules.above (keeps test (may_fit x y) sure rules.below false))
+-- the verdict between two symbols that aren't marks passes a test, where of the rows above and of those below these may fit, and of those below
+-- these surely do
+unfoldable pub around_by : RowRules → (may low sure : Row → Bool) → (ℕ → Bool) → ℕ → ℕ → Bool
+around_by rules may low sure test x y =
+    not (has rules.marks x) && (not (has rules.marks y) && keeps test may (sure_fit (x ∷ []) (y ∷ [])) rules.above (keeps test low sure rules.below false))
+
+abbrev pub around_keeps : RowRules → (may sure : Row → Bool) → (ℕ → Bool) → ℕ → ℕ → Bool
+around_keeps rules may sure test x y = around_by rules may (may_fit x y) sure test x y
 
 -- rules that read marks, and the symbols of code points
 module _ (rules : RowRules) (by : ByPatterns) (reads_marks : rules.has_marks ≡ true) (alone : rules.alone < 73)
@@ -115,7 +118,7 @@ module _ (rules : RowRules) (by : ByPatterns) (reads_marks : rules.has_marks ≡
     marked x past y rest mark not_bare passes =
         let base : is_base rules (x ∷ past) ≡ true = or_right (has rules.marks x && is_base rules past) _ (ap₂ (λ (a b : Bool). a && b) reads_marks not_bare) in
         let glued : (rules.has_marks && is_marked rules (is_base rules (x ∷ past)) (y ∷ rest)) ≡ true =
-            ap₂ (λ (a b : Bool). a && b) reads_marks (ap₂ (λ (a b : Bool). a && b) mark base) in
+        ap₂ (λ (a b : Bool). a && b) reads_marks (ap₂ (λ (a b : Bool). a && b) mark base) in
         ap test (cond-true _ 0 _ glued) ∙ passes
 
     pub unmarked-kept : (past : List ℕ) (y : ℕ) (rest : List ℕ) → has rules.marks y ≡ false
@@ -132,13 +135,13 @@ module _ (rules : RowRules) (by : ByPatterns) (reads_marks : rules.has_marks ≡
     mark-alone x past y rest mark bare plain kept =
         let other = not-true (has rules.marks x) plain in
         let no_base : is_base rules (x ∷ past) ≡ false =
-            or_from (has rules.marks x && is_base rules past) _ (and_left (has rules.marks x) _ other)
-            (and_right rules.has_marks _ (not_from_true (has rules.bare x) bare)) in
+        or_from (has rules.marks x && is_base rules past) _ (and_left (has rules.marks x) _ other)
+        (and_right rules.has_marks _ (not_from_true (has rules.bare x) bare)) in
         let apart : (has rules.marks y && is_base rules (x ∷ past)) ≡ false = and_right (has rules.marks y) _ no_base in
         let further = bases_after rules ((has rules.marks y && is_base rules (x ∷ past)) || (rules.has_marks && not (has rules.bare y))) rest in
         let next : bases_after rules (is_base rules (x ∷ past)) (y ∷ rest) ≡ rules.alone ∷ further =
-            cond-false (has rules.marks y && is_base rules (x ∷ past)) further (unmarked rules y ∷ further) apart
-            ∙ ap (λ s. s ∷ further) (cond-true (has rules.marks y) rules.alone y mark) in
+        cond-false (has rules.marks y && is_base rules (x ∷ past)) further (unmarked rules y ∷ further) apart
+        ∙ ap (λ s. s ∷ further) (cond-true (has rules.marks y) rules.alone y mark) in
         ap test (cond-false _ 0 _ (and_right rules.has_marks _ apart))
         ∙ ap test (ap₂ (λ (b a : List ℕ). first_row rules.below b a 0) (base-alone x past other) next)
         ∙ below-kept x rules.alone (bases_before rules past) further kept
@@ -196,30 +199,42 @@ module _ (rules : RowRules) (by : ByPatterns) (reads_marks : rules.has_marks ≡
     pair-kept c d cs ds =
         place-kept (may_fit (f c) (f d)) c d cs ds (λ row. fits-may by row (f c) (f d) (map f cs ++ (0 ∷ [])) (map f ds ++ (0 ∷ [])))
 
+    pub around-by-kept : (may low sure : Row → Bool) (c d : ℕ) (cs ds : List ℕ)
+        → ((row : Row) → row_fits row (map f (c ∷ cs) ++ (0 ∷ [])) (map f (d ∷ ds) ++ (0 ∷ [])) ≡ true → may row ≡ true)
+        → ((row : Row) → row_fits row (bases_before rules (map f (c ∷ cs))) (bases_after rules (is_base rules (map f (c ∷ cs))) (map f (d ∷ ds))) ≡ true → low row ≡ true)
+        → ((row : Row) → sure row ≡ true → row_fits row (bases_before rules (map f (c ∷ cs))) (bases_after rules (is_base rules (map f (c ∷ cs))) (map f (d ∷ ds))) ≡ true)
+        → around_by rules may low sure test (f c) (f d) ≡ true → test (plain_verdict rules (map f (c ∷ cs)) (map f (d ∷ ds))) ≡ true
+    unfolding around_by plain_verdict
+    around-by-kept may low sure c d cs ds may_be low_be surely kept =
+        let x = f c in
+        let y = f d in
+        let past = map f cs in
+        let parts = and_parts (not (has rules.marks x)) _ kept in
+        let more_parts = and_parts (not (has rules.marks y)) _ parts.1 in
+        first-kept test may (sure_fit (x ∷ []) (y ∷ [])) (map f (c ∷ cs) ++ (0 ∷ [])) (map f (d ∷ ds) ++ (0 ∷ [])) may_be
+        (λ row. sure-fits by row (x ∷ []) (y ∷ []) (past ++ (0 ∷ [])) (map f ds ++ (0 ∷ [])))
+        rules.above (keeps test low sure rules.below false) (lower_verdict (x ∷ past) y (map f ds)) more_parts.1
+        (λ below. unmarked-kept (x ∷ past) y (map f ds) (not-true (has rules.marks y) more_parts.0)
+        (first-kept test low sure (bases_before rules (x ∷ past)) (bases_after rules (is_base rules (x ∷ past)) (y ∷ map f ds)) low_be
+        surely rules.below false 0 below (λ no. cc)))
+
     pub around-kept : (may sure : Row → Bool) (c d : ℕ) (cs ds : List ℕ)
         → ((row : Row) → row_fits row (map f (c ∷ cs) ++ (0 ∷ [])) (map f (d ∷ ds) ++ (0 ∷ [])) ≡ true → may row ≡ true)
         → ((row : Row) → sure row ≡ true → row_fits row (bases_before rules (map f (c ∷ cs))) (bases_after rules (is_base rules (map f (c ∷ cs))) (map f (d ∷ ds))) ≡ true)
         → around_keeps rules may sure test (f c) (f d) ≡ true → test (plain_verdict rules (map f (c ∷ cs)) (map f (d ∷ ds))) ≡ true
-    unfolding around_keeps plain_verdict
+    unfolding around_by
     around-kept may sure c d cs ds may_be surely kept =
         let x = f c in
         let y = f d in
         let past = map f cs in
         let parts = and_parts (not (has rules.marks x)) _ kept in
         let more_parts = and_parts (not (has rules.marks y)) _ parts.1 in
-        let plain_before = not-true (has rules.marks x) parts.0 in
-        let plain_after = not-true (has rules.marks y) more_parts.0 in
-        let before = bases_before rules (x ∷ past) in
-        let after = bases_after rules (is_base rules (x ∷ past)) (y ∷ map f ds) in
+        let before_is = base-alone x past (not-true (has rules.marks x) parts.0) in
+        let after_is = next-alone (is_base rules (x ∷ past)) y (map f ds) (not-true (has rules.marks y) more_parts.0) in
         let further = bases_after rules ((has rules.marks y && is_base rules (x ∷ past)) || (rules.has_marks && not (has rules.bare y))) (map f ds) in
-        first-kept test may (sure_fit (x ∷ []) (y ∷ [])) (map f (c ∷ cs) ++ (0 ∷ [])) (map f (d ∷ ds) ++ (0 ∷ [])) may_be
-        (λ row. sure-fits by row (x ∷ []) (y ∷ []) (past ++ (0 ∷ [])) (map f ds ++ (0 ∷ [])))
-        rules.above (keeps test (may_fit x y) sure rules.below false) (lower_verdict (x ∷ past) y (map f ds)) more_parts.1
-        (λ below. unmarked-kept (x ∷ past) y (map f ds) plain_after
-            (first-kept test (may_fit x y) sure before after
-            (λ row fits. fits-may by row x y (bases_before rules past) further
-                (sym (ap₂ (λ (b a : List ℕ). row_fits row b a) (base-alone x past plain_before) (next-alone (is_base rules (x ∷ past)) y (map f ds) plain_after)) ∙ fits))
-            surely rules.below false 0 below (λ no. cc)))
+        around-by-kept may (may_fit x y) sure c d cs ds may_be
+        (λ row fits. fits-may by row x y (bases_before rules past) further (sym (ap₂ (λ (b a : List ℕ). row_fits row b a) before_is after_is) ∙ fits))
+        surely kept
 
   -- symbols that aren't marks are read as they are
   pub plain-before : (cs : List ℕ) (past : List ℕ) → All (λ c. has rules.marks (f c) ≡ false) cs → bases_before rules (map f cs ++ past) ≡ map f cs ++ bases_before rules past

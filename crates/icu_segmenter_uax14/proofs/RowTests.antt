@@ -89,7 +89,7 @@ begins-there ((class, Star) ∷ items) own rest y after are fits = refl
 begins-there ((class, Pairs) ∷ items) own rest y after are fits = refl
 begins-there ((class, One) ∷ items) own rest y after are (later, mine, (is, ((z, (alone, has_z)), fits))) =
     let turned : own ≡ z ∷ reverse later =
-        sym (reverse-reverse own) ∙ ap reverse (is ∙ ap (λ o. later ++ o) alone) ∙ reverse-append later (z ∷ []) in
+    sym (reverse-reverse own) ∙ ap reverse (is ∙ ap (λ o. later ++ o) alone) ∙ reverse-append later (z ∷ []) in
     has-same class z y (sym (same-head y z after (reverse later ++ rest) (are ∙ ap (λ o. o ++ rest) turned))) has_z
 
 -- what a row's fitting is, by patterns
@@ -109,9 +109,10 @@ sure_fit xs ys row = row_fits row xs ys
 pub sure-fits : ByPatterns → (row : Row) (xs ys past rest : List ℕ) → sure_fit xs ys row ≡ true → row_fits row (xs ++ past) (ys ++ rest) ≡ true
 sure-fits by row xs ys past rest sure =
     let ((own, farther, (left, ends)), (mine, further, (right, begins))) = (by row xs ys).0 sure in
-    (by row (xs ++ past) (ys ++ rest)).1
-    ((own, farther ++ past, (ap (λ all. all ++ past) left ∙ append_assoc own farther past, ends)),
-    (mine, further ++ rest, (ap (λ all. all ++ rest) right ∙ append_assoc mine further rest, begins)))
+    (by row (xs ++ past) (ys ++ rest)).1 (
+      (own, farther ++ past, (ap (λ all. all ++ past) left ∙ append_assoc own farther past, ends)),
+      (mine, further ++ rest, (ap (λ all. all ++ rest) right ∙ append_assoc mine further rest, begins)),
+    )
 
 -- ---- a left side that is known to fit
 
@@ -164,9 +165,10 @@ after-fits by row left x y more further ends sure = elim (or_cases (sure_fit (x 
   | inr after ↦
       let parts = and_parts (same_items row.left left) _ after in
       let (nothing, (mine, rest, (right, begins))) = (by (right_side row) [] (y ∷ [])).0 parts.1 in
-      (by row (x ∷ more) (y ∷ further)).1
-      (subst (λ p. EndsIn p (x ∷ more)) (sym (same-items row.left left parts.0)) ends,
-      (mine, rest ++ further, (ap (λ all. all ++ further) right ∙ append_assoc mine rest further, begins)))
+      (by row (x ∷ more) (y ∷ further)).1 (
+        subst (λ p. EndsIn p (x ∷ more)) (sym (same-items row.left left parts.0)) ends,
+        (mine, rest ++ further, (ap (λ all. all ++ further) right ∙ append_assoc mine rest further, begins)),
+      )
 ]
 
 -- ---- the first row that fits

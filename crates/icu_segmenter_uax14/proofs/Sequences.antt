@@ -31,11 +31,11 @@ pub pair-at : (test : ℕ → ℕ → Bool) (lasts nexts : LineClass) → each_p
 pair-at test lasts nexts all tailoring c d is_last is_next =
     let x = symbol tailoring c in
     let y = symbol tailoring d in
-    let from_x = implied (lasts (Some (properties_of x))) _
-        (all_below-at (λ x. implies (lasts (Some (properties_of x))) (all_below (λ y. implies (nexts (Some (properties_of y))) (test x y)) 73)) 73 x all (symbols-have-properties tailoring c).below)
-        (in-class tailoring lasts c is_last) in
-    implied (nexts (Some (properties_of y))) _
-    (all_below-at (λ y. implies (nexts (Some (properties_of y))) (test x y)) 73 y from_x (symbols-have-properties tailoring d).below)
+    let from_x = implied (lasts (properties_of x)) _
+    (all_below-at (λ x. implies (lasts (properties_of x)) (all_below (λ y. implies (nexts (properties_of y)) (test x y)) 73)) 73 x all (symbols-have-properties tailoring c).below)
+    (in-class tailoring lasts c is_last) in
+    implied (nexts (properties_of y)) _
+    (all_below-at (λ y. implies (nexts (properties_of y)) (test x y)) 73 y from_x (symbols-have-properties tailoring d).below)
     (in-class tailoring nexts d is_next)
 
 -- the verdict between two parts of a text, by the numbered rules
@@ -110,9 +110,9 @@ module _ (by_patterns : ByPatterns) where
       let f = symbol tailoring in
       and_from (may_fit (f c) (f d) row) _ (fits-may by_patterns row (f c) (f d) (map f cs ++ (0 ∷ [])) (map f ds ++ (0 ∷ [])) fits)
       (not_from_false (same_items row.left zero_width) (false_from_ne_true _ (λ same.
-          no_zero_width (zero-width-ends tailoring (c ∷ cs)
-          (subst (λ p. EndsIn p (map f (c ∷ cs) ++ (0 ∷ []))) (same-items row.left zero_width same)
-          ((by_patterns row (map f (c ∷ cs) ++ (0 ∷ [])) (map f (d ∷ ds) ++ (0 ∷ []))).0 fits).0)))))
+      no_zero_width (zero-width-ends tailoring (c ∷ cs)
+      (subst (λ p. EndsIn p (map f (c ∷ cs) ++ (0 ∷ []))) (same-items row.left zero_width same)
+      ((by_patterns row (map f (c ∷ cs) ++ (0 ∷ [])) (map f (d ∷ ds) ++ (0 ∷ []))).0 fits).0)))))
 
   module _ (by_verdicts : ByVerdicts) where
     pub stay-spaced : (lasts nexts : LineClass) → each_pair spaced_keeps lasts nexts ≡ true

@@ -29,6 +29,12 @@ StayTogether lasts nexts =
     (tailoring : Tailoring) (before after : List ℕ) (last next : ℕ) → Is tailoring lasts last → Is tailoring nexts next
     → IsJoined tailoring (before ++ last ∷ []) (next ∷ after)
 
+-- and one may break there, though it needn't
+abbrev pub ComeApart : Class → Class → Type 0
+ComeApart lasts nexts =
+    (tailoring : Tailoring) (before after : List ℕ) (last next : ℕ) → Is tailoring lasts last → Is tailoring nexts next
+    → BreaksWith tailoring 0 (before ++ last ∷ []) (next ∷ after)
+
 -- a line ends between two characters: after BK, LF and NL, and after CR but before LF
 abbrev pub EndsLine : Tailoring → ℕ → ℕ → Type 0
 EndsLine tailoring last next = Is tailoring (BK or LF or NL) last ⊎ (Is tailoring CR last × (Is tailoring LF next → ⊥))

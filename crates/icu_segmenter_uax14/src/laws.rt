@@ -4,10 +4,9 @@ ghost use Rattle.seg_text.specs.Boundaries.{boundary, start};
 ghost use Rattle.seg_machine.specs.Pick.{machine_boundaries};
 ghost use Rattle.seg_lines.specs.LineBreaks.{LineRules};
 ghost use Rattle.seg_lines.specs.LineBreaks.LineFinder.{ByMachine};
-ghost use Rattle.seg_rules.specs.Classes.{◌or◌, ◌but◌, no};
-ghost use Rattle.icu_segmenter_uax14.specs.LineClasses.{every, AL, BK, CL, CM, CP, CR, EX, GL, HL, HY, IS, LF, NL, NU, OP, PO, PR, SP, SY, WJ, ZW, ZWJ, CP_NARROW, OP_NARROW, LOOSE};
+ghost use Rattle.icu_segmenter_uax14.specs.LineClasses.{◌or◌, ◌but◌, every, no, AL, B2, BA, BB, BK, CL, CM, CP, CR, EX, GL, HL, HY, ID, IS, LF, NL, NS, NU, OP, PO, PR, SP, SY, WJ, ZW, ZWJ, CP_NARROW, KEPT, OP_NARROW, LOOSE, QU_PF, QU_PI};
 ghost use Rattle.icu_segmenter_uax14.specs.Lines.{line_machine};
-ghost use Rattle.icu_segmenter_uax14.specs.Neighbours.{BreaksWith, EndsInZeroWidth, EndsLine, Is, IsJoined, MustBreak, StayTogether};
+ghost use Rattle.icu_segmenter_uax14.specs.Neighbours.{BreaksWith, ComeApart, EndsInZeroWidth, EndsLine, Is, IsJoined, MustBreak, StayTogether};
 ghost use Rattle.icu_segmenter_uax14.specs.Tailored.{FollowsRules, HasScriptsOf, HasSymbolsOf, LinesFollowRules, Tailoring, machine_by, scripts_of, style_of};
 
 use seg_rules::laws::{boundaries_are_places, boundary_is_verdict, row_fits_by_patterns};
@@ -149,6 +148,29 @@ pub fn long_numbers_stay()
     ensures points { (tailoring : Tailoring) (before after : List ℕ) (last opening point digit : ℕ) → Is tailoring (PO or PR but LOOSE) last
         → Is tailoring OP opening → Is tailoring IS point → Is tailoring NU digit
         → IsJoined tailoring (before ++ last ∷ []) (opening ∷ point ∷ digit ∷ after) }
+{
+    boundary_is_verdict();
+    row_fits_by_patterns();
+}
+
+/// Law: a line may break after a space (LB18), unless an opening mark or quotation mark stands before it (LB14, LB15a), or after it one
+/// that no line breaks before (LB6, LB7, LB11, LB13, LB15b, LB15d; LB16 and LB17 say of NS and B2 when).
+pub fn lines_break_after_spaces()
+    ensures { (tailoring : Tailoring) (before after : List ℕ) (last space next : ℕ)
+        → Is tailoring (no (SP or OP or QU_PI or CM or ZWJ)) last → Is tailoring SP space
+        → Is tailoring (no (BK or CR or LF or NL or SP or ZW or WJ or CL or CP or EX or SY or IS or QU_PF or NS or B2 or CM or ZWJ)) next
+        → BreaksWith tailoring 0 ((before ++ last ∷ []) ++ space ∷ []) (next ∷ after) }
+{
+    boundary_is_verdict();
+    row_fits_by_patterns();
+}
+
+/// Law: a line may break between ideographs (LB31), but for those that the tailoring `keep-all` keeps; and between a letter, a digit or
+/// an ideograph and what allows a break before or after it (LB21: BB, BA).
+pub fn lines_break_between()
+    ensures ideographs { ComeApart (ID but KEPT) (ID but KEPT) }
+    ensures after { ComeApart BA (AL or HL or NU or ID) }
+    ensures before { ComeApart (AL or HL or NU or ID) BB }
 {
     boundary_is_verdict();
     row_fits_by_patterns();
