@@ -4,7 +4,8 @@ use Rattle.ucd_table.proofs.TrieCheck.{all_below}
 use Rattle.seg_rules.specs.Patterns.{flags}
 use Rattle.seg_rules.specs.Plain.{right_fits}
 use Rattle.seg_rules.specs.RowRules.{flow, is_full, no_flags, once}
-use Rattle.icu_segmenter_uax14.specs.LineClasses.{Class, ◌or◌, ◌but◌, no, every, AL, BA, BB, BK, CL, CM, CP, CR, EX, GL, HL, HY, ID, IS, LF, NL, NU, OP, PO, PR, SP, SY, WJ, ZW, ZWJ, CP_NARROW, OP_NARROW, KEPT, LOOSE}
+use Rattle.seg_rules.specs.Classes.{◌or◌, ◌but◌, no}
+use Rattle.icu_segmenter_uax14.specs.LineClasses.{LineClass, every, AL, BA, BB, BK, CL, CM, CP, CR, EX, GL, HL, HY, ID, IS, LF, NL, NU, OP, PO, PR, SP, SY, WJ, ZW, ZWJ, CP_NARROW, OP_NARROW, KEPT, LOOSE}
 use Rattle.icu_segmenter_uax14.proofs.LineTables.{numbered_above, numbered_below, numbered_rules}
 use Rattle.icu_segmenter_uax14.proofs.Neighbours.{pairs_keep}
 use Rattle.icu_segmenter_uax14.proofs.PlaceTests.{place_keeps}
@@ -59,7 +60,7 @@ unfolding pairs_keep place_keeps keeps may_end may_begin all_below flags flow is
 from-digits-join = refl
 
 -- no row that joins, or must break, can fit before one that breaks surely does
-abbrev Parts : Class → Class → Type 0
+abbrev Parts : LineClass → LineClass → Type 0
 Parts lasts nexts = pairs_keep (λ v. v == 1) lasts nexts ≡ true
 
 pub ideographs-part : Parts (ID but KEPT) (ID but KEPT)

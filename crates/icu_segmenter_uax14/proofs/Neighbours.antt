@@ -74,11 +74,11 @@ module _ (by_patterns : ByPatterns) where
       let f = symbol tailoring in
       let x = f last in
       let y = f next in
-      let from_x = implied (lasts (properties_of x)) _
-      (all_below-at (λ x. implies (lasts (properties_of x)) (all_below (λ y. implies (nexts (properties_of y)) (pair_keeps numbered_rules test x y)) 73)) 73 x kept (symbols-have-properties tailoring last).below)
+      let from_x = implied (lasts (Some (properties_of x))) _
+      (all_below-at (λ x. implies (lasts (Some (properties_of x))) (all_below (λ y. implies (nexts (Some (properties_of y))) (pair_keeps numbered_rules test x y)) 73)) 73 x kept (symbols-have-properties tailoring last).below)
       (in-class tailoring lasts last is_last) in
-      let to_y = implied (nexts (properties_of y)) _
-      (all_below-at (λ y. implies (nexts (properties_of y)) (pair_keeps numbered_rules test x y)) 73 y from_x (symbols-have-properties tailoring next).below)
+      let to_y = implied (nexts (Some (properties_of y))) _
+      (all_below-at (λ y. implies (nexts (Some (properties_of y))) (pair_keeps numbered_rules test x y)) 73 y from_x (symbols-have-properties tailoring next).below)
       (in-class tailoring nexts next is_next) in
       ap (λ past. test (plain_verdict line_rules past (map f (next ∷ after)))) (turned-last f before last)
       ∙ ap (λ rules. test (plain_verdict rules (map f (last ∷ reverse before)) (map f (next ∷ after)))) rules-are
@@ -112,7 +112,7 @@ module _ (by_patterns : ByPatterns) where
     stay-together lasts nexts kept tailoring before after last next is_last is_next =
         joined tailoring before (next ∷ after) last (pair-passes (λ v. v == 0) lasts nexts kept tailoring before after last next is_last is_next)
 
-    pub come-apart : (lasts nexts : Class) → pairs_keep (λ v. v == 1) lasts nexts ≡ true → ComeApart lasts nexts
+    pub come-apart : (lasts nexts : LineClass) → pairs_keep (λ v. v == 1) lasts nexts ≡ true → ComeApart lasts nexts
     come-apart lasts nexts kept tailoring before after last next is_last is_next =
         (verdict-is tailoring before (next ∷ after) last 0).1
         (eqb-true _ _ (pair-passes (λ v. v == 1) lasts nexts kept tailoring before after last next is_last is_next))
@@ -144,15 +144,15 @@ module _ (by_patterns : ByPatterns) where
         → (tailoring : Tailoring) (before after : List ℕ) (last next : ℕ)
         → MustBreak tailoring (before ++ (last ∷ [])) (next ∷ after) ↔ EndsLine tailoring last next
     must-where after_ends after_returns else_where within tailoring before after last next =
-        let p = style_of tailoring (character last) in
-        let q = style_of tailoring (character next) in (
+        let p = Some (style_of tailoring (character last)) in
+        let q = Some (style_of tailoring (character next)) in (
           λ breaks. elim (bool-cases ((BK or LF or NL) p)) [
             | inl ends ↦ inl ends
             | inr no_end ↦ elim (bool-cases (CR p)) [
               | inl return ↦ inr (return, λ feed. must-not CR LF within tailoring before after last next return feed breaks)
               | inr no_return ↦
                   absurd (must-not (no CR but (BK or LF or NL)) every else_where tailoring before after last next
-                  (and_from _ _ (and_from _ _ (is-every tailoring last) (not_from_false (CR p) no_return)) (not_from_false _ no_end))
+                  (and_from _ _ (not_from_false (CR p) no_return) (not_from_false _ no_end))
                   (is-every tailoring next) breaks)
             ]
           ],
@@ -160,7 +160,7 @@ module _ (by_patterns : ByPatterns) where
             | inl ends ↦ must (BK or LF or NL) every after_ends tailoring before after last next ends (is-every tailoring next)
             | inr (return, no_feed) ↦
                 must CR (no LF) after_returns tailoring before after last next return
-                (and_from _ _ (is-every tailoring next) (not_from_false (LF q) (false_from_ne_true (LF q) no_feed)))
+                (not_from_false (LF q) (false_from_ne_true (LF q) no_feed))
           ],
         )
 

@@ -31,8 +31,8 @@ read-at : (class : LineClass) (number : ℕ) → holds class number ≡ true →
     → (has number (symbol tailoring c) ≡ true) × (has numbered_rules.marks (symbol tailoring c) ≡ false)
 read-at class number all tailoring c is =
     let s = symbol tailoring c in
-    let parts = and_parts (has number s) _ (implied (class (properties_of s)) _
-    (all_below-at (λ s. implies (class (properties_of s)) (has number s && not (has numbered_rules.marks s))) 73 s all (symbols-have-properties tailoring c).below)
+    let parts = and_parts (has number s) _ (implied (class (Some (properties_of s))) _
+    (all_below-at (λ s. implies (class (Some (properties_of s))) (has number s && not (has numbered_rules.marks s))) 73 s all (symbols-have-properties tailoring c).below)
     (in-class tailoring class c is)) in
     (parts.0, not-true _ parts.1)
 
@@ -300,8 +300,8 @@ module _ (tailoring : Tailoring) (by_patterns : ByPatterns) (by_verdicts : ByVer
   points-stay before after last opening point digit is_last opens is_point is_digit =
       let w = symbol tailoring point in
       let z = symbol tailoring digit in
-      let by_point = implied (IS (properties_of w)) _
-      (all_below-at (λ w. implies (IS (properties_of w)) (all_below (λ z. implies (NU (properties_of z)) (each_pair (point_keeps w z) (PO or PR but LOOSE) OP)) 73)) 73 w point-tests (symbols-have-properties tailoring point).below)
+      let by_point = implied (IS (Some (properties_of w))) _
+      (all_below-at (λ w. implies (IS (Some (properties_of w))) (all_below (λ z. implies (NU (Some (properties_of z))) (each_pair (point_keeps w z) (PO or PR but LOOSE) OP)) 73)) 73 w point-tests (symbols-have-properties tailoring point).below)
       (in-class tailoring IS point is_point) in
       opened-joined before after last opening (point ∷ (digit ∷ []))
       (All-cons (IsPlain tailoring) point (digit ∷ []) (read-at (IS or SY) infix_bits infixes-hold tailoring point (or_left _ _ is_point)).1

@@ -31,11 +31,11 @@ pub pair-at : (test : ℕ → ℕ → Bool) (lasts nexts : LineClass) → each_p
 pair-at test lasts nexts all tailoring c d is_last is_next =
     let x = symbol tailoring c in
     let y = symbol tailoring d in
-    let from_x = implied (lasts (properties_of x)) _
-    (all_below-at (λ x. implies (lasts (properties_of x)) (all_below (λ y. implies (nexts (properties_of y)) (test x y)) 73)) 73 x all (symbols-have-properties tailoring c).below)
+    let from_x = implied (lasts (Some (properties_of x))) _
+    (all_below-at (λ x. implies (lasts (Some (properties_of x))) (all_below (λ y. implies (nexts (Some (properties_of y))) (test x y)) 73)) 73 x all (symbols-have-properties tailoring c).below)
     (in-class tailoring lasts c is_last) in
-    implied (nexts (properties_of y)) _
-    (all_below-at (λ y. implies (nexts (properties_of y)) (test x y)) 73 y from_x (symbols-have-properties tailoring d).below)
+    implied (nexts (Some (properties_of y))) _
+    (all_below-at (λ y. implies (nexts (Some (properties_of y))) (test x y)) 73 y from_x (symbols-have-properties tailoring d).below)
     (in-class tailoring nexts d is_next)
 
 -- the verdict between two parts of a text, by the numbered rules

@@ -9,7 +9,8 @@ use Rattle.seg_rules.specs.Patterns.{Fits, FitsItem, flags}
 use Rattle.seg_rules.specs.Plain.{bases_after, bases_before, is_base, plain_verdict, right_fits, row_fits}
 use Rattle.seg_rules.specs.RowRules.{Pattern, Row, RowRules, flow, has, is_full, no_flags, once}
 use Rattle.icu_segmenter_uax29.proofs.Tests.{implied, implies}
-use Rattle.icu_segmenter_uax14.specs.LineClasses.{Class, ◌or◌, no, B2, BK, CL, CM, CP, CR, EX, IS, LF, NL, NS, OP, SP, SY, WJ, ZW, ZWJ, QU_PF, QU_PI}
+use Rattle.seg_rules.specs.Classes.{◌or◌, no}
+use Rattle.icu_segmenter_uax14.specs.LineClasses.{LineClass, B2, BK, CL, CM, CP, CR, EX, IS, LF, NL, NS, OP, SP, SY, WJ, ZW, ZWJ, QU_PF, QU_PI}
 use Rattle.icu_segmenter_uax14.specs.LineValues.{properties_of}
 use Rattle.icu_segmenter_uax14.specs.Neighbours.{BreaksWith, Is}
 use Rattle.icu_segmenter_uax14.specs.Tailored.{Tailoring}
@@ -120,13 +121,13 @@ space_keeps w x y =
     not (has numbered_rules.marks w)
     && around_by numbered_rules (may_fit_two w x y) (may_fit_two w x y) (sure_fit (x ∷ []) (y ∷ [])) (λ v. v == 1) x y
 
-abbrev Lasts : Class
+abbrev Lasts : LineClass
 Lasts = no (SP or OP or QU_PI or CM or ZWJ)
 
-abbrev Nexts : Class
+abbrev Nexts : LineClass
 Nexts = no (BK or CR or LF or NL or SP or ZW or WJ or CL or CP or EX or SY or IS or QU_PF or NS or B2 or CM or ZWJ)
 
-space-tests : all_below (λ w. implies (Lasts (properties_of w)) (each_pair (space_keeps w) SP Nexts)) 73 ≡ true
+space-tests : all_below (λ w. implies (Lasts (Some (properties_of w))) (each_pair (space_keeps w) SP Nexts)) 73 ≡ true
 unfolding around_by keeps may_end may_end_two may_begin all_below flags flow is_full no_flags once right_fits numbered_above numbered_below numbered_rules
 space-tests = refl
 
@@ -147,8 +148,8 @@ module _ (tailoring : Tailoring) (by : ByPatterns) (by_verdicts : ByVerdicts) wh
       let y = f next in
       let past = map f (reverse before) in
       let tested = pair-at (space_keeps w) SP Nexts
-      (implied (Lasts (properties_of w)) _
-      (all_below-at (λ w. implies (Lasts (properties_of w)) (each_pair (space_keeps w) SP Nexts)) 73 w space-tests (few last)) (in-class tailoring Lasts last is_last))
+      (implied (Lasts (Some (properties_of w))) _
+      (all_below-at (λ w. implies (Lasts (Some (properties_of w))) (each_pair (space_keeps w) SP Nexts)) 73 w space-tests (few last)) (in-class tailoring Lasts last is_last))
       tailoring space next is_space is_next in
       let whole = and_parts (not (has numbered_rules.marks w)) _ tested in
       let parts = and_parts (not (has numbered_rules.marks x)) _ whole.1 in

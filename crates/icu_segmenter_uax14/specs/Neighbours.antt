@@ -30,7 +30,7 @@ StayTogether lasts nexts =
     → IsJoined tailoring (before ++ last ∷ []) (next ∷ after)
 
 -- and one may break there, though it needn't
-abbrev pub ComeApart : Class → Class → Type 0
+abbrev pub ComeApart : LineClass → LineClass → Type 0
 ComeApart lasts nexts =
     (tailoring : Tailoring) (before after : List ℕ) (last next : ℕ) → Is tailoring lasts last → Is tailoring nexts next
     → BreaksWith tailoring 0 (before ++ last ∷ []) (next ∷ after)

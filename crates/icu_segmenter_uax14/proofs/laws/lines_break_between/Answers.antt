@@ -1,4 +1,5 @@
-use Rattle.icu_segmenter_uax14.specs.LineClasses.{◌or◌, ◌but◌, AL, BA, BB, HL, ID, NU, KEPT}
+use Rattle.seg_rules.specs.Classes.{◌or◌, ◌but◌}
+use Rattle.icu_segmenter_uax14.specs.LineClasses.{AL, BA, BB, HL, ID, NU, KEPT}
 use Rattle.icu_segmenter_uax14.proofs.Neighbours.{come-apart}
 use Rattle.icu_segmenter_uax14.proofs.NeighbourTests.{after-parts, before-parts, ideographs-part}
 use Rattle.icu_segmenter_uax14.proofs.laws.lines_break_between.Goals as goal
