@@ -1,7 +1,7 @@
 -- Between which characters lines may break: tests of the rows, computed for every pair of symbols of two classes.
-use Rattle.std.proofs.Common.{Some, ◌≡◌, ℕ, suc, ◌<◌, Bool, true, not, ◌||◌, ◌==◌, List, [], ◌∷◌, ◌++◌, length, map, reverse, refl, sym, ap, ◌∙◌, arith, eqb-true, eq-eqb, inl, inr}
+use Rattle.std.proofs.Common.{Some, ◌≡◌, ℕ, suc, ◌<◌, Bool, true, not, ◌==◌, List, [], ◌∷◌, ◌++◌, length, map, reverse, refl, sym, ap, ◌∙◌, arith, eqb-true, eq-eqb, inl, inr}
 use Rattle.std.specs.Prelude.{◌↔◌, Contains}
-use Rattle.std.proofs.lemmas.Bool.{and_from, false_from_ne_true, not_from_false, or_cases}
+use Rattle.std.proofs.lemmas.Bool.{and_from, false_from_ne_true, not_from_false}
 use Rattle.std.proofs.lemmas.List.{length-append, map-append, reverse-append}
 use Rattle.ucd_table.proofs.TrieCheck.{all_below, all_below-at}
 use Rattle.seg_text.specs.Boundaries.{boundary}
