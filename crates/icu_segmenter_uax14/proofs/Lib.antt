@@ -14,5 +14,6 @@ mod NeighbourTests
 mod LineExamples
 mod Sequences
 mod Numbers
+mod Openings
 mod Marks
 mod Spaces
