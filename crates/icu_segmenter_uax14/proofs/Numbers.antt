@@ -209,7 +209,7 @@ module _ (lead more : Class) (lead_bits more_bits : ℕ) (leads : holds lead lea
       by-near : (may : ℕ → ℕ → Row → Bool) (nexts : Class) → each_pair (after_by may (run_of lead_bits more_bits)) (lead or more) nexts ≡ true
           → (before infixes after : List ℕ) (digit next : ℕ) (near : List ℕ)
           → ((c : ℕ) (cs : List ℕ) (row : Row) → near ++ (digit ∷ reverse before) ≡ c ∷ cs
-              → row_fits row (map g (c ∷ cs) ++ (0 ∷ [])) (map g (next ∷ after) ++ (0 ∷ [])) ≡ true → may (g c) (g next) row ≡ true)
+          → row_fits row (map g (c ∷ cs) ++ (0 ∷ [])) (map g (next ∷ after) ++ (0 ∷ [])) ≡ true → may (g c) (g next) row ≡ true)
           → reverse infixes ≡ near → Is tailoring lead digit → All IsMore near → Is tailoring nexts next
           → IsJoined tailoring (before ++ (digit ∷ infixes)) (next ∷ after)
       by-near may nexts kept before infixes after digit next [] may_be turned is_digit all is_next =
@@ -228,7 +228,7 @@ module _ (lead more : Class) (lead_bits more_bits : ℕ) (leads : holds lead lea
       pub run-stays : (may : ℕ → ℕ → Row → Bool) (nexts : Class) → each_pair (after_by may (run_of lead_bits more_bits)) (lead or more) nexts ≡ true
           → (before infixes after : List ℕ) (digit next : ℕ)
           → ((c : ℕ) (cs : List ℕ) (row : Row) → reverse infixes ++ (digit ∷ reverse before) ≡ c ∷ cs
-              → row_fits row (map g (c ∷ cs) ++ (0 ∷ [])) (map g (next ∷ after) ++ (0 ∷ [])) ≡ true → may (g c) (g next) row ≡ true)
+          → row_fits row (map g (c ∷ cs) ++ (0 ∷ [])) (map g (next ∷ after) ++ (0 ∷ [])) ≡ true → may (g c) (g next) row ≡ true)
           → Is tailoring lead digit → All IsMore infixes → Is tailoring nexts next → IsJoined tailoring (before ++ (digit ∷ infixes)) (next ∷ after)
       run-stays may nexts kept before infixes after digit next may_be is_digit all is_next =
           by-near may nexts kept before infixes after digit next (reverse infixes) may_be refl is_digit (reversed infixes all) is_next

@@ -1,5 +1,5 @@
 -- Where spaces between two characters say nothing: after an opening mark, and before some that may not begin a line.
-use Rattle.std.proofs.Common.{◌≡◌, ℕ, ◌<◌, Bool, true, false, not, ◌&&◌, ◌||◌, ◌==◌, List, [], ◌∷◌, ◌++◌, map, reverse, refl, sym, ap, ◌∙◌}
+use Rattle.std.proofs.Common.{◌≡◌, ℕ, Bool, true, false, not, ◌&&◌, List, [], ◌∷◌, ◌++◌, reverse, refl, sym, ap, ◌∙◌}
 use Rattle.std.specs.List.{All}
 use Rattle.std.proofs.lemmas.Bool.{and_left, and_parts, and_right, not-true, or_from}
 use Rattle.std.proofs.lemmas.List.Elements.{All-head, All-tail}
@@ -11,7 +11,7 @@ use Rattle.icu_segmenter_uax29.proofs.Tests.{implied, implies}
 use Rattle.icu_segmenter_uax14.specs.Characters.{character}
 use Rattle.icu_segmenter_uax14.specs.LineClasses.{Class, ◌or◌, no, B2, CL, CM, CP, NS, OP, SP, ZW, ZWJ}
 use Rattle.icu_segmenter_uax14.specs.LineValues.{properties_of}
-use Rattle.icu_segmenter_uax14.specs.Neighbours.{Is, IsJoined, StayTogetherOverSpaces, ends_in_zero_width}
+use Rattle.icu_segmenter_uax14.specs.Neighbours.{Is, StayTogetherOverSpaces, ends_in_zero_width}
 use Rattle.icu_segmenter_uax14.specs.Tailored.{Tailoring, style_of}
 use Rattle.icu_segmenter_uax14.proofs.LineTables.{numbered_above, numbered_below, numbered_rules}
 use Rattle.icu_segmenter_uax14.proofs.Neighbours.{ByVerdicts, in-class, symbol}
@@ -99,11 +99,11 @@ over-spaces : (lead nexts : Class) (lead_bits : ℕ) → holds lead lead_bits �
 over-spaces lead nexts lead_bits held are kept by_patterns by_verdicts tailoring before spaces after last next is_last all is_next =
     run-stays lead SP lead_bits space_bits held spaces-hold tailoring by_patterns by_verdicts may_fit_spaced nexts kept before spaces after last next
     (λ c cs row is. may-be-spaced by_patterns tailoring c next cs after
-        (λ ends.
-            let none = not-after-zero-width tailoring lead are (reverse spaces) last (reverse before)
-                (reversed lead SP lead_bits space_bits held spaces-hold tailoring spaces all) is_last in
-            let no : true ≡ false = sym ends ∙ ap (ends_in_zero_width tailoring) (sym is) ∙ none in cc)
-        row)
+    (λ ends.
+    let none = not-after-zero-width tailoring lead are (reverse spaces) last (reverse before)
+    (reversed lead SP lead_bits space_bits held spaces-hold tailoring spaces all) is_last in
+    let no : true ≡ false = sym ends ∙ ap (ends_in_zero_width tailoring) (sym is) ∙ none in cc)
+    row)
     is_last all is_next
 
 opening-tests : each_pair (after_by may_fit_spaced (run_of opening_bits space_bits)) (OP or SP) (no (CM or ZWJ)) ≡ true
