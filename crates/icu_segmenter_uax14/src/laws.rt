@@ -164,8 +164,8 @@ pub fn long_numbers_stay()
     row_fits_by_patterns();
 }
 
-/// Law: no line breaks before a quotation mark, but an opening one, nor after one, but a closing one (LB19), unless after spaces and what
-/// ends a line.
+/// Law: no line breaks before a quotation mark that isn't an opening one, unless after spaces and what ends a line, nor after one that isn't
+/// a closing one (LB19).
 pub fn quotations_stay()
     ensures before { StayTogether (no (BK or CR or LF or NL or SP or ZW)) (QU_PLAIN or QU_PF) }
     ensures after { StayTogether (QU_PLAIN or QU_PI) every }
