@@ -12,5 +12,6 @@ mod NeighbourTests
 mod LineExamples
 mod Sequences
 mod Numbers
+mod Openings
 mod Marks
 mod Spaces

@@ -4,8 +4,7 @@ use Rattle.ucd_table.proofs.TrieCheck.{all_below}
 use Rattle.seg_rules.specs.Patterns.{flags}
 use Rattle.seg_rules.specs.Plain.{right_fits}
 use Rattle.seg_rules.specs.RowRules.{flow, is_full, no_flags, once}
-use Rattle.seg_rules.specs.Classes.{◌or◌, ◌but◌, no}
-use Rattle.icu_segmenter_uax14.specs.LineClasses.{LineClass, every, AL, BA, BB, BK, CL, CM, CP, CR, EX, GL, HL, HY, ID, IS, LF, NL, NU, OP, PO, PR, SP, SY, WJ, ZW, ZWJ, CP_NARROW, OP_NARROW, KEPT, LOOSE}
+use Rattle.icu_segmenter_uax14.specs.LineClasses.{Class, ◌or◌, ◌but◌, every, no, AK, AL, AP, AS, BA, BB, BK, CB, CL, CM, CP, CR, EB, EM, EX, GL, H2, H3, HH, HL, HY, ID, IN, IS, JL, JT, JV, LF, NL, NS, NU, OP, PO, PR, SP, SY, VF, VI, WJ, ZW, ZWJ, CP_NARROW, DOTTED, KEPT, LOOSE, OP_NARROW, QU_PF, QU_PI, QU_PLAIN, PICTOGRAPH}
 use Rattle.icu_segmenter_uax14.proofs.LineTables.{numbered_above, numbered_below, numbered_rules}
 use Rattle.icu_segmenter_uax14.proofs.Neighbours.{pairs_keep}
 use Rattle.icu_segmenter_uax14.proofs.PlaceTests.{place_keeps}
@@ -58,6 +57,54 @@ to-digits-join = refl
 pub from-digits-join : Joins NU (PR or PO but LOOSE or OP_NARROW)
 unfolding pairs_keep place_keeps keeps may_end may_begin all_below flags flow is_full no_flags once right_fits numbered_above numbered_below numbered_rules
 from-digits-join = refl
+
+pub before-quotations-join : Joins (no (BK or CR or LF or NL or SP or ZW)) (QU_PLAIN or QU_PF)
+unfolding pairs_keep place_keeps keeps may_end may_begin all_below flags flow is_full no_flags once right_fits numbered_above numbered_below numbered_rules
+before-quotations-join = refl
+
+pub after-quotations-join : Joins (QU_PLAIN or QU_PI) every
+unfolding pairs_keep place_keeps keeps may_end may_begin all_below flags flow is_full no_flags once right_fits numbered_above numbered_below numbered_rules
+after-quotations-join = refl
+
+pub hyphens-join : Joins (no (BK or CR or LF or NL or SP or ZW or CB or CM)) (BA but LOOSE or HH but LOOSE or HY or NS or IN but LOOSE)
+unfolding pairs_keep place_keeps keeps may_end may_begin all_below flags flow is_full no_flags once right_fits numbered_above numbered_below numbered_rules
+hyphens-join = refl
+
+pub after-bb-joins : Joins BB (no CB)
+unfolding pairs_keep place_keeps keeps may_end may_begin all_below flags flow is_full no_flags once right_fits numbered_above numbered_below numbered_rules
+after-bb-joins = refl
+
+pub leading-join : Joins JL (JL or JV or H2 or H3)
+unfolding pairs_keep place_keeps keeps may_end may_begin all_below flags flow is_full no_flags once right_fits numbered_above numbered_below numbered_rules
+leading-join = refl
+
+pub vowels-join : Joins (JV or H2) (JV or JT)
+unfolding pairs_keep place_keeps keeps may_end may_begin all_below flags flow is_full no_flags once right_fits numbered_above numbered_below numbered_rules
+vowels-join = refl
+
+pub trailing-join : Joins (JT or H3) JT
+unfolding pairs_keep place_keeps keeps may_end may_begin all_below flags flow is_full no_flags once right_fits numbered_above numbered_below numbered_rules
+trailing-join = refl
+
+pub suffixes-join : Joins (JL or JV or JT or H2 or H3) (PO but LOOSE)
+unfolding pairs_keep place_keeps keeps may_end may_begin all_below flags flow is_full no_flags once right_fits numbered_above numbered_below numbered_rules
+suffixes-join = refl
+
+pub prefixes-join : Joins (PR but LOOSE) (JL or JV or JT or H2 or H3)
+unfolding pairs_keep place_keeps keeps may_end may_begin all_below flags flow is_full no_flags once right_fits numbered_above numbered_below numbered_rules
+prefixes-join = refl
+
+pub aksaras-join : Joins AP (AK or DOTTED or AS)
+unfolding pairs_keep place_keeps keeps may_end may_begin all_below flags flow is_full no_flags once right_fits numbered_above numbered_below numbered_rules
+aksaras-join = refl
+
+pub viramas-join : Joins (AK or DOTTED or AS) (VF or VI)
+unfolding pairs_keep place_keeps keeps may_end may_begin all_below flags flow is_full no_flags once right_fits numbered_above numbered_below numbered_rules
+viramas-join = refl
+
+pub modifiers-join : Joins (EB or PICTOGRAPH) EM
+unfolding pairs_keep place_keeps keeps may_end may_begin all_below flags flow is_full no_flags once right_fits numbered_above numbered_below numbered_rules
+modifiers-join = refl
 
 -- no row that joins, or must break, can fit before one that breaks surely does
 abbrev Parts : LineClass → LineClass → Type 0

@@ -8,7 +8,7 @@ use Rattle.ucd_table.proofs.TrieCheck.{all_below, all_below-at}
 use Rattle.seg_rules.specs.declared.rules.Count.TheVariants.{One, Star}
 use Rattle.seg_rules.specs.Patterns.{Each, EndsIn, flags}
 use Rattle.seg_rules.specs.Plain.{bases_after, bases_before, is_base, right_fits, row_fits}
-use Rattle.seg_rules.specs.RowRules.{Pattern, flow, has, is_full, no_flags, once}
+use Rattle.seg_rules.specs.RowRules.{Pattern, Row, flow, has, is_full, no_flags, once}
 use Rattle.icu_segmenter_uax29.proofs.Tests.{implied, implies}
 use Rattle.icu_segmenter_uax14.specs.Characters.{character}
 use Rattle.seg_rules.specs.Classes.{◌or◌, ◌but◌}
@@ -24,8 +24,8 @@ use Rattle.icu_segmenter_uax14.proofs.Sequences.{each_pair, numbered-verdict, pa
 use Rattle.icu_segmenter_uax14.proofs.Tailorings.{symbols-have-properties}
 
 -- the bit of a class is set of each of its symbols, and none of them is a mark
-abbrev holds : LineClass → ℕ → Bool
-holds class number = all_below (λ s. implies (class (Some (properties_of s))) (has number s && not (has numbered_rules.marks s))) 73
+abbrev pub holds : Class → ℕ → Bool
+holds class number = all_below (λ s. implies (class (properties_of s)) (has number s && not (has numbered_rules.marks s))) 73
 
 read-at : (class : LineClass) (number : ℕ) → holds class number ≡ true → (tailoring : Tailoring) (c : ℕ) → Is tailoring class c
     → (has number (symbol tailoring c) ≡ true) × (has numbered_rules.marks (symbol tailoring c) ≡ false)
@@ -64,18 +64,16 @@ brackets-hold : holds CP bracket_bits ≡ true
 unfolding all_below numbered_rules
 brackets-hold = refl
 
--- NU (SY | IS)*, and with a closing mark after it
-abbrev pub in_number : Pattern
-in_number = (digit_bits, One) ∷ (infix_bits, Star) ∷ []
+-- one of a class and any number of another, and with a closing mark after them
+abbrev pub run_of : ℕ → ℕ → Pattern
+run_of lead_bits more_bits = (lead_bits, One) ∷ (more_bits, Star) ∷ []
 
-abbrev pub closed_number : ℕ → Pattern
-closed_number bits = (digit_bits, One) ∷ (infix_bits, Star) ∷ (bits, One) ∷ []
+abbrev pub closed_run : ℕ → ℕ → ℕ → Pattern
+closed_run lead_bits more_bits bits = (lead_bits, One) ∷ (more_bits, Star) ∷ (bits, One) ∷ []
 
-abbrev pub after_keeps : Pattern → ℕ → ℕ → Bool
-after_keeps left x y = around_keeps numbered_rules (may_fit x y) (sure_after left x y) (λ v. v == 0) x y
-
-abbrev Infixes : Tailoring → List ℕ → Type 0
-Infixes tailoring cs = All (λ c. Is tailoring (IS or SY) c) cs
+-- after what fits a left side, where of the rows above these may fit
+abbrev pub after_by : (ℕ → ℕ → Row → Bool) → Pattern → ℕ → ℕ → Bool
+after_by may left x y = around_keeps numbered_rules (may x y) (sure_after left x y) (λ v. v == 0) x y
 
 module _ (tailoring : Tailoring) where
   abbrev f : ℕ → ℕ
@@ -84,81 +82,91 @@ module _ (tailoring : Tailoring) where
   abbrev IsPlain : ℕ → Type 0
   IsPlain c = has numbered_rules.marks (f c) ≡ false
 
-  each-infix : (cs : List ℕ) → Infixes tailoring cs → Each infix_bits (map f cs)
+  few : ByPatterns → (c : ℕ) → f c < 73
+  few by_patterns c = (symbols-have-properties tailoring c).below
+
+-- of two classes
+module _ (lead more : Class) (lead_bits more_bits : ℕ) (leads : holds lead lead_bits ≡ true) (mores : holds more more_bits ≡ true) (tailoring : Tailoring) where
+  abbrev g : ℕ → ℕ
+  g = symbol tailoring
+
+  abbrev IsMore : ℕ → Type 0
+  IsMore c = Is tailoring more c
+
+  abbrev Plain : ℕ → Type 0
+  Plain c = has numbered_rules.marks (g c) ≡ false
+
+  each-infix : (cs : List ℕ) → All IsMore cs → Each more_bits (map g cs)
   each-infix [] all = tt
   each-infix (c ∷ cs) all = (
-    (read-at (IS or SY) infix_bits infixes-hold tailoring c (All-head (λ c. Is tailoring (IS or SY) c) c cs all)).0,
-    each-infix cs (All-tail (λ c. Is tailoring (IS or SY) c) c cs all),
+    (read-at more more_bits mores tailoring c (All-head IsMore c cs all)).0,
+    each-infix cs (All-tail IsMore c cs all),
   )
 
-  plain-infixes : (cs : List ℕ) → Infixes tailoring cs → All IsPlain cs
-  plain-infixes [] all = All-nil IsPlain
+  plain-infixes : (cs : List ℕ) → All IsMore cs → All Plain cs
+  plain-infixes [] all = All-nil Plain
   plain-infixes (c ∷ cs) all =
-      All-cons IsPlain c cs (read-at (IS or SY) infix_bits infixes-hold tailoring c (All-head (λ c. Is tailoring (IS or SY) c) c cs all)).1
-      (plain-infixes cs (All-tail (λ c. Is tailoring (IS or SY) c) c cs all))
+      All-cons Plain c cs (read-at more more_bits mores tailoring c (All-head IsMore c cs all)).1
+      (plain-infixes cs (All-tail IsMore c cs all))
 
-  reversed : (cs : List ℕ) → Infixes tailoring cs → Infixes tailoring (reverse cs)
+  pub reversed : (cs : List ℕ) → All IsMore cs → All IsMore (reverse cs)
   reversed [] all = all
   reversed (c ∷ cs) all =
-      let P : ℕ → Type 0 = λ c. Is tailoring (IS or SY) c in
-      subst (All P) (sym (reverse-append (c ∷ []) cs))
-      (All-append P (reverse cs) (c ∷ []) (reversed cs (All-tail P c cs all)) (All-cons P c [] (All-head P c cs all) (All-nil P)))
+      subst (All IsMore) (sym (reverse-append (c ∷ []) cs))
+      (All-append IsMore (reverse cs) (c ∷ []) (reversed cs (All-tail IsMore c cs all)) (All-cons IsMore c [] (All-head IsMore c cs all) (All-nil IsMore)))
 
   module _ (by_patterns : ByPatterns) where
-    few : (c : ℕ) → f c < 73
-    few c = (symbols-have-properties tailoring c).below
-
     -- the bases before a place after digits and what stands within numbers, nearest first
-    digit-bases : (infixes : List ℕ) (digit : ℕ) (past : List ℕ) → Infixes tailoring infixes → Is tailoring NU digit
-        → bases_before numbered_rules (map f (infixes ++ (digit ∷ past))) ≡ (map f infixes ++ (f digit ∷ [])) ++ bases_before numbered_rules (map f past)
+    digit-bases : (infixes : List ℕ) (digit : ℕ) (past : List ℕ) → All IsMore infixes → Is tailoring lead digit
+        → bases_before numbered_rules (map g (infixes ++ (digit ∷ past))) ≡ (map g infixes ++ (g digit ∷ [])) ++ bases_before numbered_rules (map g past)
     unfolding numbered_rules
     digit-bases infixes digit past all is =
         let known = infixes ++ (digit ∷ []) in
-        let plain = All-append IsPlain infixes (digit ∷ []) (plain-infixes infixes all)
-        (All-cons IsPlain digit [] (read-at NU digit_bits digits-hold tailoring digit is).1 (All-nil IsPlain)) in
-        ap (bases_before numbered_rules) (ap (map f) (sym (append_assoc infixes (digit ∷ []) past)) ∙ map-append f known past)
-        ∙ plain-before numbered_rules by_patterns refl (omega arith) refl f few known (map f past) plain
-        ∙ ap (λ l. l ++ bases_before numbered_rules (map f past)) (map-append f infixes (digit ∷ []))
+        let plain = All-append Plain infixes (digit ∷ []) (plain-infixes infixes all)
+        (All-cons Plain digit [] (read-at lead lead_bits leads tailoring digit is).1 (All-nil Plain)) in
+        ap (bases_before numbered_rules) (ap (map g) (sym (append_assoc infixes (digit ∷ []) past)) ∙ map-append g known past)
+        ∙ plain-before numbered_rules by_patterns refl (omega arith) refl g (few tailoring by_patterns) known (map g past) plain
+        ∙ ap (λ l. l ++ bases_before numbered_rules (map g past)) (map-append g infixes (digit ∷ []))
 
-    ends-in-number : (infixes : List ℕ) (digit : ℕ) (past : List ℕ) → Infixes tailoring infixes → Is tailoring NU digit
-        → EndsIn in_number (bases_before numbered_rules (map f (infixes ++ (digit ∷ past))))
+    ends-in-number : (infixes : List ℕ) (digit : ℕ) (past : List ℕ) → All IsMore infixes → Is tailoring lead digit
+        → EndsIn (run_of lead_bits more_bits) (bases_before numbered_rules (map g (infixes ++ (digit ∷ past))))
     ends-in-number infixes digit past all is =
-        let has_digit = (read-at NU digit_bits digits-hold tailoring digit is).0 in (
-          map f infixes ++ (f digit ∷ []),
-          bases_before numbered_rules (map f past),
+        let has_digit = (read-at lead lead_bits leads tailoring digit is).0 in (
+          map g infixes ++ (g digit ∷ []),
+          bases_before numbered_rules (map g past),
           (
             digit-bases infixes digit past all is,
-            (map f infixes, f digit ∷ [], (refl, ((f digit, (refl, has_digit)), ([], map f infixes, (refl, (each-infix infixes all, refl)))))),
+            (map g infixes, g digit ∷ [], (refl, ((g digit, (refl, has_digit)), ([], map g infixes, (refl, (each-infix infixes all, refl)))))),
           ),
         )
 
-    ends-closed : (class : LineClass) (bits : ℕ) → holds class bits ≡ true → (closing : ℕ) (infixes : List ℕ) (digit : ℕ) (past : List ℕ) → Is tailoring class closing
-        → Infixes tailoring infixes → Is tailoring NU digit → EndsIn (closed_number bits) (bases_before numbered_rules (map f (closing ∷ (infixes ++ (digit ∷ past)))))
+    ends-closed : (class : Class) (bits : ℕ) → holds class bits ≡ true → (closing : ℕ) (infixes : List ℕ) (digit : ℕ) (past : List ℕ) → Is tailoring class closing
+        → All IsMore infixes → Is tailoring lead digit → EndsIn (closed_run lead_bits more_bits bits) (bases_before numbered_rules (map g (closing ∷ (infixes ++ (digit ∷ past)))))
     unfolding numbered_rules
     ends-closed class bits held closing infixes digit past closes all is =
-        let has_digit = (read-at NU digit_bits digits-hold tailoring digit is).0 in
+        let has_digit = (read-at lead lead_bits leads tailoring digit is).0 in
         let (has_closing, plain) = read-at class bits held tailoring closing closes in
-        let own = map f infixes ++ (f digit ∷ []) in (
-          f closing ∷ own,
-          bases_before numbered_rules (map f past),
+        let own = map g infixes ++ (g digit ∷ []) in (
+          g closing ∷ own,
+          bases_before numbered_rules (map g past),
           (
-            base-alone numbered_rules by_patterns refl (omega arith) refl f few (f closing) (map f (infixes ++ (digit ∷ past))) plain
-                ∙ ap (λ l. f closing ∷ l) (digit-bases infixes digit past all is),
+            base-alone numbered_rules by_patterns refl (omega arith) refl g (few tailoring by_patterns) (g closing) (map g (infixes ++ (digit ∷ past))) plain
+                ∙ ap (λ l. g closing ∷ l) (digit-bases infixes digit past all is),
             (
-              f closing ∷ map f infixes,
-              f digit ∷ [],
+              g closing ∷ map g infixes,
+              g digit ∷ [],
               (
                 refl,
                 (
-                  (f digit, (refl, has_digit)),
+                  (g digit, (refl, has_digit)),
                   (
-                    f closing ∷ [],
-                    map f infixes,
+                    g closing ∷ [],
+                    map g infixes,
                     (
                       refl,
                       (
                         each-infix infixes all,
-                        ([], f closing ∷ [], (refl, ((f closing, (refl, has_closing)), refl))),
+                        ([], g closing ∷ [], (refl, ((g closing, (refl, has_closing)), refl))),
                       ),
                     ),
                   ),
@@ -170,27 +178,28 @@ module _ (tailoring : Tailoring) where
 
     module _ (by_verdicts : ByVerdicts) where
       -- no break after what fits a left side
-      pub after-joined : (left : Pattern) (lasts nexts : LineClass) → each_pair (after_keeps left) lasts nexts ≡ true
-          → (before after : List ℕ) (c : ℕ) (cs : List ℕ) (d : ℕ) → reverse before ≡ c ∷ cs → Is tailoring lasts c → Is tailoring nexts d
-          → EndsIn left (bases_before numbered_rules (map f (c ∷ cs))) → IsJoined tailoring before (d ∷ after)
+      pub after-joined : (may : ℕ → ℕ → Row → Bool) (left : Pattern) (lasts nexts : Class) → each_pair (after_by may left) lasts nexts ≡ true
+          → (before after : List ℕ) (c : ℕ) (cs : List ℕ) (d : ℕ)
+          → ((row : Row) → row_fits row (map g (c ∷ cs) ++ (0 ∷ [])) (map g (d ∷ after) ++ (0 ∷ [])) ≡ true → may (g c) (g d) row ≡ true)
+          → reverse before ≡ c ∷ cs → Is tailoring lasts c → Is tailoring nexts d
+          → EndsIn left (bases_before numbered_rules (map g (c ∷ cs))) → IsJoined tailoring before (d ∷ after)
       unfolding numbered_rules around_by
-      after-joined left lasts nexts kept before after c cs d turned is_last is_next ends =
-          let x = f c in
-          let y = f d in
-          let here = pair-at (after_keeps left) lasts nexts kept tailoring c d is_last is_next in
+      after-joined may left lasts nexts kept before after c cs d may_be turned is_last is_next ends =
+          let x = g c in
+          let y = g d in
+          let here = pair-at (after_by may left) lasts nexts kept tailoring c d is_last is_next in
           let parts = and_parts (not (has numbered_rules.marks x)) _ here in
           let more_parts = and_parts (not (has numbered_rules.marks y)) _ parts.1 in
-          let base = is_base numbered_rules (map f (c ∷ cs)) in
-          let further = bases_after numbered_rules ((has numbered_rules.marks y && base) || (numbered_rules.has_marks && not (has numbered_rules.bare y))) (map f after) in
-          let before_is = base-alone numbered_rules by_patterns refl (omega arith) refl f few x (map f cs) (not-true _ parts.0) in
-          let after_is = next-alone numbered_rules by_patterns refl (omega arith) refl f few base y (map f after) (not-true _ more_parts.0) in
+          let base = is_base numbered_rules (map g (c ∷ cs)) in
+          let further = bases_after numbered_rules ((has numbered_rules.marks y && base) || (numbered_rules.has_marks && not (has numbered_rules.bare y))) (map g after) in
+          let before_is = base-alone numbered_rules by_patterns refl (omega arith) refl g (few tailoring by_patterns) x (map g cs) (not-true _ parts.0) in
+          let after_is = next-alone numbered_rules by_patterns refl (omega arith) refl g (few tailoring by_patterns) base y (map g after) (not-true _ more_parts.0) in
           joined-at by_patterns by_verdicts tailoring before (d ∷ after) (some-list before c cs turned)
           (numbered-verdict tailoring before (d ∷ after) c cs turned
-          (around-kept numbered_rules by_patterns refl (omega arith) refl f few (λ v. v == 0) (may_fit x y) (sure_after left x y) c d cs after
-          (λ row. fits-may by_patterns row x y (map f cs ++ (0 ∷ [])) (map f after ++ (0 ∷ [])))
+          (around-kept numbered_rules by_patterns refl (omega arith) refl g (few tailoring by_patterns) (λ v. v == 0) (may x y) (sure_after left x y) c d cs after may_be
           (λ row sure.
           ap₂ (λ (b a : List ℕ). row_fits row b a) before_is after_is
-          ∙ after-fits by_patterns row left x y (bases_before numbered_rules (map f cs)) further (subst (EndsIn left) before_is ends) sure)
+          ∙ after-fits by_patterns row left x y (bases_before numbered_rules (map g cs)) further (subst (EndsIn left) before_is ends) sure)
           here))
 
       turned-number : (before infixes : List ℕ) (digit : ℕ) → reverse (before ++ (digit ∷ infixes)) ≡ reverse infixes ++ (digit ∷ reverse before)
@@ -198,32 +207,41 @@ module _ (tailoring : Tailoring) where
           reverse-append before (digit ∷ infixes) ∙ ap (λ l. l ++ reverse before) (reverse-append (digit ∷ []) infixes)
           ∙ append_assoc (reverse infixes) (digit ∷ []) (reverse before)
 
-      by-near : (nexts : LineClass) → each_pair (after_keeps in_number) (NU or (IS or SY)) nexts ≡ true
-          → (before infixes after : List ℕ) (digit next : ℕ) (near : List ℕ) → reverse infixes ≡ near → Is tailoring NU digit → Infixes tailoring near → Is tailoring nexts next
+      by-near : (may : ℕ → ℕ → Row → Bool) (nexts : Class) → each_pair (after_by may (run_of lead_bits more_bits)) (lead or more) nexts ≡ true
+          → (before infixes after : List ℕ) (digit next : ℕ) (near : List ℕ)
+          → ((c : ℕ) (cs : List ℕ) (row : Row) → near ++ (digit ∷ reverse before) ≡ c ∷ cs
+          → row_fits row (map g (c ∷ cs) ++ (0 ∷ [])) (map g (next ∷ after) ++ (0 ∷ [])) ≡ true → may (g c) (g next) row ≡ true)
+          → reverse infixes ≡ near → Is tailoring lead digit → All IsMore near → Is tailoring nexts next
           → IsJoined tailoring (before ++ (digit ∷ infixes)) (next ∷ after)
-      by-near nexts kept before infixes after digit next [] turned is_digit all is_next =
-          after-joined in_number (NU or (IS or SY)) nexts kept (before ++ (digit ∷ infixes)) after digit (reverse before) next
+      by-near may nexts kept before infixes after digit next [] may_be turned is_digit all is_next =
+          after-joined may (run_of lead_bits more_bits) (lead or more) nexts kept (before ++ (digit ∷ infixes)) after digit (reverse before) next
+          (λ row. may_be digit (reverse before) row refl)
           (turned-number before infixes digit ∙ ap (λ l. l ++ (digit ∷ reverse before)) turned)
           (or_left _ _ is_digit) is_next (ends-in-number [] digit (reverse before) all is_digit)
-      by-near nexts kept before infixes after digit next (c ∷ near) turned is_digit all is_next =
-          after-joined in_number (NU or (IS or SY)) nexts kept (before ++ (digit ∷ infixes)) after c (near ++ (digit ∷ reverse before)) next
+      by-near may nexts kept before infixes after digit next (c ∷ near) may_be turned is_digit all is_next =
+          after-joined may (run_of lead_bits more_bits) (lead or more) nexts kept (before ++ (digit ∷ infixes)) after c (near ++ (digit ∷ reverse before)) next
+          (λ row. may_be c (near ++ (digit ∷ reverse before)) row refl)
           (turned-number before infixes digit ∙ ap (λ l. l ++ (digit ∷ reverse before)) turned)
-          (or_right (NU (Some (style_of tailoring (character c)))) _ (All-head (λ c. Is tailoring (IS or SY) c) c near all)) is_next
+          (or_right (lead (style_of tailoring (character c))) _ (All-head IsMore c near all)) is_next
           (ends-in-number (c ∷ near) digit (reverse before) all is_digit)
 
       -- Law: after digits and what stands within numbers
-      pub number-stays : (nexts : LineClass) → each_pair (after_keeps in_number) (NU or (IS or SY)) nexts ≡ true
-          → (before infixes after : List ℕ) (digit next : ℕ) → Is tailoring NU digit → Infixes tailoring infixes → Is tailoring nexts next
-          → IsJoined tailoring (before ++ (digit ∷ infixes)) (next ∷ after)
-      number-stays nexts kept before infixes after digit next is_digit all is_next =
-          by-near nexts kept before infixes after digit next (reverse infixes) refl is_digit (reversed infixes all) is_next
+      pub run-stays : (may : ℕ → ℕ → Row → Bool) (nexts : Class) → each_pair (after_by may (run_of lead_bits more_bits)) (lead or more) nexts ≡ true
+          → (before infixes after : List ℕ) (digit next : ℕ)
+          → ((c : ℕ) (cs : List ℕ) (row : Row) → reverse infixes ++ (digit ∷ reverse before) ≡ c ∷ cs
+          → row_fits row (map g (c ∷ cs) ++ (0 ∷ [])) (map g (next ∷ after) ++ (0 ∷ [])) ≡ true → may (g c) (g next) row ≡ true)
+          → Is tailoring lead digit → All IsMore infixes → Is tailoring nexts next → IsJoined tailoring (before ++ (digit ∷ infixes)) (next ∷ after)
+      run-stays may nexts kept before infixes after digit next may_be is_digit all is_next =
+          by-near may nexts kept before infixes after digit next (reverse infixes) may_be refl is_digit (reversed infixes all) is_next
 
       -- Law: and after a closing mark behind them
-      pub closed-stays : (class : LineClass) (bits : ℕ) → holds class bits ≡ true → (nexts : LineClass) → each_pair (after_keeps (closed_number bits)) class nexts ≡ true
-          → (before infixes after : List ℕ) (digit closing next : ℕ) → Is tailoring NU digit → Infixes tailoring infixes → Is tailoring class closing → Is tailoring nexts next
+      pub closed-stays : (class : Class) (bits : ℕ) → holds class bits ≡ true → (nexts : Class) → each_pair (after_by may_fit (closed_run lead_bits more_bits bits)) class nexts ≡ true
+          → (before infixes after : List ℕ) (digit closing next : ℕ) → Is tailoring lead digit → All IsMore infixes → Is tailoring class closing → Is tailoring nexts next
           → IsJoined tailoring ((before ++ (digit ∷ infixes)) ++ (closing ∷ [])) (next ∷ after)
       closed-stays class bits held nexts kept before infixes after digit closing next is_digit all closes is_next =
-          after-joined (closed_number bits) class nexts kept ((before ++ (digit ∷ infixes)) ++ (closing ∷ [])) after closing (reverse infixes ++ (digit ∷ reverse before)) next
+          after-joined may_fit (closed_run lead_bits more_bits bits) class nexts kept ((before ++ (digit ∷ infixes)) ++ (closing ∷ [])) after closing
+          (reverse infixes ++ (digit ∷ reverse before)) next
+          (λ row. fits-may by_patterns row (g closing) (g next) (map g (reverse infixes ++ (digit ∷ reverse before)) ++ (0 ∷ [])) (map g after ++ (0 ∷ [])))
           (reverse-append (before ++ (digit ∷ infixes)) (closing ∷ []) ∙ ap (λ l. closing ∷ l) (turned-number before infixes digit))
           closes is_next (ends-closed class bits held closing (reverse infixes) digit (reverse before) closes (reversed infixes all) is_digit)
 
@@ -313,15 +331,15 @@ module _ (tailoring : Tailoring) (by_patterns : ByPatterns) (by_verdicts : ByVer
       tailoring last opening is_last opens)
 
 -- the tests of it, computed
-infix-tests : each_pair (after_keeps in_number) (NU or (IS or SY)) (NU or PR or PO but LOOSE) ≡ true
+infix-tests : each_pair (after_by may_fit (run_of digit_bits infix_bits)) (NU or (IS or SY)) (NU or PR or PO but LOOSE) ≡ true
 unfolding around_by same_items keeps may_end may_begin all_below flags flow is_full no_flags once right_fits numbered_above numbered_below numbered_rules
 infix-tests = refl
 
-closing-tests : each_pair (after_keeps (closed_number closing_bits)) CL (PR or PO but LOOSE) ≡ true
+closing-tests : each_pair (after_by may_fit (closed_run digit_bits infix_bits closing_bits)) CL (PR or PO but LOOSE) ≡ true
 unfolding around_by same_items keeps may_end may_begin all_below flags flow is_full no_flags once right_fits numbered_above numbered_below numbered_rules
 closing-tests = refl
 
-bracket-tests : each_pair (after_keeps (closed_number bracket_bits)) CP (PR or PO but LOOSE) ≡ true
+bracket-tests : each_pair (after_by may_fit (closed_run digit_bits infix_bits bracket_bits)) CP (PR or PO but LOOSE) ≡ true
 unfolding around_by same_items keeps may_end may_begin all_below flags flow is_full no_flags once right_fits numbered_above numbered_below numbered_rules
 bracket-tests = refl
 
@@ -329,7 +347,10 @@ module _ (by_patterns : ByPatterns) (by_verdicts : ByVerdicts) where
   pub infixes-stay : (tailoring : Tailoring) (before infixes after : List ℕ) (digit next : ℕ) → Is tailoring NU digit → All (Is tailoring (IS or SY)) infixes
       → Is tailoring (NU or PR or PO but LOOSE) next → IsJoined tailoring (before ++ (digit ∷ infixes)) (next ∷ after)
   infixes-stay tailoring before infixes after digit next is_digit all is_next =
-      number-stays tailoring by_patterns by_verdicts (NU or PR or PO but LOOSE) infix-tests before infixes after digit next is_digit all is_next
+      run-stays NU (IS or SY) digit_bits infix_bits digits-hold infixes-hold tailoring by_patterns by_verdicts may_fit (NU or PR or PO but LOOSE) infix-tests before infixes after
+      digit next
+      (λ c cs row is. fits-may by_patterns row (symbol tailoring c) (symbol tailoring next) (map (symbol tailoring) cs ++ (0 ∷ [])) (map (symbol tailoring) after ++ (0 ∷ [])))
+      is_digit all is_next
 
   pub closed-numbers-stay : (tailoring : Tailoring) (before infixes after : List ℕ) (digit closing next : ℕ) → Is tailoring NU digit
       → All (Is tailoring (IS or SY)) infixes → Is tailoring (CL or CP) closing → Is tailoring (PR or PO but LOOSE) next
@@ -337,7 +358,7 @@ module _ (by_patterns : ByPatterns) (by_verdicts : ByVerdicts) where
   closed-numbers-stay tailoring before infixes after digit closing next is_digit all closes is_next =
       elim (or_cases (CL (Some (style_of tailoring (character closing)))) _ closes) [
         | inl mark ↦
-            closed-stays tailoring by_patterns by_verdicts CL closing_bits closings-hold (PR or PO but LOOSE) closing-tests before infixes after digit closing next is_digit all mark is_next
+            closed-stays NU (IS or SY) digit_bits infix_bits digits-hold infixes-hold tailoring by_patterns by_verdicts CL closing_bits closings-hold (PR or PO but LOOSE) closing-tests before infixes after digit closing next is_digit all mark is_next
         | inr bracket ↦
-            closed-stays tailoring by_patterns by_verdicts CP bracket_bits brackets-hold (PR or PO but LOOSE) bracket-tests before infixes after digit closing next is_digit all bracket is_next
+            closed-stays NU (IS or SY) digit_bits infix_bits digits-hold infixes-hold tailoring by_patterns by_verdicts CP bracket_bits brackets-hold (PR or PO but LOOSE) bracket-tests before infixes after digit closing next is_digit all bracket is_next
       ]

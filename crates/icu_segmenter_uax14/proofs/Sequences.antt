@@ -103,7 +103,7 @@ zero-width-ends tailoring cs (own, past, (is, (later, mine, (split, ((z, (alone,
     ends-there tailoring cs spaces z past each has_z (is ∙ ap (λ o. o ++ past) own_is ∙ append_assoc spaces (z ∷ []) past)
 
 module _ (by_patterns : ByPatterns) where
-  may-be-spaced : (tailoring : Tailoring) (c d : ℕ) (cs ds : List ℕ) → (ends_in_zero_width tailoring (c ∷ cs) ≡ true → ⊥) → (row : Row)
+  pub may-be-spaced : (tailoring : Tailoring) (c d : ℕ) (cs ds : List ℕ) → (ends_in_zero_width tailoring (c ∷ cs) ≡ true → ⊥) → (row : Row)
       → row_fits row (map (symbol tailoring) (c ∷ cs) ++ (0 ∷ [])) (map (symbol tailoring) (d ∷ ds) ++ (0 ∷ [])) ≡ true
       → may_fit_spaced (symbol tailoring c) (symbol tailoring d) row ≡ true
   may-be-spaced tailoring c d cs ds no_zero_width row fits =

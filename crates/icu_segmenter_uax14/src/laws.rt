@@ -4,10 +4,9 @@ ghost use Rattle.seg_text.specs.Boundaries.{boundary, start};
 ghost use Rattle.seg_machine.specs.Pick.{machine_boundaries};
 ghost use Rattle.seg_lines.specs.LineBreaks.{LineRules};
 ghost use Rattle.seg_lines.specs.LineBreaks.LineFinder.{ByMachine};
-ghost use Rattle.seg_rules.specs.Classes.{◌or◌, ◌but◌, no};
-ghost use Rattle.icu_segmenter_uax14.specs.LineClasses.{every, AL, B2, BA, BB, BK, CL, CM, CP, CR, EX, GL, HL, HY, ID, IS, LF, NL, NS, NU, OP, PO, PR, SP, SY, WJ, ZW, ZWJ, CP_NARROW, KEPT, OP_NARROW, LOOSE, QU_PF, QU_PI};
+ghost use Rattle.icu_segmenter_uax14.specs.LineClasses.{◌or◌, ◌but◌, every, no, AK, AL, AP, AS, B2, BA, BB, BK, CB, CL, CM, CP, CR, EB, EM, EX, GL, H2, H3, HH, HL, HY, ID, IN, IS, JL, JT, JV, LF, NL, NS, NU, OP, PO, PR, SP, SY, VF, VI, WJ, ZW, ZWJ, CP_NARROW, DOTTED, KEPT, LOOSE, OP_NARROW, QU_PF, QU_PI, QU_PLAIN, PICTOGRAPH};
 ghost use Rattle.icu_segmenter_uax14.specs.Lines.{line_machine};
-ghost use Rattle.icu_segmenter_uax14.specs.Neighbours.{BreaksWith, ComeApart, EndsInZeroWidth, EndsLine, Is, IsJoined, MustBreak, StayTogether};
+ghost use Rattle.icu_segmenter_uax14.specs.Neighbours.{BreaksWith, ComeApart, EndsInZeroWidth, EndsLine, Is, IsJoined, MustBreak, StayTogether, StayTogetherOverSpaces};
 ghost use Rattle.icu_segmenter_uax14.specs.Tailored.{FollowsRules, HasScriptsOf, HasSymbolsOf, LinesFollowRules, Tailoring, machine_by, scripts_of, style_of};
 
 use seg_rules::laws::{boundaries_are_places, boundary_is_verdict, row_fits_by_patterns};
@@ -105,9 +104,20 @@ pub fn closings_stay()
     row_fits_by_patterns();
 }
 
-/// Law: no line breaks after an opening mark (LB14: OP).
+/// Law: no line breaks after an opening mark, even after spaces (LB14: OP).
 pub fn openings_stay()
-    ensures { StayTogether OP every }
+    ensures next { StayTogether OP every }
+    ensures over_spaces { StayTogetherOverSpaces OP (no (CM or ZWJ)) }
+{
+    boundary_is_verdict();
+    row_fits_by_patterns();
+}
+
+/// Law: no line breaks between a closing mark and what may not begin a line (LB16: CL, CP, NS), nor between two dashes (LB17: B2), even
+/// where spaces stand between them.
+pub fn dashes_stay()
+    ensures non_starters { StayTogetherOverSpaces (CL or CP) NS }
+    ensures dashes { StayTogetherOverSpaces B2 B2 }
 {
     boundary_is_verdict();
     row_fits_by_patterns();
@@ -149,6 +159,57 @@ pub fn long_numbers_stay()
     ensures points { (tailoring : Tailoring) (before after : List ℕ) (last opening point digit : ℕ) → Is tailoring (PO or PR but LOOSE) last
         → Is tailoring OP opening → Is tailoring IS point → Is tailoring NU digit
         → IsJoined tailoring (before ++ last ∷ []) (opening ∷ point ∷ digit ∷ after) }
+{
+    boundary_is_verdict();
+    row_fits_by_patterns();
+}
+
+/// Law: no line breaks before a quotation mark that isn't an opening one, unless after spaces and what ends a line, nor after one that isn't
+/// a closing one (LB19).
+pub fn quotations_stay()
+    ensures before { StayTogether (no (BK or CR or LF or NL or SP or ZW)) (QU_PLAIN or QU_PF) }
+    ensures after { StayTogether (QU_PLAIN or QU_PI) every }
+{
+    boundary_is_verdict();
+    row_fits_by_patterns();
+}
+
+/// Law: no line breaks before what allows a break after it, as a hyphen, nor before what may not begin a line, as a small kana (LB21: BA,
+/// HH, HY, NS), nor before an ellipsis (LB22: IN), but after spaces, what ends a line and CB (LB20); nor after what allows a break before
+/// it (LB21: BB), but before CB. Marks may follow: then `marks_change_nothing` says it. Hyphens and ellipses that a tailoring breaks more
+/// loosely aren't meant.
+pub fn hyphens_stay()
+    ensures before { StayTogether (no (BK or CR or LF or NL or SP or ZW or CB or CM)) (BA but LOOSE or HH but LOOSE or HY or NS or IN but LOOSE) }
+    ensures after { StayTogether BB (no CB) }
+{
+    boundary_is_verdict();
+    row_fits_by_patterns();
+}
+
+/// Law: no line breaks within a syllable of Hangul (LB26), nor between one and a prefix before it or a suffix after it (LB27).
+pub fn hangul_syllables_stay()
+    ensures leading { StayTogether JL (JL or JV or H2 or H3) }
+    ensures vowels { StayTogether (JV or H2) (JV or JT) }
+    ensures trailing { StayTogether (JT or H3) JT }
+    ensures suffixes { StayTogether (JL or JV or JT or H2 or H3) (PO but LOOSE) }
+    ensures prefixes { StayTogether (PR but LOOSE) (JL or JV or JT or H2 or H3) }
+{
+    boundary_is_verdict();
+    row_fits_by_patterns();
+}
+
+/// Law: no line breaks within a syllable of a Brahmic script: after what stands before an aksara, and before its virama (LB28a).
+pub fn aksaras_stay()
+    ensures before { StayTogether AP (AK or DOTTED or AS) }
+    ensures viramas { StayTogether (AK or DOTTED or AS) (VF or VI) }
+{
+    boundary_is_verdict();
+    row_fits_by_patterns();
+}
+
+/// Law: no line breaks between an emoji and its modifier (LB30b).
+pub fn emoji_modifiers_stay()
+    ensures { StayTogether (EB or PICTOGRAPH) EM }
 {
     boundary_is_verdict();
     row_fits_by_patterns();
