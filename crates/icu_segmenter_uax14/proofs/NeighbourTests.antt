@@ -4,7 +4,8 @@ use Rattle.ucd_table.proofs.TrieCheck.{all_below}
 use Rattle.seg_rules.specs.Patterns.{flags}
 use Rattle.seg_rules.specs.Plain.{right_fits}
 use Rattle.seg_rules.specs.RowRules.{flow, is_full, no_flags, once}
-use Rattle.icu_segmenter_uax14.specs.LineClasses.{Class, ◌or◌, ◌but◌, every, no, AK, AL, AP, AS, BA, BB, BK, CB, CL, CM, CP, CR, EB, EM, EX, GL, H2, H3, HH, HL, HY, ID, IN, IS, JL, JT, JV, LF, NL, NS, NU, OP, PO, PR, SP, SY, VF, VI, WJ, ZW, ZWJ, CP_NARROW, DOTTED, KEPT, LOOSE, OP_NARROW, QU_PF, QU_PI, QU_PLAIN, PICTOGRAPH}
+use Rattle.seg_rules.specs.Classes.{◌or◌, ◌but◌, no}
+use Rattle.icu_segmenter_uax14.specs.LineClasses.{LineClass, every, AK, AL, AP, AS, BA, BB, BK, CB, CL, CM, CP, CR, EB, EM, EX, GL, H2, H3, HH, HL, HY, ID, IN, IS, JL, JT, JV, LF, NL, NS, NU, OP, PO, PR, SP, SY, VF, VI, WJ, ZW, ZWJ, CP_NARROW, DOTTED, KEPT, LOOSE, OP_NARROW, QU_PF, QU_PI, QU_PLAIN, PICTOGRAPH}
 use Rattle.icu_segmenter_uax14.proofs.LineTables.{numbered_above, numbered_below, numbered_rules}
 use Rattle.icu_segmenter_uax14.proofs.Neighbours.{pairs_keep}
 use Rattle.icu_segmenter_uax14.proofs.PlaceTests.{place_keeps}

@@ -24,8 +24,8 @@ use Rattle.icu_segmenter_uax14.proofs.Sequences.{each_pair, numbered-verdict, pa
 use Rattle.icu_segmenter_uax14.proofs.Tailorings.{symbols-have-properties}
 
 -- the bit of a class is set of each of its symbols, and none of them is a mark
-abbrev pub holds : Class → ℕ → Bool
-holds class number = all_below (λ s. implies (class (properties_of s)) (has number s && not (has numbered_rules.marks s))) 73
+abbrev pub holds : LineClass → ℕ → Bool
+holds class number = all_below (λ s. implies (class (Some (properties_of s))) (has number s && not (has numbered_rules.marks s))) 73
 
 read-at : (class : LineClass) (number : ℕ) → holds class number ≡ true → (tailoring : Tailoring) (c : ℕ) → Is tailoring class c
     → (has number (symbol tailoring c) ≡ true) × (has numbered_rules.marks (symbol tailoring c) ≡ false)
@@ -86,7 +86,7 @@ module _ (tailoring : Tailoring) where
   few by_patterns c = (symbols-have-properties tailoring c).below
 
 -- of two classes
-module _ (lead more : Class) (lead_bits more_bits : ℕ) (leads : holds lead lead_bits ≡ true) (mores : holds more more_bits ≡ true) (tailoring : Tailoring) where
+module _ (lead more : LineClass) (lead_bits more_bits : ℕ) (leads : holds lead lead_bits ≡ true) (mores : holds more more_bits ≡ true) (tailoring : Tailoring) where
   abbrev g : ℕ → ℕ
   g = symbol tailoring
 
@@ -140,7 +140,7 @@ module _ (lead more : Class) (lead_bits more_bits : ℕ) (leads : holds lead lea
           ),
         )
 
-    ends-closed : (class : Class) (bits : ℕ) → holds class bits ≡ true → (closing : ℕ) (infixes : List ℕ) (digit : ℕ) (past : List ℕ) → Is tailoring class closing
+    ends-closed : (class : LineClass) (bits : ℕ) → holds class bits ≡ true → (closing : ℕ) (infixes : List ℕ) (digit : ℕ) (past : List ℕ) → Is tailoring class closing
         → All IsMore infixes → Is tailoring lead digit → EndsIn (closed_run lead_bits more_bits bits) (bases_before numbered_rules (map g (closing ∷ (infixes ++ (digit ∷ past)))))
     unfolding numbered_rules
     ends-closed class bits held closing infixes digit past closes all is =
@@ -178,7 +178,7 @@ module _ (lead more : Class) (lead_bits more_bits : ℕ) (leads : holds lead lea
 
     module _ (by_verdicts : ByVerdicts) where
       -- no break after what fits a left side
-      pub after-joined : (may : ℕ → ℕ → Row → Bool) (left : Pattern) (lasts nexts : Class) → each_pair (after_by may left) lasts nexts ≡ true
+      pub after-joined : (may : ℕ → ℕ → Row → Bool) (left : Pattern) (lasts nexts : LineClass) → each_pair (after_by may left) lasts nexts ≡ true
           → (before after : List ℕ) (c : ℕ) (cs : List ℕ) (d : ℕ)
           → ((row : Row) → row_fits row (map g (c ∷ cs) ++ (0 ∷ [])) (map g (d ∷ after) ++ (0 ∷ [])) ≡ true → may (g c) (g d) row ≡ true)
           → reverse before ≡ c ∷ cs → Is tailoring lasts c → Is tailoring nexts d
@@ -207,7 +207,7 @@ module _ (lead more : Class) (lead_bits more_bits : ℕ) (leads : holds lead lea
           reverse-append before (digit ∷ infixes) ∙ ap (λ l. l ++ reverse before) (reverse-append (digit ∷ []) infixes)
           ∙ append_assoc (reverse infixes) (digit ∷ []) (reverse before)
 
-      by-near : (may : ℕ → ℕ → Row → Bool) (nexts : Class) → each_pair (after_by may (run_of lead_bits more_bits)) (lead or more) nexts ≡ true
+      by-near : (may : ℕ → ℕ → Row → Bool) (nexts : LineClass) → each_pair (after_by may (run_of lead_bits more_bits)) (lead or more) nexts ≡ true
           → (before infixes after : List ℕ) (digit next : ℕ) (near : List ℕ)
           → ((c : ℕ) (cs : List ℕ) (row : Row) → near ++ (digit ∷ reverse before) ≡ c ∷ cs
           → row_fits row (map g (c ∷ cs) ++ (0 ∷ [])) (map g (next ∷ after) ++ (0 ∷ [])) ≡ true → may (g c) (g next) row ≡ true)
@@ -222,11 +222,11 @@ module _ (lead more : Class) (lead_bits more_bits : ℕ) (leads : holds lead lea
           after-joined may (run_of lead_bits more_bits) (lead or more) nexts kept (before ++ (digit ∷ infixes)) after c (near ++ (digit ∷ reverse before)) next
           (λ row. may_be c (near ++ (digit ∷ reverse before)) row refl)
           (turned-number before infixes digit ∙ ap (λ l. l ++ (digit ∷ reverse before)) turned)
-          (or_right (lead (style_of tailoring (character c))) _ (All-head IsMore c near all)) is_next
+          (or_right (lead (Some (style_of tailoring (character c)))) _ (All-head IsMore c near all)) is_next
           (ends-in-number (c ∷ near) digit (reverse before) all is_digit)
 
       -- Law: after digits and what stands within numbers
-      pub run-stays : (may : ℕ → ℕ → Row → Bool) (nexts : Class) → each_pair (after_by may (run_of lead_bits more_bits)) (lead or more) nexts ≡ true
+      pub run-stays : (may : ℕ → ℕ → Row → Bool) (nexts : LineClass) → each_pair (after_by may (run_of lead_bits more_bits)) (lead or more) nexts ≡ true
           → (before infixes after : List ℕ) (digit next : ℕ)
           → ((c : ℕ) (cs : List ℕ) (row : Row) → reverse infixes ++ (digit ∷ reverse before) ≡ c ∷ cs
           → row_fits row (map g (c ∷ cs) ++ (0 ∷ [])) (map g (next ∷ after) ++ (0 ∷ [])) ≡ true → may (g c) (g next) row ≡ true)
@@ -235,7 +235,7 @@ module _ (lead more : Class) (lead_bits more_bits : ℕ) (leads : holds lead lea
           by-near may nexts kept before infixes after digit next (reverse infixes) may_be refl is_digit (reversed infixes all) is_next
 
       -- Law: and after a closing mark behind them
-      pub closed-stays : (class : Class) (bits : ℕ) → holds class bits ≡ true → (nexts : Class) → each_pair (after_by may_fit (closed_run lead_bits more_bits bits)) class nexts ≡ true
+      pub closed-stays : (class : LineClass) (bits : ℕ) → holds class bits ≡ true → (nexts : LineClass) → each_pair (after_by may_fit (closed_run lead_bits more_bits bits)) class nexts ≡ true
           → (before infixes after : List ℕ) (digit closing next : ℕ) → Is tailoring lead digit → All IsMore infixes → Is tailoring class closing → Is tailoring nexts next
           → IsJoined tailoring ((before ++ (digit ∷ infixes)) ++ (closing ∷ [])) (next ∷ after)
       closed-stays class bits held nexts kept before infixes after digit closing next is_digit all closes is_next =

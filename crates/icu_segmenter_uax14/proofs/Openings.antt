@@ -1,5 +1,5 @@
 -- Where spaces between two characters say nothing: after an opening mark, and before some that may not begin a line.
-use Rattle.std.proofs.Common.{◌≡◌, ℕ, Bool, true, false, not, ◌&&◌, List, [], ◌∷◌, ◌++◌, reverse, refl, sym, ap, ◌∙◌}
+use Rattle.std.proofs.Common.{Some, ◌≡◌, ℕ, Bool, true, false, not, ◌&&◌, List, [], ◌∷◌, ◌++◌, reverse, refl, sym, ap, ◌∙◌}
 use Rattle.std.specs.List.{All}
 use Rattle.std.proofs.lemmas.Bool.{and_left, and_parts, and_right, not-true, or_from}
 use Rattle.std.proofs.lemmas.List.Elements.{All-head, All-tail}
@@ -9,7 +9,8 @@ use Rattle.seg_rules.specs.Plain.{right_fits}
 use Rattle.seg_rules.specs.RowRules.{flow, is_full, no_flags, once}
 use Rattle.icu_segmenter_uax29.proofs.Tests.{implied, implies}
 use Rattle.icu_segmenter_uax14.specs.Characters.{character}
-use Rattle.icu_segmenter_uax14.specs.LineClasses.{Class, ◌or◌, no, B2, CL, CM, CP, NS, OP, SP, ZW, ZWJ}
+use Rattle.seg_rules.specs.Classes.{◌or◌, no}
+use Rattle.icu_segmenter_uax14.specs.LineClasses.{LineClass, B2, CL, CM, CP, NS, OP, SP, ZW, ZWJ}
 use Rattle.icu_segmenter_uax14.specs.LineValues.{properties_of}
 use Rattle.icu_segmenter_uax14.specs.Neighbours.{Is, StayTogetherOverSpaces, ends_in_zero_width}
 use Rattle.icu_segmenter_uax14.specs.Tailored.{Tailoring, style_of}
@@ -50,10 +51,10 @@ unfolding all_below numbered_rules
 dashes-hold = refl
 
 -- the symbols of a class aren't those of zero-width spaces or spaces
-abbrev is_other : Class → ℕ → Bool
-is_other class s = implies (class (properties_of s)) (not (ZW (properties_of s)) && not (SP (properties_of s)))
+abbrev is_other : LineClass → ℕ → Bool
+is_other class s = implies (class (Some (properties_of s))) (not (ZW (Some (properties_of s))) && not (SP (Some (properties_of s))))
 
-abbrev others : Class → Bool
+abbrev others : LineClass → Bool
 others class = all_below (is_other class) 73
 
 openings-are-others : others OP ≡ true
@@ -68,33 +69,33 @@ dashes-are-others : others B2 ≡ true
 unfolding all_below
 dashes-are-others = refl
 
-spaces-have-width : all_below (λ s. implies (SP (properties_of s)) (not (ZW (properties_of s)))) 73 ≡ true
+spaces-have-width : all_below (λ s. implies (SP (Some (properties_of s))) (not (ZW (Some (properties_of s))))) 73 ≡ true
 unfolding all_below
 spaces-have-width = refl
 
 module _ (tailoring : Tailoring) where
-  has-width : (c : ℕ) → Is tailoring SP c → ZW (style_of tailoring (character c)) ≡ false
+  has-width : (c : ℕ) → Is tailoring SP c → ZW (Some (style_of tailoring (character c))) ≡ false
   has-width c is =
       let s = symbol tailoring c in
       let stands = symbols-have-properties tailoring c in
-      ap ZW stands.value
-      ∙ not-true _ (implied (SP (properties_of s)) _
-      (all_below-at (λ s. implies (SP (properties_of s)) (not (ZW (properties_of s)))) 73 s spaces-have-width stands.below) (in-class tailoring SP c is))
+      ap (λ p. ZW (Some p)) stands.value
+      ∙ not-true _ (implied (SP (Some (properties_of s))) _
+      (all_below-at (λ s. implies (SP (Some (properties_of s))) (not (ZW (Some (properties_of s))))) 73 s spaces-have-width stands.below) (in-class tailoring SP c is))
 
-  not-after-zero-width : (class : Class) → others class ≡ true → (spaces : List ℕ) (c : ℕ) (past : List ℕ) → All (Is tailoring SP) spaces → Is tailoring class c
+  not-after-zero-width : (class : LineClass) → others class ≡ true → (spaces : List ℕ) (c : ℕ) (past : List ℕ) → All (Is tailoring SP) spaces → Is tailoring class c
       → ends_in_zero_width tailoring (spaces ++ (c ∷ past)) ≡ false
   not-after-zero-width class are [] c past all is =
       let s = symbol tailoring c in
       let stands = symbols-have-properties tailoring c in
-      let parts = and_parts (not (ZW (properties_of s))) _ (implied (class (properties_of s)) _ (all_below-at (is_other class) 73 s are stands.below) (in-class tailoring class c is)) in
-      or_from (ZW (style_of tailoring (character c))) _ (ap ZW stands.value ∙ not-true _ parts.0)
-      (and_left (SP (style_of tailoring (character c))) _ (ap SP stands.value ∙ not-true _ parts.1))
+      let parts = and_parts (not (ZW (Some (properties_of s)))) _ (implied (class (Some (properties_of s))) _ (all_below-at (is_other class) 73 s are stands.below) (in-class tailoring class c is)) in
+      or_from (ZW (Some (style_of tailoring (character c)))) _ (ap (λ p. ZW (Some p)) stands.value ∙ not-true _ parts.0)
+      (and_left (SP (Some (style_of tailoring (character c)))) _ (ap (λ p. SP (Some p)) stands.value ∙ not-true _ parts.1))
   not-after-zero-width class are (space ∷ spaces) c past all is =
-      or_from (ZW (style_of tailoring (character space))) _ (has-width space (All-head (Is tailoring SP) space spaces all))
-      (and_right (SP (style_of tailoring (character space))) _ (not-after-zero-width class are spaces c past (All-tail (Is tailoring SP) space spaces all) is))
+      or_from (ZW (Some (style_of tailoring (character space)))) _ (has-width space (All-head (Is tailoring SP) space spaces all))
+      (and_right (SP (Some (style_of tailoring (character space)))) _ (not-after-zero-width class are spaces c past (All-tail (Is tailoring SP) space spaces all) is))
 
 -- by the tests of a class, a pattern and what comes next
-over-spaces : (lead nexts : Class) (lead_bits : ℕ) → holds lead lead_bits ≡ true → others lead ≡ true
+over-spaces : (lead nexts : LineClass) (lead_bits : ℕ) → holds lead lead_bits ≡ true → others lead ≡ true
     → each_pair (after_by may_fit_spaced (run_of lead_bits space_bits)) (lead or SP) nexts ≡ true → ByPatterns → ByVerdicts → StayTogetherOverSpaces lead nexts
 over-spaces lead nexts lead_bits held are kept by_patterns by_verdicts tailoring before spaces after last next is_last all is_next =
     run-stays lead SP lead_bits space_bits held spaces-hold tailoring by_patterns by_verdicts may_fit_spaced nexts kept before spaces after last next

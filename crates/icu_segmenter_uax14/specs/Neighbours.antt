@@ -1,5 +1,5 @@
 -- Between which characters lines may break, in the words of UAX #14.
-use Rattle.std.specs.Prelude.{◌≡◌, ◌⊎◌, ℕ, Bool, true, false, ◌&&◌, ◌||◌, List, [], ◌∷◌, ◌++◌, length, reverse, All, Contains}
+use Rattle.std.specs.Prelude.{Some, ◌≡◌, ◌⊎◌, ℕ, Bool, true, false, ◌&&◌, ◌||◌, List, [], ◌∷◌, ◌++◌, length, reverse, All, Contains}
 use Rattle.seg_text.specs.Boundaries.{boundary}
 use Rattle.seg_machine.specs.Pick.{machine_boundaries}
 use Rattle.icu_segmenter_uax14.specs.Characters.{character}
@@ -30,7 +30,7 @@ StayTogether lasts nexts =
     → IsJoined tailoring (before ++ last ∷ []) (next ∷ after)
 
 -- nor where spaces stand between them
-abbrev pub StayTogetherOverSpaces : Class → Class → Type 0
+abbrev pub StayTogetherOverSpaces : LineClass → LineClass → Type 0
 StayTogetherOverSpaces lasts nexts =
     (tailoring : Tailoring) (before spaces after : List ℕ) (last next : ℕ) → Is tailoring lasts last → All (Is tailoring SP) spaces → Is tailoring nexts next
     → IsJoined tailoring (before ++ last ∷ spaces) (next ∷ after)

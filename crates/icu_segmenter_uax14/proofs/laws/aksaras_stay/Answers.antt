@@ -1,4 +1,5 @@
-use Rattle.icu_segmenter_uax14.specs.LineClasses.{◌or◌, AK, AP, AS, VF, VI, DOTTED}
+use Rattle.seg_rules.specs.Classes.{◌or◌}
+use Rattle.icu_segmenter_uax14.specs.LineClasses.{AK, AP, AS, VF, VI, DOTTED}
 use Rattle.icu_segmenter_uax14.proofs.Neighbours.{stay-together}
 use Rattle.icu_segmenter_uax14.proofs.NeighbourTests.{aksaras-join, viramas-join}
 use Rattle.icu_segmenter_uax14.proofs.laws.aksaras_stay.Goals as goal

@@ -1,4 +1,5 @@
-use Rattle.icu_segmenter_uax14.specs.LineClasses.{◌or◌, EB, EM, PICTOGRAPH}
+use Rattle.seg_rules.specs.Classes.{◌or◌}
+use Rattle.icu_segmenter_uax14.specs.LineClasses.{EB, EM, PICTOGRAPH}
 use Rattle.icu_segmenter_uax14.proofs.Neighbours.{stay-together}
 use Rattle.icu_segmenter_uax14.proofs.NeighbourTests.{modifiers-join}
 use Rattle.icu_segmenter_uax14.proofs.laws.emoji_modifiers_stay.Goals as goal

@@ -1,4 +1,5 @@
-use Rattle.icu_segmenter_uax14.specs.LineClasses.{◌or◌, ◌but◌, H2, H3, JL, JT, JV, PO, PR, LOOSE}
+use Rattle.seg_rules.specs.Classes.{◌or◌, ◌but◌}
+use Rattle.icu_segmenter_uax14.specs.LineClasses.{H2, H3, JL, JT, JV, PO, PR, LOOSE}
 use Rattle.icu_segmenter_uax14.proofs.Neighbours.{stay-together}
 use Rattle.icu_segmenter_uax14.proofs.NeighbourTests.{leading-join, prefixes-join, suffixes-join, trailing-join, vowels-join}
 use Rattle.icu_segmenter_uax14.proofs.laws.hangul_syllables_stay.Goals as goal

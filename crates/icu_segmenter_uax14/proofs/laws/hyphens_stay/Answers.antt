@@ -1,4 +1,5 @@
-use Rattle.icu_segmenter_uax14.specs.LineClasses.{◌or◌, ◌but◌, no, BA, BB, BK, CB, CM, CR, HH, HY, IN, LF, NL, NS, SP, ZW, LOOSE}
+use Rattle.seg_rules.specs.Classes.{◌or◌, ◌but◌, no}
+use Rattle.icu_segmenter_uax14.specs.LineClasses.{BA, BB, BK, CB, CM, CR, HH, HY, IN, LF, NL, NS, SP, ZW, LOOSE}
 use Rattle.icu_segmenter_uax14.proofs.Neighbours.{stay-together}
 use Rattle.icu_segmenter_uax14.proofs.NeighbourTests.{after-bb-joins, hyphens-join}
 use Rattle.icu_segmenter_uax14.proofs.laws.hyphens_stay.Goals as goal

@@ -1,4 +1,5 @@
-use Rattle.icu_segmenter_uax14.specs.LineClasses.{◌or◌, every, no, BK, CR, LF, NL, SP, ZW, QU_PF, QU_PI, QU_PLAIN}
+use Rattle.seg_rules.specs.Classes.{◌or◌, no}
+use Rattle.icu_segmenter_uax14.specs.LineClasses.{every, BK, CR, LF, NL, SP, ZW, QU_PF, QU_PI, QU_PLAIN}
 use Rattle.icu_segmenter_uax14.proofs.Neighbours.{stay-together}
 use Rattle.icu_segmenter_uax14.proofs.NeighbourTests.{after-quotations-join, before-quotations-join}
 use Rattle.icu_segmenter_uax14.proofs.laws.quotations_stay.Goals as goal
