@@ -1,5 +1,5 @@
 -- What a scan keeps as it reads a text.
-use Rattle.std.specs.Prelude.{◌≡◌, ℕ, ◌<◌, ◌≤◌, Option, Some, None, List, [], ◌∷◌, ◌++◌, map, length, replicate, slice_set, slice_index_or, ◌+◌, ◌*◌, ◌/◌, ◌%◌, ◌==◌, if◌then◌else◌}
+use Rattle.std.specs.Prelude.{◌≡◌, ℕ, ◌<◌, ◌≤◌, Option, Some, None, List, [], ◌∷◌, ◌++◌, map, length, replicate, slice_set, slice_index, slice_index_or, ◌+◌, ◌*◌, ◌/◌, ◌%◌, ◌==◌, if◌then◌else◌}
 use Rattle.std.specs.Option.{option_map, option_map_or, option_or}
 use Rattle.seg_text.specs.declared.boundary.Boundary.{Boundary}
 use Rattle.seg_text.specs.Boundaries.{boundary, boundary_in}
@@ -81,6 +81,17 @@ IsPicked m text found = Some found ≡ option_map (boundary_in text) (pick m (sy
 abbrev pub IsSegment : Machine → Text → Text → ℕ → Type 0
 IsSegment m text left status =
     (p : Boundary) × (pick m (symbols_of m (code_points text.items)) ≡ Some p) × (status ≡ p.status) × (left ≡ rest_after p.offset text)
+
+-- What states do to a scan, in a byte each, their marks.
+
+-- a mark below 254 says that the state accepts with this status, and 254 that it doesn't accept, both without naming a
+-- lookahead; 255 says nothing
+abbrev pub IsMark : Acceptance × Option ℕ → ℕ → Type 0
+IsMark state mark = (mark < 254 → state ≡ (Accept mark, None)) × (mark ≡ 254 → state ≡ (Continue, None))
+
+-- each state has its mark
+abbrev pub AreMarks : List (Acceptance × Option ℕ) → List ℕ → Type 0
+AreMarks states marks = (state : ℕ) → state < length states → IsMark (slice_index_or states state (Continue, None)) (slice_index marks state)
 
 -- What states accept, as bytes: a condition's lookahead or 31 in the high five bits, a status in the low three.
 

@@ -6,11 +6,13 @@ mod checks;
 mod cycles;
 mod found;
 mod machine;
+mod marks;
 mod stalls;
 mod tailoring;
 mod transitions;
 
 pub use machine::SegmenterStateMachine;
+pub(crate) use marks::CONTINUES;
 pub use tailoring::SegmenterStateMachineOverride;
 
 /// A state of a machine: its place in the list of states, from 0 on.

@@ -7,13 +7,13 @@ ghost use Rattle.seg_text.specs.Items.{code_points, start_of, rest_after};
 ghost use Rattle.seg_text.specs.declared.boundary.Boundary.{Boundary as AnyBoundary};
 ghost use Rattle.seg_text.specs.Boundaries.{GivesNext, IsCover, boundaries_in, offsets_left};
 ghost use Rattle.seg_machine.specs.MachineFaults.{NamesPast};
-ghost use Rattle.seg_machine.specs.Machine.{symbols_of};
+ghost use Rattle.seg_machine.specs.Machine.{state_at, symbols_of};
 ghost use Rattle.seg_machine.specs.Pick.{pick, machine_boundaries};
 ghost use Rattle.seg_machine.specs.Tailored.{machine_of};
 ghost use Rattle.seg_machine.specs.Scan.{acceptance_at, condition_end, places_after, IsPicked, IsSymbolAhead, IsSegment};
 
 use crate::places::{EightPlaces, NoPlaces, OnePlace, Places};
-use crate::provider::{Acceptance, Lookahead, SegmenterStateMachine, Symbol};
+use crate::provider::{Acceptance, CONTINUES, Lookahead, SegmenterStateMachine, State, Symbol};
 use crate::tailored_machine::TailoredMachineBorrowed;
 use seg_text::boundary::Boundary;
 use seg_text::cursor::Cursor;
@@ -201,7 +201,7 @@ fn scan<I: Cursor, P: Places>(
         stood = ahead.after.place();
         ahead.symbol = next_symbol(machine, &mut ahead.after);
         state = next;
-        if enter(machine.entry(next), stood, &mut kept, picked) {
+        if pass(machine, next, stood, &mut kept, picked) {
             return stood;
         }
     }
@@ -267,6 +267,34 @@ fn next_symbol<I: Cursor>(machine: &TailoredMachineBorrowed<'_>, iter: &mut I) -
         Some((_, code_point)) => machine.symbol(code_point),
         None => SegmenterStateMachine::EOT_SYMBOL,
     }
+}
+
+/// The same as `enter`. Most states only accept or only go on, and one byte tells that.
+#[inline(always)]
+fn pass<P: Places>(
+    machine: &TailoredMachineBorrowed<'_>,
+    state: State,
+    place: usize,
+    kept: &mut P,
+    last: &mut Boundary,
+) -> bool
+    requires state { state < length (machine_of machine.now).states }
+    requires names { NamesPast (length (P.kept kept.old)) (state_at (machine_of machine.now) state) → ⊥ }
+    ensures holds { IsTrue result → condition_end (P.kept kept.old) (state_at (machine_of machine.now) state) ≡ Some last.new }
+    ensures none { result ≡ false → condition_end (P.kept kept.old) (state_at (machine_of machine.now) state) ≡ None }
+    ensures last { result ≡ false → last.new ≡ unwrap_or (acceptance_at place (state_at (machine_of machine.now) state)) last.old }
+    ensures kept { result ≡ false → P.kept kept.new ≡ places_after place (state_at (machine_of machine.now) state) (P.kept kept.old) }
+{
+    let mark = machine.mark(state);
+    if mark < CONTINUES {
+        last.offset = place;
+        last.status = mark;
+        return false;
+    }
+    if mark == CONTINUES {
+        return false;
+    }
+    enter(machine.entry(state), place, kept, last)
 }
 
 /// Enters a state at a place, and gives whether its condition holds: then the segment ends at the place kept for its lookahead.

@@ -3,6 +3,7 @@ ghost use Rattle.std.specs.Prelude.{◌≡◌, ◌↔◌, ℕ, ◌<◌, IsTrue, 
 ghost use Rattle.std.specs.Option.{option_map};
 ghost use Rattle.seg_data.specs.Faults.{IsFaultless, IsLowestFault};
 ghost use Rattle.seg_machine.specs.MachineFaults.{HasTextSymbols, IsChecked, HasComplexBelow0100, HasTailoringFault};
+ghost use Rattle.seg_machine.specs.Scan.{IsMark};
 ghost use Rattle.seg_machine.specs.Machine.{IsTextSymbol, state_at, step, symbol_and_script, symbol_count, with_tailoring, without_transitions, ArePlainBelow, with_parts};
 
 use crate::machine_parts::{MachineParts, replacement_by};
@@ -150,6 +151,7 @@ impl<'data> TailoredMachineBorrowed<'data> {
     }
 
     /// The symbol of a code point.
+    #[inline(always)]
     pub fn symbol(&self, code_point: u32) -> Symbol
         ensures value { result ≡ (symbol_and_script (machine_of self.now) code_point).0 }
         ensures text { IsTextSymbol (machine_of self.now) result }
@@ -189,6 +191,15 @@ impl<'data> TailoredMachineBorrowed<'data> {
         ensures { result ≡ state_at (machine_of self.now) state }
     {
         self.machine.states()[state as usize]
+    }
+
+    /// The mark of a state.
+    #[inline(always)]
+    pub(crate) fn mark(&self, state: State) -> u8
+        requires { state < length (machine_of self.now).states }
+        ensures { IsMark (state_at (machine_of self.now) state) result }
+    {
+        self.machine.mark(state)
     }
 
     /// Law: what holds of each machine.

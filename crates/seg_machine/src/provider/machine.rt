@@ -3,14 +3,17 @@ ghost use Rattle.std.specs.Prelude.{◌≡◌, ℕ, ◌<◌, ◌↔◌, IsTrue, 
 ghost use Rattle.seg_data.specs.declared.provider.DataError.TheVariants.{SymbolOutOfRange};
 ghost use Rattle.seg_data.specs.Faults.{IsFaultless, IsLowestFault};
 ghost use Rattle.seg_machine.specs.MachineFaults.{IsChecked, HasMachineFault};
-ghost use Rattle.seg_machine.specs.Machine.{machine, step, symbol_count, with_tailoring};
+ghost use Rattle.seg_machine.specs.Machine.{machine, state_at, step, symbol_count, with_tailoring};
 ghost use Rattle.seg_machine.specs.Pick.{IsStallFree};
+ghost use Rattle.seg_machine.specs.Scan.{IsMark};
 ghost use Rattle.seg_machine.specs.Lemmas.SameMachines.{same_machine, same_machine-laws};
 
 use crate::provider::checks::{check_parts, has_stray_symbol};
+use crate::provider::marks::{Marks, marks_of};
 use crate::provider::transitions::next_of;
 use crate::provider::{Acceptance, Lookahead, SegmenterStateMachineOverride, State, Symbol};
 use seg_data::provider::{ClassTable, ComplexScript, DataError};
+use std::fmt::{self, Debug, Formatter};
 use std::marker::Model;
 
 /// A state machine that finds the segments of a text, over the symbols of its code points.
@@ -18,7 +21,7 @@ use std::marker::Model;
 /// A code point's value in `symbols` is its symbol where it is below `pseudo_symbol_shift`, and
 /// otherwise, less the shift, a place in `pseudo_symbol_map`, which has the symbol and the script.
 /// The transition of state q on symbol s is at `q + s * states.len()`; 255 stands for none.
-#[derive(Debug, Drop)]
+#[derive(Drop)]
 pub struct SegmenterStateMachine {
     symbols: ClassTable,
     states: Vec<(Acceptance, Option<Lookahead>)>,
@@ -26,6 +29,8 @@ pub struct SegmenterStateMachine {
     num_lookaheads: usize,
     pseudo_symbol_shift: u8,
     pseudo_symbol_map: Vec<(Symbol, ComplexScript)>,
+    // What the states do to a scan, once more: no part of the Model's value, nor of what `==` compares.
+    marks: Marks,
 }
 
 impl Model for SegmenterStateMachine {
@@ -34,10 +39,12 @@ impl Model for SegmenterStateMachine {
     ghost Value = { Machine };
 
     ghost use Rattle.seg_machine.specs.MachineFaults.{IsChecked};
+    ghost use Rattle.seg_machine.specs.Scan.{AreMarks};
 
     ghost view = { λ m. machine m.symbols m.states.items m.transitions.items m.num_lookaheads m.pseudo_symbol_shift m.pseudo_symbol_map.items };
 
-    ghost invariant = { λ m. IsChecked (machine m.symbols m.states.items m.transitions.items m.num_lookaheads m.pseudo_symbol_shift m.pseudo_symbol_map.items) };
+    ghost invariant = { λ m. IsChecked (machine m.symbols m.states.items m.transitions.items m.num_lookaheads m.pseudo_symbol_shift m.pseudo_symbol_map.items)
+        × AreMarks m.states.items m.marks };
 }
 
 impl SegmenterStateMachine {
@@ -74,6 +81,7 @@ impl SegmenterStateMachine {
             pseudo_symbol_shift,
             pseudo_symbol_map.as_slice(),
         )?;
+        let marks = marks_of(states.as_slice());
         Ok(SegmenterStateMachine {
             symbols,
             states,
@@ -81,6 +89,7 @@ impl SegmenterStateMachine {
             num_lookaheads,
             pseudo_symbol_shift,
             pseudo_symbol_map,
+            marks,
         })
     }
 
@@ -140,6 +149,15 @@ impl SegmenterStateMachine {
         next_of(self.states(), self.transitions(), state, symbol as usize)
     }
 
+    /// The mark of a state.
+    #[inline(always)]
+    pub(crate) fn mark(&self, state: State) -> u8
+        requires { state < length self.now.states }
+        ensures { IsMark (state_at self.now state) result }
+    {
+        self.marks[state as usize]
+    }
+
     // Whether the machine with this tailoring has a value that gives no symbol of a text, an entry
     // of the map gives none, or a replacement is stray.
     pub(crate) fn has_stray_symbol(&self, tailoring: &SegmenterStateMachineOverride) -> bool
@@ -167,6 +185,20 @@ impl SegmenterStateMachine {
         ensures { IsChecked self.now }
     {
         let _symbols = &self.symbols;
+    }
+}
+
+impl Debug for SegmenterStateMachine {
+    // The parts handed in: the marks only say of states the same again.
+    fn fmt<W: fmt::Write>(&self, f: &mut Formatter<W>) -> fmt::Result {
+        f.debug_struct("SegmenterStateMachine")
+            .field("symbols", &self.symbols)
+            .field("states", &self.states)
+            .field("transitions", &self.transitions)
+            .field("num_lookaheads", &self.num_lookaheads)
+            .field("pseudo_symbol_shift", &self.pseudo_symbol_shift)
+            .field("pseudo_symbol_map", &self.pseudo_symbol_map)
+            .finish()
     }
 }
 
