@@ -16,14 +16,14 @@ use Rattle.seg_memo.specs.declared.configuration.Cell.{Cell}
 use Rattle.seg_memo.specs.declared.configuration.Cell.TheVariants.{KnownKept, KnownNothing, Unknown}
 use Rattle.seg_memo.specs.declared.table.Table.{Table}
 use Rattle.seg_memo.specs.Configurations.{Subject, all_look_ups, entered, floor, later, look_up, look_ups, outcome_at, picked, start_at}
-use Rattle.seg_memo.specs.Grids.{Grid, Comes, IsAt, IsConfigurationOf, IsMemo, IsNamed, IsOn, IsPart, IsReadBy, IsRight, IsRightFrom, IsScanned, IsSound, IsWalked, Has, IsHeld, Keeps, KeepsOthers, cell, filled_count, has_number, holding, is_filled, known, late, number, with_cell}
+use Rattle.seg_memo.specs.Grids.{Grid, Comes, IsAt, IsConfigurationOf, IsMemo, IsNamed, IsPart, IsReadBy, IsRightFrom, IsScanned, IsSound, IsWalked, Has, IsHeld, Keeps, KeepsOthers, cell, has_number, holding, is_filled, known, late, number, with_cell}
 use Rattle.seg_memo.proofs.Counts.{filled-mark, filled-stays, has-append, has-cons, on-append, or-left}
 use Rattle.seg_memo.proofs.Numbers.{number-in}
 use Rattle.seg_memo.proofs.Following.{ends, look-ups-leads, picked-past, same-picked}
 use Rattle.seg_memo.proofs.Plain.{never-kept}
 use Rattle.seg_memo.proofs.Reading.{state-read}
 use Rattle.seg_memo.proofs.Segments.{Segment, segment-found, segment-memo}
-use Rattle.seg_memo.proofs.Turns.{IsRead, IsWritten, held-there}
+use Rattle.seg_memo.proofs.Turns.{IsRead, IsWritten, floor-low, held-there}
 use Rattle.seg_memo.proofs.Ways.{count-room, ends-open, filling-stays, first-ends, first-known, first-unknown, fit-write, plain-write, table-fill, table-with}
 use Rattle.seg_memo.proofs.Windows.{late-past, not-late, number-before, part-lose, part-on, part-without, start-least}
 
@@ -67,10 +67,6 @@ room-before s t start last first count k =
     let was = k.count in
     count-room s (with_cell s k.whole first KnownNothing) count (fit-write s k.whole first KnownNothing k.is.0.table.fit) (omega (arith, more, was))
 
-floors : (start : ℕ) (last : Option Boundary) (place : ℕ) → floor start last ≤ place → floor place last ≤ place
-floors start None place low = omega arith
-floors start (Some b) place low = low
-
 left-at : (s : Subject) (old new : Table) (from place : ℕ) (lost : ℕ → Bool) (whole : Grid) → from ≡ place → ((lost : ℕ → Bool) (whole : Grid) → IsPart s old from lost whole → IsPart s new from lost whole)
     → IsPart s old place lost whole → IsPart s new place lost whole
 left-at s old new from place lost whole is left w =
@@ -81,7 +77,7 @@ pub leave-there : (s : Subject) (t : Table) (place from : ℕ) (lost : ℕ → B
 leave-there s t place from lost whole w is = (lost, whole, subst (λ (n : ℕ). IsPart s t n lost whole) (sym is) w)
 
 pub from-within : (s : Subject) (from start : ℕ) (last : Option Boundary) (first : Configuration) → from ≡ floor first.place last → floor start last ≤ first.place → IsConfigurationOf s first → from ≤ length s.symbols
-from-within s from start last first is low within = let most = floors start last first.place low in omega (arith, is, most, within.place)
+from-within s from start last first is low within = let most = floor-low start last first.place low in omega (arith, is, most, within.place)
 
 pub others-there : (s : Subject) (t : Table) (start : ℕ) (last : Option Boundary) (first : Configuration) (count : ℕ) (o : Outcome) → KeepsOthers s t last first count (λ whole. IsWalked s whole start last first o)
     → IsHeld s t first.place × (IsConfigurationOf s first × (first.place ≤ first.place))
@@ -210,9 +206,6 @@ walked-picked s g start last first o found w picks =
       is = picked-is s g start last first o found w picks;
     }
 
-floor-most : (place : ℕ) (last : Option Boundary) (most : ℕ) → floor place last ≤ place → place ≤ most → floor place last ≤ most
-floor-most place last most low past = omega (arith, low, past)
-
 pub picked-found : (s : Subject) (m : Machine) (states : ℕ) (transitions : List ℕ) (t : Table) (start : ℕ) (last : Option Boundary) (first : Configuration) (count : ℕ) (o result : Outcome) (entry : Acceptance × Option ℕ)
     (is_picked : Option Boundary) (found : Boundary)
     → KeepsOthers s t last first count (λ whole. IsWalked s whole start last first o) → IsReadBy s m states transitions → entry ≡ state_at m first.state → result ≡ entered first.place entry o
@@ -222,8 +215,8 @@ picked-found s m states transitions t start last first count o result entry is_p
     let found_is : entered first.place (state_at s.machine first.state) o ≡ Picked found =
     ap (λ (x : Acceptance × Option ℕ). entered first.place x o) (state-read s m states transitions first.state reads ∙ sym e) ∙ sym is ∙ picked-some result found (sym picks ∙ some) in
     let past = entered-past s first (state_at s.machine first.state) o found k.is.is k.is.comes.within found_is in
-    let most = floor-most first.place last found.offset (floors start last first.place k.is.comes.low) past in
-    (
+    let low = floor-low start last first.place k.is.comes.low in
+    let most : floor first.place last ≤ found.offset = omega (arith, low, past) in (
       past,
       record {
         whole = k.whole;

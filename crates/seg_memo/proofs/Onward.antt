@@ -1,6 +1,6 @@
 -- The turns of a scan while no lookahead is named.
 use Rattle.std.proofs.Common.{◌≡◌, ◌≢◌, ℕ, suc, ◌+◌, ◌<◌, ◌≤◌, ◌==◌, ◌||◌, if◌then◌else◌, Bool, true, false, Option, Some, None, List, [], ◌∷◌, length, min, refl, sym, ap, ◌∙◌, subst, arith, inl, inr}
-use Rattle.std.proofs.lemmas.Bool.{cases_eq, cases_lt, eq-eqb, eqb-true, false≢true, le-ltb, lt-ltb}
+use Rattle.std.proofs.lemmas.Bool.{cases_eq, eq-eqb, eqb-true, false≢true}
 use Rattle.std.proofs.lemmas.List.{get_or-set_other}
 use Rattle.seg_text.specs.Items.{Item}
 use Rattle.seg_text.specs.declared.boundary.Boundary.{Boundary}
@@ -15,8 +15,8 @@ use Rattle.seg_memo.specs.declared.configuration.LookUp.TheVariants.{Ends, Leads
 use Rattle.seg_memo.specs.declared.configuration.Cell.{Cell}
 use Rattle.seg_memo.specs.declared.configuration.Cell.TheVariants.{Unknown, KnownNothing}
 use Rattle.seg_memo.specs.declared.table.Table.{Table}
-use Rattle.seg_memo.specs.Configurations.{Subject, start_at, entered, floor, following, later, look_ups, all_look_ups, AreStarts, outcome_at, look_up, picked}
-use Rattle.seg_memo.specs.Grids.{Grid, AreFilled, Comes, IsAt, IsFit, IsMemo, IsNamed, IsOn, IsReadBy, IsRight, IsScanned, IsRightFrom, IsConfigurationOf, cell, with_cell, has_number, is_filled, filled_count, number, Has, IsHeld, IsPart, Keeps, late}
+use Rattle.seg_memo.specs.Configurations.{Subject, start_at, floor, following, later, look_ups, all_look_ups, AreStarts, outcome_at, look_up, picked}
+use Rattle.seg_memo.specs.Grids.{Grid, AreFilled, IsAt, IsFit, IsMemo, IsNamed, IsOn, IsReadBy, IsRight, IsScanned, IsRightFrom, IsConfigurationOf, cell, with_cell, has_number, is_filled, filled_count, number, Has, IsHeld, IsPart, Keeps, late}
 use Rattle.seg_memo.proofs.Numbers.{number-in, number-same}
 use Rattle.seg_memo.proofs.Following.{ends, fewer, leads, look-ups-leads, outcome-leads}
 use Rattle.seg_memo.proofs.Reading.{state-read}

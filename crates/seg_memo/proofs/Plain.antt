@@ -16,7 +16,7 @@ use Rattle.seg_memo.specs.declared.configuration.Outcome.TheVariants.{Nothing, P
 use Rattle.seg_memo.specs.declared.configuration.LookUp.TheVariants.{Ends, Leads}
 use Rattle.seg_memo.specs.declared.configuration.Cell.{Cell}
 use Rattle.seg_memo.specs.declared.configuration.Cell.TheVariants.{Unknown, First, Way, KnownNothing, KnownKept}
-use Rattle.seg_memo.specs.Configurations.{Subject, configuration, condition_held, start_at, following, look_ups, all_look_ups, AreStarts, arrival, at, entered, later, outcome, outcome_at, look_up, picked}
+use Rattle.seg_memo.specs.Configurations.{Subject, configuration, condition_held, start_at, following, look_ups, all_look_ups, AreStarts, at, entered, later, outcome, outcome_at, look_up, picked}
 use Rattle.seg_memo.specs.Grids.{IsOn, IsRight, IsSound, IsConfigurationOf, is_filled}
 use Rattle.seg_memo.proofs.Following.{ends, leads-within, look-ups-leads, look-up-leads, look-up-none, outcome-at, outcome-leads, picked-past}
 use Rattle.seg_memo.proofs.Reading.{Read, value-some}

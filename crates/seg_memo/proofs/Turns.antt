@@ -1,5 +1,5 @@
 -- The turns of a scan that keeps a lookahead, of what the code has in hand.
-use Rattle.std.proofs.Common.{◌≡◌, ℕ, suc, ◌+◌, ◌-◌, ◌<◌, ◌≤◌, Bool, false, Option, Some, None, List, length, refl, sym, ap, ◌∙◌, subst, arith, inl}
+use Rattle.std.proofs.Common.{◌≡◌, ℕ, ◌+◌, ◌-◌, ◌<◌, ◌≤◌, Bool, false, Option, Some, None, List, length, refl, sym, ap, ◌∙◌, subst, arith, inl}
 use Rattle.seg_text.specs.declared.boundary.Boundary.{Boundary}
 use Rattle.seg_machine.specs.declared.provider.Acceptance.{Acceptance}
 use Rattle.seg_machine.specs.Machine.{Machine, state_at}
@@ -16,7 +16,7 @@ use Rattle.seg_memo.proofs.Counts.{filled-mark}
 use Rattle.seg_memo.proofs.Numbers.{number-in}
 use Rattle.seg_memo.proofs.Reading.{state-read}
 use Rattle.seg_memo.proofs.Windows.{part-on}
-use Rattle.seg_memo.proofs.Ways.{back-end, back-fewer, back-filled, back-first, back-inside, back-next, back-past, back-room, count-next, next-kept, next-past, walk-ends, walk-known, walk-next, walk-start, way-inside}
+use Rattle.seg_memo.proofs.Ways.{back-end, back-fewer, back-filled, back-first, back-inside, back-next, back-past, back-room, count-next, next-keeps, next-past, walk-ends, walk-known, walk-next, walk-start, way-inside}
 
 -- what is written, and what is read
 abbrev pub IsWritten : Subject → Table → Table → Configuration → Cell → Type 0
@@ -71,7 +71,7 @@ next-cell : (s : Subject) (t : Table) (start : ℕ) (last : Option Boundary) (fi
     → look_up s here ≡ Leads next → IsConfigurationOf s next → IsRead s t next x → x ≡ cell s k.whole next
 next-cell s t start last first here next counted x k leads inside read =
     read (floor first.place last) k.lost k.whole k.window
-    (k.free next inside (next-past s k.whole start last first here next k.is leads) (next-kept s k.whole start last first here next k.is leads))
+    (k.free next inside (next-past s k.whole start last first here next k.is leads) (next-keeps s k.whole start last first here next k.is leads))
 
 pub known-turn : (s : Subject) (m : Machine) (states : ℕ) (transitions : List ℕ) (t : Table) (start : ℕ) (last : Option Boundary) (first here next : Configuration) (counted : ℕ) (x : Cell) (is_known : Option Outcome)
     (o result : Outcome) (entry : Acceptance × Option ℕ)

@@ -236,7 +236,7 @@ walk-start s g start last first w unknown =
       filling = filling-mark s g w.starts w.passed first First w.filling w.table.fit inside refl;
     }
 
-next-keeps : (s : Subject) (g : Grid) (start : ℕ) (last : Option Boundary) (first here next : Configuration) → IsUnderWay s g start last first here → look_up s here ≡ Leads next → 0 < next.kept
+pub next-keeps : (s : Subject) (g : Grid) (start : ℕ) (last : Option Boundary) (first here next : Configuration) → IsUnderWay s g start last first here → look_up s here ≡ Leads next → 0 < next.kept
 next-keeps s g start last first here next w is =
     let f = leads s here next w.table.fit.sound (way-inside s g first here w.path w.way) is in
     subst (λ (k : ℕ). 0 < k) (sym f.kept) (keep-more here.kept (state_at s.machine next.state).1 (w.keeping here (inl refl)))
@@ -255,9 +255,6 @@ next-past s g start last first here next w is =
     let past = way-past s g first here w.path w.table.fit.sound w.way in
     let on : next.place ≡ min (suc here.place) (length s.symbols) = (leads s here next w.table.fit.sound inside is).place in
     omega (arith, past, inside.place, on)
-
-pub next-kept : (s : Subject) (g : Grid) (start : ℕ) (last : Option Boundary) (first here next : Configuration) → IsUnderWay s g start last first here → look_up s here ≡ Leads next → 0 < next.kept
-next-kept s g start last first here next w is = next-keeps s g start last first here next w is
 
 next-right : (s : Subject) (g : Grid) (start : ℕ) (last : Option Boundary) (first here next : Configuration) → IsUnderWay s g start last first here → look_up s here ≡ Leads next → IsConfigurationOf s next
     → IsRight s next (cell s g next)

@@ -124,14 +124,6 @@ cell-read s t place lost whole c index was w kept is held read =
     ∙ w.held index (ap lost is ∙ kept)
     ∙ ap (λ (n : ℕ). get_or whole.cells n Unknown) is
 
--- and one after them is unknown
-pub cell-past : (s : Subject) (t : Table) (place : ℕ) (lost : ℕ → Bool) (whole : Grid) (c : Configuration) (index : ℕ) → IsPart s t place lost whole → lost (number s c) ≡ false
-    → t.first + index ≡ number s c → length t.cells.items ≤ index → Unknown ≡ cell s whole c
-cell-past s t place lost whole c index w kept is past =
-    sym (get_or_past t.cells.items index Unknown past)
-    ∙ w.held index (ap lost is ∙ kept)
-    ∙ ap (λ (n : ℕ). get_or whole.cells n Unknown) is
-
 pub mark-unknown : (s : Subject) (t : Table) (place : ℕ) (lost : ℕ → Bool) (whole : Grid) (c : Configuration) (index : ℕ) (was : Cell) → IsPart s t place lost whole → IsConfigurationOf s c
     → lost (number s c) ≡ false → t.first + index ≡ number s c → number s c < t.first + length t.cells.items → was ≡ get_or t.cells.items index was → was ≡ Unknown
     → (false ≡ is_filled (cell s whole c)) × IsPart s (record { states = t.states; sets = t.sets; first = t.first; cells = with_item t.cells index KnownNothing }) place lost (with_cell s whole c KnownNothing)

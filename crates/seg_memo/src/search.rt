@@ -13,7 +13,8 @@ ghost use Rattle.seg_memo.specs.declared.configuration.LookUp.TheVariants.{Leads
 ghost use Rattle.seg_memo.specs.declared.configuration.Outcome.TheVariants.{Picked};
 
 use crate::configuration::{
-    Cell, Configuration, LookUp, Outcome, arrive, before, entered, floor, holding, known, naming, picked, way,
+    Cell, Configuration, LookUp, Outcome, arrive, before, entered, floor, holding, known, naming,
+    picked, way,
 };
 use crate::reader::ReadTransitions;
 use crate::table::Table;

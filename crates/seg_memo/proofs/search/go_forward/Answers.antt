@@ -1,7 +1,7 @@
 use Rattle.std.proofs.Common.{◌∙◌, sym}
 use Rattle.seg_memo.proofs.Following.{fewer}
 use Rattle.seg_memo.proofs.Ways.{count-room}
-use Rattle.seg_memo.proofs.Turns.{counted-turn, ends-turn, first-room, first-there, first-turn, here-inside, known-turn, next-there, next-turn}
+use Rattle.seg_memo.proofs.Turns.{counted-turn, ends-turn, first-room, first-there, first-turn, known-turn, next-there, next-turn}
 use Rattle.seg_memo.proofs.search.go_forward.Goals as goal
 
 pub write-requires : goal.write-requires
@@ -29,8 +29,7 @@ write-requires-in-scan g c = next-there _ _ _ _ _ _ _ _ c.scan.invariant.walking
 
 pub look_up-requires : goal.look_up-requires
 look_up-requires g c = λ κs lives.
-    let k = next-turn _ _ _ _ _ _ _ _ _ _ _ _ c.scan.invariant.walking c.scan.invariant.leads c.scan.invariant.within c.cell.ensures c.known.ensures c.in_default.is c.way.ensures c.write-in-scan.ensures in
-    (
+    let k = next-turn _ _ _ _ _ _ _ _ _ _ _ _ c.scan.invariant.walking c.scan.invariant.leads c.scan.invariant.within c.cell.ensures c.known.ensures c.in_default.is c.way.ensures c.write-in-scan.ensures in (
       lives.0,
       (lives.1, (k.is.table.fit.sound, (c.scan.invariant.read, (count-room _ _ _ k.is.table.fit k.count, (c.scan.invariant.within, c.scan.invariant.rest))))),
     )

@@ -1,4 +1,4 @@
-use Rattle.std.proofs.Common.{◌∙◌, ap, refl, sym}
+use Rattle.std.proofs.Common.{◌∙◌, ap, sym}
 use Rattle.seg_memo.specs.Configurations.{floor}
 use Rattle.seg_memo.proofs.Held.{last-found, last-some, leave-others, others-there, picked-found}
 use Rattle.seg_memo.proofs.search.scan_kept.Goals as goal

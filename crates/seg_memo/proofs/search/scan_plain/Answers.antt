@@ -50,8 +50,7 @@ pub scan_kept-stood-requires : goal.scan_kept-stood-requires
 scan_kept-stood-requires g c κs within =
     let k = comes-kept _ _ _ _ _ _ _
     (comes _ _ _ _ _ _ _ _ _ _ _ _ _ _ _ _ c.scan.invariant.read c.scan.invariant.turn c.scan.invariant.ahead c.scan.invariant.after c.read-next.ensures.value c.if-next.false c.entry-entry.ensures)
-    c.naming-here.ensures c.in-Some-1₀.is in
-    (
+    c.naming-here.ensures c.in-Some-1₀.is in (
       within.0,
       (
         within.1,
