@@ -1,23 +1,26 @@
 -- The symbol that is read ahead.
-use Rattle.std.proofs.Common.{◌≡◌, ℕ, suc, ◌+◌, ◌-◌, ◌*◌, ◌<◌, ◌≤◌, Option, List, length, drop, min, sym, ap, ◌∙◌, subst, arith}
-use Rattle.std.specs.Prelude.{Some, slice_index, slice_index_or}
+use Rattle.std.proofs.Common.{◌≡◌, ℕ, suc, ◌+◌, ◌-◌, ◌*◌, ◌<◌, ◌≤◌, refl, Option, List, length, drop, min, sym, ap, ◌∙◌, subst, arith}
+use Rattle.std.specs.Prelude.{None, Some, slice_index, slice_index_or}
 use Rattle.std.proofs.lemmas.List.{drop-drop}
 use Rattle.seg_text.specs.Items.{Text, code_points, rest_after}
 use Rattle.seg_text.specs.Boundaries.{shift}
 use Rattle.seg_text.specs.declared.boundary.Boundary.{Boundary}
-use Rattle.seg_machine.specs.Machine.{Machine, symbol_and_script, symbols_of}
+use Rattle.seg_machine.specs.declared.provider.Acceptance.{Acceptance}
+use Rattle.seg_machine.specs.Machine.{Machine, state_at, symbol_and_script, symbols_of}
 use Rattle.seg_machine.specs.Pick.{pick}
+use Rattle.seg_machine.specs.Search.{keep}
 use Rattle.seg_machine.proofs.Scanned.{after-after}
 use Rattle.seg_memo.specs.declared.configuration.Configuration.{Configuration}
 use Rattle.seg_memo.specs.declared.configuration.LookUp.TheVariants.{Leads, Ends}
 use Rattle.seg_memo.specs.declared.configuration.Outcome.TheVariants.{Nothing}
 use Rattle.seg_memo.specs.declared.table.Table.{Table}
-use Rattle.seg_memo.specs.Configurations.{Subject, configuration, reading, subject, look_up}
+use Rattle.seg_memo.specs.Configurations.{Subject, configuration, floor, reading, subject, look_up}
 use Rattle.seg_memo.specs.Grids.{GoesOverItems, IsKeptSymbol, IsAt, IsReadBy, IsConfigurationOf, CursorStandsAt}
 use Rattle.seg_memo.proofs.Following.{leads-within}
 use Rattle.seg_memo.proofs.Memoised.{symbols-drop}
 use Rattle.seg_memo.proofs.Moves.{goes-on}
-use Rattle.seg_memo.proofs.Onward.{Turn, floor}
+use Rattle.seg_memo.proofs.Ways.{keep-some}
+use Rattle.seg_memo.proofs.Onward.{Turn}
 use Rattle.seg_memo.proofs.Plain.{plain-value}
 use Rattle.seg_memo.proofs.Reading.{Read, value-none}
 
@@ -94,7 +97,7 @@ made-ahead m transitions text copy rest left symbol next copies same symbol_is p
     (subst (λ (x : Text). IsKeptSymbol (subject m (symbols_of m (code_points x.items))) m rest 0 0 symbol left) copies
     (ahead-first (subject m (symbols_of m (code_points copy.items))) m rest copy left 0 symbol next (copies ∙ sym same) symbol_is past here goes))
 
--- a reading by a machine without lookaheads
+-- a reading while no lookahead is named
 
 pub still-read : (s : Subject) (m : Machine) (states after : ℕ) (transitions later : List ℕ) → IsReadBy s m states transitions → after ≡ states → later ≡ transitions → IsReadBy s m after later
 still-read s m states after transitions later read same unchanged = rw (same, unchanged) read
@@ -122,13 +125,31 @@ pub record Comes (s : Subject) (here next : Configuration) : Type 0 where
   pub leads : look_up s here ≡ Leads next
   pub within : IsConfigurationOf s next
 
-pub comes : (s : Subject) (m : Machine) (states : ℕ) (transitions : List ℕ) (t : Table) (text left : Text) (start state place symbol next after counted : ℕ) (last : Option Boundary) → s.machine.num_lookaheads ≡ 0
+pub comes : (s : Subject) (m : Machine) (states : ℕ) (transitions : List ℕ) (t : Table) (text left : Text) (start state place symbol next after counted : ℕ) (last : Option Boundary) (entry : Acceptance × Option ℕ)
     → IsReadBy s m states transitions → Turn s t start (configuration state place 0) last counted → IsKeptSymbol s m text start place symbol left → after ≡ min (suc place) (length s.symbols)
-    → next ≡ slice_index transitions (state + symbol * states) → (next ≡ 255 → ⊥) → Comes s (configuration state place 0) (configuration next after 0)
-comes s m states transitions t text left start state place symbol next after counted last plain read turn ahead past is some =
+    → next ≡ slice_index transitions (state + symbol * states) → (next ≡ 255 → ⊥) → entry ≡ state_at m next → Comes s (configuration state place 0) (configuration next after (keep 0 entry.1))
+comes s m states transitions t text left start state place symbol next after counted last entry read turn ahead past is some e =
     let r = in-hand s m states transitions t text left start state place symbol next counted last read turn ahead is in
-    let leads = sym (plain-value s m (configuration state place 0) states transitions symbol next after plain r some past) in
-    record { leads = leads; within = leads-within s (configuration state place 0) (configuration next after 0) r.sound r.within leads }
+    let leads = sym (plain-value s m (configuration state place 0) states transitions symbol next after entry refl r some e past) in
+    record { leads = leads; within = leads-within s (configuration state place 0) (configuration next after (keep 0 entry.1)) r.sound r.within leads }
+
+-- where no lookahead is named
+pub comes-free : (s : Subject) (here : Configuration) (next after : ℕ) (name : Option ℕ) → Comes s here (configuration next after (keep 0 name)) → name ≡ None → Comes s here (configuration next after 0)
+comes-free s here next after name k none = subst (λ (x : Option ℕ). Comes s here (configuration next after (keep 0 x))) none k
+
+-- and where one is
+pub keeps-some : (lookahead : ℕ) (name : Option ℕ) → name ≡ Some lookahead → 0 < keep 0 name
+keeps-some lookahead name is = rw is (keep-some 0 lookahead)
+
+pub comes-kept : (s : Subject) (here first : Configuration) (next after lookahead : ℕ) (name : Option ℕ) → Comes s here (configuration next after (keep 0 name)) → first ≡ configuration next after (keep 0 name)
+    → name ≡ Some lookahead → Comes s here first × (0 < first.kept)
+comes-kept s here first next after lookahead name k is some = rw is (k, keeps-some lookahead name some)
+
+pub kept-at : (s : Subject) (m : Machine) (text left : Text) (start place symbol next after kept : ℕ) (first : Configuration) → IsKeptSymbol s m text start place symbol left → after ≡ min (suc place) (length s.symbols)
+    → first ≡ configuration next after kept → IsAt s m first.place left.items × GoesOverItems text start left first.place
+kept-at s m text left start place symbol next after kept first ahead past is =
+    let at : min (suc place) (length s.symbols) ≡ first.place = sym past ∙ ap (λ (c : Configuration). c.place) (sym is) in
+    (subst (λ (n : ℕ). IsAt s m n left.items) at ahead.rest, subst (GoesOverItems text start left) at ahead.goes)
 
 -- what a turn leaves, and where the last acceptance stands
 pub turn-same : (s : Subject) (t after : Table) (start : ℕ) (here : Configuration) (last later : Option Boundary) (counted : ℕ) → Turn s t start here last counted → after ≡ t → later ≡ last → Turn s after start here later counted

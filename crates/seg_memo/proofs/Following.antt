@@ -200,7 +200,7 @@ pub look-up-some : (s : Subject) (c : Configuration) (next : ℕ) → step s.mac
 unfolding look_up
 look-up-some s c next some = rw some refl
 
-look-up-held : (s : Subject) (c : Configuration) (next : ℕ) (f : ℕ × ℕ) → step s.machine c.state (get_or s.symbols c.place 0) ≡ Some next
+pub look-up-held : (s : Subject) (c : Configuration) (next : ℕ) (f : ℕ × ℕ) → step s.machine c.state (get_or s.symbols c.place 0) ≡ Some next
     → condition_held c.kept (state_at s.machine next) ≡ Some f → look_up s c ≡ Ends (Kept f.0 f.1)
 look-up-held s c next f some holds = look-up-some s c next some ∙ rw holds refl
 

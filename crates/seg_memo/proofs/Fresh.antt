@@ -12,7 +12,7 @@ use Rattle.seg_machine.specs.Machine.{Machine, symbol_and_script, symbol_count, 
 use Rattle.seg_memo.specs.declared.configuration.Cell.{Cell}
 use Rattle.seg_memo.specs.declared.configuration.Cell.TheVariants.{Unknown, First, Way, KnownNothing, KnownKept}
 use Rattle.seg_memo.specs.Configurations.{AreStarts, Subject, all_look_ups, configurations, reading, subject}
-use Rattle.seg_memo.specs.Grids.{Grid, IsFit, IsMemo, IsRight, IsSound, cell, filled_count, has_number, is_filled, is_filled_at, number, Has, lost_at}
+use Rattle.seg_memo.specs.Grids.{Grid, IsFit, IsMemo, IsRight, IsSound, cell, filled_count, has_number, is_filled, is_filled_at, number, Has, late}
 use Rattle.seg_memo.specs.declared.table.Table.{Table}
 use Rattle.seg_memo.proofs.Counts.{count-none, has-nil}
 use Rattle.seg_memo.proofs.Scanning.{all-nil}
@@ -133,7 +133,7 @@ pub first-keeps : (m : Machine) (transitions : List ℕ) (text : List Item) (t :
     → IsChecked m → transitions ≡ m.transitions → t.states ≡ length m.states → t.sets ≡ 2 ^ m.num_lookaheads → configurations m (length text) < 2 ^ 64
     → t.first ≡ 0 → t.cells.items ≡ [] → configurations m (length text) ≤ vec_capacity t.cells → counted ≡ 0
     → let s = subject (reading m transitions) (symbols_of (reading m transitions) (code_points text)) in
-    Has s t 0 (lost_at s 0) counted (λ whole. IsMemo s whole 0)
+    Has s t 0 (late s 0) counted (λ whole. IsMemo s whole 0)
 first-keeps m transitions text t counted checked transitions_are states sets fits first none room is =
     let count = configurations m (length text) in
     let cells = replicate count Unknown in
@@ -167,8 +167,8 @@ units-fit m text states sets units most rising states_are sets_are end fits is =
 pub other-keeps : (m : Machine) (before after : List ℕ) (place counted count : ℕ) (text : List Item) (t : Table)
     → let old = subject (reading m before) (symbols_of (reading m before) (code_points text)) in
     let new = subject (reading m after) (symbols_of (reading m after) (code_points text)) in
-    Has old t place (lost_at old place) counted (λ whole. IsMemo old whole place) → place ≡ 0 → IsChecked (reading m after) → count ≡ 0
-    → Has new t 0 (lost_at new 0) count (λ whole. IsMemo new whole 0)
+    Has old t place (late old place) counted (λ whole. IsMemo old whole place) → place ≡ 0 → IsChecked (reading m after) → count ≡ 0
+    → Has new t 0 (late new 0) count (λ whole. IsMemo new whole 0)
 unfolding number
 other-keeps m before after place counted count text t k is checked none =
     let made = other-memo m before after place text k.whole k.is is checked in
@@ -180,7 +180,7 @@ other-keeps m before after place counted count text t k is checked none =
         states = k.window.states;
         sets = k.window.sets;
         begins = subst (λ (n : ℕ). t.first ≤ (n * 2 ^ m.num_lookaheads + 0) * length m.states + 0) is begins;
-        held = λ i kept. k.window.held i (subst (λ (n : ℕ). lost_at (subject (reading m before) (symbols_of (reading m before) (code_points text))) n (t.first + i) ≡ false) (sym is) kept);
+        held = λ i kept. k.window.held i (subst (λ (n : ℕ). late (subject (reading m before) (symbols_of (reading m before) (code_points text))) n (t.first + i) ≡ false) (sym is) kept);
         room = k.window.room;
       };
       count = other-count _ k.whole place count k.is is none;
@@ -193,7 +193,7 @@ pub parts-keep : (m parts : Machine) (transitions : List ℕ) (text : List Item)
     → IsChecked m → transitions ≡ m.transitions → t.states ≡ length m.states → t.sets ≡ 2 ^ m.num_lookaheads → configurations m (length text) < 2 ^ 64
     → t.first ≡ 0 → t.cells.items ≡ [] → configurations m (length text) ≤ vec_capacity t.cells → counted ≡ 0
     → let s = subject (reading parts transitions) (symbols_of (reading parts transitions) (code_points text)) in
-    Has s t 0 (lost_at s 0) counted (λ whole. IsMemo s whole 0)
+    Has s t 0 (late s 0) counted (λ whole. IsMemo s whole 0)
 parts-keep m parts transitions text t counted same checked transitions_are states sets fits first none room is =
     rw same (first-keeps m transitions text t counted checked transitions_are states sets fits first none room is)
 

@@ -26,6 +26,9 @@ pub goes-on : (text left after : Text) (place here next : ℕ) → GoesOverItems
 goes-on text left after place here next one more =
     (one.0 + more.0, more.1 ∙ ap (rest_after more.0) one.1 ∙ after-after more.0 one.0 text, omega (arith, one.2, more.2))
 
+pub goes-more : (text left after : Text) (place here : ℕ) → GoesOverItems text place left here → after ≡ rest_after 1 left → GoesOverItems text place after (here + 1)
+goes-more text left after place here one is = goes-on text left after place here (here + 1) one (1, is, refl)
+
 pub stands : (text left : Text) (place next offset : ℕ) → GoesOverItems text place left next → offset ≡ start_of left → CursorStandsAt text place next offset
 stands text left place next offset goes is = (left, goes, is)
 

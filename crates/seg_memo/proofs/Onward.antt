@@ -1,6 +1,6 @@
--- The turns of a scan by a machine without lookaheads.
+-- The turns of a scan while no lookahead is named.
 use Rattle.std.proofs.Common.{◌≡◌, ◌≢◌, ℕ, suc, ◌+◌, ◌<◌, ◌≤◌, ◌==◌, ◌||◌, if◌then◌else◌, Bool, true, false, Option, Some, None, List, [], ◌∷◌, length, min, refl, sym, ap, ◌∙◌, subst, arith, inl, inr}
-use Rattle.std.proofs.lemmas.Bool.{cases_eq, cases_lt, eq-eqb, eqb-true, false≢true, le-ltb, lt-ltb}
+use Rattle.std.proofs.lemmas.Bool.{cases_eq, eq-eqb, eqb-true, false≢true}
 use Rattle.std.proofs.lemmas.List.{get_or-set_other}
 use Rattle.seg_text.specs.Items.{Item}
 use Rattle.seg_text.specs.declared.boundary.Boundary.{Boundary}
@@ -15,23 +15,17 @@ use Rattle.seg_memo.specs.declared.configuration.LookUp.TheVariants.{Ends, Leads
 use Rattle.seg_memo.specs.declared.configuration.Cell.{Cell}
 use Rattle.seg_memo.specs.declared.configuration.Cell.TheVariants.{Unknown, KnownNothing}
 use Rattle.seg_memo.specs.declared.table.Table.{Table}
-use Rattle.seg_memo.specs.Configurations.{Subject, start_at, following, look_ups, all_look_ups, AreStarts, outcome_at, look_up, picked}
-use Rattle.seg_memo.specs.Grids.{Grid, AreFilled, IsAt, IsFit, IsMemo, IsOn, IsReadBy, IsRight, IsScanned, IsRightFrom, IsConfigurationOf, cell, with_cell, has_number, is_filled, filled_count, number, Has, IsHeld, IsPart, late}
+use Rattle.seg_memo.specs.Configurations.{Subject, start_at, floor, following, later, look_ups, all_look_ups, AreStarts, outcome_at, look_up, picked}
+use Rattle.seg_memo.specs.Grids.{Grid, AreFilled, IsAt, IsFit, IsMemo, IsNamed, IsOn, IsReadBy, IsRight, IsScanned, IsRightFrom, IsConfigurationOf, cell, with_cell, has_number, is_filled, filled_count, number, Has, IsHeld, IsPart, Keeps, late}
 use Rattle.seg_memo.proofs.Numbers.{number-in, number-same}
-use Rattle.seg_memo.proofs.Following.{ends, fewer, leads, look-ups-leads}
+use Rattle.seg_memo.proofs.Following.{ends, fewer, leads, look-ups-leads, outcome-leads}
 use Rattle.seg_memo.proofs.Reading.{state-read}
 use Rattle.seg_memo.proofs.Segments.{some-left, start-picks}
 use Rattle.seg_memo.proofs.Counts.{filled-mark, has-cons, has-nil, on-has, or-cases}
 use Rattle.seg_memo.proofs.Scanning.{all-part, all-within, start-within}
 use Rattle.seg_memo.proofs.Ways.{fit-write, filling-mark, or-move, or-part, or-swap, other-cell, same-cell, table-mark}
-use Rattle.seg_memo.proofs.Windows.{number-before, start-least}
-use Rattle.seg_memo.proofs.Held.{part-on}
-use Rattle.seg_memo.proofs.Plain.{Accepts, IsPlain, all-accept, later, outcome-accepts, outcome-passes, plain-ends, right-nothing}
-
--- the place up to which a segment's end is known: that of the last acceptance, or else the start
-abbrev pub floor : ℕ → Option Boundary → ℕ
-floor start None = start
-floor start (Some b) = b.offset
+use Rattle.seg_memo.proofs.Windows.{late-past, not-late, number-before, part-on, start-least}
+use Rattle.seg_memo.proofs.Plain.{Accepts, all-accept, outcome-accepts, outcome-passes, plain-ends, right-nothing}
 
 -- the cells that a scan fills but doesn't write are lost, beside those up to its start
 abbrev pub missing : Subject → ℕ → List Configuration → ℕ → Bool
@@ -40,6 +34,7 @@ missing s start lost i = late s start i || has_number s i lost
 -- a configuration that the scan looked up before another
 pub record Before (s : Subject) (here d : Configuration) : Type 0 where
   pub within : IsConfigurationOf s d
+  pub free : d.kept ≡ 0
   pub place : d.place ≤ here.place
   pub longer : length (following s here) ≤ length (following s d)
 
@@ -56,6 +51,7 @@ pub record Turn (s : Subject) (t : Table) (start : ℕ) (here : Configuration) (
   pub table : IsRightFrom s whole start (here ∷ path)
   pub filling : AreFilled s whole starts (here ∷ path)
   pub within : IsConfigurationOf s here
+  pub free : here.kept ≡ 0
   pub covers : (i : ℕ) → has_number s i (look_ups s (start_at start)) ≡ (has_number s i path || has_number s i (look_ups s here))
   pub before : (d : Configuration) → IsOn d (here ∷ path) → Before s here d
   pub lost_on : (d : Configuration) → IsOn d lost → IsOn d (here ∷ path)
@@ -93,16 +89,6 @@ not-left false b is = refl
 not-right : (a b : Bool) → (a || b) ≡ false → b ≡ false
 not-right true b is = absurd (false≢true (sym is))
 not-right false b is = is
-
-not-late : (s : Subject) (place i : ℕ) → number s (start_at (suc place)) ≤ i → late s place i ≡ false
-not-late s place i past = le-ltb i (number s (start_at (suc place))) past
-
-late-past : (s : Subject) (place i : ℕ) → late s place i ≡ false → number s (start_at (suc place)) ≤ i
-late-past s place i is =
-    elim (cases_lt i (number s (start_at (suc place)))) [
-      | inl less ↦ absurd (false≢true (sym is ∙ lt-ltb i (number s (start_at (suc place))) less))
-      | inr past ↦ past
-    ]
 
 -- what is lost doesn't matter where the segment ends
 window-end : (s : Subject) (t : Table) (start : ℕ) (lost : List Configuration) (whole : Grid) (place : ℕ) → start ≤ place
@@ -189,19 +175,19 @@ unfilled x not = on (is_filled x) refl
     on true is = absurd (not is)
 
 -- it was not where it accepts
-accept-free : (s : Subject) (t : Table) (start : ℕ) (here next : Configuration) (last : Option Boundary) (counted : ℕ) → IsPlain s → (w : Turn s t start here last counted) → Next s start here next w.path
+accept-free : (s : Subject) (t : Table) (start : ℕ) (here next : Configuration) (last : Option Boundary) (counted : ℕ) → next.kept ≡ 0 → (w : Turn s t start here last counted) → Next s start here next w.path
     → Accepts s next → is_filled (cell s w.whole next) ≡ false
-accept-free s t start here next last counted plain w n accepts =
+accept-free s t start here next last counted free w n accepts =
     unfilled (cell s w.whole next) (λ full.
-    let most = all-accept s w.starts start next plain w.are (let some = w.some in omega (arith, some)) accepts (next-before s t start here next last counted w n full) in
+    let most = all-accept s w.starts start next w.table.fit.sound free w.are (let some = w.some in omega (arith, some)) accepts (next-before s t start here next last counted w n full) in
     let past = n.past in
     omega (arith, most, past))
 
 -- nor where no state accepted so far: there is a pick
-first-free : (s : Subject) (t : Table) (start : ℕ) (here next : Configuration) (counted : ℕ) → IsPlain s → (w : Turn s t start here None counted) → Next s start here next w.path
+first-free : (s : Subject) (t : Table) (start : ℕ) (here next : Configuration) (counted : ℕ) → next.kept ≡ 0 → (w : Turn s t start here None counted) → Next s start here next w.path
     → outcome_at s here ≡ outcome_at s next → is_filled (cell s w.whole next) ≡ false
-first-free s t start here next counted plain w n passes =
-    unfilled (cell s w.whole next) (λ full. w.picks (w.is ∙ passes ∙ right-nothing s next (cell s w.whole next) plain (next-right s t start here next None counted w n) full))
+first-free s t start here next counted free w n passes =
+    unfilled (cell s w.whole next) (λ full. w.picks (w.is ∙ passes ∙ right-nothing s next (cell s w.whole next) free (next-right s t start here next None counted w n) full))
 
 -- its cell holds from now on that nothing comes: it is right where nothing does
 write-right : (s : Subject) (g : Grid) (next c : Configuration) → IsFit s g → IsConfigurationOf s next → outcome_at s next ≡ Nothing → IsConfigurationOf s c → ((c ≡ next → ⊥) → IsRight s c (cell s g c))
@@ -229,9 +215,9 @@ record Step (s : Subject) (t : Table) (start : ℕ) (next : Configuration) (last
   pub is : outcome_at s (start_at start) ≡ later last (outcome_at s next)
 
 step : (s : Subject) (t after : Table) (start : ℕ) (here next : Configuration) (last after_last : Option Boundary) (counted count : ℕ) → (w : Turn s t start here last counted)
-    → Next s start here next w.path → is_filled (cell s w.whole next) ≡ false → Step s after start next after_last w.whole (here ∷ w.path) → count ≡ counted
+    → Next s start here next w.path → next.kept ≡ 0 → is_filled (cell s w.whole next) ≡ false → Step s after start next after_last w.whole (here ∷ w.path) → count ≡ counted
     → Turn s after start next after_last (count + 1)
-step s t after start here next last after_last counted count w n free p counts = record {
+step s t after start here next last after_last counted count w n unkept free p counts = record {
   whole = with_cell s w.whole next KnownNothing;
   lost = p.lost;
   window = p.window;
@@ -246,6 +232,7 @@ step s t after start here next last after_last counted count w n free p counts =
   table = table-mark s w.whole start (here ∷ w.path) next KnownNothing w.table n.within;
   filling = filling-mark s w.whole w.starts (here ∷ w.path) next KnownNothing w.filling w.table.fit n.within refl;
   within = n.within;
+  free = unkept;
   covers = λ i.
       w.covers i
       ∙ ap (λ (cs : List Configuration). has_number s i w.path || has_number s i cs) n.look_ups_are
@@ -257,12 +244,12 @@ step s t after start here next last after_last counted count w n free p counts =
       let inside = w.within.place in
       let fewer = n.fewer in
       elim on [
-        | inl is ↦ subst (Before s next) (sym is) (record { within = n.within; place = omega arith; longer = omega arith })
+        | inl is ↦ subst (Before s next) (sym is) (record { within = n.within; free = unkept; place = omega arith; longer = omega arith })
         | inr rest ↦
             let b = w.before d rest in
             let first = b.place in
             let longer = b.longer in
-            record { within = b.within; place = omega (arith, place, inside, first); longer = omega (arith, fewer, longer) }
+            record { within = b.within; free = b.free; place = omega (arith, place, inside, first); longer = omega (arith, fewer, longer) }
       ];
   lost_on = p.lost_on;
   floor_past = p.floor_past;
@@ -283,16 +270,16 @@ offset-is : (a b : Boundary) → Some a ≡ Some b → a.offset ≡ b.offset
 offset-is a b is = let same : a ≡ b = cc in ap (λ (x : Boundary). x.offset) same
 
 -- a state accepts
-pub turn-accepts : (s : Subject) (t : Table) (start : ℕ) (here next : Configuration) (last : Option Boundary) (counted count status : ℕ) (name : Option ℕ) → IsPlain s
+pub turn-accepts : (s : Subject) (t : Table) (start : ℕ) (here next : Configuration) (last : Option Boundary) (counted count status : ℕ) (name : Option ℕ) → next.kept ≡ 0
     → Turn s t start here last counted → look_up s here ≡ Leads next → IsConfigurationOf s next → state_at s.machine next.state ≡ (Accept status, name) → count ≡ counted
     → Turn s t start next (Some (boundary next.place status)) (count + 1)
-turn-accepts s t start here next last counted count status name plain w leads inside accepts counts =
+turn-accepts s t start here next last counted count status name free w leads inside accepts counts =
     let n = next-is s t start here next last counted w leads inside in
     let past = n.past in
     let place = n.place in
     let within = w.within.place in
     let low = w.floor_before in
-    step s t t start here next last (Some (boundary next.place status)) counted count w n (accept-free s t start here next last counted plain w n (status, name, accepts))
+    step s t t start here next last (Some (boundary next.place status)) counted count w n free (accept-free s t start here next last counted free w n (status, name, accepts))
     (record {
       lost = next ∷ w.lost;
       window = window-lose s t start next.place w.lost w.whole next KnownNothing (part-on s t (floor start last) next.place (missing s start w.lost) w.whole (omega (arith, low, place, within)) w.window);
@@ -310,19 +297,19 @@ turn-accepts s t start here next last counted count status name plain w leads in
           write-right s w.whole next c w.table.fit n.within none c-within
           (λ other. w.table.right w.some c (omega (arith, past, offset, from)) c-within
           (λ on. let before = (w.before c on).place in omega (arith, before, place, offset, from, less)));
-      is = w.is ∙ ap (later last) (outcome-accepts s here next status name plain w.within leads accepts) ∙ later-later last (boundary next.place status) (outcome_at s next);
+      is = w.is ∙ ap (later last) (outcome-accepts s here next status name w.table.fit.sound free w.within leads accepts) ∙ later-later last (boundary next.place status) (outcome_at s next);
     })
     counts
 
 -- none did so far
-pub turn-first : (s : Subject) (t : Table) (start : ℕ) (here next : Configuration) (counted count : ℕ) → IsPlain s
+pub turn-first : (s : Subject) (t : Table) (start : ℕ) (here next : Configuration) (counted count : ℕ) → next.kept ≡ 0
     → Turn s t start here None counted → look_up s here ≡ Leads next → IsConfigurationOf s next → ((status : ℕ) → (state_at s.machine next.state).0 ≡ Accept status → ⊥) → count ≡ counted
     → Turn s t start next None (count + 1)
-turn-first s t start here next counted count plain w leads inside not counts =
+turn-first s t start here next counted count free w leads inside not counts =
     let n = next-is s t start here next None counted w leads inside in
     let past = n.past in
-    let passes = outcome-passes s here next plain w.within leads not in
-    step s t t start here next None None counted count w n (first-free s t start here next counted plain w n passes)
+    let passes = outcome-passes s here next w.table.fit.sound free w.within leads not in
+    step s t t start here next None None counted count w n free (first-free s t start here next counted free w n passes)
     (record {
       lost = next ∷ w.lost;
       window = window-lose s t start start w.lost w.whole next KnownNothing w.window;
@@ -348,18 +335,18 @@ next-kept s t start here next last counted w n =
     (not-has s (number s next) w.lost (λ d on is. n.off (subst (λ (c : Configuration). IsOn c (here ∷ w.path)) (number-same s d next (w.before d (w.lost_on d on)).within n.within is) (w.lost_on d on))))
 
 -- one did before, and the configuration wasn't looked up
-pub turn-marks : (s : Subject) (old new : Table) (start : ℕ) (here next : Configuration) (b : Boundary) (known : Bool) (counted count : ℕ) → IsPlain s
+pub turn-marks : (s : Subject) (old new : Table) (start : ℕ) (here next : Configuration) (b : Boundary) (known : Bool) (counted count : ℕ) → next.kept ≡ 0
     → Turn s old start here (Some b) counted → look_up s here ≡ Leads next → IsConfigurationOf s next → ((status : ℕ) → (state_at s.machine next.state).0 ≡ Accept status → ⊥)
     → IsMark s old new b.offset next known → known ≡ false → count ≡ counted → Turn s new start next (Some b) (count + 1)
-turn-marks s old new start here next b known counted count plain w leads inside not mark unknown counts =
+turn-marks s old new start here next b known counted count free w leads inside not mark unknown counts =
     let n = next-is s old start here next (Some b) counted w leads inside in
     let past = n.past in
     let place = n.place in
     let within = w.within.place in
     let low = w.floor_before in
-    let passes = outcome-passes s here next plain w.within leads not in
+    let passes = outcome-passes s here next w.table.fit.sound free w.within leads not in
     let marked = mark (missing s start w.lost) w.whole w.window (next-kept s old start here next (Some b) counted w n) in
-    step s old new start here next (Some b) (Some b) counted count w n (sym marked.0 ∙ unknown)
+    step s old new start here next (Some b) (Some b) counted count w n free (sym marked.0 ∙ unknown)
     (record {
       lost = w.lost;
       window = subst (λ (k : Bool). IsPart s new b.offset (missing s start w.lost) (if k then w.whole else with_cell s w.whole next KnownNothing)) unknown marked.1;
@@ -395,18 +382,18 @@ done s old new start here b counted count w window none filling counts = record 
     picked-offset : (found b : Boundary) → Picked b ≡ Picked found → found.offset ≡ b.offset
     picked-offset found b is = let same : b ≡ found = cc in ap (λ (x : Boundary). x.offset) (sym same)
 
-pub turn-known : (s : Subject) (old new : Table) (start : ℕ) (here next : Configuration) (b : Boundary) (known : Bool) (counted count : ℕ) → IsPlain s
+pub turn-known : (s : Subject) (old new : Table) (start : ℕ) (here next : Configuration) (b : Boundary) (known : Bool) (counted count : ℕ) → next.kept ≡ 0
     → Turn s old start here (Some b) counted → look_up s here ≡ Leads next → IsConfigurationOf s next → ((status : ℕ) → (state_at s.machine next.state).0 ≡ Accept status → ⊥)
     → IsMark s old new b.offset next known → known ≡ true → count ≡ counted → Has s new b.offset (late s b.offset) count (λ whole. IsScanned s whole start (Picked b))
-turn-known s old new start here next b known counted count plain w leads inside not mark is counts =
+turn-known s old new start here next b known counted count free w leads inside not mark is counts =
     let n = next-is s old start here next (Some b) counted w leads inside in
     let marked = mark (missing s start w.lost) w.whole w.window (next-kept s old start here next (Some b) counted w n) in
     let full = sym marked.0 ∙ is in
-    let none = right-nothing s next (cell s w.whole next) plain (next-right s old start here next (Some b) counted w n) full in
+    let none = right-nothing s next (cell s w.whole next) free (next-right s old start here next (Some b) counted w n) full in
     let on = next-before s old start here next (Some b) counted w n full in
     done s old new start here b counted count w
     (subst (λ (k : Bool). IsPart s new b.offset (missing s start w.lost) (if k then w.whole else with_cell s w.whole next KnownNothing)) is marked.1)
-    (outcome-passes s here next plain w.within leads not ∙ none)
+    (outcome-passes s here next w.table.fit.sound free w.within leads not ∙ none)
     (λ i.
     w.filling i
     ∙ ap (λ (b : Bool). b || has_number s i (all_look_ups s w.starts)) (has-cons s i here w.path)
@@ -418,11 +405,11 @@ turn-known s old new start here next b known counted count plain w leads inside 
     ∙ sym (w.covers i)))
     counts
 
-pub turn-ends : (s : Subject) (t : Table) (start : ℕ) (here : Configuration) (b : Boundary) (o : Outcome) (counted count : ℕ) → IsPlain s
+pub turn-ends : (s : Subject) (t : Table) (start : ℕ) (here : Configuration) (b : Boundary) (o : Outcome) (counted count : ℕ)
     → Turn s t start here (Some b) counted → look_up s here ≡ Ends o → count ≡ counted → Has s t b.offset (late s b.offset) count (λ whole. IsScanned s whole start (Picked b))
-turn-ends s t start here b o counted count plain w is counts =
+turn-ends s t start here b o counted count w is counts =
     let last = ends s here o w.table.fit.sound w.within is in
-    done s t t start here b counted count w w.window (last.outcome_is ∙ plain-ends s here o plain is)
+    done s t t start here b counted count w w.window (last.outcome_is ∙ plain-ends s here o w.free is)
     (λ i.
     w.filling i
     ∙ ap (λ (b : Bool). b || has_number s i (all_look_ups s w.starts))
@@ -434,20 +421,20 @@ turn-ends s t start here b o counted count plain w is counts =
     counts
 
 -- it ends past an acceptance
-pub turn-some : (s : Subject) (t : Table) (start : ℕ) (here : Configuration) (last : Option Boundary) (o : Outcome) (counted : ℕ) → IsPlain s
+pub turn-some : (s : Subject) (t : Table) (start : ℕ) (here : Configuration) (last : Option Boundary) (o : Outcome) (counted : ℕ)
     → Turn s t start here last counted → look_up s here ≡ Ends o → last ≡ None → ⊥
-turn-some s t start here last o counted plain w is none =
-    w.picks (w.is ∙ ap (λ (x : Option Boundary). later x (outcome_at s here)) none ∙ (ends s here o w.table.fit.sound w.within is).outcome_is ∙ plain-ends s here o plain is)
+turn-some s t start here last o counted w is none =
+    w.picks (w.is ∙ ap (λ (x : Option Boundary). later x (outcome_at s here)) none ∙ (ends s here o w.table.fit.sound w.within is).outcome_is ∙ plain-ends s here o w.free is)
 
 -- the scan's beginning
 
-pub turn-start : (s : Subject) (t : Table) (start counted : ℕ) → IsPlain s → Has s t start (late s start) counted (λ whole. IsMemo s whole start) → start < length s.symbols
+pub turn-start : (s : Subject) (t : Table) (start counted : ℕ) → Has s t start (late s start) counted (λ whole. IsMemo s whole start) → start < length s.symbols
     → (outcome_at s (start_at start) ≡ Nothing → ⊥) → Turn s t start (start_at start) None (counted + 1)
-turn-start s t start counted plain k some picks =
+turn-start s t start counted k some picks =
     let memo = k.is in
     let fit = memo.table.fit in
     let inside = start-within s start fit.sound memo.within in
-    let free = unfilled (cell s k.whole (start_at start)) (λ full. picks (right-nothing s (start_at start) (cell s k.whole (start_at start)) plain (memo.table.right some (start_at start) (omega arith) inside (λ on. on)) full)) in
+    let free = unfilled (cell s k.whole (start_at start)) (λ full. picks (right-nothing s (start_at start) (cell s k.whole (start_at start)) refl (memo.table.right some (start_at start) (omega arith) inside (λ on. on)) full)) in
     record {
       whole = with_cell s k.whole (start_at start) KnownNothing;
       lost = start_at start ∷ [];
@@ -464,8 +451,9 @@ turn-start s t start counted plain k some picks =
       table = table-mark s k.whole start [] (start_at start) KnownNothing memo.table inside;
       filling = filling-mark s k.whole memo.starts [] (start_at start) KnownNothing memo.filling fit inside refl;
       within = inside;
+      free = refl;
       covers = λ i. sym (ap (λ (b : Bool). b || has_number s i (look_ups s (start_at start))) (has-nil s i));
-      before = λ d on. elim on [ inl is ↦ subst (Before s (start_at start)) (sym is) (record { within = inside; place = omega arith; longer = omega arith }) | inr none ↦ absurd none ];
+      before = λ d on. elim on [ inl is ↦ subst (Before s (start_at start)) (sym is) (record { within = inside; free = refl; place = omega arith; longer = omega arith }) | inr none ↦ absurd none ];
       lost_on = λ d on. on;
       floor_past = omega arith;
       floor_before = omega arith;
@@ -475,22 +463,96 @@ turn-start s t start counted plain k some picks =
       picks = picks;
     }
 
+-- a lookahead is named
+pub turn-names : (s : Subject) (t : Table) (start : ℕ) (here next : Configuration) (last : Option Boundary) (counted count : ℕ)
+    → Turn s t start here last counted → look_up s here ≡ Leads next → IsConfigurationOf s next → 0 < next.kept → count ≡ counted
+    → Keeps s t last next count (λ whole. IsNamed s whole start last next)
+turn-names s t start here next last counted count w leads inside kept counts =
+    let n = next-is s t start here next last counted w leads inside in
+    let past = n.past in
+    let place = n.place in
+    let low = w.floor_before in
+    let high = w.floor_past in
+    let at = w.within.place in
+    let same = outcome-leads s here next w.table.fit.sound w.within leads in
+    record {
+      whole = w.whole;
+      lost = missing s start w.lost;
+      window = part-on s t (floor start last) (floor next.place last) (missing s start w.lost) w.whole (floors last low) w.window;
+      free = λ c within from some.
+          neither (late s start (number s c)) (has_number s (number s c) w.lost) (not-late s start (number s c) (start-least s c (suc start) (omega (arith, past, from))))
+          (not-has s (number s c) w.lost (λ d on is.
+          let b = w.before d (w.lost_on d on) in
+          let none = b.free in
+          let one : d.kept ≡ c.kept = ap (λ (x : Configuration). x.kept) (number-same s d c b.within within is) in
+          omega (arith, none, one, some)));
+      ends = λ i kept.
+          let beyond = late-past s (floor next.place last) i kept in
+          let least = start-least s (start_at (suc (floor next.place last))) (suc start) (let more = floors last low in omega (arith, more, high)) in
+          neither (late s start i) (has_number s i w.lost) (not-late s start i (omega (arith, beyond, least)))
+          (not-has s i w.lost (λ d on is.
+          let less = number-before s d (suc (floor next.place last)) (w.before d (w.lost_on d on)).within (under d on) in
+          omega (arith, less, beyond, is)));
+      count = counts ∙ w.count;
+      is = record {
+        starts = w.starts;
+        passed = here ∷ w.path;
+        comes = record {
+          are = w.are;
+          some = w.some;
+          within = inside;
+          kept = kept;
+          past = omega (arith, past);
+          low = omega (arith, low, place, at);
+          high = high;
+          free = λ d on. (w.before d on).free;
+          all_within = λ d on. (w.before d on).within;
+          before = λ d on less. let before = (w.before d on).place in omega (arith, before, less, place);
+          covers = λ i.
+              w.covers i
+              ∙ ap (λ (cs : List Configuration). has_number s i w.path || has_number s i cs) n.look_ups_are
+              ∙ ap (λ (b : Bool). has_number s i w.path || b) (has-cons s i here (look_ups s next))
+              ∙ or-swap (has_number s i w.path) (number s here == i) (has_number s i (look_ups s next))
+              ∙ sym (ap (λ (b : Bool). b || has_number s i (look_ups s next)) (has-cons s i here w.path));
+          is = w.is ∙ ap (later last) same;
+          picks = w.picks;
+        };
+        table = w.table;
+        plain = λ b is less none c from within unkept. w.right b is less (same ∙ none) c from within;
+        filling = w.filling;
+      };
+    }
+  where
+    floors : (last : Option Boundary) → floor start last ≤ here.place → floor start last ≤ floor next.place last
+    floors None low =
+        let past = (next-is s t start here next last counted w leads inside).past in omega (arith, past)
+    floors (Some b) low = omega arith
+
+    under : (d : Configuration) → IsOn d w.lost → d.place < suc (floor next.place last)
+    under d on = over last refl
+      where
+        over : (l : Option Boundary) → last ≡ l → d.place < suc (floor next.place l)
+        over None is =
+            let before = (w.before d (w.lost_on d on)).place in
+            let n = next-is s t start here next last counted w leads inside in
+            let place = n.place in
+            let at = w.within.place in
+            omega (arith, before, place, at)
+        over (Some b) is = let before = w.lost_before b is d on in omega (arith, before)
+
 -- of what the code has in hand
 
 pub turn-last : (s : Subject) (t : Table) (start : ℕ) (here : Configuration) (last : Option Boundary) (counted : ℕ) (b : Option Boundary) → Turn s t start here last counted → last ≡ b → Turn s t start here b counted
 turn-last s t start here last counted b w is = subst (λ (x : Option Boundary). Turn s t start here x counted) is w
 
-pub turn-begins : (s : Subject) (m : Machine) (states : ℕ) (transitions : List ℕ) (t : Table) (start counted : ℕ) (first : Configuration) (items : List Item) → s.machine.num_lookaheads ≡ 0
+pub turn-begins : (s : Subject) (m : Machine) (states : ℕ) (transitions : List ℕ) (t : Table) (start counted : ℕ) (first : Configuration) (items : List Item)
     → Has s t start (late s start) counted (λ whole. IsMemo s whole start) → IsReadBy s m states transitions → IsAt s m start items → items ≢ [] → first ≡ start_at start
     → Turn s t start first None (counted + 1)
-turn-begins s m states transitions t start counted first items none k read here some is =
+turn-begins s m states transitions t start counted first items k read here some is =
     let sound = k.is.table.fit.sound in
     subst (λ (c : Configuration). Turn s t start c None (counted + 1)) (sym is)
-    (turn-start s t start counted (record { sound = sound; none = none }) k (some-left s m states transitions start items read here some)
+    (turn-start s t start counted k (some-left s m states transitions start items read here some)
     (λ nothing. start-picks s m states transitions start items sound k.is.within read here some (ap picked nothing)))
-
-pub plain-turn : (s : Subject) (t : Table) (start : ℕ) (here : Configuration) (last : Option Boundary) (counted : ℕ) → s.machine.num_lookaheads ≡ 0 → Turn s t start here last counted → IsPlain s
-plain-turn s t start here last counted none w = record { sound = w.table.fit.sound; none = none }
 
 pub turn-held : (s : Subject) (t : Table) (start : ℕ) (here next : Configuration) (last : Option Boundary) (counted : ℕ) (b : Boundary) → Turn s t start here last counted → last ≡ Some b
     → look_up s here ≡ Leads next → IsConfigurationOf s next → IsHeld s t b.offset × (IsConfigurationOf s next × (b.offset ≤ next.place))

@@ -19,7 +19,7 @@ use Rattle.seg_memo.specs.declared.configuration.Outcome.TheVariants.{Nothing, P
 use Rattle.seg_memo.specs.Configurations.{Subject, condition_held, following, start_at, entered, at, outcome, outcome_at, picked}
 
 -- a lookahead that an outcome names is in the set
-abbrev IsKept : ℕ → Outcome → Type 0
+abbrev pub IsKept : ℕ → Outcome → Type 0
 IsKept kept (Kept lookahead status) = has kept lookahead ≡ true
 IsKept kept _ = Unit {0}
 
@@ -57,7 +57,7 @@ kept-entered kept place (acceptance, name) (Picked found) is = tt
 kept-entered kept place (acceptance, None) (Kept lookahead status) is = is
 kept-entered kept place (acceptance, Some name) (Kept lookahead status) is = kept-unnamed kept lookahead place status name acceptance is
 
-kept-outcome : (kept : ℕ) (states : List (Acceptance × Option ℕ)) → IsKept kept (outcome kept states)
+pub kept-outcome : (kept : ℕ) (states : List (Acceptance × Option ℕ)) → IsKept kept (outcome kept states)
 unfolding outcome
 kept-outcome kept [] = tt
 kept-outcome kept (state ∷ states) =

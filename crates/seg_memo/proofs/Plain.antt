@@ -1,14 +1,14 @@
--- Scans by a machine without lookaheads.
+-- Scans while no lookahead is named.
 use Rattle.std.proofs.Common.{◌≡◌, ℕ, suc, ◌+◌, ◌≤◌, ◌⊎◌, true, Option, Some, None, List, [], ◌∷◌, length, map, min, refl, sym, ap, ◌∙◌, subst, arith, inl, inr}
 use Rattle.std.specs.Option.{option_map}
-use Rattle.std.proofs.lemmas.Bool.{cases_lt}
+use Rattle.std.proofs.lemmas.Bool.{cases_lt, cond-false, false≢true}
 use Rattle.seg_text.specs.declared.boundary.Boundary.{Boundary}
 use Rattle.seg_text.specs.Boundaries.{boundary, shift}
 use Rattle.seg_machine.specs.declared.provider.Acceptance.{Acceptance}
 use Rattle.seg_machine.specs.declared.provider.Acceptance.TheVariants.{Continue, Accept, Conditional}
 use Rattle.seg_machine.specs.Machine.{Machine, step, state_at}
-use Rattle.seg_machine.specs.MachineFaults.{NamesPast}
-use Rattle.seg_machine.specs.Search.{keep}
+use Rattle.seg_machine.specs.Search.{has, keep}
+use Rattle.seg_machine.proofs.Sets.{has-none}
 use Rattle.std.specs.Prelude.{slice_index_or}
 use Rattle.seg_memo.specs.declared.configuration.Configuration.{Configuration}
 use Rattle.seg_memo.specs.declared.configuration.Outcome.{Outcome}
@@ -16,79 +16,50 @@ use Rattle.seg_memo.specs.declared.configuration.Outcome.TheVariants.{Nothing, P
 use Rattle.seg_memo.specs.declared.configuration.LookUp.TheVariants.{Ends, Leads}
 use Rattle.seg_memo.specs.declared.configuration.Cell.{Cell}
 use Rattle.seg_memo.specs.declared.configuration.Cell.TheVariants.{Unknown, First, Way, KnownNothing, KnownKept}
-use Rattle.seg_memo.specs.Configurations.{Subject, configuration, condition_held, start_at, following, look_ups, all_look_ups, AreStarts, arrival, at, entered, outcome, outcome_at, look_up, picked}
+use Rattle.seg_memo.specs.Configurations.{Subject, configuration, condition_held, start_at, following, look_ups, all_look_ups, AreStarts, at, entered, later, outcome, outcome_at, look_up, picked}
 use Rattle.seg_memo.specs.Grids.{IsOn, IsRight, IsSound, IsConfigurationOf, is_filled}
-use Rattle.seg_memo.proofs.Following.{ends, leads-within, look-ups-leads, look-up-leads, look-up-none, outcome-at, outcome-cons, outcome-leads, outcome-nil, picked-past}
-use Rattle.seg_memo.proofs.Reading.{Read, state-read, value-some}
+use Rattle.seg_memo.proofs.Following.{ends, leads-within, look-ups-leads, look-up-leads, look-up-none, outcome-at, outcome-leads, picked-past}
+use Rattle.seg_memo.proofs.Reading.{Read, value-some}
 use Rattle.seg_memo.proofs.Counts.{on-append}
 use Rattle.seg_memo.proofs.Scanning.{all-cons, all-nil, along, start-within}
-use Rattle.seg_memo.proofs.Picking.{picked-start}
+use Rattle.seg_memo.proofs.Picking.{IsKept, kept-outcome, picked-start}
 
--- a machine without lookaheads
-pub record IsPlain (s : Subject) : Type 0 where
-  pub sound : IsSound s
-  pub none : s.machine.num_lookaheads ≡ 0
+-- no condition holds
 
--- no condition holds, and no lookahead is named
+free-held : (kept : ℕ) (entry : Acceptance × Option ℕ) → kept ≡ 0 → condition_held kept entry ≡ None
+free-held kept (Continue, name) none = refl
+free-held kept (Accept status, name) none = refl
+free-held kept (Conditional lookahead status, name) none =
+    cond-false {A = Option (ℕ × ℕ)} (has kept lookahead) (Some (lookahead, status)) None (ap (λ (k : ℕ). has k lookahead) none ∙ has-none lookahead)
 
-free-held : (count kept : ℕ) (entry : Acceptance × Option ℕ) → count ≡ 0 → (NamesPast count entry → ⊥) → condition_held kept entry ≡ None
-free-held count kept (Continue, name) none free = refl
-free-held count kept (Accept status, name) none free = refl
-free-held count kept (Conditional lookahead status, name) none free = absurd (free (inr (omega (arith, none))))
-
-free-name : (count : ℕ) (entry : Acceptance × Option ℕ) → count ≡ 0 → (NamesPast count entry → ⊥) → entry.1 ≡ None
-free-name count (acceptance, None) none free = refl
-free-name count (acceptance, Some name) none free = absurd (free (inl (omega (arith, none))))
-
-plain-held : (s : Subject) (kept state : ℕ) → IsPlain s → condition_held kept (state_at s.machine state) ≡ None
-plain-held s kept state plain = free-held s.machine.num_lookaheads kept (state_at s.machine state) plain.none (plain.sound.checked.lookaheads state)
-
-plain-arrival : (s : Subject) (next place kept : ℕ) → IsPlain s → Leads (configuration next place kept) ≡ arrival (state_at s.machine next) next place kept
-plain-arrival s next place kept plain =
-    sym (rw (plain-held s kept next plain) (ap (λ (name : Option ℕ). Leads (configuration next place (keep kept name)))
-    (free-name s.machine.num_lookaheads (state_at s.machine next) plain.none (plain.sound.checked.lookaheads next))))
-
-pub plain-value : (s : Subject) (m : Machine) (c : Configuration) (states : ℕ) (transitions : List ℕ) (symbol next place : ℕ) → s.machine.num_lookaheads ≡ 0
-    → Read s m c states transitions symbol next → (next ≡ 255 → ⊥) → place ≡ min (suc c.place) (length s.symbols) → Leads (configuration next place c.kept) ≡ look_up s c
-plain-value s m c states transitions symbol next place none r some p =
-    value-some s m c states transitions symbol next place (state_at m next) (Leads (configuration next place c.kept)) r some refl p
-    (subst (λ (entry : Acceptance × Option ℕ). Leads (configuration next place c.kept) ≡ arrival entry next place c.kept) (state-read s m states transitions next r.read)
-    (plain-arrival s next place c.kept (record { sound = r.sound; none = none })))
+-- what is looked up then
+pub plain-value : (s : Subject) (m : Machine) (c : Configuration) (states : ℕ) (transitions : List ℕ) (symbol next place : ℕ) (entry : Acceptance × Option ℕ) → c.kept ≡ 0
+    → Read s m c states transitions symbol next → (next ≡ 255 → ⊥) → entry ≡ state_at m next → place ≡ min (suc c.place) (length s.symbols)
+    → Leads (configuration next place (keep c.kept entry.1)) ≡ look_up s c
+plain-value s m c states transitions symbol next place entry none r some e p =
+    value-some s m c states transitions symbol next place entry (Leads (configuration next place (keep c.kept entry.1))) r some e p
+    (rw (free-held c.kept entry none) refl)
 
 -- so a scan ends with nothing
-pub plain-ends : (s : Subject) (c : Configuration) (o : Outcome) → IsPlain s → look_up s c ≡ Ends o → o ≡ Nothing
-plain-ends s c o plain is = on (step s.machine c.state (slice_index_or s.symbols c.place 0)) refl
+pub plain-ends : (s : Subject) (c : Configuration) (o : Outcome) → c.kept ≡ 0 → look_up s c ≡ Ends o → o ≡ Nothing
+plain-ends s c o free is = on (step s.machine c.state (slice_index_or s.symbols c.place 0)) refl
   where
     on : (found : Option ℕ) → step s.machine c.state (slice_index_or s.symbols c.place 0) ≡ found → o ≡ Nothing
     on None none = let same : Ends Nothing ≡ Ends o = sym (look-up-none s c none) ∙ is in cc
-    on (Some next) some = let never = sym (look-up-leads s c next some (plain-held s c.kept next plain)) ∙ is in cc
+    on (Some next) some = let never = sym (look-up-leads s c next some (free-held c.kept (state_at s.machine next) free)) ∙ is in cc
 
 -- and no outcome is kept
-entered-kept : (entry : Acceptance × Option ℕ) (o : Outcome) (lookahead status : ℕ) → ((name kept : ℕ) → o ≡ Kept name kept → ⊥) → entered 1 entry (at suc o) ≡ Kept lookahead status → ⊥
-entered-kept (Continue, name) Nothing lookahead status not is = cc
-entered-kept (Accept later, name) Nothing lookahead status not is = cc
-entered-kept (Conditional asked later, name) Nothing lookahead status not is = cc
-entered-kept (acceptance, name) (Picked later) lookahead status not is = cc
-entered-kept (acceptance, name) (Kept kept later) lookahead status not is = not kept later refl
-
-outcome-kept : (s : Subject) (states : List ℕ) (kept lookahead status : ℕ) → IsPlain s → outcome kept (map (state_at s.machine) states) ≡ Kept lookahead status → ⊥
-outcome-kept s [] kept lookahead status plain is = let never : Nothing ≡ Kept lookahead status = sym (outcome-nil kept) ∙ is in cc
-outcome-kept s (state ∷ states) kept lookahead status plain is =
-    entered-kept (state_at s.machine state) (outcome (keep kept (state_at s.machine state).1) (map (state_at s.machine) states)) lookahead status
-    (λ name later. outcome-kept s states (keep kept (state_at s.machine state).1) name later plain)
-    (sym (outcome-cons kept (state_at s.machine state) (map (state_at s.machine) states) None (plain-held s kept state plain)) ∙ is)
-
-pub never-kept : (s : Subject) (c : Configuration) (lookahead status : ℕ) → IsPlain s → outcome_at s c ≡ Kept lookahead status → ⊥
-never-kept s c lookahead status plain is =
-    on (outcome c.kept (map (state_at s.machine) (following s c))) (λ name later. outcome-kept s (following s c) c.kept name later plain) (sym (outcome-at s c) ∙ is)
+pub never-kept : (s : Subject) (c : Configuration) (lookahead status : ℕ) → c.kept ≡ 0 → outcome_at s c ≡ Kept lookahead status → ⊥
+never-kept s c lookahead status free is =
+    on (outcome c.kept (map (state_at s.machine) (following s c))) (kept-outcome c.kept (map (state_at s.machine) (following s c))) (sym (outcome-at s c) ∙ is)
   where
-    on : (o : Outcome) → ((name later : ℕ) → o ≡ Kept name later → ⊥) → at (λ steps. min (c.place + steps) (length s.symbols)) o ≡ Kept lookahead status → ⊥
-    on Nothing not is = cc
-    on (Picked later) not is = cc
-    on (Kept name later) not is = not name later refl
+    on : (o : Outcome) → IsKept c.kept o → at (λ steps. min (c.place + steps) (length s.symbols)) o ≡ Kept lookahead status → ⊥
+    on Nothing has_it is = cc
+    on (Picked found) has_it is = cc
+    on (Kept name later) has_it is = false≢true (sym (has-none name) ∙ ap (λ (k : ℕ). has k name) (sym free) ∙ has_it)
 
 -- a cell that is filled and right holds that nothing comes
-pub right-nothing : (s : Subject) (c : Configuration) (x : Cell) → IsPlain s → IsRight s c x → is_filled x ≡ true → outcome_at s c ≡ Nothing
+pub right-nothing : (s : Subject) (c : Configuration) (x : Cell) → c.kept ≡ 0 → IsRight s c x → is_filled x ≡ true → outcome_at s c ≡ Nothing
 right-nothing s c Unknown plain right full = cc
 right-nothing s c First plain right full = absurd right
 right-nothing s c (Way state kept stays) plain right full = absurd right
@@ -100,14 +71,7 @@ right-nothing s c (KnownKept lookahead status) plain right full = absurd (never-
 abbrev pub Accepts : Subject → Configuration → Type 0
 Accepts s c = (status : ℕ) × (name : Option ℕ) × (state_at s.machine c.state ≡ (Accept status, name))
 
--- the outcome before it is that of what follows, or else its acceptance
-abbrev pub later : Option Boundary → Outcome → Outcome
-later None o = o
-later (Some b) Nothing = Picked b
-later (Some b) (Picked found) = Picked found
-later (Some b) (Kept lookahead status) = Kept lookahead status
-
-accepted : (s : Subject) (c : Configuration) (place status : ℕ) (name : Option ℕ) → IsPlain s → entered place (Accept status, name) (outcome_at s c) ≡ later (Some (boundary place status)) (outcome_at s c)
+accepted : (s : Subject) (c : Configuration) (place status : ℕ) (name : Option ℕ) → c.kept ≡ 0 → entered place (Accept status, name) (outcome_at s c) ≡ later (Some (boundary place status)) (outcome_at s c)
 accepted s c place status name plain = on (outcome_at s c) (λ lookahead kept. never-kept s c lookahead kept plain)
   where
     on : (o : Outcome) → ((lookahead kept : ℕ) → o ≡ Kept lookahead kept → ⊥) → entered place (Accept status, name) o ≡ later (Some (boundary place status)) o
@@ -115,10 +79,10 @@ accepted s c place status name plain = on (outcome_at s c) (λ lookahead kept. n
     on (Picked found) not = refl
     on (Kept lookahead kept) not = absurd (not lookahead kept refl)
 
-pub outcome-accepts : (s : Subject) (c e : Configuration) (status : ℕ) (name : Option ℕ) → IsPlain s → IsConfigurationOf s c → look_up s c ≡ Leads e → state_at s.machine e.state ≡ (Accept status, name)
+pub outcome-accepts : (s : Subject) (c e : Configuration) (status : ℕ) (name : Option ℕ) → IsSound s → e.kept ≡ 0 → IsConfigurationOf s c → look_up s c ≡ Leads e → state_at s.machine e.state ≡ (Accept status, name)
     → outcome_at s c ≡ later (Some (boundary e.place status)) (outcome_at s e)
-outcome-accepts s c e status name plain within is accepts =
-    outcome-leads s c e plain.sound within is ∙ ap (λ (x : Acceptance × Option ℕ). entered e.place x (outcome_at s e)) accepts ∙ accepted s e e.place status name plain
+outcome-accepts s c e status name sound free within is accepts =
+    outcome-leads s c e sound within is ∙ ap (λ (x : Acceptance × Option ℕ). entered e.place x (outcome_at s e)) accepts ∙ accepted s e e.place status name free
 
 passed : (place : ℕ) (entry : Acceptance × Option ℕ) (o : Outcome) → ((status : ℕ) → entry.0 ≡ Accept status → ⊥) → ((lookahead kept : ℕ) → o ≡ Kept lookahead kept → ⊥) → entered place entry o ≡ o
 passed place (Continue, name) Nothing not free = refl
@@ -128,17 +92,17 @@ passed place (acceptance, name) (Picked found) not free = refl
 passed place (acceptance, name) (Kept lookahead kept) not free = absurd (free lookahead kept refl)
 
 -- another state passes it on
-pub outcome-passes : (s : Subject) (c e : Configuration) → IsPlain s → IsConfigurationOf s c → look_up s c ≡ Leads e → ((status : ℕ) → (state_at s.machine e.state).0 ≡ Accept status → ⊥)
+pub outcome-passes : (s : Subject) (c e : Configuration) → IsSound s → e.kept ≡ 0 → IsConfigurationOf s c → look_up s c ≡ Leads e → ((status : ℕ) → (state_at s.machine e.state).0 ≡ Accept status → ⊥)
     → outcome_at s c ≡ outcome_at s e
-outcome-passes s c e plain within is not =
-    outcome-leads s c e plain.sound within is ∙ passed e.place (state_at s.machine e.state) (outcome_at s e) not (λ lookahead kept. never-kept s e lookahead kept plain)
+outcome-passes s c e sound free within is not =
+    outcome-leads s c e sound within is ∙ passed e.place (state_at s.machine e.state) (outcome_at s e) not (λ lookahead kept. never-kept s e lookahead kept free)
 
 -- no scan comes to an acceptance past its end
 
 abbrev Later : Subject → Configuration → ℕ → Type 0
 Later s c place = (f : Boundary) × (outcome_at s c ≡ Picked f) × (place ≤ f.offset)
 
-later-picked : (s : Subject) (c e : Configuration) (b : Boundary) → IsPlain s → e.place ≤ length s.symbols → outcome_at s c ≡ later (Some b) (outcome_at s e) → b.offset ≡ e.place → Later s c e.place
+later-picked : (s : Subject) (c e : Configuration) (b : Boundary) → e.kept ≡ 0 → e.place ≤ length s.symbols → outcome_at s c ≡ later (Some b) (outcome_at s e) → b.offset ≡ e.place → Later s c e.place
 later-picked s c e b plain inside is here = on (outcome_at s e) refl is
   where
     on : (o : Outcome) → outcome_at s e ≡ o → outcome_at s c ≡ later (Some b) o → Later s c e.place
@@ -152,11 +116,11 @@ entered-picked place (acceptance, name) (Picked found) f is = is
 entered-picked place entry Nothing f is = cc
 entered-picked place entry (Kept lookahead status) f is = cc
 
-accept-later : (s : Subject) (c d : Configuration) → IsPlain s → IsConfigurationOf s c → Accepts s d → IsOn d (look_ups s c) → (d ≡ c) ⊎ Later s c d.place
-accept-later s c d plain within accepts on =
-    along s (λ c. IsOn d (look_ups s c) → (d ≡ c) ⊎ Later s c d.place) plain.sound
-    (λ c o inside is on. alone c (subst (IsOn d) (ends s c o plain.sound inside is).alone on))
-    (λ c e inside is rest on. further c e inside is rest (subst (IsOn d) (look-ups-leads s c e plain.sound inside is) on))
+accept-later : (s : Subject) (c d : Configuration) → IsSound s → d.kept ≡ 0 → IsConfigurationOf s c → Accepts s d → IsOn d (look_ups s c) → (d ≡ c) ⊎ Later s c d.place
+accept-later s c d sound free within accepts on =
+    along s (λ c. IsOn d (look_ups s c) → (d ≡ c) ⊎ Later s c d.place) sound
+    (λ c o inside is on. alone c (subst (IsOn d) (ends s c o sound inside is).alone on))
+    (λ c e inside is rest on. further c e inside is rest (subst (IsOn d) (look-ups-leads s c e sound inside is) on))
     (following s c) c refl within on
   where
     alone : (c : Configuration) → IsOn d (c ∷ []) → (d ≡ c) ⊎ Later s c d.place
@@ -164,9 +128,10 @@ accept-later s c d plain within accepts on =
 
     one : (c e : Configuration) → IsConfigurationOf s c → look_up s c ≡ Leads e → d ≡ e → Later s c d.place
     one c e inside is same =
+        let unkept : e.kept ≡ 0 = ap (λ (x : Configuration). x.kept) (sym same) ∙ free in
         let at : state_at s.machine e.state ≡ (Accept accepts.0, accepts.1) = ap (λ (x : Configuration). state_at s.machine x.state) (sym same) ∙ accepts.2 in
         subst (λ (x : Configuration). Later s c x.place) (sym same)
-        (later-picked s c e (boundary e.place accepts.0) plain (leads-within s c e plain.sound inside is).place (outcome-accepts s c e accepts.0 accepts.1 plain inside is at) refl)
+        (later-picked s c e (boundary e.place accepts.0) unkept (leads-within s c e sound inside is).place (outcome-accepts s c e accepts.0 accepts.1 sound unkept inside is at) refl)
 
     further : (c e : Configuration) → IsConfigurationOf s c → look_up s c ≡ Leads e → (IsOn d (look_ups s e) → (d ≡ e) ⊎ Later s e d.place) → IsOn d (c ∷ look_ups s e) → (d ≡ c) ⊎ Later s c d.place
     further c e inside is rest on =
@@ -175,25 +140,25 @@ accept-later s c d plain within accepts on =
           | inr more ↦
               elim (rest more) [
                 | inl same ↦ inr (one c e inside is same)
-                | inr after ↦ inr (after.0, outcome-leads s c e plain.sound inside is ∙ entered-picked e.place (state_at s.machine e.state) (outcome_at s e) after.0 after.1, after.2)
+                | inr after ↦ inr (after.0, outcome-leads s c e sound inside is ∙ entered-picked e.place (state_at s.machine e.state) (outcome_at s e) after.0 after.1, after.2)
               ]
         ]
 
 shifted : (start : ℕ) (f p : Boundary) → Some f ≡ option_map (shift start) (Some p) → f.offset ≡ start + p.offset
 shifted start f p is = let same : f ≡ shift start p = cc in ap (λ (b : Boundary). b.offset) same
 
-pub all-accept : (s : Subject) (starts : List ℕ) (place : ℕ) (d : Configuration) → IsPlain s → AreStarts s starts place → place ≤ length s.symbols → Accepts s d → IsOn d (all_look_ups s starts)
+pub all-accept : (s : Subject) (starts : List ℕ) (place : ℕ) (d : Configuration) → IsSound s → d.kept ≡ 0 → AreStarts s starts place → place ≤ length s.symbols → Accepts s d → IsOn d (all_look_ups s starts)
     → d.place ≤ place
-all-accept s [] place d plain are within accepts on = absurd (subst (IsOn d) (all-nil s) on)
-all-accept s (start ∷ starts) place d plain are within accepts on =
+all-accept s [] place d sound free are within accepts on = absurd (subst (IsOn d) (all-nil s) on)
+all-accept s (start ∷ starts) place d sound free are within accepts on =
     let less : start ≤ length s.symbols = omega (arith, within, are.1) in
     elim (on-append d (look_ups s (start_at start)) (all_look_ups s starts) (subst (IsOn d) (all-cons s start starts) on)) [
       | inl first ↦
-          elim (accept-later s (start_at start) d plain (start-within s start plain.sound less) accepts first) [
+          elim (accept-later s (start_at start) d sound free (start-within s start sound less) accepts first) [
             | inl same ↦ let here : d.place ≡ start = ap (λ (c : Configuration). c.place) same in omega (arith, here, are.1)
             | inr after ↦
                 let offset = shifted start after.0 are.0.0 (sym (ap picked after.1) ∙ picked-start s start less ∙ ap (option_map (shift start)) are.0.1) in
                 omega (arith, offset, after.2, are.0.2)
           ]
-      | inr rest ↦ let before = all-accept s starts start d plain are.2 less accepts rest in omega (arith, before, are.1)
+      | inr rest ↦ let before = all-accept s starts start d sound free are.2 less accepts rest in omega (arith, before, are.1)
     ]

@@ -1,15 +1,15 @@
 -- A segment, of what the code has in hand.
-use Rattle.std.proofs.Common.{◌≡◌, ◌≢◌, ℕ, ◌+◌, ◌-◌, ◌<◌, ◌≤◌, ◌||◌, Bool, Option, Some, None, List, [], ◌∷◌, length, drop, IsSome, refl, sym, ap, ◌∙◌, subst, arith, inl, inr}
+use Rattle.std.proofs.Common.{◌≡◌, ◌≢◌, ℕ, ◌+◌, ◌<◌, ◌≤◌, ◌||◌, Bool, Option, Some, None, List, [], ◌∷◌, length, drop, IsSome, refl, sym, ap, ◌∙◌, subst, arith, inl, inr}
 use Rattle.std.specs.Option.{option_map}
 use Rattle.std.proofs.lemmas.Bool.{cases_lt}
 use Rattle.std.proofs.lemmas.List.{drop_all, length-drop}
-use Rattle.seg_text.specs.Items.{Item, Text, code_points, rest_after}
+use Rattle.seg_text.specs.Items.{Item, code_points}
 use Rattle.seg_text.specs.declared.boundary.Boundary.{Boundary}
 use Rattle.seg_text.specs.Boundaries.{shift}
 use Rattle.seg_machine.specs.Machine.{Machine, symbol_and_script, symbols_of}
 use Rattle.seg_machine.specs.Pick.{pick}
 use Rattle.seg_machine.proofs.Picks.{pick-bounds}
-use Rattle.seg_machine.proofs.Scanned.{pick-some, after-after}
+use Rattle.seg_machine.proofs.Scanned.{pick-some}
 use Rattle.seg_memo.specs.declared.configuration.Outcome.{Outcome}
 use Rattle.seg_memo.specs.declared.configuration.Outcome.TheVariants.{Nothing, Picked, Kept}
 use Rattle.seg_memo.specs.Configurations.{Subject, reading, start_at, look_ups, all_look_ups, outcome_at, picked}
@@ -71,11 +71,6 @@ start-picks s m states transitions place items sound within read here some none 
     on None there e = cc
     on (Some p) there e = cc
 
-pub segment-some : (s : Subject) (m : Machine) (states : ℕ) (transitions : List ℕ) (g : Grid) (place : ℕ) (o : Outcome) (items : List Item) (found : Option Boundary)
-    → IsScanned s g place o → IsReadBy s m states transitions → IsAt s m place items → items ≢ [] → found ≡ picked o → found ≡ None → ⊥
-segment-some s m states transitions g place o items found scanned read here some is none =
-    start-picks s m states transitions place items scanned.fit.sound scanned.within read here some (ap picked (sym scanned.is) ∙ sym is ∙ none)
-
 pub segment-found : (s : Subject) (g : Grid) (place : ℕ) (o : Outcome) (found : Option Boundary) (b : Boundary) → IsScanned s g place o → found ≡ picked o → found ≡ Some b → Segment s place b
 segment-found s g place o found b scanned is some = on (pick s.machine (drop place s.symbols)) refl (sym some ∙ is ∙ picked-is s g place o scanned)
   where
@@ -108,15 +103,3 @@ segment-memo s m states transitions g place o items b scanned read here some seg
           ∙ ap (has_number s i) (all-cons s place scanned.starts)
           ∙ has-append s i (look_ups s (start_at place)) (all_look_ups s scanned.starts));
     }
-
-pub skip-next : (text left after : Text) (start i : ℕ) → start ≤ i → left ≡ rest_after (i - start) text → after ≡ rest_after 1 left → after ≡ rest_after (i + 1 - start) text
-skip-next text left after start i past l a =
-    a ∙ ap (rest_after 1) l ∙ after-after 1 (i - start) text ∙ ap (λ (n : ℕ). rest_after n text) (omega (arith, past))
-
-pub segment-rest : (s : Subject) (text left : Text) (place i : ℕ) (b : Boundary) → Segment s place b → b.offset ≤ i → (place ≤ b.offset → i ≤ b.offset)
-    → left ≡ rest_after (i - place) text
-    → (p : Boundary) × (pick s.machine (drop place s.symbols) ≡ Some p) × (b ≡ shift place p) × (left ≡ rest_after p.offset text)
-segment-rest s text left place i b segment past most l =
-    let offset : b.offset ≡ place + segment.p.offset = ap (λ (x : Boundary). x.offset) segment.is in
-    let end : i ≤ b.offset = most (omega (arith, offset)) in
-    (segment.p, segment.picks, segment.is, l ∙ ap (λ (n : ℕ). rest_after n text) (omega (arith, offset, end, past)))

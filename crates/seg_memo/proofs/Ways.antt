@@ -1,25 +1,28 @@
--- The way of a scan, forward over the cells and back.
-use Rattle.std.proofs.Common.{◌≡◌, ℕ, suc, ◌+◌, ◌-◌, ◌<◌, ◌≤◌, ◌==◌, ◌||◌, Bool, true, false, Some, None, List, [], ◌∷◌, if◌then◌else◌, length, min, set, refl, sym, ap, ◌∙◌, subst, arith, inl, inr, eq-eqb}
-use Rattle.std.proofs.lemmas.Bool.{cases_eq, eqb-true, eqb-false, ne_eqb}
+-- The way of a scan that keeps a lookahead, forward over the cells and back.
+use Rattle.std.proofs.Common.{◌≡◌, ℕ, suc, ◌+◌, ◌-◌, ◌^◌, ◌<◌, ◌≤◌, ◌==◌, ◌||◌, Bool, true, false, Option, Some, None, List, [], ◌∷◌, ◌++◌, if◌then◌else◌, length, min, set, refl, sym, ap, ◌∙◌, subst, arith, inl, inr, eq-eqb}
+use Rattle.std.specs.Prelude.{bit_or, slice_index_or}
+use Rattle.std.proofs.lemmas.Bool.{cases_eq, eqb-true, eqb-false, false≢true, ne_eqb}
 use Rattle.std.proofs.lemmas.List.{length-set, get_or-set_same, get_or-set_other}
 use Rattle.seg_text.specs.declared.boundary.Boundary.{Boundary}
-use Rattle.seg_machine.specs.Machine.{state_at}
+use Rattle.seg_machine.specs.Machine.{state_at, step}
+use Rattle.seg_machine.specs.Search.{has, keep}
+use Rattle.seg_machine.proofs.Sets.{has-keep, has-none}
 use Rattle.seg_memo.specs.declared.configuration.Configuration.{Configuration}
 use Rattle.seg_memo.specs.declared.configuration.Outcome.{Outcome}
 use Rattle.seg_memo.specs.declared.configuration.Outcome.TheVariants.{Nothing, Picked, Kept}
 use Rattle.seg_memo.specs.declared.configuration.LookUp.TheVariants.{Ends, Leads}
 use Rattle.seg_memo.specs.declared.configuration.Cell.{Cell}
 use Rattle.seg_memo.specs.declared.configuration.Cell.TheVariants.{Unknown, First, Way, KnownNothing, KnownKept}
-use Rattle.seg_memo.specs.Configurations.{Subject, configuration, start_at, following, look_ups, all_look_ups, entered, outcome_at, look_up}
-use Rattle.seg_memo.specs.Grids.{Grid, AreFilled, IsFit, IsMemo, IsOn, IsRight, IsScanned, IsSound, IsRightFrom, IsWay, IsConfigurationOf, IsUnderWay, Went, cell, with_cell, has_number, holding, is_filled, is_filled_at, filled_count, known, number, came_from, way_from}
+use Rattle.seg_memo.specs.Configurations.{Subject, condition_held, configuration, following, look_ups, all_look_ups, entered, outcome_at, look_up}
+use Rattle.seg_memo.specs.Grids.{Grid, AreFilled, IsFit, IsNamed, IsOn, IsPlainRight, IsRight, IsSound, IsRightFrom, IsWalked, IsWay, IsConfigurationOf, IsUnderWay, Went, cell, with_cell, has_number, holding, is_filled, is_filled_at, filled_count, known, number, came_from, way_from}
 use Rattle.seg_memo.proofs.Numbers.{number-in, number-same}
-use Rattle.seg_memo.proofs.Following.{ends, few, fewer, leads, look-ups-leads, outcome-leads, picked-past, same-picked}
-use Rattle.seg_memo.proofs.Counts.{AreWithin, count-bound, fills-other, fills-same, filled-mark, filled-stays, has-cons, has-nil, on-has, or-cases, stays-filled}
-use Rattle.seg_memo.proofs.Scanning.{all-part, all-within, start-within}
+use Rattle.seg_memo.proofs.Following.{ends, few, fewer, leads, look-ups-leads, look-up-held, look-up-leads, look-up-none, outcome-leads}
+use Rattle.seg_memo.proofs.Counts.{AreWithin, count-bound, fills-other, fills-same, filled-mark, filled-stays, has-append, has-cons, has-nil, on-append, on-has, or-cases, or-right, stays-filled}
+use Rattle.seg_memo.proofs.Scanning.{all-part, all-within}
 
 -- cells
 
-right-known : (s : Subject) (c : Configuration) (x : Cell) (o : Outcome) → IsRight s c x → known x ≡ Some o → o ≡ outcome_at s c
+pub right-known : (s : Subject) (c : Configuration) (x : Cell) (o : Outcome) → IsRight s c x → known x ≡ Some o → o ≡ outcome_at s c
 right-known s c Unknown o right is = cc
 right-known s c First o right is = cc
 right-known s c (Way state kept stays) o right is = cc
@@ -40,7 +43,7 @@ known-filled (Way state kept stays) o is = refl
 known-filled KnownNothing o is = refl
 known-filled (KnownKept lookahead status) o is = refl
 
-right-holding : (s : Subject) (c : Configuration) (o : Outcome) (x : Cell) → o ≡ outcome_at s c → holding o ≡ Some x → IsRight s c x
+pub right-holding : (s : Subject) (c : Configuration) (o : Outcome) (x : Cell) → o ≡ outcome_at s c → holding o ≡ Some x → IsRight s c x
 right-holding s c Nothing x is holds = let same : KnownNothing ≡ x = cc in subst (IsRight s c) same is
 right-holding s c (Picked found) x is holds = cc
 right-holding s c (Kept lookahead status) x is holds = let same : KnownKept lookahead status ≡ x = cc in subst (IsRight s c) same is
@@ -49,19 +52,6 @@ holding-filled : (o : Outcome) (x : Cell) → holding o ≡ Some x → is_filled
 holding-filled Nothing x holds = let same : KnownNothing ≡ x = cc in ap is_filled (sym same)
 holding-filled (Picked found) x holds = cc
 holding-filled (Kept lookahead status) x holds = let same : KnownKept lookahead status ≡ x = cc in ap is_filled (sym same)
-
--- a cell holds just what is no segment's end
-holding-open : (o : Outcome) (x : Cell) (found : Boundary) → holding o ≡ Some x → o ≡ Picked found → ⊥
-holding-open Nothing x found holds is = cc
-holding-open (Picked later) x found holds is = cc
-holding-open (Kept lookahead status) x found holds is = cc
-
-known-open : (x : Cell) (o : Outcome) (found : Boundary) → known x ≡ Some o → o ≡ Picked found → ⊥
-known-open Unknown o found is picks = cc
-known-open First o found is picks = cc
-known-open (Way state kept stays) o found is picks = cc
-known-open KnownNothing o found is picks = cc
-known-open (KnownKept lookahead status) o found is picks = cc
 
 -- a write changes one cell
 
@@ -82,7 +72,7 @@ table-mark s g place path c x table inside = record {
       subst (IsRight s d) (sym (other-cell s g c d x inside within (λ is. off (inl is)))) (table.right some d past within (λ on. off (inr on)));
 }
 
-table-fill : (s : Subject) (g : Grid) (place : ℕ) (path : List Configuration) (c : Configuration) (x : Cell) → IsRightFrom s g place (c ∷ path) → IsConfigurationOf s c → IsRight s c x
+pub table-fill : (s : Subject) (g : Grid) (place : ℕ) (path : List Configuration) (c : Configuration) (x : Cell) → IsRightFrom s g place (c ∷ path) → IsConfigurationOf s c → IsRight s c x
     → IsRightFrom s (with_cell s g c x) place path
 table-fill s g place path c x table inside right = record {
   fit = fit-write s g c x table.fit;
@@ -113,7 +103,7 @@ filling-mark s g starts found c x are fit inside full i =
           ∙ ap (λ (b : Bool). (b || has_number s i found) || has_number s i (all_look_ups s starts)) (ne_eqb (number s c) i (λ is. other (sym is))))
     ]
 
-filling-stays : (s : Subject) (g : Grid) (starts : List ℕ) (found : List Configuration) (c : Configuration) (x : Cell)
+pub filling-stays : (s : Subject) (g : Grid) (starts : List ℕ) (found : List Configuration) (c : Configuration) (x : Cell)
     → AreFilled s g starts found → IsFit s g → IsConfigurationOf s c → is_filled (cell s g c) ≡ true → is_filled x ≡ true → AreFilled s (with_cell s g c x) starts found
 filling-stays s g starts found c x are fit inside was full i = stays-filled g.cells (number s c) i x (number-in s g c fit inside) was full ∙ are i
 
@@ -208,61 +198,102 @@ way-covers s g first here (before ∷ path) i sound way =
     ∙ or-swap (has_number s i path) (number s before == i) (has_number s i (look_ups s here))
     ∙ sym (ap (λ (b : Bool). b || has_number s i (look_ups s here)) (has-cons s i before path))
 
--- the scan goes on
+-- a scan that keeps a lookahead goes on
 
-pub walk-start : (s : Subject) (g : Grid) (place : ℕ) → IsMemo s g place → place < length s.symbols → cell s g (start_at place) ≡ Unknown → IsUnderWay s (with_cell s g (start_at place) First) place (start_at place)
-walk-start s g place memo some unknown =
-    let inside = start-within s place memo.table.fit.sound memo.within in
+pub keep-some : (kept lookahead : ℕ) → 0 < keep kept (Some lookahead)
+keep-some kept lookahead =
+    elim (cases_eq (bit_or kept (2 ^ lookahead)) 0) [
+      | inl none ↦
+          absurd (false≢true (sym (has-none lookahead) ∙ ap (λ (k : ℕ). has k lookahead) (sym none) ∙ has-keep kept lookahead lookahead
+          ∙ or-right (has kept lookahead) (lookahead == lookahead) (eq-eqb lookahead lookahead refl)))
+      | inr some ↦ omega (arith, some)
+    ]
+
+keep-more : (kept : ℕ) (name : Option ℕ) → 0 < kept → 0 < keep kept name
+keep-more kept None some = some
+keep-more kept (Some lookahead) some = keep-some kept lookahead
+
+-- a write leaves the cells where no lookahead is kept
+pub plain-write : (s : Subject) (g : Grid) (last : Option Boundary) (first c : Configuration) (x : Cell) → IsConfigurationOf s c → 0 < c.kept → IsPlainRight s g last first
+    → IsPlainRight s (with_cell s g c x) last first
+plain-write s g last first c x inside kept plain b is less none d from within unkept =
+    subst (IsRight s d) (sym (other-cell s g c d x inside within (λ same. let e : d.kept ≡ c.kept = ap (λ (y : Configuration). y.kept) same in omega (arith, e, unkept, kept))))
+    (plain b is less none d from within unkept)
+
+pub walk-start : (s : Subject) (g : Grid) (start : ℕ) (last : Option Boundary) (first : Configuration) → IsNamed s g start last first → cell s g first ≡ Unknown
+    → IsUnderWay s (with_cell s g first First) start last first first
+walk-start s g start last first w unknown =
+    let inside = w.comes.within in
     record {
-      starts = memo.starts;
-      are = memo.are;
-      some = some;
+      starts = w.starts;
+      passed = w.passed;
+      comes = w.comes;
       path = [];
-      way = (refl, inside, same-cell s g (start_at place) First memo.table.fit inside);
-      table = table-mark s g place [] (start_at place) First memo.table inside;
-      filling = filling-mark s g memo.starts [] (start_at place) First memo.filling memo.table.fit inside refl;
+      way = (refl, inside, same-cell s g first First w.table.fit inside);
+      keeping = λ d on. elim on [ inl is ↦ subst (λ (c : Configuration). 0 < c.kept) (sym is) w.comes.kept | inr none ↦ absurd none ];
+      table = table-mark s g start w.passed first First w.table inside;
+      plain = plain-write s g last first first First inside w.comes.kept w.plain;
+      filling = filling-mark s g w.starts w.passed first First w.filling w.table.fit inside refl;
     }
 
-pub count-start : (s : Subject) (g : Grid) (place counted : ℕ) → IsMemo s g place → cell s g (start_at place) ≡ Unknown → counted ≡ filled_count g.cells
-    → counted + 1 ≡ filled_count (with_cell s g (start_at place) First).cells
-count-start s g place counted memo unknown count =
-    let inside = start-within s place memo.table.fit.sound memo.within in
-    let more = filled-mark g.cells (number s (start_at place)) First (number-in s g (start_at place) memo.table.fit inside) (ap is_filled unknown) refl in
-    omega (arith, count, more)
+pub next-keeps : (s : Subject) (g : Grid) (start : ℕ) (last : Option Boundary) (first here next : Configuration) → IsUnderWay s g start last first here → look_up s here ≡ Leads next → 0 < next.kept
+next-keeps s g start last first here next w is =
+    let f = leads s here next w.table.fit.sound (way-inside s g first here w.path w.way) is in
+    subst (λ (k : ℕ). 0 < k) (sym f.kept) (keep-more here.kept (state_at s.machine next.state).1 (w.keeping here (inl refl)))
 
-next-right : (s : Subject) (g : Grid) (place : ℕ) (here next : Configuration) → IsUnderWay s g place here → look_up s here ≡ Leads next → IsConfigurationOf s next → IsRight s next (cell s g next)
-next-right s g place here next w is inside =
-    let here-inside = way-inside s g (start_at place) here w.path w.way in
-    let past = way-past s g (start_at place) here w.path w.table.fit.sound w.way in
-    let on : next.place ≡ min (suc here.place) (length s.symbols) = (leads s here next w.table.fit.sound here-inside is).place in
-    w.table.right w.some next (omega (arith, past, here-inside.place, on)) inside (next-off-way s g (start_at place) here next w.path w.table.fit.sound w.way is)
+next-off : (s : Subject) (g : Grid) (start : ℕ) (last : Option Boundary) (first here next : Configuration) → (w : IsUnderWay s g start last first here) → look_up s here ≡ Leads next
+    → IsOn next (here ∷ (w.path ++ w.passed)) → ⊥
+next-off s g start last first here next w is on =
+    elim (on-append next (here ∷ w.path) w.passed on) [
+      | inl path ↦ next-off-way s g first here next w.path w.table.fit.sound w.way is path
+      | inr before ↦ let some = next-keeps s g start last first here next w is in omega (arith, some, w.comes.free next before)
+    ]
 
-next-unknown : (s : Subject) (g : Grid) (place : ℕ) (here next : Configuration) → IsUnderWay s g place here → look_up s here ≡ Leads next → IsConfigurationOf s next → known (cell s g next) ≡ None
-    → cell s g next ≡ Unknown
-next-unknown s g place here next w leads inside none = right-unknown s next (cell s g next) (next-right s g place here next w leads inside) none
+pub next-past : (s : Subject) (g : Grid) (start : ℕ) (last : Option Boundary) (first here next : Configuration) → IsUnderWay s g start last first here → look_up s here ≡ Leads next → first.place ≤ next.place
+next-past s g start last first here next w is =
+    let inside = way-inside s g first here w.path w.way in
+    let past = way-past s g first here w.path w.table.fit.sound w.way in
+    let on : next.place ≡ min (suc here.place) (length s.symbols) = (leads s here next w.table.fit.sound inside is).place in
+    omega (arith, past, inside.place, on)
 
-pub walk-next : (s : Subject) (g : Grid) (place : ℕ) (here next : Configuration) → IsUnderWay s g place here → look_up s here ≡ Leads next → IsConfigurationOf s next → known (cell s g next) ≡ None
-    → IsUnderWay s (with_cell s g next (way_from here next)) place next
-walk-next s g place here next w leads inside none = record {
+next-right : (s : Subject) (g : Grid) (start : ℕ) (last : Option Boundary) (first here next : Configuration) → IsUnderWay s g start last first here → look_up s here ≡ Leads next → IsConfigurationOf s next
+    → IsRight s next (cell s g next)
+next-right s g start last first here next w is inside =
+    let past = next-past s g start last first here next w is in
+    w.table.right w.comes.some next (omega (arith, past, w.comes.past)) inside (next-off s g start last first here next w is)
+
+next-unknown : (s : Subject) (g : Grid) (start : ℕ) (last : Option Boundary) (first here next : Configuration) → IsUnderWay s g start last first here → look_up s here ≡ Leads next → IsConfigurationOf s next
+    → known (cell s g next) ≡ None → cell s g next ≡ Unknown
+next-unknown s g start last first here next w leads inside none = right-unknown s next (cell s g next) (next-right s g start last first here next w leads inside) none
+
+pub walk-next : (s : Subject) (g : Grid) (start : ℕ) (last : Option Boundary) (first here next : Configuration) → IsUnderWay s g start last first here → look_up s here ≡ Leads next → IsConfigurationOf s next
+    → IsUnderWay s (with_cell s g next (way_from here next)) start last first next
+walk-next s g start last first here next w leads inside = record {
   starts = w.starts;
-  are = w.are;
-  some = w.some;
+  passed = w.passed;
+  comes = w.comes;
   path = here ∷ w.path;
   way = (
     leads,
     inside,
     same-cell s g next (way_from here next) w.table.fit inside,
-    way-write s g (start_at place) here w.path next (way_from here next) w.way inside (next-off-way s g (start_at place) here next w.path w.table.fit.sound w.way leads),
+    way-write s g first here w.path next (way_from here next) w.way inside (next-off-way s g first here next w.path w.table.fit.sound w.way leads),
   );
-  table = table-mark s g place (here ∷ w.path) next (way_from here next) w.table inside;
-  filling = filling-mark s g w.starts (here ∷ w.path) next (way_from here next) w.filling w.table.fit inside refl;
+  keeping = λ d on.
+      elim on [
+        | inl is ↦ subst (λ (c : Configuration). 0 < c.kept) (sym is) (next-keeps s g start last first here next w leads)
+        | inr rest ↦ w.keeping d rest
+      ];
+  table = table-mark s g start (here ∷ (w.path ++ w.passed)) next (way_from here next) w.table inside;
+  plain = plain-write s g last first next (way_from here next) inside (next-keeps s g start last first here next w leads) w.plain;
+  filling = filling-mark s g w.starts (here ∷ (w.path ++ w.passed)) next (way_from here next) w.filling w.table.fit inside refl;
 }
 
-pub count-next : (s : Subject) (g : Grid) (place counted after : ℕ) (here next : Configuration) → IsUnderWay s g place here → look_up s here ≡ Leads next → IsConfigurationOf s next
-    → known (cell s g next) ≡ None → counted + 1 ≡ filled_count g.cells → after ≡ counted + 1 → after + 1 ≡ filled_count (with_cell s g next (way_from here next)).cells
-count-next s g place counted after here next w leads inside none count read =
-    let more = filled-mark g.cells (number s next) (way_from here next) (number-in s g next w.table.fit inside) (ap is_filled (next-unknown s g place here next w leads inside none)) refl in
-    omega (arith, count, read, more)
+pub count-next : (s : Subject) (g : Grid) (start : ℕ) (last : Option Boundary) (counted : ℕ) (first here next : Configuration) → IsUnderWay s g start last first here → look_up s here ≡ Leads next
+    → IsConfigurationOf s next → known (cell s g next) ≡ None → counted ≡ filled_count g.cells → counted + 1 ≡ filled_count (with_cell s g next (way_from here next)).cells
+count-next s g start last counted first here next w leads inside none count =
+    let more = filled-mark g.cells (number s next) (way_from here next) (number-in s g next w.table.fit inside) (ap is_filled (next-unknown s g start last first here next w leads inside none)) refl in
+    omega (arith, count, more)
 
 -- the scan's last look-up
 
@@ -272,26 +303,38 @@ or-move true false = refl
 or-move false true = refl
 or-move false false = refl
 
-pub walk-ends : (s : Subject) (g : Grid) (place : ℕ) (here : Configuration) (o : Outcome) → IsUnderWay s g place here → look_up s here ≡ Ends o → Went s g place here o
-walk-ends s g place here o w is =
-    let inside = way-inside s g (start_at place) here w.path w.way in
-    let last = ends s here o w.table.fit.sound inside is in
+-- what was looked up, by what is looked up from the last on
+went-filling : (s : Subject) (g : Grid) (first here : Configuration) (path passed : List Configuration) (starts : List ℕ) → AreFilled s g starts (here ∷ (path ++ passed))
+    → ((i : ℕ) → ((has_number s i (here ∷ path) || has_number s i passed) || has_number s i (all_look_ups s starts)) ≡ ((has_number s i (look_ups s first) || has_number s i passed) || has_number s i (all_look_ups s starts)))
+    → AreFilled s g starts (look_ups s first ++ passed)
+went-filling s g first here path passed starts filling same i =
+    filling i
+    ∙ ap (λ (b : Bool). b || has_number s i (all_look_ups s starts)) (has-append s i (here ∷ path) passed)
+    ∙ same i
+    ∙ ap (λ (b : Bool). b || has_number s i (all_look_ups s starts)) (sym (has-append s i (look_ups s first) passed))
+
+pub walk-ends : (s : Subject) (g : Grid) (start : ℕ) (last : Option Boundary) (first here : Configuration) (o : Outcome) → IsUnderWay s g start last first here → look_up s here ≡ Ends o
+    → Went s g start last first here o
+walk-ends s g start last first here o w is =
+    let inside = way-inside s g first here w.path w.way in
+    let ended = ends s here o w.table.fit.sound inside is in
     record {
       starts = w.starts;
-      are = w.are;
-      some = w.some;
+      passed = w.passed;
+      comes = w.comes;
       path = w.path;
       way = w.way;
+      keeping = w.keeping;
       table = w.table;
-      filling = λ i.
-          w.filling i
-          ∙ ap (λ (b : Bool). b || has_number s i (all_look_ups s w.starts))
+      plain = w.plain;
+      filling = went-filling s g first here w.path w.passed w.starts w.filling (λ i.
+          ap (λ (b : Bool). (b || has_number s i w.passed) || has_number s i (all_look_ups s w.starts))
           (has-cons s i here w.path ∙ or-move (number s here == i) (has_number s i w.path)
           ∙ ap (λ (b : Bool). has_number s i w.path || ((number s here == i) || b)) (sym (has-nil s i))
           ∙ ap (λ (b : Bool). has_number s i w.path || b) (sym (has-cons s i here []))
-          ∙ ap (λ (cs : List Configuration). has_number s i w.path || has_number s i cs) (sym last.alone)
-          ∙ sym (way-covers s g (start_at place) here w.path i w.table.fit.sound w.way));
-      is = sym last.outcome_is;
+          ∙ ap (λ (cs : List Configuration). has_number s i w.path || has_number s i cs) (sym ended.alone)
+          ∙ sym (way-covers s g first here w.path i w.table.fit.sound w.way)));
+      is = sym ended.outcome_is;
     }
 
 -- one that was looked up before
@@ -302,75 +345,156 @@ or-part false true c p part = refl
 or-part false false false p part = refl
 or-part false false true p part = part refl
 
-next-before : (s : Subject) (g : Grid) (place : ℕ) (here next : Configuration) (o : Outcome) → (w : IsUnderWay s g place here) → look_up s here ≡ Leads next → IsConfigurationOf s next
-    → known (cell s g next) ≡ Some o → IsOn next (all_look_ups s w.starts)
-next-before s g place here next o w leads inside is =
-    elim (or-cases (has_number s (number s next) (here ∷ w.path)) (has_number s (number s next) (all_look_ups s w.starts)) (sym (w.filling (number s next)) ∙ known-filled (cell s g next) o is)) [
+or-past : (a b c q p : Bool) → (c ≡ true → p ≡ true) → (((a || b) || q) || p) ≡ (((b || (a || c)) || q) || p)
+or-past true true c q p part = refl
+or-past true false c q p part = refl
+or-past false true c q p part = refl
+or-past false false false q p part = refl
+or-past false false true true p part = refl
+or-past false false true false p part = part refl
+
+next-before : (s : Subject) (g : Grid) (start : ℕ) (last : Option Boundary) (first here next : Configuration) (o : Outcome) → (w : IsUnderWay s g start last first here) → look_up s here ≡ Leads next
+    → IsConfigurationOf s next → known (cell s g next) ≡ Some o → IsOn next (all_look_ups s w.starts)
+next-before s g start last first here next o w leads inside is =
+    elim (or-cases (has_number s (number s next) (here ∷ (w.path ++ w.passed))) (has_number s (number s next) (all_look_ups s w.starts)) (sym (w.filling (number s next)) ∙ known-filled (cell s g next) o is)) [
       | inl path ↦
-          absurd (next-off-way s g (start_at place) here next w.path w.table.fit.sound w.way leads
-          (on-has s next (here ∷ w.path) inside (way-within s g (start_at place) here w.path w.way) path))
-      | inr past ↦ on-has s next (all_look_ups s w.starts) inside (all-within s w.starts place w.table.fit.sound w.are (omega (arith, w.some))) past
+          absurd (next-off s g start last first here next w leads
+          (on-has s next (here ∷ (w.path ++ w.passed)) inside
+          (λ d on. elim (on-append d (here ∷ w.path) w.passed on) [ inl way ↦ way-within s g first here w.path w.way d way | inr before ↦ w.comes.all_within d before ]) path))
+      | inr past ↦ on-has s next (all_look_ups s w.starts) inside (all-within s w.starts start w.table.fit.sound w.comes.are (omega (arith, w.comes.some))) past
     ]
 
-pub walk-known : (s : Subject) (g : Grid) (place : ℕ) (here next : Configuration) (o : Outcome) → IsUnderWay s g place here → look_up s here ≡ Leads next → IsConfigurationOf s next
-    → known (cell s g next) ≡ Some o → Went s g place here (entered next.place (state_at s.machine next.state) o)
-walk-known s g place here next o w leads inside is =
-    let here-inside = way-inside s g (start_at place) here w.path w.way in
-    let on = next-before s g place here next o w leads inside is in
+pub walk-known : (s : Subject) (g : Grid) (start : ℕ) (last : Option Boundary) (first here next : Configuration) (o : Outcome) → IsUnderWay s g start last first here → look_up s here ≡ Leads next
+    → IsConfigurationOf s next → known (cell s g next) ≡ Some o → Went s g start last first here (entered next.place (state_at s.machine next.state) o)
+walk-known s g start last first here next o w leads inside is =
+    let here-inside = way-inside s g first here w.path w.way in
+    let on = next-before s g start last first here next o w leads inside is in
     record {
       starts = w.starts;
-      are = w.are;
-      some = w.some;
+      passed = w.passed;
+      comes = w.comes;
       path = w.path;
       way = w.way;
+      keeping = w.keeping;
       table = w.table;
-      filling = λ i.
-          w.filling i
-          ∙ ap (λ (b : Bool). b || has_number s i (all_look_ups s w.starts)) (has-cons s i here w.path)
-          ∙ or-part (number s here == i) (has_number s i w.path) (has_number s i (look_ups s next)) (has_number s i (all_look_ups s w.starts))
-          (all-part s w.starts place next w.table.fit.sound w.are (omega (arith, w.some)) on i)
-          ∙ ap (λ (b : Bool). b || has_number s i (all_look_ups s w.starts))
+      plain = w.plain;
+      filling = went-filling s g first here w.path w.passed w.starts w.filling (λ i.
+          ap (λ (b : Bool). (b || has_number s i w.passed) || has_number s i (all_look_ups s w.starts)) (has-cons s i here w.path)
+          ∙ or-past (number s here == i) (has_number s i w.path) (has_number s i (look_ups s next)) (has_number s i w.passed) (has_number s i (all_look_ups s w.starts))
+          (all-part s w.starts start next w.table.fit.sound w.comes.are (omega (arith, w.comes.some)) on i)
+          ∙ ap (λ (b : Bool). (b || has_number s i w.passed) || has_number s i (all_look_ups s w.starts))
           (ap (λ (b : Bool). has_number s i w.path || b) (sym (has-cons s i here (look_ups s next)))
           ∙ ap (λ (cs : List Configuration). has_number s i w.path || has_number s i cs) (sym (look-ups-leads s here next w.table.fit.sound here-inside leads))
-          ∙ sym (way-covers s g (start_at place) here w.path i w.table.fit.sound w.way));
-      is = ap (entered next.place (state_at s.machine next.state)) (right-known s next (cell s g next) o (next-right s g place here next w leads inside) is)
+          ∙ sym (way-covers s g first here w.path i w.table.fit.sound w.way)));
+      is = ap (entered next.place (state_at s.machine next.state)) (right-known s next (cell s g next) o (next-right s g start last first here next w leads inside) is)
           ∙ sym (outcome-leads s here next w.table.fit.sound here-inside leads);
     }
 
--- a scan whose beginning was looked up before
-pub scan-known : (s : Subject) (g : Grid) (place : ℕ) (o : Outcome) → IsMemo s g place → place < length s.symbols → known (cell s g (start_at place)) ≡ Some o → IsScanned s g place o
-scan-known s g place o memo some is =
-    let inside = start-within s place memo.table.fit.sound memo.within in
-    let has : has_number s (number s (start_at place)) (all_look_ups s memo.starts) ≡ true =
-    sym (ap (λ (b : Bool). b || has_number s (number s (start_at place)) (all_look_ups s memo.starts)) (has-nil s (number s (start_at place))))
-    ∙ sym (memo.filling (number s (start_at place))) ∙ known-filled (cell s g (start_at place)) o is in
-    let on = on-has s (start_at place) (all_look_ups s memo.starts) inside (all-within s memo.starts place memo.table.fit.sound memo.are memo.within) has in
+-- the configuration that names the first lookahead
+
+first-off : (s : Subject) (g : Grid) (start : ℕ) (last : Option Boundary) (first : Configuration) → (w : IsNamed s g start last first) → IsOn first w.passed → ⊥
+first-off s g start last first w on = omega (arith, w.comes.free first on, w.comes.kept)
+
+first-right : (s : Subject) (g : Grid) (start : ℕ) (last : Option Boundary) (first : Configuration) → IsNamed s g start last first → IsRight s first (cell s g first)
+first-right s g start last first w = w.table.right w.comes.some first (omega (arith, w.comes.past)) w.comes.within (first-off s g start last first w)
+
+pub first-unknown : (s : Subject) (g : Grid) (start : ℕ) (last : Option Boundary) (first : Configuration) → IsNamed s g start last first → known (cell s g first) ≡ None → cell s g first ≡ Unknown
+first-unknown s g start last first w none = right-unknown s first (cell s g first) (first-right s g start last first w) none
+
+or-known : (c q p : Bool) → (c ≡ true → p ≡ true) → (q || p) ≡ ((c || q) || p)
+or-known false q p part = refl
+or-known true true p part = refl
+or-known true false p part = part refl
+
+-- it was looked up before
+pub first-known : (s : Subject) (g : Grid) (start : ℕ) (last : Option Boundary) (first : Configuration) (o : Outcome) → IsNamed s g start last first → known (cell s g first) ≡ Some o
+    → IsWalked s g start last first o
+first-known s g start last first o w is =
+    let inside = w.comes.within in
+    let most : start ≤ length s.symbols = omega (arith, w.comes.some) in
+    let on : IsOn first (all_look_ups s w.starts) =
+    elim (or-cases (has_number s (number s first) w.passed) (has_number s (number s first) (all_look_ups s w.starts)) (sym (w.filling (number s first)) ∙ known-filled (cell s g first) o is)) [
+      | inl before ↦ absurd (first-off s g start last first w (on-has s first w.passed inside w.comes.all_within before))
+      | inr past ↦ on-has s first (all_look_ups s w.starts) inside (all-within s w.starts start w.table.fit.sound w.comes.are most) past
+    ] in
     record {
-      starts = memo.starts;
-      are = memo.are;
-      within = memo.within;
-      fit = memo.table.fit;
-      table = λ found picks. absurd (known-open (cell s g (start_at place)) o found is picks);
+      starts = w.starts;
+      passed = w.passed;
+      comes = w.comes;
+      path = [];
+      ends = λ d none. absurd none;
+      table = w.table;
+      plain = w.plain;
       filling = λ i.
-          memo.filling i ∙ ap (λ (b : Bool). b || has_number s i (all_look_ups s memo.starts)) (has-nil s i)
-          ∙ or-part false false (has_number s i (look_ups s (start_at place))) (has_number s i (all_look_ups s memo.starts)) (all-part s memo.starts place (start_at place) memo.table.fit.sound memo.are memo.within on i);
-      is = right-known s (start_at place) (cell s g (start_at place)) o (memo.table.right some (start_at place) (omega arith) inside (λ on. on)) is;
+          w.filling i
+          ∙ or-known (has_number s i (look_ups s first)) (has_number s i w.passed) (has_number s i (all_look_ups s w.starts)) (all-part s w.starts start first w.table.fit.sound w.comes.are most on i)
+          ∙ ap (λ (b : Bool). b || has_number s i (all_look_ups s w.starts)) (sym (has-append s i (look_ups s first) w.passed));
+      is = right-known s first (cell s g first) o (first-right s g start last first w) is;
     }
+
+pub table-with : (s : Subject) (g : Grid) (place : ℕ) (path : List Configuration) (c : Configuration) → IsRightFrom s g place path → IsRightFrom s g place (c ∷ path)
+table-with s g place path c table = record { fit = table.fit; right = λ some d past within off. table.right some d past within (λ on. off (inr on)) }
+
+or-false : (a : Bool) → a ≡ (a || false)
+or-false true = refl
+or-false false = refl
+
+-- its look-up ends the scan
+pub first-ends : (s : Subject) (g : Grid) (start : ℕ) (last : Option Boundary) (first : Configuration) (o : Outcome) (x : Cell) → IsNamed s g start last first → look_up s first ≡ Ends o → holding o ≡ Some x
+    → IsWalked s (with_cell s g first x) start last first o
+first-ends s g start last first o x w is holds =
+    let inside = w.comes.within in
+    let ended = ends s first o w.table.fit.sound inside is in
+    record {
+      starts = w.starts;
+      passed = w.passed;
+      comes = w.comes;
+      path = [];
+      ends = λ d none. absurd none;
+      table = table-fill s g start w.passed first x (table-with s g start w.passed first w.table) inside (right-holding s first o x (sym ended.outcome_is) holds);
+      plain = plain-write s g last first first x inside w.comes.kept w.plain;
+      filling = λ i.
+          filling-mark s g w.starts w.passed first x w.filling w.table.fit inside (holding-filled o x holds) i
+          ∙ ap (λ (b : Bool). b || has_number s i (all_look_ups s w.starts))
+          (has-cons s i first w.passed
+          ∙ ap (λ (b : Bool). b || has_number s i w.passed)
+          (or-false (number s first == i)
+          ∙ ap (λ (b : Bool). (number s first == i) || b) (sym (has-nil s i))
+          ∙ sym (has-cons s i first [])
+          ∙ ap (has_number s i) (sym ended.alone))
+          ∙ sym (has-append s i (look_ups s first) w.passed));
+      is = sym ended.outcome_is;
+    }
+
+-- it picks nothing then
+pub ends-open : (s : Subject) (c : Configuration) (found : Boundary) → look_up s c ≡ Ends (Picked found) → ⊥
+ends-open s c found is = on (step s.machine c.state (slice_index_or s.symbols c.place 0)) refl
+  where
+    over : (next : ℕ) → step s.machine c.state (slice_index_or s.symbols c.place 0) ≡ Some next → (held : Option (ℕ × ℕ)) → condition_held c.kept (state_at s.machine next) ≡ held → ⊥
+    over next some None free = let never = sym (look-up-leads s c next some free) ∙ is in cc
+    over next some (Some f) holds = let never = sym (look-up-held s c next f some holds) ∙ is in cc
+
+    on : (found : Option ℕ) → step s.machine c.state (slice_index_or s.symbols c.place 0) ≡ found → ⊥
+    on None none = let never = sym (look-up-none s c none) ∙ is in cc
+    on (Some next) some = over next some (condition_held c.kept (state_at s.machine next)) refl
 
 -- and back
 
-pub back-inside : (s : Subject) (g : Grid) (place : ℕ) (here : Configuration) (o : Outcome) → Went s g place here o → IsConfigurationOf s here
-back-inside s g place here o w = way-inside s g (start_at place) here w.path w.way
+pub back-inside : (s : Subject) (g : Grid) (start : ℕ) (last : Option Boundary) (first here : Configuration) (o : Outcome) → Went s g start last first here o → IsConfigurationOf s here
+back-inside s g start last first here o w = way-inside s g first here w.path w.way
 
-pub back-filled : (s : Subject) (g : Grid) (place : ℕ) (here : Configuration) (o : Outcome) (x : Cell) → Went s g place here o → holding o ≡ Some x
+pub back-past : (s : Subject) (g : Grid) (start : ℕ) (last : Option Boundary) (first here : Configuration) (o : Outcome) → Went s g start last first here o → first.place ≤ here.place
+back-past s g start last first here o w = way-past s g first here w.path w.table.fit.sound w.way
+
+pub back-filled : (s : Subject) (g : Grid) (start : ℕ) (last : Option Boundary) (first here : Configuration) (o : Outcome) (x : Cell) → Went s g start last first here o → holding o ≡ Some x
     → filled_count (with_cell s g here x).cells ≡ filled_count g.cells
-back-filled s g place here o x w holds =
-    filled-stays g.cells (number s here) x (number-in s g here w.table.fit (back-inside s g place here o w)) (way-filled s g (start_at place) here w.path w.way) (holding-filled o x holds)
+back-filled s g start last first here o x w holds =
+    filled-stays g.cells (number s here) x (number-in s g here w.table.fit (way-inside s g first here w.path w.way)) (way-filled s g first here w.path w.way) (holding-filled o x holds)
 
-back-filling : (s : Subject) (g : Grid) (place : ℕ) (here : Configuration) (o : Outcome) (x : Cell) → (w : Went s g place here o) → holding o ≡ Some x
-    → AreFilled s (with_cell s g here x) w.starts (look_ups s (start_at place))
-back-filling s g place here o x w holds =
-    filling-stays s g w.starts (look_ups s (start_at place)) here x w.filling w.table.fit (back-inside s g place here o w) (way-filled s g (start_at place) here w.path w.way) (holding-filled o x holds)
+back-filling : (s : Subject) (g : Grid) (start : ℕ) (last : Option Boundary) (first here : Configuration) (o : Outcome) (x : Cell) → (w : Went s g start last first here o) → holding o ≡ Some x
+    → AreFilled s (with_cell s g here x) w.starts (look_ups s first ++ w.passed)
+back-filling s g start last first here o x w holds =
+    filling-stays s g w.starts (look_ups s first ++ w.passed) here x w.filling w.table.fit (way-inside s g first here w.path w.way) (way-filled s g first here w.path w.way) (holding-filled o x holds)
 
 same-configuration : (c d : Configuration) → c.state ≡ d.state → c.place ≡ d.place → c.kept ≡ d.kept → c ≡ d
 same-configuration c d s p k =
@@ -393,97 +517,91 @@ way-same s before here state kept stays sound inside is way =
     let same : (here.place == before.place) ≡ stays = cc in
     same-configuration before (came_from here state kept stays) states (place-before before.place here.place (length s.symbols) stays inside.place (leads s before here sound inside is).place same) sets
 
--- a place that doesn't stay is one after another
-pub back-room : (s : Subject) (g : Grid) (place : ℕ) (here : Configuration) (o : Outcome) (state kept : ℕ) (stays : Bool) → Went s g place here o → cell s g here ≡ Way state kept stays → 0 < here.place
-back-room s g place here o state kept stays w is = on w.path w.way
-  where
-    on : (path : List Configuration) → IsWay s g (start_at place) here path → 0 < here.place
-    on [] way = let never : First ≡ Way state kept stays = sym way.2 ∙ is in cc
-    on (before ∷ path) way =
-        let inside = way-inside s g (start_at place) before path way.3 in
-        let after : here.place ≡ min (suc before.place) (length s.symbols) = (leads s before here w.table.fit.sound inside way.0).place in
-        omega (arith, w.some, after)
+pub back-room : (s : Subject) (g : Grid) (start : ℕ) (last : Option Boundary) (first here : Configuration) (o : Outcome) → Went s g start last first here o → 0 < here.place
+back-room s g start last first here o w = let past = back-past s g start last first here o w in omega (arith, past, w.comes.past)
 
-pub back-next : (s : Subject) (g : Grid) (place : ℕ) (here : Configuration) (o : Outcome) (x : Cell) (state kept : ℕ) (stays : Bool) → Went s g place here o → holding o ≡ Some x
-    → cell s g here ≡ Way state kept stays → Went s (with_cell s g here x) place (came_from here state kept stays) (entered here.place (state_at s.machine here.state) o)
-back-next s g place here o x state kept stays w holds is = on w.path w.way w.table
+pub back-next : (s : Subject) (g : Grid) (start : ℕ) (last : Option Boundary) (first here : Configuration) (o : Outcome) (x : Cell) (state kept : ℕ) (stays : Bool) → Went s g start last first here o
+    → holding o ≡ Some x → cell s g here ≡ Way state kept stays
+    → Went s (with_cell s g here x) start last first (came_from here state kept stays) (entered here.place (state_at s.machine here.state) o)
+back-next s g start last first here o x state kept stays w holds is = on w.path w.way w.table w.keeping
   where
-    on : (path : List Configuration) → IsWay s g (start_at place) here path → IsRightFrom s g place (here ∷ path)
-        → Went s (with_cell s g here x) place (came_from here state kept stays) (entered here.place (state_at s.machine here.state) o)
-    on [] way table = let never : First ≡ Way state kept stays = sym way.2 ∙ is in cc
-    on (before ∷ path) way table =
-        let inside = way-inside s g (start_at place) before path way.3 in
+    on : (path : List Configuration) → IsWay s g first here path → IsRightFrom s g start (here ∷ (path ++ w.passed)) → ((d : Configuration) → IsOn d (here ∷ path) → 0 < d.kept)
+        → Went s (with_cell s g here x) start last first (came_from here state kept stays) (entered here.place (state_at s.machine here.state) o)
+    on [] way table keeping = let never : First ≡ Way state kept stays = sym way.2 ∙ is in cc
+    on (before ∷ path) way table keeping =
+        let inside = way-inside s g first before path way.3 in
         let one : before ≡ came_from here state kept stays = way-same s before here state kept stays w.table.fit.sound inside way.0 (sym way.2 ∙ is) in
-        subst (λ (c : Configuration). Went s (with_cell s g here x) place c (entered here.place (state_at s.machine here.state) o)) one (record {
+        subst (λ (c : Configuration). Went s (with_cell s g here x) start last first c (entered here.place (state_at s.machine here.state) o)) one (record {
           starts = w.starts;
-          are = w.are;
-          some = w.some;
+          passed = w.passed;
+          comes = w.comes;
           path = path;
-          way = way-write s g (start_at place) before path here x way.3 way.1 (off-way s g (start_at place) here (before ∷ path) w.table.fit.sound way);
-          table = table-fill s g place (before ∷ path) here x table way.1 (right-holding s here o x w.is holds);
-          filling = back-filling s g place here o x w holds;
+          way = way-write s g first before path here x way.3 way.1 (off-way s g first here (before ∷ path) w.table.fit.sound way);
+          keeping = λ d on. keeping d (inr on);
+          table = table-fill s g start (before ∷ (path ++ w.passed)) here x table way.1 (right-holding s here o x w.is holds);
+          plain = plain-write s g last first here x way.1 (keeping here (inl refl)) w.plain;
+          filling = back-filling s g start last first here o x w holds;
           is = ap (entered here.place (state_at s.machine here.state)) w.is ∙ sym (outcome-leads s before here w.table.fit.sound inside way.0);
         })
 
--- at the scan's first configuration
-pub back-first : (s : Subject) (g : Grid) (place : ℕ) (here : Configuration) (o : Outcome) (x : Cell) → Went s g place here o → holding o ≡ Some x
-    → ((state kept : ℕ) (stays : Bool) → cell s g here ≡ Way state kept stays → ⊥) → IsScanned s g place o
-back-first s g place here o x w holds not = on w.path w.way
+-- at the first configuration
+pub back-first : (s : Subject) (g : Grid) (start : ℕ) (last : Option Boundary) (first here : Configuration) (o : Outcome) (x : Cell) → Went s g start last first here o → holding o ≡ Some x
+    → ((state kept : ℕ) (stays : Bool) → cell s g here ≡ Way state kept stays → ⊥) → IsWalked s (with_cell s g here x) start last first o
+back-first s g start last first here o x w holds not = on w.path w.way w.table w.keeping
   where
-    on : (path : List Configuration) → IsWay s g (start_at place) here path → IsScanned s g place o
-    on (before ∷ path) way = absurd (not before.state before.kept (here.place == before.place) way.2)
-    on [] way = record {
+    on : (path : List Configuration) → IsWay s g first here path → IsRightFrom s g start (here ∷ (path ++ w.passed)) → ((d : Configuration) → IsOn d (here ∷ path) → 0 < d.kept)
+        → IsWalked s (with_cell s g here x) start last first o
+    on (before ∷ path) way table keeping = absurd (not before.state before.kept (here.place == before.place) way.2)
+    on [] way table keeping = record {
       starts = w.starts;
-      are = w.are;
-      within = omega (arith, w.some);
-      fit = w.table.fit;
-      table = λ found picks. absurd (holding-open o x found holds picks);
-      filling = w.filling;
+      passed = w.passed;
+      comes = w.comes;
+      path = [];
+      ends = λ d none. absurd none;
+      table = table-fill s g start w.passed here x table way.1 (right-holding s here o x w.is holds);
+      plain = plain-write s g last first here x way.1 (keeping here (inl refl)) w.plain;
+      filling = back-filling s g start last first here o x w holds;
       is = w.is ∙ ap (outcome_at s) way.0;
     }
 
 -- at the segment's end: no later scan comes to what lies further back
-back-picked : (s : Subject) (g : Grid) (place : ℕ) (here : Configuration) (o : Outcome) (found : Boundary) → Went s g place here o → o ≡ Picked found → IsScanned s g place o
-back-picked s g place here o found w picks =
-    let all : (c : Configuration) → IsOn c (here ∷ w.path) → outcome_at s c ≡ Picked found = λ c on. way-picked s g (start_at place) here c w.path found w.table.fit.sound w.way (sym w.is ∙ picks) on in
-    let first : outcome_at s (start_at place) ≡ Picked found = all (start_at place) (way-first s g (start_at place) here w.path w.way) in
+pub back-picked : (s : Subject) (g : Grid) (start : ℕ) (last : Option Boundary) (first here : Configuration) (o : Outcome) (found : Boundary) → Went s g start last first here o → o ≡ Picked found
+    → IsWalked s g start last first o
+back-picked s g start last first here o found w picks =
+    let all : (c : Configuration) → IsOn c (here ∷ w.path) → outcome_at s c ≡ Picked found = λ c on. way-picked s g first here c w.path found w.table.fit.sound w.way (sym w.is ∙ picks) on in
     record {
       starts = w.starts;
-      are = w.are;
-      within = omega (arith, w.some);
-      fit = w.table.fit;
-      table = λ end ends.
-          let same : found ≡ end = same-picked found end (sym picks ∙ ends) in
-          subst (λ (b : Boundary). IsRightFrom s g b.offset []) same (record {
-            fit = w.table.fit;
-            right = λ some c past within off.
-                let begins : place < found.offset = picked-past s (start_at place) found some first in
-                w.table.right w.some c (omega (arith, past, begins)) within (λ in_way. let less = picked-past s c found some (all c in_way) in absurd (omega (arith, less, past)));
-          });
+      passed = w.passed;
+      comes = w.comes;
+      path = here ∷ w.path;
+      ends = λ d on. (found, picks, all d on);
+      table = w.table;
+      plain = w.plain;
       filling = w.filling;
-      is = picks ∙ sym first;
+      is = picks ∙ sym (all first (way-first s g first here w.path w.way));
     }
 
-pub back-end : (s : Subject) (g : Grid) (place : ℕ) (here : Configuration) (o : Outcome) → Went s g place here o → holding o ≡ None → IsScanned s g place o
-back-end s g place here o w none = on o refl
+pub back-end : (s : Subject) (g : Grid) (start : ℕ) (last : Option Boundary) (first here : Configuration) (o : Outcome) → Went s g start last first here o → holding o ≡ None → IsWalked s g start last first o
+back-end s g start last first here o w none = on o refl
   where
-    on : (p : Outcome) → o ≡ p → IsScanned s g place o
+    on : (p : Outcome) → o ≡ p → IsWalked s g start last first o
     on Nothing is = let never : None ≡ Some KnownNothing = sym none ∙ ap holding is in cc
-    on (Picked found) is = back-picked s g place here o found w is
+    on (Picked found) is = back-picked s g start last first here o found w is
     on (Kept lookahead status) is = let never : None ≡ Some (KnownKept lookahead status) = sym none ∙ ap holding is in cc
 
 -- each step back has a state more to come
-pub back-fewer : (s : Subject) (g : Grid) (place : ℕ) (here : Configuration) (o : Outcome) (state kept : ℕ) (stays : Bool) → Went s g place here o → cell s g here ≡ Way state kept stays
+pub back-fewer : (s : Subject) (g : Grid) (start : ℕ) (last : Option Boundary) (first here : Configuration) (o : Outcome) (state kept : ℕ) (stays : Bool) → Went s g start last first here o
+    → cell s g here ≡ Way state kept stays
     → let most = length s.symbols + length s.machine.states in most - length (following s (came_from here state kept stays)) < most - length (following s here)
-back-fewer s g place here o state kept stays w is = on w.path w.way
+back-fewer s g start last first here o state kept stays w is = on w.path w.way
   where
-    on : (path : List Configuration) → IsWay s g (start_at place) here path
+    on : (path : List Configuration) → IsWay s g first here path
         → let most = length s.symbols + length s.machine.states in most - length (following s (came_from here state kept stays)) < most - length (following s here)
     on [] way = let never : First ≡ Way state kept stays = sym way.2 ∙ is in cc
     on (before ∷ path) way =
-        let one : before ≡ came_from here state kept stays = way-same s before here state kept stays w.table.fit.sound (way-inside s g (start_at place) before path way.3) way.0 (sym way.2 ∙ is) in
+        let one : before ≡ came_from here state kept stays = way-same s before here state kept stays w.table.fit.sound (way-inside s g first before path way.3) way.0 (sym way.2 ∙ is) in
         subst (λ (c : Configuration). let most = length s.symbols + length s.machine.states in most - length (following s c) < most - length (following s here)) one
-        (omega (arith, few s before, fewer s before here w.table.fit.sound (way-inside s g (start_at place) before path way.3) way.0))
+        (omega (arith, few s before, fewer s before here w.table.fit.sound (way-inside s g first before path way.3) way.0))
 
 -- the reader's count has room
 pub count-room : (s : Subject) (g : Grid) (counted : ℕ) → IsFit s g → counted + 1 ≡ filled_count g.cells → counted < 18446744073709551615

@@ -1,8 +1,8 @@
 -- The window of the cells that a table holds.
-use Rattle.std.proofs.Common.{◌≡◌, ℕ, ◌+◌, ◌-◌, ◌*◌, ◌^◌, ◌<◌, ◌≤◌, Bool, true, false, List, [], length, get_or, set, refl, sym, ap, ◌∙◌, subst, arith, inl, inr}
+use Rattle.std.proofs.Common.{◌≡◌, ℕ, suc, ◌+◌, ◌-◌, ◌*◌, ◌^◌, ◌<◌, ◌≤◌, Bool, true, false, List, [], length, get_or, set, refl, sym, ap, ◌∙◌, subst, arith, inl, inr}
 use Rattle.std.specs.Prelude.{vec_capacity}
 use Rattle.std.specs.Vec.{with_item}
-use Rattle.std.proofs.lemmas.Bool.{cases_eq}
+use Rattle.std.proofs.lemmas.Bool.{cases_eq, cases_lt, false≢true, le-ltb, lt-ltb}
 use Rattle.std.proofs.lemmas.List.{length-set, get_or-set_same, get_or-set_other, get_or_past, get_or_read}
 use Rattle.std.proofs.lemmas.Nat.{mul-add-lt, mul-le}
 use Rattle.seg_memo.specs.declared.configuration.Configuration.{Configuration}
@@ -10,7 +10,7 @@ use Rattle.seg_memo.specs.declared.configuration.Cell.{Cell}
 use Rattle.seg_memo.specs.declared.configuration.Cell.TheVariants.{Unknown, First, Way, KnownNothing, KnownKept}
 use Rattle.seg_memo.specs.declared.table.Table.{Table}
 use Rattle.seg_memo.specs.Configurations.{Subject, start_at}
-use Rattle.seg_memo.specs.Grids.{Grid, IsConfigurationOf, cell, is_filled, number, with_cell, IsHeld, IsPart}
+use Rattle.seg_memo.specs.Grids.{Grid, IsConfigurationOf, cell, is_filled, number, with_cell, IsHeld, IsLeft, IsPart, late}
 use Rattle.seg_memo.proofs.Numbers.{number-fits, number-in, number-is}
 use Rattle.seg_memo.proofs.Ways.{fit-write}
 
@@ -53,12 +53,12 @@ reached s t place c (lost, whole, w) within past =
     reached-by s t c ((c.place * whole.sets + c.kept) * whole.states + c.state) code is (number-fits s whole c w.fit within) (omega (arith, is, least, begins)) (omega (arith, is, in_whole, room))
 
 -- a cell that is written
-pub window-write : (s : Subject) (t mid : Table) (place : ℕ) (lost : ℕ → Bool) (whole : Grid) (c : Configuration) (x : Cell) (index : ℕ)
-    → IsPart s t place lost whole → IsConfigurationOf s c → t.first + index ≡ number s c
+pub window-write : (s : Subject) (t mid : Table) (place : ℕ) (lost left : ℕ → Bool) (whole : Grid) (c : Configuration) (x : Cell) (index : ℕ)
+    → IsPart s t place lost whole → IsLeft s lost left c → IsConfigurationOf s c → t.first + index ≡ number s c
     → mid.states ≡ t.states → mid.sets ≡ t.sets → mid.first ≡ t.first → vec_capacity t.cells ≤ vec_capacity mid.cells → index < length mid.cells.items
     → ((i : ℕ) → get_or mid.cells.items i Unknown ≡ get_or t.cells.items i Unknown)
-    → IsPart s (record { states = mid.states; sets = mid.sets; first = mid.first; cells = with_item mid.cells index x }) place lost (with_cell s whole c x)
-window-write s t mid place lost whole c x index w within is states sets first capacity inside held = record {
+    → IsPart s (record { states = mid.states; sets = mid.sets; first = mid.first; cells = with_item mid.cells index x }) place left (with_cell s whole c x)
+window-write s t mid place lost left whole c x index w lefts within is states sets first capacity inside held = record {
   fit = fit-write s whole c x w.fit;
   states = states ∙ w.states;
   sets = sets ∙ w.sets;
@@ -73,7 +73,7 @@ window-write s t mid place lost whole c x index w within is states sets first ca
         | inr other ↦
             get_or-set_other mid.cells.items index i x Unknown (λ e. other (sym e))
             ∙ held i
-            ∙ w.held i (ap lost (ap (λ (n : ℕ). n + i) (sym first)) ∙ kept)
+            ∙ w.held i (ap lost (ap (λ (n : ℕ). n + i) (sym first)) ∙ lefts (mid.first + i) (λ e. other (omega (arith, e, is, first))) kept)
             ∙ ap (λ (n : ℕ). get_or whole.cells (n + i) Unknown) (sym first)
             ∙ sym (get_or-set_other whole.cells (number s c) (mid.first + i) x Unknown (λ e. other (omega (arith, e, is, first))))
       ];
@@ -129,7 +129,7 @@ pub mark-unknown : (s : Subject) (t : Table) (place : ℕ) (lost : ℕ → Bool)
     → (false ≡ is_filled (cell s whole c)) × IsPart s (record { states = t.states; sets = t.sets; first = t.first; cells = with_item t.cells index KnownNothing }) place lost (with_cell s whole c KnownNothing)
 mark-unknown s t place lost whole c index was w within kept is held read unknown = (
   ap is_filled (sym unknown ∙ cell-read s t place lost whole c index was w kept is held read),
-  window-write s t t place lost whole c KnownNothing index w within is refl refl refl (omega arith) (omega (arith, is, held)) (λ i. refl),
+  window-write s t t place lost lost whole c KnownNothing index w (λ i not still. still) within is refl refl refl (omega arith) (omega (arith, is, held)) (λ i. refl),
 )
 
 filled-known : (x : Cell) → (x ≡ Unknown → ⊥) → true ≡ is_filled x
@@ -144,3 +144,42 @@ pub mark-known : (s : Subject) (t : Table) (place : ℕ) (lost : ℕ → Bool) (
     → (true ≡ is_filled (cell s whole c)) × IsPart s t place lost whole
 mark-known s t place lost whole c index was w within kept is held read known =
     (filled-known was known ∙ ap is_filled (cell-read s t place lost whole c index was w kept is held read), w)
+
+-- from a place to a later one
+pub part-on : (s : Subject) (t : Table) (place later : ℕ) (lost : ℕ → Bool) (whole : Grid) → place ≤ later → IsPart s t place lost whole → IsPart s t later lost whole
+part-on s t place later lost whole past w =
+    let least = start-least s (start_at later) place past in
+    let first = w.begins in
+    record { fit = w.fit; states = w.states; sets = w.sets; begins = omega (arith, least, first); held = w.held; room = w.room }
+
+-- what is lost where a scan begins
+pub not-late : (s : Subject) (place i : ℕ) → number s (start_at (suc place)) ≤ i → late s place i ≡ false
+not-late s place i past = le-ltb i (number s (start_at (suc place))) past
+
+pub late-past : (s : Subject) (place i : ℕ) → late s place i ≡ false → number s (start_at (suc place)) ≤ i
+late-past s place i is =
+    elim (cases_lt i (number s (start_at (suc place)))) [
+      | inl less ↦ absurd (false≢true (sym is ∙ lt-ltb i (number s (start_at (suc place))) less))
+      | inr past ↦ past
+    ]
+
+-- more is lost
+pub part-lose : (s : Subject) (t : Table) (place : ℕ) (lost left : ℕ → Bool) (whole : Grid) → IsPart s t place lost whole → ((i : ℕ) → left i ≡ false → lost i ≡ false) → IsPart s t place left whole
+part-lose s t place lost left whole w less =
+    record { fit = w.fit; states = w.states; sets = w.sets; begins = w.begins; held = λ i kept. w.held i (less (t.first + i) kept); room = w.room }
+
+-- a cell that is filled in the grid alone
+pub part-without : (s : Subject) (t : Table) (place : ℕ) (lost left : ℕ → Bool) (whole : Grid) (c : Configuration) (x : Cell) → IsPart s t place lost whole
+    → ((i : ℕ) → left i ≡ false → (lost i ≡ false) × (i ≡ number s c → ⊥)) → IsPart s t place left (with_cell s whole c x)
+part-without s t place lost left whole c x w less =
+    let fit = fit-write s whole c x w.fit in
+    record {
+      fit = fit;
+      states = w.states;
+      sets = w.sets;
+      begins = w.begins;
+      held = λ i kept.
+          let k = less (t.first + i) kept in
+          w.held i k.0 ∙ sym (get_or-set_other whole.cells (number s c) (t.first + i) x Unknown k.1);
+      room = let size = fit.size in let was = w.fit.size in let room = w.room in omega (arith, size, was, room);
+    }

@@ -34,6 +34,17 @@ pub record Scan : Type 0 where
   pub subject : Subject
   pub start : ℕ
 
+-- a scan that names a lookahead, and the last acceptance before that
+pub record Named : Type 0 where
+  pub subject : Subject
+  pub start : ℕ
+  pub last : Option Boundary
+
+-- the place up to which a segment's end is known: that of the last acceptance, or else the first
+abbrev pub floor : ℕ → Option Boundary → ℕ
+floor first None = first
+floor first (Some b) = b.offset
+
 -- the machine with the transitions of a reader in the place of its own
 abbrev pub reading : Machine → List ℕ → Machine
 reading m transitions = record m { transitions = transitions }
@@ -109,6 +120,13 @@ entered place (Conditional lookahead status, _) Nothing = Nothing
 entered place (_, Some name) (Kept lookahead status) = if name == lookahead then Picked (boundary place status) else Kept lookahead status
 entered place (_, None) (Kept lookahead status) = Kept lookahead status
 entered place _ (Picked later) = Picked later
+
+-- the outcome of what comes after the last acceptance, or else that acceptance
+abbrev pub later : Option Boundary → Outcome → Outcome
+later None o = o
+later (Some b) Nothing = Picked b
+later (Some b) (Picked found) = Picked found
+later (Some b) (Kept lookahead status) = Kept lookahead status
 
 -- the outcome with another place
 abbrev pub at : (ℕ → ℕ) → Outcome → Outcome

@@ -1,8 +1,8 @@
 -- The table of configurations.
-use Rattle.std.specs.Prelude.{◌≡◌, ℕ, zero, suc, ◌+◌, ◌-◌, ◌*◌, ◌^◌, ◌<◌, ◌≤◌, ◌⊎◌, ◌==◌, ◌||◌, Bool, true, false, if◌then◌else◌, Option, Some, None, List, [], ◌∷◌, drop, length, min, slice_index_or, slice_set, nat_lt, vec_capacity}
+use Rattle.std.specs.Prelude.{◌≡◌, ℕ, zero, suc, ◌+◌, ◌-◌, ◌*◌, ◌^◌, ◌<◌, ◌≤◌, ◌⊎◌, ◌==◌, ◌||◌, Bool, true, false, if◌then◌else◌, Option, Some, None, List, [], ◌∷◌, ◌++◌, drop, length, min, slice_index_or, slice_set, nat_lt, vec_capacity}
 use Rattle.seg_text.specs.declared.boundary.Boundary.{Boundary}
 use Rattle.seg_text.specs.Items.{Item, Text, code_points, rest_after, start_of}
-use Rattle.seg_machine.specs.Machine.{Machine, symbol_count, symbols_of}
+use Rattle.seg_machine.specs.Machine.{Machine, state_at, symbol_count, symbols_of}
 use Rattle.seg_machine.specs.MachineFaults.{IsChecked}
 use Rattle.seg_memo.specs.declared.configuration.Configuration.{Configuration}
 use Rattle.seg_memo.specs.declared.configuration.Outcome.{Outcome}
@@ -10,7 +10,7 @@ use Rattle.seg_memo.specs.declared.configuration.Outcome.TheVariants.{Nothing, P
 use Rattle.seg_memo.specs.declared.configuration.LookUp.TheVariants.{Leads}
 use Rattle.seg_memo.specs.declared.configuration.Cell.{Cell}
 use Rattle.seg_memo.specs.declared.configuration.Cell.TheVariants.{Unknown, First, Way, KnownNothing, KnownKept}
-use Rattle.seg_memo.specs.Configurations.{Subject, configuration, configurations, reading, look_ups, all_look_ups, start_at, AreStarts, outcome_at, look_up}
+use Rattle.seg_memo.specs.Configurations.{Subject, configuration, configurations, reading, look_ups, all_look_ups, start_at, AreStarts, entered, floor, later, outcome_at, look_up}
 use Rattle.seg_memo.specs.declared.table.Table.{Table}
 
 -- so many states, so many sets of lookaheads, and a cell for each of them at each place
@@ -148,31 +148,74 @@ pub record IsMemo (s : Subject) (g : Grid) (place : ℕ) : Type 0 where
   pub table : IsRightFrom s g place []
   pub filling : AreFilled s g starts []
 
--- it is so, and that from this place is to begin: its first configuration was not looked up
-pub record IsFreshPlace (s : Subject) (place : ℕ) (g : Grid) : Type 0 where
-  pub memo : IsMemo s g place
-  pub unknown : cell s g (start_at place) ≡ Unknown
+-- a scan comes to a configuration, the first that names a lookahead: with the last acceptance before it, the segments before, and
+-- what it looked up so far, where no lookahead was named
+pub record Comes (s : Subject) (start : ℕ) (last : Option Boundary) (first : Configuration) (starts : List ℕ) (passed : List Configuration) : Type 0 where
+  pub are : AreStarts s starts start
+  pub some : start < length s.symbols
+  pub within : IsConfigurationOf s first
+  pub kept : 0 < first.kept
+  pub past : start < first.place
+  pub low : floor start last ≤ first.place
+  pub high : start ≤ floor start last
+  pub free : (d : Configuration) → IsOn d passed → d.kept ≡ 0
+  pub all_within : (d : Configuration) → IsOn d passed → IsConfigurationOf s d
+  pub before : (d : Configuration) → IsOn d passed → first.place < length s.symbols → d.place < first.place
+  pub covers : (i : ℕ) → has_number s i (look_ups s (start_at start)) ≡ (has_number s i passed || has_number s i (look_ups s first))
+  pub is : outcome_at s (start_at start) ≡ later last (entered first.place (state_at s.machine first.state) (outcome_at s first))
+  pub picks : outcome_at s (start_at start) ≡ Nothing → ⊥
 
--- a scan is under way: it looked up the configurations of a path, and is to look up this one, whose cell is marked already
-pub record IsUnderWay (s : Subject) (g : Grid) (place : ℕ) (here : Configuration) : Type 0 where
-  pub starts : List ℕ
-  pub are : AreStarts s starts place
-  pub some : place < length s.symbols
-  pub path : List Configuration
-  pub way : IsWay s g (start_at place) here path
-  pub table : IsRightFrom s g place (here ∷ path)
-  pub filling : AreFilled s g starts (here ∷ path)
+-- where the last acceptance is the pick, the cells from there on are right that keep no lookahead
+abbrev pub IsPlainRight : Subject → Grid → Option Boundary → Configuration → Type 0
+IsPlainRight s g last first =
+    (b : Boundary) → last ≡ Some b → b.offset < length s.symbols → entered first.place (state_at s.machine first.state) (outcome_at s first) ≡ Nothing
+    → (c : Configuration) → b.offset ≤ c.place → IsConfigurationOf s c → c.kept ≡ 0 → IsRight s c (cell s g c)
 
--- a scan went on to its last look-up, or goes back from there: the cells hold the way back, and this one's outcome is known
-pub record Went (s : Subject) (g : Grid) (place : ℕ) (here : Configuration) (o : Outcome) : Type 0 where
+-- it is to look up that configuration
+pub record IsNamed (s : Subject) (g : Grid) (start : ℕ) (last : Option Boundary) (first : Configuration) : Type 0 where
   pub starts : List ℕ
-  pub are : AreStarts s starts place
-  pub some : place < length s.symbols
+  pub passed : List Configuration
+  pub comes : Comes s start last first starts passed
+  pub table : IsRightFrom s g start passed
+  pub plain : IsPlainRight s g last first
+  pub filling : AreFilled s g starts passed
+
+-- from there it goes on: it looked up the configurations of a path, this one last, and the cells hold the way back
+pub record IsUnderWay (s : Subject) (g : Grid) (start : ℕ) (last : Option Boundary) (first here : Configuration) : Type 0 where
+  pub starts : List ℕ
+  pub passed : List Configuration
+  pub comes : Comes s start last first starts passed
   pub path : List Configuration
-  pub way : IsWay s g (start_at place) here path
-  pub table : IsRightFrom s g place (here ∷ path)
-  pub filling : AreFilled s g starts (look_ups s (start_at place))
+  pub way : IsWay s g first here path
+  pub keeping : (d : Configuration) → IsOn d (here ∷ path) → 0 < d.kept
+  pub table : IsRightFrom s g start (here ∷ (path ++ passed))
+  pub plain : IsPlainRight s g last first
+  pub filling : AreFilled s g starts (here ∷ (path ++ passed))
+
+-- it went on to its last look-up, or goes back from there: the cells hold the way back, and this one's outcome is known
+pub record Went (s : Subject) (g : Grid) (start : ℕ) (last : Option Boundary) (first here : Configuration) (o : Outcome) : Type 0 where
+  pub starts : List ℕ
+  pub passed : List Configuration
+  pub comes : Comes s start last first starts passed
+  pub path : List Configuration
+  pub way : IsWay s g first here path
+  pub keeping : (d : Configuration) → IsOn d (here ∷ path) → 0 < d.kept
+  pub table : IsRightFrom s g start (here ∷ (path ++ passed))
+  pub plain : IsPlainRight s g last first
+  pub filling : AreFilled s g starts (look_ups s first ++ passed)
   pub is : o ≡ outcome_at s here
+
+-- it was made, and this is that configuration's outcome: the cells that still hold a way are before the pick
+pub record IsWalked (s : Subject) (g : Grid) (start : ℕ) (last : Option Boundary) (first : Configuration) (o : Outcome) : Type 0 where
+  pub starts : List ℕ
+  pub passed : List Configuration
+  pub comes : Comes s start last first starts passed
+  pub path : List Configuration
+  pub ends : (d : Configuration) → IsOn d path → (f : Boundary) × (o ≡ Picked f) × (outcome_at s d ≡ Picked f)
+  pub table : IsRightFrom s g start (path ++ passed)
+  pub plain : IsPlainRight s g last first
+  pub filling : AreFilled s g starts (look_ups s first ++ passed)
+  pub is : o ≡ outcome_at s first
 
 -- the scan from a place was made: this is its outcome
 pub record IsScanned (s : Subject) (g : Grid) (place : ℕ) (o : Outcome) : Type 0 where
@@ -196,21 +239,9 @@ pub record IsPart (s : Subject) (t : Table) (place : ℕ) (lost : ℕ → Bool) 
   pub held : (i : ℕ) → lost (t.first + i) ≡ false → slice_index_or t.cells.items i Unknown ≡ slice_index_or whole.cells (t.first + i) Unknown
   pub room : length whole.cells ≤ vec_capacity t.cells
 
--- none is lost
-abbrev pub none : ℕ → Bool
-none i = false
-
--- those up to a place are, that one's too: a scan by a machine without lookaheads reads only what comes after its start
+-- those up to a place are lost, that one's too: a scan reads only what comes after its start
 abbrev pub late : Subject → ℕ → ℕ → Bool
 late s place i = nat_lt i (number s (start_at (suc place)))
-
--- what is lost where the scan from a place is to begin
-abbrev pub lost_at : Subject → ℕ → ℕ → Bool
-lost_at s place = if s.machine.num_lookaheads == 0 then late s place else none
-
--- a table holds all cells of a grid from its first on
-abbrev pub IsWindow : Subject → Table → ℕ → Grid → Type 0
-IsWindow s t place whole = IsPart s t place none whole
 
 -- a table holds cells of some grid
 abbrev pub IsHeld : Subject → Table → ℕ → Type 0
@@ -223,6 +254,26 @@ pub record Has (s : Subject) (t : Table) (place : ℕ) (lost : ℕ → Bool) (co
   pub count : counted ≡ filled_count whole.cells
   pub is : P whole
 
--- and none is lost
-abbrev pub Keeps : Subject → Table → ℕ → ℕ → (Grid → Type 0) → Type 0
-Keeps s t place counted P = Has s t place none counted P
+-- what is lost may be lost still, but for the cell of a configuration
+abbrev pub IsLeft : Subject → (ℕ → Bool) → (ℕ → Bool) → Configuration → Type 0
+IsLeft s lost left c = (i : ℕ) → (i ≡ number s c → ⊥) → left i ≡ false → lost i ≡ false
+
+-- it is so of a scan that came to a configuration that names its first lookahead: the cells are held where one is kept, and
+-- all from the last acceptance on but those that are in hand
+pub record Keeps (s : Subject) (t : Table) (last : Option Boundary) (first : Configuration) (counted : ℕ) (P : Grid → Type 0) : Type 0 where
+  pub whole : Grid
+  pub lost : ℕ → Bool
+  pub window : IsPart s t (floor first.place last) lost whole
+  pub free : (c : Configuration) → IsConfigurationOf s c → first.place ≤ c.place → 0 < c.kept → lost (number s c) ≡ false
+  pub ends : (i : ℕ) → late s (floor first.place last) i ≡ false → lost i ≡ false
+  pub count : counted ≡ filled_count whole.cells
+  pub is : P whole
+
+-- that configuration's own cell may be lost
+pub record KeepsOthers (s : Subject) (t : Table) (last : Option Boundary) (first : Configuration) (counted : ℕ) (P : Grid → Type 0) : Type 0 where
+  pub whole : Grid
+  pub lost : ℕ → Bool
+  pub window : IsPart s t (floor first.place last) lost whole
+  pub ends : (i : ℕ) → (i ≡ number s first → ⊥) → late s (floor first.place last) i ≡ false → lost i ≡ false
+  pub count : counted ≡ filled_count whole.cells
+  pub is : P whole

@@ -3,7 +3,7 @@
 ghost use Rattle.std.specs.Prelude.{◌≡◌, ℕ, ◌<◌, false, IfSome};
 ghost use Rattle.seg_machine.specs.MachineFaults.{NamesPast};
 ghost use Rattle.seg_machine.specs.Search.{keep};
-ghost use Rattle.seg_memo.specs.Configurations.{condition_held, arrival, entered, picked};
+ghost use Rattle.seg_memo.specs.Configurations.{condition_held, configuration, arrival, entered, floor, picked};
 ghost use Rattle.seg_memo.specs.Grids.{known, holding, way_from, came_from};
 
 use seg_machine::provider::{Acceptance, Lookahead, State};
@@ -101,6 +101,31 @@ pub(crate) fn arrive(
     }
     let kept = keep(entry.1, kept);
     LookUp::Leads(Configuration { state, place, kept })
+}
+
+/// The configuration of a state that is entered at a place, where no lookahead was named before.
+#[inline(always)]
+pub(crate) fn naming(
+    entry: (Acceptance, Option<Lookahead>),
+    state: State,
+    place: usize,
+) -> Configuration
+    requires { NamesPast 8 entry → ⊥ }
+    ensures { result ≡ configuration state place (keep 0 entry.1) }
+{
+    let kept = keep(entry.1, 0);
+    Configuration { state, place, kept }
+}
+
+/// The place up to which a segment's end is known: that of the last acceptance, or else this one.
+#[inline(always)]
+pub(crate) fn floor(place: usize, last: Option<Boundary>) -> usize
+    ensures { result ≡ floor place last }
+{
+    match last {
+        Some(found) => found.offset,
+        None => place,
+    }
 }
 
 /// The outcome before a state that is entered at a place, from that after it.

@@ -14,9 +14,10 @@
 //! The first scan looks up five, and has its pick at place 1. The second comes from S1 to S2 at place 3, which leads to nothing: so its pick
 //! is at place 2. All four look up eleven configurations, each of them once.
 //!
-//! - **Scans with lookaheads** leave in each cell the **way** that they came. Once the outcome of the last is known, they go back over it, and
+//! - **Until a lookahead is named** no condition holds, and what one picks later lies there or after it. So a scan marks what comes after an
+//!   acceptance at once, writes no other cell, and goes nowhere back.
+//! - **From the first name on** it leaves in each cell the **way** that it came. Once the outcome of the last is known, it goes back over it, and
 //!   each cell gets the outcome from there on: nothing, or a condition that waits for the place of its lookahead. A pick ends the way back.
-//! - **Scans without lookaheads** mark what comes after an acceptance at once, and go nowhere back.
 //! - **The window**: the table holds the grid from a first cell on, as far as one was written. What is counted is how many cells of the whole
 //!   grid are filled, whether they are held or not.
 //!

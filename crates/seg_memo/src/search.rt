@@ -3,15 +3,18 @@
 ghost use Rattle.std.specs.Prelude.{◌≡◌, ◌≢◌, ℕ, [], Some, suc, ◌+◌, ◌<◌, ◌≤◌, ◌^◌, length, drop, min, slice_index_or};
 ghost use Rattle.seg_text.specs.declared.boundary.Boundary.{Boundary as AnyBoundary};
 ghost use Rattle.seg_text.specs.Boundaries.{shift};
-ghost use Rattle.seg_text.specs.Items.{rest_after};
+ghost use Rattle.seg_text.specs.Items.{Text, rest_after};
 ghost use Rattle.seg_machine.specs.Pick.{pick};
 ghost use Rattle.seg_machine.specs.Tailored.{parts_of};
-ghost use Rattle.seg_memo.specs.Configurations.{Scan, Subject, start_at, look_up, IfLeads};
-ghost use Rattle.seg_memo.specs.Grids.{GoesOverItems, IsKeptSymbol, IsAt, IsFreshPlace, IsMemo, IsReadBy, IsScanned, IsSound, IsConfigurationOf, CursorStandsAt, Went, Has, Keeps, late, lost_at};
+ghost use Rattle.seg_memo.specs.Configurations.{Named, Scan, Subject, floor, look_up, IfLeads};
+ghost use Rattle.seg_memo.specs.Grids.{GoesOverItems, IsKeptSymbol, IsAt, IsMemo, IsNamed, IsReadBy, IsScanned, IsSound, IsWalked, IsConfigurationOf, CursorStandsAt, Went, Has, Keeps, KeepsOthers, cell, late};
+ghost use Rattle.seg_memo.specs.declared.configuration.Cell.TheVariants.{Unknown};
+ghost use Rattle.seg_memo.specs.declared.configuration.LookUp.TheVariants.{Leads};
 ghost use Rattle.seg_memo.specs.declared.configuration.Outcome.TheVariants.{Picked};
 
 use crate::configuration::{
-    Cell, Configuration, LookUp, Outcome, arrive, before, entered, holding, known, picked, way,
+    Cell, Configuration, LookUp, Outcome, arrive, before, entered, floor, holding, known, naming,
+    picked, way,
 };
 use crate::reader::ReadTransitions;
 use crate::table::Table;
@@ -79,8 +82,8 @@ fn look_up<I: Cursor, R: ReadTransitions>(
     arrive(machine.entry(state), state, place, here.kept)
 }
 
-/// Goes on from the beginning of a scan to a configuration that is known or to the scan's end. Each cell on the way leads
-/// back to the one before. Gives the configuration of the last look-up, its outcome, and where the cursor stood there.
+/// Goes on from two configurations, the first of which was looked up, to one that is known or to the scan's end. Each cell on
+/// the way leads back to the one before. Gives the configuration of the last look-up and its outcome.
 #[inline(always)]
 fn go_forward<I: Cursor, R: ReadTransitions>(
     machine: &MachineParts<'_>,
@@ -88,31 +91,31 @@ fn go_forward<I: Cursor, R: ReadTransitions>(
     table: &mut Table,
     rest: &mut I,
     first: Configuration,
-) -> (Configuration, Outcome, usize)
-    ghost scan: { Scan }
-    requires read { IsReadBy scan.subject (parts_of machine.now) (R.states reader.old) (R.transitions reader.old) }
-    requires memo { Keeps scan.subject table.old scan.start (R.counted reader.old) (IsFreshPlace scan.subject scan.start) }
-    requires first { first ≡ start_at scan.start }
-    requires rest { IsAt scan.subject (parts_of machine.now) scan.start (I.text rest.old).items }
-    requires some { scan.start < length scan.subject.symbols }
-    ensures read { IsReadBy scan.subject (parts_of machine.now) (R.states reader.new) (R.transitions reader.new) }
-    ensures went { Keeps scan.subject table.new scan.start (R.counted reader.new) (λ whole. Went scan.subject whole scan.start result.0 result.1) }
-    ensures stands { CursorStandsAt (I.text rest.old) scan.start result.0.place result.2 }
+    second: Configuration,
+) -> (Configuration, Outcome)
+    ghost named: { Named }
+    requires read { IsReadBy named.subject (parts_of machine.now) (R.states reader.old) (R.transitions reader.old) }
+    requires named { (count : ℕ) × (R.counted reader.old ≡ count + 1)
+        × Keeps named.subject table.old named.last first count (λ whole. IsNamed named.subject whole named.start named.last first × (cell named.subject whole first ≡ Unknown)) }
+    requires second { (look_up named.subject first ≡ Leads second) × IsConfigurationOf named.subject second }
+    requires rest { IsAt named.subject (parts_of machine.now) second.place (I.text rest.old).items }
+    ensures read { IsReadBy named.subject (parts_of machine.now) (R.states reader.new) (R.transitions reader.new) }
+    ensures went { Keeps named.subject table.new named.last first (R.counted reader.new) (λ whole. Went named.subject whole named.start named.last first result.0 result.1) }
 {
     let mut here = first;
+    let mut next = second;
     table.write(here, Cell::First);
     'scan: loop {
-        let stood = rest.place();
-        let next = match look_up(machine, reader, rest, here) {
-            LookUp::Ends(outcome) => return (here, outcome, stood),
-            LookUp::Leads(next) => next,
-        };
         if let Some(outcome) = known(table.cell(next)) {
             let entry = machine.entry(next.state);
-            return (here, entered(next.place, entry, outcome), stood);
+            return (here, entered(next.place, entry, outcome));
         }
         table.write(next, way(here, next));
         here = next;
+        next = match look_up(machine, reader, rest, here) {
+            LookUp::Ends(outcome) => return (here, outcome),
+            LookUp::Leads(next) => next,
+        };
     }
 }
 
@@ -122,14 +125,15 @@ fn go_forward<I: Cursor, R: ReadTransitions>(
 fn go_back(
     machine: &MachineParts<'_>,
     table: &mut Table,
+    first: Configuration,
     last: Configuration,
     outcome: Outcome,
 ) -> Outcome
-    ghost scan: { Scan }
-    requires states { scan.subject.machine.states ≡ (parts_of machine.now).states }
-    requires went { (count : ℕ) × Keeps scan.subject table.old scan.start count (λ whole. Went scan.subject whole scan.start last outcome) }
-    ensures scanned { (count : ℕ) → Keeps scan.subject table.old scan.start count (λ whole. Went scan.subject whole scan.start last outcome)
-        → Keeps scan.subject table.new scan.start count (λ whole. IsScanned scan.subject whole scan.start result) }
+    ghost named: { Named }
+    requires states { named.subject.machine.states ≡ (parts_of machine.now).states }
+    requires went { (count : ℕ) × Keeps named.subject table.old named.last first count (λ whole. Went named.subject whole named.start named.last first last outcome) }
+    ensures walked { (count : ℕ) → Keeps named.subject table.old named.last first count (λ whole. Went named.subject whole named.start named.last first last outcome)
+        → Keeps named.subject table.new named.last first count (λ whole. IsWalked named.subject whole named.start named.last first result) }
 {
     let mut here = last;
     let mut outcome = outcome;
@@ -137,53 +141,100 @@ fn go_back(
         let Some(held) = holding(outcome) else {
             return outcome;
         };
-        let Cell::Way(state, kept, stays) = table.cell(here) else {
+        let way = table.cell(here);
+        table.write(here, held);
+        let Cell::Way(state, kept, stays) = way else {
             return outcome;
         };
-        table.write(here, held);
         outcome = entered(here.place, machine.entry(here.state), outcome);
         here = before(here, state, kept, stays);
     }
 }
 
-/// The outcome of the configuration that a scan begins in, and the place that it came to last: in items, and where a cursor
-/// stands there.
+/// The outcome of the configuration that names a scan's first lookahead. Its own cell is written only where the scan goes on.
 #[inline(always)]
 fn outcome_from<I: Cursor, R: ReadTransitions>(
     machine: &MachineParts<'_>,
     reader: &mut R,
     table: &mut Table,
     rest: &I,
-    start: usize,
-) -> (Outcome, usize, usize)
-    ghost scan: { Scan }
-    requires read { IsReadBy scan.subject (parts_of machine.now) (R.states reader.old) (R.transitions reader.old) }
-    requires memo { Keeps scan.subject table.old scan.start (R.counted reader.old) (λ whole. IsMemo scan.subject whole scan.start) }
-    requires start { start ≡ scan.start }
-    requires rest { IsAt scan.subject (parts_of machine.now) scan.start (I.text rest.now).items }
-    requires some { scan.start < length scan.subject.symbols }
-    ensures read { IsReadBy scan.subject (parts_of machine.now) (R.states reader.new) (R.transitions reader.new) }
-    ensures scanned { Keeps scan.subject table.new scan.start (R.counted reader.new) (λ whole. IsScanned scan.subject whole scan.start result.0) }
-    ensures stands { CursorStandsAt (I.text rest.now) scan.start result.1 result.2 }
+    first: Configuration,
+    from: usize,
+) -> Outcome
+    ghost named: { Named }
+    requires read { IsReadBy named.subject (parts_of machine.now) (R.states reader.old) (R.transitions reader.old) }
+    requires named { Keeps named.subject table.old named.last first (R.counted reader.old) (λ whole. IsNamed named.subject whole named.start named.last first) }
+    requires rest { IsAt named.subject (parts_of machine.now) first.place (I.text rest.now).items }
+    requires from { from ≡ floor first.place named.last }
+    ensures read { IsReadBy named.subject (parts_of machine.now) (R.states reader.new) (R.transitions reader.new) }
+    ensures walked { KeepsOthers named.subject table.new named.last first (R.counted reader.new) (λ whole. IsWalked named.subject whole named.start named.last first result) }
 {
-    let first = Configuration {
-        state: SegmenterStateMachine::START_STATE,
-        place: start,
-        kept: 0,
-    };
     if let Some(outcome) = known(table.cell(first)) {
-        return (outcome, start, rest.place());
+        return outcome;
     }
     let mut iter = rest.fork();
-    let (last, outcome, stood) = go_forward(machine, reader, table, &mut iter, first);
-    (go_back(machine, table, last, outcome), last.place, stood)
+    let second = match look_up(machine, reader, &mut iter, first) {
+        LookUp::Ends(outcome) => return outcome,
+        LookUp::Leads(second) => second,
+    };
+    table.leave(from);
+    let (last, outcome) = go_forward(machine, reader, table, &mut iter, first, second);
+    go_back(machine, table, first, last, outcome)
 }
 
-/// The pick by a machine without lookaheads, and where a cursor stands there; and the place of the symbol that was looked up
-/// last: `first` is that symbol then, and `ahead` is what is left after it. Three things need no cell: what is before the
-/// pick, since later scans begin there; a state that accepts, since a scan that came to it before had its pick there or
-/// later; and what is before the first acceptance, since a scan that has a pick comes to nothing that has none. What comes
-/// after an acceptance is marked at once: nothing accepts after it, unless the pick is later and no scan comes to it again.
+/// Where a cursor stands at a place, of one that is at an earlier place.
+#[inline(always)]
+fn place_after<I: Cursor>(rest: &I, place: usize, later: usize) -> usize
+    requires { place ≤ later }
+    ensures { CursorStandsAt (I.text rest.now) place later result }
+{
+    let mut left = rest.fork();
+    for item in place..later {
+        skip(&mut left);
+    }
+    left.place()
+}
+
+/// The pick of a scan that came to the configuration that names its first lookahead, and where a cursor stands there. From
+/// there on every configuration has a cell, but for that one itself where its look-up ends the scan with a pick there or later.
+#[inline(never)]
+fn scan_kept<I: Cursor, R: ReadTransitions>(
+    machine: &MachineParts<'_>,
+    reader: &mut R,
+    table: &mut Table,
+    rest: &I,
+    first: Configuration,
+    last: Option<Boundary>,
+    stood: usize,
+) -> (Boundary, usize)
+    ghost named: { Named }
+    requires read { IsReadBy named.subject (parts_of machine.now) (R.states reader.old) (R.transitions reader.old) }
+    requires last { last ≡ named.last }
+    requires named { Keeps named.subject table.old named.last first (R.counted reader.old) (λ whole. IsNamed named.subject whole named.start named.last first) }
+    requires rest { IsAt named.subject (parts_of machine.now) first.place (I.text rest.now).items }
+    ensures read { IsReadBy named.subject (parts_of machine.now) (R.states reader.new) (R.transitions reader.new) }
+    ensures scanned { Has named.subject table.new result.0.offset (late named.subject result.0.offset) (R.counted reader.new) (λ whole. IsScanned named.subject whole named.start (Picked result.0)) }
+    ensures stands { (text : Text) → GoesOverItems text named.start (I.text rest.now) first.place → CursorStandsAt text named.start (floor named.start named.last) stood
+        → CursorStandsAt text named.start result.0.offset result.1 }
+{
+    let from = floor(first.place, last);
+    let outcome = outcome_from(machine, reader, table, rest, first, from);
+    let outcome = entered(first.place, machine.entry(first.state), outcome);
+    if let Some(found) = picked(outcome) {
+        return (found, place_after(rest, first.place, found.offset));
+    }
+    let Some(found) = last else { unreachable!() };
+    table.leave(from);
+    table.write(first, Cell::KnownNothing);
+    (found, stood)
+}
+
+/// The pick, and where a cursor stands there; and a place: `first` is the symbol there then, and `ahead` is what is left after
+/// it. While no lookahead is named no condition holds, and what one picks later is at that name or after it. So three things
+/// need no cell: what is before the pick, since later scans begin there; a state that accepts, since a scan that came to it
+/// before had its pick there or later; and what is before the first acceptance, since a scan that has a pick comes to nothing
+/// that has none. What comes after an acceptance is marked at once: nothing accepts after it, unless the pick is later and no
+/// scan comes to it again.
 #[inline(always)]
 fn scan_plain<I: Cursor, R: ReadTransitions>(
     machine: &MachineParts<'_>,
@@ -195,7 +246,6 @@ fn scan_plain<I: Cursor, R: ReadTransitions>(
     start: usize,
 ) -> (Boundary, usize, usize)
     ghost scan: { Scan }
-    requires plain { scan.subject.machine.num_lookaheads ≡ 0 }
     requires read { IsReadBy scan.subject (parts_of machine.now) (R.states reader.old) (R.transitions reader.old) }
     requires memo { Has scan.subject table.old scan.start (late scan.subject scan.start) (R.counted reader.old) (λ whole. IsMemo scan.subject whole scan.start) }
     requires start { start ≡ scan.start }
@@ -220,7 +270,14 @@ fn scan_plain<I: Cursor, R: ReadTransitions>(
             *first = symbol;
             return (found, stood, place);
         }
-        if let Acceptance::Accept(status) = machine.entry(next).0 {
+        let entry = machine.entry(next);
+        if let Some(_) = entry.1 {
+            let here = naming(entry, next, after);
+            let (found, stood) = scan_kept(machine, reader, table, ahead, here, last, stood);
+            (*first, _) = next_symbol(machine, ahead, after);
+            return (found, stood, after);
+        }
+        if let Acceptance::Accept(status) = entry.0 {
             last = Some(Boundary {
                 offset: after,
                 status,
@@ -268,61 +325,21 @@ pub(crate) fn next_segment<I: Cursor, R: ReadTransitions>(
 ) -> Boundary
     ghost subject: { Subject }
     requires read { IsReadBy subject (parts_of scanned.now.machine) (R.states reader.old) (R.transitions reader.old) }
-    requires memo { Has subject table.old start (lost_at subject start) (R.counted reader.old) (λ whole. IsMemo subject whole start) }
+    requires memo { Has subject table.old start (late subject start) (R.counted reader.old) (λ whole. IsMemo subject whole start) }
     requires rest { IsAt subject (parts_of scanned.now.machine) start (I.text rest.old).items }
     requires some { (I.text rest.old).items ≢ [] }
     requires ahead { IsKeptSymbol subject (parts_of scanned.now.machine) (I.text rest.old) start start first.old (I.text ahead.old) }
     ensures read { IsReadBy subject (parts_of scanned.now.machine) (R.states reader.new) (R.transitions reader.new) }
-    ensures memo { Has subject table.new result.offset (lost_at subject result.offset) (R.counted reader.new) (λ whole. IsMemo subject whole result.offset) }
+    ensures memo { Has subject table.new result.offset (late subject result.offset) (R.counted reader.new) (λ whole. IsMemo subject whole result.offset) }
     ensures segment { (p : AnyBoundary) × (pick subject.machine (drop start subject.symbols) ≡ Some p) × (result ≡ shift start p)
         × (I.text rest.new ≡ rest_after p.offset (I.text rest.old)) }
     ensures ahead { IsKeptSymbol subject (parts_of scanned.now.machine) (I.text rest.new) result.offset result.offset first.new (I.text ahead.new) }
 {
     let machine = &scanned.machine;
-    if machine.num_lookaheads() != 0 {
-        let found = next_kept_segment(machine, reader, table, rest, start);
-        read_first(machine, rest, found.offset, first, ahead);
-        return found;
-    }
     let (found, stood, place) = scan_plain(machine, reader, table, rest, first, ahead, start);
     rest.seek(stood);
     if found.offset != place {
         read_first(machine, rest, found.offset, first, ahead);
-    }
-    found
-}
-
-/// The same by a machine that keeps places for lookaheads.
-#[inline(never)]
-fn next_kept_segment<I: Cursor, R: ReadTransitions>(
-    machine: &MachineParts<'_>,
-    reader: &mut R,
-    table: &mut Table,
-    rest: &mut I,
-    start: usize,
-) -> Boundary
-    ghost subject: { Subject }
-    requires lookaheads { subject.machine.num_lookaheads ≢ 0 }
-    requires read { IsReadBy subject (parts_of machine.now) (R.states reader.old) (R.transitions reader.old) }
-    requires memo { Has subject table.old start (lost_at subject start) (R.counted reader.old) (λ whole. IsMemo subject whole start) }
-    requires rest { IsAt subject (parts_of machine.now) start (I.text rest.old).items }
-    requires some { (I.text rest.old).items ≢ [] }
-    ensures read { IsReadBy subject (parts_of machine.now) (R.states reader.new) (R.transitions reader.new) }
-    ensures memo { Has subject table.new result.offset (lost_at subject result.offset) (R.counted reader.new) (λ whole. IsMemo subject whole result.offset) }
-    ensures segment { (p : AnyBoundary) × (pick subject.machine (drop start subject.symbols) ≡ Some p) × (result ≡ shift start p)
-        × (I.text rest.new ≡ rest_after p.offset (I.text rest.old)) }
-{
-    table.leave(start);
-    let (outcome, last, stood) = outcome_from(machine, reader, table, rest, start);
-    let Some(found) = picked(outcome) else {
-        unreachable!()
-    };
-    if found.offset == last {
-        rest.seek(stood);
-        return found;
-    }
-    for item in start..found.offset {
-        skip(rest);
     }
     found
 }

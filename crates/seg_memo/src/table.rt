@@ -3,7 +3,7 @@
 ghost use Rattle.std.specs.Prelude.{◌≡◌, ◌+◌, ◌<◌, ◌≤◌, ◌^◌, ℕ, Bool, false, if◌then◌else◌, length, slice_index_or, vec_capacity};
 ghost use Rattle.seg_memo.specs.Configurations.{Scan};
 ghost use Rattle.seg_memo.specs.declared.configuration.Cell.TheVariants.{Unknown, KnownNothing};
-ghost use Rattle.seg_memo.specs.Grids.{Grid, cell, with_cell, number, is_filled, IsConfigurationOf, IsHeld, IsPart, IsWindow};
+ghost use Rattle.seg_memo.specs.Grids.{Grid, cell, with_cell, number, is_filled, IsConfigurationOf, IsHeld, IsLeft, IsPart};
 
 use crate::configuration::{Cell, Configuration};
 use seg_machine::provider::SegmenterStateMachine;
@@ -47,7 +47,7 @@ impl Table {
         requires window { IsHeld scan.subject self.now scan.start }
         requires here { IsConfigurationOf scan.subject here }
         requires from { scan.start ≤ here.place }
-        ensures { (whole : Grid) → IsWindow scan.subject self.now scan.start whole → result ≡ cell scan.subject whole here }
+        ensures { (place : ℕ) (lost : ℕ → Bool) (whole : Grid) → IsPart scan.subject self.now place lost whole → lost (number scan.subject here) ≡ false → result ≡ cell scan.subject whole here }
     {
         let index = self.index(here);
         if index < self.cells.len() {
@@ -103,8 +103,8 @@ impl Table {
         requires window { IsHeld scan.subject self.old scan.start }
         requires here { IsConfigurationOf scan.subject here }
         requires from { scan.start ≤ here.place }
-        ensures { (whole : Grid) → IsWindow scan.subject self.old scan.start whole
-            → IsWindow scan.subject self.new scan.start (with_cell scan.subject whole here cell) }
+        ensures { (place : ℕ) (lost left : ℕ → Bool) (whole : Grid) → IsPart scan.subject self.old place lost whole → IsLeft scan.subject lost left here
+            → IsPart scan.subject self.new place left (with_cell scan.subject whole here cell) }
     {
         let index = self.index(here);
         self.reach(index);

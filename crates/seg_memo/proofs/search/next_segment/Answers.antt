@@ -1,29 +1,19 @@
-use Rattle.std.proofs.Common.{◌∙◌, refl}
+use Rattle.std.proofs.Common.{refl}
 use Rattle.seg_memo.proofs.Ahead.{segment-ahead, segment-at}
-use Rattle.seg_memo.proofs.Held.{has-lost, lost-plain, plain-memo, plain-segment, read-lookaheads}
+use Rattle.seg_memo.proofs.Held.{plain-memo, plain-segment}
 use Rattle.seg_memo.proofs.Moves.{segment-sought}
 use Rattle.seg_memo.proofs.Numbers.{items-fit}
 use Rattle.seg_memo.proofs.search.next_segment.Goals as goal
 
 pub read_first-requires : goal.read_first-requires
 read_first-requires g c κs within =
-    let memo = c.next_kept_segment-found.ensures.memo.is in
-    (within, (segment-at g.subject _ _ _ _ _ c.requires.1.1.1.1.0 c.next_kept_segment-found.ensures.segment, (memo.within, items-fit _ memo.table.fit.sound)))
-
-pub scan_plain-stood-requires : goal.scan_plain-stood-requires
-scan_plain-stood-requires g c κs within =
-    let plain = read-lookaheads g.subject _ _ _ _ c.requires.1.1.0 c.num_lookaheads.ensures ∙ c.if-num_lookaheads-ne0.false in
-    (within.0, (within.1, (plain, (c.requires.1.1.0, (has-lost _ _ _ _ _ _ _ c.requires.1.1.1.0 (lost-plain _ _ plain), (refl, (c.requires.1.1.1.1.0, (c.requires.1.1.1.1.1.0, c.requires.1.1.1.1.1.1))))))))
-
-pub read_first-requires-then-found-place : goal.read_first-requires-then-found-place
-read_first-requires-then-found-place g c κs within =
-    let memo = (plain-memo g.subject _ _ _ _ _ _ _ _ (read-lookaheads g.subject _ _ _ _ c.requires.1.1.0 c.num_lookaheads.ensures ∙ c.if-num_lookaheads-ne0.false) c.scan_plain-stood.ensures.scanned
+    let memo = (plain-memo g.subject _ _ _ _ _ _ _ _ c.scan_plain-stood.ensures.scanned
     c.scan_plain-stood.ensures.read c.requires.1.1.1.1.0 c.requires.1.1.1.1.1.0).is in
     (within, (segment-at g.subject _ _ _ _ _ c.requires.1.1.1.1.0 (segment-sought g.subject _ _ c.args.start _ _ _ (plain-segment _ _ _ _ _ _ c.scan_plain-stood.ensures.scanned) c.scan_plain-stood.ensures.stands refl c.seek.ensures), (memo.within, items-fit _ memo.table.fit.sound)))
 
 pub returns-then-found-place-clause-memo : goal.returns-then-found-place-clause-memo
 returns-then-found-place-clause-memo g c =
-    plain-memo g.subject _ _ _ _ _ _ _ _ (read-lookaheads g.subject _ _ _ _ c.requires.1.1.0 c.num_lookaheads.ensures ∙ c.if-num_lookaheads-ne0.false) c.scan_plain-stood.ensures.scanned
+    plain-memo g.subject _ _ _ _ _ _ _ _ c.scan_plain-stood.ensures.scanned
     c.scan_plain-stood.ensures.read c.requires.1.1.1.1.0 c.requires.1.1.1.1.1.0
 
 pub returns-then-found-place-clause-segment : goal.returns-then-found-place-clause-segment
@@ -32,7 +22,7 @@ returns-then-found-place-clause-segment g c =
 
 pub returns-else-found-place-clause-memo : goal.returns-else-found-place-clause-memo
 returns-else-found-place-clause-memo g c =
-    plain-memo g.subject _ _ _ _ _ _ _ _ (read-lookaheads g.subject _ _ _ _ c.requires.1.1.0 c.num_lookaheads.ensures ∙ c.if-num_lookaheads-ne0.false) c.scan_plain-stood.ensures.scanned
+    plain-memo g.subject _ _ _ _ _ _ _ _ c.scan_plain-stood.ensures.scanned
     c.scan_plain-stood.ensures.read c.requires.1.1.1.1.0 c.requires.1.1.1.1.1.0
 
 pub returns-else-found-place-clause-segment : goal.returns-else-found-place-clause-segment
@@ -43,5 +33,5 @@ pub returns-else-found-place-clause-ahead : goal.returns-else-found-place-clause
 returns-else-found-place-clause-ahead g c =
     segment-ahead g.subject _ _ _ _ _ _ _ _ c.scan_plain-stood.ensures.ahead
     (segment-sought g.subject _ _ c.args.start _ _ _ (plain-segment _ _ _ _ _ _ c.scan_plain-stood.ensures.scanned) c.scan_plain-stood.ensures.stands refl c.seek.ensures)
-    (plain-memo g.subject _ _ _ _ _ _ _ _ (read-lookaheads g.subject _ _ _ _ c.requires.1.1.0 c.num_lookaheads.ensures ∙ c.if-num_lookaheads-ne0.false) c.scan_plain-stood.ensures.scanned
+    (plain-memo g.subject _ _ _ _ _ _ _ _ c.scan_plain-stood.ensures.scanned
     c.scan_plain-stood.ensures.read c.requires.1.1.1.1.0 c.requires.1.1.1.1.1.0).is.within c.if-found-place.false

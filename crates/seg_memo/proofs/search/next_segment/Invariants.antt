@@ -1,8 +1,5 @@
 use Rattle.seg_memo.proofs.search.next_segment.Given as goal
 
-abbrev pub ghost-next_kept_segment : goal.ghost-next_kept_segment
-ghost-next_kept_segment g a = g.subject
-
 abbrev pub ghost-scan_plain : goal.ghost-scan_plain
 ghost-scan_plain g a = record { subject = g.subject; start = a.start }
 

@@ -1,8 +1,8 @@
 use Rattle.std.proofs.Common.{◌≡◌, suc, ◌+◌, length, min}
 use Rattle.seg_machine.specs.Tailored.{parts_of}
-use Rattle.seg_memo.specs.Configurations.{configuration, following}
+use Rattle.seg_memo.specs.Configurations.{configuration, floor, following}
 use Rattle.seg_memo.specs.Grids.{IsKeptSymbol, IsReadBy, CursorStandsAt}
-use Rattle.seg_memo.proofs.Onward.{Turn, floor}
+use Rattle.seg_memo.proofs.Onward.{Turn}
 use Rattle.seg_memo.proofs.search.scan_plain.Given as goal
 
 abbrev pub ghost-next_symbol : goal.ghost-next_symbol
@@ -10,6 +10,9 @@ ghost-next_symbol g a = g.scan.subject
 
 abbrev pub ghost-mark : goal.ghost-mark
 ghost-mark g a = record { subject = g.scan.subject; start = a.from }
+
+abbrev pub ghost-scan_kept : goal.ghost-scan_kept
+ghost-scan_kept g a = record { subject = g.scan.subject; start = g.scan.start; last = a.last }
 
 abbrev pub invariant-scan : goal.invariant-scan
 invariant-scan g l = record {
