@@ -40,25 +40,26 @@ const SHIFT: &str = "5";
 
 /// The machine of a row.
 pub fn machine_of(alloc: Global, row: Row<'_>) -> Result<SegmenterStateMachine> {
+    let lookaheads = number_of(row.part_since("lookaheads", "machine").unwrap_or("0"))?;
+    let lookaheads = usize::from(lookaheads);
+    let shift = number_of(row.part("shift").unwrap_or(SHIFT))?;
     let states = states_in(alloc, row)?;
     let moves = moves_in(alloc, row, states.len())?;
     let map = map_in(alloc, row)?;
-    let lookaheads = number_of(row.part_since("lookaheads", "machine").unwrap_or("0"))?;
-    let shift = number_of(row.part("shift").unwrap_or(SHIFT))?;
     let symbols = symbols_in(alloc, row)?;
-    let lookaheads = usize::from(lookaheads);
     Ok(SegmenterStateMachine::try_from_parts(symbols, states, moves, lookaheads, shift, map)?)
 }
 
 // The sample machine of a row.
 fn sample_machine(alloc: Global, row: Row<'_>) -> Result<SegmenterStateMachine> {
-    Ok(match row.words("machine")? {
-        "bench clusters" => cluster_machine(alloc)?,
-        "bench sentences" => sentence_machine(alloc)?,
-        "bench words" => word_machine(alloc)?,
-        "bench lines" => line_machine(alloc)?,
+    let machine = match row.words("machine")? {
+        "bench clusters" => cluster_machine(alloc),
+        "bench sentences" => sentence_machine(alloc),
+        "bench words" => word_machine(alloc),
+        "bench lines" => line_machine(alloc),
         _ => bail!("no machine"),
-    })
+    };
+    Ok(machine?)
 }
 
 fn symbols_in(alloc: Global, row: Row<'_>) -> Result<ClassTable> {
@@ -154,14 +155,15 @@ pub fn table_of(alloc: Global, row: Row<'_>) -> Result<RuleBreakData> {
 
 // The sample pair table of a row.
 fn sample_table(alloc: Global, row: Row<'_>) -> Result<RuleBreakData> {
-    Ok(match row.words("table")? {
-        "bench clusters" => cluster_table(alloc)?,
-        "bench sentences" => sentence_table(alloc)?,
-        "bench words" => word_table(alloc)?,
-        "bench lines" => line_table(alloc)?,
-        "bench turns" => turn_table(alloc)?,
+    let table = match row.words("table")? {
+        "bench clusters" => cluster_table(alloc),
+        "bench sentences" => sentence_table(alloc),
+        "bench words" => word_table(alloc),
+        "bench lines" => line_table(alloc),
+        "bench turns" => turn_table(alloc),
         _ => bail!("no table"),
-    })
+    };
+    Ok(table?)
 }
 
 fn classes_in(alloc: Global, row: Row<'_>) -> Result<ClassTable> {
