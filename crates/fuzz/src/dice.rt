@@ -69,6 +69,12 @@ impl Dice {
         if bound == 0 { 0 } else { self.byte() % bound }
     }
 
+    /// Another byte than this one, mostly a little higher.
+    pub fn other(&mut self, byte: u8) -> u8 {
+        let most = if self.comes(160) { 7 } else { 255 };
+        byte.wrapping_add(self.below(most).saturating_add(1))
+    }
+
     /// Whether something comes that comes so many times in 256.
     pub fn comes(&mut self, times: u8) -> bool {
         self.byte() < times

@@ -2,12 +2,14 @@
 //!
 //! The arguments are how many cases of each kind are tried, and the seed of the first; the others have those after it. What is
 //! printed of a kind is how many cases had boundaries, of how many of them there was a memo, and of how many the data were refused,
-//! by fault.
+//! by fault. A hundred times as many certificates of `seg_rules` are changed, and of each part of one is printed how many are accepted.
 //!
 //! With `ranges` a table of as many ranges as there can be is tried, and with `refusals` what takes memory (`refusals`).
 #![tactic(auto)]
 
 mod cases;
+mod certificate;
+mod changes;
 mod dice;
 mod failure;
 mod machines;
@@ -16,12 +18,14 @@ mod parts;
 mod ranges;
 mod refusals;
 mod samples;
+mod small;
 mod tables;
 mod tally;
 mod trial;
 
 use anyhow::{Context, Result};
 use cases::Kind;
+use changes::try_changes;
 use failure::Failure;
 use ranges::try_ranges;
 use refusals::try_named;
@@ -65,6 +69,9 @@ fn words(rt: &HostRuntime) -> Result<Vec<String>, Failure> {
     Ok(words)
 }
 
+// How many times as many certificates are changed as there are cases of a kind.
+const CHANGES: u64 = 100;
+
 fn try_cases(rt: &HostRuntime, cases: &str, seed: &str) -> Result<()> {
     let cases = cases.parse().context("the number of cases")?;
     let seed = seed.parse().context("the seed")?;
@@ -72,6 +79,12 @@ fn try_cases(rt: &HostRuntime, cases: &str, seed: &str) -> Result<()> {
         let tally = tally_of(rt.alloc(), kind, cases, seed)?;
         println!(rt; "{kind:?}: {tally}")?;
     }
+    try_changes(
+        rt.alloc(),
+        cases.saturating_mul(CHANGES),
+        seed,
+        &mut rt.stdout(),
+    )?;
     Ok(())
 }
 

@@ -40,56 +40,87 @@ const SHIFT: &str = "5";
 
 /// The machine of a row.
 pub fn machine_of(alloc: Global, row: Row<'_>) -> Result<SegmenterStateMachine> {
-    let states = states_in(alloc, row)?;
-    let moves = moves_in(alloc, row, states.len())?;
-    let map = map_in(alloc, row)?;
+    let sample = sample_machine(alloc, row)?;
+    machine_like(alloc, row, sample.as_ref())
+}
+
+// The machine of a row, with the parts of a sample where the row has none of its own.
+fn machine_like(
+    alloc: Global,
+    row: Row<'_>,
+    sample: Option<&SegmenterStateMachine>,
+) -> Result<SegmenterStateMachine> {
     let lookaheads = number_of(row.part_since("lookaheads", "machine").unwrap_or("0"))?;
-    let shift = number_of(row.part("shift").unwrap_or(SHIFT))?;
-    let symbols = symbols_in(alloc, row)?;
     let lookaheads = usize::from(lookaheads);
+    let shift = number_of(row.part("shift").unwrap_or(SHIFT))?;
+    let states = states_in(alloc, row, sample)?;
+    let moves = moves_in(alloc, row, sample, states.len())?;
+    let map = map_in(alloc, row, sample)?;
+    let symbols = symbols_in(alloc, row, sample)?;
     Ok(SegmenterStateMachine::try_from_parts(symbols, states, moves, lookaheads, shift, map)?)
 }
 
-// The sample machine of a row.
-fn sample_machine(alloc: Global, row: Row<'_>) -> Result<SegmenterStateMachine> {
-    Ok(match row.words("machine")? {
-        "bench clusters" => cluster_machine(alloc)?,
-        "bench sentences" => sentence_machine(alloc)?,
-        "bench words" => word_machine(alloc)?,
-        "bench lines" => line_machine(alloc)?,
+// The sample machine of a row, if it names one.
+fn sample_machine(alloc: Global, row: Row<'_>) -> Result<Option<SegmenterStateMachine>> {
+    let machine = match row.part("machine") {
+        None => return Ok(None),
+        Some("bench clusters") => cluster_machine(alloc),
+        Some("bench sentences") => sentence_machine(alloc),
+        Some("bench words") => word_machine(alloc),
+        Some("bench lines") => line_machine(alloc),
         _ => bail!("no machine"),
-    })
+    };
+    Ok(Some(machine?))
 }
 
-fn symbols_in(alloc: Global, row: Row<'_>) -> Result<ClassTable> {
+// A sample, which must be there.
+fn named<T>(sample: Option<&T>) -> Result<&T> {
+    Ok(sample.context("a sample, or a part of the row")?)
+}
+
+fn symbols_in(
+    alloc: Global,
+    row: Row<'_>,
+    sample: Option<&SegmenterStateMachine>,
+) -> Result<ClassTable> {
     match row.part_since("symbols", "machine") {
         Some(words) => classes_of(alloc, words),
-        None => copy_of(alloc, sample_machine(alloc, row)?.symbols()),
+        None => copy_of(alloc, named(sample)?.symbols()),
     }
 }
 
-fn states_in(alloc: Global, row: Row<'_>) -> Result<Vec<(Acceptance, Option<Lookahead>)>> {
+fn states_in(
+    alloc: Global,
+    row: Row<'_>,
+    sample: Option<&SegmenterStateMachine>,
+) -> Result<Vec<(Acceptance, Option<Lookahead>)>> {
     match row.part_since("states", "machine") {
         Some(words) => states_of(alloc, words),
-        None => Ok(Vec::from_slice(alloc, sample_machine(alloc, row)?.states())?),
+        None => Ok(Vec::from_slice(alloc, named(sample)?.states())?),
     }
 }
 
-fn map_in(alloc: Global, row: Row<'_>) -> Result<Vec<(Symbol, ComplexScript)>> {
-    match (row.part_since("map", "machine"), row.part("machine")) {
+fn map_in(
+    alloc: Global,
+    row: Row<'_>,
+    sample: Option<&SegmenterStateMachine>,
+) -> Result<Vec<(Symbol, ComplexScript)>> {
+    match (row.part_since("map", "machine"), sample) {
         (Some(words), _) => map_of(alloc, words),
         (None, None) => Ok(Vec::new(alloc)),
-        (None, Some(_)) => Ok(Vec::from_slice(
-            alloc,
-            sample_machine(alloc, row)?.pseudo_symbol_map(),
-        )?),
+        (None, Some(machine)) => Ok(Vec::from_slice(alloc, machine.pseudo_symbol_map())?),
     }
 }
 
-fn moves_in(alloc: Global, row: Row<'_>, states: usize) -> Result<Vec<State>> {
+fn moves_in(
+    alloc: Global,
+    row: Row<'_>,
+    sample: Option<&SegmenterStateMachine>,
+    states: usize,
+) -> Result<Vec<State>> {
     match row.part_since("moves", "machine") {
         Some(words) => moves_of(alloc, states, words),
-        None => Ok(Vec::from_slice(alloc, sample_machine(alloc, row)?.transitions())?),
+        None => Ok(Vec::from_slice(alloc, named(sample)?.transitions())?),
     }
 }
 
@@ -145,44 +176,60 @@ pub fn override_of(alloc: Global, row: Row<'_>) -> Result<Option<RuleBreakDataOv
 
 /// The pair table of a row.
 pub fn table_of(alloc: Global, row: Row<'_>) -> Result<RuleBreakData> {
-    let (count, [last, start, end, complex]) = table_numbers(alloc, row)?;
-    let entries = entries_in(alloc, row, count)?;
-    let statuses = statuses_in(alloc, row)?;
-    let classes = classes_in(alloc, row)?;
+    let sample = sample_table(alloc, row)?;
+    table_like(alloc, row, sample.as_ref())
+}
+
+// The pair table of a row, with the parts of a sample where the row has none of its own.
+fn table_like(
+    alloc: Global,
+    row: Row<'_>,
+    sample: Option<&RuleBreakData>,
+) -> Result<RuleBreakData> {
+    let (count, [last, start, end, complex]) = table_numbers(alloc, row, sample)?;
+    let entries = entries_in(alloc, row, sample, count)?;
+    let statuses = statuses_in(alloc, row, sample)?;
+    let classes = classes_in(alloc, row, sample)?;
     Ok(RuleBreakData::try_from_parts(classes, entries, statuses, count, last, start, end, complex)?)
 }
 
-// The sample pair table of a row.
-fn sample_table(alloc: Global, row: Row<'_>) -> Result<RuleBreakData> {
-    Ok(match row.words("table")? {
-        "bench clusters" => cluster_table(alloc)?,
-        "bench sentences" => sentence_table(alloc)?,
-        "bench words" => word_table(alloc)?,
-        "bench lines" => line_table(alloc)?,
-        "bench turns" => turn_table(alloc)?,
+// The sample pair table of a row, if it names one.
+fn sample_table(alloc: Global, row: Row<'_>) -> Result<Option<RuleBreakData>> {
+    let table = match row.part("table") {
+        None => return Ok(None),
+        Some("bench clusters") => cluster_table(alloc),
+        Some("bench sentences") => sentence_table(alloc),
+        Some("bench words") => word_table(alloc),
+        Some("bench lines") => line_table(alloc),
+        Some("bench turns") => turn_table(alloc),
         _ => bail!("no table"),
-    })
+    };
+    Ok(Some(table?))
 }
 
-fn classes_in(alloc: Global, row: Row<'_>) -> Result<ClassTable> {
+fn classes_in(alloc: Global, row: Row<'_>, sample: Option<&RuleBreakData>) -> Result<ClassTable> {
     match row.part_since("classes", "table") {
         Some(words) => classes_of(alloc, words),
-        None => copy_of(alloc, sample_table(alloc, row)?.property_table()),
+        None => copy_of(alloc, named(sample)?.property_table()),
     }
 }
 
-fn statuses_in(alloc: Global, row: Row<'_>) -> Result<Vec<u8>> {
+fn statuses_in(alloc: Global, row: Row<'_>, sample: Option<&RuleBreakData>) -> Result<Vec<u8>> {
     match row.part_since("statuses", "table") {
         Some(words) => numbers_of(alloc, words),
-        None => Ok(Vec::from_slice(alloc, sample_table(alloc, row)?.rule_status_table())?),
+        None => Ok(Vec::from_slice(alloc, named(sample)?.rule_status_table())?),
     }
 }
 
 // How many classes there are, and those that have a meaning of their own: the last of code points, of the start, of the end, complex.
-fn table_numbers(alloc: Global, row: Row<'_>) -> Result<(u8, [u8; 4])> {
+fn table_numbers(
+    alloc: Global,
+    row: Row<'_>,
+    sample: Option<&RuleBreakData>,
+) -> Result<(u8, [u8; 4])> {
     let (count, [last, start, end, complex]) = match row.part_since("numbers", "table") {
         Some(words) => numbers_in(alloc, words)?,
-        None => numbers_of_table(&sample_table(alloc, row)?),
+        None => numbers_of_table(named(sample)?),
     };
     let complex = match row.part_since("complex", "table") {
         Some(words) => number_of(words)?,
@@ -205,8 +252,13 @@ fn numbers_of_table(table: &RuleBreakData) -> (u8, [u8; 4]) {
 }
 
 // The entries: those of the sample or others, and what is set in their places, each two classes.
-fn entries_in(alloc: Global, row: Row<'_>, count: u8) -> Result<Vec<BreakState>> {
-    let mut entries = all_entries(alloc, row, count)?;
+fn entries_in(
+    alloc: Global,
+    row: Row<'_>,
+    sample: Option<&RuleBreakData>,
+    count: u8,
+) -> Result<Vec<BreakState>> {
+    let mut entries = all_entries(alloc, row, sample, count)?;
     let words = row.part_since("set", "table").unwrap_or("");
     for word in words.split_whitespace() {
         let (left, right, byte) = cell_of(word)?;
@@ -216,10 +268,15 @@ fn entries_in(alloc: Global, row: Row<'_>, count: u8) -> Result<Vec<BreakState>>
     Ok(entries)
 }
 
-fn all_entries(alloc: Global, row: Row<'_>, count: u8) -> Result<Vec<BreakState>> {
+fn all_entries(
+    alloc: Global,
+    row: Row<'_>,
+    sample: Option<&RuleBreakData>,
+    count: u8,
+) -> Result<Vec<BreakState>> {
     match row.part_since("entries", "table") {
         Some(words) => entries_of(alloc, words, count),
-        None => Ok(Vec::from_slice(alloc, sample_table(alloc, row)?.break_state_table())?),
+        None => Ok(Vec::from_slice(alloc, named(sample)?.break_state_table())?),
     }
 }
 

@@ -21,18 +21,22 @@ use std::alloc::Global;
 /// The items of a text, each as its place and its code point, and then the text's end.
 pub fn items(alloc: Global, row: Row<'_>) -> Result<String> {
     let sample = Sample::of(alloc, row)?;
-    match sample.text() {
+    items_of(alloc, sample.text())
+}
+
+fn items_of(alloc: Global, text: Text<'_>) -> Result<String> {
+    match text {
         Text::Latin1(bytes) => both(
-            items_in::<Latin1>(alloc, Latin1Indices::new(bytes), bytes.len())?,
-            characters_in(alloc, Latin1Indices::new(bytes), bytes.len())?,
+            items_in::<Latin1>(alloc, Latin1Indices::new(bytes), bytes.len()),
+            characters_in(alloc, Latin1Indices::new(bytes), bytes.len()),
         ),
         Text::Utf8(bytes) => both(
-            items_in::<PotentiallyIllFormedUtf8>(alloc, Utf8CharIndices::new(bytes), bytes.len())?,
-            characters_in(alloc, Utf8CharIndices::new(bytes), bytes.len())?,
+            items_in::<PotentiallyIllFormedUtf8>(alloc, Utf8CharIndices::new(bytes), bytes.len()),
+            characters_in(alloc, Utf8CharIndices::new(bytes), bytes.len()),
         ),
         Text::Utf16(units) => both(
-            items_in::<Utf16>(alloc, Utf16Indices::new(units), units.len())?,
-            characters_in(alloc, Utf16Indices::new(units), units.len())?,
+            items_in::<Utf16>(alloc, Utf16Indices::new(units), units.len()),
+            characters_in(alloc, Utf16Indices::new(units), units.len()),
         ),
         Text::Str(text) => items_of_str(alloc, text),
     }
@@ -42,14 +46,15 @@ pub fn items(alloc: Global, row: Row<'_>) -> Result<String> {
 fn items_of_str(alloc: Global, text: &str) -> Result<String> {
     str_is_well_formed(text);
     both(
-        items_in::<Utf8>(alloc, StrCharIndices::new(text), text.len())?,
-        characters_in(alloc, StrCharIndices::new(text), text.len())?,
+        items_in::<Utf8>(alloc, StrCharIndices::new(text), text.len()),
+        characters_in(alloc, StrCharIndices::new(text), text.len()),
     )
 }
 
 // The items, where the characters are the same.
-fn both(items: String, characters: String) -> Result<String> {
-    if items != characters {
+fn both(items: Result<String>, characters: Result<String>) -> Result<String> {
+    let items = items?;
+    if items != characters? {
         bail!("the iterator gives others");
     }
     Ok(items)
@@ -118,7 +123,13 @@ pub fn slice(alloc: Global, row: Row<'_>) -> Result<String> {
         bail!("a slice that ends before it begins");
     }
     let sample = Sample::of(alloc, row)?;
-    match sample.text() {
+    slice_of(alloc, sample.text(), from, to)
+}
+
+fn slice_of(alloc: Global, text: Text<'_>, from: usize, to: usize) -> Result<String>
+    requires { from ≤ to }
+{
+    match text {
         Text::Latin1(bytes) => slice_in::<Latin1>(alloc, Latin1Indices::new(bytes), from, to),
         Text::Utf8(bytes) => slice_in::<PotentiallyIllFormedUtf8>(
             alloc,
@@ -165,7 +176,11 @@ fn place_after<I: Cursor>(text: &I, taken: usize) -> usize
 pub fn rest(alloc: Global, row: Row<'_>) -> Result<String> {
     let taken = row.number("taken")?;
     let sample = Sample::of(alloc, row)?;
-    match sample.text() {
+    rest_of(alloc, sample.text(), taken)
+}
+
+fn rest_of(alloc: Global, text: Text<'_>, taken: usize) -> Result<String> {
+    match text {
         Text::Latin1(bytes) => rest_in(alloc, Latin1Indices::new(bytes), taken),
         Text::Utf8(bytes) => rest_in(alloc, Utf8CharIndices::new(bytes), taken),
         Text::Utf16(units) => rest_in(alloc, Utf16Indices::new(units), taken),

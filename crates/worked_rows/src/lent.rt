@@ -25,84 +25,106 @@ pub fn lend<'a>(parts: &'a Parts, kind: Kind, options: &Options) -> Result<Segme
 }
 
 fn clusters(parts: &Parts, kind: Kind) -> Result<GraphemeClusterSegmenterBorrowed<'_>> {
-    Ok(match kind {
-        Kind::NeoClusters => GraphemeClusterSegmenterBorrowed::new_neo(lent(&parts.machine)?)?,
-        _ => GraphemeClusterSegmenterBorrowed::new(lent(&parts.table)?)?,
-    })
+    let clusters = match kind {
+        Kind::NeoClusters => GraphemeClusterSegmenterBorrowed::new_neo(lent(&parts.machine)?),
+        _ => GraphemeClusterSegmenterBorrowed::new(lent(&parts.table)?),
+    };
+    Ok(clusters?)
 }
 
 fn sentences(parts: &Parts, kind: Kind) -> Result<SentenceSegmenterBorrowed<'_>> {
     let options = SentenceBreakInvariantOptions::default();
-    Ok(match kind {
-        Kind::NeoSentences => SentenceSegmenterBorrowed::new_neo(
-            lent(&parts.machine)?,
-            parts.tailoring.as_ref(),
-            options,
-        )?,
-        _ => SentenceSegmenterBorrowed::new(
-            lent(&parts.table)?,
-            parts.overriding.as_ref(),
-            options,
-        )?,
-    })
+    let sentences = match kind {
+        Kind::NeoSentences => {
+            let machine = lent(&parts.machine)?;
+            SentenceSegmenterBorrowed::new_neo(machine, parts.tailoring.as_ref(), options)
+        }
+        _ => {
+            let table = lent(&parts.table)?;
+            SentenceSegmenterBorrowed::new(table, parts.overriding.as_ref(), options)
+        }
+    };
+    Ok(sentences?)
 }
 
 fn words(parts: &Parts, kind: Kind) -> Result<WordSegmenterBorrowed<'_>> {
-    let options = WordBreakInvariantOptions::default();
-    let clusters = lent(&parts.cluster_table)?;
-    let mut words = match (kind, &parts.first) {
-        (Kind::NeoWords, _) => WordSegmenterBorrowed::new_neo_for_non_complex_scripts(
-            lent(&parts.machine)?,
-            clusters,
-            options,
-        )?,
-        (_, Some(first)) => WordSegmenterBorrowed::new_dictionary(
-            lent(&parts.table)?,
-            parts.overriding.as_ref(),
-            clusters,
-            first.as_borrowed(),
-            options,
-        )?,
-        (_, None) => WordSegmenterBorrowed::new_for_non_complex_scripts(
-            lent(&parts.table)?,
-            parts.overriding.as_ref(),
-            clusters,
-            options,
-        )?,
+    let mut words = match kind {
+        Kind::NeoWords => neo_words(parts)?,
+        _ => table_words(parts)?,
     };
     words.load_dictionary(lent(&parts.later)?.as_borrowed());
     Ok(words)
 }
 
-fn lines<'a>(parts: &'a Parts, kind: Kind, options: &Options) -> Result<LineSegmenterBorrowed<'a>> {
-    let options = options.of_lines();
-    let mut lines = match (kind, &parts.first) {
-        (Kind::NeoLines, _) => LineSegmenterBorrowed::new_neo_for_non_complex_scripts(
-            lent(&parts.machine)?,
-            parts.tailorings.as_borrowed(),
-            lent(&parts.cluster_machine)?,
-            options,
-        )?,
-        (Kind::Lines17, _) => LineSegmenterBorrowed::new_17_for_non_complex_scripts(
-            lent(&parts.table)?,
-            lent(&parts.cluster_table)?,
-            options,
-        )?,
-        (_, Some(first)) => LineSegmenterBorrowed::new_dictionary(
-            lent(&parts.table)?,
-            lent(&parts.cluster_table)?,
-            first.as_borrowed(),
-            options,
-        )?,
-        (_, None) => LineSegmenterBorrowed::new_for_non_complex_scripts(
-            lent(&parts.table)?,
-            lent(&parts.cluster_table)?,
-            options,
-        )?,
+fn neo_words(parts: &Parts) -> Result<WordSegmenterBorrowed<'_>> {
+    let machine = lent(&parts.machine)?;
+    let clusters = lent(&parts.cluster_table)?;
+    let options = WordBreakInvariantOptions::default();
+    Ok(WordSegmenterBorrowed::new_neo_for_non_complex_scripts(machine, clusters, options)?)
+}
+
+// Words by a pair table, with dictionaries or by the constructor that takes none.
+fn table_words(parts: &Parts) -> Result<WordSegmenterBorrowed<'_>> {
+    let table = lent(&parts.table)?;
+    let clusters = lent(&parts.cluster_table)?;
+    let overriding = parts.overriding.as_ref();
+    let options = WordBreakInvariantOptions::default();
+    let words = match &parts.first {
+        Some(first) => {
+            let first = first.as_borrowed();
+            WordSegmenterBorrowed::new_dictionary(table, overriding, clusters, first, options)
+        }
+        None => WordSegmenterBorrowed::new_for_non_complex_scripts(
+            table, overriding, clusters, options,
+        ),
     };
-    if let (Kind::Lines17, Some(first)) = (kind, &parts.first) {
+    Ok(words?)
+}
+
+fn lines<'a>(parts: &'a Parts, kind: Kind, options: &Options) -> Result<LineSegmenterBorrowed<'a>> {
+    let mut lines = match kind {
+        Kind::NeoLines => neo_lines(parts, options)?,
+        Kind::Lines17 => lines_17(parts, options)?,
+        _ => table_lines(parts, options)?,
+    };
+    lines.load_dictionary(lent(&parts.later)?.as_borrowed());
+    Ok(lines)
+}
+
+fn neo_lines<'a>(parts: &'a Parts, options: &Options) -> Result<LineSegmenterBorrowed<'a>> {
+    let machine = lent(&parts.machine)?;
+    let clusters = lent(&parts.cluster_machine)?;
+    Ok(LineSegmenterBorrowed::new_neo_for_non_complex_scripts(
+        machine,
+        parts.tailorings.as_borrowed(),
+        clusters,
+        options.of_lines(),
+    )?)
+}
+
+// Lines by a pair table, with dictionaries or by the constructor that takes none.
+fn table_lines<'a>(parts: &'a Parts, options: &Options) -> Result<LineSegmenterBorrowed<'a>> {
+    let table = lent(&parts.table)?;
+    let clusters = lent(&parts.cluster_table)?;
+    let options = options.of_lines();
+    let lines = match &parts.first {
+        Some(first) => {
+            LineSegmenterBorrowed::new_dictionary(table, clusters, first.as_borrowed(), options)
+        }
+        None => LineSegmenterBorrowed::new_for_non_complex_scripts(table, clusters, options),
+    };
+    Ok(lines?)
+}
+
+fn lines_17<'a>(parts: &'a Parts, options: &Options) -> Result<LineSegmenterBorrowed<'a>> {
+    let table = lent(&parts.table)?;
+    let clusters = lent(&parts.cluster_table)?;
+    let options = options.of_lines();
+    let mut lines = LineSegmenterBorrowed::new_17_for_non_complex_scripts(
+        table, clusters, options,
+    )?;
+    if let Some(first) = &parts.first {
         lines.load_dictionary(first.as_borrowed());
     }
-    lines.load_dictionary(lent(&parts.later)?.as_borrowed());
     Ok(lines)
 }

@@ -42,19 +42,31 @@ fn cuts_by(
     let offset = usize::from(number_of(row.part("offset").unwrap_or("0"))?);
     let piece = ComplexPayloadBorrowed::Dict(dictionary);
     let sample = Sample::of(alloc, row)?;
-    let cuts: Vec<usize> = match sample.text() {
+    let cuts = cuts_in(alloc, piece, clusters, offset, sample.text())?;
+    Ok(shown_cuts(alloc, cuts.as_slice())?)
+}
+
+// The cuts of a piece that is not too long.
+fn cuts_in(
+    alloc: Global,
+    piece: ComplexPayloadBorrowed<'_>,
+    clusters: GraphemeClusterSegmenterBorrowed<'_>,
+    offset: usize,
+    text: Text<'_>,
+) -> Result<Vec<usize>> {
+    let cuts = match text {
         Text::Str(text) if text.len() < LONGEST => {
-            piece.segment_str(text, clusters, offset).collect(alloc)?
+            piece.segment_str(text, clusters, offset).collect(alloc)
         }
         Text::Utf8(bytes) if bytes.len() < LONGEST => {
-            piece.segment_utf8(bytes, clusters, offset).collect(alloc)?
+            piece.segment_utf8(bytes, clusters, offset).collect(alloc)
         }
-        Text::Utf16(units) if units.len() < LONGEST => piece
-            .segment_utf16(units, clusters, offset)
-            .collect(alloc)?,
+        Text::Utf16(units) if units.len() < LONGEST => {
+            piece.segment_utf16(units, clusters, offset).collect(alloc)
+        }
         _ => bail!("a text that is too long"),
     };
-    Ok(shown_cuts(alloc, cuts.as_slice())?)
+    Ok(cuts?)
 }
 
 /// The cuts of a run, by the words and the clusters of the machine.

@@ -13,7 +13,7 @@ use crate::parts::{Kind, Parts, kind_of};
 use crate::row::Row;
 use crate::samples::Sample;
 use anyhow::{Result, bail};
-use bench::segmenter::SegmenterBorrowed;
+use bench::segmenter::{SegmenterBorrowed, Text};
 use icu_segmenter::GraphemeClusterSegmenterBorrowed;
 use std::alloc::{AllocError, Global};
 
@@ -86,15 +86,26 @@ fn answer(
     segmenter: SegmenterBorrowed<'_>,
 ) -> Result<String> {
     let sample = Sample::of(alloc, row)?;
-    match manner {
-        Manner::Memo => memo_answer(alloc, segmenter, sample.text()),
-        Manner::Shown => Ok(shown_answer(alloc, segmenter)?),
-        Manner::Boundaries if row.part("data").is_some() => Ok("accepted".to_owned(alloc)?),
+    answer_of(alloc, row, manner, segmenter, sample.text())
+}
+
+fn answer_of(
+    alloc: Global,
+    row: Row<'_>,
+    manner: Manner,
+    segmenter: SegmenterBorrowed<'_>,
+    text: Text<'_>,
+) -> Result<String> {
+    let answer = match manner {
+        Manner::Memo => return memo_answer(alloc, segmenter, text),
+        Manner::Shown => shown_answer(alloc, segmenter),
+        Manner::Boundaries if row.part("data").is_some() => "accepted".to_owned(alloc),
         Manner::Boundaries if row.part("short-texts").is_some() => {
-            Ok(short_texts_answer(alloc, segmenter)?)
+            short_texts_answer(alloc, segmenter)
         }
-        Manner::Boundaries => Ok(boundaries_in_all(alloc, segmenter, sample.text())?),
-    }
+        Manner::Boundaries => boundaries_in_all(alloc, segmenter, text),
+    };
+    Ok(answer?)
 }
 
 // How an iterator of words or lines is shown: the name before its fields.
