@@ -59,23 +59,26 @@ fn characters_of(alloc: Global, code_points: &str) -> Result<Vec<char>> {
 }
 
 fn compare(rt: &HostRuntime, name: &str, engine: Engine, characters: &[char]) -> Result<()> {
-    let table = engine.segmenter(rt.alloc())?;
-    let machine = engine.machine().segmenter(rt.alloc())?;
+    let Differences {
+        texts,
+        differ,
+        shortest,
+    } = differences_of(rt.alloc(), engine, characters)?;
+    let shortest = written(rt.alloc(), shortest.as_slice())?;
+    let (by_table, by_machine) = (engine.name(), engine.machine().name());
+    println!(rt; "{name}; {by_table}, {by_machine}: {texts} texts, {differ} differ{shortest}")?;
+    Ok(())
+}
+
+fn differences_of(alloc: Global, engine: Engine, characters: &[char]) -> Result<Differences> {
+    let table = engine.segmenter(alloc)?;
+    let machine = engine.machine().segmenter(alloc)?;
     let comparison = Comparison {
         table: &table,
         machine: &machine,
         characters,
     };
-    let found = comparison.differences(rt.alloc())?;
-    let (by_table, by_machine) = (engine.name(), engine.machine().name());
-    let Differences {
-        texts,
-        differ,
-        shortest,
-    } = found;
-    let shortest = written(rt.alloc(), shortest.as_slice())?;
-    println!(rt; "{name}; {by_table}, {by_machine}: {texts} texts, {differ} differ{shortest}")?;
-    Ok(())
+    comparison.differences(alloc)
 }
 
 // What is printed of the shortest text that differs.
