@@ -77,16 +77,25 @@ impl Engine {
         }
     }
 
-    /// How many tests of its file are of rules that have changed since. The engine 17 has a break between a space and `.35`, as UAX #14
-    /// has since version 16.0 (LB15c), and 15.0 has none. By UAX #29 of Unicode 18.0 one of clusters and two of words differ, which hold
-    /// U+2701, no longer Extended_Pictographic. By UAX #14 in the form of revision 55 it is 33 of lines: 13 by LB25, 10 by LB20a, 6 by LB15
-    /// (which is gone), 2 by LB15a, 1 by LB15c and 1 by LB21a.
+    /// How many tests of its file are of what has changed since 15.0. One of clusters and two of words hold U+2701, no longer
+    /// Extended_Pictographic. It is 33 of lines: 13 by LB25, 10 by LB20a, 6 by LB15 (which is gone), 2 by LB15a, 1 by LB15c and 1 by LB21a.
     pub fn changed_since(self) -> u32 {
         match self {
-            Engine::ProvedLines => 33,
-            Engine::LineTurns | Engine::ProvedClusters => 1,
-            Engine::ProvedWords | Engine::TypedWords => 2,
-            _ => 0,
+            Engine::ClusterTable | Engine::ProvedClusters => 1,
+            Engine::WordTable | Engine::ProvedWords | Engine::TypedWords => 2,
+            Engine::SentenceTable | Engine::ProvedSentences => 0,
+            Engine::LineTable | Engine::LineTurns | Engine::ProvedLines => 33,
+        }
+    }
+
+    /// The engine by a machine that finds the same.
+    pub fn machine(self) -> Engine {
+        match self {
+            Engine::ClusterTable | Engine::ProvedClusters => Engine::ProvedClusters,
+            Engine::WordTable | Engine::TypedWords => Engine::TypedWords,
+            Engine::ProvedWords => Engine::ProvedWords,
+            Engine::SentenceTable | Engine::ProvedSentences => Engine::ProvedSentences,
+            Engine::LineTable | Engine::LineTurns | Engine::ProvedLines => Engine::ProvedLines,
         }
     }
 

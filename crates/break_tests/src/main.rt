@@ -1,11 +1,13 @@
 //! Runs the official break tests of Unicode 15.0 through the library, with the data of `icu_segmenter_data`, and rows of lines with
-//! options; and through the segmenters whose boundaries are proved to be those of UAX #29 and UAX #14, by Unicode 18.0.
+//! options; and through the segmenters whose boundaries are proved to be those of UAX #29 and UAX #14, by Unicode 18.0. Then it compares
+//! pair tables with these, on every text of up to three characters out of one for each symbol of a machine and class of a table.
 //!
 //! A test is passed where the text has just the boundaries that its line says, as str, as UTF-8 and as UTF-16; in lines also just the
 //! mandatory ones that the rules named in its comment make so. Lines that aren't passed are printed: those of rules that have changed
 //! since. The argument is the folder of the test files.
 #![tactic(auto)]
 
+mod compare;
 mod counts;
 mod engine;
 mod options;
@@ -13,6 +15,7 @@ mod sample;
 mod segmenter;
 
 use anyhow::{Context, Result};
+use compare::compare_rows;
 use counts::{Counts, counts_of, option_counts_of};
 use engine::{ENGINES, Engine};
 use std::process::ExitCode;
@@ -24,6 +27,8 @@ fn main(rt: HostRuntime) -> Result<ExitCode> {
     for engine in ENGINES {
         failed = failed.saturating_add(failed_by(&rt, folder.as_str(), engine)?);
     }
+    let rows = read(&rt, folder.as_str(), "Representatives.txt")?;
+    compare_rows(&rt, rows.as_str())?;
     Ok(if failed > 0 {
         ExitCode::FAILURE
     } else {

@@ -10,9 +10,9 @@ use data::{CLASSES, ENTRIES, NUMBERS, OTHER_CLASS};
 use icu_segmenter::provider::{DataError, RuleBreakData};
 use std::alloc::Global;
 
-/// The pair table of lines, over the classes that the classic engine of lines names (UAX #14's, where East Asian width and
-/// Extended_Pictographic split some), with numbers as example 7 of section 8.2 has them, which the official test takes too; of
-/// class SA all is complex, marks too. The only error is want of memory.
+/// The pair table of lines, over the classes that the classic engine of lines names (UAX #14's, where East Asian width,
+/// General_Category and Extended_Pictographic split some), and 13 more that the rules tell apart. Of class SA all is complex, marks too.
+/// The only error is want of memory.
 pub fn line_table(alloc: Global) -> Result<RuleBreakData, DataError>
     ensures made { IfOk result (λ t. t ≡ line_table) }
     ensures refused { IfErr result (λ fault. fault ≡ Memory) }

@@ -16,7 +16,7 @@ from compiler import CONDITION, Compiler  # noqa: E402
 from instance import Instance  # noqa: E402
 from relation import Relation  # noqa: E402
 from rows import lines_of  # noqa: E402
-from rules import line_rules  # noqa: E402
+from line_rows import line_rules  # noqa: E402
 
 NONE = 255
 

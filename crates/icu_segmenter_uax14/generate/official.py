@@ -12,7 +12,7 @@ from collections import Counter
 sys.dont_write_bytecode = True
 from symbols import Characters, Values  # noqa: E402
 from compiler import Compiler  # noqa: E402
-from rules import line_rules  # noqa: E402
+from line_rows import line_rules  # noqa: E402
 
 
 def tests(path):
