@@ -24,7 +24,6 @@ LANGUAGES = (
     ("Chinese", "zh_CN", ("apt", "dpkg"), HAN_AND_KANA),
     ("Japanese", "ja", ("apt", "dpkg"), HAN_AND_KANA),
 )
-SCRIPTS = ("thai", "lao", "khmer", "myanmar", "cj")
 
 
 def messages(path):
@@ -40,7 +39,6 @@ def messages(path):
 
 def main(arguments):
     segment, icu4c_places, words, folder = (*arguments, "/usr/share/locale")[:4]
-    lists = [it for script in SCRIPTS for it in ("--dictionary", f"{words}/{script}.txt", "--script", script)]
     for language, locale, catalogues, letter in LANGUAGES:
         text = "".join(messages(f"{folder}/{locale}/LC_MESSAGES/{name}.mo") for name in catalogues)
         path = f"{words}/{language}.text"
@@ -48,7 +46,7 @@ def main(arguments):
             it.write(text)
         # The place between two letters, in bytes.
         inner = {len(text[:found.end()].encode()) for found in re.finditer(f"{letter}(?={letter})", text)}
-        ours = subprocess.run([segment, "word", "--offsets", *lists, path], capture_output=True, text=True, check=True).stdout
+        ours = subprocess.run([segment, "word", "--offsets", "--dictionaries", words, path], capture_output=True, text=True, check=True).stdout
         theirs = subprocess.run([icu4c_places, path], capture_output=True, text=True, check=True).stdout
         ours, theirs = {int(line.split()[1]) for line in ours.splitlines()} & inner, set(map(int, theirs.split())) & inner
         print(f"{language} ({', '.join(catalogues)}): {len(re.findall(letter, text))} letters; {len(ours)}, {len(theirs)}, both {len(ours & theirs)}")

@@ -128,7 +128,9 @@ ArePaired found = length (values_of found (codes "dictionary")) ≡ length (valu
 
 -- a memo goes without dictionaries
 abbrev pub HasMemoAlone : Found → Type 0
-HasMemoAlone found = first_value found (codes "engine") ≡ Some (codes "memo") → matched_of found (codes "script") ≡ None
+HasMemoAlone found =
+    first_value found (codes "engine") ≡ Some (codes "memo")
+    → (matched_of found (codes "script") ≡ None) × (first_value found (codes "dictionaries") ≡ None)
 
 -- a request is what the word of a kind and its arguments ask for
 abbrev pub IsRequest : List ℕ → Found → Request → Type 0

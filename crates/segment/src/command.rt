@@ -66,6 +66,9 @@ const JSON_HELP: &str = "Write a JSON object for each segment: text, begin, end,
 const ENGINE_HELP: &str =
     "A state machine, a pair table, or a machine of which nothing is looked up twice [default: neo]";
 
+const DICTIONARIES_HELP: &str =
+    "A folder of such files: thai.txt, lao.txt, khmer.txt, myanmar.txt and cj.txt, as many as there are [env: SEGMENT_DICTIONARIES]";
+
 /// The arguments that there are: each kind of segments is a subcommand. The only error is want of memory.
 pub fn command_line<'a>(alloc: Global) -> Result<Command<'a>, AllocError> {
     let kinds = kind_commands(alloc)?;
@@ -167,7 +170,9 @@ fn with_line_options<'a>(alloc: Global, command: Command<'a>) -> Result<Command<
 
 fn with_dictionaries<'a>(alloc: Global, command: Command<'a>) -> Result<Command<'a>, AllocError> {
     let command = command.arg(dictionary_argument(alloc)?)?;
-    command.arg(script_argument(alloc)?)
+    let command = command.arg(script_argument(alloc)?)?;
+    let dictionaries = option(alloc, "dictionaries", DICTIONARIES_HELP).value_name("FOLDER");
+    command.arg(dictionaries)
 }
 
 fn dictionary_argument<'a>(alloc: Global) -> Result<Arg<'a>, AllocError> {
@@ -238,7 +243,17 @@ fn check_dictionaries(matches: &ArgMatches<'_>) -> Result<()>
     ensures { OnOk result (ArePaired (found_of matches.now) × HasMemoAlone (found_of matches.now)) }
 {
     let scripts = matches.get_strs("script");
-    check_memo(matches.get_str("engine"), scripts.is_some())?;
+    let folder = matches.get_str("dictionaries");
+    check_memo(
+        matches.get_str("engine"),
+        scripts.is_some(),
+        "--dictionary <FILE>",
+    )?;
+    check_memo(
+        matches.get_str("engine"),
+        folder.is_some(),
+        "--dictionaries <FOLDER>",
+    )?;
     ensure!(
         count_of(matches.get_strs("dictionary")) == count_of(scripts),
         "each '--dictionary <FILE>' needs a '--script <script>' of its own"
@@ -249,13 +264,13 @@ fn check_dictionaries(matches: &ArgMatches<'_>) -> Result<()>
     }
 }
 
-// The error is a memo beside dictionaries.
-fn check_memo(engine: Option<&str>, has_dictionaries: bool) -> Result<()>
+// The error is a memo beside dictionaries, which an argument names.
+fn check_memo(engine: Option<&str>, has_dictionaries: bool, argument: &str) -> Result<()>
     ensures { OnOk result (option_map (λ text. text.now) engine.entry ≡ Some (codes "memo") → has_dictionaries ≡ false) }
 {
     match engine {
         Some("memo") if has_dictionaries => {
-            bail!("the argument '--engine memo' cannot be used with '--dictionary <FILE>'")
+            bail!("the argument '--engine memo' cannot be used with '{argument}'")
         }
         _ => Ok(()),
     }

@@ -5,7 +5,9 @@
 mod command;
 mod dictionary;
 mod files;
+mod folder;
 mod job;
+mod lists;
 mod run;
 
 use anyhow::{Result, bail};
@@ -69,7 +71,7 @@ fn refuse<E: std::fmt::Display>(rt: &HostRuntime, error: &E) -> Result<ExitCode>
 
 // Does it to the files that are named.
 fn run_request(rt: &HostRuntime, request: &Request, matches: &ArgMatches<'_>) -> Result<ExitCode> {
-    let dictionaries = dictionaries_of(rt, matches)?;
+    let dictionaries = dictionaries_of(rt, request.task, matches)?;
     let job = job_of(rt.alloc(), request, dictionaries)?;
     match matches.get_strs("file") {
         Some(names) => Ok(run_all(rt, &job, names)),
