@@ -13,7 +13,7 @@ mod run;
 use anyhow::{Result, bail};
 use clap::ArgMatches;
 use clap::error::ErrorKind;
-use command::{Request, command_line, request_of};
+use command::{Request, columns_by, command_line, request_of};
 use dictionary::dictionaries_of;
 use files::run_all;
 use job::job_of;
@@ -37,7 +37,8 @@ fn main(rt: HostRuntime) -> ExitCode {
 fn start(rt: &HostRuntime) -> Result<ExitCode> {
     let alloc = rt.alloc();
     let words: Vec<String> = env::args(rt)?.collect(alloc)?;
-    match command_line(alloc)?.try_get_matches_from(words.as_slice()) {
+    let columns = columns_by(words.as_slice());
+    match command_line(alloc, columns)?.try_get_matches_from(words.as_slice()) {
         Ok(matches) => follow(rt, &matches),
         Err(error) => answer(rt, &error),
     }
