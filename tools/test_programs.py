@@ -8,7 +8,9 @@ and what it must say on standard error, or how that begins where it has no line 
 `file: NAME, TEXT` makes a file that words may name, and `devices: WORDS, READ, WRITE` has the program run with a standard input that can't be read and a
 standard output that takes nothing, and says what it must complain of; with `unread: WORDS, STATUS, COMPLAINT` it has the first, and mustn't see it.
 `comes: WORDS, TEXT, WANTED, REST, WANTED` has the first text written while the rest hasn't come. `repeated: WORDS, MORE, TEXT, COUNT, REST` has the text so
-often, and then the rest, and asks whether the same is written with more words. Other lines say nothing. Each row is asked of what either compiler built.
+often, and then the rest, and asks whether the same is written with more words. `parts: WORDS, TEXT, COUNT, REST` has
+such a text split after line feeds, and asks whether the outputs of the parts are that of the whole. `set: NAME=VALUE, ROW` has a row's program find that
+in its environment. Other lines say nothing. Each row is asked of what either compiler built.
 
 The options of a manual page, crates/PROGRAM/PROGRAM.1, must be those of the program's help. It ends with 'N passed, M failed', and with status 1 where a row fails or a program isn't there.
 """
@@ -23,6 +25,8 @@ import threading
 from dataclasses import dataclass, field
 
 BUILDS = ("", ".by-rattle")
+# How long the parts of a text are at least, but the last one.
+PART = 100_000
 
 
 @dataclass
@@ -36,17 +40,20 @@ class Row:
     status: int = 0
     complaint: bytes = b""
     devices: dict = field(default_factory=dict)
+    setting: str = ""
 
     def fault(self, program, folder):
         """Returns what is wrong where the program runs so, or None."""
+        name, _, value = self.setting.partition("=")
         how = {"stdout": subprocess.PIPE, "stderr": subprocess.PIPE, **self.devices}
+        how |= {"env": {**os.environ, name: value}} if name else {}
         how |= {"input": self.given} if isinstance(self.given, bytes) else {"stdin": self.given}
         ran = subprocess.run([program, *self.words], cwd=folder, timeout=60, check=False, **how)
         wrote, said = ran.stdout or b"", ran.stderr or b""
         is_said = said == self.complaint if self.complaint[-1:] in (b"", b"\n") else said.startswith(self.complaint)
         if ran.returncode == self.status and wrote == self.wanted and is_said:
             return None
-        return f"{shlex.join(self.words)}: status {ran.returncode}, written {wrote!r}, said {said!r}"
+        return f"{self.setting} {shlex.join(self.words)}: status {ran.returncode}, written {wrote!r}, said {said!r}".lstrip()
 
 
 @dataclass
@@ -84,6 +91,19 @@ class Repeated(Row):
 
 
 @dataclass
+class Parts(Row):
+    """A run that must write of a text what it writes of its parts, which are split after line feeds, one after another."""
+
+    def fault(self, program, folder):
+        def written(text):
+            return subprocess.run([program, *self.words], input=text, capture_output=True, cwd=folder, timeout=60, check=True).stdout
+
+        parts = re.findall(rb"(?s).{%d}[^\n]*\n|.+" % PART, self.given)
+        whole, joined = written(self.given), b"".join(map(written, parts))
+        return None if whole == joined and len(parts) > 1 else f"{shlex.join(self.words)}: {len(whole)} bytes, and of {len(parts)} parts {len(joined)}"
+
+
+@dataclass
 class Rows:
     """What a file of rows holds."""
 
@@ -109,7 +129,7 @@ def read(path, folder_as_input, full):
     with open(path, encoding="utf-8") as it:
         for number, line in enumerate(it, 1):
             kind, said = ("row", line) if line.startswith(('"', "'")) else line.partition(": ")[::2]
-            if kind not in ("row", "file", "devices", "unread", "comes", "repeated"):
+            if kind not in ("row", "file", "devices", "unread", "comes", "repeated", "parts", "set"):
                 continue
             place, fields = f"{os.path.basename(path)}:{number}", ast.literal_eval(f"({said.strip()},)")
             if kind == "file":
@@ -125,10 +145,14 @@ def read(path, folder_as_input, full):
             elif kind == "repeated":
                 words, more, text, count, rest = fields
                 found.rows.append(Repeated(place, shlex.split(words), as_bytes(text) * count + as_bytes(rest), more=shlex.split(more)))
+            elif kind == "parts":
+                words, text, count, rest = fields
+                found.rows.append(Parts(place, shlex.split(words), as_bytes(text) * count + as_bytes(rest)))
             else:
+                setting, *fields = fields if kind == "set" else ("", *fields)
                 words, given, wanted, *rest = fields
                 status, complaint = rest or (0, "")
-                found.rows.append(Row(place, shlex.split(words), as_bytes(given), as_bytes(wanted), status, as_bytes(complaint)))
+                found.rows.append(Row(place, shlex.split(words), as_bytes(given), as_bytes(wanted), status, as_bytes(complaint), setting=setting))
     return found
 
 
@@ -136,6 +160,7 @@ def ask(program, found):
     """Asks the rows of a program, prints those that fail, and returns how many passed and failed."""
     with tempfile.TemporaryDirectory() as folder:
         for name, text in found.files.items():
+            os.makedirs(os.path.dirname(f"{folder}/{name}"), exist_ok=True)
             with open(f"{folder}/{name}", "wb") as it:
                 it.write(text)
         faults = [(row.place, row.fault(program, folder)) for row in found.rows]
@@ -169,6 +194,7 @@ def ask_manual(program, path):
 
 def main(names):
     passed = failed = 0
+    os.environ.pop("SEGMENT_DICTIONARIES", None)
     folder_as_input, full = os.open("/", os.O_RDONLY), os.open("/dev/full", os.O_WRONLY)
     for file in sorted(os.listdir("tools/rows")):
         name = file.removesuffix(".rows")

@@ -88,13 +88,20 @@ IsFlag found id is_given =
     × (one_text found id ≡ Some (codes "true") → is_given ≡ true)
     × (one_text found id ≡ Some (codes "false") → is_given ≡ false)
 
--- a width is the one that is named: 80 columns where no others are
+-- a number is the one that some digits say
+abbrev pub IsSaid : List ℕ → ℕ → Type 0
+IsSaid digits number = IsNumeral 10 digits → digits_value 10 digits < 2 ^ 64 → number ≡ digits_value 10 digits
+
+-- columns are those that are named, by the option if it is there: 80 where none are
+abbrev pub AreColumns : Found → ℕ → Type 0
+AreColumns found columns =
+    (one_text found (codes "width") ≡ None → one_text found (codes "columns") ≡ None → columns ≡ 80)
+    × ((digits : List ℕ) → one_text found (codes "width") ≡ None → one_text found (codes "columns") ≡ Some digits → IsSaid digits columns)
+    × ((digits : List ℕ) → one_text found (codes "width") ≡ Some digits → IsSaid digits columns)
+
+-- a width is the one that is named, of some columns
 abbrev pub IsWidth : Found → Width → Type 0
-IsWidth found width =
-    (one_text found (codes "columns") ≡ None → width.columns ≡ 80)
-    × ((digits : List ℕ) → one_text found (codes "columns") ≡ Some digits → IsNumeral 10 digits → digits_value 10 digits < 2 ^ 64
-    → width.columns ≡ digits_value 10 digits)
-    × IsFlag found (codes "break-words") width.breaks_words
+IsWidth found width = AreColumns found width.columns × (0 < width.columns) × IsFlag found (codes "break-words") width.breaks_words
 
 -- segments are written in the style that is named
 abbrev pub IsStyle : Found → Style → Type 0
@@ -128,7 +135,9 @@ ArePaired found = length (values_of found (codes "dictionary")) ≡ length (valu
 
 -- a memo goes without dictionaries
 abbrev pub HasMemoAlone : Found → Type 0
-HasMemoAlone found = first_value found (codes "engine") ≡ Some (codes "memo") → matched_of found (codes "script") ≡ None
+HasMemoAlone found =
+    first_value found (codes "engine") ≡ Some (codes "memo")
+    → (matched_of found (codes "script") ≡ None) × (first_value found (codes "dictionaries") ≡ None)
 
 -- a request is what the word of a kind and its arguments ask for
 abbrev pub IsRequest : List ℕ → Found → Request → Type 0

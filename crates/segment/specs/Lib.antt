@@ -1,3 +1,4 @@
 pub mod Command
 pub mod Dictionaries
 pub mod Job
+pub mod Lists

@@ -6,7 +6,7 @@ ghost use Rattle.std.specs.Str.{str_to_ascii_lowercase};
 ghost use Rattle.icu_segmenter.specs.declared.provider.ComplexScript.{ComplexScript as AnyScript};
 ghost use Rattle.clap.specs.Matches.{found_of};
 ghost use Rattle.segment_output.specs.declared.segmenter.Kind.{Kind as AnyKind};
-ghost use Rattle.segment.specs.Command.{is_alone, kind_word, language_part, strictness_word, word_break_word, ArePaired, HasMemoAlone, HasScriptWord, IsChoice, IsEngine, IsRequest, IsStyle, IsTask, IsWidth};
+ghost use Rattle.segment.specs.Command.{is_alone, kind_word, language_part, strictness_word, word_break_word, ArePaired, HasMemoAlone, HasScriptWord, IsChoice, IsEngine, IsRequest, IsStyle, IsTask, IsWidth, AreColumns};
 
 use anyhow::{Context, Result, bail, ensure};
 use clap::{Arg, ArgAction, ArgMatches, Command, value_parser};
@@ -39,6 +39,29 @@ pub struct Request {
     pub language: Option<LanguageIdentifier>,
 }
 
+/// Where the command line says to how many columns lines are wrapped.
+#[derive(Clone, Copy, Debug, PartialEq, Eq)]
+pub enum Columns {
+    /// Before the files, if anywhere.
+    InPlace,
+    /// In an option.
+    InOption,
+}
+
+/// Where the words of a command line say it.
+pub fn columns_by(words: &[String]) -> Columns {
+    for word in words.iter() {
+        let word = word.as_str();
+        if word == "--" {
+            return Columns::InPlace;
+        }
+        if word == "--width" || word.starts_with("--width=") {
+            return Columns::InOption;
+        }
+    }
+    Columns::InPlace
+}
+
 // Of lines that are wrapped, where the command line says nothing.
 const DEFAULT_COLUMNS: usize = 80;
 
@@ -63,12 +86,18 @@ const COUNT_HELP: &str = "Write how many segments there are, and no segment";
 
 const JSON_HELP: &str = "Write a JSON object for each segment: text, begin, end, type or mandatory";
 
+const WIDTH_HELP: &str = "The columns that a line has at most, which then don't stand before files";
+
 const ENGINE_HELP: &str =
     "A state machine, a pair table, or a machine of which nothing is looked up twice [default: neo]";
 
-/// The arguments that there are: each kind of segments is a subcommand. The only error is want of memory.
-pub fn command_line<'a>(alloc: Global) -> Result<Command<'a>, AllocError> {
-    let kinds = kind_commands(alloc)?;
+const DICTIONARIES_HELP: &str =
+    "A folder of such files: thai.txt, lao.txt, khmer.txt, myanmar.txt and cj.txt, as many as there are [env: SEGMENT_DICTIONARIES]";
+
+/// The arguments that there are: each kind of segments is a subcommand. Where columns stand in an option, all that isn't one is a file. The
+/// only error is want of memory.
+pub fn command_line<'a>(alloc: Global, columns: Columns) -> Result<Command<'a>, AllocError> {
+    let kinds = kind_commands(alloc, columns)?;
     let command = Command::new(alloc, "segment")
         .version("1.0.0")
         .about(
@@ -78,13 +107,13 @@ pub fn command_line<'a>(alloc: Global) -> Result<Command<'a>, AllocError> {
     command.subcommands(kinds)
 }
 
-fn kind_commands<'a>(alloc: Global) -> Result<Vec<Command<'a>>, AllocError> {
+fn kind_commands<'a>(alloc: Global, columns: Columns) -> Result<Vec<Command<'a>>, AllocError> {
     let mut kinds = Vec::new(alloc);
     kinds.push(grapheme_command(alloc)?)?;
     kinds.push(word_command(alloc)?)?;
     kinds.push(sentence_command(alloc)?)?;
     kinds.push(line_command(alloc)?)?;
-    kinds.push(wrap_command(alloc)?)?;
+    kinds.push(wrap_command(alloc, columns)?)?;
     Ok(kinds)
 }
 
@@ -117,13 +146,24 @@ fn line_command<'a>(alloc: Global) -> Result<Command<'a>, AllocError> {
     with_files(alloc, with_dictionaries(alloc, command)?)
 }
 
-fn wrap_command<'a>(alloc: Global) -> Result<Command<'a>, AllocError> {
-    let command = Command::new(alloc, "wrap")
-        .about("Wraps lines to columns")
-        .arg(columns_argument(alloc))?;
+fn wrap_command<'a>(alloc: Global, columns: Columns) -> Result<Command<'a>, AllocError> {
+    let command = Command::new(alloc, "wrap").about("Wraps lines to columns");
+    let command = with_columns(alloc, command, columns)?;
     let help = "Break what is wider than the columns between clusters";
     let command = with_line_options(alloc, command.arg(flag(alloc, "break-words", help))?)?;
     with_files(alloc, with_dictionaries(alloc, command)?)
+}
+
+fn with_columns<'a>(
+    alloc: Global,
+    command: Command<'a>,
+    columns: Columns,
+) -> Result<Command<'a>, AllocError> {
+    let command = command.arg(width_argument(alloc))?;
+    match columns {
+        Columns::InPlace => command.arg(columns_argument(alloc)),
+        Columns::InOption => Ok(command),
+    }
 }
 
 // How segments are written.
@@ -167,7 +207,9 @@ fn with_line_options<'a>(alloc: Global, command: Command<'a>) -> Result<Command<
 
 fn with_dictionaries<'a>(alloc: Global, command: Command<'a>) -> Result<Command<'a>, AllocError> {
     let command = command.arg(dictionary_argument(alloc)?)?;
-    command.arg(script_argument(alloc)?)
+    let command = command.arg(script_argument(alloc)?)?;
+    let dictionaries = option(alloc, "dictionaries", DICTIONARIES_HELP).value_name("FOLDER");
+    command.arg(dictionaries)
 }
 
 fn dictionary_argument<'a>(alloc: Global) -> Result<Arg<'a>, AllocError> {
@@ -191,6 +233,12 @@ fn files_argument<'a>(alloc: Global) -> Arg<'a> {
         .num_args(0..)
         .value_name("FILE")
         .help("The files, one after another; - is standard input, and so is none")
+}
+
+fn width_argument<'a>(alloc: Global) -> Arg<'a> {
+    option(alloc, "width", WIDTH_HELP)
+        .value_parser(value_parser!(usize))
+        .value_name("COLUMNS")
 }
 
 fn columns_argument<'a>(alloc: Global) -> Arg<'a> {
@@ -238,7 +286,17 @@ fn check_dictionaries(matches: &ArgMatches<'_>) -> Result<()>
     ensures { OnOk result (ArePaired (found_of matches.now) × HasMemoAlone (found_of matches.now)) }
 {
     let scripts = matches.get_strs("script");
-    check_memo(matches.get_str("engine"), scripts.is_some())?;
+    let folder = matches.get_str("dictionaries");
+    check_memo(
+        matches.get_str("engine"),
+        scripts.is_some(),
+        "--dictionary <FILE>",
+    )?;
+    check_memo(
+        matches.get_str("engine"),
+        folder.is_some(),
+        "--dictionaries <FOLDER>",
+    )?;
     ensure!(
         count_of(matches.get_strs("dictionary")) == count_of(scripts),
         "each '--dictionary <FILE>' needs a '--script <script>' of its own"
@@ -249,13 +307,13 @@ fn check_dictionaries(matches: &ArgMatches<'_>) -> Result<()>
     }
 }
 
-// The error is a memo beside dictionaries.
-fn check_memo(engine: Option<&str>, has_dictionaries: bool) -> Result<()>
+// The error is a memo beside dictionaries, which an argument names.
+fn check_memo(engine: Option<&str>, has_dictionaries: bool, argument: &str) -> Result<()>
     ensures { OnOk result (option_map (λ text. text.now) engine.entry ≡ Some (codes "memo") → has_dictionaries ≡ false) }
 {
     match engine {
         Some("memo") if has_dictionaries => {
-            bail!("the argument '--engine memo' cannot be used with '--dictionary <FILE>'")
+            bail!("the argument '--engine memo' cannot be used with '{argument}'")
         }
         _ => Ok(()),
     }
@@ -286,19 +344,32 @@ fn task_of(kind: &str, matches: &ArgMatches<'_>) -> Result<Task>
     ensures { IfOk result (IsTask kind.now (found_of matches.now)) }
 {
     if kind == "wrap" {
-        return Ok(Task::Wrap(width_of(matches)));
+        return Ok(Task::Wrap(width_of(matches)?));
     }
     let kind = kind_of(kind, matches.get_flag("words"))?;
     let engine = engine_of(matches.get_str("engine"))?;
     Ok(Task::Cut(kind, style_of(matches), engine))
 }
 
-fn width_of(matches: &ArgMatches<'_>) -> Width
-    ensures { IsWidth (found_of matches.now) result }
+// The error is a line without columns.
+fn width_of(matches: &ArgMatches<'_>) -> Result<Width>
+    ensures { IfOk result (IsWidth (found_of matches.now)) }
 {
-    Width {
-        columns: matches.get_one("columns").unwrap_or(DEFAULT_COLUMNS),
+    let columns = columns_of(matches);
+    ensure!(columns > 0, "lines have at least 1 column");
+    Ok(Width {
+        columns,
         breaks_words: matches.get_flag("break-words"),
+    })
+}
+
+fn columns_of(matches: &ArgMatches<'_>) -> usize
+    ensures { AreColumns (found_of matches.now) result }
+{
+    let option: Option<usize> = matches.get_one("width");
+    match option {
+        Some(columns) => columns,
+        None => matches.get_one("columns").unwrap_or(DEFAULT_COLUMNS),
     }
 }
 

@@ -3,17 +3,53 @@ ghost use Rattle.std.specs.Prelude.{◌≡◌};
 ghost use Rattle.icu_segmenter.specs.ScriptWords.{words_of, script_words};
 ghost use Rattle.segment.specs.Dictionaries.{words_with};
 
-use crate::command::script_of;
-use anyhow::{Context, Result, ensure};
+use crate::command::{Task, script_of};
+use crate::folder::folder_dictionaries;
+use crate::lists::{Choice, choice_by};
+use anyhow::{Context, Result, bail, ensure};
 use clap::ArgMatches;
 use icu_segmenter::provider::{ComplexScript, Dictionaries, DictionaryBreakData};
 use std::alloc::Global;
-use std::fs;
-use std::rt::Files;
+use std::env::VarError;
+use std::rt::{Env, Files};
+use std::{env, fs};
 
-/// The dictionaries of the files that are named, one word a line, each in its script's place. The errors are a file that can't be read,
-/// isn't UTF-8 or has no words, which is named, and want of memory.
-pub fn dictionaries_of<R: AllocGlobal + Files>(
+// What names a folder of lists where the command line names none.
+const VARIABLE: &str = "SEGMENT_DICTIONARIES";
+
+/// The dictionaries that a task has: of the files that are named, one word a line, each in its script's place, and of a folder's lists for
+/// the other scripts. The errors are a file that can't be read, isn't UTF-8 or has no words, and a folder without lists, which are named, and
+/// want of memory.
+pub fn dictionaries_of<R: AllocGlobal + Files + Env>(
+    rt: &R,
+    task: Task,
+    matches: &ArgMatches<'_>,
+) -> Result<Dictionaries> {
+    let mut dictionaries = named_dictionaries(rt, matches)?;
+    dictionaries.fill(more_dictionaries(rt, choice_by(task), matches)?);
+    Ok(dictionaries)
+}
+
+// Those of the folder that the command line names, or the environment.
+fn more_dictionaries<R: AllocGlobal + Files + Env>(
+    rt: &R,
+    choice: Choice,
+    matches: &ArgMatches<'_>,
+) -> Result<Dictionaries> {
+    if choice == Choice::Nothing {
+        return Ok(Dictionaries::none());
+    }
+    if let Some(folder) = matches.get_str("dictionaries") {
+        return folder_dictionaries(rt, folder, choice);
+    }
+    match env::var(rt, VARIABLE) {
+        Ok(folder) if !folder.is_empty() => folder_dictionaries(rt, folder.as_str(), choice),
+        Ok(_) | Err(VarError::NotPresent) => Ok(Dictionaries::none()),
+        Err(error) => bail!("{VARIABLE}: {error}"),
+    }
+}
+
+fn named_dictionaries<R: AllocGlobal + Files>(
     rt: &R,
     matches: &ArgMatches<'_>,
 ) -> Result<Dictionaries> {

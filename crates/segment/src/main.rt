@@ -5,13 +5,15 @@
 mod command;
 mod dictionary;
 mod files;
+mod folder;
 mod job;
+mod lists;
 mod run;
 
 use anyhow::{Result, bail};
 use clap::ArgMatches;
 use clap::error::ErrorKind;
-use command::{Request, command_line, request_of};
+use command::{Request, columns_by, command_line, request_of};
 use dictionary::dictionaries_of;
 use files::run_all;
 use job::job_of;
@@ -35,7 +37,8 @@ fn main(rt: HostRuntime) -> ExitCode {
 fn start(rt: &HostRuntime) -> Result<ExitCode> {
     let alloc = rt.alloc();
     let words: Vec<String> = env::args(rt)?.collect(alloc)?;
-    match command_line(alloc)?.try_get_matches_from(words.as_slice()) {
+    let columns = columns_by(words.as_slice());
+    match command_line(alloc, columns)?.try_get_matches_from(words.as_slice()) {
         Ok(matches) => follow(rt, &matches),
         Err(error) => answer(rt, &error),
     }
@@ -69,7 +72,7 @@ fn refuse<E: std::fmt::Display>(rt: &HostRuntime, error: &E) -> Result<ExitCode>
 
 // Does it to the files that are named.
 fn run_request(rt: &HostRuntime, request: &Request, matches: &ArgMatches<'_>) -> Result<ExitCode> {
-    let dictionaries = dictionaries_of(rt, matches)?;
+    let dictionaries = dictionaries_of(rt, request.task, matches)?;
     let job = job_of(rt.alloc(), request, dictionaries)?;
     match matches.get_strs("file") {
         Some(names) => Ok(run_all(rt, &job, names)),
