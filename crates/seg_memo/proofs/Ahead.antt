@@ -1,5 +1,5 @@
 -- The symbol that is read ahead.
-use Rattle.std.proofs.Common.{◌≡◌, ℕ, suc, ◌+◌, ◌-◌, ◌*◌, ◌<◌, ◌≤◌, refl, Option, List, length, drop, min, sym, ap, ◌∙◌, subst, arith}
+use Rattle.std.proofs.Common.{inl, ◌≡◌, ℕ, suc, ◌+◌, ◌-◌, ◌*◌, ◌<◌, ◌≤◌, refl, Option, List, length, drop, min, sym, ap, ◌∙◌, subst, arith}
 use Rattle.std.specs.Prelude.{None, Some, slice_index, slice_index_or}
 use Rattle.std.proofs.lemmas.List.{drop-drop}
 use Rattle.seg_text.specs.Items.{Text, code_points, rest_after}
@@ -15,14 +15,15 @@ use Rattle.seg_memo.specs.declared.configuration.LookUp.TheVariants.{Leads, Ends
 use Rattle.seg_memo.specs.declared.configuration.Outcome.TheVariants.{Nothing}
 use Rattle.seg_memo.specs.declared.table.Table.{Table}
 use Rattle.seg_memo.specs.Configurations.{Subject, configuration, floor, reading, subject, look_up}
-use Rattle.seg_memo.specs.Grids.{GoesOverItems, IsKeptSymbol, IsAt, IsReadBy, IsConfigurationOf, CursorStandsAt}
+use Rattle.seg_memo.specs.Grids.{GoesOverItems, IsKeptSymbol, IsAt, IsReadBy, IsConfigurationOf, IsSound, CursorStandsAt}
 use Rattle.seg_memo.proofs.Following.{leads-within}
 use Rattle.seg_memo.proofs.Memoised.{symbols-drop}
 use Rattle.seg_memo.proofs.Moves.{goes-on}
 use Rattle.seg_memo.proofs.Ways.{keep-some}
 use Rattle.seg_memo.proofs.Onward.{Turn}
 use Rattle.seg_memo.proofs.Plain.{plain-value}
-use Rattle.seg_memo.proofs.Reading.{Read, value-none}
+use Rattle.seg_machine.specs.MachineFaults.{NamesPast}
+use Rattle.seg_memo.proofs.Reading.{Read, state-read, value-none}
 
 -- the first symbol of what is left
 pub ahead-first : (s : Subject) (m : Machine) (text copy left : Text) (place symbol next : ℕ) → copy ≡ text → symbol ≡ slice_index_or s.symbols place 0 → next ≡ min (suc place) (length s.symbols)
@@ -150,6 +151,19 @@ pub kept-at : (s : Subject) (m : Machine) (text left : Text) (start place symbol
 kept-at s m text left start place symbol next after kept first ahead past is =
     let at : min (suc place) (length s.symbols) ≡ first.place = sym past ∙ ap (λ (c : Configuration). c.place) (sym is) in
     (subst (λ (n : ℕ). IsAt s m n left.items) at ahead.rest, subst (GoesOverItems text start left) at ahead.goes)
+
+-- none is where the machine has none
+free-name : (count : ℕ) (entry : Acceptance × Option ℕ) → count ≡ 0 → (NamesPast count entry → ⊥) → entry.1 ≡ None
+free-name count (acceptance, None) none free = refl
+free-name count (acceptance, Some name) none free = absurd (free (inl (omega (arith, none))))
+
+pub names-none : (s : Subject) (m : Machine) (states : ℕ) (transitions : List ℕ) (state : ℕ) (entry : Acceptance × Option ℕ) → IsSound s → IsReadBy s m states transitions → entry ≡ state_at m state
+    → s.machine.num_lookaheads ≡ 0 → entry.1 ≡ None
+names-none s m states transitions state entry sound read is none =
+    ap (λ (x : Acceptance × Option ℕ). x.1) (is ∙ sym (state-read s m states transitions state read)) ∙ free-name s.machine.num_lookaheads (state_at s.machine state) none (sound.checked.lookaheads state)
+
+pub read-lookaheads : (s : Subject) (m : Machine) (states : ℕ) (transitions : List ℕ) (count : ℕ) → IsReadBy s m states transitions → count ≡ m.num_lookaheads → s.machine.num_lookaheads ≡ count
+read-lookaheads s m states transitions count read is = ap (λ (x : Machine). x.num_lookaheads) read.machine ∙ sym is
 
 -- what a turn leaves, and where the last acceptance stands
 pub turn-same : (s : Subject) (t after : Table) (start : ℕ) (here : Configuration) (last later : Option Boundary) (counted : ℕ) → Turn s t start here last counted → after ≡ t → later ≡ last → Turn s after start here later counted

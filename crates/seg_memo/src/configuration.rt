@@ -1,6 +1,6 @@
 //! Configurations of a scan, what scans come to from them, and the cells that keep that.
 
-ghost use Rattle.std.specs.Prelude.{◌≡◌, ℕ, ◌<◌, false, IfSome};
+ghost use Rattle.std.specs.Prelude.{◌≡◌, ℕ, ◌<◌, false, IfSome, None};
 ghost use Rattle.seg_machine.specs.MachineFaults.{NamesPast};
 ghost use Rattle.seg_machine.specs.Search.{keep};
 ghost use Rattle.seg_memo.specs.Configurations.{condition_held, configuration, arrival, entered, floor, picked};
@@ -101,6 +101,15 @@ pub(crate) fn arrive(
     }
     let kept = keep(entry.1, kept);
     LookUp::Leads(Configuration { state, place, kept })
+}
+
+/// The lookahead that a state names, which is asked only where the machine has some.
+#[inline(always)]
+pub(crate) fn name_of(entry: (Acceptance, Option<Lookahead>), names: bool) -> Option<Lookahead>
+    requires { names ≡ false → entry.1 ≡ None }
+    ensures { result ≡ entry.1 }
+{
+    if names { entry.1 } else { None }
 }
 
 /// The configuration of a state that is entered at a place, where no lookahead was named before.

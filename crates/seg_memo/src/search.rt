@@ -1,6 +1,6 @@
 //! A scan that looks up no configuration that was looked up before.
 
-ghost use Rattle.std.specs.Prelude.{◌≡◌, ◌≢◌, ℕ, [], Some, suc, ◌+◌, ◌<◌, ◌≤◌, ◌^◌, length, drop, min, slice_index_or};
+ghost use Rattle.std.specs.Prelude.{◌≡◌, ◌≢◌, ℕ, false, [], Some, suc, ◌+◌, ◌<◌, ◌≤◌, ◌^◌, length, drop, min, slice_index_or};
 ghost use Rattle.seg_text.specs.declared.boundary.Boundary.{Boundary as AnyBoundary};
 ghost use Rattle.seg_text.specs.Boundaries.{shift};
 ghost use Rattle.seg_text.specs.Items.{Text, rest_after};
@@ -13,8 +13,8 @@ ghost use Rattle.seg_memo.specs.declared.configuration.LookUp.TheVariants.{Leads
 ghost use Rattle.seg_memo.specs.declared.configuration.Outcome.TheVariants.{Picked};
 
 use crate::configuration::{
-    Cell, Configuration, LookUp, Outcome, arrive, before, entered, floor, holding, known, naming,
-    picked, way,
+    Cell, Configuration, LookUp, Outcome, arrive, before, entered, floor, holding, known, name_of,
+    naming, picked, way,
 };
 use crate::reader::ReadTransitions;
 use crate::table::Table;
@@ -244,8 +244,10 @@ fn scan_plain<I: Cursor, R: ReadTransitions>(
     first: &mut Symbol,
     ahead: &mut I,
     start: usize,
+    names: bool,
 ) -> (Boundary, usize, usize)
     ghost scan: { Scan }
+    requires names { names ≡ false → scan.subject.machine.num_lookaheads ≡ 0 }
     requires read { IsReadBy scan.subject (parts_of machine.now) (R.states reader.old) (R.transitions reader.old) }
     requires memo { Has scan.subject table.old scan.start (late scan.subject scan.start) (R.counted reader.old) (λ whole. IsMemo scan.subject whole scan.start) }
     requires start { start ≡ scan.start }
@@ -271,7 +273,7 @@ fn scan_plain<I: Cursor, R: ReadTransitions>(
             return (found, stood, place);
         }
         let entry = machine.entry(next);
-        if let Some(_) = entry.1 {
+        if let Some(_) = name_of(entry, names) {
             let here = naming(entry, next, after);
             let (found, stood) = scan_kept(machine, reader, table, ahead, here, last, stood);
             (*first, _) = next_symbol(machine, ahead, after);
@@ -298,6 +300,35 @@ fn scan_plain<I: Cursor, R: ReadTransitions>(
         place = after;
         (symbol, after) = next_symbol(machine, ahead, place);
     }
+}
+
+/// The same: the loop is compiled for machines with lookaheads and without.
+#[inline(always)]
+fn scan_any<I: Cursor, R: ReadTransitions>(
+    machine: &MachineParts<'_>,
+    reader: &mut R,
+    table: &mut Table,
+    rest: &I,
+    first: &mut Symbol,
+    ahead: &mut I,
+    start: usize,
+) -> (Boundary, usize, usize)
+    ghost scan: { Scan }
+    requires read { IsReadBy scan.subject (parts_of machine.now) (R.states reader.old) (R.transitions reader.old) }
+    requires memo { Has scan.subject table.old scan.start (late scan.subject scan.start) (R.counted reader.old) (λ whole. IsMemo scan.subject whole scan.start) }
+    requires start { start ≡ scan.start }
+    requires rest { IsAt scan.subject (parts_of machine.now) scan.start (I.text rest.now).items }
+    requires some { (I.text rest.now).items ≢ [] }
+    requires ahead { IsKeptSymbol scan.subject (parts_of machine.now) (I.text rest.now) scan.start scan.start first.old (I.text ahead.old) }
+    ensures read { IsReadBy scan.subject (parts_of machine.now) (R.states reader.new) (R.transitions reader.new) }
+    ensures scanned { Has scan.subject table.new result.0.offset (late scan.subject result.0.offset) (R.counted reader.new) (λ whole. IsScanned scan.subject whole scan.start (Picked result.0)) }
+    ensures stands { CursorStandsAt (I.text rest.now) scan.start result.0.offset result.1 }
+    ensures ahead { IsKeptSymbol scan.subject (parts_of machine.now) (I.text rest.now) scan.start result.2 first.new (I.text ahead.new) }
+{
+    if machine.num_lookaheads() != 0 {
+        return scan_plain(machine, reader, table, rest, first, ahead, start, true);
+    }
+    scan_plain(machine, reader, table, rest, first, ahead, start, false)
 }
 
 /// Goes on by an item.
@@ -336,7 +367,7 @@ pub(crate) fn next_segment<I: Cursor, R: ReadTransitions>(
     ensures ahead { IsKeptSymbol subject (parts_of scanned.now.machine) (I.text rest.new) result.offset result.offset first.new (I.text ahead.new) }
 {
     let machine = &scanned.machine;
-    let (found, stood, place) = scan_plain(machine, reader, table, rest, first, ahead, start);
+    let (found, stood, place) = scan_any(machine, reader, table, rest, first, ahead, start);
     rest.seek(stood);
     if found.offset != place {
         read_first(machine, rest, found.offset, first, ahead);

@@ -3,7 +3,7 @@ use Rattle.std.specs.Prelude.{Option}
 use Rattle.seg_text.specs.declared.boundary.Boundary.{Boundary}
 use Rattle.seg_memo.specs.Configurations.{floor, start_at}
 use Rattle.seg_memo.specs.Grids.{CursorStandsAt}
-use Rattle.seg_memo.proofs.Ahead.{ahead-next, comes, comes-free, comes-kept, goes-after, in-hand, kept-at, stands-same, starts-after, starts-ahead, still-read, stops, turn-same}
+use Rattle.seg_memo.proofs.Ahead.{names-none, ahead-next, comes, comes-free, comes-kept, goes-after, in-hand, kept-at, stands-same, starts-after, starts-ahead, still-read, stops, turn-same}
 use Rattle.seg_memo.proofs.Following.{fewer}
 use Rattle.seg_memo.proofs.Ways.{count-room}
 use Rattle.seg_memo.proofs.Moves.{stands, stays}
@@ -15,10 +15,10 @@ use Rattle.seg_memo.proofs.search.scan_plain.Goals.{in-Accept, in_default-0₀+i
 
 pub scan-init : goal.scan-init
 scan-init g c = record {
-  read = c.requires.1.1.0;
-  turn = turn-begins g.scan.subject _ _ _ _ g.scan.start _ _ _ c.requires.1.1.1.0 c.requires.1.1.0 c.requires.1.1.1.1.1.0 c.requires.1.1.1.1.1.1.0 (ap start_at c.requires.1.1.1.1.0);
-  ahead = starts-ahead g.scan.subject _ _ _ _ _ _ c.requires.1.1.1.1.1.1.1 c.requires.1.1.1.1.0;
-  after = starts-after _ g.scan.start _ c.requires.1.1.1.1.0 (some-left _ _ _ _ _ _ c.requires.1.1.0 c.requires.1.1.1.1.1.0 c.requires.1.1.1.1.1.1.0);
+  read = c.requires.1.1.1.0;
+  turn = turn-begins g.scan.subject _ _ _ _ g.scan.start _ _ _ c.requires.1.1.1.1.0 c.requires.1.1.1.0 c.requires.1.1.1.1.1.1.0 c.requires.1.1.1.1.1.1.1.0 (ap start_at c.requires.1.1.1.1.1.0);
+  ahead = starts-ahead g.scan.subject _ _ _ _ _ _ c.requires.1.1.1.1.1.1.1.1 c.requires.1.1.1.1.1.0;
+  after = starts-after _ g.scan.start _ c.requires.1.1.1.1.1.0 (some-left _ _ _ _ _ _ c.requires.1.1.1.0 c.requires.1.1.1.1.1.1.0 c.requires.1.1.1.1.1.1.1.0);
   stands = stands _ _ _ _ _ (stays _ g.scan.start _ refl) c.place-stood.ensures;
 }
 
@@ -43,6 +43,9 @@ entry-entry-requires g c =
     next-within _ _ _ _ _ _ _
     (in-hand _ _ _ _ _ _ _ _ _ _ _ _ _ _ c.scan.invariant.read c.scan.invariant.turn c.scan.invariant.ahead c.read-next.ensures.value) c.if-next.false
 
+pub name_of-requires : goal.name_of-requires
+name_of-requires g c = λ none. names-none _ _ _ _ _ _ c.scan.invariant.turn.table.fit.sound c.scan.invariant.read c.entry-entry.ensures (c.requires.1.1.0 none)
+
 pub naming-here-requires : goal.naming-here-requires
 naming-here-requires g c = entry-few _ _ _ _ _ _ c.scan.invariant.turn.table.fit.sound c.scan.invariant.read c.entry-entry.ensures
 
@@ -50,7 +53,7 @@ pub scan_kept-stood-requires : goal.scan_kept-stood-requires
 scan_kept-stood-requires g c κs within =
     let k = comes-kept _ _ _ _ _ _ _
     (comes _ _ _ _ _ _ _ _ _ _ _ _ _ _ _ _ c.scan.invariant.read c.scan.invariant.turn c.scan.invariant.ahead c.scan.invariant.after c.read-next.ensures.value c.if-next.false c.entry-entry.ensures)
-    c.naming-here.ensures c.in-Some-1₀.is in (
+    c.naming-here.ensures (sym c.name_of.ensures ∙ c.in-Some-name_of.is) in (
       within.0,
       (
         within.1,
@@ -67,23 +70,23 @@ scan_kept-stood-requires g c κs within =
       ),
     )
 
-pub returns-in-Some-1₀-clause-stands : goal.returns-in-Some-1₀-clause-stands
-returns-in-Some-1₀-clause-stands g c =
+pub returns-in-Some-name_of-clause-stands : goal.returns-in-Some-name_of-clause-stands
+returns-in-Some-name_of-clause-stands g c =
     c.scan_kept-stood.ensures.stands _ (kept-at _ _ _ _ _ _ _ _ _ _ _ c.scan.invariant.ahead c.scan.invariant.after c.naming-here.ensures).1 c.scan.invariant.stands
 
-pub returns-in-Some-1₀-clause-ahead : goal.returns-in-Some-1₀-clause-ahead
-returns-in-Some-1₀-clause-ahead g c =
+pub returns-in-Some-name_of-clause-ahead : goal.returns-in-Some-name_of-clause-ahead
+returns-in-Some-name_of-clause-ahead g c =
     ahead-next _ _ _ _ _ _ _ _ _ _ _ c.scan.invariant.ahead c.scan.invariant.after c.next_symbol.ensures.symbol c.next_symbol.ensures.place c.next_symbol.ensures.rest c.next_symbol.ensures.goes
 
 pub mark-requires : goal.mark-requires
 mark-requires g c =
-    let k = comes-free _ _ _ _ _ (comes _ _ _ _ _ _ _ _ _ _ _ _ _ _ _ _ c.scan.invariant.read c.scan.invariant.turn c.scan.invariant.ahead c.scan.invariant.after c.read-next.ensures.value c.if-next.false c.entry-entry.ensures) c.in_default-1₀.is in
+    let k = comes-free _ _ _ _ _ (comes _ _ _ _ _ _ _ _ _ _ _ _ _ _ _ _ c.scan.invariant.read c.scan.invariant.turn c.scan.invariant.ahead c.scan.invariant.after c.read-next.ensures.value c.if-next.false c.entry-entry.ensures) (sym c.name_of.ensures ∙ c.in_default-name_of.is) in
     let held = turn-held _ _ _ _ _ _ _ _ c.scan.invariant.turn c.in-Some-last.is k.leads k.within in
     (held.0, (held.1.0, (held.1.1, refl)))
 
 pub returns-then-mark : goal.returns-then-mark
 returns-then-mark g c =
-    let k = comes-free _ _ _ _ _ (comes _ _ _ _ _ _ _ _ _ _ _ _ _ _ _ _ c.scan.invariant.read c.scan.invariant.turn c.scan.invariant.ahead c.scan.invariant.after c.read-next.ensures.value c.if-next.false c.entry-entry.ensures) c.in_default-1₀.is in
+    let k = comes-free _ _ _ _ _ (comes _ _ _ _ _ _ _ _ _ _ _ _ _ _ _ _ c.scan.invariant.read c.scan.invariant.turn c.scan.invariant.ahead c.scan.invariant.after c.read-next.ensures.value c.if-next.false c.entry-entry.ensures) (sym c.name_of.ensures ∙ c.in_default-name_of.is) in
     record {
       read = still-read _ _ _ _ _ _ c.scan.invariant.read c.read-next.ensures.states c.read-next.ensures.transitions;
       scanned = turn-known _ _ _ _ _ _ _ _ _ _ refl (turn-last _ _ _ _ _ _ _ c.scan.invariant.turn c.in-Some-last.is) k.leads k.within (entry-not _ _ _ _ _ _ c.scan.invariant.read c.entry-entry.ensures c.in_default-0₀.not-Accept) c.mark.ensures c.if-mark.true c.read-next.ensures.counted;
@@ -93,13 +96,13 @@ returns-then-mark g c =
 
 pub scan-smaller : goal.scan-smaller
 scan-smaller g c =
-    let k = comes-free _ _ _ _ _ (comes _ _ _ _ _ _ _ _ _ _ _ _ _ _ _ _ c.scan.invariant.read c.scan.invariant.turn c.scan.invariant.ahead c.scan.invariant.after c.read-next.ensures.value c.if-next.false c.entry-entry.ensures) c.in_default-1₀.is in
+    let k = comes-free _ _ _ _ _ (comes _ _ _ _ _ _ _ _ _ _ _ _ _ _ _ _ c.scan.invariant.read c.scan.invariant.turn c.scan.invariant.ahead c.scan.invariant.after c.read-next.ensures.value c.if-next.false c.entry-entry.ensures) (sym c.name_of.ensures ∙ c.in_default-name_of.is) in
     fewer _ _ _ c.scan.invariant.turn.table.fit.sound c.scan.invariant.turn.within k.leads
 
 pub scan-preserved : goal.scan-preserved
 scan-preserved g c =
-    let k = comes-free _ _ _ _ _ (comes _ _ _ _ _ _ _ _ _ _ _ _ _ _ _ _ c.scan.invariant.read c.scan.invariant.turn c.scan.invariant.ahead c.scan.invariant.after c.read-next.ensures.value c.if-next.false c.entry-entry.ensures) c.in_default-1₀.is in
-    elim c.match-entry-2.branch [
+    let k = comes-free _ _ _ _ _ (comes _ _ _ _ _ _ _ _ _ _ _ _ _ _ _ _ c.scan.invariant.read c.scan.invariant.turn c.scan.invariant.ahead c.scan.invariant.after c.read-next.ensures.value c.if-next.false c.entry-entry.ensures) (sym c.name_of.ensures ∙ c.in_default-name_of.is) in
+    elim c.match-entry.branch [
       | in-Accept w ↦ record {
         read = still-read _ _ _ _ _ _ c.scan.invariant.read c.read-next.ensures.states c.read-next.ensures.transitions;
         turn = turn-same _ _ _ _ _ _ _ _
