@@ -1,4 +1,4 @@
-//! Callers of the segmenters, proved by the gate. docs/CALLING.md shows them.
+//! Callers of the segmenters, proved by the gate. docs/GUIDE.md shows them.
 //!
 //! The program calls each once, on the rows that the segmenters' pages show, and prints what it answers.
 #![tactic(auto)]
