@@ -39,7 +39,7 @@ fn cuts_by(
     dictionary: &DictionaryBreakData,
     clusters: GraphemeClusterSegmenterBorrowed<'_>,
 ) -> Result<String> {
-    let offset = usize::from(number_of(row.part("offset").unwrap_or("0"))?);
+    let offset = number_of(row.part("offset").unwrap_or("0"))?;
     let piece = ComplexPayloadBorrowed::Dict(dictionary);
     let sample = Sample::of(alloc, row)?;
     let cuts = cuts_in(alloc, piece, clusters, offset, sample.text())?;
@@ -51,9 +51,10 @@ fn cuts_in(
     alloc: Global,
     piece: ComplexPayloadBorrowed<'_>,
     clusters: GraphemeClusterSegmenterBorrowed<'_>,
-    offset: usize,
+    offset: u8,
     text: Text<'_>,
 ) -> Result<Vec<usize>> {
+    let offset = usize::from(offset);
     let cuts = match text {
         Text::Str(text) if text.len() < LONGEST => {
             piece.segment_str(text, clusters, offset).collect(alloc)
