@@ -29,8 +29,8 @@ entry-passes left right =
 lines-pass : Passes line_table
 lines-pass = record { some = refl; square = rows-length line_entry 57 57; classes = refl; sot = refl; eot = refl; states = rows-pass line_entry 57 entry-passes 57 }
 
-pub lines-never-refused : (parts : PairTable) → parts ≡ line_table → (fault : DataError) → IsLowestFault (HasPairFault parts) fault → ⊥
-lines-never-refused parts is fault lowest = faultless line_table lines-pass fault (rw is at lowest.is_there)
+pub lines-never-rejected : (parts : PairTable) → parts ≡ line_table → (fault : DataError) → IsLowestFault (HasPairFault parts) fault → ⊥
+lines-never-rejected parts is fault lowest = faultless line_table lines-pass fault (rw is at lowest.is_there)
 
 pub lines-sound : IsFaultless (HasLineTableFault line_table cluster_table)
 lines-sound fault (inr has) = clusters-sound fault has

@@ -149,14 +149,14 @@ clusters-sound = plain-faultless cluster_table clusters-apart refl
 pub sentences-sound : IsFaultless (HasPairDataFault sentence_table None)
 sentences-sound = plain-faultless sentence_table sentences-apart refl
 
-pub clusters-never-refused : (parts : PairTable) → parts ≡ cluster_table → (fault : DataError) → IsLowestFault (HasPairFault parts) fault → ⊥
-clusters-never-refused parts is fault lowest = faultless cluster_table clusters-pass fault (rw is at lowest.is_there)
+pub clusters-never-rejected : (parts : PairTable) → parts ≡ cluster_table → (fault : DataError) → IsLowestFault (HasPairFault parts) fault → ⊥
+clusters-never-rejected parts is fault lowest = faultless cluster_table clusters-pass fault (rw is at lowest.is_there)
 
-pub sentences-never-refused : (parts : PairTable) → parts ≡ sentence_table → (fault : DataError) → IsLowestFault (HasPairFault parts) fault → ⊥
-sentences-never-refused parts is fault lowest = faultless sentence_table sentences-pass fault (rw is at lowest.is_there)
+pub sentences-never-rejected : (parts : PairTable) → parts ≡ sentence_table → (fault : DataError) → IsLowestFault (HasPairFault parts) fault → ⊥
+sentences-never-rejected parts is fault lowest = faultless sentence_table sentences-pass fault (rw is at lowest.is_there)
 
-pub words-never-refused : (parts : PairTable) → parts ≡ word_table → (fault : DataError) → IsLowestFault (HasPairFault parts) fault → ⊥
-words-never-refused parts is fault lowest = faultless word_table words-pass fault (rw is at lowest.is_there)
+pub words-never-rejected : (parts : PairTable) → parts ≡ word_table → (fault : DataError) → IsLowestFault (HasPairFault parts) fault → ⊥
+words-never-rejected parts is fault lowest = faultless word_table words-pass fault (rw is at lowest.is_there)
 
 -- as words the table has no fault
 pub words-no_class_past : HasPairDataFault word_table None ClassOutOfRange → ⊥

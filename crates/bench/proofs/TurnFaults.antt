@@ -30,8 +30,8 @@ entry-passes left right =
 turns-pass : Passes turn_table
 turns-pass = record { some = refl; square = rows-length turn_entry 71 71; classes = refl; sot = refl; eot = refl; states = rows-pass turn_entry 71 entry-passes 71 }
 
-pub turns-never-refused : (parts : PairTable) → parts ≡ turn_table → (fault : DataError) → IsLowestFault (HasPairFault parts) fault → ⊥
-turns-never-refused parts is fault lowest = faultless turn_table turns-pass fault (rw is at lowest.is_there)
+pub turns-never-rejected : (parts : PairTable) → parts ≡ turn_table → (fault : DataError) → IsLowestFault (HasPairFault parts) fault → ⊥
+turns-never-rejected parts is fault lowest = faultless turn_table turns-pass fault (rw is at lowest.is_there)
 
 pub turns-sound : IsFaultless (HasTurnTableFault turn_table cluster_table)
 turns-sound fault (inr has) = clusters-sound fault has

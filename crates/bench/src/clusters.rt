@@ -38,7 +38,7 @@ const TRANSITIONS: [State; 20] = [
 ];
 
 /// The bench machine of grapheme clusters: CR LF, or a character with the marks after it.
-/// The only error is want of memory.
+/// Fails only when out of memory.
 pub fn cluster_machine(alloc: Global) -> Result<SegmenterStateMachine, AllocError>
     ensures { IfOk result (λ machine. machine ≡ cluster_machine) }
 {

@@ -13,7 +13,7 @@ const THAI: [&str; 2] = ["ภาษา", "ไทย"];
 const IDEOGRAPHS: [&str; 2] = ["龟山岛", "\u{20000}\u{20001}"];
 
 /// The bench dictionaries: ภาษา and ไทย of Thai, 龟山岛 and U+20000 U+20001 of Chinese and Japanese.
-/// The only error is want of memory.
+/// Fails only when out of memory.
 pub fn dictionaries(alloc: Global) -> Result<Dictionaries, AllocError>
     ensures { IfOk result (λ dictionaries. AreSameWords (script_words dictionaries) dictionary_words) }
 {
@@ -26,7 +26,7 @@ pub fn dictionaries(alloc: Global) -> Result<Dictionaries, AllocError>
     })
 }
 
-// A dictionary is refused for want of memory alone.
+// A dictionary is refused only for lack of memory.
 fn dictionary_of(alloc: Global, words: &[&str]) -> Result<DictionaryBreakData, AllocError>
     ensures { IfOk result (λ dictionary. IsSameSet (words_of dictionary) (code_points_of_each words.now)) }
 {

@@ -46,7 +46,7 @@ impl Marked for WordType {
     }
 }
 
-/// The boundaries that an iterator gives. The error is want of memory.
+/// The boundaries that an iterator gives. Fails only when out of memory.
 pub fn found<B: BreakIterator>(alloc: Global, mut breaks: B) -> Result<Found, AllocError>
 where
     B::Mark: Marked,
@@ -71,7 +71,7 @@ fn push_wrong_if(found: &mut Found, is_wrong: bool) -> Result<(), AllocError> {
     Ok(())
 }
 
-/// The boundaries of words that come with their types. The error is want of memory.
+/// The boundaries of words that come with their types. Fails only when out of memory.
 pub fn found_words<'s, Y: RuleBreakType<'s>>(
     alloc: Global,
     mut words: WordBreakIteratorWithWordType<'_, 's, Y>,
@@ -85,7 +85,7 @@ pub fn found_words<'s, Y: RuleBreakType<'s>>(
     Ok(found)
 }
 
-/// Boundaries as rows have them: each place with its mark, and a space between two. The error is want of memory.
+/// Boundaries as rows have them: each place with its mark, and a space between two. Fails only when out of memory.
 pub fn shown(alloc: Global, found: &[(usize, char)]) -> Result<String, AllocError> {
     let mut out = String::new(alloc);
     for (place, mark) in found {
@@ -95,7 +95,7 @@ pub fn shown(alloc: Global, found: &[(usize, char)]) -> Result<String, AllocErro
     Ok(out)
 }
 
-/// Adds a word, after a space if there are some. The error is want of memory.
+/// Adds a word, after a space if there are some. Fails only when out of memory.
 pub fn push_word(out: &mut String, word: &str) -> Result<(), AllocError> {
     if !out.is_empty() {
         out.push(' ')?;

@@ -45,7 +45,7 @@ const CLASSES: [(u32, u32, u8); 20] = [
 
 /// The bench pair table of lines: a line may be broken after spaces, hyphens and line ends, and beside ideographs, but not before an
 /// exclamation mark, and beside an ideograph not before a hyphen, small kana or what begins no line. Thai and Myanmar are complex.
-/// The only error is want of memory.
+/// Fails only when out of memory.
 pub fn line_table(alloc: Global) -> Result<RuleBreakData, AllocError>
     ensures value { IfOk result (λ table. table ≡ line_table) }
     ensures sound { IfOk result (λ table. IsFaultless (HasLineTableFault table cluster_table)) }

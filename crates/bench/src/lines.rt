@@ -61,7 +61,7 @@ const TRANSITIONS: [State; 30] = [
 
 /// The bench machine of lines: a line may be broken after spaces and beside ideographs, and must be
 /// after a line feed and at the end of the text.
-/// The only error is want of memory.
+/// Fails only when out of memory.
 pub fn line_machine(alloc: Global) -> Result<SegmenterStateMachine, AllocError>
     ensures { IfOk result (λ machine. machine ≡ line_machine) }
 {
@@ -69,7 +69,7 @@ pub fn line_machine(alloc: Global) -> Result<SegmenterStateMachine, AllocError>
 }
 
 /// The tailoring of the bench machine of lines that breaks beside each letter.
-/// The only error is want of memory.
+/// Fails only when out of memory.
 pub fn breakall(alloc: Global) -> Result<SegmenterStateMachineOverride, AllocError>
     ensures { IfOk result (λ tailoring. tailoring ≡ breakall) }
 {
@@ -81,7 +81,7 @@ pub fn breakall(alloc: Global) -> Result<SegmenterStateMachineOverride, AllocErr
 }
 
 /// The tailorings of the bench machine of lines: that of the word option `BreakAll` alone.
-/// The only error is want of memory.
+/// Fails only when out of memory.
 pub fn line_tailorings(alloc: Global) -> Result<LineTailorings, AllocError>
     ensures { IfOk result (λ tailorings. tailorings ≡ line_tailorings) }
 {

@@ -17,7 +17,7 @@ pub(crate) type Entry = (Acceptance, Option<Lookahead>);
 // The first value that is a pseudo symbol, in each bench machine.
 const PSEUDO_SYMBOL_SHIFT: u8 = 5;
 
-/// The machine of these parts, which have no fault, without lookaheads. The only error is want of memory.
+/// The machine of these parts, which have no fault, without lookaheads. Fails only when out of memory.
 pub(crate) fn machine_of(
     alloc: Global,
     ranges: &[(u32, u32, Symbol)],

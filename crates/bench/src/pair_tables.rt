@@ -35,7 +35,7 @@ const CLUSTER_ENTRIES: [BreakState; 36] = [
 ];
 
 /// The bench pair table of grapheme clusters: CR LF, or a character with the marks after it.
-/// The only error is want of memory.
+/// Fails only when out of memory.
 pub fn cluster_table(alloc: Global) -> Result<RuleBreakData, AllocError>
     ensures value { IfOk result (λ table. table ≡ cluster_table) }
     ensures sound { IfOk result (λ table. IsFaultless (HasPairDataFault table None)) }
@@ -78,7 +78,7 @@ const SENTENCE_ENTRIES: [BreakState; 49] = [
 ];
 
 /// The bench pair table of sentences: each ends after a full stop, an exclamation or a question mark and
-/// the spaces after it, or after a line's end. The only error is want of memory.
+/// the spaces after it, or after a line's end. Fails only when out of memory.
 pub fn sentence_table(alloc: Global) -> Result<RuleBreakData, AllocError>
     ensures value { IfOk result (λ table. table ≡ sentence_table) }
     ensures sound { IfOk result (λ table. IsFaultless (HasPairDataFault table None)) }
@@ -125,7 +125,7 @@ const WORD_STATUSES: [u8; 3] = [2, 1, 2];
 
 /// The bench pair table of words: a word is a run of letters and digits, with the status of the last
 /// of them, 2 or 1. A complex character has status 2, and any other stands by itself.
-/// The only error is want of memory.
+/// Fails only when out of memory.
 pub fn word_table(alloc: Global) -> Result<RuleBreakData, AllocError>
     ensures value { IfOk result (λ table. table ≡ word_table) }
     ensures sound { IfOk result (λ table. IsFaultless (HasWordTableFault table None cluster_table)) }

@@ -8,7 +8,7 @@ use icu_segmenter::{
 };
 use std::alloc::{AllocError, Global};
 
-/// A segmenter with data of its own.
+/// A segmenter with data that it owns.
 #[derive(Drop)]
 pub enum Segmenter {
     /// Of grapheme clusters.
@@ -22,7 +22,7 @@ pub enum Segmenter {
 }
 
 impl Segmenter {
-    /// The same over lent data.
+    /// The same over borrowed data.
     pub fn as_borrowed(&self) -> SegmenterBorrowed<'_> {
         match self {
             Segmenter::Clusters(clusters) => SegmenterBorrowed::Clusters(clusters.as_borrowed()),
@@ -35,7 +35,7 @@ impl Segmenter {
     }
 }
 
-/// A segmenter over lent data.
+/// A segmenter over borrowed data.
 #[derive(Clone, Copy)]
 pub enum SegmenterBorrowed<'data> {
     /// Of grapheme clusters.
@@ -62,7 +62,7 @@ pub enum Text<'s> {
 }
 
 impl<'data> SegmenterBorrowed<'data> {
-    /// The boundaries of a text: of words in UTF-8 and UTF-16 by the iterator that gives their types. The error is want of memory.
+    /// The boundaries of a text: of words in UTF-8 and UTF-16 by the iterator that gives their types. Fails only when out of memory.
     pub fn boundaries(self, alloc: Global, text: Text<'_>) -> Result<Found, AllocError> {
         match self {
             SegmenterBorrowed::Clusters(clusters) => cluster_boundaries(alloc, clusters, text),
@@ -73,7 +73,7 @@ impl<'data> SegmenterBorrowed<'data> {
     }
 }
 
-/// The boundaries of clusters. The error is want of memory.
+/// The boundaries of clusters. Fails only when out of memory.
 pub fn cluster_boundaries(
     alloc: Global,
     clusters: GraphemeClusterSegmenterBorrowed<'_>,

@@ -39,7 +39,7 @@ const TRANSITIONS: [State; 25] = [
 
 /// The bench machine of sentences: a sentence ends with its line, or with a full stop, an
 /// exclamation mark or a question mark and the spaces after it.
-/// The only error is want of memory.
+/// Fails only when out of memory.
 pub fn sentence_machine(alloc: Global) -> Result<SegmenterStateMachine, AllocError>
     ensures { IfOk result (λ machine. machine ≡ sentence_machine) }
 {

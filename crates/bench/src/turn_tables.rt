@@ -45,7 +45,7 @@ const CLASSES: [(u32, u32, u8); 20] = [
 ];
 
 /// The bench pair table of lines of the engine 17: its entries are those of `line_table`, where an East Asian class is as the one that it
-/// is a part of, and the rules of the engine come before them. The only error is want of memory.
+/// is a part of, and the rules of the engine come before them. Fails only when out of memory.
 pub fn turn_table(alloc: Global) -> Result<RuleBreakData, AllocError>
     ensures value { IfOk result (λ table. table ≡ turn_table) }
     ensures sound { IfOk result (λ table. IsFaultless (HasTurnTableFault table cluster_table)) }

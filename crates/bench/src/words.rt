@@ -54,7 +54,7 @@ const TRANSITIONS: [State; 25] = [
 /// The bench machine of words: a word is a run of letters and digits, with the status of the last of
 /// them, 2 or 1, or a run of complex characters, with status 2. Any other character stands by itself,
 /// with status 0.
-/// The only error is want of memory.
+/// Fails only when out of memory.
 pub fn word_machine(alloc: Global) -> Result<SegmenterStateMachine, AllocError>
     ensures value { IfOk result (λ machine. machine ≡ word_machine) }
     ensures sound { IfOk result (λ machine. IsFaultless (HasWordMachineFault machine cluster_table)) }

@@ -22,7 +22,7 @@ struct Differences {
 }
 
 /// Compares pair tables with machines on the characters of each row, and prints how many texts there were and how many differ. A row has
-/// a name, a semicolon and code points in hexadecimal digits. The errors are want of memory, a row that can't be read, and output that
+/// a name, a semicolon and code points in hexadecimal digits. The errors are out of memory, a row that can't be read, and output that
 /// fails.
 pub fn compare_rows(rt: &HostRuntime, text: &str) -> Result<()> {
     for row in text.lines() {

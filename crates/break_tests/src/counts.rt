@@ -34,7 +34,7 @@ impl Counts {
     }
 }
 
-/// Counts the samples of a test file, and prints the lines of those that aren't passed. The errors are want of memory, a line that has
+/// Counts the samples of a test file, and prints the lines of those that aren't passed. The errors are out of memory, a line that has
 /// neither marks nor code points, and output that fails.
 pub fn counts_of(rt: &HostRuntime, segmenter: &Segmenter, text: &str) -> Result<Counts> {
     let mut counts = Counts::default();

@@ -99,7 +99,7 @@ impl Engine {
         }
     }
 
-    /// The segmenter with its data. The errors are want of memory, and data that are refused.
+    /// The segmenter with its data. The errors are out of memory, and data that are rejected.
     pub fn segmenter(self, alloc: Global) -> Result<Segmenter> {
         match self {
             Engine::ClusterTable => cluster_table_segmenter(alloc),

@@ -9,7 +9,7 @@ use icu_segmenter_data::line_segmenter;
 use std::alloc::Global;
 
 /// The segmenter of lines with the options of a row: the words of a strictness, a word option and a language. The errors are
-/// want of memory, and words that name nothing.
+/// out of memory, and words that name nothing.
 pub fn segmenter_with(alloc: Global, options: &str) -> Result<Segmenter> {
     let mut words = options.split_whitespace();
     let strictness = strictness_of(words.next().context("no strictness")?)?;

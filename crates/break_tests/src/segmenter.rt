@@ -37,7 +37,7 @@ impl Segmenter {
     ghost use Rattle.icu_segmenter.specs.Decoding.{utf8, utf16};
     ghost use Rattle.break_tests.specs.Segmenter.{places_by, str_places_by, mandatory_places_by};
 
-    /// The boundaries of a text, in bytes. The only error is want of memory.
+    /// The boundaries of a text, in bytes. Fails only when out of memory.
     pub fn places_in_str(&self, alloc: Global, text: &str) -> Result<Vec<usize>, AllocError>
         ensures { IfOk result (λ found. found.items ≡ str_places_by self.now text.now) }
     {
@@ -59,7 +59,7 @@ impl Segmenter {
         }
     }
 
-    /// The boundaries of a text in UTF-8, in bytes. The only error is want of memory.
+    /// The boundaries of a text in UTF-8, in bytes. Fails only when out of memory.
     pub fn places_in_utf8(&self, alloc: Global, text: &[u8]) -> Result<Vec<usize>, AllocError>
         ensures { IfOk result (λ found. found.items ≡ places_by self.now (utf8 text.now)) }
     {
@@ -81,7 +81,7 @@ impl Segmenter {
         }
     }
 
-    /// The boundaries of a text in UTF-16, in units. The only error is want of memory.
+    /// The boundaries of a text in UTF-16, in units. Fails only when out of memory.
     pub fn places_in_utf16(&self, alloc: Global, text: &[u16]) -> Result<Vec<usize>, AllocError>
         ensures { IfOk result (λ found. found.items ≡ places_by self.now (utf16 text.now)) }
     {
@@ -103,7 +103,7 @@ impl Segmenter {
         }
     }
 
-    /// The mandatory boundaries of lines by a machine, in bytes; of others None. The only error is want of memory.
+    /// The mandatory boundaries of lines by a machine, in bytes; of others None. Fails only when out of memory.
     pub fn mandatory_places(
         &self,
         alloc: Global,

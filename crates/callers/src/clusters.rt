@@ -13,7 +13,7 @@ use icu_segmenter::cursor::BoundaryCursor;
 use icu_segmenter::segments::BreakIterator;
 use std::alloc::{AllocError, Global};
 
-/// The places of the boundaries of a text's clusters, in bytes. The only error is want of memory.
+/// The places of the boundaries of a text's clusters, in bytes. Fails only when out of memory.
 pub fn cluster_places(
     alloc: Global,
     segmenter: GraphemeClusterSegmenterBorrowed<'_>,
@@ -38,7 +38,7 @@ pub fn first_clusters<'s>(
     }
 }
 
-/// Where the caret of an editor comes to, one cluster to the left and one to the right, in bytes. None where the text ends there.
+/// Where the caret of an editor moves to, one cluster to the left and one to the right, in bytes. None where the text ends there.
 pub fn caret_moves(
     segmenter: GraphemeClusterSegmenterBorrowed<'_>,
     text: &str,

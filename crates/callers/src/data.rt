@@ -17,7 +17,7 @@ use thiserror::Error;
 /// Why there is no segmenter, or no memo.
 #[derive(Debug, Drop, Error)]
 pub enum Failure {
-    /// The data are refused.
+    /// The data are rejected.
     #[error("{0}")]
     Refused(#[from] DataError),
     /// No memory is left for them.
@@ -35,7 +35,7 @@ const STATES: [(Acceptance, Option<Lookahead>); 3] = [
     (Acceptance::Accept(1), None),
 ];
 
-/// What state q leads to on symbol s is at `q + s * 3`, since there are 3 states; 255 stands for none.
+/// What state q leads to on symbol s is at `q + s * 3`, since there are 3 states; 255 means none.
 pub const TRANSITIONS: [State; 9] = [
     255, 255, 255, // symbol 0, the end of the text
     1, 1, 255, // symbol 1, another character

@@ -16,7 +16,7 @@ use icu_segmenter::provider::{
 use icu_segmenter::{LineSegmenter, LineSegmenterBorrowed};
 use std::alloc::{AllocError, Global};
 
-/// The places where a line of the text must be broken, in bytes. The only error is want of memory.
+/// The places where a line of the text must be broken, in bytes. Fails only when out of memory.
 pub fn mandatory_breaks(
     alloc: Global,
     segmenter: LineSegmenterBorrowed<'_>,
@@ -35,7 +35,7 @@ pub fn mandatory_breaks(
 }
 
 /// Where the lines of a text end, in bytes, if each takes what fits in a width of so many bytes, and ends where it must. What no
-/// break divides stays whole, even if it is wider. The only error is want of memory.
+/// break divides stays whole, even if it is wider. Fails only when out of memory.
 pub fn filled_lines(
     alloc: Global,
     segmenter: LineSegmenterBorrowed<'_>,
@@ -78,7 +78,7 @@ pub fn breakall_segmenter(
     clusters: SegmenterStateMachine,
 ) -> Result<LineSegmenter, DataError>
     ensures accepted { IfOk result (λ segmenter. owned_line_rules segmenter ≡ machine_lines (with_tailoring machine (Some breakall)) clusters no_words) }
-    ensures refused { IfErr result (IsLowestFault (HasFaultWith machine (Some (Some breakall)))) }
+    ensures rejected { IfErr result (IsLowestFault (HasFaultWith machine (Some (Some breakall)))) }
 {
     let tailorings = LineTailorings {
         breakall: Some(breakall),

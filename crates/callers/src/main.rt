@@ -196,9 +196,9 @@ fn find_words(rt: &HostRuntime) -> Result<()> {
     let table = word_table(alloc)?;
     let clusters = cluster_table(alloc)?;
     let dictionaries = dictionaries(alloc)?;
-    let lent = dictionaries.as_borrowed();
+    let borrowed = dictionaries.as_borrowed();
     let options = WordBreakInvariantOptions::default();
-    let words = WordSegmenterBorrowed::new_dictionary(&table, None, &clusters, lent, options)?;
+    let words = WordSegmenterBorrowed::new_dictionary(&table, None, &clusters, borrowed, options)?;
     print_words(rt, words)
 }
 

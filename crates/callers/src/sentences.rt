@@ -13,7 +13,7 @@ use icu_segmenter::laws::sentence;
 use icu_segmenter::segments::BreakIterator;
 use std::alloc::{AllocError, Global};
 
-/// The sentences of a text. The only error is want of memory.
+/// The sentences of a text. Fails only when out of memory.
 pub fn sentence_texts<'s>(
     alloc: Global,
     segmenter: SentenceSegmenterBorrowed<'_>,

@@ -124,7 +124,7 @@ impl<'w> WordCursor for OneWord<'w> {
     }
 }
 
-/// Where a text is cut by one word of the caller's own, in bytes: no word ends within a cluster. The only error is want of memory.
+/// Where a text is cut by one word of the caller's own, in bytes: no word ends within a cluster. Fails only when out of memory.
 pub fn cuts_by_word(
     alloc: Global,
     clusters: GraphemeClusterSegmenterBorrowed<'_>,

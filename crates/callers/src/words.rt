@@ -19,7 +19,7 @@ pub fn word_count(segmenter: WordSegmenterBorrowed<'_>, text: &str) -> usize
     segmenter.segment_str(text).words().count()
 }
 
-/// The words of a text, of letters or numbers, each with the place where it begins, in bytes, and its type. The only error is want of memory.
+/// The words of a text, of letters or numbers, each with the place where it begins, in bytes, and its type. Fails only when out of memory.
 pub fn words<'s>(
     alloc: Global,
     segmenter: WordSegmenterBorrowed<'_>,
@@ -30,7 +30,7 @@ pub fn words<'s>(
     segmenter.segment_str(text).words().collect(alloc)
 }
 
-/// A text as it is shown to one who looked for `query`: with each segment that equals it in brackets. The only error is want of memory.
+/// A text as it is shown to one who looked for `query`: with each segment that equals it in brackets. Fails only when out of memory.
 pub fn highlighted(
     alloc: Global,
     segmenter: WordSegmenterBorrowed<'_>,

@@ -1,4 +1,4 @@
-//! Cases of each kind: random data, handed to a segmenter's constructors, lent or given.
+//! Cases of each kind: random data, handed to a segmenter's constructors, borrowed or given.
 
 use crate::dice::Dice;
 use crate::failure::{Failure, both, check};
@@ -65,7 +65,7 @@ impl Kind {
         Kind::Pieces,
     ];
 
-    /// Tries one case, and says whether there was a memo. The errors are what the data are refused for, want of memory, and what
+    /// Tries one case, and says whether there was a memo. The errors are why the data are rejected, out of memory, and what
     /// is wrong.
     pub fn run(self, alloc: Global, dice: &mut Dice) -> Result<bool, Failure> {
         match self {
@@ -168,8 +168,8 @@ fn words_by_table(alloc: Global, dice: &mut Dice) -> Result<bool, Failure> {
     match dice.below(4) {
         0 => examine_given_words(alloc, dice, given_words(tables)),
         1 => examine_given_words(alloc, dice, given_words_with(tables, words)),
-        2 => examine_words(alloc, dice, lent_words(&tables)),
-        _ => examine_words(alloc, dice, lent_words_with(&tables, words.as_borrowed())),
+        2 => examine_words(alloc, dice, borrowed_words(&tables)),
+        _ => examine_words(alloc, dice, borrowed_words_with(&tables, words.as_borrowed())),
     }
 }
 
@@ -193,7 +193,7 @@ fn given_words_with(tables: WordTables, words: Dictionaries) -> Result<WordSegme
     WordSegmenter::try_new_dictionary(table, overriding, clusters, words, options)
 }
 
-fn lent_words(tables: &WordTables) -> Result<WordSegmenterBorrowed<'_>, DataError> {
+fn borrowed_words(tables: &WordTables) -> Result<WordSegmenterBorrowed<'_>, DataError> {
     let overriding = tables.overriding.as_ref();
     let options = WordBreakInvariantOptions::default();
     WordSegmenterBorrowed::new_for_non_complex_scripts(
@@ -204,7 +204,7 @@ fn lent_words(tables: &WordTables) -> Result<WordSegmenterBorrowed<'_>, DataErro
     )
 }
 
-fn lent_words_with<'a>(
+fn borrowed_words_with<'a>(
     tables: &'a WordTables,
     words: DictionariesBorrowed<'a>,
 ) -> Result<WordSegmenterBorrowed<'a>, DataError> {
@@ -241,7 +241,7 @@ fn examine_given_words(
     examine_owned(alloc, dice, Ok(Segmenter::Words(segmenter)))
 }
 
-// Options of lines. What names no language stands for none.
+// Options of lines. What names no language means none.
 fn line_options<'a>(
     dice: &mut Dice,
     language: &'a Option<LanguageIdentifier>,
@@ -328,11 +328,11 @@ fn lines_by_table(alloc: Global, dice: &mut Dice) -> Result<bool, Failure> {
     match dice.below(4) {
         0 => examine_given_lines(alloc, dice, given_lines(tables, options)),
         1 => examine_given_lines(alloc, dice, given_lines_with(tables, words, options)),
-        2 => examine_lines(alloc, dice, lent_lines(&tables, options)),
+        2 => examine_lines(alloc, dice, borrowed_lines(&tables, options)),
         _ => examine_lines(
             alloc,
             dice,
-            lent_lines_with(&tables, words.as_borrowed(), options),
+            borrowed_lines_with(&tables, words.as_borrowed(), options),
         ),
     }
 }
@@ -354,7 +354,7 @@ fn given_lines_with(
     LineSegmenter::try_new_dictionary(table, clusters, words, options)
 }
 
-fn lent_lines<'a>(
+fn borrowed_lines<'a>(
     tables: &'a LineTables,
     options: LineBreakOptions<'_>,
 ) -> Result<LineSegmenterBorrowed<'a>, DataError> {
@@ -362,7 +362,7 @@ fn lent_lines<'a>(
     LineSegmenterBorrowed::new_for_non_complex_scripts(table, clusters, options)
 }
 
-fn lent_lines_with<'a>(
+fn borrowed_lines_with<'a>(
     tables: &'a LineTables,
     words: DictionariesBorrowed<'a>,
     options: LineBreakOptions<'_>,

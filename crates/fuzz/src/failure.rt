@@ -14,7 +14,7 @@ pub enum Failure {
     /// The output took not all.
     #[error("write failed")]
     Write,
-    /// The data are refused, as data may be.
+    /// The data are rejected, as data may be.
     #[error("refused: {0}")]
     Refused(DataError),
     /// Memory is missing.

@@ -11,7 +11,7 @@ use icu_segmenter::provider::{
 };
 use std::alloc::{AllocError, Global};
 
-/// A machine, mostly of few states, whose states mostly accept. The errors are those of its parts, and want of memory.
+/// A machine, mostly of few states, whose states mostly accept. The errors are those of its parts, and out of memory.
 pub fn machine(alloc: Global, dice: &mut Dice) -> Result<SegmenterStateMachine, Failure> {
     let count = if dice.comes(1) {
         dice.byte()
@@ -97,7 +97,7 @@ fn transitions(
     Ok(transitions)
 }
 
-// What so many pseudo symbols stand for, each mostly a symbol below a bound.
+// What so many pseudo symbols mean, each mostly a symbol below a bound.
 fn map(
     alloc: Global,
     dice: &mut Dice,
@@ -130,7 +130,7 @@ fn script(dice: &mut Dice) -> ComplexScript {
     }
 }
 
-/// A tailoring, if there is one. The errors are those of its parts, and want of memory.
+/// A tailoring, if there is one. The errors are those of its parts, and out of memory.
 pub fn tailoring(
     alloc: Global,
     dice: &mut Dice,
@@ -145,7 +145,7 @@ pub fn tailoring(
     Ok(Some(SegmenterStateMachineOverride::try_from_parts(map, replacements)?))
 }
 
-/// The tailorings of lines, of which each may be there. The errors are those of their parts, and want of memory.
+/// The tailorings of lines, of which each may be there. The errors are those of their parts, and out of memory.
 pub fn tailorings(alloc: Global, dice: &mut Dice) -> Result<LineTailorings, Failure> {
     let breakall = tailoring(alloc, dice);
     let words = both(breakall, tailoring(alloc, dice));
@@ -160,7 +160,7 @@ pub fn tailorings(alloc: Global, dice: &mut Dice) -> Result<LineTailorings, Fail
     Ok(tailorings)
 }
 
-/// The dictionary of some words. The error is want of memory.
+/// The dictionary of some words. Fails only when out of memory.
 pub fn dictionary(alloc: Global, dice: &mut Dice) -> Result<DictionaryBreakData, Failure> {
     let bytes = random_bytes(alloc, dice)?;
     let text = decoded(alloc, Utf8CharIndices::new(bytes.as_slice()))?;
@@ -168,7 +168,7 @@ pub fn dictionary(alloc: Global, dice: &mut Dice) -> Result<DictionaryBreakData,
     Ok(DictionaryBreakData::try_from_words(alloc, words.as_slice())?)
 }
 
-/// The dictionaries of some scripts. The error is want of memory.
+/// The dictionaries of some scripts. Fails only when out of memory.
 pub fn dictionaries(alloc: Global, dice: &mut Dice) -> Result<Dictionaries, Failure> {
     let mut dictionaries = Dictionaries::none();
     if dice.comes(96) {

@@ -1,7 +1,7 @@
 //! Hands random data and random texts to every kind of segmenter, and looks whether anything but an answer or a refusal comes.
 //!
 //! The arguments are how many cases of each kind are tried, and the seed of the first; the others have those after it. What is
-//! printed of a kind is how many cases had boundaries, of how many of them there was a memo, and of how many the data were refused,
+//! printed of a kind is how many cases had boundaries, of how many of them there was a memo, and of how many the data were rejected,
 //! by fault. A hundred times as many certificates of `seg_rules` are changed, and of each part of one is printed how many are accepted.
 //!
 //! With `ranges` a table of as many ranges as there can be is tried, and with `refusals` what takes memory (`refusals`).

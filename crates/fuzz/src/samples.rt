@@ -15,7 +15,7 @@ pub fn size(text: Text<'_>) -> usize {
     }
 }
 
-/// Where each item of a text begins, and at last its end. The error is want of memory.
+/// Where each item of a text begins, and at last its end. Fails only when out of memory.
 pub fn starts(alloc: Global, text: Text<'_>) -> Result<Vec<usize>, AllocError> {
     match text {
         Text::Str(text) => places(alloc, StrCharIndices::new(text)),
@@ -36,7 +36,7 @@ fn places<I: Cursor>(alloc: Global, mut text: I) -> Result<Vec<usize>, AllocErro
     Ok(places)
 }
 
-/// The characters of a text. The error is want of memory.
+/// The characters of a text. Fails only when out of memory.
 pub fn decoded<I: Cursor>(alloc: Global, mut text: I) -> Result<String, AllocError> {
     let mut characters = String::new(alloc);
     for _turn in 0..u64::MAX {
@@ -48,7 +48,7 @@ pub fn decoded<I: Cursor>(alloc: Global, mut text: I) -> Result<String, AllocErr
     Ok(characters)
 }
 
-/// Bytes of some characters in UTF-8, one in four times with others between them. The error is want of memory.
+/// Bytes of some characters in UTF-8, one in four times with others between them. Fails only when out of memory.
 pub fn random_bytes(alloc: Global, dice: &mut Dice) -> Result<Vec<u8>, AllocError> {
     let mut bytes = Vec::new(alloc);
     let others = if dice.comes(64) { 96 } else { 0 };
@@ -63,7 +63,7 @@ pub fn random_bytes(alloc: Global, dice: &mut Dice) -> Result<Vec<u8>, AllocErro
     Ok(bytes)
 }
 
-/// Units of some characters in UTF-16, with surrogates between them. The error is want of memory.
+/// Units of some characters in UTF-16, with surrogates between them. Fails only when out of memory.
 pub fn random_units(alloc: Global, dice: &mut Dice) -> Result<Vec<u16>, AllocError> {
     let mut units = Vec::new(alloc);
     for _ in 0..dice.below(16) {

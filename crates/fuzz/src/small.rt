@@ -100,7 +100,7 @@ const SYMBOLS: [(u32, u32, Symbol); 4] = [
     (0x66, 0x66, 4),
 ];
 
-/// A machine of these states and transitions, with as many lookaheads as there may be. The errors are what it is refused for, and want of memory.
+/// A machine of these states and transitions, with as many lookaheads as there may be. The errors are why it is rejected, and out of memory.
 pub fn machine(
     alloc: Global,
     states: &[Accepted],

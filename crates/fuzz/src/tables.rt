@@ -47,7 +47,7 @@ impl Classes {
         Ok(ranges)
     }
 
-    /// A table of such classes. The errors are those of its ranges, and want of memory.
+    /// A table of such classes. The errors are those of its ranges, and out of memory.
     pub fn table(self, alloc: Global, dice: &mut Dice) -> Result<ClassTable, Failure> {
         let ranges = self.ranges(alloc, dice)?;
         Ok(ClassTable::try_from_ranges(ranges, self.draw(dice, self.low))?)
@@ -103,7 +103,7 @@ impl Numbers {
         }
     }
 
-    /// A pair table with these numbers. The errors are those of its parts, and want of memory.
+    /// A pair table with these numbers. The errors are those of its parts, and out of memory.
     pub fn table(self, alloc: Global, dice: &mut Dice) -> Result<RuleBreakData, Failure> {
         let start = self.count.saturating_sub(2);
         let last = dice.below(start);
@@ -168,12 +168,12 @@ fn bytes(alloc: Global, dice: &mut Dice, count: u8) -> Result<Vec<u8>, AllocErro
     Ok(bytes)
 }
 
-/// A pair table of clusters. The errors are those of its parts, and want of memory.
+/// A pair table of clusters. The errors are those of its parts, and out of memory.
 pub fn cluster_table(alloc: Global, dice: &mut Dice) -> Result<RuleBreakData, Failure> {
     Numbers::few(dice, false).table(alloc, dice)
 }
 
-/// An override of some classes, if there is one. The errors are those of its ranges, and want of memory.
+/// An override of some classes, if there is one. The errors are those of its ranges, and out of memory.
 pub fn overriding(
     alloc: Global,
     dice: &mut Dice,

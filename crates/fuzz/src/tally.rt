@@ -8,7 +8,7 @@ use icu_segmenter::provider::DataError;
 use std::alloc::Global;
 use std::fmt;
 
-// What data are refused for.
+// Why data are rejected.
 const FAULTS: [DataError; 18] = [
     DataError::RangeOrder,
     DataError::RangePast10FFFF,
@@ -71,7 +71,7 @@ impl fmt::Display for Tally {
     }
 }
 
-/// Tries so many cases of a kind, from a seed on. The errors are want of memory, and a case that has neither an answer nor a
+/// Tries so many cases of a kind, from a seed on. The errors are out of memory, and a case that has neither an answer nor a
 /// refusal, with its seed.
 pub fn tally_of(alloc: Global, kind: Kind, cases: u64, seed: u64) -> Result<Tally> {
     let mut tally = Tally {

@@ -14,7 +14,7 @@ use icu_segmenter::rule_segmenter_v2::CountedTransitions;
 use icu_segmenter::scaffold::Utf8;
 use std::alloc::Global;
 
-/// Asks a segmenter with data of its own what `examine` asks of one over lent data.
+/// Asks a segmenter with data of its own what `examine` asks of one over borrowed data.
 pub fn examine_owned(
     alloc: Global,
     dice: &mut Dice,
@@ -27,7 +27,7 @@ pub fn examine_owned(
 // How many times a segmenter is asked for two texts.
 const TIMES: u8 = 8;
 
-/// Segments random texts, and says whether they have memos. The errors are what the data were refused for, want of memory, and what
+/// Segments random texts, and says whether they have memos. The errors are why the data were rejected, out of memory, and what
 /// is wrong.
 pub fn examine(
     alloc: Global,

@@ -106,10 +106,10 @@ whole-part end boundaries cover = record {
   all = λ place has. inr (place, has, omega arith);
 }
 
-parted : (decode : List ℕ → Text) (find : List ℕ → List Boundary) (before second : List ℕ) → PartsBehind (boundaries_of_units decode find) line_feed
+split : (decode : List ℕ → Text) (find : List ℕ → List Boundary) (before second : List ℕ) → PartsBehind (boundaries_of_units decode find) line_feed
     → IsCover 0 (length (before ++ line_feed)) (boundaries_of_units decode find (before ++ line_feed)) → IsCover 0 (length second) (boundaries_of_units decode find second)
     → IsPart (places_of_units decode find ((before ++ line_feed) ++ second)) (length (before ++ line_feed)) (places_of_units decode find second)
-parted decode find before second parts covers cover =
+split decode find before second parts covers cover =
     let first : List ℕ = before ++ line_feed in
     subst (λ (places : List ℕ). IsPart places (length first) (places_of_units decode find second))
     (sym (ap offsets (parts before second) ∙ joined-offsets (length first) (boundaries_of_units decode find first) (drop 1 (boundaries_of_units decode find second))))
@@ -128,7 +128,7 @@ line-parts decode find units start (inr (before, second, is, at)) parts whole co
     let taken : take start units ≡ first = ap (λ (n : ℕ). take n units) at ∙ ap (take (length first)) is ∙ take-append_seam first second in
     let rest : drop start units ≡ second = ap (λ (n : ℕ). drop n units) at ∙ ap (drop (length first)) is ∙ drop-append_seam first second in
     let part : IsPart (places_of_units decode find (first ++ second)) (length first) (places_of_units decode find second) =
-    parted decode find before second parts
+    split decode find before second parts
     (subst (λ (text : List ℕ). IsCover 0 (length text) (boundaries_of_units decode find text)) taken covers)
     (subst (λ (text : List ℕ). IsCover 0 (length text) (boundaries_of_units decode find text)) rest cover) in
     subst (λ (text : List ℕ). IsPart (places_of_units decode find units) start (places_of_units decode find text)) (sym rest)

@@ -33,7 +33,7 @@ pub trait Segmenter: Drop {
     /// How the boundaries of a list of code points are found.
     ghost find: { Self → List ℕ → List Boundary };
 
-    /// Whether each text may be parted behind its line feeds, so that each part has the boundaries that it has alone. If `false`,
+    /// Whether each text may be split after its line feeds, so that each part has the boundaries that it has alone. If `false`,
     /// nothing is said.
     fn parts_behind_line_feeds(&self) -> bool
         ensures utf8 { IsTrue result → PartsBehind (boundaries_of_units utf8 (find self.now)) line_feed }
@@ -168,7 +168,7 @@ fn part_at<T: CursorText, S: SegmenterOf<T>>(
         return (0, text);
     }
     let start = line_start(text, place);
-    let (before, part) = text.parted_at(start);
+    let (before, part) = text.parts_at(start);
     segmenter.cover(before);
     segmenter.cover(part);
     (start, part)

@@ -15,7 +15,7 @@ pub use seg_text::{indices, scaffold};
 pub use seg_words::word::{WordSegmenter, WordSegmenterBorrowed};
 
 /// The data of segmenters, each checked once, where it is made: tables of classes, state machines and pair tables
-/// with what replaces parts of them, and what is wrong where they are refused.
+/// with what replaces parts of them, and what is wrong where they are rejected.
 pub mod provider {
     pub use seg_data::dictionaries::{Dictionaries, DictionariesBorrowed};
     pub use seg_data::provider::{

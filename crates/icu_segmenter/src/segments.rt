@@ -144,7 +144,7 @@ pub trait WordBreaks: BreakIterator<Mark = WordType> {
 }
 
 /// The segments of a text, each with the place where it begins and with what the status says of the boundary at which it ends. After
-/// None it is None for ever.
+/// None it stays None.
 #[derive(Drop)]
 pub struct MarkedSegments<B: BreakIterator> {
     breaks: B,
@@ -207,7 +207,7 @@ impl<B: BreakIterator> Iterator for MarkedSegments<B> {
     }
 }
 
-/// The segments of a text. After None it is None for ever.
+/// The segments of a text. After None it stays None.
 #[derive(Drop)]
 pub struct Segments<B: BreakIterator> {
     segments: MarkedSegments<B>,
@@ -241,7 +241,7 @@ impl<B: BreakIterator> Iterator for Segments<B> {
     }
 }
 
-/// The segments of a text, each with the place where it begins. After None it is None for ever.
+/// The segments of a text, each with the place where it begins. After None it stays None.
 #[derive(Drop)]
 pub struct SegmentIndices<B: BreakIterator> {
     segments: MarkedSegments<B>,
@@ -275,7 +275,7 @@ impl<B: BreakIterator> Iterator for SegmentIndices<B> {
     }
 }
 
-/// The words of a text, each with the place where it begins and its type. After None it is None for ever.
+/// The words of a text, each with the place where it begins and its type. After None it stays None.
 #[derive(Drop)]
 pub struct Words<B: BreakIterator<Mark = WordType>> {
     segments: MarkedSegments<B>,

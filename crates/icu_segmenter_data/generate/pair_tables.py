@@ -10,7 +10,7 @@ from typing import NamedTuple
 from automata import JOINED, is_open
 from compiler import Compiler
 
-# A byte stands for an Index of a state below this.
+# A byte means an Index of a state below this.
 MOST = 120
 
 
@@ -85,7 +85,7 @@ class Walks:
 class PairTable:
     """`entries` by rows; `statuses` of the classes and composites from 1 on.
 
-    A walk that comes to what is known after a class goes on in the row of a class: one that the rules name where there is one, and
+    A walk that reaches what is known after a class goes on in the row of a class: one that the rules name where there is one, and
     otherwise the lowest."""
 
     def __init__(self, rules, classes):

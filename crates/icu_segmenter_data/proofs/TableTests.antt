@@ -1,4 +1,4 @@
--- Pair tables whose parts pass computed tests have no fault, so nothing but want of memory refuses them.
+-- Pair tables whose parts pass computed tests have no fault, so nothing but a lack of memory refuses them.
 use Rattle.std.proofs.Common.{◌≡◌, ℕ, ◌*◌, ◌<◌, ◌⊎◌, Bool, true, nat_lt, length, arith, inl, inr}
 use Rattle.std.specs.Prelude.{Result, Ok, Err, IfErr}
 use Rattle.std.proofs.lemmas.Bool.{ltb-true}

@@ -20,7 +20,7 @@ use icu_segmenter::provider::DataError;
 use icu_segmenter::{GraphemeClusterSegmenter, LineSegmenter, SentenceSegmenter, WordSegmenter};
 use std::alloc::Global;
 
-/// A segmenter of extended grapheme clusters, by the pair table of UAX #29 of Unicode 18.0. The only error that is met is want of memory.
+/// A segmenter of extended grapheme clusters, by the pair table of UAX #29 of Unicode 18.0. Fails only when out of memory.
 pub fn grapheme_segmenter(alloc: Global) -> Result<GraphemeClusterSegmenter, DataError>
     ensures { IfOk result (λ clusters. owned_cluster_rules clusters ≡ ByTable cluster_table None) }
 {
@@ -28,7 +28,7 @@ pub fn grapheme_segmenter(alloc: Global) -> Result<GraphemeClusterSegmenter, Dat
 }
 
 /// A segmenter of words, by the pair table of UAX #29 of Unicode 18.0, which knows their types, without dictionaries: `load_dictionary`
-/// takes them. The only error that is met is want of memory.
+/// takes them. Fails only when out of memory.
 pub fn word_segmenter(alloc: Global) -> Result<WordSegmenter, DataError>
     ensures { IfOk result (λ words. owned_word_rules words ≡ table_words word_table None cluster_table no_words) }
 {
@@ -41,7 +41,7 @@ pub fn word_segmenter(alloc: Global) -> Result<WordSegmenter, DataError>
     )
 }
 
-/// A segmenter of sentences, by the pair table of UAX #29 of Unicode 18.0. The only error that is met is want of memory.
+/// A segmenter of sentences, by the pair table of UAX #29 of Unicode 18.0. Fails only when out of memory.
 pub fn sentence_segmenter(alloc: Global) -> Result<SentenceSegmenter, DataError>
     ensures { IfOk result (λ sentences. owned_sentence_rules sentences ≡ ByTable sentence_table None) }
 {
@@ -53,7 +53,7 @@ pub fn sentence_segmenter(alloc: Global) -> Result<SentenceSegmenter, DataError>
 }
 
 /// A segmenter of lines, by the pair table of UAX #14 of Unicode 18.0 as these options read it, or by that of clusters where they are `Anywhere`; without
-/// dictionaries: `load_dictionary` takes them. The only error that is met is want of memory.
+/// dictionaries: `load_dictionary` takes them. Fails only when out of memory.
 pub fn line_segmenter(
     alloc: Global,
     options: LineBreakOptions<'_>,

@@ -11,10 +11,10 @@ use icu_segmenter::provider::{DataError, RuleBreakData};
 use std::alloc::Global;
 
 /// The pair table of extended grapheme clusters, by UAX #29, which words and lines by pair tables ask for too. The only error is
-/// want of memory.
+/// out of memory.
 pub fn cluster_table(alloc: Global) -> Result<RuleBreakData, DataError>
     ensures made { IfOk result (λ t. t ≡ cluster_table) }
-    ensures refused { IfErr result (λ fault. fault ≡ Memory) }
+    ensures rejected { IfErr result (λ fault. fault ≡ Memory) }
 {
     table_of(alloc, &CLASSES, OTHER_CLASS, &ENTRIES, &[], NUMBERS)
 }

@@ -12,10 +12,10 @@ use std::alloc::Global;
 
 /// The pair table of lines, over the classes that the classic engine of lines names (UAX #14's, where East Asian width,
 /// General_Category and Extended_Pictographic split some), and 13 more that the rules tell apart. Of class SA all is complex, marks too.
-/// The only error is want of memory.
+/// Fails only when out of memory.
 pub fn line_table(alloc: Global) -> Result<RuleBreakData, DataError>
     ensures made { IfOk result (λ t. t ≡ line_table) }
-    ensures refused { IfErr result (λ fault. fault ≡ Memory) }
+    ensures rejected { IfErr result (λ fault. fault ≡ Memory) }
 {
     table_of(alloc, &CLASSES, OTHER_CLASS, &ENTRIES, &[], NUMBERS)
 }

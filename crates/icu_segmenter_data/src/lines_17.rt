@@ -11,10 +11,10 @@ use icu_segmenter::provider::{DataError, RuleBreakData};
 use std::alloc::Global;
 
 /// The pair table of lines for the engine 17, over the classes that it names (UAX #14's, of which East Asian width, General_Category
-/// and Extended_Pictographic split some). Of class SA all is complex, marks too. The only error is want of memory.
+/// and Extended_Pictographic split some). Of class SA all is complex, marks too. Fails only when out of memory.
 pub fn line_17_table(alloc: Global) -> Result<RuleBreakData, DataError>
     ensures made { IfOk result (λ t. t ≡ line_17_table) }
-    ensures refused { IfErr result (λ fault. fault ≡ Memory) }
+    ensures rejected { IfErr result (λ fault. fault ≡ Memory) }
 {
     table_of(alloc, &CLASSES, OTHER_CLASS, &ENTRIES, &[], NUMBERS)
 }

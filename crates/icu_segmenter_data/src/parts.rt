@@ -30,7 +30,7 @@ pub(crate) struct Numbers {
     pub complex: u8,
 }
 
-/// The pair table of these parts. The errors are want of memory, and what is wrong with the parts.
+/// The pair table of these parts. The errors are out of memory, and what is wrong with the parts.
 pub(crate) fn table_of(
     alloc: Global,
     ranges: &[(u32, u32, u8)],
@@ -40,7 +40,7 @@ pub(crate) fn table_of(
     numbers: Numbers,
 ) -> Result<RuleBreakData, DataError>
     ensures made { IfOk result (λ t. t ≡ pair_table (table ranges.now other) entries.now statuses.now numbers.count numbers.last numbers.start_of_text numbers.end_of_text numbers.complex) }
-    ensures refused { IfErr result (λ fault. (fault ≡ Memory) ⊎ HasRangeFault ranges.now fault
+    ensures rejected { IfErr result (λ fault. (fault ≡ Memory) ⊎ HasRangeFault ranges.now fault
         ⊎ HasPairFault (pair_table (table ranges.now other) entries.now statuses.now numbers.count numbers.last numbers.start_of_text numbers.end_of_text numbers.complex) fault) }
 {
     let classes = ClassTable::try_from_ranges(Vec::from_slice(alloc, ranges)?, other)?;

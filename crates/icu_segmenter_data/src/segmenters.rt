@@ -26,7 +26,7 @@ use icu_segmenter_uax29::{cluster_machine, sentence_machine, typed_word_machine}
 use std::alloc::Global;
 
 /// A segmenter of extended grapheme clusters, by the machine of which it is proved that they are those of UAX #29 as it is in Unicode
-/// 18.0 (`icu_segmenter_uax29::laws::clusters_are_uax29`). The only error that is met is want of memory.
+/// 18.0 (`icu_segmenter_uax29::laws::clusters_are_uax29`). Fails only when out of memory.
 pub fn grapheme_segmenter(alloc: Global) -> Result<GraphemeClusterSegmenter, DataError>
     ensures { IfOk result (λ clusters. owned_cluster_rules clusters ≡ ByMachine cluster_machine) }
 {
@@ -34,8 +34,8 @@ pub fn grapheme_segmenter(alloc: Global) -> Result<GraphemeClusterSegmenter, Dat
 }
 
 /// A segmenter of words, by the machine of which it is proved that they are those of UAX #29 as it is in Unicode 18.0, with their types
-/// (`icu_segmenter_uax29::laws::word_types`). It has no dictionaries: `load_dictionary` takes them. The only error that is met is
-/// want of memory.
+/// (`icu_segmenter_uax29::laws::word_types`). It has no dictionaries: `load_dictionary` takes them. Fails only when
+/// out of memory.
 pub fn word_segmenter(alloc: Global) -> Result<WordSegmenter, DataError>
     ensures machines { IfOk result (λ words. owned_word_rules words ≡ machine_words typed_word_machine cluster_table no_words) }
     ensures words { IfOk result (λ words. AreWords (owned_word_rules words)) }
@@ -49,7 +49,7 @@ pub fn word_segmenter(alloc: Global) -> Result<WordSegmenter, DataError>
 }
 
 /// A segmenter of sentences, by the machine of which it is proved that they are those of UAX #29 as it is in Unicode 18.0
-/// (`icu_segmenter_uax29::laws::sentences_are_uax29`). The only error that is met is want of memory.
+/// (`icu_segmenter_uax29::laws::sentences_are_uax29`). Fails only when out of memory.
 pub fn sentence_segmenter(alloc: Global) -> Result<SentenceSegmenter, DataError>
     ensures { IfOk result (λ sentences. owned_sentence_rules sentences ≡ ByMachine sentence_machine) }
 {
@@ -59,8 +59,8 @@ pub fn sentence_segmenter(alloc: Global) -> Result<SentenceSegmenter, DataError>
 
 /// A segmenter of lines, by the machine of which it is proved that they are those of UAX #14, in the form of revision 55, with the
 /// properties of Unicode 18.0 (`icu_segmenter_uax14::laws::lines_follow_rules`), and the tailoring of CSS Text 3 that these options
-/// choose; or by the machine of clusters where they are `Anywhere`. It has no dictionaries: `load_dictionary` takes them. The only
-/// error that is met is want of memory.
+/// choose; or by the machine of clusters where they are `Anywhere`. It has no dictionaries: `load_dictionary` takes them. Fails only
+/// when out of memory.
 pub fn line_segmenter(
     alloc: Global,
     options: LineBreakOptions<'_>,

@@ -10,10 +10,10 @@ use data::{CLASSES, ENTRIES, NUMBERS, OTHER_CLASS};
 use icu_segmenter::provider::{DataError, RuleBreakData};
 use std::alloc::Global;
 
-/// The pair table of sentences, by UAX #29. The only error is want of memory.
+/// The pair table of sentences, by UAX #29. Fails only when out of memory.
 pub fn sentence_table(alloc: Global) -> Result<RuleBreakData, DataError>
     ensures made { IfOk result (λ t. t ≡ sentence_table) }
-    ensures refused { IfErr result (λ fault. fault ≡ Memory) }
+    ensures rejected { IfErr result (λ fault. fault ≡ Memory) }
 {
     table_of(alloc, &CLASSES, OTHER_CLASS, &ENTRIES, &[], NUMBERS)
 }

@@ -12,10 +12,10 @@ use std::alloc::Global;
 
 /// The pair table of words, by UAX #29. A word has status 1 where its last letter or digit is a digit, 2 where it is a letter, and
 /// 0 where there is none. What dictionaries cut is one class: what has complex context in Thai, Lao, Khmer and Myanmar, Han and
-/// Hiragana. The only error is want of memory.
+/// Hiragana. Fails only when out of memory.
 pub fn word_table(alloc: Global) -> Result<RuleBreakData, DataError>
     ensures made { IfOk result (λ t. t ≡ word_table) }
-    ensures refused { IfErr result (λ fault. fault ≡ Memory) }
+    ensures rejected { IfErr result (λ fault. fault ≡ Memory) }
 {
     table_of(alloc, &CLASSES, OTHER_CLASS, &ENTRIES, &STATUSES, NUMBERS)
 }

@@ -121,7 +121,7 @@ def symbol_properties():
 
 
 class Values:
-    """The values of the table of symbols: a symbol that stands for itself, or, from `shift` on, a place in the maps."""
+    """The values of the table of symbols: a symbol that means itself, or, from `shift` on, a place in the maps."""
 
     def __init__(self, characters):
         numbers = {p: k for k, p in enumerate(symbol_properties())}

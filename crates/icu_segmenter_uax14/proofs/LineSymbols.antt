@@ -1,4 +1,4 @@
--- The symbol of a code point stands for its properties, by each tailoring: computations over the kit's rows.
+-- The symbol of a code point means its properties, by each tailoring: computations over the kit's rows.
 use Rattle.std.proofs.Common.{◌≡◌, ℕ, Bool, true, ◌&&◌, ◌==◌, nat_lt, List, [], ◌∷◌, refl, eqb-true, ap, subst, sym, ◌∙◌}
 use Rattle.std.specs.Prelude.{slice_index_or}
 use Rattle.std.specs.Bool.{beq}

@@ -35,7 +35,7 @@ line-machine-is-sound =
       ends_are = refl;
     }
 
--- what stands for properties is a symbol of a text
+-- what means properties is a symbol of a text
 text-symbols : (map : List (ℕ × ComplexScript)) (replacements : List Replacement) (tailored : LineStyle)
     → ((c : ℕ) → HasStyle tailored c (symbol_and_script (tailored_machine map replacements) c).0) → HasTextSymbols (tailored_machine map replacements)
 unfolding line_machine symbol_count

@@ -186,7 +186,7 @@ keep_all = without_viramas (λ c.
     then (Ideographic, is_east_asian c, Kept)
     else (if is_aksara c then (Alphabetic, is_east_asian c, Usual) else strict c)))
 
--- the symbol stands for the properties of the code point by a style
+-- the symbol means the properties of the code point by a style
 abbrev pub HasStyle : LineStyle → ℕ → ℕ → Type 0
 HasStyle style code_point symbol = StandsFor (style (character code_point)) symbol
 

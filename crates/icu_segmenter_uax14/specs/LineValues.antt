@@ -1,4 +1,4 @@
--- What the symbols of the machine of lines stand for.
+-- What the symbols of the machine of lines mean.
 use Rattle.std.specs.Prelude.{◌≡◌, ℕ, ◌<◌, Bool, true, false, ◌==◌, List, [], ◌∷◌, slice_index_or}
 use Rattle.ucd_breaks.specs.declared.LineBreak.{LineBreak}
 use Rattle.ucd_breaks.specs.declared.LineBreak.TheVariants.{Aksara, Alphabetic, AksaraPrebase, AksaraStart, BreakBoth, BreakAfter, BreakBefore, MandatoryBreak, ContingentBreak, ClosePunctuation, CombiningMark, CloseParenthesis, CarriageReturn, EBase, EModifier, Exclamation, Glue, H2, H3, UnambiguousHyphen, HebrewLetter, Hyphen, Ideographic, Inseparable, InfixNumeric, Jl, Jt, Jv, LineFeed, NextLine, Nonstarter, Numeric, OpenPunctuation, PostfixNumeric, PrefixNumeric, Quotation, RegionalIndicator, Space, BreakSymbols, ViramaFinal, Virama, WordJoiner, Unknown, ZWSpace, Zwj}
@@ -36,7 +36,7 @@ trait_eq a b = trait_number a == trait_number b
 abbrev pub LineProperties : Type 0
 LineProperties = LineBreak × Bool × Trait
 
--- the properties that each symbol stands for; symbol 0 is the edge of a text
+-- the properties that each symbol means; symbol 0 is the edge of a text
 abbrev pub symbol_properties : List LineProperties
 symbol_properties =
     (Unknown, false, Edge)
@@ -121,7 +121,7 @@ letter = 1
 abbrev pub properties_of : ℕ → LineProperties
 properties_of symbol = slice_index_or symbol_properties symbol (Unknown, false, Edge)
 
--- the symbol, which is one of a text, stands for the properties
+-- the symbol, which is one of a text, means the properties
 pub record StandsFor (properties : LineProperties) (symbol : ℕ) : Type 0 where
   pub value : properties ≡ properties_of symbol
   pub some : 0 < symbol

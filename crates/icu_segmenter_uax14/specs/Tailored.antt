@@ -69,7 +69,7 @@ abbrev pub AreLines : LineRules → Type 0
 AreLines rules = (rules.finder ≡ ByClusters)
     ⊎ ((tailoring : Tailoring) × (rules.finder ≡ ByMachine (machine_by tailoring)) × LinesFollowRules rules (machine_by tailoring))
 
--- the symbol of every code point stands for its properties by a style
+-- the symbol of every code point means its properties by a style
 abbrev pub HasSymbolsOf : LineStyle → Machine → Type 0
 HasSymbolsOf style m = (c : ℕ) → HasStyle style c (symbol_and_script m c).0
 

@@ -29,7 +29,7 @@ pub fn segmenters_follow_rules()
     lines_follow_rules();
 }
 
-/// Law: the symbol of every code point stands for its properties in Unicode 18.0; with a tailoring, for those that CSS Text 3 puts
+/// Law: the symbol of every code point means its properties in Unicode 18.0; with a tailoring, for those that CSS Text 3 puts
 /// in their place.
 pub fn symbols_have_properties()
     ensures { (tailoring : Tailoring) → HasSymbolsOf (style_of tailoring) (machine_by tailoring) }

@@ -2,7 +2,7 @@
 //!
 //! The rules are data: a row for each line of the standard (specs/LineRules.antt). The machine is arrays that
 //! `generate/generate.py` writes, and that the segmenters of `icu_segmenter` read. The arrays aren't trusted: it is proved that the
-//! symbol of every code point stands for its properties, and that the boundaries of the machine, and of each of its tailorings,
+//! symbol of every code point means its properties, and that the boundaries of the machine, and of each of its tailorings,
 //! are for every text the places where the rules break.
 #![tactic(auto)]
 

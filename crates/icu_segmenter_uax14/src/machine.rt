@@ -18,7 +18,7 @@ use std::alloc::Global;
 #[tactic(auto, unfolding(crate::specs::Lines::line_machine))]
 pub fn line_machine(alloc: Global) -> Result<SegmenterStateMachine, DataError>
     ensures made { IfOk result (λ m. m ≡ line_machine) }
-    ensures refused { IfErr result (λ fault. fault ≡ Memory) }
+    ensures rejected { IfErr result (λ fault. fault ≡ Memory) }
 {
     machine_of(alloc, &RANGES, OTHER, &STATES, &TRANSITIONS, SHIFT, &MAP)
 }
@@ -28,7 +28,7 @@ pub fn line_machine(alloc: Global) -> Result<SegmenterStateMachine, DataError>
 #[tactic(auto, unfolding(crate::specs::Lines::line_tailorings))]
 pub fn line_tailorings(alloc: Global) -> Result<LineTailorings, DataError>
     ensures made { IfOk result (λ tailorings. tailorings ≡ line_tailorings) }
-    ensures refused { IfErr result (λ fault. fault ≡ Memory) }
+    ensures rejected { IfErr result (λ fault. fault ≡ Memory) }
 {
     Ok(LineTailorings {
         breakall: Some(tailoring_of(alloc, &BREAK_ALL, &BREAK_ALL_REPLACED)?),

@@ -36,7 +36,7 @@ pub(crate) fn machine_of(
     map: &[(Symbol, ComplexScript)],
 ) -> Result<SegmenterStateMachine, DataError>
     ensures made { IfOk result (λ m. m ≡ machine (table ranges.now other) states.now transitions.now 1 shift map.now) }
-    ensures refused { IfErr result (λ fault. (fault ≡ Memory) ⊎ HasRangeFault ranges.now fault
+    ensures rejected { IfErr result (λ fault. (fault ≡ Memory) ⊎ HasRangeFault ranges.now fault
         ⊎ HasMachineFault (machine (table ranges.now other) states.now transitions.now 1 shift map.now) fault) }
 {
     let symbols = ClassTable::try_from_ranges(Vec::from_slice(alloc, ranges)?, other)?;
@@ -54,7 +54,7 @@ pub(crate) fn tailoring_of(
     replaced: &[(Symbol, Symbol, ComplexScript)],
 ) -> Result<SegmenterStateMachineOverride, DataError>
     ensures made { IfOk result (λ made. made ≡ tailoring map.now replaced.now) }
-    ensures refused { IfErr result (λ fault. (fault ≡ Memory) ⊎ HasOverrideFault (tailoring map.now replaced.now) fault) }
+    ensures rejected { IfErr result (λ fault. (fault ≡ Memory) ⊎ HasOverrideFault (tailoring map.now replaced.now) fault) }
 {
     let pseudo_symbol_map = Vec::from_slice(alloc, map)?;
     let symbol_map = Vec::from_slice(alloc, replaced)?;

@@ -34,7 +34,7 @@ def classes_of(text, properties, parts):
 
 
 def rules_of(kind, properties):
-    """The rules of a kind, over symbols that stand for these properties, from symbol 1 on."""
+    """The rules of a kind, over symbols that mean these properties, from symbol 1 on."""
     module, parts = KINDS[kind]
     with open(os.path.join(HERE, "..", "specs", module + ".antt"), encoding="utf-8") as file:
         text = file.read()

@@ -1,4 +1,4 @@
--- A machine whose parts pass computed tests has no fault and is checked, so nothing but want of memory refuses it.
+-- A machine whose parts pass computed tests has no fault and is checked, so nothing but a lack of memory refuses it.
 use Rattle.std.proofs.Common.{◌≡◌, ℕ, zero, suc, ◌+◌, ◌-◌, ◌*◌, ◌/◌, ◌%◌, ◌<◌, ◌≤◌, ◌⊎◌, Bool, true, false, not, ◌&&◌, ◌||◌, ◌==◌, nat_lt, List, [], ◌∷◌, length, get_or, map, replicate, ◌++◌, Option, Some, None, unwrap_or, refl, sym, ap, subst, ◌∙◌, arith, inl, inr, lt-ltb}
 use Rattle.std.specs.List.{All}
 use Rattle.std.specs.Prelude.{Result, Ok, Err, IfErr, IfSome, min}
@@ -28,7 +28,7 @@ use Rattle.icu_segmenter_uax29.proofs.Cells.{cell-at, cells, column-of, row-of}
 abbrev Entry : Type 0
 Entry = Acceptance × Option ℕ
 
--- a value is the symbol of a text, or stands for an entry of the map
+-- a value is the symbol of a text, or means an entry of the map
 abbrev is_value : ℕ → ℕ → ℕ → ℕ → Bool
 is_value symbols shift entries value = nat_lt value (shift + entries) && implies (nat_lt value shift) (is_symbol symbols value)
 

@@ -12,7 +12,7 @@ use Rattle.ucd_emoji.specs.Binary.{is_extended_pictographic}
 abbrev pub Properties : Type 0
 Properties = GraphemeClusterBreak × IndicConjunctBreak × Bool
 
--- the properties that each symbol stands for; that of the end of the text stands for none
+-- the properties that each symbol means; that of the end of the text means none
 abbrev pub symbol_properties : List Properties
 symbol_properties =
     (Other, InCb.None, false)
@@ -49,7 +49,7 @@ incb_of symbol = (properties_of symbol).1
 abbrev pub pict_of : ℕ → Bool
 pict_of symbol = (properties_of symbol).2
 
--- the symbol, which is one of a text, stands for the properties of the code point
+-- the symbol, which is one of a text, means the properties of the code point
 pub record HasProperties (code_point symbol : ℕ) : Type 0 where
   pub breaks : grapheme_cluster_break code_point ≡ gcb_of symbol
   pub conjuncts : indic_conjunct_break code_point ≡ incb_of symbol

@@ -93,7 +93,7 @@ unruled_symbol = 22
 abbrev pub plain_symbol : ℕ → ℕ
 plain_symbol symbol = if symbol == unruled_symbol then 1 else symbol
 
--- the symbol, which is one of a text, stands for the properties of the code point
+-- the symbol, which is one of a text, means the properties of the code point
 pub record HasTypedWordBreak (code_point symbol : ℕ) : Type 0 where
   pub plain : HasWordBreak code_point (plain_symbol symbol)
   pub unruled : is_unruled (character code_point) ≡ (symbol == unruled_symbol)

@@ -5,7 +5,7 @@ use Rattle.ucd_breaks.specs.declared.WordBreak.{WordBreak}
 use Rattle.ucd_breaks.specs.declared.WordBreak.TheVariants.{Cr, DoubleQuote, ExtendNumLet, Extend, Format, HebrewLetter, Katakana, ALetter, Lf, MidNumLet, MidLetter, MidNum, Newline, Numeric, RegionalIndicator, SingleQuote, WSegSpace, Other, Zwj}
 use Rattle.ucd_emoji.specs.Binary.{is_extended_pictographic}
 
--- the properties Word_Break and Extended_Pictographic that each symbol stands for; that of the end of the text stands for none
+-- the properties Word_Break and Extended_Pictographic that each symbol means; that of the end of the text means none
 abbrev pub word_symbol_properties : List (WordBreak × Bool)
 word_symbol_properties =
     (Other, false)
@@ -38,7 +38,7 @@ word_break_of symbol = (slice_index_or word_symbol_properties symbol (Other, fal
 abbrev pub is_pictograph_of : ℕ → Bool
 is_pictograph_of symbol = (slice_index_or word_symbol_properties symbol (Other, false)).1
 
--- the symbol, which is one of a text, stands for the properties of the code point
+-- the symbol, which is one of a text, means the properties of the code point
 pub record HasWordBreak (code_point symbol : ℕ) : Type 0 where
   pub value : word_break code_point ≡ word_break_of symbol
   pub pictograph : is_extended_pictographic code_point ≡ is_pictograph_of symbol

@@ -32,7 +32,7 @@ ghost use Rattle.icu_segmenter_uax29.specs.Words.{word_machine, words};
 
 use seg_rules::laws::boundaries_are_places;
 
-/// Law: the symbol of every code point in the machine of clusters stands for its Grapheme_Cluster_Break, Indic_Conjunct_Break and Extended_Pictographic.
+/// Law: the symbol of every code point in the machine of clusters means its Grapheme_Cluster_Break, Indic_Conjunct_Break and Extended_Pictographic.
 pub fn symbols_are_properties()
     ensures { (code_point : ℕ) → HasProperties code_point (symbol_and_script cluster_machine code_point).0 }
 {}
@@ -92,7 +92,7 @@ pub fn conjuncts_stay()
         → indic_conjunct_break consonant ≡ InCb.Consonant → IsJoined (before ++ linker ∷ marks) (consonant ∷ after) }
 {}
 
-/// Law: the symbol of every code point in the machine of sentences stands for its Sentence_Break.
+/// Law: the symbol of every code point in the machine of sentences means its Sentence_Break.
 pub fn sentence_symbols_are_values()
     ensures { (code_point : ℕ) → HasSentenceBreak code_point (symbol_and_script sentence_machine code_point).0 }
 {}
@@ -112,7 +112,7 @@ pub fn sentences_follow_rules()
     boundaries_are_places();
 }
 
-/// Law: the symbol of every code point in the machine of words stands for its Word_Break and Extended_Pictographic.
+/// Law: the symbol of every code point in the machine of words means its Word_Break and Extended_Pictographic.
 pub fn word_symbols_are_properties()
     ensures { (code_point : ℕ) → HasWordBreak code_point (symbol_and_script word_machine code_point).0 }
 {}
@@ -132,7 +132,7 @@ pub fn words_follow_rules()
     boundaries_are_places();
 }
 
-/// Law: in the machine of typed words the symbol of every code point stands for its Word_Break and Extended_Pictographic, and
+/// Law: in the machine of typed words the symbol of every code point means its Word_Break and Extended_Pictographic, and
 /// says whether it is a letter that the rules know nothing of.
 pub fn typed_symbols_have_properties()
     ensures { (code_point : ℕ) → HasTypedWordBreak code_point (symbol_and_script typed_word_machine code_point).0 }

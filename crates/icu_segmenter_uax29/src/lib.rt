@@ -3,7 +3,7 @@
 //! The rules are those of the crate `unicode_segmentation`, which states GB1 to GB999, WB1 to WB999 and SB1 to SB998 as relations
 //! between what stands before a place and what stands after it. Here each kind is a state machine: arrays that
 //! `generate/generate.py` writes, and that the segmenters of `icu_segmenter` read, in the time of any machine. Nothing of the
-//! arrays is trusted: it is proved of every code point that its symbol stands for its properties, and of each machine that its
+//! arrays is trusted: it is proved of every code point that its symbol means its properties, and of each machine that its
 //! boundaries are those of the rules. The rules stand as rows too, one for each line of the standard (specs/ClusterRules.antt,
 //! WordRules.antt and SentenceRules.antt), and the boundaries are proved to be the places of the rows.
 //!

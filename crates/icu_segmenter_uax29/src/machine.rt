@@ -15,16 +15,16 @@ use seg_data::provider::{ClassTable, DataError};
 use seg_machine::provider::{SegmenterStateMachine, State, Symbol};
 use std::alloc::Global;
 
-/// The machine of the extended grapheme clusters of UAX #29, as they are in Unicode 18.0. The only error is want of memory.
+/// The machine of the extended grapheme clusters of UAX #29, as they are in Unicode 18.0. Fails only when out of memory.
 #[tactic(auto, unfolding(crate::specs::Clusters::cluster_machine))]
 pub fn cluster_machine(alloc: Global) -> Result<SegmenterStateMachine, DataError>
     ensures made { IfOk result (λ m. m ≡ cluster_machine) }
-    ensures refused { IfErr result (λ fault. fault ≡ Memory) }
+    ensures rejected { IfErr result (λ fault. fault ≡ Memory) }
 {
     machine_of(alloc, &RANGES, &STATES, &TRANSITIONS)
 }
 
-// The machine of these parts. The errors are want of memory, and what is wrong with the parts.
+// The machine of these parts. The errors are out of memory, and what is wrong with the parts.
 pub(crate) fn machine_of(
     alloc: Global,
     ranges: &[(u32, u32, Symbol)],
@@ -32,7 +32,7 @@ pub(crate) fn machine_of(
     transitions: &[State],
 ) -> Result<SegmenterStateMachine, DataError>
     ensures made { IfOk result (λ m. m ≡ machine (table ranges.now 1) states.now transitions.now 0 255 []) }
-    ensures refused { IfErr result (λ fault. (fault ≡ Memory) ⊎ HasRangeFault ranges.now fault
+    ensures rejected { IfErr result (λ fault. (fault ≡ Memory) ⊎ HasRangeFault ranges.now fault
         ⊎ HasMachineFault (machine (table ranges.now 1) states.now transitions.now 0 255 []) fault) }
 {
     let table = ClassTable::try_from_ranges(Vec::from_slice(alloc, ranges)?, OTHER)?;

@@ -29,7 +29,7 @@ impl ClusterSegmenter {
     ghost use Rattle.icu_segmenter_uax29.specs.Clusters.{cluster_places};
     ghost use Rattle.icu_segmenter_uax29.specs.Pieces.{parts_at, piece_bounds};
 
-    /// The segmenter, with data of its own. The only error is want of memory.
+    /// The segmenter, with data of its own. Fails only when out of memory.
     pub fn try_new(alloc: Global) -> Result<Self, DataError>
         ensures { IfErr result (λ fault. fault ≡ Memory) }
     {
@@ -37,7 +37,7 @@ impl ClusterSegmenter {
         Ok(ClusterSegmenter { segmenter })
     }
 
-    /// The same segmenter over lent data, as other calls take one.
+    /// The same segmenter over borrowed data, as other calls take one.
     pub fn as_borrowed(&self) -> GraphemeClusterSegmenterBorrowed<'_>
         ensures { cluster_rules result ≡ ByMachine cluster_machine }
     {

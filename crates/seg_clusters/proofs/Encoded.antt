@@ -11,7 +11,7 @@ use Rattle.std.proofs.str.Laws.{one, two, three, four}
 use Rattle.seg_text.specs.Decoding.{read_latin1, Ranges, rows, fitting, read_row, read_utf8, IsHighSurrogate, IsLowSurrogate, pair_of, read_utf16}
 use Rattle.seg_text.specs.Lemmas.Utf16Stable.{Start, start, pair, single}
 use Rattle.seg_text.proofs.Str.{read_utf8-encode}
-use Rattle.seg_clusters.proofs.PartedItems.{IsApart}
+use Rattle.seg_clusters.proofs.SplitItems.{IsApart}
 
 -- Latin-1
 

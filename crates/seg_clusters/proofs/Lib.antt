@@ -3,6 +3,6 @@ pub mod Joined
 pub mod Bounds
 pub mod LastStates
 pub mod ResetScans
-pub mod PartedItems
+pub mod SplitItems
 pub mod Encoded
-pub mod PartedTexts
+pub mod SplitTexts

@@ -76,16 +76,16 @@ abbrev pub ResetsAfter : Rules → ℕ → Type 0
 ResetsAfter (ByTable t overriding) code_point = ⊥
 ResetsAfter (ByMachine m) code_point = IsReset m (symbol_and_script m code_point).0
 
--- Texts that may be parted behind some of their units: each part has the boundaries that it has alone.
+-- Texts that may be split after some of their units: each part has the boundaries that it has alone.
 
--- lists may be parted behind these elements: where the first of two ends with them, the boundaries of both, joined, are those
+-- lists may be split after these elements: where the first of two ends with them, the boundaries of both, joined, are those
 -- of the first, and then those of the second but for its start, so much later
 abbrev pub PartsBehind : (List ℕ → List Boundary) → List ℕ → Type 0
 PartsBehind find last =
     (before second : List ℕ) → let first = before ++ last in
     find (first ++ second) ≡ find first ++ shift_all (length first) (drop 1 (find second))
 
--- so may lists of code points behind this one, and texts behind the units that stand for it, in each encoding that has it
+-- so may lists of code points behind this one, and texts behind the units that mean it, in each encoding that has it
 pub record PartsTexts (find : List ℕ → List Boundary) (code_point : ℕ) : Type 0 where
   pub lists : PartsBehind find (code_point ∷ [])
   pub in_utf8 : PartsBehind (λ bytes. boundaries_in find (utf8 bytes)) (encode_utf8 code_point)

@@ -28,7 +28,7 @@ pub enum OwnedEngine {
 }
 
 impl OwnedEngine {
-    /// The same, lent.
+    /// The same, borrowed.
     pub fn as_borrowed(&self) -> Engine<'_>
         ensures { rules_of result ≡ owned_rules self.now }
     {
@@ -39,7 +39,7 @@ impl OwnedEngine {
     }
 }
 
-/// What the boundaries of a text are found by, lent.
+/// What the boundaries of a text are found by, borrowed.
 #[derive(Clone, Copy, Debug)]
 pub enum Engine<'data> {
     /// A pair table, with its override.
@@ -65,7 +65,7 @@ impl<'data> Engine<'data> {
         }
     }
 
-    /// Whether a text may be parted behind the code point, so that each part has the boundaries that it has alone
+    /// Whether a text may be split after the code point, so that each part has the boundaries that it has alone
     /// (`laws::parts_behind_resets`): a scan of the machine that reads the code point's symbol is over there, from whatever state.
     /// By a pair table it is `false`. Takes no memory; asks the machine for at most as many steps as it has transitions.
     pub fn resets_after(self, code_point: char) -> bool
@@ -86,7 +86,7 @@ impl<'data> Engine<'data> {
         text: I,
     ) -> Result<MemoBreakIterator<'data, I, CountedTransitions<'data>>, MemoError>
         ensures made { IfOk result (IsNewMemo (machine_in (rules_of self.entry)) (I.text text) (boundaries_of (rules_of self.entry) (I.text text))) }
-        ensures refused { IfErr result (IsMemoRefusal (machine_in (rules_of self.entry)) ⊥ (I.text text)) }
+        ensures rejected { IfErr result (IsMemoRefusal (machine_in (rules_of self.entry)) ⊥ (I.text text)) }
     {
         match self {
             Engine::Classic(_) => Err(MemoError::NotNeo),

@@ -29,7 +29,7 @@ use std::marker::PhantomData;
 /// The boundaries of grapheme clusters in a text, as places: bytes in str, UTF-8 and Latin-1,
 /// 16-bit units in UTF-16.
 ///
-/// First 0, then the end of each cluster; the last is the text's length. After None it is None for ever.
+/// First 0, then the end of each cluster; the last is the text's length. After None it stays None.
 #[derive_where(Debug; Y::IterAttr: Debug)]
 pub struct GraphemeClusterBreakIterator<'data, 's, Y: RuleBreakType<'s>> {
     boundaries: Boundaries<'data, Y::IterAttr>,
@@ -68,7 +68,7 @@ impl<'data, 's, Y: RuleBreakType<'s>> GraphemeClusterBreakIterator<'data, 's, Y>
     ) -> Result<MemoBreakIterator<'data, Y::IterAttr, CountedTransitions<'data>>, MemoError>
         ensures made { IfOk result (IsNewMemo (machine_in (cluster_finder self.now)) (Y.IterAttr.text (clusters_source self.now))
             (boundaries_of (cluster_finder self.now) (Y.IterAttr.text (clusters_source self.now)))) }
-        ensures refused { IfErr result (IsMemoRefusal (machine_in (cluster_finder self.now)) ⊥ (Y.IterAttr.text (clusters_source self.now))) }
+        ensures rejected { IfErr result (IsMemoRefusal (machine_in (cluster_finder self.now)) ⊥ (Y.IterAttr.text (clusters_source self.now))) }
     {
         self.engine.memoised(alloc, Y::fork(&self.whole))
     }
@@ -117,7 +117,7 @@ impl<'data, 's, Y: RuleBreakType<'s>> Iterator for GraphemeClusterBreakIterator<
     }
 }
 
-/// Finds grapheme clusters with data of its own.
+/// Finds grapheme clusters with data that it owns.
 #[derive(Debug, Drop)]
 pub struct GraphemeClusterSegmenter {
     engine: OwnedEngine,
@@ -132,14 +132,14 @@ impl GraphemeClusterSegmenter {
     pub fn try_new(table: RuleBreakData) -> Result<Self, DataError>
         ensures accepted { IfOk result (λ segmenter. (owned_cluster_rules segmenter ≡ ByTable table None)
             × IsFaultless (HasPairDataFault table None)) }
-        ensures refused { IfErr result (IsLowestFault (HasPairDataFault table None)) }
+        ensures rejected { IfErr result (IsLowestFault (HasPairDataFault table None)) }
     {
         Ok(GraphemeClusterSegmenter {
             engine: OwnedEngine::Classic(PairData::try_plain(table, None)?),
         })
     }
 
-    /// A segmenter by a state machine. Takes no memory and refuses nothing.
+    /// A segmenter by a state machine. Takes no memory and rejects nothing.
     pub fn try_new_neo(machine: SegmenterStateMachine) -> Result<Self, DataError>
         ensures { IsOkAnd result (λ segmenter. owned_cluster_rules segmenter ≡ ByMachine machine) }
     {
@@ -148,7 +148,7 @@ impl GraphemeClusterSegmenter {
         })
     }
 
-    /// The same segmenter over lent data, which segments texts.
+    /// The same segmenter over borrowed data, which segments texts.
     pub fn as_borrowed(&self) -> GraphemeClusterSegmenterBorrowed<'_>
         ensures { cluster_rules result ≡ owned_cluster_rules self.now }
     {
@@ -158,7 +158,7 @@ impl GraphemeClusterSegmenter {
     }
 }
 
-/// Finds grapheme clusters with data that are lent to it.
+/// Finds grapheme clusters with data that it borrows.
 ///
 /// With the sample data (`bench::clusters`), where U+0301 extends a cluster, `e\u{301}a` has the clusters `e\u{301}` and `a`:
 ///
@@ -181,14 +181,14 @@ impl<'data> GraphemeClusterSegmenterBorrowed<'data> {
     pub fn new(table: &'data RuleBreakData) -> Result<Self, DataError>
         ensures accepted { IfOk result (λ segmenter. (cluster_rules segmenter ≡ ByTable table.now None)
             × IsFaultless (HasPairDataFault table.now None)) }
-        ensures refused { IfErr result (IsLowestFault (HasPairDataFault table.now None)) }
+        ensures rejected { IfErr result (IsLowestFault (HasPairDataFault table.now None)) }
     {
         Ok(GraphemeClusterSegmenterBorrowed {
             engine: Engine::Classic(PairDataBorrowed::try_plain(table, None)?),
         })
     }
 
-    /// A segmenter by a state machine. Takes no memory and refuses nothing.
+    /// A segmenter by a state machine. Takes no memory and rejects nothing.
     pub fn new_neo(machine: &'data SegmenterStateMachine) -> Result<Self, DataError>
         ensures { IsOkAnd result (λ segmenter. cluster_rules segmenter ≡ ByMachine machine.now) }
     {
@@ -213,7 +213,7 @@ impl<'data> GraphemeClusterSegmenterBorrowed<'data> {
         self.engine.boundaries(text)
     }
 
-    /// Whether a text may be parted behind the code point, so that each part has the boundaries that it has alone
+    /// Whether a text may be split after the code point, so that each part has the boundaries that it has alone
     /// (`laws::grapheme::parts_behind_resets`): a scan of the machine that reads the code point's symbol is over there, from
     /// whatever state. By a pair table it is `false`. Takes no memory; asks the machine for at most as many steps as it has
     /// transitions.

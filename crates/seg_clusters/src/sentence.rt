@@ -37,7 +37,7 @@ pub struct SentenceBreakInvariantOptions {}
 /// The options of sentences.
 #[derive(Clone, Copy, Debug, Default, PartialEq, Eq)]
 pub struct SentenceBreakOptions<'a> {
-    /// The language of the text. The tailoring of a language is handed in with the data, so that
+    /// The language of the text. The tailoring of a language is passed in with the data, so that
     /// this isn't looked at.
     pub content_locale: Option<&'a LanguageIdentifier>,
     /// The options that no language changes.
@@ -47,7 +47,7 @@ pub struct SentenceBreakOptions<'a> {
 /// The boundaries of sentences in a text, as places: bytes in str, UTF-8 and Latin-1,
 /// 16-bit units in UTF-16.
 ///
-/// First 0, then the end of each sentence; the last is the text's length. After None it is None for ever.
+/// First 0, then the end of each sentence; the last is the text's length. After None it stays None.
 #[derive_where(Debug; Y::IterAttr: Debug)]
 pub struct SentenceBreakIterator<'data, 's, Y: RuleBreakType<'s>> {
     boundaries: Boundaries<'data, Y::IterAttr>,
@@ -86,7 +86,7 @@ impl<'data, 's, Y: RuleBreakType<'s>> SentenceBreakIterator<'data, 's, Y> {
     ) -> Result<MemoBreakIterator<'data, Y::IterAttr, CountedTransitions<'data>>, MemoError>
         ensures made { IfOk result (IsNewMemo (machine_in (sentence_finder self.now)) (Y.IterAttr.text (sentences_source self.now))
             (boundaries_of (sentence_finder self.now) (Y.IterAttr.text (sentences_source self.now)))) }
-        ensures refused { IfErr result (IsMemoRefusal (machine_in (sentence_finder self.now)) ⊥ (Y.IterAttr.text (sentences_source self.now))) }
+        ensures rejected { IfErr result (IsMemoRefusal (machine_in (sentence_finder self.now)) ⊥ (Y.IterAttr.text (sentences_source self.now))) }
     {
         self.engine.memoised(alloc, Y::fork(&self.whole))
     }
@@ -135,7 +135,7 @@ impl<'data, 's, Y: RuleBreakType<'s>> Iterator for SentenceBreakIterator<'data, 
     }
 }
 
-/// Finds sentences with data of its own.
+/// Finds sentences with data that it owns.
 #[derive(Debug, Drop)]
 pub struct SentenceSegmenter {
     engine: OwnedEngine,
@@ -155,7 +155,7 @@ impl SentenceSegmenter {
     ) -> Result<Self, DataError>
         ensures accepted { IfOk result (λ segmenter. (owned_sentence_rules segmenter ≡ ByTable table overriding)
             × IsFaultless (HasPairDataFault table overriding)) }
-        ensures refused { IfErr result (IsLowestFault (HasPairDataFault table overriding)) }
+        ensures rejected { IfErr result (IsLowestFault (HasPairDataFault table overriding)) }
     {
         let _ = options;
         Ok(SentenceSegmenter {
@@ -172,7 +172,7 @@ impl SentenceSegmenter {
     ) -> Result<Self, DataError>
         ensures accepted { IfOk result (λ segmenter. (owned_sentence_rules segmenter ≡ ByMachine (with_tailoring machine tailoring))
             × IsFaultless (HasTailoringFault machine tailoring)) }
-        ensures refused { IfErr result (IsLowestFault (HasTailoringFault machine tailoring)) }
+        ensures rejected { IfErr result (IsLowestFault (HasTailoringFault machine tailoring)) }
     {
         let _ = options;
         Ok(SentenceSegmenter {
@@ -180,7 +180,7 @@ impl SentenceSegmenter {
         })
     }
 
-    /// The same segmenter over lent data, which segments texts.
+    /// The same segmenter over borrowed data, which segments texts.
     pub fn as_borrowed(&self) -> SentenceSegmenterBorrowed<'_>
         ensures { sentence_rules result ≡ owned_sentence_rules self.now }
     {
@@ -190,7 +190,7 @@ impl SentenceSegmenter {
     }
 }
 
-/// Finds sentences with data that are lent to it.
+/// Finds sentences with data that it borrows.
 ///
 /// With the sample data (`bench::sentences`), where a full stop and the spaces after it end a sentence:
 ///
@@ -217,7 +217,7 @@ impl<'data> SentenceSegmenterBorrowed<'data> {
     ) -> Result<Self, DataError>
         ensures accepted { IfOk result (λ segmenter. (sentence_rules segmenter ≡ ByTable table.now (table_in overriding.entry))
             × IsFaultless (HasPairDataFault table.now (table_in overriding.entry))) }
-        ensures refused { IfErr result (IsLowestFault (HasPairDataFault table.now (table_in overriding.entry))) }
+        ensures rejected { IfErr result (IsLowestFault (HasPairDataFault table.now (table_in overriding.entry))) }
     {
         let _ = options;
         Ok(SentenceSegmenterBorrowed {
@@ -234,7 +234,7 @@ impl<'data> SentenceSegmenterBorrowed<'data> {
     ) -> Result<Self, DataError>
         ensures accepted { IfOk result (λ segmenter. (sentence_rules segmenter ≡ ByMachine (with_tailoring machine.now (option_map (λ t. t.now) tailoring.entry)))
             × IsFaultless (HasTailoringFault machine.now (option_map (λ t. t.now) tailoring.entry))) }
-        ensures refused { IfErr result (IsLowestFault (HasTailoringFault machine.now (option_map (λ t. t.now) tailoring.entry))) }
+        ensures rejected { IfErr result (IsLowestFault (HasTailoringFault machine.now (option_map (λ t. t.now) tailoring.entry))) }
     {
         let _ = options;
         Ok(SentenceSegmenterBorrowed {
@@ -242,7 +242,7 @@ impl<'data> SentenceSegmenterBorrowed<'data> {
         })
     }
 
-    /// Whether a text may be parted behind the code point, so that each part has the boundaries that it has alone
+    /// Whether a text may be split after the code point, so that each part has the boundaries that it has alone
     /// (`laws::sentence::parts_behind_resets`): a scan of the machine that reads the code point's symbol is over there, from
     /// whatever state. By a pair table it is `false`. Takes no memory; asks the machine for at most as many steps as it has
     /// transitions.

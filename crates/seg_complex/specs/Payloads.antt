@@ -3,7 +3,7 @@ use Rattle.std.specs.Prelude.{ℕ, List}
 use Rattle.std.specs.Option.{option_to_list}
 use Rattle.seg_text.specs.Boundaries.{Cuts}
 use Rattle.seg_data.specs.WordSets.{Words}
-use Rattle.seg_data.specs.ScriptWords.{words_of, ScriptWords, lent_words, words_in}
+use Rattle.seg_data.specs.ScriptWords.{words_of, ScriptWords, borrowed_words, words_in}
 use Rattle.seg_clusters.specs.Rules.{Rules, boundaries_by}
 use Rattle.seg_clusters.specs.Clusters.{cluster_rules}
 use Rattle.seg_complex.specs.declared.complex.ComplexIterator.{ComplexIterator}
@@ -21,7 +21,7 @@ pub record Payloads : Type 0 where
   pub clusters : Rules
 
 abbrev pub payloads_of : ComplexPayloadsBorrowed → Payloads
-payloads_of payloads = record { words = lent_words payloads.dictionaries; clusters = cluster_rules payloads.clusters }
+payloads_of payloads = record { words = borrowed_words payloads.dictionaries; clusters = cluster_rules payloads.clusters }
 
 -- each piece is cut by the words of its script, or, where that has none, at its end alone
 abbrev pub piece_cuts_by : Payloads → PieceCuts

@@ -139,7 +139,7 @@ pieces_within (suc most) (first ∷ rest) =
 unfoldable pub pieces : List ℕ → List (List ℕ)
 pieces code_points = pieces_within (length code_points) code_points
 
--- the first piece of a text was given as a text of its own, with its script, and what comes after it is left; or, of
+-- the first piece of a text was given as a separate text, with its script, and what comes after it is left; or, of
 -- a text with no item, none
 abbrev pub GivesPiece : {I : Type 0} → (I → Text) → Text → Option (I × ComplexScript) → Text → Type 0
 GivesPiece text before given after =

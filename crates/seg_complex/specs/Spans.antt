@@ -38,7 +38,7 @@ abbrev pub span_words : Machine → ScriptWords → List ℕ → Option Words
 span_words m words [] = None
 span_words m words (first ∷ rest) = words_in words (worded_script m words first)
 
--- the first span of a text was given as a text of its own, with the words of its script, and what comes after it is left;
+-- the first span of a text was given as a separate text, with the words of its script, and what comes after it is left;
 -- or, of a text with no item, none
 abbrev pub GivesSpan : {I : Type 0} → Machine → ScriptWords → (I → Text) → Text → Option (I × Option DictionaryCursor) → Text → Type 0
 GivesSpan m words text before given after =
@@ -73,7 +73,7 @@ inner_stretch m payloads code_points =
 abbrev pub inner_cuts : Machine → Payloads → Cuts
 inner_cuts m payloads code_points = offsets (later_boundaries (inner_stretch m payloads) code_points)
 
--- Code points outside runs, behind which what is cut span by span may be parted.
+-- Code points outside runs, after which what is cut span by span may be split.
 
 -- by a machine the code point has no script that has words, so that it stands in no run
 abbrev pub IsOutsideRuns : Machine → ScriptWords → ℕ → Type 0

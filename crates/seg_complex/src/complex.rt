@@ -6,7 +6,7 @@ ghost use Rattle.seg_text.specs.Boundaries.{cut_places};
 ghost use Rattle.seg_text.specs.Decoding.{utf8, utf16};
 ghost use Rattle.seg_memo.specs.Memos.{IsMemoRefusal, IsNewMemo};
 ghost use Rattle.seg_clusters.specs.Rules.{rules_of, boundaries_by, boundaries_of, machine_in};
-ghost use Rattle.seg_data.specs.ScriptWords.{filled, lent_words, no_words};
+ghost use Rattle.seg_data.specs.ScriptWords.{filled, borrowed_words, no_words};
 ghost use Rattle.seg_clusters.specs.Clusters.{cluster_rules};
 ghost use Rattle.seg_complex.specs.DictionaryCuts.{dictionary_cuts};
 ghost use Rattle.seg_complex.specs.Scripts.{later_places, CoverPieces, CoverRuns};
@@ -42,7 +42,7 @@ impl<'data> ComplexPayloadsBorrowed<'data> {
         dictionaries: DictionariesBorrowed<'data>,
         clusters: GraphemeClusterSegmenterBorrowed<'data>,
     ) -> Self
-        ensures { payloads_of result ≡ record { words = lent_words dictionaries.entry; clusters = cluster_rules clusters.entry } }
+        ensures { payloads_of result ≡ record { words = borrowed_words dictionaries.entry; clusters = cluster_rules clusters.entry } }
     {
         ComplexPayloadsBorrowed {
             dictionaries,
@@ -61,7 +61,7 @@ impl<'data> ComplexPayloadsBorrowed<'data> {
 
     /// Takes the dictionaries of scripts that have none here from others. Those that are here stay. Takes no memory.
     pub fn load(&mut self, others: DictionariesBorrowed<'data>)
-        ensures { payloads_of self.new ≡ record { words = filled (payloads_of self.old).words (lent_words others.entry); clusters = (payloads_of self.old).clusters } }
+        ensures { payloads_of self.new ≡ record { words = filled (payloads_of self.old).words (borrowed_words others.entry); clusters = (payloads_of self.old).clusters } }
     {
         self.dictionaries.fill(others);
     }
@@ -78,7 +78,7 @@ impl<'data> ComplexPayloadsBorrowed<'data> {
     ) -> Result<MemoBreakIterator<'data, I, CountedTransitions<'data>>, MemoError>
         ensures words { IfOk result (λ _. (payloads_of self.entry).words ≡ no_words) }
         ensures made { IfOk result (IsNewMemo (machine_in (rules_of engine.entry)) (I.text text) (boundaries_of (rules_of engine.entry) (I.text text))) }
-        ensures refused { IfErr result (IsMemoRefusal (machine_in (rules_of engine.entry)) ((payloads_of self.entry).words ≢ no_words) (I.text text)) }
+        ensures rejected { IfErr result (IsMemoRefusal (machine_in (rules_of engine.entry)) ((payloads_of self.entry).words ≢ no_words) (I.text text)) }
     {
         let Engine::Neo(machine) = engine else {
             return Err(MemoError::NotNeo);
@@ -163,7 +163,7 @@ fn segment<'data, 's, Y: RuleBreakType<'s>>(
 
 /// The cuts of a piece, as places in units: bytes in UTF-8, 16-bit units in UTF-16, and so many more.
 ///
-/// After None it is None for ever.
+/// After None it stays None.
 #[derive_where(Debug; Y::IterAttr: Debug)]
 pub struct ComplexIterator<'data, 's, Y: RuleBreakType<'s>> {
     cuts: LaterCuts<'data, Y::IterAttr>,

@@ -20,7 +20,7 @@ use std::marker::Model;
 /// Each cut is at the end of a cluster of the piece. The first comes after the longest word at the piece's beginning that
 /// ends with a cluster. If there is none, code points are read until no longer word begins with them, and the cut comes
 /// after the cluster of the last one; or else, where all are read, at the piece's end. The next cut is that of what is left.
-/// After None it is None for ever. It takes no memory.
+/// After None it stays None. It takes no memory.
 #[derive(Debug, Drop)]
 pub struct DictionaryCuts<'data, D: WordCursor, I: Cursor> {
     dictionary: D,

@@ -22,7 +22,7 @@ use seg_text::cursor::Cursor;
 use std::marker::Model;
 
 /// The cuts strictly inside the runs of a text, as places in units: runs are of one script that has words, by a machine, and
-/// each is cut by these. After None it is None for ever. Takes no memory.
+/// each is cut by these. After None it stays None. Takes no memory.
 #[derive(Debug, Drop)]
 pub struct InnerCuts<'data, I: Cursor> {
     machine: TailoredMachineBorrowed<'data>,

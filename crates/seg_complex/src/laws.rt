@@ -63,7 +63,7 @@ pub fn equal_words()
         → run_cuts_by (record { words = others; clusters = payloads.clusters }) ≡ run_cuts_by payloads }
 {}
 
-/// Law: the cuts strictly inside runs, where a machine tells the runs, may be parted behind each code point that stands in no
+/// Law: the cuts strictly inside runs, where a machine tells the runs, may be split after each code point that stands in no
 /// run: where the first of two lists of code points ends with it, the cuts of both, joined, are those of the first, and then
 /// those of the second, so much later.
 pub fn cuts_part_outside_runs()

@@ -1,7 +1,7 @@
 //! Spans of a text by a machine: the runs of one script that has words, and the pieces between them.
 
 ghost use Rattle.std.specs.Prelude.{◌≡◌, ◌↔◌, IsTrue};
-ghost use Rattle.seg_data.specs.ScriptWords.{lent_words};
+ghost use Rattle.seg_data.specs.ScriptWords.{borrowed_words};
 ghost use Rattle.seg_machine.specs.Tailored.{machine_of};
 ghost use Rattle.seg_complex.specs.Spans.{IsOutsideRuns, GivesSpan, worded_script};
 
@@ -20,11 +20,11 @@ struct SpanTest<'data> {
 }
 
 impl<'data> CodePointTest for SpanTest<'data> {
-    ghost use Rattle.seg_data.specs.ScriptWords.{lent_words};
+    ghost use Rattle.seg_data.specs.ScriptWords.{borrowed_words};
     ghost use Rattle.seg_machine.specs.Tailored.{machine_of};
     ghost use Rattle.seg_complex.specs.Spans.{has_worded_script};
 
-    ghost passes = { λ test. has_worded_script (machine_of test.machine) (lent_words test.dictionaries) test.script };
+    ghost passes = { λ test. has_worded_script (machine_of test.machine) (borrowed_words test.dictionaries) test.script };
 
     fn accepts(&self, code_point: u32) -> bool {
         worded_script(self.machine, self.dictionaries, code_point) == self.script
@@ -37,7 +37,7 @@ fn worded_script(
     dictionaries: DictionariesBorrowed<'_>,
     code_point: u32,
 ) -> ComplexScript
-    ensures { result ≡ worded_script (machine_of machine.entry) (lent_words dictionaries.entry) code_point }
+    ensures { result ≡ worded_script (machine_of machine.entry) (borrowed_words dictionaries.entry) code_point }
 {
     let script = machine.script(code_point);
     match dictionaries.cursor(script) {
@@ -52,7 +52,7 @@ pub fn is_outside_runs(
     dictionaries: DictionariesBorrowed<'_>,
     code_point: u32,
 ) -> bool
-    ensures { IsTrue result ↔ IsOutsideRuns (machine_of machine.entry) (lent_words dictionaries.entry) code_point }
+    ensures { IsTrue result ↔ IsOutsideRuns (machine_of machine.entry) (borrowed_words dictionaries.entry) code_point }
 {
     worded_script(machine, dictionaries, code_point) == ComplexScript::None
 }
@@ -64,7 +64,7 @@ pub fn next_span<'data, I: Cursor>(
     dictionaries: DictionariesBorrowed<'data>,
     rest: &mut I,
 ) -> Option<(I, Option<DictionaryCursor<'data>>)>
-    ensures { GivesSpan (machine_of machine.entry) (lent_words dictionaries.entry) I.text (I.text rest.old) result (I.text rest.new) }
+    ensures { GivesSpan (machine_of machine.entry) (borrowed_words dictionaries.entry) I.text (I.text rest.old) result (I.text rest.new) }
 {
     let mut ahead = rest.fork();
     let (_, first) = ahead.next_item()?;

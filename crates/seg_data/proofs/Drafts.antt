@@ -1,4 +1,4 @@
--- Edges that are added, and nodes that come to stand.
+-- Edges that are added, and nodes that are made.
 use Rattle.std.proofs.Common.{◌≡◌, ℕ, ◌+◌, ◌-◌, ◌<◌, ◌≤◌, Bool, true, false, List, [], ◌∷◌, ◌++◌, length, map, get_or, take, drop, refl, sym, subst, ap, ◌∙◌, inl, inr, arith}
 use Rattle.std.proofs.lemmas.Bool.{cases_lt, false≢true}
 use Rattle.std.proofs.lemmas.List.{append-nil, append_assoc, length-append, length-drop, length_push, get_or_append_left, get_or-append_right, get_or_push, drop-append-le, take-append-le, drop_at, take_all, drop_more, drop_all}

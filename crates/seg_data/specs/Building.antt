@@ -1,4 +1,4 @@
--- A trie that is built from words in order. Each of its nodes stands for a range of them, (first, end, depth): the words from
+-- A trie that is built from words in order. Each of its nodes is a range of them, (first, end, depth): the words from
 -- the first to before the end, which begin with the same code points, as many as the depth.
 use Rattle.std.specs.Prelude.{◌≡◌, ℕ, zero, suc, ◌+◌, ◌-◌, ◌<◌, ◌≤◌, Bool, true, false, List, [], ◌∷◌, ◌++◌, length, drop, slice_index, slice_index_or}
 use Rattle.seg_data.specs.WordSets.{Words, is_before}

@@ -66,14 +66,14 @@ script_words dictionaries = record {
   ja = option_map words_of dictionaries.ja;
 }
 
--- and of dictionaries that are lent
-abbrev pub lent_words : DictionariesBorrowed → ScriptWords
-lent_words dictionaries = record {
-  my = option_map (λ lent. words_of lent.now) dictionaries.my;
-  km = option_map (λ lent. words_of lent.now) dictionaries.km;
-  lo = option_map (λ lent. words_of lent.now) dictionaries.lo;
-  th = option_map (λ lent. words_of lent.now) dictionaries.th;
-  ja = option_map (λ lent. words_of lent.now) dictionaries.ja;
+-- and of dictionaries that are borrowed
+abbrev pub borrowed_words : DictionariesBorrowed → ScriptWords
+borrowed_words dictionaries = record {
+  my = option_map (λ borrowed. words_of borrowed.now) dictionaries.my;
+  km = option_map (λ borrowed. words_of borrowed.now) dictionaries.km;
+  lo = option_map (λ borrowed. words_of borrowed.now) dictionaries.lo;
+  th = option_map (λ borrowed. words_of borrowed.now) dictionaries.th;
+  ja = option_map (λ borrowed. words_of borrowed.now) dictionaries.ja;
 }
 
 -- the same set of words, or none in both

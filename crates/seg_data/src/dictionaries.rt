@@ -2,7 +2,7 @@
 
 ghost use Rattle.std.specs.Prelude.{◌≡◌, ◌↔◌, IsTrue};
 ghost use Rattle.std.specs.Option.{option_or, option_map};
-ghost use Rattle.seg_data.specs.ScriptWords.{words_of, words_after, filled, lent_words, no_words, script_words, words_in};
+ghost use Rattle.seg_data.specs.ScriptWords.{words_of, words_after, filled, borrowed_words, no_words, script_words, words_in};
 
 use crate::provider::{ComplexScript, DictionaryBreakData, DictionaryCursor};
 
@@ -35,9 +35,9 @@ impl Dictionaries {
         }
     }
 
-    /// The same dictionaries, lent.
+    /// The same dictionaries, borrowed.
     pub fn as_borrowed(&self) -> DictionariesBorrowed<'_>
-        ensures { lent_words result ≡ script_words self.now }
+        ensures { borrowed_words result ≡ script_words self.now }
     {
         DictionariesBorrowed {
             my: self.my.as_ref(),
@@ -70,7 +70,7 @@ fn fill_place(place: &mut Option<DictionaryBreakData>, found: Option<DictionaryB
     }
 }
 
-/// The dictionaries of scripts, lent, each if there is one.
+/// The dictionaries of scripts, borrowed, each if there is one.
 #[derive(Clone, Copy, Debug)]
 pub struct DictionariesBorrowed<'data> {
     /// That of Myanmar.
@@ -88,7 +88,7 @@ pub struct DictionariesBorrowed<'data> {
 impl<'data> DictionariesBorrowed<'data> {
     /// No dictionary of any script.
     pub const fn none() -> Self
-        ensures { lent_words result ≡ no_words }
+        ensures { borrowed_words result ≡ no_words }
     {
         DictionariesBorrowed {
             my: None,
@@ -101,7 +101,7 @@ impl<'data> DictionariesBorrowed<'data> {
 
     /// Takes the dictionaries of scripts that have none here from others. Those that are here stay. Takes no memory.
     pub fn fill(&mut self, others: DictionariesBorrowed<'data>)
-        ensures { lent_words self.new ≡ filled (lent_words self.old) (lent_words others.entry) }
+        ensures { borrowed_words self.new ≡ filled (borrowed_words self.old) (borrowed_words others.entry) }
     {
         self.my = self.my.or(others.my);
         self.km = self.km.or(others.km);
@@ -112,7 +112,7 @@ impl<'data> DictionariesBorrowed<'data> {
 
     /// Whether no script has a dictionary.
     pub fn is_empty(&self) -> bool
-        ensures { IsTrue result ↔ lent_words self.now ≡ no_words }
+        ensures { IsTrue result ↔ borrowed_words self.now ≡ no_words }
     {
         self.my.is_none()
             && self.km.is_none()
@@ -123,7 +123,7 @@ impl<'data> DictionariesBorrowed<'data> {
 
     /// A cursor at the beginning of the words of a script, if it has a dictionary. Takes no memory.
     pub fn cursor(self, script: ComplexScript) -> Option<DictionaryCursor<'data>>
-        ensures { option_map words_after result ≡ words_in (lent_words self.entry) script }
+        ensures { option_map words_after result ≡ words_in (borrowed_words self.entry) script }
     {
         let data = match script {
             ComplexScript::None => None,

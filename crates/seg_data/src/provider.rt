@@ -91,7 +91,7 @@ pub enum DataError {
     /// no condition that holds.
     #[error("18 Stalls: the scan of some text accepts nothing, and no condition holds in it")]
     Stalls,
-    /// 19: the tailoring that the options of lines name wasn't handed in.
+    /// 19: the tailoring that the options of lines name wasn't passed in.
     #[error("19 MissingTailoring: the tailoring that the options name is not there")]
     MissingTailoring,
 }

@@ -203,7 +203,7 @@ unit-table rules t left right after more step rest is which same lands =
     (subst (λ c. LandsOrWalks (walk-of rules.table left (left ∷ right ∷ more)) (case_verdict rules.table (unit_seen left) (unit_seen right) (units_seen (left ∷ right ∷ more)) c) (left ∷ right ∷ more) step rest)
     which by_table)
 
--- the element that a step comes to has a class
+-- the element that a step reaches has a class
 
 pub unless-below : (b : Bool) (next : Element) (count : ℕ) → next.class < count → IsStepBelow count (step_unless b next)
 unless-below true next count below = below

@@ -59,7 +59,7 @@ unit_stop_verdict t start units w Keep = GoAfter w.stop
 unit_stop_verdict t start units w Break = unless (is_taken_from t start units w WhereItStops) w.stop
 unit_stop_verdict t start units w _ = unless (is_taken_from t start units w SavedByUnit) w.saved
 
--- what the entry of its state and the end of the text says of a walk that comes to it
+-- what the entry of its state and the end of the text says of a walk that reaches it
 abbrev pub unit_end_verdict : PairTable → ℕ → List LineUnit → Walk → BreakState → Verdict
 unit_end_verdict t start units w NoMatch = unless (is_taken_from t start units w SavedByEnd) w.saved
 unit_end_verdict t start units w _ = BreakAfter w.stop 0

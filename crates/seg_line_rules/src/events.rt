@@ -46,7 +46,7 @@ pub trait LineSource: Drop {
     fn place(&self) -> usize
         ensures { result ≡ start_of (unread self.now).text };
 
-    /// A text of its own in which nothing is left, at the place where the text that is left begins.
+    /// A separate text in which nothing is left, at the place where the text that is left begins.
     fn nothing(&self) -> Self::Text
         ensures { Self.Text.text result ≡ record { items = []; end = start_of (unread self.now).text } };
 
@@ -55,11 +55,11 @@ pub trait LineSource: Drop {
         ensures text { (unread self.new).text ≡ (unread self.old).text }
         ensures cut { (cuts : Cuts) (place : ℕ) (places : List ℕ) → (unread self.old).later cuts (place ∷ places) ≡ (unread self.new).later cuts places };
 
-    /// The next boundary, where plain pairs alone come to it. Where they don't, they are passed: what comes then is an event.
+    /// The next boundary, where plain pairs alone reach it. Where they don't, they are passed: what comes then is an event.
     fn plain_break(&mut self) -> Option<usize>
         ensures leads { LeadsToBreak (unread self.old) result (unread self.new) };
 
-    /// What comes next. After the end it is the end for ever.
+    /// What comes next. After the end it stays the end.
     fn next_event(&mut self) -> LineEvent<Self::Text>
         ensures leads { LeadsToEvent Self.Text.text (unread self.old) result (unread self.new) }
         ensures goes { LeavesLess (unread self.old) (unread self.new) };

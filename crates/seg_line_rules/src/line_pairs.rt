@@ -33,13 +33,13 @@ impl OwnedLinePairs {
     ) -> Result<Self, DataError>
         ensures accepted { IfOk result (λ pairs. (owned_rules_by pairs ≡ record { table = table; style = style })
             × IsFaultless (HasLineTableFault table clusters.now)) }
-        ensures refused { IfErr result (IsLowestFault (HasLineTableFault table clusters.now)) }
+        ensures rejected { IfErr result (IsLowestFault (HasLineTableFault table clusters.now)) }
     {
         let _pairs = LinePairs::try_new(&table, clusters, style)?;
         Ok(OwnedLinePairs { table, style })
     }
 
-    /// The same, lent.
+    /// The same, borrowed.
     pub fn as_borrowed(&self) -> LinePairs<'_>
         ensures { rules_by result ≡ owned_rules_by self.now }
     {
@@ -50,7 +50,7 @@ impl OwnedLinePairs {
     }
 }
 
-/// A pair table of lines that is lent, with what options say.
+/// A pair table of lines that is borrowed, with what options say.
 #[derive(Clone, Copy, Debug)]
 pub struct LinePairs<'data> {
     table: &'data RuleBreakData,
@@ -74,7 +74,7 @@ impl<'data> LinePairs<'data> {
     ) -> Result<Self, DataError>
         ensures accepted { IfOk result (λ pairs. (rules_by pairs ≡ record { table = table.now; style = style })
             × IsFaultless (HasLineTableFault table.now clusters.now)) }
-        ensures refused { IfErr result (IsLowestFault (HasLineTableFault table.now clusters.now)) }
+        ensures rejected { IfErr result (IsLowestFault (HasLineTableFault table.now clusters.now)) }
     {
         if table.property_count() <= RuleBreakData::LINE_PROPERTY_ID {
             return Err(DataError::ClassOutOfRange);
@@ -128,7 +128,7 @@ impl<'data> LinePairs<'data> {
 /// class of code points, and `ComplexItems` where some code points are complex.
 pub fn check_clusters(clusters: &RuleBreakData) -> Result<(), DataError>
     ensures accepted { IfOk result (λ _. IsFaultless (HasPairDataFault clusters.now None)) }
-    ensures refused { IfErr result (IsLowestFault (HasPairDataFault clusters.now None)) }
+    ensures rejected { IfErr result (IsLowestFault (HasPairDataFault clusters.now None)) }
 {
     let _pairs = PairDataBorrowed::try_plain(clusters, None)?;
     Ok(())

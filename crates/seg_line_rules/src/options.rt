@@ -66,9 +66,9 @@ impl LineBreakWordOption {
 /// The options of line breaks: by default none is given.
 #[derive(Clone, Copy, Debug, Default, PartialEq, Eq)]
 pub struct LineBreakOptions<'a> {
-    /// How strict the rules are; `None` stands for `Strict`.
+    /// How strict the rules are; `None` means `Strict`.
     pub strictness: Option<LineBreakStrictness>,
-    /// Where words may be broken; `None` stands for `Normal`.
+    /// Where words may be broken; `None` means `Normal`.
     pub word_option: Option<LineBreakWordOption>,
     /// The language of the text. It matters whether it is Japanese (`ja`) or Chinese (`zh`).
     pub content_locale: Option<&'a LanguageIdentifier>,

@@ -34,7 +34,7 @@ pub enum PlainPair {
     Other,
 }
 
-/// Where plain pairs come to.
+/// Where plain pairs end.
 #[derive(Debug, Drop)]
 pub struct Passed<I: Cursor> {
     /// The item that the next unit or turn begins with.
@@ -88,7 +88,7 @@ pub(crate) fn plain_pairs<I: Cursor>(pairs: LinePairs<'_>, first: ClassedItem, r
     }
 }
 
-/// Where pairs come to.
+/// Where pairs end.
 #[inline(always)]
 pub fn pairs_passed<I: Cursor>(next: ClassedItem, rest: I, is_break: bool) -> Passed<I>
     ensures { result ≡ record { next = next; rest = rest; is_break = is_break } }

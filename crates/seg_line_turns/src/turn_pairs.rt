@@ -35,13 +35,13 @@ impl OwnedTurnPairs {
     ) -> Result<Self, DataError>
         ensures accepted { IfOk result (λ pairs. (owned_turn_rules_by pairs ≡ record { table = table; style = style })
             × IsFaultless (HasTurnTableFault table clusters.now)) }
-        ensures refused { IfErr result (IsLowestFault (HasTurnTableFault table clusters.now)) }
+        ensures rejected { IfErr result (IsLowestFault (HasTurnTableFault table clusters.now)) }
     {
         let _pairs = TurnPairs::try_new(&table, clusters, style)?;
         Ok(OwnedTurnPairs { table, style })
     }
 
-    /// The same, lent.
+    /// The same, borrowed.
     pub fn as_borrowed(&self) -> TurnPairs<'_>
         ensures { turn_rules_by result ≡ owned_turn_rules_by self.now }
     {
@@ -52,7 +52,7 @@ impl OwnedTurnPairs {
     }
 }
 
-/// A pair table of lines of the engine 17 that is lent, with what options say.
+/// A pair table of lines of the engine 17 that is borrowed, with what options say.
 #[derive(Clone, Copy, Debug)]
 pub struct TurnPairs<'data> {
     table: &'data RuleBreakData,
@@ -75,7 +75,7 @@ impl<'data> TurnPairs<'data> {
     ) -> Result<Self, DataError>
         ensures accepted { IfOk result (λ pairs. (turn_rules_by pairs ≡ record { table = table.now; style = style })
             × IsFaultless (HasTurnTableFault table.now clusters.now)) }
-        ensures refused { IfErr result (IsLowestFault (HasTurnTableFault table.now clusters.now)) }
+        ensures rejected { IfErr result (IsLowestFault (HasTurnTableFault table.now clusters.now)) }
     {
         if table.property_count() <= RuleBreakData::LINE_V3_PROPERTY_ID {
             return Err(DataError::ClassOutOfRange);

@@ -12,10 +12,10 @@ pub with-faultless : (m : Machine) (tailoring : Option MachineTailoring) → (Ha
 with-faultless m tailoring none faultless fault (inl has) = faultless fault has
 with-faultless m tailoring none faultless fault (inr has) = none has.1
 
--- where the tailoring is looked at as it is lent
-pub lent-alike : (m : Machine) (lent tailoring : Option MachineTailoring) → lent ≡ tailoring
-    → HasComplexBelow0100 (with_tailoring m tailoring) → HasComplexBelow0100 (with_tailoring m lent)
-lent-alike m lent tailoring same has = rw same has
+-- where the tailoring is looked at as it is borrowed
+pub borrowed-alike : (m : Machine) (borrowed tailoring : Option MachineTailoring) → borrowed ≡ tailoring
+    → HasComplexBelow0100 (with_tailoring m tailoring) → HasComplexBelow0100 (with_tailoring m borrowed)
+borrowed-alike m borrowed tailoring same has = rw same has
 
 pub with-lowest : (m : Machine) (tailoring : Option MachineTailoring) (fault : DataError) → (HasComplexBelow0100 (with_tailoring m tailoring) → ⊥)
     → IsLowestFault (HasTailoringFault m tailoring) fault → IsLowestFault (HasFaultWith m (Some tailoring)) fault

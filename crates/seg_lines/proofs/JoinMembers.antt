@@ -33,7 +33,7 @@ in-offsets (found ∷ boundaries) one (inr is) = inr (in-offsets boundaries one 
 
 -- one cut
 
--- where it comes to stand among boundaries
+-- where it stands among boundaries
 module _ (cut : ℕ) where
   -- it and they alone are there
   with-in : (boundaries : List Boundary) (one : Boundary) → AreRising (offsets boundaries) → In (with_cut cut boundaries) one

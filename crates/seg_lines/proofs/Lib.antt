@@ -7,4 +7,4 @@ pub mod PlainBoundaries
 pub mod NoMandatoryBreak
 pub mod LineLaws
 pub mod Memos
-pub mod PartedLines
+pub mod SplitLines

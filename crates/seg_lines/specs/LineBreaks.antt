@@ -73,7 +73,7 @@ pub data LineFinder : Type 0 where
   ByPlaces : LineFinder
   -- a pair table of lines, with what options say, whose complex class tells the runs
   ByTable : TableRules Classic → LineFinder
-  -- a pair table of lines of the engine 17, with what options say, gone through turn by turn; classes SA and SA_MC_MN tell the runs
+  -- a pair table of lines of the engine 17, with what options say, read turn by turn; classes SA and SA_MC_MN tell the runs
   ByTurns : TableRules Seventeen → LineFinder
   -- a machine of lines, whose scripts tell the runs
   ByMachine : Machine → LineFinder

@@ -33,7 +33,7 @@ machine_choice options = let style = style_of options in machine_for style.word_
 
 -- The tailorings of line machines, by their names.
 
--- the tailoring of this name, where it was handed in
+-- the tailoring of this name, where it was passed in
 abbrev pub tailoring_named : {T : Type 0} → TailoringsOf T → Tailoring → Option T
 tailoring_named tailorings tailoring.BreakAll = tailorings.breakall
 tailoring_named tailorings tailoring.KeepAll = tailorings.keepall
@@ -48,15 +48,15 @@ abbrev pub tailoring_for : {T : Type 0} → TailoringsOf T → Option Tailoring 
 tailoring_for tailorings (Some name) = option_map Some (tailoring_named tailorings name)
 tailoring_for tailorings None = Some None
 
--- The tailorings of machines of lines, and what is lent of them.
+-- The tailorings of machines of lines, and what is borrowed of them.
 
 -- those that are there
 abbrev pub MachineTailorings : Type 0
 MachineTailorings = TailoringsOf MachineTailoring
 
--- the tailorings that are lent
-abbrev pub lent_tailorings : {T : Type 0} → TailoringsOf (Bor T) → TailoringsOf T
-lent_tailorings tailorings = record {
+-- the tailorings that are borrowed
+abbrev pub borrowed_tailorings : {T : Type 0} → TailoringsOf (Bor T) → TailoringsOf T
+borrowed_tailorings tailorings = record {
   breakall = option_map (λ tailoring. tailoring.now) tailorings.breakall;
   keepall = option_map (λ tailoring. tailoring.now) tailorings.keepall;
   ja_loose = option_map (λ tailoring. tailoring.now) tailorings.ja_loose;

@@ -48,7 +48,7 @@ impl OwnedFinder {
         }
     }
 
-    /// The same, lent.
+    /// The same, borrowed.
     pub(crate) fn as_borrowed(&self) -> Finder<'_>
         ensures { finder_of result ≡ owned_finder self.now }
     {
@@ -62,7 +62,7 @@ impl OwnedFinder {
     }
 }
 
-/// What the breaks of lines are found by, lent.
+/// What the breaks of lines are found by, borrowed.
 #[derive(Clone, Copy, Debug)]
 pub(crate) enum Finder<'data> {
     /// The clusters: a line may be broken at each of their boundaries.

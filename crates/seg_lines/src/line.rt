@@ -6,7 +6,7 @@ ghost use Rattle.seg_text.specs.Boundaries.{IsCover};
 ghost use Rattle.seg_text.specs.Decoding.{latin1, utf8, utf16};
 ghost use Rattle.seg_data.specs.Faults.{IsFaultless, IsLowestFault};
 ghost use Rattle.seg_memo.specs.Memos.{IsMemoRefusal, IsNewMemo};
-ghost use Rattle.seg_data.specs.ScriptWords.{filled, lent_words, no_words, script_words};
+ghost use Rattle.seg_data.specs.ScriptWords.{filled, borrowed_words, no_words, script_words};
 ghost use Rattle.seg_line_rules.specs.LineRules.{HasLineTableFault, style_of};
 ghost use Rattle.seg_line_turns.specs.TurnRules.{HasTurnTableFault};
 ghost use Rattle.seg_lines.specs.LineBreaks.{line_boundaries_of, machine_of_lines, table_lines, turn_lines, lines_with_words, LinesResetAfter};
@@ -22,8 +22,8 @@ use crate::boundaries::{LineBoundaries, boundaries};
 use crate::finder::{Finder, OwnedFinder};
 use crate::memo::memoised;
 use crate::provider::{LineTailorings, LineTailoringsBorrowed};
-use dictionaries::{lent_without_ja, without_ja};
-use neo::{lent_line_machine, owned_line_machine};
+use dictionaries::{borrowed_without_ja, without_ja};
+use neo::{borrowed_line_machine, owned_line_machine};
 pub use options::{LineBreakOptions, LineBreakStrictness, LineBreakWordOption};
 use options::{MachineChoice, choice_of};
 use seg_clusters::engine::Engine;
@@ -50,7 +50,7 @@ use std::marker::PhantomData;
 /// The boundaries of lines in a text, as places: bytes in str, UTF-8 and Latin-1,
 /// 16-bit units in UTF-16.
 ///
-/// First 0, then each place where a line may be broken; the last is the text's length. After None it is None for ever.
+/// First 0, then each place where a line may be broken; the last is the text's length. After None it stays None.
 #[derive_where(Debug; Y::IterAttr: Debug)]
 pub struct LineBreakIterator<'data, 's, Y: RuleBreakType<'s>> {
     boundaries: HintedBoundaries<LineBoundaries<'data, Y::IterAttr>>,
@@ -100,7 +100,7 @@ impl<'data, 's, Y: RuleBreakType<'s>> LineBreakIterator<'data, 's, Y> {
         ensures words { IfOk result (λ _. (line_finder self.now).payloads.words ≡ no_words) }
         ensures made { IfOk result (IsNewMemo (machine_of_lines (line_finder self.now)) (Y.IterAttr.text (lines_source self.now))
             (line_boundaries_of (line_finder self.now) (Y.IterAttr.text (lines_source self.now)))) }
-        ensures refused { IfErr result (IsMemoRefusal (machine_of_lines (line_finder self.now)) ((line_finder self.now).payloads.words ≢ no_words) (Y.IterAttr.text (lines_source self.now))) }
+        ensures rejected { IfErr result (IsMemoRefusal (machine_of_lines (line_finder self.now)) ((line_finder self.now).payloads.words ≢ no_words) (Y.IterAttr.text (lines_source self.now))) }
     {
         let text = Y::fork(&self.whole);
         memoised(alloc, self.segmenter.finder, self.segmenter.payloads, text)
@@ -151,7 +151,7 @@ impl<'data, 's, Y: RuleBreakType<'s>> Iterator for LineBreakIterator<'data, 's, 
     }
 }
 
-/// Finds line breaks with data of its own.
+/// Finds line breaks with data that it owns.
 #[derive(Debug, Drop)]
 pub struct LineSegmenter {
     finder: OwnedFinder,
@@ -176,7 +176,7 @@ impl LineSegmenter {
     ) -> Result<Self, DataError>
         ensures accepted { IfOk result (λ segmenter. (owned_line_rules segmenter ≡ table_lines (record { table = table; style = style_of options.entry }) clusters no_words)
             × IsFaultless (HasLineTableFault table clusters)) }
-        ensures refused { IfErr result (IsLowestFault (HasLineTableFault table clusters)) }
+        ensures rejected { IfErr result (IsLowestFault (HasLineTableFault table clusters)) }
     {
         let style = LineStyle::new(options);
         let pairs = OwnedLinePairs::try_new(table, &clusters, style)?;
@@ -197,7 +197,7 @@ impl LineSegmenter {
     ) -> Result<Self, DataError>
         ensures accepted { IfOk result (λ segmenter. (owned_line_rules segmenter ≡ table_lines (record { table = table; style = style_of options.entry }) clusters (without_ja (script_words dictionaries)))
             × IsFaultless (HasLineTableFault table clusters)) }
-        ensures refused { IfErr result (IsLowestFault (HasLineTableFault table clusters)) }
+        ensures rejected { IfErr result (IsLowestFault (HasLineTableFault table clusters)) }
     {
         let mut segmenter = Self::try_new_for_non_complex_scripts(table, clusters, options)?;
         segmenter.load_dictionary(dictionaries);
@@ -215,7 +215,7 @@ impl LineSegmenter {
     ) -> Result<Self, DataError>
         ensures accepted { IfOk result (λ segmenter. (owned_line_rules segmenter ≡ turn_lines (record { table = table; style = style_of options.entry }) clusters no_words)
             × IsFaultless (HasTurnTableFault table clusters)) }
-        ensures refused { IfErr result (IsLowestFault (HasTurnTableFault table clusters)) }
+        ensures rejected { IfErr result (IsLowestFault (HasTurnTableFault table clusters)) }
     {
         let style = LineStyle::new(options);
         let pairs = OwnedTurnPairs::try_new(table, &clusters, style)?;
@@ -227,7 +227,7 @@ impl LineSegmenter {
     }
 
     /// A segmenter by the state machine of lines, or by that of clusters where the strictness is
-    /// `Anywhere` and the word option `Normal`, which refuses nothing. Otherwise
+    /// `Anywhere` and the word option `Normal`, which rejects nothing. Otherwise
     /// `ComplexBelow0100` where a code point below U+0100 has a script, with the tailoring that the
     /// options choose, `SymbolOutOfRange` where that tailoring doesn't fit the machine, and
     /// `MissingTailoring` where it isn't there. Takes no memory. Once dictionaries are loaded, a line may also be
@@ -240,7 +240,7 @@ impl LineSegmenter {
     ) -> Result<Self, DataError>
         ensures accepted { IfOk result (λ segmenter. (owned_line_rules segmenter ≡ chosen_rules machine tailorings clusters (machine_choice options.entry))
             × IsFaultless (HasLineFault machine tailorings (machine_choice options.entry))) }
-        ensures refused { IfErr result (IsLowestFault (HasLineFault machine tailorings (machine_choice options.entry))) }
+        ensures rejected { IfErr result (IsLowestFault (HasLineFault machine tailorings (machine_choice options.entry))) }
     {
         let finder = match choice_of(options) {
             MachineChoice::Clusters => OwnedFinder::Clusters,
@@ -263,7 +263,7 @@ impl LineSegmenter {
         self.dictionaries.fill(without_ja(dictionaries));
     }
 
-    /// The same segmenter over lent data, which segments texts.
+    /// The same segmenter over borrowed data, which segments texts.
     pub fn as_borrowed(&self) -> LineSegmenterBorrowed<'_>
         ensures { line_rules result ≡ owned_line_rules self.now }
     {
@@ -277,10 +277,10 @@ impl LineSegmenter {
     }
 }
 
-/// Finds line breaks with data that are lent to it.
+/// Finds line breaks with data that it borrows.
 ///
 /// With the sample data (`bench::lines`), where a line may be broken after spaces, and must be after a line feed and at
-/// the end of the text; ! stands for a break that is mandatory:
+/// the end of the text; ! means a break that is mandatory:
 ///
 /// ```text
 /// default options            segmenter.segment_str("a b\nc")      0 2 4! 5!      in bytes
@@ -294,9 +294,9 @@ pub struct LineSegmenterBorrowed<'data> {
 
 impl<'data> LineSegmenterBorrowed<'data> {
     ghost use Rattle.seg_lines.specs.Lines.{line_finder, lines_left, lines_source, is_mandatory, chosen_rules, without_ja, HasLineFault};
-    ghost use Rattle.seg_lines.specs.Options.{lent_tailorings};
+    ghost use Rattle.seg_lines.specs.Options.{borrowed_tailorings};
 
-    /// What `LineSegmenter::try_new_for_non_complex_scripts` makes, over lent data. The faults are the same. Takes no memory.
+    /// What `LineSegmenter::try_new_for_non_complex_scripts` makes, over borrowed data. The faults are the same. Takes no memory.
     pub fn new_for_non_complex_scripts(
         table: &'data RuleBreakData,
         clusters: &'data RuleBreakData,
@@ -304,7 +304,7 @@ impl<'data> LineSegmenterBorrowed<'data> {
     ) -> Result<Self, DataError>
         ensures accepted { IfOk result (λ segmenter. (line_rules segmenter ≡ table_lines (record { table = table.now; style = style_of options.entry }) clusters.now no_words)
             × IsFaultless (HasLineTableFault table.now clusters.now)) }
-        ensures refused { IfErr result (IsLowestFault (HasLineTableFault table.now clusters.now)) }
+        ensures rejected { IfErr result (IsLowestFault (HasLineTableFault table.now clusters.now)) }
     {
         Self::new_dictionary(table, clusters, DictionariesBorrowed::none(), options)
     }
@@ -317,22 +317,22 @@ impl<'data> LineSegmenterBorrowed<'data> {
         dictionaries: DictionariesBorrowed<'data>,
         options: LineBreakOptions<'_>,
     ) -> Result<Self, DataError>
-        ensures accepted { IfOk result (λ segmenter. (line_rules segmenter ≡ table_lines (record { table = table.now; style = style_of options.entry }) clusters.now (without_ja (lent_words dictionaries.entry)))
+        ensures accepted { IfOk result (λ segmenter. (line_rules segmenter ≡ table_lines (record { table = table.now; style = style_of options.entry }) clusters.now (without_ja (borrowed_words dictionaries.entry)))
             × IsFaultless (HasLineTableFault table.now clusters.now)) }
-        ensures refused { IfErr result (IsLowestFault (HasLineTableFault table.now clusters.now)) }
+        ensures rejected { IfErr result (IsLowestFault (HasLineTableFault table.now clusters.now)) }
     {
         let style = LineStyle::new(options);
         let pairs = LinePairs::try_new(table, clusters, style)?;
         Ok(LineSegmenterBorrowed {
             finder: Finder::of_table(style.strictness, pairs),
             payloads: ComplexPayloadsBorrowed::new(
-                lent_without_ja(dictionaries),
+                borrowed_without_ja(dictionaries),
                 GraphemeClusterSegmenterBorrowed::new(clusters)?,
             ),
         })
     }
 
-    /// What `LineSegmenter::try_new_17_for_non_complex_scripts` makes, over lent data. The faults are the same. Takes no memory.
+    /// What `LineSegmenter::try_new_17_for_non_complex_scripts` makes, over borrowed data. The faults are the same. Takes no memory.
     pub fn new_17_for_non_complex_scripts(
         table: &'data RuleBreakData,
         clusters: &'data RuleBreakData,
@@ -340,7 +340,7 @@ impl<'data> LineSegmenterBorrowed<'data> {
     ) -> Result<Self, DataError>
         ensures accepted { IfOk result (λ segmenter. (line_rules segmenter ≡ turn_lines (record { table = table.now; style = style_of options.entry }) clusters.now no_words)
             × IsFaultless (HasTurnTableFault table.now clusters.now)) }
-        ensures refused { IfErr result (IsLowestFault (HasTurnTableFault table.now clusters.now)) }
+        ensures rejected { IfErr result (IsLowestFault (HasTurnTableFault table.now clusters.now)) }
     {
         let style = LineStyle::new(options);
         let pairs = TurnPairs::try_new(table, clusters, style)?;
@@ -353,21 +353,21 @@ impl<'data> LineSegmenterBorrowed<'data> {
         })
     }
 
-    /// What `LineSegmenter::try_new_neo_for_non_complex_scripts` makes, over lent data. The faults are the same. Takes no memory.
+    /// What `LineSegmenter::try_new_neo_for_non_complex_scripts` makes, over borrowed data. The faults are the same. Takes no memory.
     pub fn new_neo_for_non_complex_scripts(
         machine: &'data SegmenterStateMachine,
         tailorings: LineTailoringsBorrowed<'data>,
         clusters: &'data SegmenterStateMachine,
         options: LineBreakOptions<'_>,
     ) -> Result<Self, DataError>
-        ensures accepted { IfOk result (λ segmenter. (line_rules segmenter ≡ chosen_rules machine.now (lent_tailorings tailorings.entry) clusters.now (machine_choice options.entry))
-            × IsFaultless (HasLineFault machine.now (lent_tailorings tailorings.entry) (machine_choice options.entry))) }
-        ensures refused { IfErr result (IsLowestFault (HasLineFault machine.now (lent_tailorings tailorings.entry) (machine_choice options.entry))) }
+        ensures accepted { IfOk result (λ segmenter. (line_rules segmenter ≡ chosen_rules machine.now (borrowed_tailorings tailorings.entry) clusters.now (machine_choice options.entry))
+            × IsFaultless (HasLineFault machine.now (borrowed_tailorings tailorings.entry) (machine_choice options.entry))) }
+        ensures rejected { IfErr result (IsLowestFault (HasLineFault machine.now (borrowed_tailorings tailorings.entry) (machine_choice options.entry))) }
     {
         let finder = match choice_of(options) {
             MachineChoice::Clusters => Finder::Clusters,
             MachineChoice::Lines(name) => {
-                Finder::Machine(lent_line_machine(machine, tailorings, name)?)
+                Finder::Machine(borrowed_line_machine(machine, tailorings, name)?)
             }
         };
         Ok(LineSegmenterBorrowed {
@@ -382,12 +382,12 @@ impl<'data> LineSegmenterBorrowed<'data> {
     /// Takes the dictionaries of Myanmar, Khmer, Lao and Thai where there is none yet. Those that are there stay, and that of
     /// Chinese and Japanese isn't taken. By `Anywhere` they change nothing. Takes no memory.
     pub fn load_dictionary(&mut self, dictionaries: DictionariesBorrowed<'data>)
-        ensures { line_rules self.new ≡ lines_with_words (line_rules self.old) (filled (line_rules self.old).payloads.words (without_ja (lent_words dictionaries.entry))) }
+        ensures { line_rules self.new ≡ lines_with_words (line_rules self.old) (filled (line_rules self.old).payloads.words (without_ja (borrowed_words dictionaries.entry))) }
     {
-        self.payloads.load(lent_without_ja(dictionaries));
+        self.payloads.load(borrowed_without_ja(dictionaries));
     }
 
-    /// Whether a text may be parted behind the code point, so that each part has the boundaries that it has alone, with
+    /// Whether a text may be split after the code point, so that each part has the boundaries that it has alone, with
     /// whether they are mandatory (`laws::parts_behind_resets`): a scan of the machine that reads the code point's symbol is
     /// over there, from whatever state, and the code point has no script that has a dictionary here, so that no run goes over
     /// it. Where clusters are found, it is so where it is of clusters. By a pair table of lines it is `false`. Takes no

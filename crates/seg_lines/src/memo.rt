@@ -26,7 +26,7 @@ pub(crate) fn memoised<'data, I: Cursor>(
     ensures words { IfOk result (λ _. (payloads_of payloads.entry).words ≡ no_words) }
     ensures made { IfOk result (IsNewMemo (machine_in_finder (finder_of finder.entry) (payloads_of payloads.entry)) (I.text text)
         (boundaries_in (boundaries_with (finder_of finder.entry) (payloads_of payloads.entry)) (I.text text))) }
-    ensures refused { IfErr result (IsMemoRefusal (machine_in_finder (finder_of finder.entry) (payloads_of payloads.entry)) ((payloads_of payloads.entry).words ≢ no_words) (I.text text)) }
+    ensures rejected { IfErr result (IsMemoRefusal (machine_in_finder (finder_of finder.entry) (payloads_of payloads.entry)) ((payloads_of payloads.entry).words ≢ no_words) (I.text text)) }
 {
     match finder {
         Finder::Clusters => payloads.memoised(alloc, payloads.clusters.engine(), text),

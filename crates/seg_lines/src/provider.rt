@@ -1,6 +1,6 @@
 //! The tailorings of machines of lines.
 ghost use Rattle.std.specs.Prelude.{◌≡◌};
-ghost use Rattle.seg_lines.specs.Options.{lent_tailorings};
+ghost use Rattle.seg_lines.specs.Options.{borrowed_tailorings};
 
 use seg_machine::provider::SegmenterStateMachineOverride;
 
@@ -28,13 +28,13 @@ pub struct TailoringsOf<T> {
 /// The tailorings of a line machine.
 pub type LineTailorings = TailoringsOf<SegmenterStateMachineOverride>;
 
-/// The tailorings of a line machine that are lent.
+/// The tailorings of a line machine that are borrowed.
 pub type LineTailoringsBorrowed<'data> = TailoringsOf<&'data SegmenterStateMachineOverride>;
 
 impl LineTailorings {
-    /// The same tailorings, lent.
+    /// The same tailorings, borrowed.
     pub fn as_borrowed(&self) -> LineTailoringsBorrowed<'_>
-        ensures { lent_tailorings result ≡ self.now }
+        ensures { borrowed_tailorings result ≡ self.now }
     {
         TailoringsOf {
             breakall: self.breakall.as_ref(),

@@ -1,4 +1,4 @@
--- The search, pair by pair: what it clears has a pick for every text, and what it refuses has a text without one.
+-- The search, pair by pair: what it clears has a pick for every text, and what it rejects has a text without one.
 use Rattle.std.proofs.Common.{◌≡◌, ◌≢◌, ℕ, ◌+◌, ◌<◌, ◌≤◌, ◌⊎◌, ◌++◌, true, false, List, [], ◌∷◌, length, replicate, get_or, refl, sym, ap, ◌∙◌, subst, inl, inr, arith}
 use Rattle.std.specs.Prelude.{Option, Some, None, IfSome, All, Contains}
 use Rattle.std.proofs.lemmas.Bool.{cases_lt, cases_eq}

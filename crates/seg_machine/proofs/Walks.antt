@@ -69,7 +69,7 @@ walk-round m q round (suc k) is =
 some-is : {X : Type 0} (found : Option X) (x : X) → found ≡ Some x → is_some found ≡ true
 some-is found x is = rw is refl
 
--- from a state on a cycle symbol 0 leads on for ever
+-- from a state on a cycle symbol 0 leads on without end
 pub cycle-leads : (m : Machine) (q steps n : ℕ) → state_after_ends m q (suc steps) ≡ Some q → is_some (state_after_ends m q n) ≡ true
 cycle-leads m q steps n round =
     let long : n * suc steps ≡ n + n * steps = omega arith in

@@ -77,7 +77,7 @@ IsSymbolOf count symbol = (0 < symbol) × (symbol < count)
 abbrev pub IsTextSymbol : Machine → ℕ → Type 0
 IsTextSymbol m symbol = IsSymbolOf (symbol_count m) symbol
 
--- the state that a symbol leads to; 255 stands for none
+-- the state that a symbol leads to; 255 means none
 unfoldable pub step : Machine → ℕ → ℕ → Option ℕ
 step m state symbol =
     let next = slice_index m.transitions (state + symbol * length m.states) in
@@ -109,7 +109,7 @@ state_at m state = slice_index_or m.states state (Continue, None)
 abbrev pub placed_at : List (ℕ × ComplexScript) → ℕ → ℕ × ComplexScript
 placed_at table symbol = slice_index_or table symbol (0, NoScript)
 
--- symbol 0 stands for none
+-- symbol 0 means none
 abbrev pub shown_at : List (ℕ × ComplexScript) → ℕ → ℕ × ComplexScript
 shown_at table symbol = if (placed_at table symbol).0 == 0 then (symbol, NoScript) else placed_at table symbol
 

@@ -37,7 +37,7 @@ pub enum Acceptance {
 }
 
 impl Acceptance {
-    /// What a byte stands for. Its high five bits are a condition's lookahead, or 31 for none, and
+    /// What a byte means. Its high five bits are a condition's lookahead, or 31 for none, and
     /// its low three are the status, where 7 with no lookahead is `Continue`.
     pub fn from_unaligned(byte: u8) -> Self
         ensures value { result ≡ acceptance_of byte }
@@ -55,7 +55,7 @@ impl Acceptance {
         }
     }
 
-    /// The byte that stands for this: it has a status below 7 where it accepts, and for a
+    /// The byte that means this: it has a status below 7 where it accepts, and for a
     /// condition a lookahead below 31 and a status below 8.
     pub fn to_unaligned(self) -> u8
         requires { HasByte self }

@@ -40,13 +40,13 @@ impl TailoredMachine {
         tailoring: Option<SegmenterStateMachineOverride>,
     ) -> Result<Self, DataError>
         ensures accepted { IfOk result (λ t. (owned_machine t ≡ with_tailoring machine tailoring) × IsFaultless (HasTailoringFault machine tailoring)) }
-        ensures refused { IfErr result (IsLowestFault (HasTailoringFault machine tailoring)) }
+        ensures rejected { IfErr result (IsLowestFault (HasTailoringFault machine tailoring)) }
     {
         TailoredMachineBorrowed::try_new(&machine, tailoring.as_ref())?.facts();
         Ok(TailoredMachine { machine, tailoring })
     }
 
-    /// The same machine, lent.
+    /// The same machine, borrowed.
     pub fn as_borrowed(&self) -> TailoredMachineBorrowed<'_>
         ensures { machine_of result ≡ owned_machine self.now }
     {
@@ -55,7 +55,7 @@ impl TailoredMachine {
     }
 }
 
-/// A checked machine, tailored or not, that is lent. It is what engines read, step by step.
+/// A checked machine, tailored or not, that is borrowed. It is what engines read, step by step.
 #[derive(Clone, Copy, Debug)]
 pub struct TailoredMachineBorrowed<'data> {
     machine: &'data SegmenterStateMachine,
@@ -86,7 +86,7 @@ impl<'data> TailoredMachineBorrowed<'data> {
     ) -> Result<Self, DataError>
         ensures accepted { IfOk result (λ t. (machine_of t ≡ with_tailoring machine.now (option_map (λ t. t.now) tailoring.entry))
             × IsFaultless (HasTailoringFault machine.now (option_map (λ t. t.now) tailoring.entry))) }
-        ensures refused { IfErr result (IsLowestFault (HasTailoringFault machine.now (option_map (λ t. t.now) tailoring.entry))) }
+        ensures rejected { IfErr result (IsLowestFault (HasTailoringFault machine.now (option_map (λ t. t.now) tailoring.entry))) }
     {
         let Some(tailoring) = tailoring else {
             return Ok(TailoredMachineBorrowed::without_tailoring(machine));

@@ -114,7 +114,7 @@ in-hand s m states transitions t text left start state place symbol next counted
   next_is = is;
 }
 
--- it comes to nothing
+-- it finds nothing
 pub stops : (s : Subject) (m : Machine) (states : ℕ) (transitions : List ℕ) (t : Table) (text left : Text) (start state place symbol next counted : ℕ) (last : Option Boundary)
     → IsReadBy s m states transitions → Turn s t start (configuration state place 0) last counted → IsKeptSymbol s m text start place symbol left → next ≡ slice_index transitions (state + symbol * states)
     → next ≡ 255 → look_up s (configuration state place 0) ≡ Ends Nothing

@@ -322,7 +322,7 @@ turn-first s t start here next counted count free w leads inside not counts =
     })
     counts
 
--- what a mark comes to
+-- what a mark gives
 abbrev pub IsMark : Subject → Table → Table → ℕ → Configuration → Bool → Type 0
 IsMark s old new from c known =
     (lost : ℕ → Bool) (whole : Grid) → IsPart s old from lost whole → lost (number s c) ≡ false

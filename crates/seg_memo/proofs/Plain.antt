@@ -97,7 +97,7 @@ pub outcome-passes : (s : Subject) (c e : Configuration) → IsSound s → e.kep
 outcome-passes s c e sound free within is not =
     outcome-leads s c e sound within is ∙ passed e.place (state_at s.machine e.state) (outcome_at s e) not (λ lookahead kept. never-kept s e lookahead kept free)
 
--- no scan comes to an acceptance past its end
+-- no scan reaches an acceptance past its end
 
 abbrev Later : Subject → Configuration → ℕ → Type 0
 Later s c place = (f : Boundary) × (outcome_at s c ≡ Picked f) × (place ≤ f.offset)

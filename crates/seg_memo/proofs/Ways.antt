@@ -564,7 +564,7 @@ back-first s g start last first here o x w holds not = on w.path w.way w.table w
       is = w.is ∙ ap (outcome_at s) way.0;
     }
 
--- at the segment's end: no later scan comes to what lies further back
+-- at the segment's end: no later scan reaches what lies further back
 pub back-picked : (s : Subject) (g : Grid) (start : ℕ) (last : Option Boundary) (first here : Configuration) (o : Outcome) (found : Boundary) → Went s g start last first here o → o ≡ Picked found
     → IsWalked s g start last first o
 back-picked s g start last first here o found w picks =

@@ -109,7 +109,7 @@ different (c ∷ cs) = if is_in c cs then different cs else suc (different cs)
 abbrev pub AreLookedUp : Subject → ℕ → ℕ → Type 0
 AreLookedUp s place count = (starts : List ℕ) × AreStarts s starts place × (count ≡ different (all_look_ups s starts))
 
--- What a scan comes to from a configuration on: a function of the set of lookaheads that were named before it, and of
+-- What a scan finds from a configuration on: a function of the set of lookaheads that were named before it, and of
 -- the states that come after it. It knows nothing of where the scan began.
 
 -- the outcome before a state that is entered at a place, from that after it
@@ -146,7 +146,7 @@ unfoldable pub outcome_at : Subject → Configuration → Outcome
 outcome_at s c =
     at (λ steps. min (c.place + steps) (length s.symbols)) (outcome c.kept (map (state_at s.machine) (following s c)))
 
--- the pick that an outcome stands for, where no lookahead was named before
+-- the pick that an outcome means, where no lookahead was named before
 abbrev pub picked : Outcome → Option Boundary
 picked (Picked found) = Some found
 picked _ = None
@@ -157,7 +157,7 @@ arrival entry state place kept =
     option_map_or (λ (held : ℕ × ℕ). Ends (Kept held.0 held.1)) (condition_held kept entry)
     (Leads (configuration state place (keep kept entry.1)))
 
--- what one look-up comes to
+-- what one look-up gives
 unfoldable pub look_up : Subject → Configuration → LookUp
 look_up s c =
     option_map_or (λ next. arrival (state_at s.machine next) next (min (suc c.place) (length s.symbols)) c.kept)

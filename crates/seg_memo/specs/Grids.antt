@@ -41,7 +41,7 @@ holding Nothing = Some KnownNothing
 holding (Picked found) = None
 holding (Kept lookahead status) = Some (KnownKept lookahead status)
 
--- the cell of a configuration that a scan comes to from another: it says whether the place stayed
+-- the cell of a configuration that a scan reaches from another: it says whether the place stayed
 abbrev pub way_from : Configuration → Configuration → Cell
 way_from before here = Way before.state before.kept (here.place == before.place)
 
@@ -148,7 +148,7 @@ pub record IsMemo (s : Subject) (g : Grid) (place : ℕ) : Type 0 where
   pub table : IsRightFrom s g place []
   pub filling : AreFilled s g starts []
 
--- a scan comes to a configuration, the first that names a lookahead: with the last acceptance before it, the segments before, and
+-- a scan reaches a configuration, the first that names a lookahead: with the last acceptance before it, the segments before, and
 -- what it looked up so far, where no lookahead was named
 pub record Comes (s : Subject) (start : ℕ) (last : Option Boundary) (first : Configuration) (starts : List ℕ) (passed : List Configuration) : Type 0 where
   pub are : AreStarts s starts start
@@ -258,7 +258,7 @@ pub record Has (s : Subject) (t : Table) (place : ℕ) (lost : ℕ → Bool) (co
 abbrev pub IsLeft : Subject → (ℕ → Bool) → (ℕ → Bool) → Configuration → Type 0
 IsLeft s lost left c = (i : ℕ) → (i ≡ number s c → ⊥) → left i ≡ false → lost i ≡ false
 
--- it is so of a scan that came to a configuration that names its first lookahead: the cells are held where one is kept, and
+-- it is so of a scan that reached a configuration that names its first lookahead: the cells are held where one is kept, and
 -- all from the last acceptance on but those that are in hand
 pub record Keeps (s : Subject) (t : Table) (last : Option Boundary) (first : Configuration) (counted : ℕ) (P : Grid → Type 0) : Type 0 where
   pub whole : Grid

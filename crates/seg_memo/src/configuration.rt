@@ -1,4 +1,4 @@
-//! Configurations of a scan, what scans come to from them, and the cells that keep that.
+//! Configurations of a scan, what scans find from them on, and the cells that keep that.
 
 ghost use Rattle.std.specs.Prelude.{◌≡◌, ℕ, ◌<◌, false, IfSome, None};
 ghost use Rattle.seg_machine.specs.MachineFaults.{NamesPast};
@@ -20,7 +20,7 @@ pub struct Configuration {
     pub kept: u8,
 }
 
-/// What a scan comes to from a configuration on.
+/// What a scan finds from a configuration on.
 #[derive(Clone, Copy, Debug)]
 pub enum Outcome {
     /// No state accepts, and no condition holds.
@@ -32,7 +32,7 @@ pub enum Outcome {
     Kept(Lookahead, u8),
 }
 
-/// What one look-up comes to.
+/// What one look-up gives.
 #[derive(Clone, Copy, Debug)]
 pub enum LookUp {
     /// The scan's end, with the outcome of the configuration.
@@ -48,7 +48,7 @@ pub enum Cell {
     Unknown,
     /// A scan began in it.
     First,
-    /// A scan came to it from the configuration of this state and set of lookaheads: at the same place, or at that before.
+    /// A scan reached it from the configuration of this state and set of lookaheads: at the same place, or at that before.
     Way(State, u8, bool),
     /// Its outcome is nothing.
     KnownNothing,
@@ -167,7 +167,7 @@ pub(crate) fn entered(
     }
 }
 
-/// The pick that an outcome stands for, where no lookahead was named before.
+/// The pick that an outcome means, where no lookahead was named before.
 #[inline(always)]
 pub(crate) fn picked(outcome: Outcome) -> Option<Boundary>
     ensures { result ≡ picked outcome }
@@ -190,7 +190,7 @@ pub(crate) fn known(cell: Cell) -> Option<Outcome>
     }
 }
 
-/// The cell that holds an outcome. None holds a segment's end: no later scan comes to such a configuration.
+/// The cell that holds an outcome. None holds a segment's end: no later scan reaches such a configuration.
 #[inline(always)]
 pub(crate) fn holding(outcome: Outcome) -> Option<Cell>
     ensures { result ≡ holding outcome }
@@ -202,7 +202,7 @@ pub(crate) fn holding(outcome: Outcome) -> Option<Cell>
     }
 }
 
-/// The cell of a configuration that a scan comes to from another.
+/// The cell of a configuration that a scan reaches from another.
 #[inline(always)]
 pub(crate) fn way(before: Configuration, here: Configuration) -> Cell
     ensures { result ≡ way_from before here }

@@ -194,7 +194,7 @@ impl<'data, I: Cursor> MemoBreakIterator<'data, I, CountedTransitions<'data>> {
         text: I,
     ) -> Result<Self, MemoError>
         ensures made { IfOk result (IsNewMemo (Some (machine_of machine.entry)) (I.text text) (boundaries_in (machine_boundaries (machine_of machine.entry)) (I.text text))) }
-        ensures refused { IfErr result (IsMemoRefusal (Some (machine_of machine.entry)) ⊥ (I.text text)) }
+        ensures rejected { IfErr result (IsMemoRefusal (Some (machine_of machine.entry)) ⊥ (I.text text)) }
     {
         machine.facts();
         let states = machine.machine().states().len();

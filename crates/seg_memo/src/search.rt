@@ -53,7 +53,7 @@ pub(crate) fn next_symbol<I: Cursor>(
     }
 }
 
-/// One look-up: what it comes to in a configuration that the text's next item reads the transition.
+/// One look-up: what it gives in a configuration that the text's next item reads the transition.
 #[inline(always)]
 fn look_up<I: Cursor, R: ReadTransitions>(
     machine: &MachineParts<'_>,
@@ -195,7 +195,7 @@ fn place_after<I: Cursor>(rest: &I, place: usize, later: usize) -> usize
     left.place()
 }
 
-/// The pick of a scan that came to the configuration that names its first lookahead, and where a cursor stands there. From
+/// The pick of a scan that reached the configuration that names its first lookahead, and where a cursor stands there. From
 /// there on every configuration has a cell, but for that one itself where its look-up ends the scan with a pick there or later.
 #[inline(never)]
 fn scan_kept<I: Cursor, R: ReadTransitions>(
@@ -231,10 +231,10 @@ fn scan_kept<I: Cursor, R: ReadTransitions>(
 
 /// The pick, and where a cursor stands there; and a place: `first` is the symbol there then, and `ahead` is what is left after
 /// it. While no lookahead is named no condition holds, and what one picks later is at that name or after it. So three things
-/// need no cell: what is before the pick, since later scans begin there; a state that accepts, since a scan that came to it
-/// before had its pick there or later; and what is before the first acceptance, since a scan that has a pick comes to nothing
+/// need no cell: what is before the pick, since later scans begin there; a state that accepts, since a scan that reached it
+/// before had its pick there or later; and what is before the first acceptance, since a scan that has a pick finds nothing
 /// that has none. What comes after an acceptance is marked at once: nothing accepts after it, unless the pick is later and no
-/// scan comes to it again.
+/// scan reaches it again.
 #[inline(always)]
 fn scan_plain<I: Cursor, R: ReadTransitions>(
     machine: &MachineParts<'_>,

@@ -1,4 +1,4 @@
-//! The table of configurations: a cell for each, of which those are held that a scan may come to.
+//! The table of configurations: a cell for each, of which those are held that a scan may reach.
 
 ghost use Rattle.std.specs.Prelude.{◌≡◌, ◌+◌, ◌<◌, ◌≤◌, ◌^◌, ℕ, Bool, false, if◌then◌else◌, length, slice_index_or, vec_capacity};
 ghost use Rattle.seg_memo.specs.Configurations.{Scan};

@@ -1,4 +1,4 @@
--- What a pair table says of two classes, and the bytes that stand for it: 0 to 119 for Index, 120 to 252 for
+-- What a pair table says of two classes, and the bytes that mean it: 0 to 119 for Index, 120 to 252 for
 -- Intermediate, 253 Break, 254 NoMatch, 255 Keep.
 use Rattle.std.specs.Prelude.{ℕ, ◌+◌, ◌-◌, ◌<◌, ◌==◌, nat_lt, Bool, true, false, if◌then◌else◌, Option, Some, None, ◌≡◌, ◌≢◌, ◌*◌, ◌⊎◌, List, length, slice_index_or, Contains}
 use Rattle.std.specs.Borrow.{Bor}
@@ -22,7 +22,7 @@ is_intermediate Break = false
 is_intermediate Keep = false
 is_intermediate NoMatch = false
 
--- what a byte stands for
+-- what a byte means
 abbrev pub break_state_of : ℕ → BreakState
 break_state_of byte =
     if byte == 253 then Break
@@ -31,7 +31,7 @@ break_state_of byte =
     else if nat_lt byte 120 then Index byte
     else Intermediate (byte - 120)
 
--- the byte that stands for it
+-- the byte that means it
 abbrev pub break_byte_of : BreakState → ℕ
 break_byte_of (Index state) = state
 break_byte_of (Intermediate state) = 120 + state
@@ -39,7 +39,7 @@ break_byte_of Break = 253
 break_byte_of NoMatch = 254
 break_byte_of Keep = 255
 
--- a byte stands for it
+-- a byte means it
 abbrev pub HasBreakByte : BreakState → Type 0
 HasBreakByte (Index state) = state < 120
 HasBreakByte (Intermediate state) = state < 133
@@ -108,4 +108,4 @@ pub record IsPairTable (t : PairTable) : Type 0 where
 
 -- the override's table, where there is one
 abbrev pub table_in : Option (Bor Table) → Option Table
-table_in overriding = option_map (λ lent. lent.now) overriding
+table_in overriding = option_map (λ borrowed. borrowed.now) overriding

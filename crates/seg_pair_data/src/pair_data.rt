@@ -23,14 +23,14 @@ impl PairData {
     ghost use Rattle.seg_pair_data.specs.PairData.{pair_table_of, override_of, owned_pair_table, owned_override, HasPairDataFault};
 
     /// A pair table with its override, if there is one, for texts in which no item may be complex:
-    /// refused are `ClassOutOfRange`, `StartRowKeeps` and `ComplexItems` as by the borrowed form.
+    /// rejected with `ClassOutOfRange`, `StartRowKeeps` and `ComplexItems` as by the borrowed form.
     pub fn try_plain(
         table: RuleBreakData,
         overriding: Option<RuleBreakDataOverride>,
     ) -> Result<Self, DataError>
         ensures accepted { IfOk result (λ p. (owned_pair_table p ≡ table) × (owned_override p ≡ overriding)
             × IsFaultless (HasPairDataFault table overriding)) }
-        ensures refused { IfErr result (IsLowestFault (HasPairDataFault table overriding)) }
+        ensures rejected { IfErr result (IsLowestFault (HasPairDataFault table overriding)) }
     {
         let _pairs = PairDataBorrowed::try_plain(&table, overriding.as_ref())?;
         Ok(PairData { table, overriding })
@@ -44,13 +44,13 @@ impl PairData {
     ) -> Result<Self, DataError>
         ensures accepted { IfOk result (λ p. (owned_pair_table p ≡ table) × (owned_override p ≡ overriding)
             × (HasPairDataFault table overriding ClassOutOfRange → ⊥)) }
-        ensures refused { IfErr result (λ fault. (fault ≡ ClassOutOfRange) × HasPairDataFault table overriding ClassOutOfRange) }
+        ensures rejected { IfErr result (λ fault. (fault ≡ ClassOutOfRange) × HasPairDataFault table overriding ClassOutOfRange) }
     {
         let _pairs = PairDataBorrowed::try_new(&table, overriding.as_ref())?;
         Ok(PairData { table, overriding })
     }
 
-    /// The same, lent.
+    /// The same, borrowed.
     pub fn as_borrowed(&self) -> PairDataBorrowed<'_>
         ensures table { pair_table_of result ≡ owned_pair_table self.now }
         ensures overriding { override_of result ≡ owned_override self.now }
@@ -62,7 +62,7 @@ impl PairData {
     }
 }
 
-/// A pair table and its override that are lent. It is what engines read, entry by entry.
+/// A pair table and its override that are borrowed. It is what engines read, entry by entry.
 #[derive(Clone, Copy, Debug)]
 pub struct PairDataBorrowed<'data> {
     table: &'data RuleBreakData,
@@ -96,7 +96,7 @@ impl<'data> PairDataBorrowed<'data> {
     ) -> Result<Self, DataError>
         ensures accepted { IfOk result (λ p. (pair_table_of p ≡ table.now) × (override_of p ≡ table_in overriding.entry)
             × (HasPairDataFault table.now (table_in overriding.entry) ClassOutOfRange → ⊥)) }
-        ensures refused { IfErr result (λ fault. (fault ≡ ClassOutOfRange) × HasPairDataFault table.now (table_in overriding.entry) ClassOutOfRange) }
+        ensures rejected { IfErr result (λ fault. (fault ≡ ClassOutOfRange) × HasPairDataFault table.now (table_in overriding.entry) ClassOutOfRange) }
     {
         table.facts();
         if overrides_from(overriding, table.property_count()) {
@@ -105,7 +105,7 @@ impl<'data> PairDataBorrowed<'data> {
         Ok(PairDataBorrowed { table, overriding })
     }
 
-    /// The same for texts in which no item may be complex: refused too are `StartRowKeeps`, where
+    /// The same for texts in which no item may be complex: rejected too with `StartRowKeeps`, where
     /// no boundary stands between the text's start and some class of code points, and
     /// `ComplexItems`, where some code points are complex; of several faults the lowest.
     pub fn try_plain(
@@ -114,7 +114,7 @@ impl<'data> PairDataBorrowed<'data> {
     ) -> Result<Self, DataError>
         ensures accepted { IfOk result (λ p. (pair_table_of p ≡ table.now) × (override_of p ≡ table_in overriding.entry)
             × IsFaultless (HasPairDataFault table.now (table_in overriding.entry))) }
-        ensures refused { IfErr result (IsLowestFault (HasPairDataFault table.now (table_in overriding.entry))) }
+        ensures rejected { IfErr result (IsLowestFault (HasPairDataFault table.now (table_in overriding.entry))) }
     {
         let pairs = PairDataBorrowed::try_new(table, overriding)?;
         if pairs.keeps_start() {

@@ -83,7 +83,7 @@ pub chain-no-run : {X : Type 0} (v : List X → Verdict) → IsForward v → Has
 unfolding chain
 chain-no-run v forward none x xs = chain_within-no-run v forward none (length (x ∷ xs)) x xs
 
--- a chain goes on from the element that it has come to
+-- a chain goes on from the element that it has reached
 pub record IsOnChain {X : Type 0} (v : List X → Verdict) (whole : List X) (x : X) (xs : List X) : Type 0 where
   pub gone : ℕ
   pub here : x ∷ xs ≡ drop gone whole

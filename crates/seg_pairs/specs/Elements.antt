@@ -13,7 +13,7 @@ abbrev pub onto : Option Element → List Element → List Element
 onto None elements = elements
 onto (Some element) elements = element ∷ elements
 
--- elements as a text in which classes stand for code points
+-- elements as a text in which classes take the place of code points
 abbrev pub class_text : List Element → ℕ → Text
 class_text elements end = record { items = map (λ (element : Element). (element.place, element.class)) elements; end = end }
 

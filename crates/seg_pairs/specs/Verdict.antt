@@ -26,7 +26,7 @@ stop_verdict w Keep = GoAfter w.stop
 stop_verdict w Break = BreakAfter w.stop w.state
 stop_verdict w _ = BreakAfter w.saved w.class
 
--- what the entry of its state and the end of the text says of a walk that comes to it
+-- what the entry of its state and the end of the text says of a walk that reaches it
 abbrev pub end_verdict : Walk → BreakState → Verdict
 end_verdict w NoMatch = BreakAfter w.saved w.class
 end_verdict w _ = BreakAfter w.stop w.state
@@ -56,7 +56,7 @@ first_verdict t first classes Keep = GoAfter 1
 first_verdict t first classes (Index state) = named_verdict t state first classes
 first_verdict t first classes (Intermediate state) = named_verdict t state first classes
 
--- what stands for the verdict on no elements, which is never asked for
+-- what means the verdict on no elements, which is never asked for
 abbrev pub unasked : Verdict
 unasked = RunBegins
 

@@ -96,7 +96,7 @@ impl<'data, I: Cursor> Events<'data, I> {
         self.here.place()
     }
 
-    /// A text of its own in which nothing is left, at the place where the text that is left begins.
+    /// A separate text in which nothing is left, at the place where the text that is left begins.
     pub fn nothing(&self) -> I
         ensures { I.text result ≡ record { items = []; end = start_of self.now.text } }
     {
@@ -115,7 +115,7 @@ impl<'data, I: Cursor> Events<'data, I> {
         }
     }
 
-    /// What comes next. After the end it is the end for ever.
+    /// What comes next. After the end it stays the end.
     #[inline(always)]
     pub fn next_event(&mut self) -> Event<I>
         ensures leads { LeadsTo I.text self.old result self.new }

@@ -18,9 +18,9 @@ pub enum Step {
     End(u8),
     /// No boundary before this element, of which the next verdict is asked.
     Go(Element),
-    /// A run of complex elements begins with the element that was asked of. This is its second.
+    /// A run of complex elements begins with the element in question. This is its second.
     Run(Element),
-    /// A walk decides: the element that was asked of and this one, its second, name this state.
+    /// A walk decides: the element in question and this one, its second, name this state.
     Walk(Element, u8),
 }
 

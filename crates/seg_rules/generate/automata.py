@@ -2,7 +2,7 @@
 
 What stands before a place is, of the left pattern of each row, a bit for each of its rests that may come next; below the marks a symbol
 is read with its marks as one. What is owed to a place is the right patterns, as far as they are read, of the rows whose left pattern fits,
-and the verdict where none of them comes to fit: a number if nothing is left to read. These are the definitions of
+and the verdict where none of them fits: a number if nothing is left to read. These are the definitions of
 seg_rules/specs/RowRules.antt, which the proof computes again."""
 from written import HALF, MANY, MAYBE, PAIR
 

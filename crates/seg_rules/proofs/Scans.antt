@@ -250,7 +250,7 @@ module _ (rules : RowRules) (n : ℕ) (t : Tables) (plan : Plan) (relation : Lis
 
   -- ---- what is wanted after a symbol
 
-  -- a number of a verdict stands for it, whatever comes
+  -- a number of a verdict means it, whatever comes
   small : (s : Before) (i : ℕ) (rest : List ℕ) → nat_lt i 3 ≡ true → verdict rules s (due_of t i) rest ≡ i
   small s i rest h = ap (λ d. verdict rules s d rest) (cond-true _ _ _ h) ∙ verdict-decided rules s i rest
 

@@ -1,4 +1,4 @@
--- What the tests of the tables say: the numbers of the tables go on as what they stand for does.
+-- What the tests of the tables say: the numbers of the tables go on as what they mean does.
 use Rattle.std.specs.Prelude.{◌≡◌, ℕ, zero, suc, ◌+◌, ◌-◌, ◌<◌, Bool, true, false, ◌&&◌, ◌==◌, nat_lt, if◌then◌else◌, List, [], ◌∷◌, length}
 use Rattle.std.proofs.Common.{arith, refl, sym, ap, ap₂, ◌∙◌, eqb-true, ltb-true, le-ltb}
 use Rattle.std.proofs.lemmas.Bool.{and_parts, cond-false}
@@ -178,7 +178,7 @@ dues-at rules t n (d ∷ ds) (row ∷ rows) (suc i) h below =
     let b = and_parts (reads_hold rules t d row 0) _ a.1 in
     dues-at rules t n ds rows i b.1 (omega (arith, below))
 
--- a number of the tables stands for what the list with the verdicts has there
+-- a number of the tables means what the list with the verdicts has there
 numbered : (t : Tables) (i : ℕ) → get no_due (append_dues verdicts t.dues) i ≡ due_of t i
 unfolding get append_dues
 numbered t zero = refl

@@ -12,7 +12,7 @@ use Rattle.seg_rules.proofs.StepLemmas.{once-is}
 use Rattle.seg_rules.proofs.Soundness.{bool-cases, neq-eqb}
 use Rattle.seg_rules.proofs.Scans.{Symbols}
 
--- ---- flags that come to nothing
+-- ---- flags without effect
 
 pub flags-once : {X : Type 0} (live : List Bool) (f : List Bool → X) → once_flags live f ≡ f live
 unfolding once_flags
@@ -45,7 +45,7 @@ dead-full (true ∷ live) h = let no : false ≡ true = sym h in cc
 dead-full (false ∷ []) h = refl
 dead-full (false ∷ (b ∷ live)) h = dead-full (b ∷ live) h
 
--- what is live comes to fit what comes
+-- what is live fits what comes
 unfoldable fits_on : Pattern → List Bool → List ℕ → Bool
 fits_on pattern live [] = false
 fits_on pattern live (y ∷ ys) = is_full (flow false pattern live y) || fits_on pattern (flow false pattern live y) ys

@@ -74,7 +74,7 @@ no_due = DueOf [] 9
 abbrev pub no_before : Before
 no_before = record { above = []; below = []; glues = false }
 
--- the number stands for what is owed
+-- the number means what is owed
 abbrev pub numbers : Tables → ℕ → Due → Bool
 numbers t n d = same_due d (if nat_lt n 3 then DueOf [] n else get no_due t.dues (n - 3))
 

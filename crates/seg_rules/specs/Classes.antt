@@ -1,4 +1,4 @@
--- Rows of rules as the standard writes them: of classes of symbols, by the properties that the symbols stand for.
+-- Rows of rules as the standard writes them: of classes of symbols, by the properties that the symbols mean.
 use Rattle.std.specs.Prelude.{ℕ, suc, ◌+◌, ◌^◌, Bool, true, false, not, ◌&&◌, ◌||◌, if◌then◌else◌, Option, Some, None, List, [], ◌∷◌}
 use Rattle.seg_rules.specs.declared.rules.Count.{Count}
 use Rattle.seg_rules.specs.declared.rules.Count.TheVariants.{One, Optional, Star, Pairs}
@@ -73,7 +73,7 @@ pub record ClassRow (P : Type 0) : Type 0 where
 abbrev pub row : {P : Type 0} → List (Item P) → ℕ → List (Item P) → ClassRow P
 row left verdict right = record { left = left; verdict = verdict; right = right }
 
--- Rows of numbers, of the properties that each symbol stands for, from symbol 1 on.
+-- Rows of numbers, of the properties that each symbol means, from symbol 1 on.
 
 -- the number whose bits are the symbols of a class, from a symbol on
 unfoldable pub bits_from : {P : Type 0} → ℕ → List P → Class P → ℕ

@@ -1,4 +1,4 @@
--- What the rules and the certificates of the code stand for.
+-- What the rules and the certificates of the code mean.
 use Rattle.std.specs.Prelude.{ℕ, suc, ◌/◌, ◌%◌, Bool, true, false, ◌==◌, List, [], ◌∷◌, map, replicate}
 use Rattle.seg_rules.specs.declared.rules.Count.TheVariants.{Pairs}
 use Rattle.seg_rules.specs.declared.rules.Row.{Row as GivenRow}

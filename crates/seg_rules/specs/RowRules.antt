@@ -102,7 +102,7 @@ moves_on rules s x =
       glues = stuck || (rules.has_marks && not (has rules.bare x));
     }
 
--- What is owed to a place: right sides in order, as far as they are read, and the verdict where none of them comes to fit.
+-- What is owed to a place: right sides in order, as far as they are read, and the verdict where none of them fits.
 pub data Entry : Type 0 where
   Marks : Entry
   Owed : (right : Pattern) (live : List Bool) (verdict : ℕ) (below : Bool) → Entry

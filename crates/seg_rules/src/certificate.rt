@@ -32,7 +32,7 @@ pub enum Entry {
 pub struct Due<'a> {
     /// The entries, in the order of the rows.
     pub entries: &'a [Entry],
-    /// The verdict where none of them comes to fit.
+    /// The verdict where none of them fits.
     pub otherwise: u8,
     /// By each symbol, from the end, 0, on, the numbers of what is owed then, where a mark isn't glued and where it is.
     pub reads: &'a [(u8, u8)],

@@ -11,7 +11,7 @@ use crate::certificate::{Before, Entry};
 use crate::flow::{flow_within, is_full, is_live};
 use crate::rules::{Row, Rules, is_in};
 
-/// How many of the last entries of a claim are owed, and the verdict where none of them comes to fit.
+/// How many of the last entries of a claim are owed, and the verdict where none of them fits.
 #[derive(Clone, Copy, Debug)]
 pub(crate) struct Part {
     pub(crate) matched: usize,

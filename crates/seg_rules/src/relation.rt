@@ -488,7 +488,7 @@ fn each_goes(scans: &Scans<'_>, state: State, c: Configuration) -> bool
     true
 }
 
-// Whether a number stands for something that is owed.
+// Whether a number means something that is owed.
 fn is_number(certificate: &Certificate<'_>, number: u8) -> bool
     ensures { (rules : RowRules) (n : ℕ) → IsTrue result → number < length (tables_of rules n certificate.now).reads }
 {

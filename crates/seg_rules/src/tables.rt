@@ -22,7 +22,7 @@ const VERDICTS: u8 = 3;
 // Symbols are bytes, and 0 is the end.
 const MAX_SYMBOLS: usize = 255;
 
-// What a number stands for, if there is one.
+// What a number means, if there is one.
 fn claim_at<'a>(dues: &'a [Due<'a>], number: u8) -> Option<Claim<'a>>
     ensures { (rules : RowRules) → IfSome result (λ claim. DueOf (map (entry_of rules) claim.entries.now) claim.otherwise ≡ due_at rules dues.now number) }
 {
@@ -56,7 +56,7 @@ fn is_owed(rules: &Rules<'_>, dues: &[Due<'_>], from: &Before<'_>) -> bool
     }
 }
 
-// Whether a number stands for what is owed after this is read.
+// Whether a number means what is owed after this is read.
 #[tactic(auto, unfolding(crate::specs::RowRules::read))]
 fn is_read(rules: &Rules<'_>, dues: &[Due<'_>], due: &Due<'_>, read: Read, number: u8) -> bool
     ensures { IsTrue result → due_after (rules_of rules.now) read.glues read.symbol (due_by (rules_of rules.now) due.now) ≡ due_at (rules_of rules.now) dues.now number }
@@ -115,7 +115,7 @@ fn reads_hold(rules: &Rules<'_>, dues: &[Due<'_>], due: &Due<'_>) -> bool
     true
 }
 
-// Whether these numbers stand for what is owed after a symbol, where a mark isn't glued and where it is.
+// Whether these numbers mean what is owed after a symbol, where a mark isn't glued and where it is.
 fn read_holds(
     rules: &Rules<'_>,
     dues: &[Due<'_>],

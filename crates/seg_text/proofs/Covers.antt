@@ -1,4 +1,4 @@
--- The boundaries of a list that is gone through stretch by stretch, and those of a text, rise strictly from its start to its end.
+-- The boundaries of a list that is cut stretch by stretch, and those of a text, rise strictly from its start to its end.
 use Rattle.std.proofs.Common.{◌≡◌, ℕ, zero, suc, ◌+◌, ◌-◌, ◌<◌, ◌≤◌, List, [], ◌∷◌, ◌++◌, length, map, drop, refl, sym, ◌∙◌, ap, arith, zero-add}
 use Rattle.std.proofs.lemmas.List.{length-drop, length-map, drop-drop, drop_all}
 use Rattle.seg_text.specs.declared.boundary.Boundary.{Boundary}

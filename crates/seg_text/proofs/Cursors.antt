@@ -96,7 +96,7 @@ next-item {U = U} read reader start text found inside reads = on (drop start tex
     on (unit ∷ units) is reads =
         rw (items_by-cons read reader start unit units, ← reads, ← drop-drop found.0 start text, is) refl
 
--- and where it comes to
+-- and where it goes
 pub goes-on : {U : Type 0} (taken start : ℕ) (text : List U) → start + taken ≤ length text
     → GoesOn (record { place = start; units = drop start text }) (record { place = start + taken; units = drop (start + taken) text })
 goes-on taken start text inside = (taken, omega (arith, length-drop start text), refl, sym (drop-drop taken start text))

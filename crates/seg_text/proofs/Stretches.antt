@@ -1,4 +1,4 @@
--- A list that is gone through stretch by stretch: its boundaries, the only ones, in a list and in a text.
+-- A list that is cut stretch by stretch: its boundaries, the only ones, in a list and in a text.
 use Rattle.std.proofs.Common.{◌≡◌, ℕ, zero, suc, ◌<◌, ◌≤◌, List, [], ◌∷◌, ◌++◌, length, map, drop, refl, sym, ap, ◌∙◌, arith}
 use Rattle.std.proofs.lemmas.List.{length-drop, length-map, drop-map}
 use Rattle.seg_text.specs.Items.{Item, Text, rest_after, code_points}

@@ -92,7 +92,7 @@ abbrev pub AreCutsOf : ℕ → List ℕ → Type 0
 AreCutsOf count [] = Unit {0}
 AreCutsOf count (cut ∷ cuts) = (cut ≤ count) × AreCutsOf count cuts
 
--- A list that is gone through stretch by stretch.
+-- A list that is cut stretch by stretch.
 
 -- how many elements a stretch has, and the boundaries in it, counted from its first element
 pub record Stretch : Type 0 where

@@ -41,7 +41,7 @@ prefix_length passes text = prefix_len passes (code_points text.items)
 abbrev pub shifted_back : ℕ → List Item → List Item
 shifted_back from items = map (λ (item : Item). (item.0 - from, item.1)) items
 
--- some items after the first so many, as a text of its own: its places start at 0 again
+-- some items after the first so many, as a separate text: its places start at 0 again
 abbrev pub slice_of : (skipped count : ℕ) → Text → Text
 slice_of skipped count text =
     let from = start_of (rest_after skipped text) in
@@ -95,7 +95,7 @@ pub record Rest (U : Type 0) : Type 0 where
   pub place : ℕ
   pub units : List U
 
--- `later` is where a cursor at `earlier` comes to in the same text, when it goes on
+-- `later` is where a cursor at `earlier` ends up in the same text, when it goes on
 abbrev pub GoesOn : {U : Type 0} → Rest U → Rest U → Type 0
 GoesOn earlier later =
     (taken : ℕ) × (taken ≤ length earlier.units)

@@ -37,7 +37,7 @@ pub trait Cursor: Drop {
         requires { (k : ℕ) × (place ≡ start_of (rest_after k (text self.old))) }
         ensures { (k : ℕ) → place ≡ start_of (rest_after k (text self.old)) → text self.new ≡ rest_after k (text self.old) };
 
-    /// The items from one place up to another, as a text of its own: its places start at 0 again. O(1), takes no memory.
+    /// The items from one place up to another, as a separate text: its places start at 0 again. O(1), takes no memory.
     fn slice(&self, from: usize, to: usize) -> Self
         requires { (j k : ℕ) × (from ≡ start_of (rest_after j (text self.now))) × (to ≡ start_of (rest_after (j + k) (text self.now))) }
         ensures { (j k : ℕ) → from ≡ start_of (rest_after j (text self.now)) → to ≡ start_of (rest_after (j + k) (text self.now))

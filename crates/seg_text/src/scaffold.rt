@@ -43,7 +43,7 @@ pub trait RuleBreakType<'s>: Encoding {
     fn offset(iter: &Self::IterAttr) -> usize
         ensures { result ≡ start_of (Self.IterAttr.text iter.now) };
 
-    /// The items from one place up to another, as a text of its own: its places start at 0 again. O(1), takes no memory.
+    /// The items from one place up to another, as a separate text: its places start at 0 again. O(1), takes no memory.
     fn slice(iter: &Self::IterAttr, from: usize, to: usize) -> Self::IterAttr
         requires { (j k : ℕ) × (from ≡ start_of (rest_after j (Self.IterAttr.text iter.now)))
             × (to ≡ start_of (rest_after (j + k) (Self.IterAttr.text iter.now))) }

@@ -4,4 +4,4 @@ pub mod Spans
 pub mod EqualSpans
 pub mod ByRules
 pub mod Memos
-pub mod PartedWords
+pub mod SplitWords

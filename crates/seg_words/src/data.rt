@@ -20,7 +20,7 @@ pub(crate) fn word_pairs<'data>(
 ) -> Result<PairDataBorrowed<'data>, DataError>
     ensures accepted { IfOk result (λ p. (pair_table_of p ≡ table.now) × (override_of p ≡ table_in overriding.entry)
         × IsFaultless (HasWordTableFault table.now (table_in overriding.entry) clusters.now)) }
-    ensures refused { IfErr result (IsLowestFault (HasWordTableFault table.now (table_in overriding.entry) clusters.now)) }
+    ensures rejected { IfErr result (IsLowestFault (HasWordTableFault table.now (table_in overriding.entry) clusters.now)) }
 {
     let pairs = PairDataBorrowed::try_new(table, overriding)?;
     if pairs.keeps_start() {
@@ -36,7 +36,7 @@ pub(crate) fn word_pairs<'data>(
 /// What is wrong with the pair table of clusters, if anything is.
 fn check_clusters(clusters: &RuleBreakData) -> Result<(), DataError>
     ensures accepted { IfOk result (λ _. IsFaultless (HasPairDataFault clusters.now None)) }
-    ensures refused { IfErr result (IsLowestFault (HasPairDataFault clusters.now None)) }
+    ensures rejected { IfErr result (IsLowestFault (HasPairDataFault clusters.now None)) }
 {
     let _pairs = PairDataBorrowed::try_plain(clusters, None)?;
     Ok(())
@@ -48,7 +48,7 @@ pub(crate) fn check_machine(
     clusters: &RuleBreakData,
 ) -> Result<(), DataError>
     ensures accepted { IfOk result (λ _. IsFaultless (HasWordMachineFault machine.now clusters.now)) }
-    ensures refused { IfErr result (IsLowestFault (HasWordMachineFault machine.now clusters.now)) }
+    ensures rejected { IfErr result (IsLowestFault (HasWordMachineFault machine.now clusters.now)) }
 {
     check_clusters(clusters)?;
     if has_complex_below_0100(machine, None) {

@@ -9,7 +9,7 @@ ghost use Rattle.seg_data.specs.Faults.{IsFaultless, IsLowestFault};
 ghost use Rattle.seg_pair_data.specs.PairTable.{table_in};
 ghost use Rattle.seg_clusters.specs.Rules.{machine_in};
 ghost use Rattle.seg_memo.specs.Memos.{IsMemoRefusal, IsNewMemo};
-ghost use Rattle.seg_data.specs.ScriptWords.{filled, lent_words, no_words, script_words};
+ghost use Rattle.seg_data.specs.ScriptWords.{filled, borrowed_words, no_words, script_words};
 ghost use Rattle.seg_words.specs.WordRules.{WordsResetAfter, is_word_like, machine_words, table_words, type_of, with_words, word_boundaries_of};
 ghost use Rattle.seg_words.specs.Words.{word_rules};
 ghost use Rattle.seg_words.specs.declared.word.WordType.TheVariants.{None as NoWord};
@@ -43,7 +43,7 @@ pub struct WordBreakInvariantOptions {}
 /// The options of words.
 #[derive(Clone, Copy, Debug, Default, PartialEq, Eq)]
 pub struct WordBreakOptions<'a> {
-    /// The language of the text. What a language changes is handed in with the data, so that
+    /// The language of the text. What a language changes is passed in with the data, so that
     /// this isn't looked at.
     pub content_locale: Option<&'a LanguageIdentifier>,
     /// The options that no language changes.
@@ -57,7 +57,7 @@ pub enum WordType {
     None = 0,
     /// A number.
     Number = 1,
-    /// A word of letters, or of characters that stand for words.
+    /// A word of letters, or of characters that are words.
     Letter = 2,
 }
 
@@ -88,7 +88,7 @@ fn type_of(status: u8) -> WordType
 /// 16-bit units in UTF-16.
 ///
 /// First 0, then each place where a word, or what stands between words, ends; the last is the text's length. After None
-/// it is None for ever.
+/// it stays None.
 #[derive_where(Debug; Y::IterAttr: Debug)]
 pub struct WordBreakIterator<'data, 's, Y: RuleBreakType<'s>> {
     boundaries: HintedBoundaries<WordBoundaries<'data, Y::IterAttr>>,
@@ -151,7 +151,7 @@ impl<'data, 's, Y: RuleBreakType<'s>> WordBreakIterator<'data, 's, Y> {
         ensures words { IfOk result (λ _. (word_finder self.now).payloads.words ≡ no_words) }
         ensures made { IfOk result (IsNewMemo (machine_in (word_finder self.now).rules) (Y.IterAttr.text (words_source self.now))
             (word_boundaries_of (word_finder self.now) (Y.IterAttr.text (words_source self.now)))) }
-        ensures refused { IfErr result (IsMemoRefusal (machine_in (word_finder self.now).rules) ((word_finder self.now).payloads.words ≢ no_words) (Y.IterAttr.text (words_source self.now))) }
+        ensures rejected { IfErr result (IsMemoRefusal (machine_in (word_finder self.now).rules) ((word_finder self.now).payloads.words ≢ no_words) (Y.IterAttr.text (words_source self.now))) }
     {
         let text = Y::fork(&self.whole);
         self.segmenter
@@ -260,7 +260,7 @@ impl<'data, 's, Y: RuleBreakType<'s>> Iterator for WordBreakIteratorWithWordType
     }
 }
 
-/// Finds words with data of its own.
+/// Finds words with data that it owns.
 #[derive(Debug, Drop)]
 pub struct WordSegmenter {
     engine: OwnedEngine,
@@ -286,7 +286,7 @@ impl WordSegmenter {
     ) -> Result<Self, DataError>
         ensures accepted { IfOk result (λ segmenter. (owned_word_rules segmenter ≡ table_words table overriding clusters no_words)
             × IsFaultless (HasWordTableFault table overriding clusters)) }
-        ensures refused { IfErr result (IsLowestFault (HasWordTableFault table overriding clusters)) }
+        ensures rejected { IfErr result (IsLowestFault (HasWordTableFault table overriding clusters)) }
     {
         let _ = options;
         let _pairs = word_pairs(&table, overriding.as_ref(), &clusters)?;
@@ -307,7 +307,7 @@ impl WordSegmenter {
     ) -> Result<Self, DataError>
         ensures accepted { IfOk result (λ segmenter. (owned_word_rules segmenter ≡ table_words table overriding clusters (script_words dictionaries))
             × IsFaultless (HasWordTableFault table overriding clusters)) }
-        ensures refused { IfErr result (IsLowestFault (HasWordTableFault table overriding clusters)) }
+        ensures rejected { IfErr result (IsLowestFault (HasWordTableFault table overriding clusters)) }
     {
         let mut segmenter = Self::try_new_for_non_complex_scripts(
             table, overriding, clusters, options,
@@ -336,7 +336,7 @@ impl WordSegmenter {
     ) -> Result<Self, DataError>
         ensures accepted { IfOk result (λ segmenter. (owned_word_rules segmenter ≡ machine_words machine clusters no_words)
             × IsFaultless (HasWordMachineFault machine clusters)) }
-        ensures refused { IfErr result (IsLowestFault (HasWordMachineFault machine clusters)) }
+        ensures rejected { IfErr result (IsLowestFault (HasWordMachineFault machine clusters)) }
     {
         let _ = options;
         check_machine(&machine, &clusters)?;
@@ -347,7 +347,7 @@ impl WordSegmenter {
         })
     }
 
-    /// The same segmenter over lent data, which segments texts.
+    /// The same segmenter over borrowed data, which segments texts.
     pub fn as_borrowed(&self) -> WordSegmenterBorrowed<'_>
         ensures { word_rules result ≡ owned_word_rules self.now }
     {
@@ -361,7 +361,7 @@ impl WordSegmenter {
     }
 }
 
-/// Finds words with data that are lent to it.
+/// Finds words with data that it borrows.
 ///
 /// With the sample data (`bench::words`), where letters and digits are words:
 ///
@@ -379,7 +379,7 @@ pub struct WordSegmenterBorrowed<'data> {
 impl<'data> WordSegmenterBorrowed<'data> {
     ghost use Rattle.seg_words.specs.Words.{word_finder, words_left, words_source, word_type, HasWordTableFault, HasWordMachineFault};
 
-    /// What `WordSegmenter::try_new_for_non_complex_scripts` makes, over lent data. The faults are the same. Takes no memory.
+    /// What `WordSegmenter::try_new_for_non_complex_scripts` makes, over borrowed data. The faults are the same. Takes no memory.
     pub fn new_for_non_complex_scripts(
         table: &'data RuleBreakData,
         overriding: Option<&'data RuleBreakDataOverride>,
@@ -388,7 +388,7 @@ impl<'data> WordSegmenterBorrowed<'data> {
     ) -> Result<Self, DataError>
         ensures accepted { IfOk result (λ segmenter. (word_rules segmenter ≡ table_words table.now (table_in overriding.entry) clusters.now no_words)
             × IsFaultless (HasWordTableFault table.now (table_in overriding.entry) clusters.now)) }
-        ensures refused { IfErr result (IsLowestFault (HasWordTableFault table.now (table_in overriding.entry) clusters.now)) }
+        ensures rejected { IfErr result (IsLowestFault (HasWordTableFault table.now (table_in overriding.entry) clusters.now)) }
     {
         let none = DictionariesBorrowed::none();
         Self::new_dictionary(table, overriding, clusters, none, options)
@@ -402,9 +402,9 @@ impl<'data> WordSegmenterBorrowed<'data> {
         dictionaries: DictionariesBorrowed<'data>,
         options: WordBreakInvariantOptions,
     ) -> Result<Self, DataError>
-        ensures accepted { IfOk result (λ segmenter. (word_rules segmenter ≡ table_words table.now (table_in overriding.entry) clusters.now (lent_words dictionaries.entry))
+        ensures accepted { IfOk result (λ segmenter. (word_rules segmenter ≡ table_words table.now (table_in overriding.entry) clusters.now (borrowed_words dictionaries.entry))
             × IsFaultless (HasWordTableFault table.now (table_in overriding.entry) clusters.now)) }
-        ensures refused { IfErr result (IsLowestFault (HasWordTableFault table.now (table_in overriding.entry) clusters.now)) }
+        ensures rejected { IfErr result (IsLowestFault (HasWordTableFault table.now (table_in overriding.entry) clusters.now)) }
     {
         let _ = options;
         let pairs = word_pairs(table, overriding, clusters)?;
@@ -417,12 +417,12 @@ impl<'data> WordSegmenterBorrowed<'data> {
 
     /// Takes the dictionaries of scripts that have none yet. Those that are there stay. Takes no memory.
     pub fn load_dictionary(&mut self, dictionaries: DictionariesBorrowed<'data>)
-        ensures { word_rules self.new ≡ with_words (word_rules self.old) (filled (word_rules self.old).payloads.words (lent_words dictionaries.entry)) }
+        ensures { word_rules self.new ≡ with_words (word_rules self.old) (filled (word_rules self.old).payloads.words (borrowed_words dictionaries.entry)) }
     {
         self.payloads.load(dictionaries);
     }
 
-    /// What `WordSegmenter::try_new_neo_for_non_complex_scripts` makes, over lent data. The faults are the same. Takes no memory.
+    /// What `WordSegmenter::try_new_neo_for_non_complex_scripts` makes, over borrowed data. The faults are the same. Takes no memory.
     pub fn new_neo_for_non_complex_scripts(
         machine: &'data SegmenterStateMachine,
         clusters: &'data RuleBreakData,
@@ -430,7 +430,7 @@ impl<'data> WordSegmenterBorrowed<'data> {
     ) -> Result<Self, DataError>
         ensures accepted { IfOk result (λ segmenter. (word_rules segmenter ≡ machine_words machine.now clusters.now no_words)
             × IsFaultless (HasWordMachineFault machine.now clusters.now)) }
-        ensures refused { IfErr result (IsLowestFault (HasWordMachineFault machine.now clusters.now)) }
+        ensures rejected { IfErr result (IsLowestFault (HasWordMachineFault machine.now clusters.now)) }
     {
         let _ = options;
         check_machine(machine, clusters)?;
@@ -443,7 +443,7 @@ impl<'data> WordSegmenterBorrowed<'data> {
         })
     }
 
-    /// Whether a text may be parted behind the code point, so that each part has the boundaries that it has alone, with their
+    /// Whether a text may be split after the code point, so that each part has the boundaries that it has alone, with their
     /// types (`laws::parts_behind_resets`): a scan of the machine that reads the code point's symbol is over there, from
     /// whatever state, and the code point has no script that has a dictionary here, so that no run goes over it. By a pair
     /// table it is `false`. Takes no memory; asks the machine for at most as many steps as it has transitions.

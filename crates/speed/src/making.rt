@@ -12,7 +12,7 @@ use icu_segmenter::provider::{LineTailorings, RuleBreakData, SegmenterStateMachi
 use icu_segmenter::{GraphemeClusterSegmenter, LineSegmenter, SentenceSegmenter, WordSegmenter};
 use std::alloc::Global;
 
-/// The segmenter of an engine with its data, with no dictionaries. The only error that is met is want of memory.
+/// The segmenter of an engine with its data, with no dictionaries. Fails only when out of memory.
 pub fn segmenter_of(alloc: Global, engine: Engine, source: Data) -> Result<Segmenter> {
     match engine {
         Engine::GraphemeClassic => clusters_by_table(cluster_table(alloc, source)?),

@@ -33,7 +33,7 @@ pub struct Trial {
 }
 
 impl Trial {
-    /// The engine with these data. The errors that are met are want of memory, and a clock that can't be read.
+    /// The engine with these data. The errors that are met are out of memory, and a clock that can't be read.
     pub fn new<C: Clock>(clock: &C, alloc: Global, engine: Engine, source: Data) -> Result<Trial> {
         Ok(Trial {
             engine,

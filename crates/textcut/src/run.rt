@@ -232,10 +232,10 @@ fn print_words_by_table<O: Write>(alloc: Global, text: &[u8], out: &mut O) -> Re
     let table = word_table(alloc)?;
     let clusters = cluster_table(alloc)?;
     let dictionaries = dictionaries(alloc)?;
-    let lent = dictionaries.as_borrowed();
+    let borrowed = dictionaries.as_borrowed();
     let options = WordBreakInvariantOptions::default();
     let Ok(segmenter) = WordSegmenterBorrowed::new_dictionary(
-        &table, None, &clusters, lent, options,
+        &table, None, &clusters, borrowed, options,
     ) else {
         unreachable!()
     };

@@ -6,7 +6,7 @@ use crate::{items, line_classes, machines, memos, names, pieces, readers, same, 
 use anyhow::Result;
 use std::alloc::Global;
 
-/// The answer to a row. The errors are what refuses the data, a row that can't be read, and want of memory.
+/// The answer to a row. The errors are why the data are rejected, a row that can't be read, and out of memory.
 pub fn answer_of(alloc: Global, row: Row<'_>) -> Result<String> {
     match row.words("find")? {
         "items" => items::items(alloc, row),
@@ -63,7 +63,7 @@ fn answer_by_segmenters(alloc: Global, row: Row<'_>, question: &str) -> Result<S
     segmenter_answer(alloc, row, question, engine, Manner::Boundaries)
 }
 
-/// An answer, or the number and the name of what refuses the data. The only error is want of memory.
+/// An answer, or the number and the name of why the data are rejected. Fails only when out of memory.
 pub fn or_fault(alloc: Global, answer: Result<String>) -> Result<String> {
     match answer {
         Ok(answer) => Ok(answer),

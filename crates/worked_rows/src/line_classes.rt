@@ -46,7 +46,7 @@ const LINE_CLASSES: [(&str, u8); 121] = named! {
     LINE_V3_PROPERTY_XX_EXTPICT, LINE_V3_PROPERTY_ZW, LINE_V3_PROPERTY_ZWJ,
 };
 
-/// The number of the class of lines whose constant has a name. The errors are want of memory, and a name that no constant has.
+/// The number of the class of lines whose constant has a name. The errors are out of memory, and a name that no constant has.
 pub fn line_class(alloc: Global, row: Row<'_>) -> Result<String> {
     for (known, number) in LINE_CLASSES {
         if known == row.asked() {

@@ -31,10 +31,10 @@ pub fn machine_parts(alloc: Global, row: Row<'_>) -> Result<String> {
     let (states, moves) = (machine.states().len(), machine.transitions().len());
     let (lookaheads, shift) = (machine.num_lookaheads(), machine.pseudo_symbol_shift());
     let map = machine.pseudo_symbol_map().len();
-    let lent = TailoredMachineBorrowed::without_tailoring(&machine);
-    let ((acceptance, name), named) = (start(lent), lent.num_lookaheads());
+    let borrowed = TailoredMachineBorrowed::without_tailoring(&machine);
+    let ((acceptance, name), named) = (start(borrowed), borrowed.num_lookaheads());
     Ok(format!(in alloc;
-        "states {states}, moves {moves}, lookaheads {lookaheads} and lent {named}, shift {shift}, map {map}, start {acceptance:?} {name:?}"
+        "states {states}, moves {moves}, lookaheads {lookaheads} and borrowed {named}, shift {shift}, map {map}, start {acceptance:?} {name:?}"
     )?)
 }
 
@@ -50,8 +50,8 @@ pub fn step(alloc: Global, row: Row<'_>) -> Result<String> {
     let machine = machine_of(alloc, row)?;
     let code_point = row.code_point("at")?;
     let value = machine.symbols().get32(code_point);
-    let lent = TailoredMachineBorrowed::without_tailoring(&machine);
-    let (symbol, next) = first_step(lent, code_point);
+    let borrowed = TailoredMachineBorrowed::without_tailoring(&machine);
+    let (symbol, next) = first_step(borrowed, code_point);
     Ok(format!(in alloc; "value {value}, symbol {symbol}, next {next:?}")?)
 }
 
@@ -67,8 +67,8 @@ fn first_step(machine: TailoredMachineBorrowed<'_>, code_point: u32) -> (Symbol,
 pub fn boundaries(alloc: Global, row: Row<'_>) -> Result<String> {
     let machine = machine_of(alloc, row)?;
     let text = quoted(alloc, row)?;
-    let lent = TailoredMachineBorrowed::without_tailoring(&machine);
-    let mut boundaries = RuleBreakIterator::new(lent, Utf8CharIndices::new(text.as_bytes()));
+    let borrowed = TailoredMachineBorrowed::without_tailoring(&machine);
+    let mut boundaries = RuleBreakIterator::new(borrowed, Utf8CharIndices::new(text.as_bytes()));
     let mut out = String::new(alloc);
     for _ in 0..u64::MAX {
         let Some(place) = boundaries.next() else {
@@ -132,7 +132,7 @@ fn scripts(
     Ok(format!(in alloc; "map {map}, replaced {replaced}, {word}")?)
 }
 
-// The symbol of a code point by a machine with its tailoring, lent and owned.
+// The symbol of a code point by a machine with its tailoring, borrowed and owned.
 fn symbol(
     alloc: Global,
     machine: SegmenterStateMachine,

@@ -1,7 +1,7 @@
 //! Asks worked rows of files of the library: each row has a text or another question, and the answer that is wanted.
 //!
 //! The lines before a row say by which data, options and words its answer comes; the head of clusters.rows tells how they are written.
-//! Whatever finds boundaries is asked by lent data and by owned ones, and of a text in each encoding that has it. The argument is the
+//! Whatever finds boundaries is asked by borrowed data and by owned ones, and of a text in each encoding that has it. The argument is the
 //! folder of the files. Where an answer is not the one that is wanted, its file, its line and what was found are printed, and the
 //! status is 1.
 #![tactic(auto)]
@@ -11,7 +11,7 @@ mod answers;
 mod data;
 mod dictionaries;
 mod items;
-mod lent;
+mod borrowed;
 mod line_classes;
 mod machines;
 mod memos;

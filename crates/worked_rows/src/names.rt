@@ -16,7 +16,7 @@ pub fn script(alloc: Global, row: Row<'_>) -> Result<String> {
     Ok(format!(in alloc; "{script:?}")?)
 }
 
-/// What a byte of a pair table stands for, which stands for that byte.
+/// What a byte of a pair table means, which means that byte.
 pub fn break_state(alloc: Global, row: Row<'_>) -> Result<String> {
     let byte = number_of(row.asked())?;
     let state = BreakState::from_unaligned(byte);
@@ -26,7 +26,7 @@ pub fn break_state(alloc: Global, row: Row<'_>) -> Result<String> {
     Ok(format!(in alloc; "{state:?}")?)
 }
 
-/// What a byte of a machine accepts, and the byte that stands for that.
+/// What a byte of a machine accepts, and the byte that means that.
 pub fn acceptance(alloc: Global, row: Row<'_>) -> Result<String> {
     let acceptance = Acceptance::from_unaligned(number_of(row.asked())?);
     let byte = acceptance.to_unaligned();

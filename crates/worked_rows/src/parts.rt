@@ -73,7 +73,7 @@ pub struct Parts {
 }
 
 impl Parts {
-    /// Those of a row. The error is what one of them is refused for.
+    /// Those of a row. The error is why one of them is rejected.
     pub fn of(alloc: Global, row: Row<'_>, kind: Kind) -> Result<Self> {
         let mut parts = Parts::none();
         parts.read(alloc, row, kind)?;
@@ -170,8 +170,8 @@ impl Parts {
     }
 }
 
-/// A part that is lent.
-pub fn lent<T: Drop>(part: &Option<T>) -> Result<&T> {
+/// A part that is borrowed.
+pub fn borrowed<T: Drop>(part: &Option<T>) -> Result<&T> {
     Ok(part.as_ref().context("a part of a segmenter")?)
 }
 

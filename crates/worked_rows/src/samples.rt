@@ -37,7 +37,7 @@ impl Sample {
         }
     }
 
-    /// The same, lent.
+    /// The same, borrowed.
     pub fn text(&self) -> Text<'_> {
         match self {
             Sample::Str(text) => Text::Str(text.as_str()),
@@ -88,7 +88,7 @@ pub fn unescaped(alloc: Global, text: &str) -> Result<String> {
     Ok(out)
 }
 
-// Adds what an escape stands for, and returns what comes after it.
+// Adds what an escape means, and returns what comes after it.
 fn push_escape<'a>(out: &mut String, escape: &'a str) -> Result<&'a str> {
     if let Some(rest) = escape.strip_prefix('n') {
         out.push('\n')?;

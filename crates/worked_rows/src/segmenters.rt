@@ -1,11 +1,11 @@
-//! What segmenters find, by data that are lent and by data of their own.
+//! What segmenters find, by data that are borrowed and by data of their own.
 
 use crate::agreement::{
     SHORT_TEXTS, agrees_in_all, boundaries_in_all, has_same_clusters, short_text,
 };
 use crate::answers::or_fault;
 use crate::data::{machine_of, table_of};
-use crate::lent::lend;
+use crate::borrowed::lend;
 use crate::memos::memo_answer;
 use crate::options::Options;
 use crate::owned::own;
@@ -28,7 +28,7 @@ pub enum Manner {
     Shown,
 }
 
-/// The answer by lent data, which is to be that by owned ones.
+/// The answer by borrowed data, which is to be that by owned ones.
 pub fn segmenter_answer(
     alloc: Global,
     row: Row<'_>,
@@ -48,15 +48,15 @@ fn answer_by(
     manner: Manner,
     parts: &mut Parts,
 ) -> Result<String> {
-    let lent = or_fault(alloc, lent_answer(alloc, row, kind, manner, parts))?;
+    let borrowed = or_fault(alloc, borrowed_answer(alloc, row, kind, manner, parts))?;
     let owned = or_fault(alloc, owned_answer(alloc, row, kind, manner, parts))?;
-    if lent != owned {
+    if borrowed != owned {
         bail!("another answer by owned data");
     }
-    Ok(lent)
+    Ok(borrowed)
 }
 
-fn lent_answer(
+fn borrowed_answer(
     alloc: Global,
     row: Row<'_>,
     kind: Kind,

@@ -65,7 +65,7 @@ marks_behind finder decode units from =
 abbrev pub places_in : Finder → (List ℕ → Text) → List ℕ → List ℕ
 places_in finder decode units = offsets (boundaries_in (find_by finder) (decode units))
 
--- a line feed resets what boundaries are found by, whatever words of scripts it has: so texts may be parted behind line feeds
+-- a line feed resets what boundaries are found by, whatever words of scripts it has: so texts may be split after line feeds
 abbrev pub LineFeedsReset : Finder → Type 0
 LineFeedsReset (Clusters rules) = ResetsAfter rules 0x0A
 LineFeedsReset (Words rules) = (words : ScriptWords) → WordsResetWith rules.rules words 0x0A

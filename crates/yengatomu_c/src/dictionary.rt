@@ -40,7 +40,7 @@ pub fn load(
     script: u32,
 ) -> Result<(), Refusal>
     ensures loaded { IfOk result (λ _. (which : ComplexScript) × (numbered_script script ≡ Some which) × HasTaken words.now which (finder_of segmenter.old) (finder_of segmenter.new)) }
-    ensures refused { IfErr result (λ why. (finder_of segmenter.new ≡ finder_of segmenter.old) × IsWhy words.now (numbered_script script) (finder_of segmenter.old) why) }
+    ensures rejected { IfErr result (λ why. (finder_of segmenter.new ≡ finder_of segmenter.old) × IsWhy words.now (numbered_script script) (finder_of segmenter.old) why) }
 {
     let Some(script) = script_of(script) else {
         return Err(Refusal::NoSuch);
@@ -61,7 +61,7 @@ fn script_of(number: u32) -> Option<ComplexScript>
 
 fn dictionary_of(alloc: Global, words: &[&[u8]]) -> Result<DictionaryBreakData, Refusal>
     ensures words { IfOk result (λ dictionary. IsSameSet (words_of dictionary) (code_points_of_each words.now) × AreUtf8 words.now) }
-    ensures refused { IfErr result (λ why. (why ≡ Refusal.Memory) ⊎ ((why ≡ Refusal.NotUtf8) × (AreUtf8 words.now → ⊥))) }
+    ensures rejected { IfErr result (λ why. (why ≡ Refusal.Memory) ⊎ ((why ≡ Refusal.NotUtf8) × (AreUtf8 words.now → ⊥))) }
 {
     let texts = texts_of(alloc, words)?;
     match DictionaryBreakData::try_from_words(alloc, texts.as_slice()) {
@@ -72,7 +72,7 @@ fn dictionary_of(alloc: Global, words: &[&[u8]]) -> Result<DictionaryBreakData, 
 
 fn texts_of<'w>(alloc: Global, words: &[&'w [u8]]) -> Result<Vec<&'w str>, Refusal>
     ensures texts { IfOk result (λ texts. (code_points_of_each texts.items ≡ code_points_of_each words.now) × AreUtf8 words.now) }
-    ensures refused { IfErr result (λ why. (why ≡ Refusal.Memory) ⊎ ((why ≡ Refusal.NotUtf8) × (AreUtf8 words.now → ⊥))) }
+    ensures rejected { IfErr result (λ why. (why ≡ Refusal.Memory) ⊎ ((why ≡ Refusal.NotUtf8) × (AreUtf8 words.now → ⊥))) }
 {
     let mut texts = Vec::new(alloc);
     for index in 0..words.len() {

@@ -53,7 +53,7 @@ fn goes_on_utf16(segmenter: &Segmenter, text: &[u16], from: usize)
     cover_utf16(segmenter, front_of(text, from));
 }
 
-// Law: where line feeds reset, texts may be parted behind them.
+// Law: where line feeds reset, texts may be split after them.
 fn parts(segmenter: &Segmenter)
     ensures { LineFeedsReset (finder_of segmenter.now) → PartsTexts (find_by (finder_of segmenter.now)) 0x0A }
 {

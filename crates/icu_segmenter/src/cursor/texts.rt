@@ -17,7 +17,7 @@ pub trait CursorText: Units {
         ensures { result ≡ (slice_index (Self.units self) index == 0x0A) };
 
     /// What stands before a place, and what stands from there on. O(1), takes no memory.
-    fn parted_at(self, place: usize) -> (Self, Self)
+    fn parts_at(self, place: usize) -> (Self, Self)
         requires { place ≤ length (Self.units self) }
         ensures front { Self.units result.0 ≡ take place (Self.units self) }
         ensures back { Self.units result.1 ≡ drop place (Self.units self) };
@@ -30,7 +30,7 @@ impl<'s> CursorText for &'s [u8] {
         self[index] == 0x0A
     }
 
-    fn parted_at(self, place: usize) -> (&'s [u8], &'s [u8]) {
+    fn parts_at(self, place: usize) -> (&'s [u8], &'s [u8]) {
         self.split_at(place)
     }
 }
@@ -42,7 +42,7 @@ impl<'s> CursorText for &'s [u16] {
         self[index] == 0x0A
     }
 
-    fn parted_at(self, place: usize) -> (&'s [u16], &'s [u16]) {
+    fn parts_at(self, place: usize) -> (&'s [u16], &'s [u16]) {
         self.split_at(place)
     }
 }

@@ -11,11 +11,11 @@ use seg_data::provider::DataError;
 use seg_machine::provider::SegmenterStateMachine;
 use std::alloc::Global;
 
-/// The machine of the sentences of UAX #29, as they are in Unicode 18.0. The only error is want of memory.
+/// The machine of the sentences of UAX #29, as they are in Unicode 18.0. Fails only when out of memory.
 #[tactic(auto, unfolding(crate::specs::Sentences::sentence_machine))]
 pub fn sentence_machine(alloc: Global) -> Result<SegmenterStateMachine, DataError>
     ensures made { IfOk result (λ m. m ≡ sentence_machine) }
-    ensures refused { IfErr result (λ fault. fault ≡ Memory) }
+    ensures rejected { IfErr result (λ fault. fault ≡ Memory) }
 {
     machine_of(alloc, &RANGES, &STATES, &TRANSITIONS)
 }

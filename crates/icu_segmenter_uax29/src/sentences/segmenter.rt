@@ -30,7 +30,7 @@ impl SentenceSegmenter {
     ghost use Rattle.icu_segmenter_uax29.specs.Pieces.{parts_at, piece_bounds};
     ghost use Rattle.icu_segmenter_uax29.specs.Sentences.{sentence_places};
 
-    /// The segmenter, with data of its own. The only error is want of memory.
+    /// The segmenter, with data of its own. Fails only when out of memory.
     pub fn try_new(alloc: Global) -> Result<Self, DataError>
         ensures { IfErr result (λ fault. fault ≡ Memory) }
     {
@@ -43,7 +43,7 @@ impl SentenceSegmenter {
         Ok(SentenceSegmenter { segmenter })
     }
 
-    /// The same segmenter over lent data, as other calls take one.
+    /// The same segmenter over borrowed data, as other calls take one.
     pub fn as_borrowed(&self) -> SentenceSegmenterBorrowed<'_>
         ensures { sentence_rules result ≡ ByMachine sentence_machine }
     {

@@ -29,7 +29,7 @@ impl WordSegmenter {
     ghost use Rattle.icu_segmenter_uax29.specs.Pieces.{parts_at, piece_bounds};
     ghost use Rattle.icu_segmenter_uax29.specs.Words.{word_places};
 
-    /// The segmenter, with data of its own. The only error is want of memory.
+    /// The segmenter, with data of its own. Fails only when out of memory.
     pub fn try_new(alloc: Global) -> Result<Self, DataError>
         ensures { IfErr result (λ fault. fault ≡ Memory) }
     {
@@ -37,7 +37,7 @@ impl WordSegmenter {
         Ok(WordSegmenter { engine })
     }
 
-    /// The engine that finds the boundaries, over lent data.
+    /// The engine that finds the boundaries, over borrowed data.
     pub fn as_borrowed(&self) -> Engine<'_>
         ensures { rules_of result ≡ ByMachine word_machine }
     {

@@ -27,16 +27,16 @@ pub(crate) const ACCEPT_2: Entry = (Acceptance::Accept(2), None);
 /// The machine of the words of UAX #29, as they are in Unicode 18.0, with their types: a boundary has status 1 where the last
 /// code point before it is a digit, 2 where it is a letter, and 0 otherwise, marks and what joins words, as the low line, aside.
 /// Thai, Lao, Khmer and Myanmar of complex context, Han, Hiragana and Katakana have their scripts, so that dictionaries can
-/// cut them. The only error is want of memory.
+/// cut them. Fails only when out of memory.
 #[tactic(auto, unfolding(crate::specs::TypedWords::typed_word_machine))]
 pub fn typed_word_machine(alloc: Global) -> Result<SegmenterStateMachine, DataError>
     ensures made { IfOk result (λ m. m ≡ typed_word_machine) }
-    ensures refused { IfErr result (λ fault. fault ≡ Memory) }
+    ensures rejected { IfErr result (λ fault. fault ≡ Memory) }
 {
     machine_with_scripts(alloc, &RANGES, &STATES, &TRANSITIONS, SHIFT, &MAP)
 }
 
-// The machine of these parts. The errors are want of memory, and what is wrong with the parts.
+// The machine of these parts. The errors are out of memory, and what is wrong with the parts.
 fn machine_with_scripts(
     alloc: Global,
     ranges: &[(u32, u32, Symbol)],
@@ -46,7 +46,7 @@ fn machine_with_scripts(
     map: &[(Symbol, ComplexScript)],
 ) -> Result<SegmenterStateMachine, DataError>
     ensures made { IfOk result (λ m. m ≡ machine (table ranges.now 1) states.now transitions.now 0 shift map.now) }
-    ensures refused { IfErr result (λ fault. (fault ≡ Memory) ⊎ HasRangeFault ranges.now fault
+    ensures rejected { IfErr result (λ fault. (fault ≡ Memory) ⊎ HasRangeFault ranges.now fault
         ⊎ HasMachineFault (machine (table ranges.now 1) states.now transitions.now 0 shift map.now) fault) }
 {
     let symbols = ClassTable::try_from_ranges(Vec::from_slice(alloc, ranges)?, OTHER)?;

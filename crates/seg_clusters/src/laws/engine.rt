@@ -40,7 +40,7 @@ pub fn cover(engine: Engine<'_>)
     }
 }
 
-/// Law: a text may be parted behind each code point that `resets_after` names: where the first of two texts ends with it, the
+/// Law: a text may be split after each code point that `resets_after` names: where the first of two texts ends with it, the
 /// boundaries of both, joined, are those of the first, and then those of the second but for its start, so much later, with the
 /// same statuses. So it is counted in code points, and as places in possibly ill-formed UTF-8, a `str` too, in Latin-1 and in
 /// possibly ill-formed UTF-16.

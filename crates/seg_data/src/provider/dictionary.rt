@@ -50,7 +50,7 @@ impl DictionaryBreakData {
     /// `Memory` where memory is missing, and for nothing else: the words are only read.
     pub fn try_from_words(alloc: Global, words: &[&str]) -> Result<Self, DataError>
         ensures words { IfOk result (λ dictionary. IsSameSet (words_of dictionary) (code_points_of_each words.now)) }
-        ensures refused { IfErr result (λ fault. fault ≡ DataError.Memory) }
+        ensures rejected { IfErr result (λ fault. fault ≡ DataError.Memory) }
     {
         let sorted = sorted(alloc, words)?;
         let draft = Draft::whole(alloc, sorted.as_slice())?;

@@ -54,7 +54,7 @@ impl ClassTable {
     /// that two reads.
     pub fn try_from_ranges(ranges: Vec<(u32, u32, u8)>, default: u8) -> Result<Self, DataError>
         ensures accepted { IfOk result (λ t. (t ≡ table ranges.items default) × IsFaultless (HasRangeFault ranges.items)) }
-        ensures refused { IfErr result (IsLowestFault (HasRangeFault ranges.items)) }
+        ensures rejected { IfErr result (IsLowestFault (HasRangeFault ranges.items)) }
     {
         check_ranges(ranges.as_slice())?;
         let ascii = ascii_values(ranges.as_slice(), default);
@@ -73,7 +73,7 @@ impl ClassTable {
     /// value share theirs (1.1 MB if none does).
     pub fn indexed(self, alloc: Global) -> Result<Self, DataError>
         ensures same { IfOk result (λ t. t ≡ self) }
-        ensures refused { IfErr result (λ fault. fault ≡ Memory) }
+        ensures rejected { IfErr result (λ fault. fault ≡ Memory) }
     {
         let pages = Pages::try_new(alloc, self.ranges.as_slice(), self.default)?;
         Ok(ClassTable {
@@ -167,7 +167,7 @@ fn ascii_values(ranges: &[(u32, u32, u8)], default: u8) -> [u8; ASCII_LEN]
 // Whether the ranges are in order, and end by U+10FFFF.
 fn check_ranges(ranges: &[(u32, u32, u8)]) -> Result<(), DataError>
     ensures accepted { OnOk result (IsFaultless (HasRangeFault ranges.now)) }
-    ensures refused { IfErr result (IsLowestFault (HasRangeFault ranges.now)) }
+    ensures rejected { IfErr result (IsLowestFault (HasRangeFault ranges.now)) }
 {
     if has_backward(ranges) || has_overlap(ranges) {
         return Err(DataError::RangeOrder);

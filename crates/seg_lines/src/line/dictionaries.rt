@@ -1,6 +1,6 @@
 //! The dictionaries that lines take.
 ghost use Rattle.std.specs.Prelude.{◌≡◌};
-ghost use Rattle.seg_data.specs.ScriptWords.{lent_words, script_words};
+ghost use Rattle.seg_data.specs.ScriptWords.{borrowed_words, script_words};
 ghost use Rattle.seg_lines.specs.Lines.{without_ja};
 
 use seg_data::dictionaries::{Dictionaries, DictionariesBorrowed};
@@ -15,9 +15,9 @@ pub(super) fn without_ja(dictionaries: Dictionaries) -> Dictionaries
     }
 }
 
-// The same, lent.
-pub(super) fn lent_without_ja(dictionaries: DictionariesBorrowed<'_>) -> DictionariesBorrowed<'_>
-    ensures { lent_words result ≡ without_ja (lent_words dictionaries.entry) }
+// The same, borrowed.
+pub(super) fn borrowed_without_ja(dictionaries: DictionariesBorrowed<'_>) -> DictionariesBorrowed<'_>
+    ensures { borrowed_words result ≡ without_ja (borrowed_words dictionaries.entry) }
 {
     DictionariesBorrowed {
         ja: None,

@@ -10,7 +10,7 @@ use crate::provider::stalls::is_stall_free;
 use crate::provider::{Acceptance, Lookahead, SegmenterStateMachine, State, Symbol};
 use seg_data::provider::{ClassTable, ComplexScript, DataError};
 
-// A transition is a byte, and 255 stands for none.
+// A transition is a byte, and 255 means none.
 const MAX_STATES: usize = 255;
 
 const MAX_LOOKAHEADS: usize = 8;
@@ -25,7 +25,7 @@ pub(super) fn check_parts(
     map: &[(Symbol, ComplexScript)],
 ) -> Result<(), DataError>
     ensures accepted { OnOk result (IsFaultless (HasMachineFault (machine symbols.now states.now transitions.now num_lookaheads shift map.now))) }
-    ensures refused { IfErr result (IsLowestFault (HasMachineFault (machine symbols.now states.now transitions.now num_lookaheads shift map.now))) }
+    ensures rejected { IfErr result (IsLowestFault (HasMachineFault (machine symbols.now states.now transitions.now num_lookaheads shift map.now))) }
 {
     if states.is_empty() || states.len() > MAX_STATES {
         return Err(DataError::StateCount);

@@ -20,7 +20,7 @@ use std::marker::Model;
 ///
 /// A code point's value in `symbols` is its symbol where it is below `pseudo_symbol_shift`, and
 /// otherwise, less the shift, a place in `pseudo_symbol_map`, which has the symbol and the script.
-/// The transition of state q on symbol s is at `q + s * states.len()`; 255 stands for none.
+/// The transition of state q on symbol s is at `q + s * states.len()`; 255 means none.
 #[derive(Drop)]
 pub struct SegmenterStateMachine {
     symbols: ClassTable,
@@ -69,7 +69,7 @@ impl SegmenterStateMachine {
     ) -> Result<Self, DataError>
         ensures accepted { let parts = machine symbols states.items transitions.items num_lookaheads pseudo_symbol_shift pseudo_symbol_map.items in
             IfOk result (λ m. (m ≡ parts) × IsFaultless (HasMachineFault parts)) }
-        ensures refused { IfErr result (IsLowestFault (HasMachineFault (machine symbols states.items transitions.items num_lookaheads pseudo_symbol_shift pseudo_symbol_map.items))) }
+        ensures rejected { IfErr result (IsLowestFault (HasMachineFault (machine symbols states.items transitions.items num_lookaheads pseudo_symbol_shift pseudo_symbol_map.items))) }
         ensures stall_free { IfOk result IsStallFree }
         ensures checked { IfOk result IsChecked }
     {
@@ -189,7 +189,7 @@ impl SegmenterStateMachine {
 }
 
 impl Debug for SegmenterStateMachine {
-    // The parts handed in: the marks only say of states the same again.
+    // The parts passed in: the marks only say of states the same again.
     fn fmt<W: fmt::Write>(&self, f: &mut Formatter<W>) -> fmt::Result {
         f.debug_struct("SegmenterStateMachine")
             .field("symbols", &self.symbols)

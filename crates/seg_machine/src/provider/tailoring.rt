@@ -46,7 +46,7 @@ impl SegmenterStateMachineOverride {
     ) -> Result<Self, DataError>
         ensures accepted { let parts = tailoring pseudo_symbol_map.items symbol_map.items in
             IfOk result (λ t. (t ≡ parts) × IsFaultless (HasOverrideFault parts)) }
-        ensures refused { IfErr result (IsLowestFault (HasOverrideFault (tailoring pseudo_symbol_map.items symbol_map.items))) }
+        ensures rejected { IfErr result (IsLowestFault (HasOverrideFault (tailoring pseudo_symbol_map.items symbol_map.items))) }
     {
         if gives_end(pseudo_symbol_map.as_slice()) {
             return Err(DataError::SymbolOutOfRange);
@@ -138,7 +138,7 @@ fn names_end(from: Symbol, to: Symbol) -> bool
 }
 
 impl Debug for SegmenterStateMachineOverride {
-    // The parts handed in: the table of replacements only says the same again.
+    // The parts passed in: the table of replacements only says the same again.
     fn fmt<W: fmt::Write>(&self, f: &mut Formatter<W>) -> fmt::Result {
         f.debug_struct("SegmenterStateMachineOverride")
             .field("pseudo_symbol_map", &self.pseudo_symbol_map)

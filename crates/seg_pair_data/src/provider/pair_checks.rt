@@ -18,7 +18,7 @@ pub(super) fn check_pairs(
     eot: u8,
 ) -> Result<(), DataError>
     ensures accepted { OnOk result (IsFaultless (HasPartsFault classes.now entries.now count sot eot)) }
-    ensures refused { IfErr result (IsLowestFault (HasPartsFault classes.now entries.now count sot eot)) }
+    ensures rejected { IfErr result (IsLowestFault (HasPartsFault classes.now entries.now count sot eot)) }
 {
     if count == 0 || entries.len() != count as usize * count as usize {
         return Err(DataError::TableSize);

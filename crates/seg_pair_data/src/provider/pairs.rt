@@ -13,14 +13,14 @@ use std::marker::Model;
 /// What a pair table says of a class, or of a state of a walk, and the class after it.
 ///
 /// A walk is in a state, which is a class or a composite of some classes, and an entry that names a
-/// state leads on. Where it comes to nothing, the boundary is at the place that was saved last.
+/// state leads on. Where it fails, the boundary is at the place that was saved last.
 #[derive(Clone, Copy, Debug, PartialEq)]
 pub enum BreakState {
     /// A boundary stands between the two.
     Break,
     /// No boundary stands between the two.
     Keep,
-    /// The walk comes to nothing; between two classes, a boundary.
+    /// The walk fails; between two classes, a boundary.
     NoMatch,
     /// The walk goes on in this state, and the place between the two is saved.
     Intermediate(u8),
@@ -30,7 +30,7 @@ pub enum BreakState {
 }
 
 impl BreakState {
-    /// What a byte stands for: 253 is `Break`, 254 `NoMatch`, 255 `Keep`, a byte from 120 on an
+    /// What a byte means: 253 is `Break`, 254 `NoMatch`, 255 `Keep`, a byte from 120 on an
     /// `Intermediate` of the byte less 120, and a byte below 120 an `Index`.
     pub fn from_unaligned(byte: u8) -> Self
         ensures value { result ≡ break_state_of byte }
@@ -46,7 +46,7 @@ impl BreakState {
         }
     }
 
-    /// The byte that stands for this: the state of an `Index` is below 120, and that of an
+    /// The byte that means this: the state of an `Index` is below 120, and that of an
     /// `Intermediate` below 133.
     pub fn to_unaligned(self) -> u8
         requires { HasBreakByte self }
@@ -130,7 +130,7 @@ impl RuleBreakData {
     ) -> Result<Self, DataError>
         ensures accepted { let parts = pair_table property_table break_state_table.items rule_status_table.items property_count last_codepoint_property sot_property eot_property complex_property in
             IfOk result (λ t. (t ≡ parts) × IsFaultless (HasPairFault parts)) }
-        ensures refused { IfErr result (IsLowestFault (HasPairFault (pair_table property_table break_state_table.items rule_status_table.items property_count last_codepoint_property sot_property eot_property complex_property))) }
+        ensures rejected { IfErr result (IsLowestFault (HasPairFault (pair_table property_table break_state_table.items rule_status_table.items property_count last_codepoint_property sot_property eot_property complex_property))) }
     {
         check_pairs(
             &property_table,
@@ -265,7 +265,7 @@ impl Model for RuleBreakDataOverride {
 }
 
 impl RuleBreakDataOverride {
-    /// The override by this table. It refuses nothing: a segmenter checks it with its own table.
+    /// The override by this table. It rejects nothing: a segmenter checks it with its own table.
     pub fn try_from_parts(property_table_override: ClassTable) -> Result<Self, DataError>
         ensures { IsOkAnd result (λ o. o ≡ property_table_override) }
     {

@@ -8,7 +8,7 @@ ghost use Rattle.seg_text.specs.Lemmas.Encoded.{utf8-encoding};
 use crate::indices::units::{Indices, ReadsUnits};
 use crate::scaffold::PotentiallyIllFormedUtf8;
 
-/// What stands for an ill-formed part.
+/// What means an ill-formed part.
 const REPLACEMENT: char = '\u{FFFD}';
 
 /// The characters of possibly ill-formed UTF-8, with the place of each in bytes.

@@ -3,7 +3,7 @@ use Rattle.seg_data.specs.Faults.{IsFaultless}
 use Rattle.seg_pair_data.specs.PairTable.{PairTable, pair_table}
 use Rattle.seg_words.specs.Words.{HasWordTableFault}
 use Rattle.bench.specs.PairTables.{cluster_table, word_table}
-use Rattle.bench.proofs.PairFaults.{words-never-refused}
+use Rattle.bench.proofs.PairFaults.{words-never-rejected}
 use Rattle.bench.proofs.WordFaults.{words-sound}
 use Rattle.bench.proofs.pair_tables.word_table.Goals as goal
 
@@ -11,7 +11,7 @@ pub unreachable-requires-in_default-try_from_parts : goal.unreachable-requires-i
 unreachable-requires-in_default-try_from_parts c =
     let parts : pair_table c.in-Ok.classes c.in_ok-entries.entries.items c.in_ok-statuses.statuses.items 6 3 4 5 3 ≡ word_table =
     rw (c.in-Ok.ensures.accepted.0, c.in_ok-from_slice.ensures.items, c.in_ok-entries.ensures.items, c.in_ok-statuses.ensures.items) refl in
-    words-never-refused _ parts _ c.in_default-try_from_parts.ensures.refused
+    words-never-rejected _ parts _ c.in_default-try_from_parts.ensures.rejected
 
 pub returns-clause-sound : goal.returns-clause-sound
 returns-clause-sound c =

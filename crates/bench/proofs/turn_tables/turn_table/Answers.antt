@@ -4,14 +4,14 @@ use Rattle.seg_data.specs.Faults.{IsFaultless}
 use Rattle.seg_pair_data.specs.PairTable.{PairTable, pair_table}
 use Rattle.bench.specs.TurnTables.{turn_table}
 use Rattle.bench.specs.PairTables.{cluster_table}
-use Rattle.bench.proofs.TurnFaults.{turns-never-refused, turns-sound}
+use Rattle.bench.proofs.TurnFaults.{turns-never-rejected, turns-sound}
 use Rattle.bench.proofs.turn_tables.turn_table.Goals as goal
 
 pub unreachable-requires-in_default-try_from_parts : goal.unreachable-requires-in_default-try_from_parts
 unreachable-requires-in_default-try_from_parts c =
     let parts : pair_table c.in-Ok.classes c.in_ok-entries.entries.items c.new-statuses.result.items 71 68 69 70 58 ≡ turn_table =
     rw (c.in-Ok.ensures.accepted.0, c.in_ok-from_slice.ensures.items, c.in_ok-entries.ensures, c.new-statuses.ensures.items) refl in
-    turns-never-refused _ parts _ c.in_default-try_from_parts.ensures.refused
+    turns-never-rejected _ parts _ c.in_default-try_from_parts.ensures.rejected
 
 pub returns-clause-sound : goal.returns-clause-sound
 returns-clause-sound c =

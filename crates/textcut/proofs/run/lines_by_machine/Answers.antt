@@ -14,7 +14,7 @@ use Rattle.textcut.proofs.run.lines_by_machine.Goals as goal
 
 pub unreachable-requires : goal.unreachable-requires
 unreachable-requires c =
-    no-fault _ _ c.default-options.result c.default-options.ensures _ c.in_ok-machine.ensures c.in_default.ensures.refused.is_there
+    no-fault _ _ c.default-options.result c.default-options.ensures _ c.in_ok-machine.ensures c.in_default.ensures.rejected.is_there
 
 pub returns : goal.returns
 returns c =

@@ -21,7 +21,7 @@ returns-clause-printed g c =
     let words = without_ja (script_words c.in_ok-dictionaries.dictionaries) in
     let rules : line_rules c.in-Ok.lines ≡ table_lines (default_rules line_table) cluster_table words =
     c.in-Ok.ensures.accepted.0
-    ∙ ap (λ (lent : ScriptWords). table_lines (record { table = c.in_ok-table.table; style = style_of c.default-options.result }) c.in_ok-clusters.clusters (without_ja lent)) c.as_borrowed-words.ensures
+    ∙ ap (λ (borrowed : ScriptWords). table_lines (record { table = c.in_ok-table.table; style = style_of c.default-options.result }) c.in_ok-clusters.clusters (without_ja borrowed)) c.as_borrowed-words.ensures
     ∙ table-default c.default-options.result c.default-options.ensures c.in_ok-table.table c.in_ok-clusters.clusters words
     ∙ ap (λ (t : PairTable). table_lines (default_rules t) c.in_ok-clusters.clusters words) c.in_ok-table.ensures.value
     ∙ ap (λ (clusters : PairTable). table_lines (default_rules line_table) clusters words) c.in_ok-clusters.ensures.value in

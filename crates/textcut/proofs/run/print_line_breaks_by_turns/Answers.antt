@@ -26,7 +26,7 @@ returns-clause-printed g c =
     ∙ ap (λ (clusters : PairTable). turn_lines (default_rules turn_table) clusters no_words) c.in_ok-clusters.ensures.value in
     let rules : line_rules c.load_dictionary.new.self ≡ turn_lines (default_rules turn_table) cluster_table words =
     c.load_dictionary.ensures
-    ∙ ap (λ (lent : ScriptWords). lines_with_words (line_rules c.in-Ok.lines) (filled (line_rules c.in-Ok.lines).payloads.words (without_ja lent))) c.as_borrowed.ensures
+    ∙ ap (λ (borrowed : ScriptWords). lines_with_words (line_rules c.in-Ok.lines) (filled (line_rules c.in-Ok.lines).payloads.words (without_ja borrowed))) c.as_borrowed.ensures
     ∙ ap (λ (made : LineRules). lines_with_words made (filled made.payloads.words words)) made in
     let text = utf8 c.args.text.now in
     let places =

@@ -24,7 +24,7 @@ returns-clause-printed g c =
     ∙ ap (λ (clusters : PairTable). machine_words word_machine clusters no_words) c.in_ok-clusters.ensures.value in
     let rules : word_rules c.load_dictionary.new.self ≡ machine_words word_machine cluster_table words =
     c.load_dictionary.ensures
-    ∙ ap (λ (lent : ScriptWords). with_words (word_rules c.in-Ok.segmenter) (filled (word_rules c.in-Ok.segmenter).payloads.words lent)) c.as_borrowed.ensures
+    ∙ ap (λ (borrowed : ScriptWords). with_words (word_rules c.in-Ok.segmenter) (filled (word_rules c.in-Ok.segmenter).payloads.words borrowed)) c.as_borrowed.ensures
     ∙ ap (λ (made : WordRules). with_words made (filled made.payloads.words words)) made in
     let text = utf8 c.args.text.now in
     let places =

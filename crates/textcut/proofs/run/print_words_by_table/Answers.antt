@@ -19,7 +19,7 @@ returns-clause-printed g c =
     let words = script_words c.in_ok-dictionaries.dictionaries in
     let rules : word_rules c.in-Ok.segmenter ≡ table_words word_table None cluster_table words =
     c.in-Ok.ensures.accepted.0
-    ∙ ap (λ (words : ScriptWords). table_words c.in_ok-table.table None c.in_ok-clusters.clusters words) c.as_borrowed-lent.ensures
+    ∙ ap (λ (words : ScriptWords). table_words c.in_ok-table.table None c.in_ok-clusters.clusters words) c.as_borrowed-borrowed.ensures
     ∙ ap (λ (t : PairTable). table_words t None c.in_ok-clusters.clusters words) c.in_ok-table.ensures.value
     ∙ ap (λ (clusters : PairTable). table_words word_table None clusters words) c.in_ok-clusters.ensures.value in
     let text = utf8 c.args.text.now in

@@ -3,8 +3,8 @@ use Rattle.std.proofs.lemmas.List.{take_all}
 use Rattle.yengatomu_c.proofs.ReadWords.{one-text, one-utf8}
 use Rattle.yengatomu_c.proofs.dictionary.texts_of.Goals as goal
 
-pub returns-in_default-clause-refused : goal.returns-in_default-clause-refused
-returns-in_default-clause-refused c = inr (refl, λ utf8. c.in_default.ensures.cases.0 (utf8 c.loop-index.index _ c.loop-index-test.true))
+pub returns-in_default-clause-rejected : goal.returns-in_default-clause-rejected
+returns-in_default-clause-rejected c = inr (refl, λ utf8. c.in_default.ensures.cases.0 (utf8 c.loop-index.index _ c.loop-index-test.true))
 
 pub loop-index-preserved : goal.loop-index-preserved
 loop-index-preserved c = record {

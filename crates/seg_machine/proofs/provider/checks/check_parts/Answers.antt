@@ -7,8 +7,8 @@ use Rattle.seg_machine.proofs.Machines.{below-12, below-13, below-14, below-15, 
 use Rattle.seg_machine.proofs.Bare.{cycle-full, stall-full}
 use Rattle.seg_machine.proofs.provider.checks.check_parts.Goals as goal
 
-pub returns-then-has_stray_symbol-clause-refused : goal.returns-then-has_stray_symbol-clause-refused
-returns-then-has_stray_symbol-clause-refused c =
+pub returns-then-has_stray_symbol-clause-rejected : goal.returns-then-has_stray_symbol-clause-rejected
+returns-then-has_stray_symbol-clause-rejected c =
     let m = machine c.args.symbols.now c.args.states.now c.args.transitions.now c.args.num_lookaheads c.args.shift c.args.map.now in
     let b12 = below-12 m (some-from _ _ c.is_empty.ensures c.if-is_empty.false) c.if-states-gt-MAX_STATES.false in
     let b13 = below-13 m b12 (iff_false c.has_wrong_size.ensures c.if-has_wrong_size.false) in
@@ -16,8 +16,8 @@ returns-then-has_stray_symbol-clause-refused c =
     lowest-from (HasMachineFault m) SymbolOutOfRange b14
     (stray-there m (c.has_stray_symbol.ensures.0 c.if-has_stray_symbol.true))
 
-pub returns-then-num_lookaheads-gt-MAX_LOOKAHEADS-clause-refused : goal.returns-then-num_lookaheads-gt-MAX_LOOKAHEADS-clause-refused
-returns-then-num_lookaheads-gt-MAX_LOOKAHEADS-clause-refused c =
+pub returns-then-num_lookaheads-gt-MAX_LOOKAHEADS-clause-rejected : goal.returns-then-num_lookaheads-gt-MAX_LOOKAHEADS-clause-rejected
+returns-then-num_lookaheads-gt-MAX_LOOKAHEADS-clause-rejected c =
     let m = machine c.args.symbols.now c.args.states.now c.args.transitions.now c.args.num_lookaheads c.args.shift c.args.map.now in
     let b12 = below-12 m (some-from _ _ c.is_empty.ensures c.if-is_empty.false) c.if-states-gt-MAX_STATES.false in
     let b13 = below-13 m b12 (iff_false c.has_wrong_size.ensures c.if-has_wrong_size.false) in
@@ -25,8 +25,8 @@ returns-then-num_lookaheads-gt-MAX_LOOKAHEADS-clause-refused c =
     let b15 = below-15 m b14 (iff_false c.has_stray_symbol.ensures c.if-has_stray_symbol.false) in
     lowest-from (HasMachineFault m) TooManyLookaheads b15 c.if-num_lookaheads-gt-MAX_LOOKAHEADS.true
 
-pub returns-then-names_past-clause-refused : goal.returns-then-names_past-clause-refused
-returns-then-names_past-clause-refused c =
+pub returns-then-names_past-clause-rejected : goal.returns-then-names_past-clause-rejected
+returns-then-names_past-clause-rejected c =
     let m = machine c.args.symbols.now c.args.states.now c.args.transitions.now c.args.num_lookaheads c.args.shift c.args.map.now in
     let b12 = below-12 m (some-from _ _ c.is_empty.ensures c.if-is_empty.false) c.if-states-gt-MAX_STATES.false in
     let b13 = below-13 m b12 (iff_false c.has_wrong_size.ensures c.if-has_wrong_size.false) in
@@ -53,8 +53,8 @@ is_stall_free-requires c =
           c.if-num_lookaheads-gt-MAX_LOOKAHEADS.false (iff_false c.names_past.ensures c.if-names_past.false);
     }
 
-pub returns-then-has_end_cycle-clause-refused : goal.returns-then-has_end_cycle-clause-refused
-returns-then-has_end_cycle-clause-refused c =
+pub returns-then-has_end_cycle-clause-rejected : goal.returns-then-has_end_cycle-clause-rejected
+returns-then-has_end_cycle-clause-rejected c =
     let m = machine c.args.symbols.now c.args.states.now c.args.transitions.now c.args.num_lookaheads c.args.shift c.args.map.now in
     let b12 = below-12 m (some-from _ _ c.is_empty.ensures c.if-is_empty.false) c.if-states-gt-MAX_STATES.false in
     let b13 = below-13 m b12 (iff_false c.has_wrong_size.ensures c.if-has_wrong_size.false) in
@@ -64,8 +64,8 @@ returns-then-has_end_cycle-clause-refused c =
     let b17 = below-17 m b16 (iff_false c.names_past.ensures c.if-names_past.false) in
     lowest-from (HasMachineFault m) EndCycle b17 (cycle-full m (c.has_end_cycle.ensures.0 c.if-has_end_cycle.true))
 
-pub returns-then-not-is_stall_free-clause-refused : goal.returns-then-not-is_stall_free-clause-refused
-returns-then-not-is_stall_free-clause-refused c =
+pub returns-then-not-is_stall_free-clause-rejected : goal.returns-then-not-is_stall_free-clause-rejected
+returns-then-not-is_stall_free-clause-rejected c =
     let m = machine c.args.symbols.now c.args.states.now c.args.transitions.now c.args.num_lookaheads c.args.shift c.args.map.now in
     let b12 = below-12 m (some-from _ _ c.is_empty.ensures c.if-is_empty.false) c.if-states-gt-MAX_STATES.false in
     let b13 = below-13 m b12 (iff_false c.has_wrong_size.ensures c.if-has_wrong_size.false) in

@@ -3,10 +3,10 @@ use Rattle.seg_machine.specs.Machine.{machine}
 use Rattle.seg_machine.proofs.Machines.{checked-from}
 use Rattle.seg_machine.proofs.provider.machine.SegmenterStateMachine.try_from_parts.Goals as goal
 
-pub returns-in_err-check_parts-clause-refused : goal.returns-in_err-check_parts-clause-refused
-returns-in_err-check_parts-clause-refused c =
+pub returns-in_err-check_parts-clause-rejected : goal.returns-in_err-check_parts-clause-rejected
+returns-in_err-check_parts-clause-rejected c =
     let p = err_from_is_err_and c.from_residual.result c.from_residual.ensures.1 in
-    rw (p.1, p.2, ← c.as_slice.ensures.value, ← c.as_slice-2.ensures.value, ← c.as_slice-3.ensures.value) c.in_err-check_parts.ensures.refused
+    rw (p.1, p.2, ← c.as_slice.ensures.value, ← c.as_slice-2.ensures.value, ← c.as_slice-3.ensures.value) c.in_err-check_parts.ensures.rejected
 
 pub invariant_of-result : goal.invariant_of-result
 invariant_of-result c = (

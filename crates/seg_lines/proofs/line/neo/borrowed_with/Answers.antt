@@ -1,7 +1,7 @@
 use Rattle.std.proofs.lemmas.Bool.{iff_false}
 use Rattle.std.proofs.lemmas.Result.{IfOk-weaker}
 use Rattle.seg_lines.proofs.Faults.{with-faultless}
-use Rattle.seg_lines.proofs.line.neo.lent_with.Goals as goal
+use Rattle.seg_lines.proofs.line.neo.borrowed_with.Goals as goal
 
 pub returns-clause-accepted : goal.returns-clause-accepted
 returns-clause-accepted c =

@@ -1,4 +1,4 @@
--- The items of units that may be parted: a code point's units are read alone, whatever stands before them and after them.
+-- The items of units that may be split: a code point's units are read alone, whatever stands before them and after them.
 use Rattle.std.proofs.Common.{◌≡◌, ℕ, zero, suc, ◌+◌, ◌<◌, ◌≤◌, List, [], ◌∷◌, ◌++◌, map, take, drop, length, refl, sym, ap, ap₂, ◌∙◌, arith, append_assoc, append-nil, length-append, take_at, drop_at}
 use Rattle.std.proofs.lemmas.List.{length-drop, length-map, drop-map, drop-append-le, map-append}
 use Rattle.seg_text.specs.declared.boundary.Boundary.{Boundary}
@@ -78,7 +78,7 @@ module _ (read : Reader ℕ) (stable : IsStable read) where
 
   module _ (mark : List ℕ) (c : ℕ) (is : IsApart read mark c) where
     -- units that end with the mark have the code point as their last item, whatever follows
-    record Parted (place : ℕ) (before : List ℕ) : Type 0 where
+    record Split (place : ℕ) (before : List ℕ) : Type 0 where
       front : List Item
       at : ℕ
       parts : (units : List ℕ) → items place (before ++ (mark ++ units)) ≡ front ++ (at, c) ∷ items (place + length before + length mark) units
@@ -93,8 +93,8 @@ module _ (read : Reader ℕ) (stable : IsStable read) where
         let front : take (suc (length before)) (unit ∷ (before ++ (mark ++ units))) ≡ unit ∷ before = take_at (unit ∷ before) (mark ++ units) _ refl in
         sym (stable.stable (suc (length before)) unit (before ++ (mark ++ units)) (is.apart unit before units)) ∙ ap read front
 
-    parted-within : (most place : ℕ) (before : List ℕ) → length before ≤ most → Parted place before
-    parted-within most place [] bound = record {
+    split-within : (most place : ℕ) (before : List ℕ) → length before ≤ most → Split place before
+    split-within most place [] bound = record {
       front = [];
       at = place;
       parts = λ units.
@@ -104,14 +104,14 @@ module _ (read : Reader ℕ) (stable : IsStable read) where
           ∙ ap (λ (found : ℕ × ℕ). (place, found.1) ∷ items (place + found.0) (drop found.0 (mark ++ units))) (is.whole units)
           ∙ ap₂ (λ at left. (place, c) ∷ items at left) sum (drop_at mark units _ refl);
     }
-    parted-within zero place (unit ∷ before) bound = absurd (omega arith)
-    parted-within (suc most) place (unit ∷ before) bound =
+    split-within zero place (unit ∷ before) bound = absurd (omega arith)
+    split-within (suc most) place (unit ∷ before) bound =
         let found = read (unit ∷ before) in
         let left = drop found.0 (unit ∷ before) in
         let inside = stable.reader.within unit before in
         let size = length-drop found.0 (unit ∷ before) in
         let fewer : length left ≤ most = omega (arith, size, stable.reader.some unit before) in
-        let later = parted-within most (place + found.0) left fewer in
+        let later = split-within most (place + found.0) left fewer in
         let sum : place + found.0 + length left + length mark ≡ place + suc (length before) + length mark = omega (arith, size) in
         record {
           front = (place, found.1) ∷ later.front;
@@ -137,24 +137,24 @@ module _ (read : Reader ℕ) (stable : IsStable read) where
       abbrev two : Text
       two = text_by read 0 second
 
-      parted : Parted 0 before
-      parted = parted-within (length before) 0 before (omega arith)
+      split : Split 0 before
+      split = split-within (length before) 0 before (omega arith)
 
       end-of-first : 0 + length before + length mark ≡ length first
       end-of-first = omega (arith, length-append before mark)
 
-      one-items : one.items ≡ parted.front ++ (parted.at, c) ∷ []
+      one-items : one.items ≡ split.front ++ (split.at, c) ∷ []
       one-items =
           let all : before ++ mark ≡ before ++ (mark ++ []) = ap (λ mark. before ++ mark) (sym (append-nil mark)) in
-          ap (items 0) all ∙ parted.parts []
-          ∙ ap (λ rest. parted.front ++ (parted.at, c) ∷ rest) (items_by-nil read (0 + length before + length mark))
+          ap (items 0) all ∙ split.parts []
+          ∙ ap (λ rest. split.front ++ (split.at, c) ∷ rest) (items_by-nil read (0 + length before + length mark))
 
       whole-items : whole.items ≡ one.items ++ later_items (length first) two.items
       whole-items =
-          ap (items 0) (append_assoc before mark second) ∙ parted.parts second
-          ∙ ap (λ at. parted.front ++ (parted.at, c) ∷ items at second) end-of-first
-          ∙ ap (λ rest. parted.front ++ (parted.at, c) ∷ rest) (items-later (length first) second)
-          ∙ sym (append_assoc parted.front ((parted.at, c) ∷ []) (later_items (length first) two.items))
+          ap (items 0) (append_assoc before mark second) ∙ split.parts second
+          ∙ ap (λ at. split.front ++ (split.at, c) ∷ items at second) end-of-first
+          ∙ ap (λ rest. split.front ++ (split.at, c) ∷ rest) (items-later (length first) second)
+          ∙ sym (append_assoc split.front ((split.at, c) ∷ []) (later_items (length first) two.items))
           ∙ sym (ap (λ items. items ++ later_items (length first) two.items) one-items)
 
       whole-end : whole.end ≡ length first + two.end
@@ -166,10 +166,10 @@ module _ (read : Reader ℕ) (stable : IsStable read) where
           ∙ ap (λ n. length first + n) (place_of-items_by read stable.reader 0 second) ∙ omega arith
 
       -- the code points of the first text end with this one
-      one-codes : code_points one.items ≡ code_points parted.front ++ c ∷ []
-      one-codes = ap code_points one-items ∙ map-append (λ (item : Item). item.1) parted.front ((parted.at, c) ∷ [])
+      one-codes : code_points one.items ≡ code_points split.front ++ c ∷ []
+      one-codes = ap code_points one-items ∙ map-append (λ (item : Item). item.1) split.front ((split.at, c) ∷ [])
 
-      whole-codes : code_points whole.items ≡ (code_points parted.front ++ c ∷ []) ++ code_points two.items
+      whole-codes : code_points whole.items ≡ (code_points split.front ++ c ∷ []) ++ code_points two.items
       whole-codes =
           ap code_points whole-items ∙ map-append (λ (item : Item). item.1) one.items (later_items (length first) two.items)
           ∙ ap₂ (λ front back. front ++ back) one-codes (later-codes (length first) two.items)
@@ -192,14 +192,14 @@ module _ (read : Reader ℕ) (stable : IsStable read) where
           ∙ later-place (length first) two.end (drop b.offset two.items) in
           ap₂ (λ n (rest : List Boundary). boundary n b.status ∷ rest) place (back-in found)
 
-    -- where lists of code points may be parted behind the code point, texts may behind its units
+    -- where lists of code points may be split after the code point, texts may behind its units
     pub parts-texts : (find : List ℕ → List Boundary) → ((cs : List ℕ) → IsCover 0 (length cs) (find cs)) → PartsBehind find (c ∷ [])
         → PartsBehind (λ units. boundaries_in find (text_by read 0 units)) mark
     parts-texts find cover lists before second =
         let all = whole before second in
         let front = one before second in
         let back = two before second in
-        let codes = code_points (parted before second).front in
+        let codes = code_points (split before second).front in
         let count : length (code_points front.items) ≡ length front.items = length-map front.items (λ (item : Item). item.1) in
         let same = one-codes before second in
         let inside = cover-up-to (find (code_points front.items)) (length front.items) (rw count at (cover (code_points front.items))) in

@@ -1,7 +1,7 @@
-//! Segmenters over parts that are lent.
+//! Segmenters over parts that are borrowed.
 
 use crate::options::Options;
-use crate::parts::{Kind, Parts, lent};
+use crate::parts::{Kind, Parts, borrowed};
 use anyhow::Result;
 use bench::segmenter::SegmenterBorrowed;
 use icu_segmenter::options::{SentenceBreakInvariantOptions, WordBreakInvariantOptions};
@@ -26,8 +26,8 @@ pub fn lend<'a>(parts: &'a Parts, kind: Kind, options: &Options) -> Result<Segme
 
 fn clusters(parts: &Parts, kind: Kind) -> Result<GraphemeClusterSegmenterBorrowed<'_>> {
     let clusters = match kind {
-        Kind::NeoClusters => GraphemeClusterSegmenterBorrowed::new_neo(lent(&parts.machine)?),
-        _ => GraphemeClusterSegmenterBorrowed::new(lent(&parts.table)?),
+        Kind::NeoClusters => GraphemeClusterSegmenterBorrowed::new_neo(borrowed(&parts.machine)?),
+        _ => GraphemeClusterSegmenterBorrowed::new(borrowed(&parts.table)?),
     };
     Ok(clusters?)
 }
@@ -36,11 +36,11 @@ fn sentences(parts: &Parts, kind: Kind) -> Result<SentenceSegmenterBorrowed<'_>>
     let options = SentenceBreakInvariantOptions::default();
     let sentences = match kind {
         Kind::NeoSentences => {
-            let machine = lent(&parts.machine)?;
+            let machine = borrowed(&parts.machine)?;
             SentenceSegmenterBorrowed::new_neo(machine, parts.tailoring.as_ref(), options)
         }
         _ => {
-            let table = lent(&parts.table)?;
+            let table = borrowed(&parts.table)?;
             SentenceSegmenterBorrowed::new(table, parts.overriding.as_ref(), options)
         }
     };
@@ -52,21 +52,21 @@ fn words(parts: &Parts, kind: Kind) -> Result<WordSegmenterBorrowed<'_>> {
         Kind::NeoWords => neo_words(parts)?,
         _ => table_words(parts)?,
     };
-    words.load_dictionary(lent(&parts.later)?.as_borrowed());
+    words.load_dictionary(borrowed(&parts.later)?.as_borrowed());
     Ok(words)
 }
 
 fn neo_words(parts: &Parts) -> Result<WordSegmenterBorrowed<'_>> {
-    let machine = lent(&parts.machine)?;
-    let clusters = lent(&parts.cluster_table)?;
+    let machine = borrowed(&parts.machine)?;
+    let clusters = borrowed(&parts.cluster_table)?;
     let options = WordBreakInvariantOptions::default();
     Ok(WordSegmenterBorrowed::new_neo_for_non_complex_scripts(machine, clusters, options)?)
 }
 
 // Words by a pair table, with dictionaries or by the constructor that takes none.
 fn table_words(parts: &Parts) -> Result<WordSegmenterBorrowed<'_>> {
-    let table = lent(&parts.table)?;
-    let clusters = lent(&parts.cluster_table)?;
+    let table = borrowed(&parts.table)?;
+    let clusters = borrowed(&parts.cluster_table)?;
     let overriding = parts.overriding.as_ref();
     let options = WordBreakInvariantOptions::default();
     let words = match &parts.first {
@@ -87,13 +87,13 @@ fn lines<'a>(parts: &'a Parts, kind: Kind, options: &Options) -> Result<LineSegm
         Kind::Lines17 => lines_17(parts, options)?,
         _ => table_lines(parts, options)?,
     };
-    lines.load_dictionary(lent(&parts.later)?.as_borrowed());
+    lines.load_dictionary(borrowed(&parts.later)?.as_borrowed());
     Ok(lines)
 }
 
 fn neo_lines<'a>(parts: &'a Parts, options: &Options) -> Result<LineSegmenterBorrowed<'a>> {
-    let machine = lent(&parts.machine)?;
-    let clusters = lent(&parts.cluster_machine)?;
+    let machine = borrowed(&parts.machine)?;
+    let clusters = borrowed(&parts.cluster_machine)?;
     Ok(LineSegmenterBorrowed::new_neo_for_non_complex_scripts(
         machine,
         parts.tailorings.as_borrowed(),
@@ -104,8 +104,8 @@ fn neo_lines<'a>(parts: &'a Parts, options: &Options) -> Result<LineSegmenterBor
 
 // Lines by a pair table, with dictionaries or by the constructor that takes none.
 fn table_lines<'a>(parts: &'a Parts, options: &Options) -> Result<LineSegmenterBorrowed<'a>> {
-    let table = lent(&parts.table)?;
-    let clusters = lent(&parts.cluster_table)?;
+    let table = borrowed(&parts.table)?;
+    let clusters = borrowed(&parts.cluster_table)?;
     let options = options.of_lines();
     let lines = match &parts.first {
         Some(first) => {
@@ -117,8 +117,8 @@ fn table_lines<'a>(parts: &'a Parts, options: &Options) -> Result<LineSegmenterB
 }
 
 fn lines_17<'a>(parts: &'a Parts, options: &Options) -> Result<LineSegmenterBorrowed<'a>> {
-    let table = lent(&parts.table)?;
-    let clusters = lent(&parts.cluster_table)?;
+    let table = borrowed(&parts.table)?;
+    let clusters = borrowed(&parts.cluster_table)?;
     let options = options.of_lines();
     let mut lines = LineSegmenterBorrowed::new_17_for_non_complex_scripts(
         table, clusters, options,

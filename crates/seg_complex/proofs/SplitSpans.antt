@@ -1,4 +1,4 @@
--- What is found span by span may be parted behind a code point outside runs, where what is found in a piece between runs may.
+-- What is found span by span may be split after a code point outside runs, where what is found in a piece between runs may.
 use Rattle.std.proofs.Common.{◌≡◌, ℕ, zero, suc, ◌+◌, ◌<◌, ◌≤◌, inl, inr, Bool, true, false, List, [], ◌∷◌, ◌++◌, length, take, drop, refl, sym, ap, ap₂, ◌∙◌, subst, arith, append_assoc, append-nil, length-append, take_all, eq-eqb}
 use Rattle.std.specs.Prelude.{None}
 use Rattle.std.specs.List.{prefix_len}
@@ -95,14 +95,14 @@ module _ (m : Machine) (words : ScriptWords) (inner : InSpan) (nothing : inner N
           sym (ap (λ n. inner None (take n (y ∷ ys)) ++ shift_all n (later (drop n (y ∷ ys)))) none
           ∙ ap (λ (some : List Boundary). some ++ shift_all 0 (later (y ∷ ys))) nothing ∙ shifted-none (later (y ∷ ys)))
 
-  -- may a list be parted here
-  abbrev AreParted : List ℕ → List ℕ → Type 0
-  AreParted xs ys = later (xs ++ ys) ≡ later xs ++ shift_all (length xs) (later ys)
+  -- may a list be split here
+  abbrev AreSplit : List ℕ → List ℕ → Type 0
+  AreSplit xs ys = later (xs ++ ys) ≡ later xs ++ shift_all (length xs) (later ys)
 
   -- the first list is one piece between runs
   one-piece : (x : ℕ) (xs ys : List ℕ) → script x ≡ NoScript → span_length m words (x ∷ xs) ≡ length (x ∷ xs)
       → ((zs : List ℕ) → inner None ((x ∷ xs) ++ zs) ≡ inner None (x ∷ xs) ++ shift_all (length (x ∷ xs)) (inner None zs))
-      → AreParted (x ∷ xs) ys
+      → AreSplit (x ∷ xs) ys
   one-piece x xs ys is all splits =
       let size : ℕ = length (x ∷ xs) in
       let k : ℕ = piece ys in
@@ -126,7 +126,7 @@ module _ (m : Machine) (words : ScriptWords) (inner : InSpan) (nothing : inner N
 
   -- the first list has more than its first span
   more-spans : (x : ℕ) (xs ys : List ℕ) → let n = span_length m words (x ∷ xs) in
-      n < length (x ∷ xs) → AreParted (drop n (x ∷ xs)) ys → AreParted (x ∷ xs) ys
+      n < length (x ∷ xs) → AreSplit (drop n (x ∷ xs)) ys → AreSplit (x ∷ xs) ys
   more-spans x xs ys less left =
       let n : ℕ = span_length m words (x ∷ xs) in
       let rest : List ℕ = drop n (x ∷ xs) in
@@ -146,13 +146,13 @@ module _ (m : Machine) (words : ScriptWords) (inner : InSpan) (nothing : inner N
 
   module _ (c : ℕ) (outside : IsOutsideRuns m words c)
       (splits : (before zs : List ℕ) → inner None ((before ++ c ∷ []) ++ zs) ≡ inner None (before ++ c ∷ []) ++ shift_all (length (before ++ c ∷ [])) (inner None zs)) where
-    parted-within : (most : ℕ) (before ys : List ℕ) → length before ≤ most → AreParted (before ++ c ∷ []) ys
-    parted-within most [] ys bound =
+    split-within : (most : ℕ) (before ys : List ℕ) → length before ≤ most → AreSplit (before ++ c ∷ []) ys
+    split-within most [] ys bound =
         let here : has_worded_script m words (script c) c ≡ true = eq-eqb _ _ refl in
         let one : span_length m words (c ∷ []) ≡ 1 = rw here refl in
         one-piece c [] ys outside one (splits [])
-    parted-within zero (x ∷ before) ys bound = absurd (omega arith)
-    parted-within (suc most) (x ∷ before) ys bound =
+    split-within zero (x ∷ before) ys bound = absurd (omega arith)
+    split-within (suc most) (x ∷ before) ys bound =
         let all : List ℕ = x ∷ (before ++ c ∷ []) in
         let n : ℕ = span_length m words all in
         let inside = span-inside m words all in
@@ -161,7 +161,7 @@ module _ (m : Machine) (words : ScriptWords) (inner : InSpan) (nothing : inner N
               let size = length-append before (c ∷ []) in
               let left : drop n all ≡ drop n (x ∷ before) ++ c ∷ [] = drop-append-le n (x ∷ before) (c ∷ []) (omega (arith, less, size)) in
               let fewer : length (drop n (x ∷ before)) ≤ most = omega (arith, length-drop n (x ∷ before), span-some m words x (before ++ c ∷ [])) in
-              more-spans x (before ++ c ∷ []) ys less (subst (λ (xs : List ℕ). AreParted xs ys) (sym left) (parted-within most (drop n (x ∷ before)) ys fewer))
+              more-spans x (before ++ c ∷ []) ys less (subst (λ (xs : List ℕ). AreSplit xs ys) (sym left) (split-within most (drop n (x ∷ before)) ys fewer))
           | inr past ↦
               let whole : n ≡ length all = omega (arith, past, inside) in
               let last : has_worded_script m words (script x) c ≡ true = passes-last (has_worded_script m words (script x)) (x ∷ before) c whole in
@@ -169,8 +169,8 @@ module _ (m : Machine) (words : ScriptWords) (inner : InSpan) (nothing : inner N
               one-piece x (before ++ c ∷ []) ys is whole (splits (x ∷ before))
         ]
 
-    pub spans-parted : (before ys : List ℕ) → AreParted (before ++ c ∷ []) ys
-    spans-parted before ys = parted-within (length before) before ys (omega arith)
+    pub spans-split : (before ys : List ℕ) → AreSplit (before ++ c ∷ []) ys
+    spans-split before ys = split-within (length before) before ys (omega arith)
 
 -- the cuts inside runs
 
@@ -178,9 +178,9 @@ later-offsets : (before : ℕ) (boundaries : List Boundary) → offsets (shift_a
 later-offsets before [] = refl
 later-offsets before (found ∷ boundaries) = ap (λ places. (before + found.offset) ∷ places) (later-offsets before boundaries)
 
-pub cuts-parted : (m : Machine) (payloads : Payloads) (c : ℕ) → IsOutsideRuns m payloads.words c → PartsCuts (inner_cuts m payloads) c
-cuts-parted m payloads c outside before second =
+pub cuts-split : (m : Machine) (payloads : Payloads) (c : ℕ) → IsOutsideRuns m payloads.words c → PartsCuts (inner_cuts m payloads) c
+cuts-split m payloads c outside before second =
     let first = before ++ c ∷ [] in
-    ap offsets (spans-parted m payloads.words (in-span (boundaries_by payloads.clusters)) refl c outside (λ before zs. refl) before second)
+    ap offsets (spans-split m payloads.words (in-span (boundaries_by payloads.clusters)) refl c outside (λ before zs. refl) before second)
     ∙ offsets-append (later_boundaries (inner_stretch m payloads) first) (shift_all (length first) (later_boundaries (inner_stretch m payloads) second))
     ∙ ap (λ places. inner_cuts m payloads first ++ places) (later-offsets (length first) (later_boundaries (inner_stretch m payloads) second))

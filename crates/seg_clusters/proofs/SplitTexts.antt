@@ -1,4 +1,4 @@
--- Texts of each encoding may be parted where lists of code points may.
+-- Texts of each encoding may be split where lists of code points may.
 use Rattle.std.proofs.Common.{ℕ, List, ◌∷◌, [], length}
 use Rattle.std.specs.Char.{IsScalar, encode_utf8}
 use Rattle.std.specs.Char.Escape.{encode_utf16}
@@ -14,7 +14,7 @@ use Rattle.seg_clusters.specs.Rules.{PartsBehind, PartsTexts, ResetsAfter, bound
 use Rattle.seg_clusters.specs.Rules.Rules.{ByMachine}
 use Rattle.seg_clusters.proofs.ByRules.{machine-covers}
 use Rattle.seg_clusters.proofs.Encoded.{latin1-apart, utf8-apart, utf16-apart}
-use Rattle.seg_clusters.proofs.PartedItems.{parts-texts}
+use Rattle.seg_clusters.proofs.SplitItems.{parts-texts}
 use Rattle.seg_clusters.proofs.ResetScans.{parts-lists}
 
 module _ (find : List ℕ → List Boundary) (cover : (cs : List ℕ) → IsCover 0 (length cs) (find cs)) (c : ℕ) (lists : PartsBehind find (c ∷ [])) where
@@ -30,11 +30,11 @@ module _ (find : List ℕ → List Boundary) (cover : (cs : List ℕ) → IsCove
   unfolding utf16_items
   in-utf16 scalar = parts-texts read_utf16 read_utf16-stable (encode_utf16 c) c (utf16-apart c scalar) find cover lists
 
-  pub texts-parted : IsScalar c → PartsTexts find c
-  texts-parted scalar = record { lists = lists; in_utf8 = in-utf8 scalar; in_latin1 = λ small. in-latin1; in_utf16 = in-utf16 scalar }
+  pub texts-split : IsScalar c → PartsTexts find c
+  texts-split scalar = record { lists = lists; in_utf8 = in-utf8 scalar; in_latin1 = λ small. in-latin1; in_utf16 = in-utf16 scalar }
 
 -- .. by rules
 
-pub machine-parted : (m : Machine) → IsChecked m → (c : ℕ) → IsScalar c → ResetsAfter (ByMachine m) c → PartsTexts (boundaries_by (ByMachine m)) c
-machine-parted m checked c scalar resets =
-    texts-parted (boundaries_by (ByMachine m)) (machine-covers m checked) c (parts-lists m checked c resets) scalar
+pub machine-split : (m : Machine) → IsChecked m → (c : ℕ) → IsScalar c → ResetsAfter (ByMachine m) c → PartsTexts (boundaries_by (ByMachine m)) c
+machine-split m checked c scalar resets =
+    texts-split (boundaries_by (ByMachine m)) (machine-covers m checked) c (parts-lists m checked c resets) scalar

@@ -1,4 +1,4 @@
--- Lines may be parted where clusters may, and by a machine behind a code point outside runs that resets it.
+-- Lines may be split where clusters may, and by a machine behind a code point outside runs that resets it.
 use Rattle.std.proofs.Common.{◌≡◌, ℕ, ◌+◌, ◌<◌, ◌≤◌, ◌⊎◌, inl, inr, nat_lt, ◌==◌, Bool, true, false, List, [], ◌∷◌, ◌++◌, length, drop, refl, sym, ap, ap₂, ◌∙◌, arith}
 use Rattle.std.specs.Prelude.{if◌then◌else◌}
 use Rattle.std.specs.Char.{IsScalar}
@@ -7,7 +7,7 @@ use Rattle.seg_text.specs.declared.boundary.Boundary.{Boundary}
 use Rattle.seg_text.specs.Boundaries.{IsCover, RisesTo, boundary, offsets, shift, shift_all, start, later_boundaries}
 use Rattle.seg_clusters.specs.Rules.{PartsBehind, PartsTexts, ResetsAfter, boundaries_by}
 use Rattle.seg_clusters.proofs.ByRules.{machine-covers}
-use Rattle.seg_clusters.proofs.PartedTexts.{texts-parted}
+use Rattle.seg_clusters.proofs.SplitTexts.{texts-split}
 use Rattle.seg_clusters.proofs.ResetScans.{parts-lists}
 use Rattle.seg_machine.specs.MachineFaults.{IsChecked}
 use Rattle.seg_machine.specs.Machine.{Machine as AnyMachine}
@@ -17,7 +17,7 @@ use Rattle.seg_complex.specs.Spans.{inner_cuts}
 use Rattle.seg_complex.specs.Scripts.{later_places, CoverPieces}
 use Rattle.seg_complex.specs.Payloads.{Payloads, piece_cuts_by}
 use Rattle.seg_complex.proofs.InnerRange.{inner-between}
-use Rattle.seg_complex.proofs.PartedSpans.{cuts-parted}
+use Rattle.seg_complex.proofs.SplitSpans.{cuts-split}
 use Rattle.seg_lines.specs.LineBreaks.{AreAbove, joined, with_cut, boundaries_with, LinesResetWith}
 use Rattle.seg_lines.specs.LineBreaks.LineFinder.{ByMachine, ByPlaces}
 use Rattle.seg_lines.specs.Lines.{finder_of}
@@ -33,9 +33,9 @@ plain-append : (some others : List Boundary) → plain (some ++ others) ≡ plai
 plain-append [] others = refl
 plain-append (found ∷ some) others = ap (λ (rest : List Boundary). boundary found.offset 0 ∷ rest) (plain-append some others)
 
-pub places-parted : (payloads : Payloads) (c : ℕ) → IsScalar c → ((cs : List ℕ) → IsCover 0 (length cs) (boundaries_by payloads.clusters cs))
+pub places-split : (payloads : Payloads) (c : ℕ) → IsScalar c → ((cs : List ℕ) → IsCover 0 (length cs) (boundaries_by payloads.clusters cs))
     → PartsTexts (boundaries_by payloads.clusters) c → PartsTexts (boundaries_with ByPlaces payloads) c
-places-parted payloads c scalar cover parts = texts-parted (boundaries_with ByPlaces payloads) covers c lists scalar
+places-split payloads c scalar cover parts = texts-split (boundaries_with ByPlaces payloads) covers c lists scalar
   where
     find : List ℕ → List Boundary
     find = boundaries_by payloads.clusters
@@ -169,7 +169,7 @@ module _ (m : AnyMachine) (payloads : Payloads) (checked : IsChecked m) (cover :
       let end : ℕ = length first in
       let found : List Boundary = machine_boundaries m first in
       let covers = machine-covers m checked first in
-      ap₂ (λ (boundaries : List Boundary) places. joined boundaries places) (parts-lists m checked c resets.0 before second) (cuts-parted m payloads c resets.1 before second)
+      ap₂ (λ (boundaries : List Boundary) places. joined boundaries places) (parts-lists m checked c resets.0 before second) (cuts-split m payloads c resets.1 before second)
       ∙ joined-parts end found (shift_all end (plain_later second)) (cuts first) (later_places end (cuts second))
       (omega arith, rises-at-most (plain_later first) 0 end covers.1) (last-from end start (plain_later first) covers.1)
       (between-at-most 0 end (cuts first) (inner-between m payloads cover first))
@@ -177,16 +177,16 @@ module _ (m : AnyMachine) (payloads : Payloads) (checked : IsChecked m) (cover :
       ∙ ap (λ (later : List Boundary). joined found (cuts first) ++ later) (joined-later end (plain_later second) (cuts second))
       ∙ ap (λ (all : List Boundary). joined found (cuts first) ++ shift_all end (drop 1 all)) (sym (start-first second))
 
-  pub lines-parted : IsScalar c → PartsTexts (boundaries_with (ByMachine m) payloads) c
-  lines-parted scalar = texts-parted (boundaries_with (ByMachine m) payloads) (counted-cover m payloads checked cover) c lists scalar
+  pub lines-split : IsScalar c → PartsTexts (boundaries_with (ByMachine m) payloads) c
+  lines-split scalar = texts-split (boundaries_with (ByMachine m) payloads) (counted-cover m payloads checked cover) c lists scalar
 
 -- by what isn't a machine of lines
 
-pub clusters-parted : (finder : Finder) (payloads : Payloads) (c : ℕ) → ((machine : TailoredMachineBorrowed) → finder ≡ Machine machine → ⊥) → IsScalar c
+pub clusters-split : (finder : Finder) (payloads : Payloads) (c : ℕ) → ((machine : TailoredMachineBorrowed) → finder ≡ Machine machine → ⊥) → IsScalar c
     → ((cs : List ℕ) → IsCover 0 (length cs) (boundaries_by payloads.clusters cs)) → (ResetsAfter payloads.clusters c → PartsTexts (boundaries_by payloads.clusters) c)
     → LinesResetWith (finder_of finder) payloads c → PartsTexts (boundaries_with (finder_of finder) payloads) c
-clusters-parted Clusters payloads c none scalar cover parts resets = parts resets
-clusters-parted Places payloads c none scalar cover parts resets = places-parted payloads c scalar cover (parts resets)
-clusters-parted (Table pairs) payloads c none scalar cover parts resets = absurd resets
-clusters-parted (Turns pairs) payloads c none scalar cover parts resets = absurd resets
-clusters-parted (Machine machine) payloads c none scalar cover parts resets = absurd (none machine refl)
+clusters-split Clusters payloads c none scalar cover parts resets = parts resets
+clusters-split Places payloads c none scalar cover parts resets = places-split payloads c scalar cover (parts resets)
+clusters-split (Table pairs) payloads c none scalar cover parts resets = absurd resets
+clusters-split (Turns pairs) payloads c none scalar cover parts resets = absurd resets
+clusters-split (Machine machine) payloads c none scalar cover parts resets = absurd (none machine refl)
