@@ -1,4 +1,4 @@
-//! Grapheme clusters.
+//! Callers that ask for grapheme clusters: places, carets, fields of so many clusters.
 ghost use Rattle.std.specs.Prelude.{◌≡◌, IfOk, slice_get};
 ghost use Rattle.callers.specs.Fields.{before_segment};
 ghost use Rattle.icu_segmenter.specs.Boundaries.{offsets};

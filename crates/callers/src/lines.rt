@@ -1,4 +1,4 @@
-//! Lines.
+//! Callers that ask for line breaks.
 ghost use Rattle.std.specs.Prelude.{◌≡◌, ◌==◌, Some, IfOk, IfErr, filter};
 ghost use Rattle.callers.specs.LineEnds.{ends_there, line_ends};
 ghost use Rattle.icu_segmenter.specs.Boundaries.{offsets};

@@ -1,4 +1,4 @@
-//! Clusters, where no configuration is looked up twice.
+//! Callers of the memoised engine.
 ghost use Rattle.std.specs.Prelude.{◌≡◌, ◌≤◌, Some, IfOk, length};
 ghost use Rattle.icu_segmenter.specs.Clusters.{cluster_rules};
 ghost use Rattle.icu_segmenter.specs.Configurations.{configurations};

@@ -1,4 +1,4 @@
-//! Sentences.
+//! Callers that ask for sentences, of a whole text or block by block.
 ghost use Rattle.std.specs.Prelude.{◌≡◌, ◌%◌, ◌^◌, None, IfOk, IfSome, length, map};
 ghost use Rattle.std.specs.List.{last_or};
 ghost use Rattle.std.specs.Option.{option_map};

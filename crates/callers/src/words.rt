@@ -1,4 +1,4 @@
-//! Words.
+//! Callers that ask for words: counts, indexes, highlights.
 ghost use Rattle.std.specs.Prelude.{◌≡◌, ◌++◌, IfOk, OnOk, length, map, string_bytes};
 ghost use Rattle.std.specs.List.{flat_map};
 ghost use Rattle.callers.specs.Highlights.{shown};

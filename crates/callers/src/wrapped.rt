@@ -1,4 +1,4 @@
-//! Wrapped lines.
+//! Callers that wrap lines.
 ghost use Rattle.std.specs.Prelude.{◌≡◌, ◌-◌, ◌^◌, length, min};
 ghost use Rattle.icu_segmenter.specs.WrappedLines.{wrapped_text, wrapper_rules};
 

@@ -1,4 +1,4 @@
-//! Grapheme clusters.
+//! The pair table of grapheme clusters, which `classic` makes a segmenter of.
 ghost use Rattle.std.specs.Prelude.{◌≡◌, IfOk, IfErr};
 ghost use Rattle.seg_data.specs.declared.provider.DataError.TheVariants.{Memory};
 ghost use Rattle.icu_segmenter_data.specs.Unicode.{cluster_table};

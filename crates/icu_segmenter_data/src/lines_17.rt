@@ -1,4 +1,4 @@
-//! Lines by the engine 17.
+//! The pair table of lines of the engine 17, which `classic` makes a segmenter of.
 ghost use Rattle.std.specs.Prelude.{◌≡◌, IfOk, IfErr};
 ghost use Rattle.seg_data.specs.declared.provider.DataError.TheVariants.{Memory};
 ghost use Rattle.icu_segmenter_data.specs.Unicode.{line_17_table};

@@ -1,4 +1,4 @@
-//! Sentences.
+//! Sentences: the parts of their machine, and the segmenter over it.
 
 mod machine;
 mod ranges;

@@ -1,4 +1,4 @@
-//! Words.
+//! Words: the parts of their machines, without types and with them, and the segmenter.
 
 mod machine;
 mod ranges;

@@ -1,4 +1,4 @@
--- What is seen of the segmenters of grapheme clusters.
+-- What is seen of the segmenters of grapheme clusters and sentences (UAX #29).
 use Rattle.std.specs.Prelude.{ℕ, List}
 use Rattle.seg_text.specs.declared.boundary.Boundary.{Boundary}
 use Rattle.seg_text.specs.Boundaries.{offsets}

@@ -1,4 +1,4 @@
-//! Grapheme clusters: what a reader takes for one character.
+//! The segmenters of grapheme clusters (UAX #29), by a pair table or by a machine: what a reader takes for one character.
 
 ghost use Rattle.std.specs.Prelude.{◌≡◌, ◌↔◌, ℕ, None, List, length, IfOk, IfErr, IsOkAnd, IsTrue};
 ghost use Rattle.std.specs.Iterator.{YieldsFirst, item_count};

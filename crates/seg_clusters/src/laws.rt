@@ -1,4 +1,4 @@
-//! Laws of boundaries.
+//! Laws of boundaries, for the proofs of callers.
 
 pub mod engine;
 pub mod grapheme;

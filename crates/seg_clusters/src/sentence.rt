@@ -1,4 +1,4 @@
-//! Sentences.
+//! The segmenters of sentences (UAX #29), by a pair table or by a machine.
 
 ghost use Rattle.std.specs.Prelude.{◌≡◌, ◌↔◌, ℕ, List, length, IfOk, IfErr, IsTrue};
 ghost use Rattle.std.specs.Iterator.{YieldsFirst, item_count};

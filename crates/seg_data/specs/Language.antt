@@ -1,4 +1,4 @@
--- Languages.
+-- Languages, by the subtag of an identifier (BCP 47).
 use Rattle.std.specs.Prelude.{ℕ, ◌≤◌, List, length, All}
 use Rattle.std.specs.Char.{IsAsciiAlphabetic}
 

@@ -1,4 +1,4 @@
--- What stands between two units, whatever the table says.
+-- What stands between two units, whatever the table says: the lists of CSS Text 3 for line-break (5.3) and word-break: keep-all (5.2).
 use Rattle.std.specs.Prelude.{ℕ, ◌&&◌, ◌||◌, not, Bool, true, false, if◌then◌else◌, Option, Some, None, List, [], ◌∷◌, ◌++◌, map}
 use Rattle.std.specs.Option.{option_map, option_map_or}
 use Rattle.seg_line_rules.specs.declared.options.LineBreakStrictness.{LineBreakStrictness}

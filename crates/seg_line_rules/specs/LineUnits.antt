@@ -1,4 +1,4 @@
--- The units of a text of lines: marks are glued to what stands before them.
+-- The units of a text of lines: a base with the marks after it (UAX #14, LB9).
 use Rattle.std.specs.Prelude.{ℕ, zero, suc, ◌+◌, ◌==◌, ◌&&◌, not, Bool, true, false, if◌then◌else◌, List, [], ◌∷◌, map, ◌≡◌, ◌<◌, Option, Some, None, IfSome}
 use Rattle.seg_text.specs.Items.{Item}
 use Rattle.seg_pairs.specs.declared.elements.Element.{Element}

@@ -1,4 +1,4 @@
-//! Laws of picks.
+//! Laws of picks, for the proofs of engines and callers.
 ghost use Rattle.std.specs.Prelude.{◌≡◌, ◌↔◌, ℕ, ◌+◌, Some, List, [], ◌∷◌, ◌++◌, length, replicate, All};
 ghost use Rattle.seg_machine.specs.Machine.{IsTextSymbol, run, scan};
 ghost use Rattle.seg_machine.specs.Pick.{pick, IsPick};

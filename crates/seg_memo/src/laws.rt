@@ -1,4 +1,4 @@
-//! Laws of look-ups.
+//! Laws of look-ups, for the proofs of callers: at most one of each configuration.
 
 ghost use Rattle.std.specs.Prelude.{◌≡◌, ℕ, List};
 ghost use Rattle.seg_machine.specs.Rows.{condition_at_end, condition_on_own_name, accepted_two_past_end, accepted_from_start, start_accepts, named_past_end};

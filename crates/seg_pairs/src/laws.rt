@@ -1,4 +1,4 @@
-//! Laws of boundaries by pair tables.
+//! Laws of boundaries by pair tables, for the proofs of engines above.
 
 ghost use Rattle.std.specs.Prelude.{◌≡◌, ℕ, List, [], ◌∷◌, Contains};
 ghost use Rattle.seg_pair_data.specs.declared.provider.pairs.BreakState.TheVariants.{Index, Intermediate};

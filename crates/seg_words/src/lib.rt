@@ -1,4 +1,4 @@
-//! Words of texts.
+//! The segmenters of words (UAX #29), and their boundaries by either engine.
 #![tactic(auto)]
 
 mod boundaries;

@@ -1,4 +1,4 @@
-//! Dictionaries.
+//! Dictionaries, made while growths are refused.
 
 use crate::failure::Failure;
 use icu_segmenter::provider::{DataError, DictionaryBreakData};

@@ -1,4 +1,4 @@
-//! Memoised engines.
+//! Memoised engines, made while growths are refused.
 
 use crate::failure::Failure;
 use icu_segmenter::GraphemeClusterSegmenterBorrowed;

@@ -1,4 +1,4 @@
-//! Tables of classes.
+//! Tables of classes, made while growths are refused.
 
 use crate::failure::Failure;
 use icu_segmenter::provider::{ClassTable, DataError};

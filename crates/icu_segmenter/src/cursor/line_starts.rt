@@ -1,4 +1,4 @@
-//! The lines of a text.
+//! Where the lines of a text begin, for cursors that start at one.
 
 ghost use Rattle.std.specs.Prelude.{◌≤◌, length};
 ghost use Rattle.icu_segmenter.specs.NearBoundaries.{BeginsLine};

@@ -1,4 +1,4 @@
-//! The nearest of boundaries.
+//! The nearest of boundaries below and above a place, for `cursor`.
 
 ghost use Rattle.std.specs.Prelude.{◌≤◌, IfSome, length};
 ghost use Rattle.seg_text.specs.Boundaries.{IsCover, offsets};

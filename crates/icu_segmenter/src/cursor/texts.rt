@@ -1,4 +1,4 @@
-//! Texts as cursors take them.
+//! The texts that cursors take: str, UTF-8 and UTF-16, split at a place.
 
 ghost use Rattle.std.specs.Prelude.{◌≡◌, ◌==◌, ◌<◌, ◌≤◌, List, ℕ, drop, length, slice_index, take};
 ghost use Rattle.seg_text.specs.Decoding.{utf8, utf16};

@@ -1,4 +1,4 @@
-//! What texts stand in.
+//! The units of texts, which segments are slices of.
 
 ghost use Rattle.std.specs.Prelude.{◌≡◌, ℕ, ◌≤◌, ⊤, List, length};
 ghost use Rattle.seg_text.specs.Decoding.{utf8};

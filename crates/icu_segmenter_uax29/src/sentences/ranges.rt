@@ -1,4 +1,4 @@
-//! The code points of each symbol.
+//! The code points of each symbol of sentences, for their machine.
 // Written by generate/generate.py from the rows of Unicode 18.0. Do not edit.
 
 #[rattlefmt::skip]

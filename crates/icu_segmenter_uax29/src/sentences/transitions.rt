@@ -1,4 +1,4 @@
-//! The transitions of the machine.
+//! The transitions of the machine of sentences.
 // Written by generate/generate.py from the rules of UAX #29. Do not edit.
 
 #[rattlefmt::skip]

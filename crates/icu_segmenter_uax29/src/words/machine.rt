@@ -1,4 +1,4 @@
-//! The machine, of the arrays that stand in the code.
+//! The machine of words, made of the arrays that stand in the code; segmenters take it.
 ghost use Rattle.std.specs.Prelude.{◌≡◌, IfOk, IfErr};
 ghost use Rattle.seg_data.specs.declared.provider.DataError.TheVariants.{Memory};
 ghost use Rattle.icu_segmenter_uax29.specs.Words.{word_machine};
