@@ -1,3 +1,4 @@
+pub mod Changed
 pub mod Spaces
 pub mod Highlights
 pub mod Fields

@@ -3,6 +3,7 @@
 //! The program calls each once, on the rows that the segmenters' pages show, and prints what it answers.
 #![tactic(auto)]
 
+mod changed;
 mod clusters;
 mod data;
 mod lines;
@@ -12,6 +13,7 @@ mod traits;
 mod words;
 mod wrapped;
 
+use crate::changed::words_split_at_low_lines;
 use crate::clusters::{caret_moves, cluster_places, first_clusters};
 use crate::data::{runs_by_machine, runs_by_table};
 use crate::lines::{breakall_segmenter, filled_lines, mandatory_breaks};
@@ -49,7 +51,8 @@ fn find_all(rt: &HostRuntime) -> Result<()> {
     find_lines_beside_letters(rt)?;
     find_runs(rt)?;
     find_by_traits(rt)?;
-    find_words(rt)
+    find_words(rt)?;
+    find_words_by_a_changed_rule(rt)
 }
 
 // Prints places that are found.
@@ -210,4 +213,13 @@ fn print_words(rt: &HostRuntime, words: WordSegmenterBorrowed<'_>) -> Result<()>
     let shown = highlighted(alloc, words, "ภาษาไทย 42.", "ไทย")?;
     println!(rt; "found there: {}", shown.as_str())?;
     print_count(rt, "words there", word_count(words, "ภาษาไทย 42.") as u64)
+}
+
+fn find_words_by_a_changed_rule(rt: &HostRuntime) -> Result<()> {
+    let words = words_split_at_low_lines(rt.alloc())?;
+    print_count(
+        rt,
+        "words of a_b, where a low line joins nothing",
+        word_count(words.as_borrowed(), "a_b") as u64,
+    )
 }
