@@ -8,10 +8,10 @@ use Rattle.seg_data.specs.declared.provider.DataError.TheVariants.{Memory, Range
 use Rattle.seg_data.specs.Faults.{IsFaultless, IsLowestFault}
 use Rattle.seg_data.specs.Table.{named_values}
 use Rattle.seg_data.proofs.Anywhere.{any-contained}
-use Rattle.seg_pair_data.specs.declared.provider.pairs.BreakState.{BreakState}
-use Rattle.seg_pair_data.specs.declared.provider.pairs.BreakState.TheVariants.{Break, Keep, NoMatch, Intermediate, Index}
-use Rattle.seg_pair_data.specs.PairData.{HasPairFault, HasPairDataFault, NamesStatePast, KeepsStart}
-use Rattle.seg_pair_data.specs.PairTable.{PairTable, entry_of}
+use Rattle.seg_pairs.specs.declared.provider.pairs.BreakState.{BreakState}
+use Rattle.seg_pairs.specs.declared.provider.pairs.BreakState.TheVariants.{Break, Keep, NoMatch, Intermediate, Index}
+use Rattle.seg_pairs.specs.PairData.{HasPairFault, HasPairDataFault, NamesStatePast, KeepsStart}
+use Rattle.seg_pairs.specs.PairTable.{PairTable, entry_of}
 use Rattle.bench.specs.PairTables.{cluster_table, sentence_table, word_table}
 use Rattle.bench.proofs.Faultless.{any-refuted}
 

@@ -7,8 +7,8 @@ use Rattle.seg_data.specs.declared.provider.DataError.TheVariants.{ComplexBelow0
 use Rattle.seg_data.specs.Table.{value_of}
 use Rattle.seg_machine.specs.Machine.{Machine, replaced, symbol_and_script}
 use Rattle.seg_machine.specs.MachineFaults.{HasComplexBelow0100}
-use Rattle.seg_pair_data.specs.PairData.{HasComplexClassBelow0100}
-use Rattle.seg_pair_data.specs.PairTable.{PairTable, class_of}
+use Rattle.seg_pairs.specs.PairData.{HasComplexClassBelow0100}
+use Rattle.seg_pairs.specs.PairTable.{PairTable, class_of}
 use Rattle.icu_segmenter.specs.LineRules.{is_complex_context}
 use Rattle.icu_segmenter.specs.TurnRules.{HasOwnTurnFault}
 use Rattle.bench.specs.Lines.{line_machine}

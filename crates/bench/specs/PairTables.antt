@@ -1,7 +1,7 @@
 -- The bench pair tables of grapheme clusters, of sentences and of words, hand-written ones for tests and for the program.
 use Rattle.std.specs.Prelude.{ℕ, List, [], ◌∷◌}
-use Rattle.seg_pair_data.specs.declared.provider.pairs.BreakState.{BreakState}
-use Rattle.seg_pair_data.specs.declared.provider.pairs.BreakState.TheVariants.{Break, Keep, Index}
+use Rattle.seg_pairs.specs.declared.provider.pairs.BreakState.{BreakState}
+use Rattle.seg_pairs.specs.declared.provider.pairs.BreakState.TheVariants.{Break, Keep, Index}
 use Rattle.icu_segmenter.specs.Table.{Table}
 use Rattle.icu_segmenter.specs.PairTable.{PairTable, pair_table}
 

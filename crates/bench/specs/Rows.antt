@@ -1,6 +1,6 @@
 -- The entries of a pair table by a rule for each of them.
 use Rattle.std.specs.Prelude.{ℕ, zero, suc, List, [], ◌∷◌, ◌++◌}
-use Rattle.seg_pair_data.specs.declared.provider.pairs.BreakState.{BreakState}
+use Rattle.seg_pairs.specs.declared.provider.pairs.BreakState.{BreakState}
 
 -- what stands between a class and each of so many
 unfoldable pub row : (ℕ → ℕ → BreakState) → ℕ → ℕ → List BreakState

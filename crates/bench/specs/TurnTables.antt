@@ -1,7 +1,7 @@
 -- The bench pair table of lines of the engine 17, hand-written for tests and for the program.
 use Rattle.std.specs.Prelude.{ℕ, ◌==◌, ◌||◌, if◌then◌else◌, [], ◌∷◌}
-use Rattle.seg_pair_data.specs.declared.provider.pairs.BreakState.{BreakState}
-use Rattle.seg_pair_data.specs.declared.provider.pairs.BreakState.TheVariants.{Break, Keep}
+use Rattle.seg_pairs.specs.declared.provider.pairs.BreakState.{BreakState}
+use Rattle.seg_pairs.specs.declared.provider.pairs.BreakState.TheVariants.{Break, Keep}
 use Rattle.icu_segmenter.specs.LineRules.{is_one_of}
 use Rattle.icu_segmenter.specs.PairTable.{PairTable, pair_table}
 use Rattle.icu_segmenter.specs.Table.{Table}

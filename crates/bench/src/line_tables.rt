@@ -1,7 +1,7 @@
 //! The bench pair table of lines.
 
 ghost use Rattle.std.specs.Prelude.{◌≡◌, if◌then◌else◌, [], ◌∷◌, ◌++◌, IfOk, OnOk};
-ghost use Rattle.seg_pair_data.specs.declared.provider.pairs.BreakState.TheVariants.{Break, Keep};
+ghost use Rattle.seg_pairs.specs.declared.provider.pairs.BreakState.TheVariants.{Break, Keep};
 ghost use Rattle.icu_segmenter.specs.Faults.{IsFaultless};
 ghost use Rattle.icu_segmenter.specs.LineClasses.LineEngine.{Classic};
 ghost use Rattle.icu_segmenter.specs.LineClasses.LineClass.{BA, BK, CJ, CR, EX, HY, IN, LF, NL, NS, SP, ZW};

@@ -10,7 +10,7 @@ use icu_segmenter::indices::{StrCharIndices, Utf8CharIndices};
 use icu_segmenter::provider::{
     Acceptance, ClassTable, Lookahead, SegmenterStateMachine, State, Symbol,
 };
-use seg_complex::dictionaries::DictionaryCuts;
+use seg_clusters::dictionaries::DictionaryCuts;
 use seg_data::words::WordCursor;
 use seg_machine::tailored_machine::{TailoredMachine, TailoredMachineBorrowed};
 use seg_memo::memo::MemoBreakIterator;

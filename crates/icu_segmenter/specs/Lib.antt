@@ -12,8 +12,8 @@ pub use Rattle.seg_machine.specs.MachineFaults
 pub use Rattle.seg_machine.specs.Pick
 pub use Rattle.seg_memo.specs.Configurations
 pub use Rattle.seg_memo.specs.Memos
-pub use Rattle.seg_pair_data.specs.PairTable
-pub use Rattle.seg_pair_data.specs.PairData
+pub use Rattle.seg_pairs.specs.PairTable
+pub use Rattle.seg_pairs.specs.PairData
 pub use Rattle.seg_pairs.specs.Walk
 pub use Rattle.seg_pairs.specs.Verdict
 pub use Rattle.seg_pairs.specs.Breaks
@@ -32,12 +32,12 @@ pub use Rattle.seg_line_turns.specs.TurnBoundaries
 pub use Rattle.seg_lines.specs.Options
 pub use Rattle.seg_lines.specs.Lines
 pub use Rattle.seg_lines.specs.LineBreaks
-pub use Rattle.seg_complex.specs.Scripts
-pub use Rattle.seg_complex.specs.Spans
+pub use Rattle.seg_clusters.specs.Scripts
+pub use Rattle.seg_clusters.specs.Spans
 pub use Rattle.seg_data.specs.WordSets
 pub use Rattle.seg_data.specs.ScriptWords
-pub use Rattle.seg_complex.specs.DictionaryCuts
-pub use Rattle.seg_complex.specs.Payloads
+pub use Rattle.seg_clusters.specs.DictionaryCuts
+pub use Rattle.seg_clusters.specs.Payloads
 pub use Rattle.seg_words.specs.WordRules
 pub use Rattle.seg_words.specs.Words
 pub use Rattle.seg_wrap.specs.Wrapping

@@ -25,12 +25,12 @@ pub mod provider {
     pub use seg_machine::provider::{
         Acceptance, Lookahead, SegmenterStateMachine, SegmenterStateMachineOverride, State, Symbol,
     };
-    pub use seg_pair_data::provider::{BreakState, RuleBreakData, RuleBreakDataOverride};
+    pub use seg_pairs::provider::{BreakState, RuleBreakData, RuleBreakDataOverride};
 }
 
 /// The cuts of pieces of one script by dictionaries.
 pub mod complex {
-    pub use seg_complex::complex::{
+    pub use seg_clusters::complex::{
         ComplexIterator, ComplexPayloadBorrowed, ComplexPayloadsBorrowed,
     };
 }

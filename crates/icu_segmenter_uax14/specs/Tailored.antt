@@ -6,7 +6,7 @@ use Rattle.seg_data.specs.declared.provider.ComplexScript.{ComplexScript}
 use Rattle.seg_data.specs.ScriptWords.{no_words}
 use Rattle.seg_machine.specs.Machine.{Machine, symbol_and_script, symbols_of, with_tailoring}
 use Rattle.seg_machine.specs.Pick.{machine_boundaries}
-use Rattle.seg_complex.specs.Spans.{inner_cuts}
+use Rattle.seg_clusters.specs.Spans.{inner_cuts}
 use Rattle.seg_lines.specs.LineBreaks.{LineRules, joined, line_boundaries_by}
 use Rattle.seg_lines.specs.LineBreaks.LineFinder.{ByClusters, ByMachine}
 use Rattle.seg_rules.specs.Plain.{plain_places}

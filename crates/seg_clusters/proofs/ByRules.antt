@@ -10,7 +10,7 @@ use Rattle.seg_machine.specs.MachineFaults.{IsChecked}
 use Rattle.seg_machine.specs.Pick.{machine_stretch}
 use Rattle.seg_machine.proofs.Segmentations.{machine-going, machine-alone, machine-within}
 use Rattle.seg_pairs.specs.Breaks.{table_stretch}
-use Rattle.seg_pair_data.specs.PairTable.{PairTable}
+use Rattle.seg_pairs.specs.PairTable.{PairTable}
 use Rattle.seg_pairs.proofs.Engine.{table-going, table-alone, table-within}
 use Rattle.seg_clusters.specs.Rules.{Rules, first_stretch, boundaries_by}
 use Rattle.seg_clusters.specs.Rules.Rules.{ByTable, ByMachine}

@@ -7,8 +7,8 @@ use Rattle.seg_text.specs.Items.{Text}
 use Rattle.seg_text.specs.Boundaries.{boundaries_in, Stretch, list_boundaries, Remainder, shift_all}
 use Rattle.seg_text.specs.Decoding.{latin1, utf8, utf16}
 use Rattle.seg_data.specs.Table.{Table}
-use Rattle.seg_pair_data.specs.PairTable.{PairTable}
-use Rattle.seg_pair_data.specs.PairData.{pair_table_of, override_of, owned_pair_table, owned_override}
+use Rattle.seg_pairs.specs.PairTable.{PairTable}
+use Rattle.seg_pairs.specs.PairData.{pair_table_of, override_of, owned_pair_table, owned_override}
 use Rattle.seg_pairs.specs.Breaks.{table_stretch}
 use Rattle.seg_machine.specs.Machine.{Machine, step, symbol_and_script, symbol_count}
 use Rattle.seg_machine.specs.Pick.{machine_stretch}

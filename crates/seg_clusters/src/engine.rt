@@ -12,7 +12,7 @@ use seg_machine::rule_segmenter_v2;
 use seg_machine::tailored_machine::{TailoredMachine, TailoredMachineBorrowed};
 use seg_memo::memo::{MemoBreakIterator, MemoError};
 use seg_memo::reader::CountedTransitions;
-use seg_pair_data::pair_data::{PairData, PairDataBorrowed};
+use seg_pairs::pair_data::{PairData, PairDataBorrowed};
 use seg_pairs::rule_segmenter_v1;
 use seg_text::cursor::Cursor;
 use std::alloc::{AllocError, Global};

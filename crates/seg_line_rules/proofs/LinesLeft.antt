@@ -8,7 +8,7 @@ use Rattle.seg_text.specs.Items.{Item, Text, place_of, start_of, code_points, Is
 use Rattle.seg_text.specs.Boundaries.{IsCover, boundary, boundaries_in, offsets, Cuts, AreCutsOf, with_status, cut_places, later_boundaries, list_boundaries}
 use Rattle.seg_text.proofs.Covers.{covers, place-between}
 use Rattle.seg_text.proofs.Stretches.{later-nil, text-later-nil}
-use Rattle.seg_complex.specs.Scripts.{PieceCuts, piece_stretch, run_cuts}
+use Rattle.seg_clusters.specs.Scripts.{PieceCuts, piece_stretch, run_cuts}
 use Rattle.seg_line_rules.specs.LineClasses.LineEngine.{Classic}
 use Rattle.seg_line_rules.specs.declared.events.LineEvent.TheVariants.{Run}
 use Rattle.seg_line_rules.specs.LineBoundaries.{CutsCover, inside, line_stretch}

@@ -3,9 +3,9 @@ use Rattle.std.proofs.Common.{◌≡◌, ℕ, suc, ◌+◌, ◌&&◌, ◌||◌, 
 use Rattle.std.proofs.lemmas.List.{drop-drop}
 use Rattle.seg_text.specs.Items.{Item, Text, start_of, rest_after, code_points}
 use Rattle.seg_text.specs.Boundaries.{boundary, Cuts, Stretch}
-use Rattle.seg_pair_data.specs.declared.provider.pairs.BreakState.{BreakState}
-use Rattle.seg_pair_data.specs.declared.provider.pairs.BreakState.TheVariants as entries
-use Rattle.seg_pair_data.specs.PairTable.{entry_of}
+use Rattle.seg_pairs.specs.declared.provider.pairs.BreakState.{BreakState}
+use Rattle.seg_pairs.specs.declared.provider.pairs.BreakState.TheVariants as entries
+use Rattle.seg_pairs.specs.PairTable.{entry_of}
 use Rattle.seg_pairs.specs.Verdict.{Verdict}
 use Rattle.seg_pairs.specs.Verdict.Verdict.{BreakAfter, GoAfter}
 use Rattle.seg_line_rules.specs.LineClasses.{LineEngine}

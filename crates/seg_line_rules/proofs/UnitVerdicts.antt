@@ -1,9 +1,9 @@
 -- A verdict on units takes some of them, and one to go on leaves some; a run begins with two complex ones.
 use Rattle.std.proofs.Common.{◌≡◌, ◌≢◌, ℕ, ◌<◌, ◌≤◌, ◌&&◌, Bool, true, false, cond, Option, Some, None, List, [], ◌∷◌, length, drop, refl, ap, arith}
 use Rattle.std.proofs.lemmas.List.{length-drop, length-map}
-use Rattle.seg_pair_data.specs.declared.provider.pairs.BreakState.{BreakState}
-use Rattle.seg_pair_data.specs.declared.provider.pairs.BreakState.TheVariants.{Break, Keep, NoMatch, Intermediate, Index}
-use Rattle.seg_pair_data.specs.PairTable.{PairTable, entry_of}
+use Rattle.seg_pairs.specs.declared.provider.pairs.BreakState.{BreakState}
+use Rattle.seg_pairs.specs.declared.provider.pairs.BreakState.TheVariants.{Break, Keep, NoMatch, Intermediate, Index}
+use Rattle.seg_pairs.specs.PairTable.{PairTable, entry_of}
 use Rattle.seg_pairs.specs.Walk.{Walk, walk}
 use Rattle.seg_pairs.specs.Verdict.Verdict.{RunBegins}
 use Rattle.seg_pairs.specs.Verdict.{TakesOf, IsForward}

@@ -3,9 +3,9 @@ use Rattle.std.specs.Prelude.{◌≡◌, ◌<◌, ℕ, Option, Some, None, [], �
 use Rattle.seg_text.specs.Items.{Text, code_points, rest_after, start_of}
 use Rattle.seg_text.specs.declared.boundary.Boundary.{Boundary}
 use Rattle.seg_text.specs.Boundaries.{boundary, boundaries_in, Cuts, AreCutsOf, with_status, cut_places, later_boundaries, Remainder}
-use Rattle.seg_pair_data.specs.PairTable.{PairTable, entry_of}
-use Rattle.seg_pair_data.specs.declared.provider.pairs.BreakState.{BreakState}
-use Rattle.seg_pair_data.specs.declared.provider.pairs.BreakState.TheVariants as entries
+use Rattle.seg_pairs.specs.PairTable.{PairTable, entry_of}
+use Rattle.seg_pairs.specs.declared.provider.pairs.BreakState.{BreakState}
+use Rattle.seg_pairs.specs.declared.provider.pairs.BreakState.TheVariants as entries
 use Rattle.seg_pairs.specs.declared.elements.Element.{Element}
 use Rattle.seg_pairs.specs.Elements.{onto}
 use Rattle.seg_line_rules.specs.declared.plain_pairs.ClassedItem.{ClassedItem}

@@ -4,8 +4,8 @@ use Rattle.std.specs.Option.{option_map_or, unwrap_or}
 use Rattle.std.specs.Str.{bytes_eq}
 use Rattle.seg_data.specs.declared.provider.DataError.{DataError}
 use Rattle.seg_data.specs.declared.provider.DataError.TheVariants.{ClassOutOfRange, ComplexBelow0100, ComplexClassNamed}
-use Rattle.seg_pair_data.specs.PairTable.{PairTable, class_of}
-use Rattle.seg_pair_data.specs.PairData.{HasPairDataFault, HasComplexClassBelow0100}
+use Rattle.seg_pairs.specs.PairTable.{PairTable, class_of}
+use Rattle.seg_pairs.specs.PairData.{HasPairDataFault, HasComplexClassBelow0100}
 use Rattle.seg_line_rules.specs.declared.options.LineBreakOptions.{LineBreakOptions}
 use Rattle.seg_line_rules.specs.declared.options.LineBreakStrictness.{LineBreakStrictness}
 use Rattle.seg_line_rules.specs.declared.options.LineBreakStrictness.TheVariants as strictness

@@ -1,8 +1,8 @@
 -- The verdict on the first of some units of lines.
 use Rattle.std.specs.Prelude.{ℕ, zero, suc, ◌&&◌, ◌||◌, Bool, true, false, if◌then◌else◌, Option, Some, None, List, [], ◌∷◌, drop, map}
-use Rattle.seg_pair_data.specs.declared.provider.pairs.BreakState.{BreakState}
-use Rattle.seg_pair_data.specs.declared.provider.pairs.BreakState.TheVariants.{Break, Keep, NoMatch, Intermediate, Index}
-use Rattle.seg_pair_data.specs.PairTable.{PairTable, entry_of}
+use Rattle.seg_pairs.specs.declared.provider.pairs.BreakState.{BreakState}
+use Rattle.seg_pairs.specs.declared.provider.pairs.BreakState.TheVariants.{Break, Keep, NoMatch, Intermediate, Index}
+use Rattle.seg_pairs.specs.PairTable.{PairTable, entry_of}
 use Rattle.seg_pairs.specs.Walk.{Walk, is_class}
 use Rattle.seg_pairs.specs.Verdict.{Verdict, unasked, walk_from}
 use Rattle.seg_pairs.specs.Verdict.Verdict.{BreakAfter, GoAfter, RunBegins}

@@ -5,13 +5,13 @@ ghost use Rattle.std.specs.Prelude.{◌≡◌, ⊤, [], ◌∷◌};
 ghost use Rattle.std.specs.Iterator.{YieldsFirst, MakesProgress, item_count};
 ghost use Rattle.seg_text.specs.Items.{start_of};
 ghost use Rattle.seg_text.specs.Boundaries.{GivesNext, IsCover, boundary, offsets_left};
-ghost use Rattle.seg_complex.specs.Payloads.{payloads_of, run_cuts_by};
+ghost use Rattle.seg_clusters.specs.Payloads.{payloads_of, run_cuts_by};
 ghost use Rattle.seg_line_rules.specs.LineBoundaries.{inside, table_line_boundaries_of, rules_by};
 
 use crate::events::{LineEvent, LineEvents, LineSource};
 use crate::inside_cuts::InsideCuts;
 use crate::line_pairs::LinePairs;
-use seg_complex::complex::ComplexPayloadsBorrowed;
+use seg_clusters::complex::ComplexPayloadsBorrowed;
 use seg_text::cursor::Cursor;
 use std::marker::Model;
 
@@ -28,7 +28,7 @@ pub struct TableLines<'data, S: LineSource> {
 
 impl<'data, S: LineSource> Model for TableLines<'data, S> {
     ghost use Rattle.seg_text.specs.Boundaries.{Remainder};
-    ghost use Rattle.seg_complex.specs.Payloads.{payloads_of, run_cuts_by};
+    ghost use Rattle.seg_clusters.specs.Payloads.{payloads_of, run_cuts_by};
     ghost use Rattle.seg_line_rules.specs.LineBoundaries.{inside};
     ghost use Rattle.seg_line_rules.specs.LineEvents.{line_remainder};
 

@@ -3,11 +3,11 @@
 ghost use Rattle.std.specs.Prelude.{◌≡◌};
 ghost use Rattle.std.specs.Iterator.{YieldsFirst, item_count};
 ghost use Rattle.seg_text.specs.Boundaries.{cut_places};
-ghost use Rattle.seg_complex.specs.Payloads.{payloads_of, run_cuts_by};
+ghost use Rattle.seg_clusters.specs.Payloads.{payloads_of, run_cuts_by};
 ghost use Rattle.seg_line_rules.specs.LineBoundaries.{inside};
 
-use seg_complex::complex::ComplexPayloadsBorrowed;
-use seg_complex::runs::RunCuts;
+use seg_clusters::complex::ComplexPayloadsBorrowed;
+use seg_clusters::runs::RunCuts;
 use seg_text::cursor::Cursor;
 use std::marker::Model;
 

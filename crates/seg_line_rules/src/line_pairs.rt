@@ -1,7 +1,7 @@
 //! Pair tables of lines, with what options say. They aren't part of the library's surface.
 ghost use Rattle.std.specs.Prelude.{◌≡◌, ◌<◌, false, None, IfOk, IfErr};
 ghost use Rattle.seg_data.specs.Faults.{IsFaultless, IsLowestFault};
-ghost use Rattle.seg_pair_data.specs.PairData.{HasPairDataFault};
+ghost use Rattle.seg_pairs.specs.PairData.{HasPairDataFault};
 ghost use Rattle.seg_line_rules.specs.LineClasses.{class_number};
 ghost use Rattle.seg_line_rules.specs.LineClasses.LineClass.{ID};
 ghost use Rattle.seg_line_rules.specs.LineClasses.LineEngine.{Classic};
@@ -9,8 +9,8 @@ ghost use Rattle.seg_line_rules.specs.LineRules.{is_named_class, class_read, is_
 
 use crate::options::LineStyle;
 use seg_data::provider::DataError;
-use seg_pair_data::pair_data::PairDataBorrowed;
-use seg_pair_data::provider::RuleBreakData;
+use seg_pairs::pair_data::PairDataBorrowed;
+use seg_pairs::provider::RuleBreakData;
 
 /// A pair table of lines of its own, with what options say.
 #[derive(Debug, Drop)]

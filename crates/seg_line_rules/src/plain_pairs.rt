@@ -8,7 +8,7 @@ ghost use Rattle.seg_line_rules.specs.LineUnits.{is_joiner};
 use crate::line_pairs::LinePairs;
 use crate::options::LineStyle;
 use crate::units::is_mark;
-use seg_pair_data::provider::{BreakState, RuleBreakData};
+use seg_pairs::provider::{BreakState, RuleBreakData};
 use seg_pairs::walk::entry_after;
 use seg_text::cursor::Cursor;
 

@@ -1,7 +1,7 @@
 //! What comes after a unit of lines: a boundary, none, or a run of complex code points.
 
 ghost use Rattle.std.specs.Prelude.{◌≡◌, ◌<◌, List, ◌∷◌};
-ghost use Rattle.seg_pair_data.specs.PairTable.{entry_of};
+ghost use Rattle.seg_pairs.specs.PairTable.{entry_of};
 ghost use Rattle.seg_pairs.specs.Verdict.{Lands, LandsOrWalks, IsStepBelow};
 ghost use Rattle.seg_line_rules.specs.LineBoundaries.{rules_by};
 ghost use Rattle.seg_line_rules.specs.LineVerdict.{step_unless, begins_run, case_of, unit_first_verdict, unit_named_verdict, unit_verdict};
@@ -9,7 +9,7 @@ ghost use Rattle.seg_line_rules.specs.LineUnits.{unit_seen, units_seen};
 
 use crate::line_pairs::LinePairs;
 use crate::lists::{keeps, listed};
-use seg_pair_data::provider::{BreakState, RuleBreakData};
+use seg_pairs::provider::{BreakState, RuleBreakData};
 use seg_pairs::elements::{Element, Elements};
 use seg_pairs::verdicts::{Step, Verdicts};
 use seg_pairs::walk::{Stop, entry_between, is_class, state_named, walk};

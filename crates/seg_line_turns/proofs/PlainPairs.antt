@@ -4,9 +4,9 @@ use Rattle.std.proofs.lemmas.Bool.{eqb-true}
 use Rattle.seg_text.specs.declared.boundary.Boundary.{Boundary}
 use Rattle.seg_text.specs.Boundaries.{boundary, boundary_in, boundaries_in, Cuts}
 use Rattle.seg_text.specs.Items.{Item, Text, start_of, rest_after, code_points}
-use Rattle.seg_pair_data.specs.declared.provider.pairs.BreakState.{BreakState}
-use Rattle.seg_pair_data.specs.declared.provider.pairs.BreakState.TheVariants as entries
-use Rattle.seg_pair_data.specs.PairTable.{entry_of}
+use Rattle.seg_pairs.specs.declared.provider.pairs.BreakState.{BreakState}
+use Rattle.seg_pairs.specs.declared.provider.pairs.BreakState.TheVariants as entries
+use Rattle.seg_pairs.specs.PairTable.{entry_of}
 use Rattle.seg_line_rules.specs.LineRules.{TableRules, is_one_of, is_complex_context, line_class}
 use Rattle.seg_line_rules.specs.LineEvents.{asks_more, text_from, HasClass}
 use Rattle.seg_line_rules.specs.declared.plain_pairs.PlainPair.{PlainPair}

@@ -3,9 +3,9 @@ use Rattle.std.proofs.Common.{◌≡◌, ℕ, zero, suc, ◌+◌, ◌<◌, ◌&&
 use Rattle.std.proofs.lemmas.List.{drop-map}
 use Rattle.seg_text.specs.declared.boundary.Boundary.{Boundary}
 use Rattle.seg_text.specs.Boundaries.{start, shift_all, boundary, Cuts, later_boundaries_within, later_boundaries}
-use Rattle.seg_pair_data.specs.declared.provider.pairs.BreakState.{BreakState}
-use Rattle.seg_pair_data.specs.declared.provider.pairs.BreakState.TheVariants.{Break, Keep, NoMatch, Intermediate, Index}
-use Rattle.seg_pair_data.specs.PairTable.{entry_of}
+use Rattle.seg_pairs.specs.declared.provider.pairs.BreakState.{BreakState}
+use Rattle.seg_pairs.specs.declared.provider.pairs.BreakState.TheVariants.{Break, Keep, NoMatch, Intermediate, Index}
+use Rattle.seg_pairs.specs.PairTable.{entry_of}
 use Rattle.seg_pairs.specs.Walk.{is_class}
 use Rattle.seg_pairs.specs.Verdict.{Verdict}
 use Rattle.seg_pairs.specs.Verdict.Verdict.{BreakAfter, GoAfter, RunBegins}

@@ -5,10 +5,10 @@ use Rattle.std.specs.Option.{option_map_or}
 use Rattle.std.proofs.lemmas.List.{length-drop}
 use Rattle.std.proofs.lemmas.List.Folds.{length-prefix_len}
 use Rattle.seg_text.specs.Boundaries.{shift_all, Cuts, with_status}
-use Rattle.seg_pair_data.specs.declared.provider.pairs.BreakState.{BreakState}
-use Rattle.seg_pair_data.specs.declared.provider.pairs.BreakState.TheVariants.{Break, Keep, NoMatch, Intermediate, Index}
-use Rattle.seg_pair_data.specs.PairTable.{named_state, is_intermediate, IsPairTable, class_of, entry_of}
-use Rattle.seg_pair_data.proofs.Pairs.{class-below, class-table}
+use Rattle.seg_pairs.specs.declared.provider.pairs.BreakState.{BreakState}
+use Rattle.seg_pairs.specs.declared.provider.pairs.BreakState.TheVariants.{Break, Keep, NoMatch, Intermediate, Index}
+use Rattle.seg_pairs.specs.PairTable.{named_state, is_intermediate, IsPairTable, class_of, entry_of}
+use Rattle.seg_pairs.proofs.Pairs.{class-below, class-table}
 use Rattle.seg_pairs.specs.Walk.{is_class}
 use Rattle.seg_line_rules.specs.LineRules.{TableRules, is_complex_point, is_complex_context, is_read_as_id, line_class}
 use Rattle.seg_line_rules.specs.LineClasses.{class_number}

@@ -1,7 +1,7 @@
 -- Turns and walks as their items are read, one after another.
 use Rattle.std.proofs.Common.{◌≡◌, ℕ, suc, ◌||◌, Bool, true, false, cond, List, [], ◌∷◌, refl, sym, ap, ◌∙◌}
 use Rattle.seg_text.specs.Items.{Item, Text, start_of, code_points}
-use Rattle.seg_pair_data.specs.PairTable.{entry_of}
+use Rattle.seg_pairs.specs.PairTable.{entry_of}
 use Rattle.seg_line_rules.specs.LineRules.{TableRules, line_class}
 use Rattle.seg_line_rules.specs.LineClasses.LineEngine.{Seventeen}
 use Rattle.seg_line_turns.specs.declared.turn_units.Left.{Left}

@@ -3,8 +3,8 @@ use Rattle.std.specs.Prelude.{◌≡◌, ℕ, zero, suc, ◌+◌, ◌-◌, ◌&&
 use Rattle.seg_text.specs.declared.boundary.Boundary.{Boundary}
 use Rattle.seg_text.specs.Boundaries.{boundary, boundaries_in, start, shift_all, Cuts, with_status}
 use Rattle.seg_text.specs.Items.{Text}
-use Rattle.seg_pair_data.specs.declared.provider.pairs.BreakState.TheVariants.{Index}
-use Rattle.seg_pair_data.specs.PairTable.{PairTable, entry_of}
+use Rattle.seg_pairs.specs.declared.provider.pairs.BreakState.TheVariants.{Index}
+use Rattle.seg_pairs.specs.PairTable.{PairTable, entry_of}
 use Rattle.seg_line_rules.specs.LineRules.{TableRules}
 use Rattle.seg_line_rules.specs.LineBoundaries.{inside, complex_length}
 use Rattle.seg_line_rules.specs.LineUnits.{bears_none}

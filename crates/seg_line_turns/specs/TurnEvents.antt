@@ -3,9 +3,9 @@ use Rattle.std.specs.Prelude.{◌≡◌, ◌&&◌, ℕ, Bool, true, false, if◌
 use Rattle.seg_text.specs.Items.{Text, rest_after}
 use Rattle.seg_text.specs.declared.boundary.Boundary.{Boundary}
 use Rattle.seg_text.specs.Boundaries.{boundary, boundaries_in, Cuts}
-use Rattle.seg_pair_data.specs.declared.provider.pairs.BreakState.{BreakState}
-use Rattle.seg_pair_data.specs.declared.provider.pairs.BreakState.TheVariants as entries
-use Rattle.seg_pair_data.specs.PairTable.{PairTable, entry_of}
+use Rattle.seg_pairs.specs.declared.provider.pairs.BreakState.{BreakState}
+use Rattle.seg_pairs.specs.declared.provider.pairs.BreakState.TheVariants as entries
+use Rattle.seg_pairs.specs.PairTable.{PairTable, entry_of}
 use Rattle.seg_line_rules.specs.declared.plain_pairs.ClassedItem.{ClassedItem}
 use Rattle.seg_line_rules.specs.LineEvents.{text_from, HasClass, UnreadText}
 use Rattle.seg_line_rules.specs.LineRules.{TableRules, is_one_of, is_complex_context}

@@ -2,9 +2,9 @@
 use Rattle.std.specs.Prelude.{◌≡◌, ℕ, ◌<◌, ◌&&◌, suc, Bool, if◌then◌else◌}
 use Rattle.std.specs.Option.{option_map}
 use Rattle.seg_text.specs.Items.{Text, start_of, rest_after, code_points}
-use Rattle.seg_pair_data.specs.declared.provider.pairs.BreakState.{BreakState}
-use Rattle.seg_pair_data.specs.declared.provider.pairs.BreakState.TheVariants as entries
-use Rattle.seg_pair_data.specs.declared.provider.pairs.BreakState.TheVariants.{Keep, NoMatch, Intermediate, Index}
+use Rattle.seg_pairs.specs.declared.provider.pairs.BreakState.{BreakState}
+use Rattle.seg_pairs.specs.declared.provider.pairs.BreakState.TheVariants as entries
+use Rattle.seg_pairs.specs.declared.provider.pairs.BreakState.TheVariants.{Keep, NoMatch, Intermediate, Index}
 use Rattle.seg_line_rules.specs.LineRules.{TableRules}
 use Rattle.seg_line_rules.specs.LineUnits.{is_joiner}
 use Rattle.seg_line_rules.specs.LineClasses.LineEngine.{Seventeen}

@@ -2,8 +2,8 @@
 use Rattle.std.specs.Prelude.{ℕ, Bool, None, suc, ◌≡◌, ◌≢◌, ◌<◌, ◌≤◌, ◌⊎◌, true}
 use Rattle.seg_data.specs.declared.provider.DataError.{DataError}
 use Rattle.seg_data.specs.declared.provider.DataError.TheVariants.{ClassOutOfRange, ComplexBelow0100, ComplexClassNamed}
-use Rattle.seg_pair_data.specs.PairTable.{class_of, PairTable}
-use Rattle.seg_pair_data.specs.PairData.{HasPairDataFault}
+use Rattle.seg_pairs.specs.PairTable.{class_of, PairTable}
+use Rattle.seg_pairs.specs.PairData.{HasPairDataFault}
 use Rattle.seg_line_rules.specs.LineRules.{TableRules, is_complex_context, line_class}
 use Rattle.seg_line_rules.specs.LineClasses.{class_number}
 use Rattle.seg_line_rules.specs.LineClasses.LineClass.{ID, SA}

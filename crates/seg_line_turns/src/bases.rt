@@ -10,7 +10,7 @@ ghost use Rattle.seg_line_turns.specs.Turns.Turn.{BreakAt, GoTo};
 use crate::classes::{is_after_quote, is_hyphen, is_letter, is_mark};
 use crate::turn_pairs::TurnPairs;
 use crate::turn_units::TurnOutcome;
-use seg_pair_data::provider::RuleBreakData;
+use seg_pairs::provider::RuleBreakData;
 use seg_text::cursor::Cursor;
 
 /// The base that comes after some marks.

@@ -2,12 +2,12 @@
 ghost use Rattle.std.specs.Prelude.{◌≡◌};
 ghost use Rattle.seg_text.specs.Items.{start_of};
 ghost use Rattle.seg_text.specs.Boundaries.{IsCover};
-ghost use Rattle.seg_complex.specs.Payloads.{payloads_of, run_cuts_by};
+ghost use Rattle.seg_clusters.specs.Payloads.{payloads_of, run_cuts_by};
 ghost use Rattle.seg_line_turns.specs.TurnBoundaries.{turn_boundaries_of, turn_rules_by};
 
 use crate::turn_events::TurnEvents;
 use crate::turn_pairs::TurnPairs;
-use seg_complex::complex::ComplexPayloadsBorrowed;
+use seg_clusters::complex::ComplexPayloadsBorrowed;
 use seg_line_rules::boundaries::TableLines;
 use seg_text::cursor::Cursor;
 

@@ -5,7 +5,7 @@ ghost use Rattle.seg_line_rules.specs.LineRules.{is_complex_context};
 ghost use Rattle.seg_line_rules.specs.LineUnits.{bears_none, is_mark};
 ghost use Rattle.seg_line_turns.specs.TurnClasses.{is_after_quote, is_before_hyphen, is_before_quote, is_glue, is_hyphen, is_letter, is_opening, is_start};
 
-use seg_pair_data::provider::RuleBreakData;
+use seg_pairs::provider::RuleBreakData;
 
 /// Whether the class is one of marks.
 #[tactic(auto, unfolding(seg_line_rules::specs::LineUnits::is_mark))]

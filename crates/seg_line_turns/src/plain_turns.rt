@@ -10,7 +10,7 @@ use crate::classes::{
 use crate::turn_pairs::TurnPairs;
 use crate::turn_units::is_joiner;
 use seg_line_rules::plain_pairs::{ClassedItem, Passed, PlainPair, pairs_passed};
-use seg_pair_data::provider::{BreakState, RuleBreakData};
+use seg_pairs::provider::{BreakState, RuleBreakData};
 use seg_pairs::walk::entry_after;
 use seg_text::cursor::Cursor;
 

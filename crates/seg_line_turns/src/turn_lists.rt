@@ -10,7 +10,7 @@ use seg_line_rules::lists::{
     is_wave, unless_joined,
 };
 use seg_line_rules::options::{LineBreakStrictness, LineStyle};
-use seg_pair_data::provider::RuleBreakData;
+use seg_pairs::provider::RuleBreakData;
 
 /// Whether no boundary stands between two classes under `KeepAll`.
 #[tactic(auto, unfolding(seg_line_rules::specs::LineLists::keeps))]

@@ -12,8 +12,8 @@ use crate::classes::is_complex;
 use seg_data::provider::DataError;
 use seg_line_rules::line_pairs::check_clusters;
 use seg_line_rules::options::LineStyle;
-use seg_pair_data::pair_data::PairDataBorrowed;
-use seg_pair_data::provider::RuleBreakData;
+use seg_pairs::pair_data::PairDataBorrowed;
+use seg_pairs::provider::RuleBreakData;
 
 /// A pair table of lines of the engine 17 of its own, with what options say.
 #[derive(Debug, Drop)]

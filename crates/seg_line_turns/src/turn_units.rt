@@ -4,7 +4,7 @@ ghost use Rattle.seg_line_rules.specs.LineClasses.LineEngine.{Seventeen};
 ghost use Rattle.seg_line_rules.specs.LineUnits.{is_joiner};
 ghost use Rattle.seg_line_turns.specs.TurnPlaces.{outcome_unless};
 
-use seg_pair_data::provider::RuleBreakData;
+use seg_pairs::provider::RuleBreakData;
 
 /// An item with the marks that are glued to it.
 #[derive(Clone, Copy, Debug)]

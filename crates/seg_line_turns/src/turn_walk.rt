@@ -1,7 +1,7 @@
 //! Walks through the states of the table by the rules of the engine 17.
 ghost use Rattle.std.specs.Prelude.{◌≡◌, ◌<◌, ℕ, suc};
 ghost use Rattle.seg_text.specs.Items.{Text, code_points};
-ghost use Rattle.seg_pair_data.specs.PairTable.{entry_of};
+ghost use Rattle.seg_pairs.specs.PairTable.{entry_of};
 ghost use Rattle.seg_line_turns.specs.TurnBoundaries.{turn_rules_by};
 ghost use Rattle.seg_line_turns.specs.TurnPlaces.{IsWalkAt, item_place, placed, step_at, walker_seen, IsBelowState};
 ghost use Rattle.seg_line_turns.specs.Turns.{space_step, sticks, walk_back_turn, walk_end_turn, walk_entry_step, walk_step, walk_stop_turn, walk_turn};
@@ -10,7 +10,7 @@ use crate::bases::{go_to_base, letter_comes};
 use crate::classes::{bears_none, is_glue, is_hyphen};
 use crate::turn_pairs::TurnPairs;
 use crate::turn_units::{TurnOutcome, is_joiner, unless};
-use seg_pair_data::provider::{BreakState, RuleBreakData};
+use seg_pairs::provider::{BreakState, RuleBreakData};
 use seg_pairs::walk::{entry_after, entry_at_end, is_class, saves, state_named};
 use seg_text::cursor::Cursor;
 

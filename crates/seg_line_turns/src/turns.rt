@@ -1,7 +1,7 @@
 //! Turns by the rules of the engine 17.
 ghost use Rattle.std.specs.Prelude.{◌≡◌, ◌<◌, ℕ, suc};
 ghost use Rattle.seg_text.specs.Items.{Text, code_points, rest_after};
-ghost use Rattle.seg_pair_data.specs.PairTable.{entry_of};
+ghost use Rattle.seg_pairs.specs.PairTable.{entry_of};
 ghost use Rattle.seg_line_rules.specs.LineEvents.{HasClass};
 ghost use Rattle.seg_line_rules.specs.LineRules.{line_class};
 ghost use Rattle.seg_line_turns.specs.TurnBoundaries.{turn_rules_by};
@@ -21,7 +21,7 @@ use crate::turn_units::{Left, TurnOutcome, is_joiner, unless};
 use crate::turn_walk::{Walker, walk};
 use seg_line_rules::lists::Neighbours;
 use seg_line_rules::plain_pairs::ClassedItem;
-use seg_pair_data::provider::{BreakState, RuleBreakData};
+use seg_pairs::provider::{BreakState, RuleBreakData};
 use seg_pairs::walk::{entry_after, entry_at_start, is_class, state_named};
 use seg_text::cursor::Cursor;
 

@@ -10,10 +10,10 @@ use Rattle.seg_machine.specs.MachineFaults.{IsChecked}
 use Rattle.seg_machine.specs.Machine.{Machine}
 use Rattle.seg_machine.specs.Pick.{machine_boundaries, machine_stretch}
 use Rattle.seg_machine.proofs.Segmentations.{machine-within}
-use Rattle.seg_complex.specs.Spans.{inner_cuts}
-use Rattle.seg_complex.specs.Payloads.{Payloads, piece_cuts_by}
-use Rattle.seg_complex.specs.Scripts.{CoverPieces}
-use Rattle.seg_complex.proofs.InnerRange.{AreBetween, between-more, inner-between}
+use Rattle.seg_clusters.specs.Spans.{inner_cuts}
+use Rattle.seg_clusters.specs.Payloads.{Payloads, piece_cuts_by}
+use Rattle.seg_clusters.specs.Scripts.{CoverPieces}
+use Rattle.seg_clusters.proofs.InnerRange.{AreBetween, between-more, inner-between}
 use Rattle.seg_lines.specs.LineBreaks.{AreAbove, AreRising, joined, with_cut, boundaries_with}
 use Rattle.seg_lines.specs.LineBreaks.LineFinder.{ByMachine}
 use Rattle.seg_lines.proofs.Joins.{AreAtMost, boundary-first, cut-after, cut-ahead, cut-at, joined-places}

@@ -8,7 +8,7 @@ use Rattle.seg_text.specs.declared.boundary.Boundary.{Boundary}
 use Rattle.seg_text.specs.Items.{Text, IsRising, start_of, rest_after}
 use Rattle.seg_text.specs.Boundaries.{Remainder, boundary, boundary_in, offsets, offsets_left}
 use Rattle.seg_text.proofs.Covers.{place-between}
-use Rattle.seg_complex.proofs.InnerCuts.{first-taken}
+use Rattle.seg_clusters.proofs.InnerCuts.{first-taken}
 use Rattle.seg_lines.specs.LineBreaks.{AreAbove, AreRising, joined, with_cut}
 
 abbrev pub AreAtMost : ℕ → List ℕ → Type 0

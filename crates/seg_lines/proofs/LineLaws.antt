@@ -12,13 +12,13 @@ use Rattle.seg_machine.specs.declared.tailored_machine.TailoredMachineBorrowed.{
 use Rattle.seg_machine.proofs.Segmentations.{machine-alone, machine-going}
 use Rattle.seg_clusters.specs.Rules.{boundaries_by, first_stretch}
 use Rattle.seg_clusters.proofs.ByRules.{going, restarts-by}
-use Rattle.seg_complex.specs.Spans.{inner_cuts, inner_stretch}
-use Rattle.seg_complex.specs.Payloads.{Payloads, piece_cuts_by, run_cuts_by}
-use Rattle.seg_complex.specs.Scripts.{CoverPieces}
-use Rattle.seg_complex.proofs.EqualSpans.{same-inner-cuts}
-use Rattle.seg_complex.proofs.EqualWords.{same-run-cuts}
-use Rattle.seg_complex.proofs.SpanStretches.{span-some}
-use Rattle.seg_complex.proofs.UnwordedSpans.{inner-none}
+use Rattle.seg_clusters.specs.Spans.{inner_cuts, inner_stretch}
+use Rattle.seg_clusters.specs.Payloads.{Payloads, piece_cuts_by, run_cuts_by}
+use Rattle.seg_clusters.specs.Scripts.{CoverPieces}
+use Rattle.seg_clusters.proofs.EqualSpans.{same-inner-cuts}
+use Rattle.seg_clusters.proofs.EqualWords.{same-run-cuts}
+use Rattle.seg_clusters.proofs.SpanStretches.{span-some}
+use Rattle.seg_clusters.proofs.UnwordedSpans.{inner-none}
 use Rattle.seg_line_rules.specs.declared.line_pairs.LinePairs.{LinePairs}
 use Rattle.seg_line_rules.specs.LineBoundaries.{inside, line_boundaries, line_stretch, rules_by, KeepsMarks}
 use Rattle.seg_line_rules.specs.LineRules.{TableRules}

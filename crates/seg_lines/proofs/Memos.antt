@@ -8,7 +8,7 @@ use Rattle.seg_machine.specs.Pick.{machine_boundaries}
 use Rattle.seg_memo.specs.declared.memo.MemoError.{MemoError}
 use Rattle.seg_memo.specs.Memos.{IsNewMemo, Memo}
 use Rattle.seg_data.specs.ScriptWords.{no_words}
-use Rattle.seg_complex.specs.Payloads.{Payloads}
+use Rattle.seg_clusters.specs.Payloads.{Payloads}
 use Rattle.seg_lines.specs.LineBreaks.{boundaries_with}
 use Rattle.seg_lines.specs.LineBreaks.LineFinder.{ByMachine}
 use Rattle.seg_lines.proofs.LineLaws.{without-cuts}

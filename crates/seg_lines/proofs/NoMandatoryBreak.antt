@@ -7,7 +7,7 @@ use Rattle.seg_text.specs.Boundaries.{shift_all, offsets, Cuts, with_status, Str
 use Rattle.seg_pairs.specs.Verdict.{Verdict}
 use Rattle.seg_pairs.specs.Verdict.Verdict.{BreakAfter, GoAfter, RunBegins}
 use Rattle.seg_clusters.specs.Rules.{boundaries_by}
-use Rattle.seg_complex.specs.Payloads.{Payloads, run_cuts_by}
+use Rattle.seg_clusters.specs.Payloads.{Payloads, run_cuts_by}
 use Rattle.seg_line_rules.specs.LineBoundaries.{inside, line_stretch, line_stretch_of, line_verdict}
 use Rattle.seg_line_rules.specs.LineRules.{TableRules}
 use Rattle.seg_line_rules.specs.LineClasses.LineEngine.{Seventeen, Classic}

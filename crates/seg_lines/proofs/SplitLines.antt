@@ -13,11 +13,11 @@ use Rattle.seg_machine.specs.MachineFaults.{IsChecked}
 use Rattle.seg_machine.specs.Machine.{Machine as AnyMachine}
 use Rattle.seg_machine.specs.declared.tailored_machine.TailoredMachineBorrowed.{TailoredMachineBorrowed}
 use Rattle.seg_machine.specs.Pick.{machine_boundaries, machine_stretch}
-use Rattle.seg_complex.specs.Spans.{inner_cuts}
-use Rattle.seg_complex.specs.Scripts.{later_places, CoverPieces}
-use Rattle.seg_complex.specs.Payloads.{Payloads, piece_cuts_by}
-use Rattle.seg_complex.proofs.InnerRange.{inner-between}
-use Rattle.seg_complex.proofs.SplitSpans.{cuts-split}
+use Rattle.seg_clusters.specs.Spans.{inner_cuts}
+use Rattle.seg_clusters.specs.Scripts.{later_places, CoverPieces}
+use Rattle.seg_clusters.specs.Payloads.{Payloads, piece_cuts_by}
+use Rattle.seg_clusters.proofs.InnerRange.{inner-between}
+use Rattle.seg_clusters.proofs.SplitSpans.{cuts-split}
 use Rattle.seg_lines.specs.LineBreaks.{AreAbove, joined, with_cut, boundaries_with, LinesResetWith}
 use Rattle.seg_lines.specs.LineBreaks.LineFinder.{ByMachine, ByPlaces}
 use Rattle.seg_lines.specs.Lines.{finder_of}

@@ -5,13 +5,13 @@ use Rattle.seg_text.specs.declared.boundary.Boundary.{Boundary}
 use Rattle.seg_text.specs.Boundaries.{boundary, offsets, boundaries_in, AreBoundaries, AreLaterBoundaries, Stretch, list_boundaries, with_status, Remainder}
 use Rattle.seg_text.specs.Items.{Text}
 use Rattle.seg_data.specs.ScriptWords.{ScriptWords, no_words}
-use Rattle.seg_pair_data.specs.PairTable.{PairTable}
+use Rattle.seg_pairs.specs.PairTable.{PairTable}
 use Rattle.seg_machine.specs.Machine.{Machine}
 use Rattle.seg_machine.specs.Pick.{machine_stretch}
 use Rattle.seg_clusters.specs.Rules.{boundaries_by, first_stretch, machine_in, ResetsAfter}
 use Rattle.seg_clusters.specs.Rules.Rules.{ByMachine as ByClusterMachine, ByTable as ByClusterTable}
-use Rattle.seg_complex.specs.Spans.{inner_cuts, inner_stretch, IsOutsideRuns}
-use Rattle.seg_complex.specs.Payloads.{Payloads, run_cuts_by}
+use Rattle.seg_clusters.specs.Spans.{inner_cuts, inner_stretch, IsOutsideRuns}
+use Rattle.seg_clusters.specs.Payloads.{Payloads, run_cuts_by}
 use Rattle.seg_line_rules.specs.declared.options.LineBreakStrictness.{LineBreakStrictness}
 use Rattle.seg_line_rules.specs.declared.options.LineBreakStrictness.TheVariants as strictness
 use Rattle.seg_line_rules.specs.LineBoundaries.{HasComplexCodePoint, inside, line_boundaries, line_stretch}

@@ -10,7 +10,7 @@ use Rattle.seg_machine.specs.MachineFaults.{HasComplexBelow0100, HasTailoringFau
 use Rattle.seg_machine.specs.Tailored.{machine_of, owned_machine}
 use Rattle.seg_clusters.specs.Rules.Rules.{ByMachine as ByClusterMachine}
 use Rattle.seg_clusters.specs.Clusters.{owned_cluster_rules}
-use Rattle.seg_complex.specs.Payloads.{payloads_of}
+use Rattle.seg_clusters.specs.Payloads.{payloads_of}
 use Rattle.seg_line_rules.specs.LineBoundaries.{owned_rules_by, rules_by}
 use Rattle.seg_line_turns.specs.TurnBoundaries.{owned_turn_rules_by, turn_rules_by}
 use Rattle.seg_lines.specs.declared.finder.Finder.{Finder}

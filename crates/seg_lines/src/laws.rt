@@ -4,7 +4,7 @@ ghost use Rattle.std.specs.Prelude.{◌≡◌, ℕ, List};
 ghost use Rattle.seg_text.specs.Boundaries.{HasEqualOrdinals, RestartsIn};
 ghost use Rattle.seg_data.specs.ScriptWords.{ScriptWords, AreSameWords};
 ghost use Rattle.seg_clusters.specs.Rules.{PartsTexts};
-ghost use Rattle.seg_complex.specs.Payloads.{run_cuts_by};
+ghost use Rattle.seg_clusters.specs.Payloads.{run_cuts_by};
 ghost use Rattle.seg_line_rules.specs.LineBoundaries.{inside, line_boundaries, KeepsMarks};
 ghost use Rattle.seg_line_rules.specs.LineClasses.LineEngine.{Classic, Seventeen};
 ghost use Rattle.seg_line_rules.specs.LineRules.{TableRules};

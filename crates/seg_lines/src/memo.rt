@@ -4,13 +4,13 @@ ghost use Rattle.std.specs.Prelude.{◌≡◌, ◌≢◌, IfOk, IfErr};
 ghost use Rattle.seg_text.specs.Boundaries.{boundaries_in};
 ghost use Rattle.seg_memo.specs.Memos.{IsMemoRefusal, IsNewMemo};
 ghost use Rattle.seg_data.specs.ScriptWords.{no_words};
-ghost use Rattle.seg_complex.specs.Payloads.{payloads_of};
+ghost use Rattle.seg_clusters.specs.Payloads.{payloads_of};
 ghost use Rattle.seg_lines.specs.LineBreaks.{boundaries_with, machine_in_finder};
 ghost use Rattle.seg_lines.specs.Lines.{finder_of};
 
 use crate::finder::Finder;
 use seg_clusters::engine::Engine;
-use seg_complex::complex::ComplexPayloadsBorrowed;
+use seg_clusters::complex::ComplexPayloadsBorrowed;
 use seg_memo::memo::{MemoBreakIterator, MemoError};
 use seg_memo::reader::CountedTransitions;
 use seg_text::cursor::Cursor;

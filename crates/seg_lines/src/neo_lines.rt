@@ -5,13 +5,13 @@ ghost use Rattle.std.specs.Iterator.{YieldsFirst, MakesProgress, item_count};
 ghost use Rattle.seg_text.specs.Items.{start_of};
 ghost use Rattle.seg_text.specs.Boundaries.{GivesNext, IsCover, boundaries_in, offsets_left};
 ghost use Rattle.seg_machine.specs.Tailored.{machine_of};
-ghost use Rattle.seg_complex.specs.Payloads.{payloads_of};
+ghost use Rattle.seg_clusters.specs.Payloads.{payloads_of};
 ghost use Rattle.seg_lines.specs.LineBreaks.{all_left, boundaries_with};
 ghost use Rattle.seg_lines.specs.LineBreaks.LineFinder.{ByMachine};
 
 use crate::joined::{First, first_of};
-use seg_complex::complex::ComplexPayloadsBorrowed;
-use seg_complex::inner::InnerCuts;
+use seg_clusters::complex::ComplexPayloadsBorrowed;
+use seg_clusters::inner::InnerCuts;
 use seg_machine::rule_segmenter_v2::RuleBreakIterator;
 use seg_machine::tailored_machine::TailoredMachineBorrowed;
 use seg_text::boundary::Boundary;

@@ -7,7 +7,7 @@ use Rattle.std.proofs.lemmas.List.Sums.{prefix_len-le-length}
 use Rattle.seg_text.specs.declared.boundary.Boundary.{Boundary}
 use Rattle.seg_text.specs.Boundaries.{shift_all, RisesTo, Cuts, with_status, Stretch, later_boundaries_within, later_boundaries, HasProgress, IsWithin}
 use Rattle.seg_data.specs.Table.{Table}
-use Rattle.seg_pair_data.specs.PairTable.{PairTable, class_of}
+use Rattle.seg_pairs.specs.PairTable.{PairTable, class_of}
 use Rattle.seg_pairs.specs.Verdict.{Verdict, verdict, complex_verdict, TakesOf, IsForward}
 use Rattle.seg_pairs.specs.Verdict.Verdict.{BreakAfter, GoAfter, RunBegins}
 use Rattle.seg_pairs.specs.Breaks.{stretch_of, class_stretch, table_stretch, classes_by, HasComplexElement, is_complex, run_length, run_status, stretch_with_runs, complex_stretch}

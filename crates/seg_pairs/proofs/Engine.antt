@@ -12,9 +12,9 @@ use Rattle.seg_text.proofs.Hints.{stretches-left}
 use Rattle.seg_text.proofs.Places.{in-shift, IsRising-drop}
 use Rattle.seg_text.proofs.Stretches.{later-nil, later-map}
 use Rattle.seg_data.specs.Table.{Table}
-use Rattle.seg_pair_data.specs.declared.pair_data.PairDataBorrowed.{PairDataBorrowed}
-use Rattle.seg_pair_data.specs.PairData.{pair_table_of, override_of}
-use Rattle.seg_pair_data.specs.PairTable.{PairTable, class_of}
+use Rattle.seg_pairs.specs.declared.pair_data.PairDataBorrowed.{PairDataBorrowed}
+use Rattle.seg_pairs.specs.PairData.{pair_table_of, override_of}
+use Rattle.seg_pairs.specs.PairTable.{PairTable, class_of}
 use Rattle.seg_pairs.specs.declared.elements.Element.{Element}
 use Rattle.seg_pairs.specs.declared.verdicts.Outcome.TheVariants.{Break as BreakOut, Run as RunOut}
 use Rattle.seg_pairs.specs.Verdict.{Verdict, verdict, chain, TakesOf, EndsIn, IsRest}

@@ -9,11 +9,11 @@ use Rattle.seg_text.specs.Boundaries.{boundary, boundary_in, shift_all, Cuts, Ar
 use Rattle.seg_text.proofs.Places.{in-shift, code_points-drop, place-before}
 use Rattle.seg_text.proofs.Stretches.{text-later-next}
 use Rattle.seg_data.specs.Table.{Table}
-use Rattle.seg_pair_data.specs.declared.pair_data.PairDataBorrowed.{PairDataBorrowed}
+use Rattle.seg_pairs.specs.declared.pair_data.PairDataBorrowed.{PairDataBorrowed}
 use Rattle.seg_pairs.specs.declared.elements.Element.{Element}
 use Rattle.seg_pairs.specs.declared.verdicts.Outcome.TheVariants.{Break as BreakOut, Run as RunOut}
-use Rattle.seg_pair_data.specs.PairData.{pair_table_of, override_of}
-use Rattle.seg_pair_data.specs.PairTable.{PairTable, class_of}
+use Rattle.seg_pairs.specs.PairData.{pair_table_of, override_of}
+use Rattle.seg_pairs.specs.PairTable.{PairTable, class_of}
 use Rattle.seg_pairs.specs.Elements.{classes_of, onto, place_at, element_of, elements_of, IsElementAhead}
 use Rattle.seg_pairs.specs.Verdict.{Verdict, complex_verdict, chain, TakesOf, EndsIn}
 use Rattle.seg_pairs.specs.Verdict.Verdict.{BreakAfter, GoAfter, RunBegins}

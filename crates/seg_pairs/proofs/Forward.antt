@@ -4,9 +4,9 @@ use Rattle.std.specs.Prelude.{Contains}
 use Rattle.std.proofs.lemmas.Bool.{ne_eqb}
 use Rattle.std.proofs.lemmas.List.{length-drop, length-map}
 use Rattle.seg_data.proofs.Options.{option-cases}
-use Rattle.seg_pair_data.specs.declared.provider.pairs.BreakState.{BreakState}
-use Rattle.seg_pair_data.specs.declared.provider.pairs.BreakState.TheVariants.{Break, Keep, NoMatch, Intermediate, Index}
-use Rattle.seg_pair_data.specs.PairTable.{named_state, is_intermediate, PairTable, entry_of}
+use Rattle.seg_pairs.specs.declared.provider.pairs.BreakState.{BreakState}
+use Rattle.seg_pairs.specs.declared.provider.pairs.BreakState.TheVariants.{Break, Keep, NoMatch, Intermediate, Index}
+use Rattle.seg_pairs.specs.PairTable.{named_state, is_intermediate, PairTable, entry_of}
 use Rattle.seg_pairs.specs.Walk.{Walk, walk, is_class}
 use Rattle.seg_pairs.specs.Verdict.{Verdict, stop_verdict, end_verdict, walk_verdict, named_verdict, first_verdict, verdict, complex_verdict, TakesOf, IsForward, HasNoRun}
 use Rattle.seg_pairs.specs.Elements.{classes_of}

@@ -1,7 +1,7 @@
 -- The boundaries that small tables find, by computing them.
 use Rattle.std.proofs.Common.{◌≡◌, [], ◌∷◌, refl}
-use Rattle.seg_pair_data.specs.declared.provider.pairs.BreakState.TheVariants.{Index, Intermediate}
-use Rattle.seg_pair_data.specs.PairTable.{entry_of}
+use Rattle.seg_pairs.specs.declared.provider.pairs.BreakState.TheVariants.{Index, Intermediate}
+use Rattle.seg_pairs.specs.PairTable.{entry_of}
 use Rattle.seg_text.specs.Boundaries.{boundary, later_boundaries, later_boundaries_within}
 use Rattle.seg_pairs.specs.Breaks.{class_stretch}
 use Rattle.seg_pairs.specs.Rows.{breaks_of, retreat_table, composite_table}

@@ -5,9 +5,9 @@ use Rattle.seg_text.specs.declared.boundary.Boundary.{Boundary}
 use Rattle.seg_text.specs.Boundaries.{boundary, Stretch, list_boundaries, boundaries_in, Cuts, AreCutsOf, with_status, cut_places, later_boundaries}
 use Rattle.seg_text.specs.Items.{Text, code_points}
 use Rattle.seg_data.specs.Table.{Table}
-use Rattle.seg_pair_data.specs.PairTable.{PairTable, class_of}
-use Rattle.seg_pair_data.specs.declared.pair_data.PairDataBorrowed.{PairDataBorrowed}
-use Rattle.seg_pair_data.specs.PairData.{pair_table_of, override_of}
+use Rattle.seg_pairs.specs.PairTable.{PairTable, class_of}
+use Rattle.seg_pairs.specs.declared.pair_data.PairDataBorrowed.{PairDataBorrowed}
+use Rattle.seg_pairs.specs.PairData.{pair_table_of, override_of}
 use Rattle.seg_pairs.specs.Verdict.{Verdict, verdict, complex_verdict}
 use Rattle.seg_pairs.specs.Verdict.Verdict.{BreakAfter, GoAfter, RunBegins}
 use Rattle.seg_pairs.specs.declared.runs.Event.{Event}

@@ -1,8 +1,8 @@
 -- Elements of a text.
 use Rattle.std.specs.Prelude.{ℕ, Option, Some, None, List, [], ◌∷◌, map, true, false, ◌≡◌, ◌<◌, IfSome}
 use Rattle.seg_text.specs.Items.{Text, Item}
-use Rattle.seg_pair_data.specs.declared.pair_data.PairDataBorrowed.{PairDataBorrowed}
-use Rattle.seg_pair_data.specs.PairData.{class_by, pair_table_of}
+use Rattle.seg_pairs.specs.declared.pair_data.PairDataBorrowed.{PairDataBorrowed}
+use Rattle.seg_pairs.specs.PairData.{class_by, pair_table_of}
 use Rattle.seg_pairs.specs.declared.elements.Element.{Element}
 
 abbrev pub classes_of : List Element → List ℕ

@@ -1,3 +1,6 @@
+pub mod PairTable
+pub mod PairData
+pub mod Lemmas
 pub mod Elements
 pub mod Walk
 pub mod Verdict

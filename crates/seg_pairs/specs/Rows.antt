@@ -3,9 +3,9 @@ use Rattle.std.specs.Prelude.{ℕ, List, [], ◌∷◌}
 use Rattle.seg_text.specs.declared.boundary.Boundary.{Boundary}
 use Rattle.seg_text.specs.Boundaries.{later_boundaries}
 use Rattle.seg_data.specs.Table.{table}
-use Rattle.seg_pair_data.specs.declared.provider.pairs.BreakState.{BreakState}
-use Rattle.seg_pair_data.specs.declared.provider.pairs.BreakState.TheVariants.{Break, Keep, NoMatch, Index}
-use Rattle.seg_pair_data.specs.PairTable.{PairTable, pair_table}
+use Rattle.seg_pairs.specs.declared.provider.pairs.BreakState.{BreakState}
+use Rattle.seg_pairs.specs.declared.provider.pairs.BreakState.TheVariants.{Break, Keep, NoMatch, Index}
+use Rattle.seg_pairs.specs.PairTable.{PairTable, pair_table}
 use Rattle.seg_pairs.specs.Breaks.{class_stretch}
 
 -- the boundaries of some classes, each with its class: each class has itself as its status

@@ -1,9 +1,9 @@
 -- The verdict of a pair table on the first of some elements, from their classes.
 use Rattle.std.specs.Prelude.{ℕ, ◌==◌, if◌then◌else◌, List, [], ◌∷◌, drop, ◌≡◌, suc, Option, Some, None, ◌≢◌, zero, ◌+◌, ◌<◌, ◌≤◌, length, IfSome}
 use Rattle.std.specs.Option.{option_map_or}
-use Rattle.seg_pair_data.specs.declared.provider.pairs.BreakState.{BreakState}
-use Rattle.seg_pair_data.specs.declared.provider.pairs.BreakState.TheVariants.{Break, Keep, NoMatch, Intermediate, Index}
-use Rattle.seg_pair_data.specs.PairTable.{PairTable, entry_of, named_state}
+use Rattle.seg_pairs.specs.declared.provider.pairs.BreakState.{BreakState}
+use Rattle.seg_pairs.specs.declared.provider.pairs.BreakState.TheVariants.{Break, Keep, NoMatch, Intermediate, Index}
+use Rattle.seg_pairs.specs.PairTable.{PairTable, entry_of, named_state}
 use Rattle.seg_pairs.specs.Walk.{Walk, walk}
 use Rattle.seg_pairs.specs.declared.elements.Element.{Element}
 use Rattle.seg_pairs.specs.Elements.{classes_of, onto}

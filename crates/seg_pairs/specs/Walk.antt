@@ -1,8 +1,8 @@
 -- A walk through the states of a pair table: what its entries name, and what the last of a kind leaves.
 use Rattle.std.specs.Prelude.{ℕ, suc, ◌+◌, nat_le, ◌||◌, Bool, true, Option, List, [], ◌∷◌, length, reverse, find}
 use Rattle.std.specs.Option.{option_map_or}
-use Rattle.seg_pair_data.specs.declared.provider.pairs.BreakState.{BreakState}
-use Rattle.seg_pair_data.specs.PairTable.{named_state, is_intermediate, PairTable, entry_of}
+use Rattle.seg_pairs.specs.declared.provider.pairs.BreakState.{BreakState}
+use Rattle.seg_pairs.specs.PairTable.{named_state, is_intermediate, PairTable, entry_of}
 
 -- an entry of a walk that names a state: which element it stands before, counted from 0, the state that the walk was
 -- in, the entry of this state and the element's class, and the state that it names

@@ -2,9 +2,9 @@
 
 ghost use Rattle.std.specs.Prelude.{◌≡◌, ℕ, ◌<◌, List, IfSome};
 ghost use Rattle.std.specs.Iterator.{YieldsFirst};
-ghost use Rattle.seg_pair_data.specs.PairTable.{PairTable};
+ghost use Rattle.seg_pairs.specs.PairTable.{PairTable};
 
-use seg_pair_data::pair_data::PairDataBorrowed;
+use crate::pair_data::PairDataBorrowed;
 use seg_text::cursor::Cursor;
 
 /// An element of a text: an item, or a base with the marks after it.
@@ -62,7 +62,7 @@ pub struct Items<'data, I: Cursor> {
 }
 
 impl<'data, I: Cursor> Elements for Items<'data, I> {
-    ghost use Rattle.seg_pair_data.specs.PairData.{pair_table_of};
+    ghost use Rattle.seg_pairs.specs.PairData.{pair_table_of};
     ghost use Rattle.seg_pairs.specs.Elements.{elements_of};
 
     ghost left = { λ s. elements_of s.pairs (I.text s.cursor).items };

@@ -4,14 +4,14 @@ ghost use Rattle.std.specs.Prelude.{◌≡◌, ⊤};
 ghost use Rattle.std.specs.Iterator.{YieldsFirst, MakesProgress, item_count};
 ghost use Rattle.seg_text.specs.Items.{start_of};
 ghost use Rattle.seg_text.specs.Boundaries.{GivesNext, IsCover, boundaries_in, offsets_left};
-ghost use Rattle.seg_pair_data.specs.PairData.{pair_table_of, override_of};
+ghost use Rattle.seg_pairs.specs.PairData.{pair_table_of, override_of};
 ghost use Rattle.seg_pairs.specs.Breaks.{status_of, table_boundaries};
 ghost use Rattle.seg_pairs.specs.Elements.{onto, place_at};
 
 use crate::elements::{Element, Elements, Items};
 use crate::verdicts::{Outcome, TableVerdicts, next_break};
-use seg_pair_data::pair_data::PairDataBorrowed;
-use seg_pair_data::provider::RuleBreakData;
+use crate::pair_data::PairDataBorrowed;
+use crate::provider::RuleBreakData;
 use seg_text::cursor::Cursor;
 use seg_text::reach::Reach;
 use std::marker::Model;
@@ -30,7 +30,7 @@ pub struct RuleBreakIterator<'data, I: Cursor> {
 
 impl<'data, I: Cursor> Model for RuleBreakIterator<'data, I> {
     ghost use Rattle.std.specs.Prelude.{◌≡◌, ◌<◌, false, None, [], IfSome};
-    ghost use Rattle.seg_pair_data.specs.PairData.{pair_table_of};
+    ghost use Rattle.seg_pairs.specs.PairData.{pair_table_of};
     ghost use Rattle.seg_text.specs.Boundaries.{Remainder, remainder};
     ghost use Rattle.seg_text.specs.Items.{IsRising};
     ghost use Rattle.seg_pairs.specs.Breaks.{class_stretch, status_of};

@@ -8,8 +8,8 @@ ghost use Rattle.seg_pairs.specs.Breaks.{LeadsTo, GoesOnUnread, unread_by};
 use crate::elements::{Element, Elements, Items};
 use crate::rule_segmenter_v1::place_before;
 use crate::verdicts::{ComplexVerdicts, Outcome, next_break};
-use seg_pair_data::pair_data::PairDataBorrowed;
-use seg_pair_data::provider::RuleBreakData;
+use crate::pair_data::PairDataBorrowed;
+use crate::provider::RuleBreakData;
 use seg_text::cursor::Cursor;
 use seg_text::prefixes::{CodePointTest, take_prefix};
 use std::marker::Model;
@@ -32,7 +32,7 @@ struct ComplexTest<'data> {
 }
 
 impl<'data> CodePointTest for ComplexTest<'data> {
-    ghost use Rattle.seg_pair_data.specs.PairData.{pair_table_of, override_of};
+    ghost use Rattle.seg_pairs.specs.PairData.{pair_table_of, override_of};
     ghost use Rattle.seg_pairs.specs.Breaks.{is_complex};
 
     ghost passes = { λ s code_point. is_complex (pair_table_of s.pairs) (override_of s.pairs) code_point };

@@ -1,13 +1,13 @@
 //! What comes after an element of a text: a boundary, none, or a run of complex elements.
 
 ghost use Rattle.std.specs.Prelude.{◌≡◌, ◌<◌, ℕ, List, ◌∷◌};
-ghost use Rattle.seg_pair_data.specs.PairTable.{PairTable};
+ghost use Rattle.seg_pairs.specs.PairTable.{PairTable};
 ghost use Rattle.seg_pairs.specs.Elements.{classes_of};
 ghost use Rattle.seg_pairs.specs.Verdict.{Lands, LandsOrWalks, EndsIn, IsStepBelow, IsOutcomeBelow, verdict, named_verdict, complex_verdict, chain, IsForward};
 
 use crate::elements::{Element, Elements};
 use crate::walk::{Stop, walk};
-use seg_pair_data::provider::{BreakState, RuleBreakData};
+use crate::provider::{BreakState, RuleBreakData};
 
 /// What a verdict on an element leads to.
 #[derive(Clone, Copy, Debug)]

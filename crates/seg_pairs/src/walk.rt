@@ -1,12 +1,12 @@
 //! Walks through the states of a pair table.
 
 ghost use Rattle.std.specs.Prelude.{◌≡◌, ℕ, ◌<◌, ◌||◌, ◌⊎◌, Some, None, List, ◌∷◌, IfSome, MatchOption, if◌then◌else◌};
-ghost use Rattle.seg_pair_data.specs.PairTable.{is_intermediate, named_state, entry_of};
+ghost use Rattle.seg_pairs.specs.PairTable.{is_intermediate, named_state, entry_of};
 ghost use Rattle.seg_pairs.specs.Verdict.{IsStop, class_at};
 ghost use Rattle.seg_pairs.specs.Walk.{is_class};
 
 use crate::elements::{Element, Elements};
-use seg_pair_data::provider::{BreakState, RuleBreakData};
+use crate::provider::{BreakState, RuleBreakData};
 
 /// Where a walk stops, and what it saved.
 #[derive(Drop)]

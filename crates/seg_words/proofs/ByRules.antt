@@ -8,15 +8,15 @@ use Rattle.seg_text.proofs.Stretches.{one-answer}
 use Rattle.seg_data.specs.Table.{Table}
 use Rattle.seg_machine.specs.Pick.{machine_stretch}
 use Rattle.seg_machine.proofs.Segmentations.{machine-going, machine-alone}
-use Rattle.seg_pair_data.specs.PairTable.{PairTable}
+use Rattle.seg_pairs.specs.PairTable.{PairTable}
 use Rattle.seg_pairs.specs.Breaks.{table_stretch, HasComplexElement, complex_stretch}
 use Rattle.seg_pairs.proofs.ComplexStretches.{complex-going, none-after, without-complex}
 use Rattle.seg_pairs.proofs.Engine.{table-going, table-alone}
 use Rattle.seg_clusters.specs.Rules.{Rules}
 use Rattle.seg_clusters.specs.Rules.Rules.{ByTable, ByMachine}
 use Rattle.seg_data.specs.ScriptWords.{ScriptWords, AreSameWords}
-use Rattle.seg_complex.specs.Payloads.{Payloads, run_cuts_by}
-use Rattle.seg_complex.proofs.EqualWords.{same-run-cuts}
+use Rattle.seg_clusters.specs.Payloads.{Payloads, run_cuts_by}
+use Rattle.seg_clusters.proofs.EqualWords.{same-run-cuts}
 use Rattle.seg_words.specs.WordRules.{HasNoRunOfWords, WordRules, first_word_stretch, span_stretch, stretch_by, with_words, word_boundaries_by}
 use Rattle.seg_words.proofs.Spans.{spans-going, without-words}
 use Rattle.seg_words.proofs.EqualSpans.{same-spans}

@@ -5,10 +5,10 @@ use Rattle.seg_text.specs.Boundaries.{with_status}
 use Rattle.seg_data.specs.ScriptWords.{ScriptWords, AreSameWords}
 use Rattle.seg_clusters.specs.Rules.{boundaries_by}
 use Rattle.seg_machine.specs.Machine.{Machine}
-use Rattle.seg_complex.specs.DictionaryCuts.{Clusters}
-use Rattle.seg_complex.specs.Payloads.{Payloads}
-use Rattle.seg_complex.proofs.EqualSpans.{IsAlike, same-stretches}
-use Rattle.seg_complex.proofs.EqualWords.{same-cuts}
+use Rattle.seg_clusters.specs.DictionaryCuts.{Clusters}
+use Rattle.seg_clusters.specs.Payloads.{Payloads}
+use Rattle.seg_clusters.proofs.EqualSpans.{IsAlike, same-stretches}
+use Rattle.seg_clusters.proofs.EqualWords.{same-cuts}
 use Rattle.seg_words.specs.WordRules.{letters, span_boundaries, span_stretch}
 
 span-alike : (m : Machine) (clusters : Clusters) → IsAlike (span_boundaries m clusters)

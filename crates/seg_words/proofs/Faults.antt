@@ -4,8 +4,8 @@ use Rattle.seg_data.specs.declared.provider.DataError.{DataError}
 use Rattle.seg_data.specs.declared.provider.DataError.TheVariants.{Memory, RangeOrder, RangePast10FFFF, TableSize, ClassOutOfRange, StateOutOfRange, StartRowKeeps, ComplexItems, ComplexBelow0100, ComplexClassNamed, StateCount, TransitionSize, TransitionOutOfRange, SymbolOutOfRange, TooManyLookaheads, LookaheadOutOfRange, EndCycle, Stalls, MissingTailoring}
 use Rattle.seg_data.specs.Faults.{number_of, IsFaultless, IsLowestFault}
 use Rattle.seg_data.specs.Table.{Table}
-use Rattle.seg_pair_data.specs.PairTable.{PairTable}
-use Rattle.seg_pair_data.specs.PairData.{HasPairDataFault, HasComplexClassBelow0100}
+use Rattle.seg_pairs.specs.PairTable.{PairTable}
+use Rattle.seg_pairs.specs.PairData.{HasPairDataFault, HasComplexClassBelow0100}
 use Rattle.seg_words.specs.Words.{HasOwnFault, HasWordTableFault}
 
 own-cases : (t : PairTable) (o : Option Table) (fault : DataError) → HasOwnFault t o fault

@@ -9,11 +9,11 @@ use Rattle.seg_text.proofs.Covers.{covers}
 use Rattle.seg_text.proofs.Stretches.{text-later-nil}
 use Rattle.seg_data.specs.Table.{Table}
 use Rattle.seg_pairs.specs.declared.runs.Event.TheVariants.{Run}
-use Rattle.seg_pair_data.specs.PairTable.{PairTable}
+use Rattle.seg_pairs.specs.PairTable.{PairTable}
 use Rattle.seg_pairs.specs.Breaks.{Unread, LeadsTo, GoesOnUnread, complex_stretch, run_status, unread_boundaries}
 use Rattle.seg_pairs.proofs.ComplexStretches.{complex-within}
-use Rattle.seg_complex.specs.Scripts.{PieceCuts, CoverPieces, run_cuts}
-use Rattle.seg_complex.proofs.Cutting.{run-cuts-inside, cuts-nil}
+use Rattle.seg_clusters.specs.Scripts.{PieceCuts, CoverPieces, run_cuts}
+use Rattle.seg_clusters.proofs.Cutting.{run-cuts-inside, cuts-nil}
 
 classic-cover : (cuts : Cuts) → ((run : List ℕ) → RisesTo 0 (with_status 0 (cuts run)) (length run)) → (t : PairTable) (overriding : Option Table) (text : Text)
     → IsRising text.items text.end → IsCover (start_of text) text.end (boundaries_in (list_boundaries (complex_stretch cuts t overriding)) text)

@@ -9,7 +9,7 @@ use Rattle.seg_clusters.specs.Rules.{Rules, boundaries_of, machine_in}
 use Rattle.seg_clusters.specs.Rules.Rules.{ByTable, ByMachine}
 use Rattle.seg_data.specs.ScriptWords.{no_words}
 use Rattle.seg_words.specs.WordRules.{WordRules, word_boundaries_of}
-use Rattle.seg_complex.specs.Payloads.{Payloads}
+use Rattle.seg_clusters.specs.Payloads.{Payloads}
 use Rattle.seg_words.proofs.Spans.{without-words}
 
 new-memo : (rules : Rules) (payloads : Payloads) (text : Text) (s : Memo) → payloads.words ≡ no_words → IsNewMemo (machine_in rules) text (boundaries_of rules text) s

@@ -17,13 +17,13 @@ use Rattle.seg_machine.specs.MachineFaults.{IsChecked}
 use Rattle.seg_machine.specs.Machine.{Machine}
 use Rattle.seg_machine.specs.Pick.{machine_stretch}
 use Rattle.seg_machine.proofs.Segmentations.{machine-within}
-use Rattle.seg_complex.specs.DictionaryCuts.{Clusters, by_words}
-use Rattle.seg_complex.specs.Payloads.{Payloads, piece_cuts_by}
-use Rattle.seg_complex.specs.Scripts.{CoverPieces}
-use Rattle.seg_complex.specs.Spans.{GivesSpan, span_length, span_words, worded_script}
-use Rattle.seg_complex.proofs.Cutting.{length-taken}
-use Rattle.seg_complex.proofs.SpanStretches.{AreInside, span-at, span-inside, span-some}
-use Rattle.seg_complex.proofs.UnwordedSpans.{whole-span, whole-words}
+use Rattle.seg_clusters.specs.DictionaryCuts.{Clusters, by_words}
+use Rattle.seg_clusters.specs.Payloads.{Payloads, piece_cuts_by}
+use Rattle.seg_clusters.specs.Scripts.{CoverPieces}
+use Rattle.seg_clusters.specs.Spans.{GivesSpan, span_length, span_words, worded_script}
+use Rattle.seg_clusters.proofs.Cutting.{length-taken}
+use Rattle.seg_clusters.proofs.SpanStretches.{AreInside, span-at, span-inside, span-some}
+use Rattle.seg_clusters.proofs.UnwordedSpans.{whole-span, whole-words}
 use Rattle.seg_words.specs.WordRules.{letters, span_boundaries, span_stretch}
 
 -- only offsets rise

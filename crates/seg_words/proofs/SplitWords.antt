@@ -14,9 +14,9 @@ use Rattle.seg_machine.specs.MachineFaults.{IsChecked}
 use Rattle.seg_machine.specs.Machine.{Machine}
 use Rattle.seg_machine.specs.Pick.{machine_stretch}
 use Rattle.seg_machine.proofs.Segmentations.{machine-going}
-use Rattle.seg_complex.specs.Payloads.{Payloads, piece_cuts_by}
-use Rattle.seg_complex.specs.Scripts.{CoverPieces}
-use Rattle.seg_complex.proofs.SplitSpans.{spans-split}
+use Rattle.seg_clusters.specs.Payloads.{Payloads, piece_cuts_by}
+use Rattle.seg_clusters.specs.Scripts.{CoverPieces}
+use Rattle.seg_clusters.proofs.SplitSpans.{spans-split}
 use Rattle.seg_words.specs.WordRules.{WordsResetWith, span_boundaries, span_stretch, stretch_by}
 use Rattle.seg_words.proofs.Spans.{spans-within}
 

@@ -6,15 +6,15 @@ use Rattle.seg_text.specs.Boundaries.{boundaries_in, with_status, Stretch, later
 use Rattle.seg_data.specs.Table.{Table}
 use Rattle.seg_data.specs.ScriptWords.{ScriptWords, no_words}
 use Rattle.seg_data.specs.WordSets.{Words}
-use Rattle.seg_pair_data.specs.PairTable.{PairTable}
+use Rattle.seg_pairs.specs.PairTable.{PairTable}
 use Rattle.seg_pairs.specs.Breaks.{HasComplexElement, complex_stretch}
 use Rattle.seg_machine.specs.Machine.{Machine}
 use Rattle.seg_machine.specs.Pick.{machine_stretch}
 use Rattle.seg_clusters.specs.Rules.{Rules, boundaries_by, ResetsAfter}
 use Rattle.seg_clusters.specs.Rules.Rules.{ByTable, ByMachine}
-use Rattle.seg_complex.specs.DictionaryCuts.{Clusters, dictionary_cuts}
-use Rattle.seg_complex.specs.Payloads.{Payloads, run_cuts_by}
-use Rattle.seg_complex.specs.Spans.{span_length, span_words, IsOutsideRuns}
+use Rattle.seg_clusters.specs.DictionaryCuts.{Clusters, dictionary_cuts}
+use Rattle.seg_clusters.specs.Payloads.{Payloads, run_cuts_by}
+use Rattle.seg_clusters.specs.Spans.{span_length, span_words, IsOutsideRuns}
 use Rattle.seg_words.specs.declared.word.WordType.{WordType}
 use Rattle.seg_words.specs.declared.word.WordType.TheVariants.{None as NoWord, Number, Letter}
 

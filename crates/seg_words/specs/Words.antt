@@ -6,13 +6,13 @@ use Rattle.seg_data.specs.declared.provider.DataError.{DataError}
 use Rattle.seg_data.specs.declared.provider.DataError.TheVariants.{ClassOutOfRange, StartRowKeeps, ComplexBelow0100}
 use Rattle.seg_data.specs.Table.{Table}
 use Rattle.seg_data.specs.ScriptWords.{script_words}
-use Rattle.seg_pair_data.specs.PairTable.{PairTable}
-use Rattle.seg_pair_data.specs.PairData.{HasPairDataFault, HasComplexClassBelow0100}
+use Rattle.seg_pairs.specs.PairTable.{PairTable}
+use Rattle.seg_pairs.specs.PairData.{HasPairDataFault, HasComplexClassBelow0100}
 use Rattle.seg_machine.specs.Machine.{Machine}
 use Rattle.seg_machine.specs.MachineFaults.{HasComplexBelow0100}
 use Rattle.seg_clusters.specs.Rules.{rules_of, owned_rules}
 use Rattle.seg_clusters.specs.Clusters.{owned_cluster_rules}
-use Rattle.seg_complex.specs.Payloads.{payloads_of}
+use Rattle.seg_clusters.specs.Payloads.{payloads_of}
 use Rattle.seg_words.specs.declared.word.WordType.{WordType}
 use Rattle.seg_words.specs.declared.word.WordSegmenter.{WordSegmenter}
 use Rattle.seg_words.specs.declared.word.WordSegmenterBorrowed.{WordSegmenterBorrowed}

@@ -5,7 +5,7 @@ use Rattle.seg_text.specs.declared.boundary.Boundary.{Boundary}
 use Rattle.seg_text.specs.Items.{Text}
 use Rattle.seg_pairs.specs.Breaks.{status_of, Unread, complex_stretch, run_status, unread_boundaries}
 use Rattle.seg_machine.specs.Machine.{Machine}
-use Rattle.seg_complex.specs.Payloads.{Payloads}
+use Rattle.seg_clusters.specs.Payloads.{Payloads}
 use Rattle.seg_words.specs.declared.span.Span.{Span}
 use Rattle.seg_words.specs.declared.span.Span.TheVariants.{Start, Piece, Run}
 use Rattle.seg_words.specs.WordRules.{letters, span_stretch}

@@ -7,13 +7,13 @@ ghost use Rattle.seg_clusters.specs.Rules.{rules_of};
 ghost use Rattle.seg_clusters.specs.Rules.Rules.{ByMachine};
 ghost use Rattle.seg_machine.specs.Tailored.{machine_of};
 ghost use Rattle.seg_words.specs.Words.{word_remainder_by};
-ghost use Rattle.seg_complex.specs.Payloads.{payloads_of};
+ghost use Rattle.seg_clusters.specs.Payloads.{payloads_of};
 ghost use Rattle.seg_words.specs.WordRules.{word_boundaries_of};
 
 use crate::classic::ClassicBoundaries;
 use crate::neo::NeoBoundaries;
 use seg_clusters::engine::Engine;
-use seg_complex::complex::ComplexPayloadsBorrowed;
+use seg_clusters::complex::ComplexPayloadsBorrowed;
 use seg_machine::rule_segmenter_v2::RuleBreakIterator;
 use seg_machine::tailored_machine::TailoredMachineBorrowed;
 use seg_text::cursor::Cursor;

@@ -4,14 +4,14 @@ ghost use Rattle.std.specs.Prelude.{◌≡◌, ⊤};
 ghost use Rattle.std.specs.Iterator.{YieldsFirst, MakesProgress, item_count};
 ghost use Rattle.seg_text.specs.Items.{start_of};
 ghost use Rattle.seg_text.specs.Boundaries.{cut_places, GivesNext, IsCover, offsets_left};
-ghost use Rattle.seg_pair_data.specs.PairData.{pair_table_of, override_of};
+ghost use Rattle.seg_pairs.specs.PairData.{pair_table_of, override_of};
 ghost use Rattle.seg_clusters.specs.Rules.Rules.{ByTable};
-ghost use Rattle.seg_complex.specs.Payloads.{payloads_of, run_cuts_by};
+ghost use Rattle.seg_clusters.specs.Payloads.{payloads_of, run_cuts_by};
 ghost use Rattle.seg_words.specs.WordRules.{word_boundaries_of};
 
-use seg_complex::complex::ComplexPayloadsBorrowed;
-use seg_complex::runs::RunCuts;
-use seg_pair_data::pair_data::PairDataBorrowed;
+use seg_clusters::complex::ComplexPayloadsBorrowed;
+use seg_clusters::runs::RunCuts;
+use seg_pairs::pair_data::PairDataBorrowed;
 use seg_pairs::rule_segmenter_v1::rule_status;
 use seg_pairs::runs::{Event, Events};
 use seg_text::cursor::Cursor;
@@ -91,7 +91,7 @@ pub(crate) struct ClassicBoundaries<'data, I: Cursor> {
 impl<'data, I: Cursor> Model for ClassicBoundaries<'data, I> {
     ghost use Rattle.std.specs.Prelude.{◌≡◌, false, []};
     ghost use Rattle.seg_text.specs.Boundaries.{Remainder};
-    ghost use Rattle.seg_complex.specs.Payloads.{payloads_of, run_cuts_by};
+    ghost use Rattle.seg_clusters.specs.Payloads.{payloads_of, run_cuts_by};
     ghost use Rattle.seg_words.specs.WordsLeft.{classic_remainder};
 
     ghost Value = { Remainder };

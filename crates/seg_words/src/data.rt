@@ -2,15 +2,15 @@
 
 ghost use Rattle.std.specs.Prelude.{◌≡◌, None, IfOk, IfErr};
 ghost use Rattle.seg_data.specs.Faults.{IsFaultless, IsLowestFault};
-ghost use Rattle.seg_pair_data.specs.PairTable.{table_in};
-ghost use Rattle.seg_pair_data.specs.PairData.{pair_table_of, override_of, HasPairDataFault};
+ghost use Rattle.seg_pairs.specs.PairTable.{table_in};
+ghost use Rattle.seg_pairs.specs.PairData.{pair_table_of, override_of, HasPairDataFault};
 ghost use Rattle.seg_words.specs.Words.{HasWordTableFault, HasWordMachineFault};
 
 use seg_data::provider::DataError;
 use seg_machine::provider::SegmenterStateMachine;
 use seg_machine::tailored_machine::has_complex_below_0100;
-use seg_pair_data::pair_data::PairDataBorrowed;
-use seg_pair_data::provider::{RuleBreakData, RuleBreakDataOverride};
+use seg_pairs::pair_data::PairDataBorrowed;
+use seg_pairs::provider::{RuleBreakData, RuleBreakDataOverride};
 
 /// A pair table of words with its override, if there is one, checked with the pair table of clusters.
 pub(crate) fn word_pairs<'data>(

@@ -5,13 +5,13 @@ ghost use Rattle.std.specs.Iterator.{YieldsFirst, MakesProgress, item_count};
 ghost use Rattle.seg_text.specs.Items.{start_of};
 ghost use Rattle.seg_text.specs.Boundaries.{GivesNext, IsCover, offsets_left};
 ghost use Rattle.seg_clusters.specs.Rules.Rules.{ByMachine};
-ghost use Rattle.seg_complex.specs.Payloads.{payloads_of};
+ghost use Rattle.seg_clusters.specs.Payloads.{payloads_of};
 ghost use Rattle.seg_machine.specs.Tailored.{machine_of};
 ghost use Rattle.seg_words.specs.WordRules.{word_boundaries_of};
 
 use crate::span::Span;
-use seg_complex::complex::ComplexPayloadsBorrowed;
-use seg_complex::spans::next_span;
+use seg_clusters::complex::ComplexPayloadsBorrowed;
+use seg_clusters::spans::next_span;
 use seg_machine::tailored_machine::TailoredMachineBorrowed;
 use seg_text::cursor::Cursor;
 use std::marker::Model;
@@ -29,7 +29,7 @@ pub(crate) struct NeoBoundaries<'data, I: Cursor> {
 
 impl<'data, I: Cursor> Model for NeoBoundaries<'data, I> {
     ghost use Rattle.seg_text.specs.Boundaries.{Remainder};
-    ghost use Rattle.seg_complex.specs.Payloads.{payloads_of};
+    ghost use Rattle.seg_clusters.specs.Payloads.{payloads_of};
     ghost use Rattle.seg_machine.specs.Tailored.{machine_of};
     ghost use Rattle.seg_words.specs.WordsLeft.{spans_left};
 

@@ -15,7 +15,7 @@ use seg_machine::rule_segmenter_v2::RuleBreakIterator;
 use seg_machine::tailored_machine::{
     TailoredMachine, TailoredMachineBorrowed, has_complex_below_0100,
 };
-use seg_pair_data::pair_data::PairDataBorrowed;
+use seg_pairs::pair_data::PairDataBorrowed;
 use seg_pairs::rule_segmenter_v1;
 use std::alloc::Global;
 

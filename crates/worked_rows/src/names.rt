@@ -7,7 +7,7 @@ use icu_segmenter::memo::MemoError;
 use icu_segmenter::options::WordType;
 use icu_segmenter::provider::{Acceptance, BreakState, DataError, LanguageIdentifier};
 use icu_segmenter::wrap::WrapError;
-use seg_complex::script_iter::script_of;
+use seg_clusters::script_iter::script_of;
 use std::alloc::Global;
 
 /// The script of a code point in hexadecimal digits.

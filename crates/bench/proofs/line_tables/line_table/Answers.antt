@@ -1,7 +1,7 @@
 use Rattle.std.proofs.Common.{◌≡◌, refl, sym, ◌∙◌, subst}
 use Rattle.icu_segmenter.specs.LineRules.{HasLineTableFault}
 use Rattle.seg_data.specs.Faults.{IsFaultless}
-use Rattle.seg_pair_data.specs.PairTable.{PairTable, pair_table}
+use Rattle.seg_pairs.specs.PairTable.{PairTable, pair_table}
 use Rattle.bench.specs.LineTables.{line_table}
 use Rattle.bench.specs.PairTables.{cluster_table}
 use Rattle.bench.proofs.LineFaults.{lines-never-rejected, lines-sound}

@@ -1,7 +1,7 @@
 use Rattle.std.proofs.Common.{◌≡◌, None, refl, sym, ◌∙◌, subst}
 use Rattle.seg_data.specs.Faults.{IsFaultless}
-use Rattle.seg_pair_data.specs.PairData.{HasPairDataFault}
-use Rattle.seg_pair_data.specs.PairTable.{PairTable, pair_table}
+use Rattle.seg_pairs.specs.PairData.{HasPairDataFault}
+use Rattle.seg_pairs.specs.PairTable.{PairTable, pair_table}
 use Rattle.bench.specs.PairTables.{cluster_table}
 use Rattle.bench.proofs.PairFaults.{clusters-sound, clusters-never-rejected}
 use Rattle.bench.proofs.pair_tables.cluster_table.Goals as goal

@@ -1,6 +1,6 @@
 use Rattle.std.proofs.Common.{◌≡◌, None, refl, sym, ◌∙◌, subst}
 use Rattle.seg_data.specs.Faults.{IsFaultless}
-use Rattle.seg_pair_data.specs.PairTable.{PairTable, pair_table}
+use Rattle.seg_pairs.specs.PairTable.{PairTable, pair_table}
 use Rattle.seg_words.specs.Words.{HasWordTableFault}
 use Rattle.bench.specs.PairTables.{cluster_table, word_table}
 use Rattle.bench.proofs.PairFaults.{words-never-rejected}

@@ -1,5 +1,5 @@
 use Rattle.std.proofs.Common.{List, ◌++◌, ◌∙◌, ap, sym}
-use Rattle.seg_pair_data.specs.declared.provider.pairs.BreakState.{BreakState}
+use Rattle.seg_pairs.specs.declared.provider.pairs.BreakState.{BreakState}
 use Rattle.bench.specs.Rows.{row, rows}
 use Rattle.bench.specs.TurnTables.{turn_entry}
 use Rattle.bench.proofs.Rows.{rows-next}

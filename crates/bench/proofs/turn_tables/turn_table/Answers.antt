@@ -1,7 +1,7 @@
 use Rattle.std.proofs.Common.{◌≡◌, refl, sym, ◌∙◌, subst}
 use Rattle.icu_segmenter.specs.TurnRules.{HasTurnTableFault}
 use Rattle.seg_data.specs.Faults.{IsFaultless}
-use Rattle.seg_pair_data.specs.PairTable.{PairTable, pair_table}
+use Rattle.seg_pairs.specs.PairTable.{PairTable, pair_table}
 use Rattle.bench.specs.TurnTables.{turn_table}
 use Rattle.bench.specs.PairTables.{cluster_table}
 use Rattle.bench.proofs.TurnFaults.{turns-never-rejected, turns-sound}

@@ -1,6 +1,6 @@
 use Rattle.std.proofs.Common.{◌∙◌, ap, List}
 use Rattle.seg_text.specs.declared.boundary.Boundary.{Boundary}
-use Rattle.seg_complex.specs.Spans.{inner_cuts}
+use Rattle.seg_clusters.specs.Spans.{inner_cuts}
 use Rattle.seg_lines.specs.LineBreaks.{LineFinder, boundaries_with, joined}
 use Rattle.seg_lines.proofs.LineLaws.{without-cuts}
 use Rattle.icu_segmenter_uax14.specs.Tailored.{machine_by}

@@ -1,5 +1,5 @@
 use Rattle.std.proofs.Common.{◌∙◌}
-use Rattle.seg_complex.specs.Payloads.{payloads_of, run_cuts_by}
+use Rattle.seg_clusters.specs.Payloads.{payloads_of, run_cuts_by}
 use Rattle.seg_line_rules.specs.LineBoundaries.{inside, rules_by}
 use Rattle.seg_line_rules.proofs.LinesLeft.{lines-cover, starts-at}
 use Rattle.seg_line_rules.proofs.boundaries.classic_lines.Goals as goal

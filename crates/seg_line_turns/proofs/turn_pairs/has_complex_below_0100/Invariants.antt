@@ -1,5 +1,5 @@
 use Rattle.std.proofs.Common.{◌≡◌, ℕ, ◌<◌, false}
-use Rattle.seg_pair_data.specs.PairData.{class_by}
+use Rattle.seg_pairs.specs.PairData.{class_by}
 use Rattle.seg_line_rules.specs.LineRules.{is_complex_context}
 use Rattle.seg_line_turns.proofs.turn_pairs.has_complex_below_0100.Given as goal
 

@@ -1,5 +1,5 @@
 use Rattle.seg_machine.specs.Tailored.{machine_of}
-use Rattle.seg_complex.specs.Payloads.{payloads_of}
+use Rattle.seg_clusters.specs.Payloads.{payloads_of}
 use Rattle.seg_lines.proofs.SplitLines.{clusters-split, lines-split}
 use Rattle.seg_lines.proofs.laws.parts_behind_resets.Goals as goal
 

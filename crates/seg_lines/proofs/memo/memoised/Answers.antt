@@ -2,7 +2,7 @@ use Rattle.std.proofs.Common.{IfOk, sym, subst}
 use Rattle.seg_text.specs.Boundaries.{boundaries_in}
 use Rattle.seg_machine.specs.Tailored.{machine_of}
 use Rattle.seg_memo.specs.Memos.{IsNewMemo}
-use Rattle.seg_complex.specs.Payloads.{payloads_of}
+use Rattle.seg_clusters.specs.Payloads.{payloads_of}
 use Rattle.seg_lines.specs.declared.finder.Finder.{Finder}
 use Rattle.seg_lines.specs.LineBreaks.{boundaries_with, machine_in_finder}
 use Rattle.seg_lines.specs.Lines.{finder_of}

@@ -1,7 +1,7 @@
 use Rattle.std.proofs.Common.{ap, refl, ◌∙◌, [], ◌∷◌}
 use Rattle.seg_text.specs.Boundaries.{boundary}
 use Rattle.seg_text.specs.Items.{start_of}
-use Rattle.seg_complex.specs.Payloads.{payloads_of, piece_cuts_by, run_cuts_by}
+use Rattle.seg_clusters.specs.Payloads.{payloads_of, piece_cuts_by, run_cuts_by}
 use Rattle.seg_line_rules.specs.LineBoundaries.{inside}
 use Rattle.seg_line_rules.proofs.LinesLeft.{no-inside, with-none}
 use Rattle.seg_line_rules.proofs.boundaries.TableLines.new.Goals as goal

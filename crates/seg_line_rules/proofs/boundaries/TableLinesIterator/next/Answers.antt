@@ -1,6 +1,6 @@
 use Rattle.std.proofs.Common.{ap, refl, sym, ◌∙◌, []}
 use Rattle.seg_text.specs.Boundaries.{offsets}
-use Rattle.seg_complex.specs.Payloads.{payloads_of, run_cuts_by}
+use Rattle.seg_clusters.specs.Payloads.{payloads_of, run_cuts_by}
 use Rattle.seg_line_rules.specs.LineBoundaries.{inside}
 use Rattle.seg_line_rules.specs.LineEvents.{UnreadText}
 use Rattle.seg_line_rules.proofs.LinesLeft.{end-next, fewer-still, none-of, run-next}

@@ -1,6 +1,6 @@
 use Rattle.std.proofs.Common.{◌≡◌, ◌++◌, true, length}
 use Rattle.seg_text.specs.Boundaries.{with_status}
-use Rattle.seg_complex.specs.Payloads.{payloads_of, run_cuts_by}
+use Rattle.seg_clusters.specs.Payloads.{payloads_of, run_cuts_by}
 use Rattle.seg_line_rules.specs.LineBoundaries.{inside}
 use Rattle.seg_line_rules.proofs.boundaries.TableLinesIterator.next.Given as goal
 

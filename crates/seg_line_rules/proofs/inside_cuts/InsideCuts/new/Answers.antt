@@ -1,5 +1,5 @@
 use Rattle.std.proofs.Common.{◌∙◌, ap}
-use Rattle.seg_complex.specs.Payloads.{payloads_of, run_cuts_by}
+use Rattle.seg_clusters.specs.Payloads.{payloads_of, run_cuts_by}
 use Rattle.seg_line_rules.specs.LineEvents.{places_before}
 use Rattle.seg_line_rules.proofs.LinesLeft.{inside-places}
 use Rattle.seg_line_rules.proofs.inside_cuts.InsideCuts.new.Goals as goal

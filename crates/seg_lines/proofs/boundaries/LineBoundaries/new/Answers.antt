@@ -3,7 +3,7 @@ use Rattle.seg_text.specs.declared.boundary.Boundary.{Boundary}
 use Rattle.seg_text.specs.Items.{code_points, start_of}
 use Rattle.seg_text.specs.Boundaries.{IsCover, boundaries_in, offsets, with_status}
 use Rattle.seg_clusters.specs.Rules.{boundaries_by}
-use Rattle.seg_complex.specs.Payloads.{payloads_of}
+use Rattle.seg_clusters.specs.Payloads.{payloads_of}
 use Rattle.seg_lines.specs.declared.finder.Finder.{Finder}
 use Rattle.seg_lines.specs.LineBreaks.{boundaries_with}
 use Rattle.seg_lines.specs.Lines.{finder_of}

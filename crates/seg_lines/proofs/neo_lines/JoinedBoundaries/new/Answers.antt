@@ -5,11 +5,11 @@ use Rattle.seg_text.specs.Items.{start_of}
 use Rattle.seg_text.specs.Boundaries.{IsCover, boundaries_in, offsets, cut_places}
 use Rattle.seg_machine.specs.Pick.{machine_boundaries}
 use Rattle.seg_machine.specs.Tailored.{machine_of}
-use Rattle.seg_complex.specs.Spans.{inner_cuts}
-use Rattle.seg_complex.specs.Payloads.{payloads_of}
+use Rattle.seg_clusters.specs.Spans.{inner_cuts}
+use Rattle.seg_clusters.specs.Payloads.{payloads_of}
 use Rattle.seg_lines.specs.LineBreaks.{AreRising, joined, all_left}
 use Rattle.seg_lines.proofs.JoinCover.{cover-rising, cut-places-rising, text-cover, text-joined}
-use Rattle.seg_complex.proofs.InnerCuts.{first-taken, no-more}
+use Rattle.seg_clusters.proofs.InnerCuts.{first-taken, no-more}
 use Rattle.seg_lines.proofs.neo_lines.JoinedBoundaries.new.Goals as goal
 
 pub invariant_of-result : goal.invariant_of-result

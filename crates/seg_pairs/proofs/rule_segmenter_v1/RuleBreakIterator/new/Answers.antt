@@ -1,5 +1,5 @@
 use Rattle.std.proofs.Common.{List, refl}
-use Rattle.seg_pair_data.specs.PairData.{pair_table_of}
+use Rattle.seg_pairs.specs.PairData.{pair_table_of}
 use Rattle.seg_pairs.specs.declared.elements.Element.{Element}
 use Rattle.seg_pairs.specs.Elements.{onto, elements_of}
 use Rattle.seg_pairs.proofs.Engine.{read-onto, new-left, new-cover, new-empty, new-rising, below-of}

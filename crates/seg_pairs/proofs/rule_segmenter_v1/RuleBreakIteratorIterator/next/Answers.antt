@@ -1,8 +1,8 @@
 use Rattle.std.proofs.Common.{◌∷◌, refl, ap, subst}
 use Rattle.std.proofs.lemmas.Bool.{both_ways}
 use Rattle.seg_text.specs.Boundaries.{offsets}
-use Rattle.seg_pair_data.specs.PairData.{pair_table_of}
-use Rattle.seg_pair_data.specs.PairTable.{PairTable}
+use Rattle.seg_pairs.specs.PairData.{pair_table_of}
+use Rattle.seg_pairs.specs.PairTable.{PairTable}
 use Rattle.seg_pairs.specs.Verdict.{chain, EndsIn}
 use Rattle.seg_pairs.specs.Elements.{elements_of}
 use Rattle.seg_pairs.specs.declared.verdicts.Outcome.TheVariants.{Break}

@@ -1,5 +1,5 @@
 use Rattle.seg_text.proofs.Hints.{hint-lower, hint-upper}
-use Rattle.seg_pair_data.specs.PairData.{pair_table_of}
+use Rattle.seg_pairs.specs.PairData.{pair_table_of}
 use Rattle.seg_pairs.specs.Elements.{onto, elements_of}
 use Rattle.seg_pairs.proofs.Engine.{Left, engine-left}
 use Rattle.seg_pairs.proofs.rule_segmenter_v1.RuleBreakIteratorIterator.size_hint.Goals as goal

@@ -1,6 +1,6 @@
 use Rattle.std.proofs.Common.{◌∷◌, List, refl, sym, ap, ◌∙◌}
 use Rattle.seg_text.specs.Items.{Text}
-use Rattle.seg_pair_data.specs.PairData.{pair_table_of}
+use Rattle.seg_pairs.specs.PairData.{pair_table_of}
 use Rattle.seg_pairs.specs.Elements.{elements_of}
 use Rattle.seg_pairs.specs.Verdict.{chain}
 use Rattle.seg_pairs.specs.declared.elements.Element.{Element}

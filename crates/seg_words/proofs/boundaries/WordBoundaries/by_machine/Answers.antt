@@ -3,7 +3,7 @@ use Rattle.seg_text.specs.declared.boundary.Boundary.{Boundary}
 use Rattle.seg_text.specs.Items.{code_points}
 use Rattle.seg_text.specs.Boundaries.{boundary_in}
 use Rattle.seg_machine.specs.Tailored.{machine_of}
-use Rattle.seg_complex.specs.Payloads.{payloads_of}
+use Rattle.seg_clusters.specs.Payloads.{payloads_of}
 use Rattle.seg_words.proofs.Spans.{without-words}
 use Rattle.seg_words.proofs.boundaries.WordBoundaries.by_machine.Goals as goal
 

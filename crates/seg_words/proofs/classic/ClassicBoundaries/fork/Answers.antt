@@ -1,5 +1,5 @@
 use Rattle.std.proofs.Common.{ap, ◌∙◌}
-use Rattle.seg_complex.specs.Payloads.{payloads_of, run_cuts_by}
+use Rattle.seg_clusters.specs.Payloads.{payloads_of, run_cuts_by}
 use Rattle.seg_words.specs.WordsLeft.{classic_remainder}
 use Rattle.seg_words.proofs.classic.ClassicBoundaries.fork.Goals as goal
 

@@ -1,7 +1,7 @@
 use Rattle.std.proofs.Common.{ap, ◌∙◌, refl}
 use Rattle.seg_text.specs.Boundaries.{boundaries_in, list_boundaries}
 use Rattle.seg_pairs.specs.Breaks.{Unread, complex_stretch}
-use Rattle.seg_complex.specs.Payloads.{payloads_of, piece_cuts_by, run_cuts_by}
+use Rattle.seg_clusters.specs.Payloads.{payloads_of, piece_cuts_by, run_cuts_by}
 use Rattle.seg_words.proofs.Left.{new-cover, no-cuts}
 use Rattle.seg_words.proofs.classic.ClassicBoundaries.new.Goals as goal
 

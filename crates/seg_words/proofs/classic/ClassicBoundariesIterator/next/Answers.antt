@@ -1,6 +1,6 @@
 use Rattle.std.proofs.Common.{ap, refl}
 use Rattle.seg_text.specs.Boundaries.{offsets}
-use Rattle.seg_complex.specs.Payloads.{payloads_of, piece_cuts_by, run_cuts_by}
+use Rattle.seg_clusters.specs.Payloads.{payloads_of, piece_cuts_by, run_cuts_by}
 use Rattle.seg_words.proofs.Left.{at-end, left-of, left-run, run-fewer}
 use Rattle.seg_words.proofs.classic.ClassicBoundariesIterator.next.Goals as goal
 

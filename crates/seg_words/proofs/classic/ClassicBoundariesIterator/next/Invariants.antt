@@ -1,8 +1,8 @@
 use Rattle.std.proofs.Common.{◌≡◌, ◌++◌, true, length}
 use Rattle.seg_text.specs.Boundaries.{with_status}
 use Rattle.seg_pairs.specs.Breaks.{run_status, unread_boundaries}
-use Rattle.seg_complex.specs.Payloads.{payloads_of, piece_cuts_by, run_cuts_by}
-use Rattle.seg_complex.specs.Scripts.{CoverPieces}
+use Rattle.seg_clusters.specs.Payloads.{payloads_of, piece_cuts_by, run_cuts_by}
+use Rattle.seg_clusters.specs.Scripts.{CoverPieces}
 use Rattle.seg_words.proofs.classic.ClassicBoundariesIterator.next.Given as goal
 
 abbrev pub invariant-loop-place : goal.invariant-loop-place

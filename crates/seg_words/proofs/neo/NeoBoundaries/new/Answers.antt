@@ -1,5 +1,5 @@
 use Rattle.seg_machine.specs.Tailored.{machine_of}
-use Rattle.seg_complex.specs.Payloads.{payloads_of}
+use Rattle.seg_clusters.specs.Payloads.{payloads_of}
 use Rattle.seg_words.proofs.Spans.{spans-cover}
 use Rattle.seg_words.proofs.neo.NeoBoundaries.new.Goals as goal
 

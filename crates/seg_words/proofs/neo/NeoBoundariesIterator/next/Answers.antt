@@ -1,7 +1,7 @@
 use Rattle.std.proofs.Common.{ap, refl}
 use Rattle.seg_text.specs.Boundaries.{offsets}
 use Rattle.seg_machine.specs.Tailored.{machine_of}
-use Rattle.seg_complex.specs.Payloads.{payloads_of}
+use Rattle.seg_clusters.specs.Payloads.{payloads_of}
 use Rattle.seg_words.proofs.Spans.{end-left, left-next}
 use Rattle.seg_words.proofs.neo.NeoBoundariesIterator.next.Goals as goal
 

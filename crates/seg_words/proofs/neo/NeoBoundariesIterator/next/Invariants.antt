@@ -1,8 +1,8 @@
 use Rattle.std.proofs.Common.{◌≡◌, length}
 use Rattle.seg_machine.specs.MachineFaults.{IsChecked}
 use Rattle.seg_machine.specs.Tailored.{machine_of}
-use Rattle.seg_complex.specs.Payloads.{payloads_of, piece_cuts_by}
-use Rattle.seg_complex.specs.Scripts.{CoverPieces}
+use Rattle.seg_clusters.specs.Payloads.{payloads_of, piece_cuts_by}
+use Rattle.seg_clusters.specs.Scripts.{CoverPieces}
 use Rattle.seg_words.specs.WordsLeft.{spans_left}
 use Rattle.seg_words.proofs.neo.NeoBoundariesIterator.next.Given as goal
 

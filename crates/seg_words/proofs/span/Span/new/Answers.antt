@@ -7,7 +7,7 @@ use Rattle.seg_data.specs.WordSets.{Words}
 use Rattle.std.specs.Option.{option_map}
 use Rattle.seg_clusters.specs.Rules.{boundaries_by}
 use Rattle.seg_machine.specs.Tailored.{machine_of}
-use Rattle.seg_complex.specs.DictionaryCuts.{dictionary_cuts}
+use Rattle.seg_clusters.specs.DictionaryCuts.{dictionary_cuts}
 use Rattle.seg_words.specs.WordRules.{letters, span_boundaries}
 use Rattle.seg_words.proofs.Spans.{cut-boundaries}
 use Rattle.seg_words.proofs.span.Span.new.Goals as goal

@@ -1,0 +1,128 @@
+-- The cuts strictly inside the runs of a text, span by span.
+use Rattle.std.proofs.Common.{◌≡◌, ℕ, zero, suc, ◌<◌, ◌≤◌, List, [], ◌∷◌, ◌++◌, length, map, take, refl, sym, ap, ◌∙◌, arith}
+use Rattle.std.specs.Prelude.{Option, None, Some}
+use Rattle.std.specs.Option.{option_map, option_to_list}
+use Rattle.std.specs.Iterator.{YieldsFirst}
+use Rattle.seg_text.specs.Items.{Item, Text, rest_after, text_before, code_points}
+use Rattle.seg_text.specs.Boundaries.{boundary_in, boundaries_in, offsets, RisesTo, AreCutsOf, cut_places, with_status, later_boundaries}
+use Rattle.seg_text.proofs.Stretches.{text-later-nil}
+use Rattle.seg_data.specs.declared.provider.ComplexScript.{ComplexScript}
+use Rattle.seg_data.specs.declared.provider.dictionary.cursor.DictionaryCursor.{DictionaryCursor}
+use Rattle.seg_data.specs.ScriptWords.{words_after, words_in}
+use Rattle.seg_data.specs.WordSets.{Words}
+use Rattle.seg_clusters.specs.Rules.{boundaries_by}
+use Rattle.seg_machine.specs.Machine.{Machine}
+use Rattle.seg_clusters.specs.DictionaryCuts.{Clusters, by_words, dictionary_cuts}
+use Rattle.seg_clusters.specs.Spans.{inner_cuts, inner_stretch, but_the_last, span_cuts, GivesSpan, span_length, span_words, worded_script}
+use Rattle.seg_clusters.specs.Payloads.{Payloads, piece_cuts_by}
+use Rattle.seg_clusters.specs.Scripts.{CoverPieces}
+use Rattle.seg_clusters.proofs.Cutting.{length-taken, offsets-append, place_after, places-offsets, places-with, rises-inside}
+use Rattle.seg_clusters.proofs.SpanStretches.{AreInside, InSpan, span-at, span-inside, span-some}
+
+-- all but the last of them, at their places
+inside-map : (f : ℕ → ℕ) (cuts : List ℕ) → map f (but_the_last cuts) ≡ but_the_last (map f cuts)
+inside-map f [] = refl
+inside-map f (cut ∷ []) = refl
+inside-map f (cut ∷ next ∷ cuts) = ap (λ (rest : List ℕ). f cut ∷ rest) (inside-map f (next ∷ cuts))
+
+inside-cuts : (n : ℕ) (cuts : List ℕ) → AreCutsOf n cuts → AreInside n (with_status 0 (but_the_last cuts))
+inside-cuts n [] are = tt
+inside-cuts n (cut ∷ []) are = tt
+inside-cuts n (cut ∷ next ∷ cuts) are = (are.0, inside-cuts n (next ∷ cuts) are.1)
+
+abbrev pub in-span : Clusters → InSpan
+in-span clusters found span = with_status 0 (but_the_last (span_cuts clusters found span))
+
+-- what was given and what is left are what was there
+pub first-taken : {S A : Type 0} (left : S → List A) (old new : S) (given : Option A) → YieldsFirst left old given new → option_to_list given ++ left new ≡ left old
+first-taken left old new None (none, still) = still ∙ sym none
+first-taken left old new (Some first) is = sym is
+
+pub no-more : {S A : Type 0} (left : S → List A) (old new : S) (given : Option A) → YieldsFirst left old given new → given ≡ None → left new ≡ []
+no-more left old new None (none, still) is = still
+no-more left old new (Some first) gives is = absurd cc
+
+last-held : (held : Option ℕ) (cuts : List ℕ) → cuts ≡ [] → but_the_last (option_to_list held ++ cuts) ≡ []
+last-held None cuts none = ap but_the_last none
+last-held (Some cut) cuts none = ap (λ (later : List ℕ). but_the_last (cut ∷ later)) none
+
+module _ (m : Machine) (payloads : Payloads) (cover : CoverPieces (piece_cuts_by payloads)) where
+  abbrev clusters : Clusters
+  clusters = boundaries_by payloads.clusters
+
+  alone-inside : (found : Option Words) (script : ComplexScript) (n first : ℕ) (rest : List ℕ) → length (first ∷ rest) ≡ n
+      → RisesTo 0 (with_status 0 (by_words found clusters script (first ∷ rest))) (length (first ∷ rest))
+      → AreInside n (with_status 0 (but_the_last (span_cuts clusters found (first ∷ rest))))
+  alone-inside None script n first rest is rises = tt
+  alone-inside (Some words) script n first rest is rises =
+      inside-cuts n (dictionary_cuts words clusters (first ∷ rest)) (rw is at (rises-inside (dictionary_cuts words clusters (first ∷ rest)) 0 (length (first ∷ rest)) rises).1)
+
+  taken-inside : (script : ComplexScript) (n first : ℕ) (rest : List ℕ) → 0 < n → n ≤ length (first ∷ rest)
+      → AreInside n (with_status 0 (but_the_last (span_cuts clusters (words_in payloads.words script) (take n (first ∷ rest)))))
+  taken-inside script zero first rest some bound = absurd (omega arith)
+  taken-inside script (suc n) first rest some bound =
+      alone-inside (words_in payloads.words script) script (suc n) first (take n rest) (ap suc (length-taken n rest (omega (arith, bound)))) (cover script first (take n rest))
+
+  fits : (first : ℕ) (rest : List ℕ) → AreInside (span_length m payloads.words (first ∷ rest)) (inner_stretch m payloads (first ∷ rest)).boundaries
+  fits first rest =
+      taken-inside (worded_script m payloads.words first) (span_length m payloads.words (first ∷ rest)) first rest
+      (span-some m payloads.words first rest) (span-inside m payloads.words (first ∷ rest))
+
+  pub inner-nil : (end : ℕ) → cut_places (inner_cuts m payloads) (record { items = []; end = end }) ≡ []
+  inner-nil end =
+      places-offsets (record { items = []; end = end }) (later_boundaries (inner_stretch m payloads) []) ∙ ap offsets (text-later-nil (inner_stretch m payloads) end)
+
+  -- those inside the first span, taken alone, and then those of what is left
+  inner-at : (items : List Item) (end : ℕ) → 0 < span_length m payloads.words (code_points items)
+      → let text : Text = record { items = items; end = end } in let n = span_length m payloads.words (code_points items) in
+      cut_places (inner_cuts m payloads) text
+      ≡ but_the_last (cut_places (span_cuts clusters (span_words m payloads.words (code_points items))) (text_before n text)) ++ cut_places (inner_cuts m payloads) (rest_after n text)
+  inner-at items end some =
+      let text : Text = record { items = items; end = end } in
+      let n = span_length m payloads.words (code_points items) in
+      let first = inner_stretch m payloads in
+      let cuts = span_cuts clusters (span_words m payloads.words (code_points items)) (code_points (take n items)) in
+      let rest = rest_after n text in
+      places-offsets text (later_boundaries first (code_points items))
+      ∙ ap offsets (span-at m payloads.words (in-span clusters) fits items end some)
+      ∙ offsets-append (map (boundary_in (text_before n text)) (with_status 0 (but_the_last cuts))) (boundaries_in (later_boundaries first) rest)
+      ∙ ap (λ (some : List ℕ). some ++ offsets (boundaries_in (later_boundaries first) rest)) (places-with (text_before n text) (but_the_last cuts) ∙ inside-map (place_after (text_before n text)) cuts)
+      ∙ ap (λ (others : List ℕ). but_the_last (map (place_after (text_before n text)) cuts) ++ others) (sym (places-offsets rest (later_boundaries first (code_points rest.items))))
+
+  -- a span was given
+  inner-next : {I : Type 0} (text : I → Text) (before after : Text) (span : I × Option DictionaryCursor)
+      → GivesSpan m payloads.words text before (Some span) after
+      → cut_places (inner_cuts m payloads) before
+      ≡ but_the_last (cut_places (span_cuts clusters (option_map words_after span.1)) (text span.0)) ++ cut_places (inner_cuts m payloads) after
+  inner-next text before after span gives =
+      let n = span_length m payloads.words (code_points before.items) in
+      let words = span_words m payloads.words (code_points before.items) in
+      inner-at before.items before.end gives.0
+      ∙ ap (λ (first : Text). but_the_last (cut_places (span_cuts clusters words) first) ++ cut_places (inner_cuts m payloads) (rest_after n before)) (sym gives.1)
+      ∙ ap (λ (words : Option Words). but_the_last (cut_places (span_cuts clusters words) (text span.0)) ++ cut_places (inner_cuts m payloads) (rest_after n before)) (sym gives.2)
+      ∙ ap (λ (rest : Text). but_the_last (cut_places (span_cuts clusters (option_map words_after span.1)) (text span.0)) ++ cut_places (inner_cuts m payloads) rest) (sym gives.3)
+
+  -- nothing was left of a run, and the next span was given, with its cuts, of which the first is held
+  pub inner-left : {I S : Type 0} (text : I → Text) (cuts : S → List ℕ) (before after : Text) (span : I × Option DictionaryCursor)
+      (held later : Option ℕ) (none left : List ℕ) (run rest : S)
+      → GivesSpan m payloads.words text before (Some span) after → none ≡ []
+      → cuts run ≡ cut_places (span_cuts clusters (option_map words_after span.1)) (text span.0) → YieldsFirst cuts run later rest
+      → but_the_last (option_to_list held ++ none) ++ cut_places (inner_cuts m payloads) before ≡ left
+      → but_the_last (option_to_list later ++ cuts rest) ++ cut_places (inner_cuts m payloads) after ≡ left
+  inner-left text cuts before after span held later none left run rest gives nothing are first is =
+      ap (λ (found : List ℕ). but_the_last found ++ cut_places (inner_cuts m payloads) after) (first-taken cuts run rest later first ∙ are)
+      ∙ sym (inner-next text before after span gives)
+      ∙ ap (λ (some : List ℕ). some ++ cut_places (inner_cuts m payloads) before) (sym (last-held held none nothing))
+      ∙ is
+
+  -- nothing was left
+  pub inner-end : {I : Type 0} (text : I → Text) (before after : Text) (held : Option ℕ) (none still left : List ℕ)
+      → GivesSpan m payloads.words text before None after → none ≡ [] → still ≡ []
+      → but_the_last (option_to_list held ++ none) ++ cut_places (inner_cuts m payloads) before ≡ left
+      → (left ≡ []) × (but_the_last (option_to_list held ++ still) ++ cut_places (inner_cuts m payloads) after ≡ [])
+  inner-end text before after held none still left gives nothing empty is =
+      let end : cut_places (inner_cuts m payloads) before ≡ [] =
+      ap (λ (items : List Item). cut_places (inner_cuts m payloads) (record { items = items; end = before.end })) gives.0 ∙ inner-nil before.end in (
+        sym is ∙ ap (λ (some : List ℕ). some ++ cut_places (inner_cuts m payloads) before) (last-held held none nothing) ∙ end,
+        ap (λ (some : List ℕ). some ++ cut_places (inner_cuts m payloads) after) (last-held held still empty) ∙ ap (cut_places (inner_cuts m payloads)) gives.1 ∙ end,
+      )

@@ -1,8 +1,0 @@
-use Rattle.seg_complex.proofs.Pieces.{pieces-are, pieces-only}
-use Rattle.seg_complex.proofs.laws.pieces_are_one.Goals as goal
-
-pub returns-clause-are : goal.returns-clause-are
-returns-clause-are c = pieces-are
-
-pub returns-clause-only : goal.returns-clause-only
-returns-clause-only c = pieces-only

@@ -1,4 +1,0 @@
-pub mod Scripts
-pub mod DictionaryCuts
-pub mod Payloads
-pub mod Spans

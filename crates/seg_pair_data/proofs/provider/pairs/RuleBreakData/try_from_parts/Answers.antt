@@ -1,5 +1,0 @@
-use Rattle.seg_pair_data.proofs.Pairs.{pair_table-from}
-use Rattle.seg_pair_data.proofs.provider.pairs.RuleBreakData.try_from_parts.Goals as goal
-
-pub invariant_of-result : goal.invariant_of-result
-invariant_of-result c = pair_table-from _ (rw (← c.as_slice.ensures.value) c.in_ok-check_pairs.ensures.accepted)

@@ -1,3 +1,0 @@
-pub mod PairTable
-pub mod PairData
-pub mod Lemmas
