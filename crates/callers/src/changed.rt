@@ -24,10 +24,5 @@ pub fn words_split_at_low_lines(alloc: Global) -> Result<WordSegmenter, Failure>
     let overriding = RuleBreakDataOverride::try_from_parts(classes)?;
     let clusters = cluster_table(alloc)?;
     let options = WordBreakOptions::default();
-    Ok(WordSegmenter::try_new_for_non_complex_scripts(
-        table,
-        Some(overriding),
-        clusters,
-        options,
-    )?)
+    Ok(WordSegmenter::try_new_for_non_complex_scripts(table, Some(overriding), clusters, options)?)
 }

@@ -169,7 +169,11 @@ fn words_by_table(alloc: Global, dice: &mut Dice) -> Result<bool, Failure> {
         0 => examine_given_words(alloc, dice, given_words(tables)),
         1 => examine_given_words(alloc, dice, given_words_with(tables, words)),
         2 => examine_words(alloc, dice, borrowed_words(&tables)),
-        _ => examine_words(alloc, dice, borrowed_words_with(&tables, words.as_borrowed())),
+        _ => examine_words(
+            alloc,
+            dice,
+            borrowed_words_with(&tables, words.as_borrowed()),
+        ),
     }
 }
 

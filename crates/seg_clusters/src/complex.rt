@@ -12,10 +12,10 @@ ghost use Rattle.seg_clusters.specs.DictionaryCuts.{dictionary_cuts};
 ghost use Rattle.seg_clusters.specs.Scripts.{later_places, CoverPieces, CoverRuns};
 ghost use Rattle.seg_clusters.specs.Payloads.{payload_words, payloads_of, piece_cuts_by};
 
-use crate::later::LaterCuts;
-use crate::laws::complex::dictionary_cuts_cover;
 use crate::engine::Engine;
 use crate::grapheme::GraphemeClusterSegmenterBorrowed;
+use crate::later::LaterCuts;
+use crate::laws::complex::dictionary_cuts_cover;
 use seg_data::dictionaries::DictionariesBorrowed;
 use seg_data::provider::DictionaryBreakData;
 use seg_memo::memo::{MemoBreakIterator, MemoError};

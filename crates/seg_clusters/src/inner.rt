@@ -13,9 +13,9 @@ ghost use Rattle.seg_clusters.specs.Payloads.{payloads_of, piece_left};
 
 use crate::complex::ComplexPayloadsBorrowed;
 use crate::dictionaries::DictionaryCuts;
+use crate::grapheme::GraphemeClusterSegmenterBorrowed;
 use crate::runs::PieceIterator;
 use crate::spans::next_span;
-use crate::grapheme::GraphemeClusterSegmenterBorrowed;
 use seg_data::provider::DictionaryCursor;
 use seg_machine::tailored_machine::TailoredMachineBorrowed;
 use seg_text::cursor::Cursor;

@@ -6,8 +6,8 @@ ghost use Rattle.seg_line_rules.specs.LineLists.{fits, is_kept, is_normal_listed
 ghost use Rattle.seg_line_rules.specs.LineRules.{is_among};
 
 use crate::options::{LineBreakStrictness, LineStyle};
-use seg_pairs::provider::RuleBreakData;
 use seg_pairs::elements::Element;
+use seg_pairs::provider::RuleBreakData;
 
 /// Two units side by side: the class of the left one and its code point, and those of the right one.
 #[derive(Clone, Copy, Debug)]

@@ -8,8 +8,8 @@ ghost use Rattle.seg_line_rules.specs.LineUnits.{bears_none, is_glued, is_mark, 
 
 use crate::line_pairs::LinePairs;
 use crate::plain_pairs::ClassedItem;
-use seg_pairs::provider::RuleBreakData;
 use seg_pairs::elements::{Element, Elements};
+use seg_pairs::provider::RuleBreakData;
 use seg_text::cursor::Cursor;
 use std::marker::Model;
 

@@ -9,8 +9,8 @@ ghost use Rattle.seg_line_rules.specs.LineUnits.{unit_seen, units_seen};
 
 use crate::line_pairs::LinePairs;
 use crate::lists::{keeps, listed};
-use seg_pairs::provider::{BreakState, RuleBreakData};
 use seg_pairs::elements::{Element, Elements};
+use seg_pairs::provider::{BreakState, RuleBreakData};
 use seg_pairs::verdicts::{Step, Verdicts};
 use seg_pairs::walk::{Stop, entry_between, is_class, state_named, walk};
 

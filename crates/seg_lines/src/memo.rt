@@ -9,8 +9,8 @@ ghost use Rattle.seg_lines.specs.LineBreaks.{boundaries_with, machine_in_finder}
 ghost use Rattle.seg_lines.specs.Lines.{finder_of};
 
 use crate::finder::Finder;
-use seg_clusters::engine::Engine;
 use seg_clusters::complex::ComplexPayloadsBorrowed;
+use seg_clusters::engine::Engine;
 use seg_memo::memo::{MemoBreakIterator, MemoError};
 use seg_memo::reader::CountedTransitions;
 use seg_text::cursor::Cursor;

@@ -9,9 +9,9 @@ ghost use Rattle.seg_pairs.specs.Breaks.{status_of, table_boundaries};
 ghost use Rattle.seg_pairs.specs.Elements.{onto, place_at};
 
 use crate::elements::{Element, Elements, Items};
-use crate::verdicts::{Outcome, TableVerdicts, next_break};
 use crate::pair_data::PairDataBorrowed;
 use crate::provider::RuleBreakData;
+use crate::verdicts::{Outcome, TableVerdicts, next_break};
 use seg_text::cursor::Cursor;
 use seg_text::reach::Reach;
 use std::marker::Model;

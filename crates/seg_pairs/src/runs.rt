@@ -6,10 +6,10 @@ ghost use Rattle.seg_text.specs.Items.{start_of};
 ghost use Rattle.seg_pairs.specs.Breaks.{LeadsTo, GoesOnUnread, unread_by};
 
 use crate::elements::{Element, Elements, Items};
-use crate::rule_segmenter_v1::place_before;
-use crate::verdicts::{ComplexVerdicts, Outcome, next_break};
 use crate::pair_data::PairDataBorrowed;
 use crate::provider::RuleBreakData;
+use crate::rule_segmenter_v1::place_before;
+use crate::verdicts::{ComplexVerdicts, Outcome, next_break};
 use seg_text::cursor::Cursor;
 use seg_text::prefixes::{CodePointTest, take_prefix};
 use std::marker::Model;

@@ -6,8 +6,8 @@ ghost use Rattle.seg_pairs.specs.Elements.{classes_of};
 ghost use Rattle.seg_pairs.specs.Verdict.{Lands, LandsOrWalks, EndsIn, IsStepBelow, IsOutcomeBelow, verdict, named_verdict, complex_verdict, chain, IsForward};
 
 use crate::elements::{Element, Elements};
-use crate::walk::{Stop, walk};
 use crate::provider::{BreakState, RuleBreakData};
+use crate::walk::{Stop, walk};
 
 /// What a verdict on an element leads to.
 #[derive(Clone, Copy, Debug)]

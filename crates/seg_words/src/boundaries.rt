@@ -12,8 +12,8 @@ ghost use Rattle.seg_words.specs.WordRules.{word_boundaries_of};
 
 use crate::classic::ClassicBoundaries;
 use crate::neo::NeoBoundaries;
-use seg_clusters::engine::Engine;
 use seg_clusters::complex::ComplexPayloadsBorrowed;
+use seg_clusters::engine::Engine;
 use seg_machine::rule_segmenter_v2::RuleBreakIterator;
 use seg_machine::tailored_machine::TailoredMachineBorrowed;
 use seg_text::cursor::Cursor;

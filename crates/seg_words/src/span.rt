@@ -12,8 +12,8 @@ ghost use Rattle.seg_machine.specs.Tailored.{machine_of};
 ghost use Rattle.seg_words.specs.WordsLeft.{span_left};
 ghost use Rattle.seg_words.specs.WordRules.{span_boundaries};
 
-use seg_clusters::grapheme::GraphemeClusterSegmenterBorrowed;
 use seg_clusters::dictionaries::DictionaryCuts;
+use seg_clusters::grapheme::GraphemeClusterSegmenterBorrowed;
 use seg_data::provider::DictionaryCursor;
 use seg_machine::rule_segmenter_v2::RuleBreakIterator;
 use seg_machine::tailored_machine::TailoredMachineBorrowed;

@@ -16,9 +16,9 @@ ghost use Rattle.seg_words.specs.declared.word.WordType.TheVariants.{None as NoW
 
 use crate::boundaries::{WordBoundaries, boundaries};
 use crate::data::{check_machine, word_pairs};
+use seg_clusters::complex::ComplexPayloadsBorrowed;
 use seg_clusters::engine::{Engine, OwnedEngine};
 use seg_clusters::grapheme::{GraphemeClusterSegmenter, GraphemeClusterSegmenterBorrowed};
-use seg_clusters::complex::ComplexPayloadsBorrowed;
 use seg_clusters::spans::is_outside_runs;
 use seg_data::dictionaries::{Dictionaries, DictionariesBorrowed};
 use seg_data::provider::{DataError, LanguageIdentifier};

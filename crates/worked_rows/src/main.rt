@@ -8,10 +8,10 @@
 
 mod agreement;
 mod answers;
+mod borrowed;
 mod data;
 mod dictionaries;
 mod items;
-mod borrowed;
 mod line_classes;
 mod machines;
 mod memos;

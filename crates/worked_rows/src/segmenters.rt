@@ -4,8 +4,8 @@ use crate::agreement::{
     SHORT_TEXTS, agrees_in_all, boundaries_in_all, has_same_clusters, short_text,
 };
 use crate::answers::or_fault;
-use crate::data::{machine_of, table_of};
 use crate::borrowed::lend;
+use crate::data::{machine_of, table_of};
 use crate::memos::memo_answer;
 use crate::options::Options;
 use crate::owned::own;

@@ -16,7 +16,9 @@ pub(super) fn without_ja(dictionaries: Dictionaries) -> Dictionaries
 }
 
 // The same, borrowed.
-pub(super) fn borrowed_without_ja(dictionaries: DictionariesBorrowed<'_>) -> DictionariesBorrowed<'_>
+pub(super) fn borrowed_without_ja(
+    dictionaries: DictionariesBorrowed<'_>,
+) -> DictionariesBorrowed<'_>
     ensures { borrowed_words result ≡ without_ja (borrowed_words dictionaries.entry) }
 {
     DictionariesBorrowed {
