@@ -4,3 +4,5 @@ mod Whole
 mod Hints
 mod Nearest
 mod Parts
+pub mod Given
+pub mod Filling

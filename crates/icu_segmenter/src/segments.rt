@@ -9,12 +9,13 @@
 //! words.segment_str("one 42.").words()                (0, "one", Letter) (4, "42", Number)
 //! ```
 
-ghost use Rattle.std.specs.Prelude.{◌≡◌, ℕ, ◌<◌, ◌≤◌, ⊤, List, All, length};
+ghost use Rattle.std.specs.Prelude.{◌≡◌, ℕ, ◌<◌, ◌≤◌, ⊤, List, All, drop, length};
 ghost use Rattle.std.specs.List.{flat_map};
 ghost use Rattle.std.specs.Iterator.{YieldsFirst, YieldsFirstBy, item_count};
 ghost use Rattle.seg_text.specs.declared.boundary.Boundary.{Boundary};
-ghost use Rattle.seg_text.specs.Boundaries.{boundaries_in, IsCover};
+ghost use Rattle.seg_text.specs.Boundaries.{boundaries_in, offsets, IsCover};
 ghost use Rattle.seg_text.specs.Items.{Text};
+ghost use Rattle.icu_segmenter.specs.Filled.{IsFilled};
 ghost use Rattle.icu_segmenter.specs.TextSegments.{indices_of, marked, segments_of, units_of, words_of, AreSegments, IsPlace};
 ghost use Rattle.icu_segmenter.specs.SegmentsLeft.{indices_left, segments_left, words_left};
 
@@ -66,6 +67,35 @@ pub trait BreakIterator: Drop + Sized {
     /// The same boundaries once more, from the same one on. Takes no memory and never fails.
     fn fork(&self) -> Self
         ensures { result ≡ self.now };
+
+    /// Writes the places of the next boundaries over the first of `places`, as many as there are and there is room for, and returns
+    /// how many. The next call goes on behind them. Takes no memory.
+    final fn fill(&mut self, places: &mut [usize]) -> usize
+        ensures filled { IsFilled (offsets (left self.old)) places.old places.new result }
+        ensures left { marked mark (left self.new) ≡ drop result (marked mark (left self.old)) }
+    {
+        for index in 0..places.len() {
+            match self.next_break() {
+                Some((place, _)) => places[index] = place,
+                None => return index,
+            }
+        }
+        places.len()
+    }
+
+    /// The same with what their statuses say.
+    final fn fill_marked(&mut self, found: &mut [(usize, Self::Mark)]) -> usize
+        ensures filled { IsFilled (marked mark (left self.old)) found.old found.new result }
+        ensures left { marked mark (left self.new) ≡ drop result (marked mark (left self.old)) }
+    {
+        for index in 0..found.len() {
+            match self.next_break() {
+                Some(next) => found[index] = next,
+                None => return index,
+            }
+        }
+        found.len()
+    }
 
     /// Law: a text may be cut at the places of its items.
     ghost places: { (text : Self.Units) (place : ℕ) → IsPlace (decode (Self.Units.units text)) place → Self.Units.MayCut text place };

@@ -1,7 +1,5 @@
 pub mod AsBox
 mod GoingOn
-mod Filling
-mod Given
 mod Counted
 mod Lines
 mod Marked

@@ -5,5 +5,4 @@ pub mod Versions
 pub mod Words
 pub mod Wrapped
 pub mod Finders
-pub mod Buffers
 pub mod Options

@@ -3,7 +3,7 @@
 ghost use Rattle.std.specs.Prelude.{◌≡◌, ◌+◌, ◌≤◌, ◌<◌, ◌^◌, ℕ, ◌==◌, if◌then◌else◌, drop, length, map, min};
 ghost use Rattle.icu_segmenter.specs.Boundaries.{IsCover, boundaries_in, offsets};
 ghost use Rattle.icu_segmenter.specs.TextSegments.{segments_of, words_of};
-ghost use Rattle.yengatomu_c.specs.Buffers.{IsFilled, TakesFirst};
+ghost use Rattle.icu_segmenter.specs.Filled.{IsFilled, TakesFirst};
 ghost use Rattle.yengatomu_c.specs.Marks.{number_of_type};
 
 use icu_segmenter::options::WordType;

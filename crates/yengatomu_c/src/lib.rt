@@ -8,7 +8,7 @@ ghost use Rattle.std.specs.Prelude.{◌≡◌, ◌+◌, ◌-◌, ◌^◌, ℕ, [
 ghost use Rattle.icu_segmenter.specs.Boundaries.{HasRestart};
 ghost use Rattle.icu_segmenter.specs.Decoding.{utf8};
 ghost use Rattle.icu_segmenter.specs.NearBoundaries.{IsNearestAbove, IsNearestBelow};
-ghost use Rattle.yengatomu_c.specs.Buffers.{IsFilled, TakesFirst};
+ghost use Rattle.icu_segmenter.specs.Filled.{IsFilled, TakesFirst};
 ghost use Rattle.yengatomu_c.specs.Finders.{GoesOnAt, LineFeedsReset, find_by, finder_in, marks_behind, places_behind, places_in};
 ghost use Rattle.yengatomu_c.specs.Loaded.{IsLoaded, numbered_script};
 ghost use Rattle.yengatomu_c.specs.Options.{IsOpened, numbered_finder};

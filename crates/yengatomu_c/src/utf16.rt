@@ -3,7 +3,7 @@
 ghost use Rattle.std.specs.Prelude.{◌≡◌, ◌+◌, ◌<◌, ◌^◌, [], Contains, IfSome, None, drop, length, min};
 ghost use Rattle.icu_segmenter.specs.Boundaries.{HasRestart};
 ghost use Rattle.icu_segmenter.specs.Decoding.{utf16};
-ghost use Rattle.yengatomu_c.specs.Buffers.{IsFilled, TakesFirst};
+ghost use Rattle.icu_segmenter.specs.Filled.{IsFilled, TakesFirst};
 ghost use Rattle.yengatomu_c.specs.Finders.{GoesOnAt, find_by, finder_in, finder_of, marks_behind, places_behind, places_in};
 ghost use Rattle.yengatomu_c.specs.Words.{word_count};
 

@@ -5,7 +5,7 @@ ghost use Rattle.icu_segmenter.specs.Decoding.{utf8};
 ghost use Rattle.icu_segmenter.specs.Items.{Text};
 ghost use Rattle.icu_segmenter.specs.Wrapping.{TextLine};
 ghost use Rattle.icu_segmenter.specs.WrappedLines.{joined_units, utf16_lines_to_come, utf8_lines_to_come, wrapped_units, wrapper_rules};
-ghost use Rattle.yengatomu_c.specs.Buffers.{IsFilled, TakesFirst};
+ghost use Rattle.icu_segmenter.specs.Filled.{IsFilled, TakesFirst};
 ghost use Rattle.yengatomu_c.specs.Finders.{finder_of};
 ghost use Rattle.yengatomu_c.specs.Wrapped.{GivesLine, ends_from, widths_of, wrapped_behind};
 

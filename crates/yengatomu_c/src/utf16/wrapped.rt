@@ -2,7 +2,7 @@
 
 ghost use Rattle.std.specs.Prelude.{◌≡◌, [], IfSome, None, length, min};
 ghost use Rattle.icu_segmenter.specs.Decoding.{utf16};
-ghost use Rattle.yengatomu_c.specs.Buffers.{IsFilled, TakesFirst};
+ghost use Rattle.icu_segmenter.specs.Filled.{IsFilled, TakesFirst};
 ghost use Rattle.yengatomu_c.specs.Finders.{finder_in, finder_of};
 ghost use Rattle.yengatomu_c.specs.Wrapped.{ends_from, widths_of, wrapped_behind};
 

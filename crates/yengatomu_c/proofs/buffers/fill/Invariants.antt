@@ -2,8 +2,8 @@
 use Rattle.std.proofs.Common.{◌+◌, length, map}
 use Rattle.std.specs.Prelude.{drop}
 use Rattle.icu_segmenter.specs.Boundaries.{offsets}
-use Rattle.yengatomu_c.proofs.Filling.{Filling}
-use Rattle.yengatomu_c.proofs.Given.{AreUpTo}
+use Rattle.icu_segmenter.proofs.Filling.{Filling}
+use Rattle.icu_segmenter.proofs.Given.{AreUpTo}
 use Rattle.yengatomu_c.proofs.buffers.fill.Given as goal
 
 abbrev pub invariant-loop-index : goal.invariant-loop-index

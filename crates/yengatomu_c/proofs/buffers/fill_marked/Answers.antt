@@ -1,8 +1,8 @@
 use Rattle.std.proofs.Common.{◌+◌, map, ap, sym, ◌∙◌, arith}
 use Rattle.std.proofs.lemmas.List.{drop-map}
 use Rattle.icu_segmenter.specs.Boundary.{Boundary}
-use Rattle.yengatomu_c.proofs.Filling.{begun, went-on, at-end}
-use Rattle.yengatomu_c.proofs.Given.{cover-up-to, first-up-to, offsets-behind, offsets-next, offsets-none, numbers-behind, numbers-next, numbers-none}
+use Rattle.icu_segmenter.proofs.Filling.{begun, went-on, at-end}
+use Rattle.icu_segmenter.proofs.Given.{cover-up-to, first-up-to, offsets-behind, offsets-next, offsets-none, numbers-behind, numbers-next, numbers-none}
 use Rattle.yengatomu_c.proofs.buffers.fill_marked.Goals as goal
 
 pub loop-index-init : goal.loop-index-init

@@ -6,7 +6,7 @@ use Rattle.icu_segmenter.specs.Decoding.{utf8}
 use Rattle.icu_segmenter.specs.LineBreaks.{LineRules, line_boundaries_of}
 use Rattle.icu_segmenter.specs.WordRules.{WordRules, type_of, word_boundaries_of}
 use Rattle.icu_segmenter.specs.Words.{owned_word_rules}
-use Rattle.yengatomu_c.specs.Buffers.{TakesFirst}
+use Rattle.icu_segmenter.specs.Filled.{TakesFirst}
 use Rattle.yengatomu_c.specs.Marks.{number_of_type}
 use Rattle.yengatomu_c.proofs.Marked.{word-marks}
 use Rattle.yengatomu_c.proofs.texts.marked_boundaries.Goals as goal

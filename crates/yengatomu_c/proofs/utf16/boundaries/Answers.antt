@@ -4,7 +4,7 @@ use Rattle.icu_segmenter.specs.Boundary.{Boundary}
 use Rattle.icu_segmenter.specs.Boundaries.{offsets}
 use Rattle.icu_segmenter.specs.Decoding.{utf16}
 use Rattle.icu_segmenter.specs.WordRules.{WordRules, word_boundaries_of}
-use Rattle.yengatomu_c.specs.Buffers.{IsFilled}
+use Rattle.icu_segmenter.specs.Filled.{IsFilled}
 use Rattle.yengatomu_c.proofs.utf16.boundaries.Goals as goal
 
 pub returns-in-Words : goal.returns-in-Words

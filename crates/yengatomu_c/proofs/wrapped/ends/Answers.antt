@@ -1,7 +1,7 @@
 use Rattle.std.proofs.Common.{ℕ, List, length, sym, subst}
 use Rattle.icu_segmenter.specs.Decoding.{utf8}
-use Rattle.yengatomu_c.specs.Buffers.{TakesFirst}
-use Rattle.yengatomu_c.proofs.Filling.{nothing}
+use Rattle.icu_segmenter.specs.Filled.{TakesFirst}
+use Rattle.icu_segmenter.proofs.Filling.{nothing}
 use Rattle.yengatomu_c.proofs.Lines.{ends-none}
 use Rattle.yengatomu_c.proofs.wrapped.ends.Goals as goal
 

@@ -1,5 +1,5 @@
 use Rattle.std.proofs.Common.{arith}
-use Rattle.yengatomu_c.proofs.Filling.{went-on, at-end}
+use Rattle.icu_segmenter.proofs.Filling.{went-on, at-end}
 use Rattle.yengatomu_c.proofs.Lines.{ends-next, ends-none, units-next}
 use Rattle.yengatomu_c.proofs.wrapped.fill.Goals as goal
 

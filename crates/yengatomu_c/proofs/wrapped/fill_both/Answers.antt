@@ -1,6 +1,6 @@
 use Rattle.std.proofs.Common.{ap, arith}
 use Rattle.yengatomu_c.specs.Wrapped.{widths_of}
-use Rattle.yengatomu_c.proofs.Filling.{went-on, at-end}
+use Rattle.icu_segmenter.proofs.Filling.{went-on, at-end}
 use Rattle.yengatomu_c.proofs.Lines.{ends-next, ends-none, units-next}
 use Rattle.yengatomu_c.proofs.wrapped.fill_both.Goals as goal
 

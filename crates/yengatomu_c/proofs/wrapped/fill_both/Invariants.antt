@@ -2,7 +2,7 @@
 use Rattle.std.proofs.Common.{◌+◌, ◌<◌, ◌^◌, length}
 use Rattle.icu_segmenter.specs.WrappedLines.{joined_units}
 use Rattle.yengatomu_c.specs.Wrapped.{ends_from, widths_of}
-use Rattle.yengatomu_c.proofs.Filling.{Filling}
+use Rattle.icu_segmenter.proofs.Filling.{Filling}
 use Rattle.yengatomu_c.proofs.wrapped.fill_both.Given as goal
 
 abbrev pub invariant-loop-index : goal.invariant-loop-index
