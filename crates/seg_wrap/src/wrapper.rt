@@ -43,7 +43,7 @@ impl<'data> LineWrapper<'data> {
     /// A wrapper by the breaks that a machine finds. `NotNeo` where a pair table finds them.
     pub fn new(lines: LineSegmenterBorrowed<'data>) -> Result<Self, WrapError>
         ensures made { IfOk result (λ wrapper. (wrapper_rules wrapper ≡ line_rules lines.entry) × (IsByPairTable (line_rules lines.entry).finder → ⊥)) }
-        ensures refused { OnErr result (IsByPairTable (line_rules lines.entry).finder) }
+        ensures rejected { OnErr result (IsByPairTable (line_rules lines.entry).finder) }
     {
         if is_neo(lines) {
             Ok(LineWrapper { lines })
@@ -65,7 +65,7 @@ impl<'data> LineWrapper<'data> {
         }
     }
 
-    /// The lines of possibly ill-formed UTF-8. What is ill-formed is as wide as the U+FFFD that stand for it, and stays as
+    /// The lines of possibly ill-formed UTF-8. What is ill-formed is as wide as the U+FFFD that it is decoded as, and stays as
     /// it is in the lines. Takes no memory.
     pub fn wrap_utf8<'s>(self, bytes: &'s [u8], columns: usize) -> WrapUtf8Iterator<'data, 's>
         ensures lines { utf8_lines_to_come result ≡ wrapped_text (wrapper_rules self.entry) columns bytes.now }
@@ -91,14 +91,14 @@ pub struct WrappedLine<'s> {
 impl<'s> WrappedLine<'s> {
     ghost use Rattle.seg_wrap.specs.WrappedLines.{line_in};
 
-    /// Its text, with what hangs at its end.
+    /// Its text, with its trailing white space.
     pub fn text(&self) -> &'s str
         ensures { result.now ≡ (line_in self.now).units }
     {
         self.text
     }
 
-    /// The columns that it takes, without what hangs at its end.
+    /// The columns that it takes, without its trailing white space.
     pub fn columns(&self) -> u128
         ensures { result ≡ (line_in self.now).columns }
     {
@@ -184,14 +184,14 @@ pub struct WrappedUtf8Line<'s> {
 impl<'s> WrappedUtf8Line<'s> {
     ghost use Rattle.seg_wrap.specs.WrappedLines.{utf8_line_in};
 
-    /// Its bytes, with what hangs at its end.
+    /// Its bytes, with its trailing white space.
     pub fn bytes(&self) -> &'s [u8]
         ensures { result.now ≡ (utf8_line_in self.now).units }
     {
         self.bytes
     }
 
-    /// The columns that it takes, without what hangs at its end.
+    /// The columns that it takes, without its trailing white space.
     pub fn columns(&self) -> u128
         ensures { result ≡ (utf8_line_in self.now).columns }
     {

@@ -33,9 +33,9 @@ is_counted (Cut segmenter Counted search) = true
 is_counted job = false
 
 -- may a text be cut part by part as it comes
-abbrev pub is_parted : Job → Bool
-is_parted (Cut segmenter style Plain) = true
-is_parted job = false
+abbrev pub is_split : Job → Bool
+is_split (Cut segmenter style Plain) = true
+is_split job = false
 
 -- of what a reader gave before it failed whole lines are written, and nothing of the rest
 abbrev pub IsBegunBy : Job → Option (List ℕ) → Option (List ℕ) → Option (List ℕ) → Option (List ℕ) → Type 0

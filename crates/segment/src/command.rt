@@ -94,8 +94,8 @@ const ENGINE_HELP: &str =
 const DICTIONARIES_HELP: &str =
     "A folder of such files: thai.txt, lao.txt, khmer.txt, myanmar.txt and cj.txt, as many as there are [env: SEGMENT_DICTIONARIES]";
 
-/// The arguments that there are: each kind of segments is a subcommand. Where columns stand in an option, all that isn't one is a file. The
-/// only error is want of memory.
+/// The arguments that there are: each kind of segments is a subcommand. Where columns stand in an option, all that isn't one is a file.
+/// Fails only when out of memory.
 pub fn command_line<'a>(alloc: Global, columns: Columns) -> Result<Command<'a>, AllocError> {
     let kinds = kind_commands(alloc, columns)?;
     let command = Command::new(alloc, "segment")

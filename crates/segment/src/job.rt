@@ -1,4 +1,4 @@
-//! What a request comes to.
+//! What a request asks for, with all that it takes.
 ghost use Rattle.std.specs.Prelude.{◌≡◌, IfOk};
 ghost use Rattle.icu_segmenter.specs.ScriptWords.{script_words};
 ghost use Rattle.segment.specs.Job.{is_counted, search_by, AreOptions, IsAsked};
@@ -39,7 +39,7 @@ impl Job {
     }
 }
 
-/// What a request asks for, with these dictionaries where its kind of segments has some. The error is want of memory.
+/// What a request asks for, with these dictionaries where its kind of segments has some. Fails only when out of memory.
 pub fn job_of(alloc: Global, request: &Request, dictionaries: Dictionaries) -> Result<Job>
     ensures { IfOk result (λ job. IsAsked request.now (script_words dictionaries) job) }
 {

@@ -2,7 +2,7 @@
 ghost use Rattle.std.specs.Prelude.{◌≡◌, ◌⊎◌, false, option_map, IfErr, IfOk, IfSome, OnOk};
 ghost use Rattle.std.specs.Io.KnownBytes.{Appends, IsAtEnd};
 ghost use Rattle.segment_output.specs.Fault.{IsBeforeWriting, IsReadFault};
-ghost use Rattle.segment.specs.Job.{is_parted, output_of, printed_by, IsBegunBy, IsFound};
+ghost use Rattle.segment.specs.Job.{is_split, output_of, printed_by, IsBegunBy, IsFound};
 
 use crate::job::{Job, Search};
 use segment_output::fault::Fault;
@@ -27,7 +27,7 @@ pub fn run<I: Read, O: Write>(
     ensures read_all { OnOk result (IsAtEnd (I.remaining input.new)) }
     ensures written { IfOk result (λ found. IfSome (I.remaining input.old) (λ bytes. IsFound job.now bytes found
         × Appends (O.contents out.old) (O.contents out.new) (output_of job.now (option_map (λ name. name.now) name.entry) bytes))) }
-    ensures unwritten { IfErr result (λ fault. IsBeforeWriting fault → is_parted job.now ≡ false → out.new ≡ out.old) }
+    ensures unwritten { IfErr result (λ fault. IsBeforeWriting fault → is_split job.now ≡ false → out.new ≡ out.old) }
     ensures begun { IfErr result (λ fault. IsReadFault fault → (out.new ≡ out.old)
         ⊎ IsBegunBy job.now (I.remaining input.old) (I.remaining input.new) (O.contents out.old) (O.contents out.new)) }
 {
@@ -61,7 +61,7 @@ fn print_job<I: Read, O: Write>(
     ensures read_all { OnOk result (IsAtEnd (I.remaining input.new)) }
     ensures written { IfOk result (λ found. IfSome (I.remaining input.old) (λ bytes. IsFound job.now bytes found
         × Appends (O.contents out.old) (O.contents out.new) (printed_by job.now bytes))) }
-    ensures unwritten { IfErr result (λ fault. IsBeforeWriting fault → is_parted job.now ≡ false → out.new ≡ out.old) }
+    ensures unwritten { IfErr result (λ fault. IsBeforeWriting fault → is_split job.now ≡ false → out.new ≡ out.old) }
     ensures begun { IfErr result (λ fault. IsReadFault fault → (out.new ≡ out.old)
         ⊎ IsBegunBy job.now (I.remaining input.old) (I.remaining input.new) (O.contents out.old) (O.contents out.new)) }
 {

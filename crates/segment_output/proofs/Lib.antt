@@ -3,7 +3,7 @@ pub mod FoundByMemo
 pub mod Gathered
 pub mod JoinedCuts
 pub mod MarkedPlaces
-pub mod PartedText
+pub mod SplitText
 pub mod Printed
 pub mod Segments
 pub mod ShownLines

@@ -43,7 +43,7 @@ pub const LINES_LEN: usize = 65536;
 pub const LINES_CAPACITY: usize = 69632;
 
 /// Writes the segments between each two places that come, each with the mark of what ends there, or words alone, of a text or of a part of
-/// one before which so many bytes stand, flushes, and says how many there were. The errors are the writer's, and want of memory, also
+/// one before which so many bytes stand, flushes, and says how many there were. The errors are the writer's, and being out of memory, also
 /// where there are more segments, or bytes in all, than a `usize` counts.
 pub fn print_segments<N: Iterator<Item = (usize, Mark)>, O: Write>(
     alloc: Global,
@@ -104,7 +104,7 @@ struct Segment {
     mark: Mark,
 }
 
-// Adds the line of a segment, and writes what was gathered before, where it is much. The errors are the writer's, and want of memory.
+// Adds the line of a segment, and writes what was gathered before, where it is much. The errors are the writer's, and being out of memory.
 // Apart, since an `io::Result` is wide.
 #[inline(never)]
 fn push_long<O: Write>(
@@ -155,7 +155,7 @@ fn push_segment(
 }
 
 /// Writes how many segments there are, and after a space the name of what they were counted in, if it has one, on a line, and flushes.
-/// The errors are the writer's, and want of memory.
+/// The errors are the writer's, and being out of memory.
 pub fn write_count<O: Write>(
     alloc: Global,
     count: usize,

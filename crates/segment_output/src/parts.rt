@@ -156,7 +156,7 @@ fn print_last<O: Write>(
     })
 }
 
-// Writes the segments of what is held, as a part of the text. The errors are the writer's, and want of memory.
+// Writes the segments of what is held, as a part of the text. The errors are the writer's, and being out of memory.
 fn print_held<O: Write>(
     alloc: Global,
     segmenter: &Segmenter,
@@ -177,7 +177,7 @@ fn print_held<O: Write>(
     Ok(())
 }
 
-// A sum. The error is one that no `usize` counts, which is answered as want of memory.
+// A sum. The error is one that no `usize` counts, which is answered as being out of memory.
 fn sum(one: usize, other: usize) -> Result<usize, Fault>
     ensures sum { IfOk result (λ sum. sum ≡ one + other) }
     ensures only { IfErr result (λ fault. IsReadFault fault → ⊥) }

@@ -201,7 +201,7 @@ module _ (segmenter : Segmenter) (style : Style) (parts : PartsBehind (boundarie
         counted None is = tt
         counted (Some bytes) (is, appends) = (count ∙ is, lookups, appends)
 
-    -- the reader fails, or there is no memory for what it gave
+    -- the reader fails, or memory for what it gave runs out
     pub begun : (from mid now : Option (List ℕ)) (more : List ℕ) (progress : Progress) (old out new : O) → IsUnderWay segmenter style contents from mid progress old out → Consumes mid now more → new ≡ out
         → (new ≡ old) ⊎ IsBegun segmenter style from now (contents old) (contents new)
     begun from mid now more progress old out new (done, read, cut) gave same =
