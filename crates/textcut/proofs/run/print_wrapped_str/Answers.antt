@@ -12,7 +12,7 @@ use Rattle.textcut.proofs.run.print_wrapped_str.Goals as goal
 
 pub unreachable-requires : goal.unreachable-requires
 unreachable-requires g c =
-    c.in_ok-lines.ensures.finder (subst (λ (rules : LineRules). IsByPairTable rules.finder) c.as_borrowed.ensures c.in_default.ensures.refused)
+    c.in_ok-lines.ensures.finder (subst (λ (rules : LineRules). IsByPairTable rules.finder) c.as_borrowed.ensures c.in_default.ensures.rejected)
 
 pub returns-clause-printed : goal.returns-clause-printed
 returns-clause-printed g c =
