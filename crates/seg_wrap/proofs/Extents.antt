@@ -7,8 +7,8 @@ use Rattle.std.proofs.lemmas.List.{append_assoc, append-nil, length-append, leng
 use Rattle.unicode_width.proofs.Rules.{width_or_zero-le}
 use Rattle.seg_text.specs.Items.{IsRising, Item, Text, code_points, start_of}
 use Rattle.seg_wrap.specs.declared.extent.Extent.{Extent}
-use Rattle.seg_wrap.specs.Walk.{IsMeasuring, line_extent, joined_extents, total_of}
-use Rattle.seg_wrap.specs.Wrapping.{columns_of, is_trailing_space, shown, width_of}
+use Rattle.seg_wrap.specs.Walk.{IsMeasuring, line_extent, joined_extents}
+use Rattle.seg_wrap.specs.Wrapping.{columns_of, is_trailing_space, shown, total_of, width_of}
 use Rattle.seg_wrap.proofs.Places.{few-items}
 
 pub total-append : (xs ys : List ℕ) → total_of (xs ++ ys) ≡ total_of xs + total_of ys

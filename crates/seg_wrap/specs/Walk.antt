@@ -5,17 +5,12 @@ use Rattle.seg_text.specs.Items.{Text, code_points, rest_after, start_of}
 use Rattle.seg_text.specs.declared.boundary.Boundary.{Boundary}
 use Rattle.seg_text.specs.Boundaries.{boundary}
 use Rattle.seg_wrap.specs.declared.extent.Extent.{Extent}
-use Rattle.seg_wrap.specs.Wrapping.{columns_of, is_trailing_space, width_of, Line, Segment, characters_before, count_before, lines_from, rest_from, segments_from}
+use Rattle.seg_wrap.specs.Wrapping.{columns_of, is_trailing_space, total_of, Line, Segment, characters_before, count_before, lines_from, rest_from, segments_from}
 use Rattle.seg_wrap.specs.declared.breaks.Break.{Break}
 use Rattle.seg_wrap.specs.declared.wrapping.Piece.{Piece}
 use Rattle.seg_wrap.specs.declared.wrapping.Span.{Span}
 
 -- What is known of some characters at a line's end or before it.
-
--- the columns of characters that others follow
-unfoldable pub total_of : List ℕ → ℕ
-total_of [] = 0
-total_of (c ∷ cs) = width_of c + total_of cs
 
 abbrev pub line_extent : List ℕ → Extent
 line_extent cs = record { columns = columns_of cs; inner_columns = total_of cs; is_trailing = list_all is_trailing_space cs }

@@ -4,6 +4,7 @@ use Rattle.std.specs.List.{list_all, prefix_len}
 use Rattle.std.specs.Option.{unwrap_or}
 use Rattle.unicode_width.specs.Width.{char_width}
 use Rattle.seg_text.specs.declared.boundary.Boundary.{Boundary}
+use Rattle.seg_text.specs.Decoding.{utf8}
 use Rattle.seg_text.specs.Items.{Item, Text, code_points, rest_after, start_of}
 
 -- ---- columns
@@ -19,6 +20,15 @@ shown c = if nat_lt c 0xD800 || (nat_le 0xE000 c && nat_le c 0x10FFFF) then c el
 -- the columns of a code point: a character without a width has none
 abbrev pub width_of : ℕ → ℕ
 width_of c = unwrap_or (char_width false (shown c)) 0
+
+-- the columns of characters that others follow in their line: the sum of their widths
+unfoldable pub total_of : List ℕ → ℕ
+total_of [] = 0
+total_of (c ∷ cs) = width_of c + total_of cs
+
+-- the columns of possibly ill-formed UTF-8 that others follow in its line
+abbrev pub bytes_columns : List ℕ → ℕ
+bytes_columns bytes = total_of (code_points (utf8 bytes).items)
 
 -- the columns of a line of these characters: trailing white space isn't counted
 unfoldable pub columns_of : List ℕ → ℕ

@@ -5,11 +5,12 @@ ghost use Rattle.std.specs.Iterator.{YieldsFirstBy, MakesProgress, item_count};
 ghost use Rattle.seg_text.specs.Items.{start_of};
 ghost use Rattle.seg_text.specs.Decoding.{utf8};
 ghost use Rattle.seg_lines.specs.Lines.{line_rules};
-ghost use Rattle.seg_wrap.specs.Wrapping.{between, rest_from};
+ghost use Rattle.seg_wrap.specs.Wrapping.{between, bytes_columns, rest_from};
 ghost use Rattle.seg_lines.specs.LineBreaks.{IsByPairTable};
 
 mod utf16;
 
+use crate::extent::Extent;
 use crate::wrapping::Wrapping;
 use seg_lines::inner::is_neo;
 use seg_lines::line::{LineBreakIterator, LineSegmenterBorrowed};
@@ -78,6 +79,14 @@ impl<'data> LineWrapper<'data> {
             lines: Wrapping::new(breaks, Utf8CharIndices::new(bytes), columns),
         }
     }
+}
+
+/// The columns that possibly ill-formed UTF-8 takes where more follows in its line: the sum of the widths of its characters, spaces at its end
+/// too. Takes no memory.
+pub fn utf8_columns(bytes: &[u8]) -> u128
+    ensures { result ≡ bytes_columns bytes.now }
+{
+    Extent::of_text(Utf8CharIndices::new(bytes)).inner_columns
 }
 
 /// A line of a wrapped text.
