@@ -46,8 +46,16 @@ fn try_run_all(rt: &HostRuntime, job: &Job, names: &[&str]) -> io::Result<Totals
     for name in names {
         add_file(rt, job, Some(name), &mut totals)?;
     }
-    if let Some(numbers) = job.numbers() && names.len() > 1 {
-        write_count(rt.alloc(), numbers, totals.tally, Some("total"), &mut rt.stdout())?;
+    if let Some(numbers) = job.numbers()
+        && names.len() > 1
+    {
+        write_count(
+            rt.alloc(),
+            numbers,
+            totals.tally,
+            Some("total"),
+            &mut rt.stdout(),
+        )?;
     }
     Ok(totals)
 }

@@ -85,12 +85,17 @@ module _ (columns : ℕ) where
   step all done rest field after next more written width stop so_far width-is field-is after-is begins more-is written-is =
       let behind : drop (prefix_len is_inside rest) rest ≡ stop ∷ next = ap (λ (n : ℕ). drop n rest) (sym width-is) ∙ sym after-is ∙ begins in
       let front : expanded_after columns [] rest ≡ field ++ (stopped field stop ++ expanded_after columns [] next) =
-          rw (field-is, width-is)
-          (field-stays [] rest
-          ∙ ap (λ (bytes : List ℕ). field_of rest ++ expanded_after columns (field_of rest) bytes) behind
-          ∙ ap (λ (bytes : List ℕ). field_of rest ++ bytes) (stops stop next (field_of rest) (inside-ends rest stop next behind))) in
-      rw (written-is, more-is, append_assoc (done ++ field) (stopped field stop) (expanded_after columns [] next),
-        append_assoc done field (stopped field stop ++ expanded_after columns [] next), ← front) so_far
+      rw (field-is, width-is)
+      (field-stays [] rest
+      ∙ ap (λ (bytes : List ℕ). field_of rest ++ expanded_after columns (field_of rest) bytes) behind
+      ∙ ap (λ (bytes : List ℕ). field_of rest ++ bytes) (stops stop next (field_of rest) (inside-ends rest stop next behind))) in
+      rw (
+        written-is,
+        more-is,
+        append_assoc (done ++ field) (stopped field stop) (expanded_after columns [] next),
+        append_assoc done field (stopped field stop ++ expanded_after columns [] next),
+        ← front,
+      ) so_far
 
   nothing : (field : List ℕ) → field ++ expanded_after columns field [] ≡ field
   unfolding expanded_after
@@ -103,6 +108,6 @@ module _ (columns : ℕ) where
   ends all done rest field after written width so_far width-is field-is after-is none written-is =
       let behind : drop (prefix_len is_inside rest) rest ≡ [] = ap (λ (n : ℕ). drop n rest) (sym width-is) ∙ sym after-is ∙ none-of after none in
       let front : expanded_after columns [] rest ≡ field =
-          rw (field-is, width-is)
-          (field-stays [] rest ∙ ap (λ (bytes : List ℕ). field_of rest ++ expanded_after columns (field_of rest) bytes) behind ∙ nothing (field_of rest)) in
+      rw (field-is, width-is)
+      (field-stays [] rest ∙ ap (λ (bytes : List ℕ). field_of rest ++ expanded_after columns (field_of rest) bytes) behind ∙ nothing (field_of rest)) in
       written-is ∙ ap (λ (bytes : List ℕ). done ++ bytes) (sym front) ∙ so_far

@@ -102,7 +102,7 @@ ended (Some start) end = record { from = start; to = end.0; mark = end.1 } ∷ [
 
 -- a number beside another, if it is asked for
 abbrev pub beside : Bool → ℕ → List ℕ
-beside is_asked number = if is_asked then 32 ∷ decimal number else []
+beside is_asked count = if is_asked then 32 ∷ decimal count else []
 
 -- how many segments there are, and the line feeds and bytes of the text that are asked for
 abbrev pub counts : Numbers → ℕ → Size → List ℕ

@@ -30,7 +30,9 @@ fn space_len(text: &[u8]) -> usize
     ensures value { result ≡ prefix_len is_white_space text.now }
     ensures within { result ≤ length text.now }
 {
-    text.iter().take_while(|byte| is_white_space(**byte)).count()
+    text.iter()
+        .take_while(|byte| is_white_space(**byte))
+        .count()
 }
 
 // How many other bytes a text begins with.
@@ -38,7 +40,9 @@ fn word_len(text: &[u8]) -> usize
     ensures value { result ≡ prefix_len (λ byte. not (is_white_space byte)) text.now }
     ensures within { result ≤ length text.now }
 {
-    text.iter().take_while(|byte| !is_white_space(**byte)).count()
+    text.iter()
+        .take_while(|byte| !is_white_space(**byte))
+        .count()
 }
 
 fn is_white_space(byte: u8) -> bool

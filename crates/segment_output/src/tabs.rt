@@ -29,7 +29,9 @@ fn field_len(text: &[u8]) -> usize
     ensures value { result ≡ prefix_len (λ byte. not (byte == 0x09 || byte == 0x0A)) text.now }
     ensures within { result ≤ length text.now }
 {
-    text.iter().take_while(|byte| !(**byte == b'\t' || **byte == b'\n')).count()
+    text.iter()
+        .take_while(|byte| !(**byte == b'\t' || **byte == b'\n'))
+        .count()
 }
 
 // How many spaces there are for a tab behind a field.
@@ -43,12 +45,7 @@ fn spaces_behind(field: &[u8], columns: usize) -> usize
 }
 
 // Adds what is written for a tab or a line feed behind a field.
-fn push_stop(
-    field: &[u8],
-    stop: u8,
-    columns: usize,
-    spaced: &mut Vec<u8>,
-) -> Result<(), AllocError>
+fn push_stop(field: &[u8], stop: u8, columns: usize, spaced: &mut Vec<u8>) -> Result<(), AllocError>
     ensures { OnOk result (spaced.new.items ≡ spaced.old.items ++ (if stop == 0x09 then tab_spaces columns field.now else stop ∷ [])) }
 {
     if stop == b'\t' {
