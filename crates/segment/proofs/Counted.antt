@@ -56,7 +56,7 @@ whole-found job None text seen made shown size old new found same is-seen is-siz
 whole-found job (Some bytes) text seen made shown size old new found same is-seen is-size is-made is-shown printed =
     let is : shown ≡ text_of job bytes = is-shown ∙ is-made ∙ ap (λ (text : List ℕ). text_of job text) same in
     let both : IsFound job.work (text_of job bytes) found × Appends old new (work_output job.work (text_of job bytes)) =
-        subst (λ (text : List ℕ). IsFound job.work text found × Appends old new (work_output job.work text)) is printed in
+    subst (λ (text : List ℕ). IsFound job.work text found × Appends old new (work_output job.work text)) is printed in
     ((both.0, is-size ∙ ap size_of (is-seen ∙ same)), both.1)
 
 -- what is met before anything is written leaves nothing

@@ -1,5 +1,5 @@
 -- What the words of the command line ask for.
-use Rattle.std.specs.Prelude.{◌≡◌, ◌≢◌, ℕ, ◌<◌, ◌^◌, ◌==◌, Bool, true, false, Option, None, Some, List, [], length, codes, MatchOption}
+use Rattle.std.specs.Prelude.{◌≡◌, ◌≢◌, ℕ, ◌<◌, ◌^◌, ◌==◌, Bool, true, false, Option, None, Some, List, [], length, codes, MatchOption, IfSome}
 use Rattle.std.specs.List.{before_first}
 use Rattle.std.specs.Option.{option_map, option_map_or}
 use Rattle.std.specs.Str.{str_to_ascii_lowercase}
@@ -108,8 +108,9 @@ IsWidth found width = AreColumns found width.columns × (0 < width.columns) × I
 -- tabs are spaces up to multiples of the columns that are named, if they are
 abbrev pub AreTabs : Found → Option ℕ → Type 0
 AreTabs found tabs =
-    MatchOption tabs ((digits : List ℕ) → one_text found (codes "tabs") ≡ Some digits → IsNumeral 10 digits → digits_value 10 digits < 2 ^ 64 → ⊥)
-    (λ columns. (0 < columns) × (one_text found (codes "tabs") ≢ None) × ((digits : List ℕ) → one_text found (codes "tabs") ≡ Some digits → IsSaid digits columns))
+    (one_text found (codes "tabs") ≡ None → tabs ≡ None)
+    × ((digits : List ℕ) → one_text found (codes "tabs") ≡ Some digits → IsNumeral 10 digits → digits_value 10 digits < 2 ^ 64 → tabs ≡ Some (digits_value 10 digits))
+    × IfSome tabs (λ columns. 0 < columns)
 
 -- what is done first is what is named
 abbrev pub IsPreparation : Found → Preparation → Type 0

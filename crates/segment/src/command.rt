@@ -6,7 +6,7 @@ ghost use Rattle.std.specs.Str.{str_to_ascii_lowercase};
 ghost use Rattle.icu_segmenter.specs.declared.provider.ComplexScript.{ComplexScript as AnyScript};
 ghost use Rattle.clap.specs.Matches.{found_of};
 ghost use Rattle.segment_output.specs.declared.segmenter.Kind.{Kind as AnyKind};
-ghost use Rattle.segment.specs.Command.{is_alone, kind_word, language_part, strictness_word, word_break_word, ArePaired, HasMemoAlone, HasScriptWord, IsChoice, IsEngine, IsRequest, IsStyle, IsTask, IsWidth, AreColumns, AreNumbers, IsPreparation};
+ghost use Rattle.segment.specs.Command.{is_alone, kind_word, language_part, strictness_word, word_break_word, ArePaired, HasMemoAlone, HasScriptWord, IsChoice, IsEngine, IsRequest, IsStyle, IsTask, IsWidth, AreColumns, AreNumbers, AreTabs, IsPreparation};
 
 use anyhow::{Context, Result, bail, ensure};
 use clap::{Arg, ArgAction, ArgMatches, Command, value_parser};
@@ -405,12 +405,21 @@ fn columns_of(matches: &ArgMatches<'_>) -> usize
 fn preparation_of(matches: &ArgMatches<'_>) -> Result<Preparation>
     ensures { IfOk result (IsPreparation (found_of matches.now)) }
 {
-    let tabs: Option<usize> = matches.get_one("tabs");
-    ensure!(tabs != Some(0), "tabs have at least 1 column");
+    let tabs = tabs_of(matches)?;
     Ok(Preparation {
         tabs,
         joins: matches.get_flag("join"),
     })
+}
+
+fn tabs_of(matches: &ArgMatches<'_>) -> Result<Option<usize>>
+    ensures { IfOk result (AreTabs (found_of matches.now)) }
+{
+    let tabs: Option<usize> = matches.get_one("tabs");
+    if let Some(0) = tabs {
+        bail!("tabs have at least 1 column");
+    }
+    Ok(tabs)
 }
 
 fn kind_of(word: &str, alone: bool) -> Result<Kind>
