@@ -60,7 +60,7 @@ pub mod memo {
 pub mod wrap {
     pub use seg_wrap::wrapper::{
         LineWrapper, WrapError, WrapIterator, WrapUtf8Iterator, WrapUtf16Iterator, WrappedLine,
-        WrappedUtf8Line, WrappedUtf16Line,
+        WrappedUtf8Line, WrappedUtf16Line, utf8_columns,
     };
 }
 

@@ -7,8 +7,8 @@ use Rattle.std.proofs.lemmas.List.{append_assoc, append-nil, length-append, leng
 use Rattle.unicode_width.proofs.Rules.{width_or_zero-le}
 use Rattle.seg_text.specs.Items.{IsRising, Item, Text, code_points, start_of}
 use Rattle.seg_wrap.specs.declared.extent.Extent.{Extent}
-use Rattle.seg_wrap.specs.Walk.{IsMeasuring, line_extent, joined_extents, total_of}
-use Rattle.seg_wrap.specs.Wrapping.{columns_of, hangs, shown, width_of}
+use Rattle.seg_wrap.specs.Walk.{IsMeasuring, line_extent, joined_extents}
+use Rattle.seg_wrap.specs.Wrapping.{columns_of, is_trailing_space, shown, total_of, width_of}
 use Rattle.seg_wrap.proofs.Places.{few-items}
 
 pub total-append : (xs ys : List ℕ) → total_of (xs ++ ys) ≡ total_of xs + total_of ys
@@ -16,8 +16,8 @@ unfolding total_of
 total-append [] ys = omega arith
 total-append (x ∷ xs) ys = rw (total-append xs ys) (omega arith)
 
--- where what follows hangs too, and where it doesn't
-pub columns-append : (xs ys : List ℕ) → columns_of (xs ++ ys) ≡ (if list_all hangs ys then columns_of xs else total_of xs + columns_of ys)
+-- where what follows is trailing white space, and where it isn't
+pub columns-append : (xs ys : List ℕ) → columns_of (xs ++ ys) ≡ (if list_all is_trailing_space ys then columns_of xs else total_of xs + columns_of ys)
 unfolding columns_of total_of
 columns-append [] ys = on ys
   where
@@ -25,12 +25,12 @@ columns-append [] ys = on ys
     by true n = refl
     by false n = omega arith
 
-    on : (ys : List ℕ) → columns_of ys ≡ (if list_all hangs ys then 0 else 0 + columns_of ys)
+    on : (ys : List ℕ) → columns_of ys ≡ (if list_all is_trailing_space ys then 0 else 0 + columns_of ys)
     on [] = refl
-    on (y ∷ ys) = by (list_all hangs (y ∷ ys)) (width_of y + columns_of ys)
+    on (y ∷ ys) = by (list_all is_trailing_space (y ∷ ys)) (width_of y + columns_of ys)
 columns-append (x ∷ xs) ys =
-    rw (columns-append xs ys, list_all-append hangs (x ∷ xs) ys)
-    (by (list_all hangs (x ∷ xs)) (list_all hangs ys) (width_of x) (columns_of xs) (total_of xs) (columns_of ys))
+    rw (columns-append xs ys, list_all-append is_trailing_space (x ∷ xs) ys)
+    (by (list_all is_trailing_space (x ∷ xs)) (list_all is_trailing_space ys) (width_of x) (columns_of xs) (total_of xs) (columns_of ys))
   where
     by : (b c : Bool) (w m t n : ℕ)
         → (if b && c then 0 else w + (if c then m else t + n)) ≡ (if c then (if b then 0 else w + m) else w + t + n)
@@ -40,12 +40,12 @@ columns-append (x ∷ xs) ys =
     by false false w m t n = omega arith
 
 pub extent-append : (xs ys : List ℕ) → line_extent (xs ++ ys) ≡ joined_extents (line_extent xs) (line_extent ys)
-extent-append xs ys = rw (columns-append xs ys, total-append xs ys, list_all-append hangs xs ys) refl
+extent-append xs ys = rw (columns-append xs ys, total-append xs ys, list_all-append is_trailing_space xs ys) refl
 
 pub columns-most : (cs : List ℕ) → columns_of cs ≤ total_of cs
 unfolding columns_of total_of
 columns-most [] = omega arith
-columns-most (c ∷ cs) = by (list_all hangs (c ∷ cs)) (columns-most cs)
+columns-most (c ∷ cs) = by (list_all is_trailing_space (c ∷ cs)) (columns-most cs)
   where
     by : (b : Bool) → columns_of cs ≤ total_of cs → (if b then 0 else width_of c + columns_of cs) ≤ width_of c + total_of cs
     by true most = omega arith
@@ -53,7 +53,7 @@ columns-most (c ∷ cs) = by (list_all hangs (c ∷ cs)) (columns-most cs)
 
 -- with more characters there are no fewer columns
 pub columns-grow : (xs ys : List ℕ) → columns_of xs ≤ columns_of (xs ++ ys)
-columns-grow xs ys = rw (columns-append xs ys) (by (list_all hangs ys))
+columns-grow xs ys = rw (columns-append xs ys) (by (list_all is_trailing_space ys))
   where
     by : (b : Bool) → columns_of xs ≤ (if b then columns_of xs else total_of xs + columns_of ys)
     by true = omega arith
@@ -66,42 +66,42 @@ total-most (c ∷ cs) = omega (arith, width_or_zero-le false (shown c), total-mo
 
 -- a character by itself
 abbrev one_of : Bool → ℕ → Extent
-one_of b w = record { columns = if b then 0 else w; inner_columns = w; hangs = b }
+one_of b w = record { columns = if b then 0 else w; inner_columns = w; is_trailing = b }
 
-extent-one : (c : ℕ) → line_extent (c ∷ []) ≡ one_of (hangs c) (width_of c)
+extent-one : (c : ℕ) → line_extent (c ∷ []) ≡ one_of (is_trailing_space c) (width_of c)
 unfolding columns_of total_of
-extent-one c = by (hangs c) (width_of c)
+extent-one c = by (is_trailing_space c) (width_of c)
   where
     extent : ℕ → ℕ → Bool → Extent
-    extent columns total b = record { columns = columns; inner_columns = total; hangs = b }
+    extent columns total b = record { columns = columns; inner_columns = total; is_trailing = b }
 
     by : (b : Bool) (w : ℕ) → extent (if b && true then 0 else w + 0) (w + 0) (b && true) ≡ one_of b w
     by true w = ap (λ (n : ℕ). extent 0 n true) (omega arith)
     by false w = ap (λ (n : ℕ). extent n n false) (omega arith)
 
-extent-hanging : (c width : ℕ) → width ≡ width_of c → hangs c ≡ true → one_of true width ≡ line_extent (c ∷ [])
-extent-hanging c width is does = sym (extent-one c ∙ rw (does, is) refl)
+extent-trailing : (c width : ℕ) → width ≡ width_of c → is_trailing_space c ≡ true → one_of true width ≡ line_extent (c ∷ [])
+extent-trailing c width is does = sym (extent-one c ∙ rw (does, is) refl)
 
-extent-standing : (c width : ℕ) → width ≡ width_of c → hangs c ≡ false → one_of false width ≡ line_extent (c ∷ [])
+extent-standing : (c width : ℕ) → width ≡ width_of c → is_trailing_space c ≡ false → one_of false width ≡ line_extent (c ∷ [])
 extent-standing c width is does = sym (extent-one c ∙ rw (does, is) refl)
 
 -- a character after others
 abbrev extent : ℕ → ℕ → Bool → Extent
-extent columns inner_columns hangs = record { columns = columns; inner_columns = inner_columns; hangs = hangs }
+extent columns inner_columns is_trailing = record { columns = columns; inner_columns = inner_columns; is_trailing = is_trailing }
 
-pub followed-hanging : (before : Extent) (c width : ℕ) → width ≡ width_of c → hangs c ≡ true
-    → extent before.columns (before.inner_columns + width) before.hangs ≡ joined_extents before (line_extent (c ∷ []))
-followed-hanging before c width is does =
-    ap (λ (b : Bool). extent before.columns (before.inner_columns + width) b) (same before.hangs) ∙ ap (λ (one : Extent). joined_extents before one) (extent-hanging c width is does)
+pub followed-trailing : (before : Extent) (c width : ℕ) → width ≡ width_of c → is_trailing_space c ≡ true
+    → extent before.columns (before.inner_columns + width) before.is_trailing ≡ joined_extents before (line_extent (c ∷ []))
+followed-trailing before c width is does =
+    ap (λ (b : Bool). extent before.columns (before.inner_columns + width) b) (same before.is_trailing) ∙ ap (λ (one : Extent). joined_extents before one) (extent-trailing c width is does)
   where
     same : (b : Bool) → b ≡ (b && true)
     same true = refl
     same false = refl
 
-pub followed-standing : (before : Extent) (c width : ℕ) → width ≡ width_of c → hangs c ≡ false
+pub followed-standing : (before : Extent) (c width : ℕ) → width ≡ width_of c → is_trailing_space c ≡ false
     → extent (before.inner_columns + width) (before.inner_columns + width) false ≡ joined_extents before (line_extent (c ∷ []))
 followed-standing before c width is does =
-    ap (λ (b : Bool). extent (before.inner_columns + width) (before.inner_columns + width) b) (none before.hangs)
+    ap (λ (b : Bool). extent (before.inner_columns + width) (before.inner_columns + width) b) (none before.is_trailing)
     ∙ ap (λ (one : Extent). joined_extents before one) (extent-standing c width is does)
   where
     none : (b : Bool) → false ≡ (b && false)

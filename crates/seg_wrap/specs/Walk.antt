@@ -5,27 +5,22 @@ use Rattle.seg_text.specs.Items.{Text, code_points, rest_after, start_of}
 use Rattle.seg_text.specs.declared.boundary.Boundary.{Boundary}
 use Rattle.seg_text.specs.Boundaries.{boundary}
 use Rattle.seg_wrap.specs.declared.extent.Extent.{Extent}
-use Rattle.seg_wrap.specs.Wrapping.{columns_of, hangs, width_of, Line, Segment, characters_before, count_before, lines_from, rest_from, segments_from}
+use Rattle.seg_wrap.specs.Wrapping.{columns_of, is_trailing_space, total_of, Line, Segment, characters_before, count_before, lines_from, rest_from, segments_from}
 use Rattle.seg_wrap.specs.declared.breaks.Break.{Break}
 use Rattle.seg_wrap.specs.declared.wrapping.Piece.{Piece}
 use Rattle.seg_wrap.specs.declared.wrapping.Span.{Span}
 
 -- What is known of some characters at a line's end or before it.
 
--- the columns of characters that others follow
-unfoldable pub total_of : List ℕ → ℕ
-total_of [] = 0
-total_of (c ∷ cs) = width_of c + total_of cs
-
 abbrev pub line_extent : List ℕ → Extent
-line_extent cs = record { columns = columns_of cs; inner_columns = total_of cs; hangs = list_all hangs cs }
+line_extent cs = record { columns = columns_of cs; inner_columns = total_of cs; is_trailing = list_all is_trailing_space cs }
 
 -- the extent of some characters and then others
 abbrev pub joined_extents : Extent → Extent → Extent
 joined_extents before after = record {
-  columns = if after.hangs then before.columns else before.inner_columns + after.columns;
+  columns = if after.is_trailing then before.columns else before.inner_columns + after.columns;
   inner_columns = before.inner_columns + after.inner_columns;
-  hangs = before.hangs && after.hangs;
+  is_trailing = before.is_trailing && after.is_trailing;
 }
 
 -- a text was read up to what is left of it, and this is the extent of what was read

@@ -4,13 +4,14 @@ use Rattle.std.specs.List.{list_all, prefix_len}
 use Rattle.std.specs.Option.{unwrap_or}
 use Rattle.unicode_width.specs.Width.{char_width}
 use Rattle.seg_text.specs.declared.boundary.Boundary.{Boundary}
+use Rattle.seg_text.specs.Decoding.{utf8}
 use Rattle.seg_text.specs.Items.{Item, Text, code_points, rest_after, start_of}
 
 -- ---- columns
 
--- a space, a line feed and a carriage return hang at a line's end
-abbrev pub hangs : ℕ → Bool
-hangs c = (c == 0x20) || (c == 0xA) || (c == 0xD)
+-- trailing white space of a line is of these: spaces, line feeds and carriage returns
+abbrev pub is_trailing_space : ℕ → Bool
+is_trailing_space c = (c == 0x20) || (c == 0xA) || (c == 0xD)
 
 -- the character that is shown for a code point: U+FFFD where it is none itself
 abbrev pub shown : ℕ → ℕ
@@ -20,10 +21,19 @@ shown c = if nat_lt c 0xD800 || (nat_le 0xE000 c && nat_le c 0x10FFFF) then c el
 abbrev pub width_of : ℕ → ℕ
 width_of c = unwrap_or (char_width false (shown c)) 0
 
--- the columns of a line of these characters: what hangs at its end isn't counted
+-- the columns of characters that others follow in their line: the sum of their widths
+unfoldable pub total_of : List ℕ → ℕ
+total_of [] = 0
+total_of (c ∷ cs) = width_of c + total_of cs
+
+-- the columns of possibly ill-formed UTF-8 that others follow in its line
+abbrev pub bytes_columns : List ℕ → ℕ
+bytes_columns bytes = total_of (code_points (utf8 bytes).items)
+
+-- the columns of a line of these characters: trailing white space isn't counted
 unfoldable pub columns_of : List ℕ → ℕ
 columns_of [] = 0
-columns_of (c ∷ cs) = if list_all hangs (c ∷ cs) then 0 else width_of c + columns_of cs
+columns_of (c ∷ cs) = if list_all is_trailing_space (c ∷ cs) then 0 else width_of c + columns_of cs
 
 -- ---- segments and lines
 

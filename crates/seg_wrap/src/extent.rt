@@ -3,7 +3,7 @@
 ghost use Rattle.std.specs.Prelude.{◌≡◌, ◌+◌, ◌*◌, ◌≤◌, ◌<◌, ◌^◌, ◌∷◌, [], length};
 ghost use Rattle.seg_text.specs.Items.{code_points, start_of};
 ghost use Rattle.seg_wrap.specs.Walk.{line_extent, joined_extents};
-ghost use Rattle.seg_wrap.specs.Wrapping.{hangs, shown, width_of};
+ghost use Rattle.seg_wrap.specs.Wrapping.{is_trailing_space, shown, width_of};
 
 use seg_text::cursor::Cursor;
 use unicode_width::UnicodeWidthChar;
@@ -26,9 +26,9 @@ fn width_of(code_point: u32) -> u128
     }
 }
 
-// Whether a character hangs at a line's end.
-fn hangs(code_point: u32) -> bool
-    ensures { result ≡ hangs code_point }
+// Whether a character is white space that isn't counted at a line's end.
+fn is_trailing_space(code_point: u32) -> bool
+    ensures { result ≡ is_trailing_space code_point }
 {
     code_point == 0x20 || code_point == 0xA || code_point == 0xD
 }
@@ -36,12 +36,12 @@ fn hangs(code_point: u32) -> bool
 /// The columns of some characters.
 #[derive(Clone, Copy, Debug)]
 pub(crate) struct Extent {
-    /// Where they end a line: what hangs at its end isn't counted.
+    /// Where they end a line: trailing white space isn't counted.
     pub(crate) columns: u128,
     /// Where others follow them on the line.
     pub(crate) inner_columns: u128,
-    /// Whether all of them hang at a line's end.
-    pub(crate) hangs: bool,
+    /// Whether all of them are trailing white space.
+    pub(crate) is_trailing: bool,
 }
 
 impl Extent {
@@ -52,7 +52,7 @@ impl Extent {
         Extent {
             columns: 0,
             inner_columns: 0,
-            hangs: true,
+            is_trailing: true,
         }
     }
 
@@ -62,7 +62,7 @@ impl Extent {
         ensures { result ≡ joined_extents self (line_extent (code_point ∷ [])) }
     {
         let inner_columns = self.inner_columns + width_of(code_point);
-        if hangs(code_point) {
+        if is_trailing_space(code_point) {
             return Extent {
                 inner_columns,
                 ..self
@@ -71,7 +71,7 @@ impl Extent {
         Extent {
             columns: inner_columns,
             inner_columns,
-            hangs: false,
+            is_trailing: false,
         }
     }
 
@@ -82,13 +82,13 @@ impl Extent {
         ensures { result ≡ joined_extents self after }
     {
         Extent {
-            columns: if after.hangs {
+            columns: if after.is_trailing {
                 self.columns
             } else {
                 self.inner_columns + after.columns
             },
             inner_columns: self.inner_columns + after.inner_columns,
-            hangs: self.hangs && after.hangs,
+            is_trailing: self.is_trailing && after.is_trailing,
         }
     }
 

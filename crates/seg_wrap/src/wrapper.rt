@@ -5,11 +5,12 @@ ghost use Rattle.std.specs.Iterator.{YieldsFirstBy, MakesProgress, item_count};
 ghost use Rattle.seg_text.specs.Items.{start_of};
 ghost use Rattle.seg_text.specs.Decoding.{utf8};
 ghost use Rattle.seg_lines.specs.Lines.{line_rules};
-ghost use Rattle.seg_wrap.specs.Wrapping.{between, rest_from};
+ghost use Rattle.seg_wrap.specs.Wrapping.{between, bytes_columns, rest_from};
 ghost use Rattle.seg_lines.specs.LineBreaks.{IsByPairTable};
 
 mod utf16;
 
+use crate::extent::Extent;
 use crate::wrapping::Wrapping;
 use seg_lines::inner::is_neo;
 use seg_lines::line::{LineBreakIterator, LineSegmenterBorrowed};
@@ -43,7 +44,7 @@ impl<'data> LineWrapper<'data> {
     /// A wrapper by the breaks that a machine finds. `NotNeo` where a pair table finds them.
     pub fn new(lines: LineSegmenterBorrowed<'data>) -> Result<Self, WrapError>
         ensures made { IfOk result (λ wrapper. (wrapper_rules wrapper ≡ line_rules lines.entry) × (IsByPairTable (line_rules lines.entry).finder → ⊥)) }
-        ensures refused { OnErr result (IsByPairTable (line_rules lines.entry).finder) }
+        ensures rejected { OnErr result (IsByPairTable (line_rules lines.entry).finder) }
     {
         if is_neo(lines) {
             Ok(LineWrapper { lines })
@@ -65,7 +66,7 @@ impl<'data> LineWrapper<'data> {
         }
     }
 
-    /// The lines of possibly ill-formed UTF-8. What is ill-formed is as wide as the U+FFFD that stand for it, and stays as
+    /// The lines of possibly ill-formed UTF-8. What is ill-formed is as wide as the U+FFFD that it is decoded as, and stays as
     /// it is in the lines. Takes no memory.
     pub fn wrap_utf8<'s>(self, bytes: &'s [u8], columns: usize) -> WrapUtf8Iterator<'data, 's>
         ensures lines { utf8_lines_to_come result ≡ wrapped_text (wrapper_rules self.entry) columns bytes.now }
@@ -80,6 +81,14 @@ impl<'data> LineWrapper<'data> {
     }
 }
 
+/// The columns that possibly ill-formed UTF-8 takes where more follows in its line: the sum of the widths of its characters, spaces at its end
+/// too. Takes no memory.
+pub fn utf8_columns(bytes: &[u8]) -> u128
+    ensures { result ≡ bytes_columns bytes.now }
+{
+    Extent::of_text(Utf8CharIndices::new(bytes)).inner_columns
+}
+
 /// A line of a wrapped text.
 #[derive(Clone, Copy, Debug)]
 pub struct WrappedLine<'s> {
@@ -91,14 +100,14 @@ pub struct WrappedLine<'s> {
 impl<'s> WrappedLine<'s> {
     ghost use Rattle.seg_wrap.specs.WrappedLines.{line_in};
 
-    /// Its text, with what hangs at its end.
+    /// Its text, with its trailing white space.
     pub fn text(&self) -> &'s str
         ensures { result.now ≡ (line_in self.now).units }
     {
         self.text
     }
 
-    /// The columns that it takes, without what hangs at its end.
+    /// The columns that it takes, without its trailing white space.
     pub fn columns(&self) -> u128
         ensures { result ≡ (line_in self.now).columns }
     {
@@ -184,14 +193,14 @@ pub struct WrappedUtf8Line<'s> {
 impl<'s> WrappedUtf8Line<'s> {
     ghost use Rattle.seg_wrap.specs.WrappedLines.{utf8_line_in};
 
-    /// Its bytes, with what hangs at its end.
+    /// Its bytes, with its trailing white space.
     pub fn bytes(&self) -> &'s [u8]
         ensures { result.now ≡ (utf8_line_in self.now).units }
     {
         self.bytes
     }
 
-    /// The columns that it takes, without what hangs at its end.
+    /// The columns that it takes, without its trailing white space.
     pub fn columns(&self) -> u128
         ensures { result ≡ (utf8_line_in self.now).columns }
     {

@@ -1,46 +1,67 @@
 -- How many segments there are is written after what is printed, where they are only counted.
-use Rattle.std.proofs.Common.{◌≡◌, ℕ, true, Option, None, Some, List, IfErr, IfOk, IfSome, Result, Ok, Err, ◌⊎◌, inl}
+use Rattle.std.proofs.Common.{◌≡◌, ℕ, Bool, true, false, Option, None, Some, List, IfErr, IfOk, IfSome, Result, Ok, Err, ◌⊎◌, inl, sym, ap, subst, refl, ◌∙◌, append-nil}
 use Rattle.std.proofs.KnownBytes.{Appends-trans}
 use Rattle.std.specs.Io.KnownBytes.{Appends}
 use Rattle.segment_output.specs.Fault.{IsBeforeWriting, IsReadFault}
-use Rattle.segment.specs.Job.{count_by, is_counted, output_of, printed_by, IsFound}
 use Rattle.segment_output.specs.Output.{count_line}
+use Rattle.segment_output.specs.Preparation.{is_unchanged, prepared}
+use Rattle.segment_output.specs.Size.{size_of}
+use Rattle.segment.specs.Job.{count_by, numbers_of, output_of, printed_by, text_of, work_output, IsFound, IsTally}
 use Rattle.segment_output.specs.declared.fault.Fault.{Fault}
 use Rattle.segment_output.specs.declared.fault.Fault.TheVariants.{Read, Memo, Write}
 use Rattle.segment_output.specs.declared.found.Found.{Found}
+use Rattle.segment_output.specs.declared.found.Size.{Size}
+use Rattle.segment_output.specs.declared.found.Tally.{Tally}
+use Rattle.segment_output.specs.declared.output.Numbers.{Numbers}
+use Rattle.segment_output.specs.declared.preparation.Preparation.{Preparation}
 use Rattle.segment.specs.declared.job.Job.{Job}
-use Rattle.segment.specs.declared.job.Job.TheVariants.{Cut, Wrap}
+use Rattle.segment.specs.declared.job.Work.{Work}
+use Rattle.segment.specs.declared.job.Work.TheVariants.{Cut, Wrap}
 use Rattle.segment.specs.declared.job.Search.TheVariants.{Plain, Memoised}
 
-count-is : (job : Job) (bytes : List ℕ) (found : Found) → IsFound job bytes found → found.segments ≡ count_by job bytes
-count-is (Cut segmenter style Plain) bytes found is = is.0
-count-is (Cut segmenter style Memoised) bytes found is = is.0
-count-is (Wrap wrapper) bytes found is = is.0
+count-is : (work : Work) (text : List ℕ) (found : Found) → IsFound work text found → found.segments ≡ count_by work text
+count-is (Cut segmenter style Plain) text found is = is.0
+count-is (Cut segmenter style Memoised) text found is = is.0
+count-is (Wrap wrapper) text found is = is.0
 
 module _ (job : Job) (name : Option (List ℕ)) where
-  counted : (bytes : List ℕ) (old mid new : Option (List ℕ)) (found : Found) → is_counted job ≡ true → IsFound job bytes found
-      → Appends old mid (printed_by job bytes) → Appends mid new (count_line found.segments name) → Appends old new (output_of job name bytes)
-  counted bytes old mid new found is are printed after =
-      rw is (Appends-trans old mid new (printed_by job bytes) (count_line (count_by job bytes) name) printed (rw (← count-is job bytes found are) after))
+  counted : (bytes : List ℕ) (old mid new : Option (List ℕ)) (numbers : Numbers) (tally : Tally) → numbers_of job.work ≡ Some numbers → IsTally job bytes tally
+      → Appends old mid (printed_by job bytes) → Appends mid new (count_line numbers tally.found.segments tally.size name) → Appends old new (output_of job name bytes)
+  counted bytes old mid new numbers tally is are printed after =
+      rw is
+      (Appends-trans old mid new (printed_by job bytes) (count_line numbers (count_by job.work (text_of job bytes)) (size_of bytes) name) printed
+      (subst (λ (size : Size). Appends mid new (count_line numbers (count_by job.work (text_of job bytes)) size name)) are.1
+      (subst (λ (segments : ℕ). Appends mid new (count_line numbers segments tally.size name)) (count-is job.work (text_of job bytes) tally.found are.0) after)))
 
   -- where it is known what was read
-  pub counted-of : (read old mid new : Option (List ℕ)) (found : Found) → is_counted job ≡ true
-      → IfSome read (λ bytes. IsFound job bytes found × Appends old mid (printed_by job bytes)) → Appends mid new (count_line found.segments name)
-      → IfSome read (λ bytes. IsFound job bytes found × Appends old new (output_of job name bytes))
-  counted-of None old mid new found is printed after = tt
-  counted-of (Some bytes) old mid new found is printed after = (printed.0, counted bytes old mid new found is printed.0 printed.1 after)
+  pub counted-of : (read old mid new : Option (List ℕ)) (numbers : Numbers) (tally : Tally) → numbers_of job.work ≡ Some numbers
+      → IfSome read (λ bytes. IsTally job bytes tally × Appends old mid (printed_by job bytes)) → Appends mid new (count_line numbers tally.found.segments tally.size name)
+      → IfSome read (λ bytes. IsTally job bytes tally × Appends old new (output_of job name bytes))
+  counted-of None old mid new numbers tally is printed after = tt
+  counted-of (Some bytes) old mid new numbers tally is printed after = (printed.0, counted bytes old mid new numbers tally is printed.0 printed.1 after)
+
+  -- where they aren't counted
+  pub uncounted-of : (read old new : Option (List ℕ)) (tally : Tally) → numbers_of job.work ≡ None
+      → IfSome read (λ bytes. IsTally job bytes tally × Appends old new (printed_by job bytes))
+      → IfSome read (λ bytes. IsTally job bytes tally × Appends old new (output_of job name bytes))
+  uncounted-of None old new tally is printed = tt
+  uncounted-of (Some bytes) old new tally is printed = (printed.0, rw (is, append-nil (printed_by job bytes)) printed.1)
 
 -- what is read is the whole text
-pub whole-found : (job : Job) (read : Option (List ℕ)) (text shown : List ℕ) (old new : Option (List ℕ)) (r : Result Found Fault) → IfSome read (λ bytes. text ≡ bytes) → shown ≡ text
-    → IfOk r (λ found. IsFound job shown found × Appends old new (printed_by job shown))
-    → IfOk r (λ found. IfSome read (λ bytes. IsFound job bytes found × Appends old new (printed_by job bytes)))
-whole-found job read text shown old new (Err fault) same is-shown printed = tt
-whole-found job None text shown old new (Ok found) same is-shown printed = tt
-whole-found job (Some bytes) text shown old new (Ok found) same is-shown printed = rw (← same, ← is-shown) printed
+pub whole-found : (job : Job) (read : Option (List ℕ)) (text seen made shown : List ℕ) (size : Size) (old new : Option (List ℕ)) (found : Found)
+    → IfSome read (λ bytes. text ≡ bytes) → seen ≡ text → size ≡ size_of seen → made ≡ text_of job text → shown ≡ made
+    → IsFound job.work shown found × Appends old new (work_output job.work shown)
+    → IfSome read (λ bytes. IsTally job bytes (record { found = found; size = size }) × Appends old new (printed_by job bytes))
+whole-found job None text seen made shown size old new found same is-seen is-size is-made is-shown printed = tt
+whole-found job (Some bytes) text seen made shown size old new found same is-seen is-size is-made is-shown printed =
+    let is : shown ≡ text_of job bytes = is-shown ∙ is-made ∙ ap (λ (text : List ℕ). text_of job text) same in
+    let both : IsFound job.work (text_of job bytes) found × Appends old new (work_output job.work (text_of job bytes)) =
+    subst (λ (text : List ℕ). IsFound job.work text found × Appends old new (work_output job.work text)) is printed in
+    ((both.0, is-size ∙ ap size_of (is-seen ∙ same)), both.1)
 
 -- what is met before anything is written leaves nothing
-pub unwritten-whole : (P X : Type 0) (r : Result Found Fault) → IfErr r (λ fault. IsBeforeWriting fault → P) → IfErr r (λ fault. IsBeforeWriting fault → X → P)
-unwritten-whole P X (Ok found) is = tt
+pub unwritten-whole : (P X : Type 0) (r : Result Tally Fault) → IfErr r (λ fault. IsBeforeWriting fault → P) → IfErr r (λ fault. IsBeforeWriting fault → X → P)
+unwritten-whole P X (Ok tally) is = tt
 unwritten-whole P X (Err fault) is = λ before all. is before
 
 of-reader : (fault : Fault) → IsReadFault fault → IsBeforeWriting fault
@@ -48,6 +69,15 @@ of-reader (Read error) is = tt
 of-reader (Memo error) is = absurd is
 of-reader (Write error) is = absurd is
 
-pub begun-whole : (P Q : Type 0) (r : Result Found Fault) → IfErr r (λ fault. IsBeforeWriting fault → P) → IfErr r (λ fault. IsReadFault fault → P ⊎ Q)
-begun-whole P Q (Ok found) is = tt
+pub begun-whole : (P Q : Type 0) (r : Result Tally Fault) → IfErr r (λ fault. IsBeforeWriting fault → P) → IfErr r (λ fault. IsReadFault fault → P ⊎ Q)
+begun-whole P Q (Ok tally) is = tt
 begun-whole P Q (Err fault) is = λ of_reader. inl (is (of-reader fault of_reader))
+
+-- nothing is done first
+pub stays : (preparation : Preparation) (bytes : List ℕ) → is_unchanged preparation ≡ true → prepared preparation bytes ≡ bytes
+stays preparation bytes is = by preparation.tabs preparation.joins is
+  where
+    by : (tabs : Option ℕ) (joins : Bool) → is_unchanged (record { tabs = tabs; joins = joins }) ≡ true → prepared (record { tabs = tabs; joins = joins }) bytes ≡ bytes
+    by None false is = refl
+    by None true is = cc
+    by (Some columns) joins is = cc

@@ -1,5 +1,5 @@
 -- What the words of the command line ask for.
-use Rattle.std.specs.Prelude.{◌≡◌, ◌≢◌, ℕ, ◌<◌, ◌^◌, ◌==◌, Bool, true, false, Option, None, Some, List, [], length, codes, MatchOption}
+use Rattle.std.specs.Prelude.{◌≡◌, ◌≢◌, ℕ, ◌<◌, ◌^◌, ◌==◌, Bool, true, false, Option, None, Some, List, [], length, codes, MatchOption, IfSome}
 use Rattle.std.specs.List.{before_first}
 use Rattle.std.specs.Option.{option_map, option_map_or}
 use Rattle.std.specs.Str.{str_to_ascii_lowercase}
@@ -19,7 +19,9 @@ use Rattle.segment_output.specs.declared.segmenter.Kind.TheVariants as kind
 use Rattle.segment.specs.declared.command.Request.{Request}
 use Rattle.segment.specs.declared.command.Task.{Task}
 use Rattle.segment.specs.declared.command.Task.TheVariants.{Cut, Wrap}
+use Rattle.segment_output.specs.declared.preparation.Preparation.{Preparation}
 use Rattle.segment_output.specs.declared.wrapper.Width.{Width}
+use Rattle.segment_output.specs.declared.output.Numbers.{Numbers}
 use Rattle.segment_output.specs.declared.output.Style.{Style}
 use Rattle.segment_output.specs.declared.output.Style.TheVariants.{Escaped, Raw, ZeroEnded, Json, Offsets, Counted}
 
@@ -103,9 +105,24 @@ AreColumns found columns =
 abbrev pub IsWidth : Found → Width → Type 0
 IsWidth found width = AreColumns found width.columns × (0 < width.columns) × IsFlag found (codes "break-words") width.breaks_words
 
+-- tabs are spaces up to multiples of the columns that are named, if they are
+abbrev pub AreTabs : Found → Option ℕ → Type 0
+AreTabs found tabs =
+    (one_text found (codes "tabs") ≡ None → tabs ≡ None)
+    × ((digits : List ℕ) → one_text found (codes "tabs") ≡ Some digits → IsNumeral 10 digits → digits_value 10 digits < 2 ^ 64 → tabs ≡ Some (digits_value 10 digits))
+    × IfSome tabs (λ columns. 0 < columns)
+
+-- what is done first is what is named
+abbrev pub IsPreparation : Found → Preparation → Type 0
+IsPreparation found preparation = AreTabs found preparation.tabs × IsFlag found (codes "join") preparation.joins
+
+-- the numbers beside that of the segments are those that are named
+abbrev pub AreNumbers : Found → Numbers → Type 0
+AreNumbers found numbers = IsFlag found (codes "lines") numbers.lines × IsFlag found (codes "bytes") numbers.bytes
+
 -- segments are written in the style that is named
 abbrev pub IsStyle : Found → Style → Type 0
-IsStyle found Counted = IsFlag found (codes "count") true
+IsStyle found (Counted numbers) = IsFlag found (codes "count") true × AreNumbers found numbers
 IsStyle found Offsets = IsFlag found (codes "count") false × IsFlag found (codes "offsets") true
 IsStyle found ZeroEnded = IsFlag found (codes "count") false × IsFlag found (codes "offsets") false × IsFlag found (codes "null") true
 IsStyle found Json = IsFlag found (codes "count") false × IsFlag found (codes "offsets") false × IsFlag found (codes "null") false × IsFlag found (codes "json") true
@@ -144,6 +161,7 @@ abbrev pub IsRequest : List ℕ → Found → Request → Type 0
 IsRequest word found request =
     ArePaired found
     × HasMemoAlone found
+    × IsPreparation found request.preparation
     × IsTask word found request.task
     × IsChoice strictness_word (first_value found (codes "strictness")) request.strictness
     × IsChoice word_break_word (first_value found (codes "word-break")) request.word_option

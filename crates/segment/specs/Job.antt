@@ -1,12 +1,14 @@
 -- What a job writes of a text, and which one is asked for.
-use Rattle.std.specs.Prelude.{◌≡◌, ℕ, Bool, true, false, Option, List, [], ◌++◌, length, if◌then◌else◌}
-use Rattle.std.specs.Option.{option_map}
+use Rattle.std.specs.Prelude.{◌≡◌, ℕ, ◌&&◌, Bool, true, false, Option, None, Some, List, [], ◌++◌, length}
+use Rattle.std.specs.Option.{option_map, option_map_or}
 use Rattle.icu_segmenter.specs.ScriptWords.{ScriptWords}
 use Rattle.icu_segmenter.specs.declared.options.LineBreakOptions.{LineBreakOptions}
 use Rattle.segment_output.specs.Memo.{IsFoundBy}
 use Rattle.segment_output.specs.Output.{count_line, lines_of}
 use Rattle.segment_output.specs.Parts.{IsBegun}
+use Rattle.segment_output.specs.Preparation.{is_unchanged, prepared}
 use Rattle.segment_output.specs.Segmenter.{segments_by, IsAskedOf}
+use Rattle.segment_output.specs.Size.{size_of}
 use Rattle.segment_output.specs.Wrapped.{wrapped_output}
 use Rattle.segment_output.specs.Wrapper.{wrapping_of, IsAskedWrapper}
 use Rattle.segment_output.specs.declared.segmenter.Engine.{Engine}
@@ -16,46 +18,72 @@ use Rattle.segment.specs.declared.command.Request.{Request}
 use Rattle.segment.specs.declared.command.Task.TheVariants as task
 use Rattle.segment_output.specs.declared.wrapper.Width.{Width}
 use Rattle.segment_output.specs.declared.found.Found.{Found}
+use Rattle.segment_output.specs.declared.found.Tally.{Tally}
+use Rattle.segment_output.specs.declared.output.Numbers.{Numbers}
 use Rattle.segment.specs.declared.job.Job.{Job}
-use Rattle.segment.specs.declared.job.Job.TheVariants.{Cut, Wrap}
+use Rattle.segment.specs.declared.job.Work.{Work}
+use Rattle.segment.specs.declared.job.Work.TheVariants.{Cut, Wrap}
 use Rattle.segment.specs.declared.job.Search.{Search}
 use Rattle.segment.specs.declared.job.Search.TheVariants.{Plain, Memoised}
 use Rattle.segment_output.specs.declared.output.Style.TheVariants.{Counted}
 
--- what is written of some bytes; how boundaries are found changes nothing
-abbrev pub printed_by : Job → List ℕ → List ℕ
-printed_by (Cut segmenter style search) bytes = lines_of style bytes (segments_by segmenter bytes)
-printed_by (Wrap wrapper) bytes = wrapped_output (wrapping_of wrapper) bytes
+-- ---- a text to which the work is done
 
--- are segments only counted
-abbrev pub is_counted : Job → Bool
-is_counted (Cut segmenter Counted search) = true
-is_counted job = false
+-- what is written of it; how boundaries are found changes nothing
+abbrev pub work_output : Work → List ℕ → List ℕ
+work_output (Cut segmenter style search) text = lines_of style text (segments_by segmenter text)
+work_output (Wrap wrapper) text = wrapped_output (wrapping_of wrapper) text
 
--- may a text be cut part by part as it comes
-abbrev pub is_parted : Job → Bool
-is_parted (Cut segmenter style Plain) = true
-is_parted job = false
-
--- of what a reader gave before it failed whole lines are written, and nothing of the rest
-abbrev pub IsBegunBy : Job → Option (List ℕ) → Option (List ℕ) → Option (List ℕ) → Option (List ℕ) → Type 0
-IsBegunBy (Cut segmenter style search) from to old new = IsBegun segmenter style from to old new
-IsBegunBy (Wrap wrapper) from to old new = ⊥
+-- the numbers beside that of the segments, where these are only counted
+abbrev pub numbers_of : Work → Option Numbers
+numbers_of (Cut segmenter (Counted numbers) search) = Some numbers
+numbers_of work = None
 
 -- how many segments there are
-abbrev pub count_by : Job → List ℕ → ℕ
-count_by (Cut segmenter style search) bytes = length (segments_by segmenter bytes)
-count_by (Wrap wrapper) bytes = 0
+abbrev pub count_by : Work → List ℕ → ℕ
+count_by (Cut segmenter style search) text = length (segments_by segmenter text)
+count_by (Wrap wrapper) text = 0
 
--- all that is written of some bytes that have a name or none: the segments or the lines, or how many segments there are
+-- what is found of it
+abbrev pub IsFound : Work → List ℕ → Found → Type 0
+IsFound (Cut segmenter style Plain) text found = (found.segments ≡ length (segments_by segmenter text)) × (found.lookups ≡ 0)
+IsFound (Cut segmenter style Memoised) text found = IsFoundBy segmenter text found
+IsFound (Wrap wrapper) text found = (found.segments ≡ 0) × (found.lookups ≡ 0)
+
+-- may it be split as it comes
+abbrev pub is_split_by : Work → Bool
+is_split_by (Cut segmenter style Plain) = true
+is_split_by work = false
+
+-- of what a reader gave before it failed whole lines are written, and nothing of the rest
+abbrev pub IsBegunWork : Work → Option (List ℕ) → Option (List ℕ) → Option (List ℕ) → Option (List ℕ) → Type 0
+IsBegunWork (Cut segmenter style search) from to old new = IsBegun segmenter style from to old new
+IsBegunWork (Wrap wrapper) from to old new = ⊥
+
+-- ---- some bytes that are read
+
+-- the text that is made of them first
+abbrev pub text_of : Job → List ℕ → List ℕ
+text_of job bytes = prepared job.preparation bytes
+
+-- what is written of them
+abbrev pub printed_by : Job → List ℕ → List ℕ
+printed_by job bytes = work_output job.work (text_of job bytes)
+
+-- may they be split as they come: where they are the text
+abbrev pub is_split : Job → Bool
+is_split job = is_unchanged job.preparation && is_split_by job.work
+
+abbrev pub IsBegunBy : Job → Option (List ℕ) → Option (List ℕ) → Option (List ℕ) → Option (List ℕ) → Type 0
+IsBegunBy job from to old new = (is_unchanged job.preparation ≡ true) × IsBegunWork job.work from to old new
+
+-- what is found of their text, and how large they are
+abbrev pub IsTally : Job → List ℕ → Tally → Type 0
+IsTally job bytes tally = IsFound job.work (text_of job bytes) tally.found × (tally.size ≡ size_of bytes)
+
+-- all that is written of some bytes that have a name or none: the segments or the lines of their text, or how many segments it has
 abbrev pub output_of : Job → Option (List ℕ) → List ℕ → List ℕ
-output_of job name bytes = printed_by job bytes ++ (if is_counted job then count_line (count_by job bytes) name else [])
-
--- what is found of some bytes
-abbrev pub IsFound : Job → List ℕ → Found → Type 0
-IsFound (Cut segmenter style Plain) bytes found = (found.segments ≡ length (segments_by segmenter bytes)) × (found.lookups ≡ 0)
-IsFound (Cut segmenter style Memoised) bytes found = IsFoundBy segmenter bytes found
-IsFound (Wrap wrapper) bytes found = (found.segments ≡ 0) × (found.lookups ≡ 0)
+output_of job name bytes = printed_by job bytes ++ option_map_or (λ numbers. count_line numbers (count_by job.work (text_of job bytes)) (size_of bytes) name) (numbers_of job.work) []
 
 -- how an engine finds boundaries
 abbrev pub search_by : Engine → Search
@@ -70,10 +98,14 @@ AreOptions request options =
     (options.strictness ≡ request.strictness) × (options.word_option ≡ request.word_option)
     × (option_map (λ language. language.now) options.content_locale ≡ request.language)
 
--- a job is the one that a request asks for, with the words of scripts
-abbrev pub IsAsked : Request → ScriptWords → Job → Type 0
-IsAsked request words (Cut segmenter style search) =
+-- work is the one that a request asks for, with the words of scripts
+abbrev pub IsAskedWork : Request → ScriptWords → Work → Type 0
+IsAskedWork request words (Cut segmenter style search) =
     (kind : Kind) × (engine : Engine) × (request.task ≡ task.Cut kind style engine) × (search ≡ search_by engine)
     × ((options : LineBreakOptions) × AreOptions request options × IsAskedOf kind engine options words segmenter)
-IsAsked request words (Wrap wrapper) =
+IsAskedWork request words (Wrap wrapper) =
     (width : Width) × (request.task ≡ task.Wrap width) × ((options : LineBreakOptions) × AreOptions request options × IsAskedWrapper width options words wrapper)
+
+-- a job is the one that a request asks for
+abbrev pub IsAsked : Request → ScriptWords → Job → Type 0
+IsAsked request words job = (job.preparation ≡ request.preparation) × IsAskedWork request words job.work

@@ -6,13 +6,14 @@ ghost use Rattle.std.specs.Str.{str_to_ascii_lowercase};
 ghost use Rattle.icu_segmenter.specs.declared.provider.ComplexScript.{ComplexScript as AnyScript};
 ghost use Rattle.clap.specs.Matches.{found_of};
 ghost use Rattle.segment_output.specs.declared.segmenter.Kind.{Kind as AnyKind};
-ghost use Rattle.segment.specs.Command.{is_alone, kind_word, language_part, strictness_word, word_break_word, ArePaired, HasMemoAlone, HasScriptWord, IsChoice, IsEngine, IsRequest, IsStyle, IsTask, IsWidth, AreColumns};
+ghost use Rattle.segment.specs.Command.{is_alone, kind_word, language_part, strictness_word, word_break_word, ArePaired, HasMemoAlone, HasScriptWord, IsChoice, IsEngine, IsRequest, IsStyle, IsTask, IsWidth, AreColumns, AreNumbers, AreTabs, IsPreparation};
 
 use anyhow::{Context, Result, bail, ensure};
 use clap::{Arg, ArgAction, ArgMatches, Command, value_parser};
 use icu_segmenter::options::{LanguageIdentifier, LineBreakStrictness, LineBreakWordOption};
 use icu_segmenter::provider::ComplexScript;
-use segment_output::output::Style;
+use segment_output::output::{Numbers, Style};
+use segment_output::preparation::Preparation;
 use segment_output::segmenter::{Engine, Kind};
 use segment_output::wrapper::Width;
 use std::alloc::{AllocError, Global};
@@ -29,6 +30,8 @@ pub enum Task {
 /// What the command line asks for.
 #[derive(Drop)]
 pub struct Request {
+    /// What is done to each text first.
+    pub preparation: Preparation,
     /// What is done.
     pub task: Task,
     /// Of lines, how strict they are.
@@ -84,6 +87,14 @@ const NULL_HELP: &str =
 
 const COUNT_HELP: &str = "Write how many segments there are, and no segment";
 
+const LINES_HELP: &str = "With --count, write how many line feeds there are, too";
+
+const BYTES_HELP: &str = "With --count, write how many bytes there are, too";
+
+const TABS_HELP: &str = "Write spaces for each tab, up to the next multiple of so many columns";
+
+const JOIN_HELP: &str = "Join the lines between blank lines first, each two by a space";
+
 const JSON_HELP: &str = "Write a JSON object for each segment: text, begin, end, type or mandatory";
 
 const WIDTH_HELP: &str = "The columns that a line has at most, which then don't stand before files";
@@ -94,8 +105,8 @@ const ENGINE_HELP: &str =
 const DICTIONARIES_HELP: &str =
     "A folder of such files: thai.txt, lao.txt, khmer.txt, myanmar.txt and cj.txt, as many as there are [env: SEGMENT_DICTIONARIES]";
 
-/// The arguments that there are: each kind of segments is a subcommand. Where columns stand in an option, all that isn't one is a file. The
-/// only error is want of memory.
+/// The arguments that there are: each kind of segments is a subcommand. Where columns stand in an option, all that isn't one is a file.
+/// Fails only when out of memory.
 pub fn command_line<'a>(alloc: Global, columns: Columns) -> Result<Command<'a>, AllocError> {
     let kinds = kind_commands(alloc, columns)?;
     let command = Command::new(alloc, "segment")
@@ -134,6 +145,7 @@ fn word_command<'a>(alloc: Global) -> Result<Command<'a>, AllocError> {
 fn sentence_command<'a>(alloc: Global) -> Result<Command<'a>, AllocError> {
     let command = Command::new(alloc, "sentence").about("Writes sentences");
     let command = command.arg(engine_argument(alloc, &ENGINES))?;
+    let command = command.arg(flag(alloc, "join", JOIN_HELP))?;
     with_files(alloc, with_styles(alloc, command)?)
 }
 
@@ -149,6 +161,8 @@ fn line_command<'a>(alloc: Global) -> Result<Command<'a>, AllocError> {
 fn wrap_command<'a>(alloc: Global, columns: Columns) -> Result<Command<'a>, AllocError> {
     let command = Command::new(alloc, "wrap").about("Wraps lines to columns");
     let command = with_columns(alloc, command, columns)?;
+    let command = command.arg(tabs_argument(alloc))?;
+    let command = command.arg(flag(alloc, "join", JOIN_HELP))?;
     let help = "Break what is wider than the columns between clusters";
     let command = with_line_options(alloc, command.arg(flag(alloc, "break-words", help))?)?;
     with_files(alloc, with_dictionaries(alloc, command)?)
@@ -172,7 +186,9 @@ fn with_styles<'a>(alloc: Global, command: Command<'a>) -> Result<Command<'a>, A
     let command = command.arg(flag(alloc, "raw", RAW_HELP))?;
     let command = command.arg(null_argument(alloc)?)?;
     let command = command.arg(json_argument(alloc)?)?;
-    command.arg(count_argument(alloc)?)
+    let command = command.arg(count_argument(alloc)?)?;
+    let command = command.arg(number_argument(alloc, "lines", LINES_HELP)?)?;
+    command.arg(number_argument(alloc, "bytes", BYTES_HELP)?)
 }
 
 fn null_argument<'a>(alloc: Global) -> Result<Arg<'a>, AllocError> {
@@ -190,6 +206,11 @@ fn count_argument<'a>(alloc: Global) -> Result<Arg<'a>, AllocError> {
     let count = count.conflicts_with("raw")?;
     let count = count.conflicts_with("null")?;
     count.conflicts_with("json")
+}
+
+// A number beside that of the segments.
+fn number_argument<'a>(alloc: Global, name: &'a str, help: &'a str) -> Result<Arg<'a>, AllocError> {
+    flag(alloc, name, help).requires_arg("count")
 }
 
 fn engine_argument<'a>(alloc: Global, engines: &'a [&'a str]) -> Arg<'a> {
@@ -241,6 +262,12 @@ fn width_argument<'a>(alloc: Global) -> Arg<'a> {
         .value_name("COLUMNS")
 }
 
+fn tabs_argument<'a>(alloc: Global) -> Arg<'a> {
+    option(alloc, "tabs", TABS_HELP)
+        .value_parser(value_parser!(usize))
+        .value_name("COLUMNS")
+}
+
 fn columns_argument<'a>(alloc: Global) -> Arg<'a> {
     Arg::new(alloc, "columns")
         .action(ArgAction::Set)
@@ -267,13 +294,14 @@ fn choice<'a>(alloc: Global, name: &'a str, values: &'a [&'a str], help: &'a str
     option(alloc, name, help).value_parser(values)
 }
 
-/// What the arguments of a kind of segments ask for. The errors are a word that isn't a kind, a language that isn't one, a dictionary
-/// without a script or beside a memo, and a script that is named twice.
+/// What the arguments of a kind of segments ask for. The errors are a word that isn't a kind, lines or tabs without columns, a language that
+/// isn't one, a dictionary without a script or beside a memo, and a script that is named twice.
 pub fn request_of(kind: &str, matches: &ArgMatches<'_>) -> Result<Request>
     ensures { IfOk result (IsRequest kind.now (found_of matches.now)) }
 {
     check_dictionaries(matches)?;
     Ok(Request {
+        preparation: preparation_of(matches)?,
         task: task_of(kind, matches)?,
         strictness: strictness_of(matches.get_str("strictness")),
         word_option: word_option_of(matches.get_str("word-break")),
@@ -373,6 +401,27 @@ fn columns_of(matches: &ArgMatches<'_>) -> usize
     }
 }
 
+// The error is a tab of no columns.
+fn preparation_of(matches: &ArgMatches<'_>) -> Result<Preparation>
+    ensures { IfOk result (IsPreparation (found_of matches.now)) }
+{
+    let tabs = tabs_of(matches)?;
+    Ok(Preparation {
+        tabs,
+        joins: matches.get_flag("join"),
+    })
+}
+
+fn tabs_of(matches: &ArgMatches<'_>) -> Result<Option<usize>>
+    ensures { IfOk result (AreTabs (found_of matches.now)) }
+{
+    let tabs: Option<usize> = matches.get_one("tabs");
+    if let Some(0) = tabs {
+        bail!("tabs have at least 1 column");
+    }
+    Ok(tabs)
+}
+
 fn kind_of(word: &str, alone: bool) -> Result<Kind>
     ensures { MatchResult result
         (λ kind. (word.now ≡ kind_word kind) × (alone ≡ is_alone kind))
@@ -393,7 +442,7 @@ fn style_of(matches: &ArgMatches<'_>) -> Style
     ensures { IsStyle (found_of matches.now) result }
 {
     if matches.get_flag("count") {
-        Style::Counted
+        Style::Counted(numbers_of(matches))
     } else if matches.get_flag("offsets") {
         Style::Offsets
     } else if matches.get_flag("null") {
@@ -404,6 +453,15 @@ fn style_of(matches: &ArgMatches<'_>) -> Style
         Style::Raw
     } else {
         Style::Escaped
+    }
+}
+
+fn numbers_of(matches: &ArgMatches<'_>) -> Numbers
+    ensures { AreNumbers (found_of matches.now) result }
+{
+    Numbers {
+        lines: matches.get_flag("lines"),
+        bytes: matches.get_flag("bytes"),
     }
 }
 

@@ -19,7 +19,7 @@ const VARIABLE: &str = "SEGMENT_DICTIONARIES";
 
 /// The dictionaries that a task has: of the files that are named, one word a line, each in its script's place, and of a folder's lists for
 /// the other scripts. The errors are a file that can't be read, isn't UTF-8 or has no words, and a folder without lists, which are named, and
-/// want of memory.
+/// being out of memory.
 pub fn dictionaries_of<R: AllocGlobal + Files + Env>(
     rt: &R,
     task: Task,
@@ -72,7 +72,7 @@ fn read_dictionary<R: AllocGlobal + Files>(rt: &R, file: &str) -> Result<Diction
 }
 
 /// The dictionary of a text's lines, without a byte order mark at its start, and but for lines that are empty or white space alone. The
-/// errors are want of memory, and no words.
+/// errors are being out of memory, and no words.
 pub fn dictionary_of(alloc: Global, text: &str) -> Result<DictionaryBreakData> {
     let text = text.strip_prefix('\u{FEFF}').unwrap_or(text);
     let words: Vec<&str> = text

@@ -3,7 +3,7 @@
 use crate::job::Job;
 use crate::run::run;
 use segment_output::fault::Fault;
-use segment_output::found::Found;
+use segment_output::found::{Found, Size, Tally};
 use segment_output::output::write_count;
 use std::io::ErrorKind;
 use std::process::ExitCode;
@@ -15,14 +15,14 @@ const STANDARD_INPUT: &str = "-";
 // What came of the files so far.
 #[derive(Clone, Copy)]
 struct Totals {
-    // How many segments there were.
-    segments: usize,
+    // What was found, and how large the files were.
+    tally: Tally,
     // Whether a file failed.
     has_failed: bool,
 }
 
 /// Does a job to each file in turn, or to standard input where none is named, and where segments are counted in more than one file writes
-/// how many there were in all. What can't be read, and what has no memoised engine, is complained of, and the next file comes. The
+/// how many there were in all, and the numbers beside. What can't be read, and what has no memoised engine, is complained of, and the next file comes. The
 /// status is 1 where there was such a file or not all was written; a pipe that nobody reads ends all quietly.
 pub fn run_all(rt: &HostRuntime, job: &Job, names: &[&str]) -> ExitCode {
     match try_run_all(rt, job, names) {
@@ -39,20 +39,52 @@ pub fn run_all(rt: &HostRuntime, job: &Job, names: &[&str]) -> ExitCode {
 
 // The error is the output's.
 fn try_run_all(rt: &HostRuntime, job: &Job, names: &[&str]) -> io::Result<Totals> {
-    let mut totals = Totals {
-        segments: 0,
-        has_failed: false,
-    };
+    let mut totals = no_totals();
     if names.is_empty() {
         add_file(rt, job, None, &mut totals)?;
     }
     for name in names {
         add_file(rt, job, Some(name), &mut totals)?;
     }
-    if job.is_counted() && names.len() > 1 {
-        write_count(rt.alloc(), totals.segments, Some("total"), &mut rt.stdout())?;
+    if let Some(numbers) = job.numbers()
+        && names.len() > 1
+    {
+        write_count(
+            rt.alloc(),
+            numbers,
+            totals.tally,
+            Some("total"),
+            &mut rt.stdout(),
+        )?;
     }
     Ok(totals)
+}
+
+fn no_totals() -> Totals {
+    Totals {
+        tally: Tally {
+            found: Found {
+                segments: 0,
+                lookups: 0,
+            },
+            size: Size { lines: 0, bytes: 0 },
+        },
+        has_failed: false,
+    }
+}
+
+// What was found in two files.
+fn both(one: Tally, other: Tally) -> Tally {
+    Tally {
+        found: Found {
+            segments: one.found.segments.saturating_add(other.found.segments),
+            lookups: one.found.lookups.saturating_add(other.found.lookups),
+        },
+        size: Size {
+            lines: one.size.lines.saturating_add(other.size.lines),
+            bytes: one.size.bytes.saturating_add(other.size.bytes),
+        },
+    }
 }
 
 // Does a job to a file, and adds what came of it. The error is the output's.
@@ -63,7 +95,7 @@ fn add_file(
     totals: &mut Totals,
 ) -> io::Result<()> {
     match run_file(rt, job, name) {
-        Ok(found) => totals.segments = totals.segments.saturating_add(found.segments),
+        Ok(tally) => totals.tally = both(totals.tally, tally),
         Err(Fault::Write(error)) => return Err(error),
         Err(Fault::Read(error)) => {
             totals.has_failed = true;
@@ -77,7 +109,7 @@ fn add_file(
     Ok(())
 }
 
-fn run_file(rt: &HostRuntime, job: &Job, name: Option<&str>) -> Result<Found, Fault> {
+fn run_file(rt: &HostRuntime, job: &Job, name: Option<&str>) -> Result<Tally, Fault> {
     let alloc = rt.alloc();
     match name {
         None => run(alloc, job, name, &mut rt.stdin(), &mut rt.stdout()),

@@ -39,7 +39,7 @@ impl<'a, R: AllocGlobal + Files> ReadLists for Folder<'a, R> {
 }
 
 /// The dictionaries of the lists in a folder that are chosen. The errors are a folder that isn't there or has no list, a list that can't be
-/// read, isn't UTF-8 or has no words, each of which is named, and want of memory.
+/// read, isn't UTF-8 or has no words, each of which is named, and being out of memory.
 pub fn folder_dictionaries<R: AllocGlobal + Files>(
     rt: &R,
     path: &str,

@@ -1,13 +1,14 @@
-//! What a request comes to.
+//! What a request asks for, with all that it takes.
 ghost use Rattle.std.specs.Prelude.{◌≡◌, IfOk};
 ghost use Rattle.icu_segmenter.specs.ScriptWords.{script_words};
-ghost use Rattle.segment.specs.Job.{is_counted, search_by, AreOptions, IsAsked};
+ghost use Rattle.segment.specs.Job.{numbers_of, search_by, AreOptions, IsAsked, IsAskedWork};
 
 use crate::command::{Request, Task};
 use anyhow::Result;
 use icu_segmenter::options::LineBreakOptions;
 use icu_segmenter::provider::Dictionaries;
-use segment_output::output::Style;
+use segment_output::output::{Numbers, Style};
+use segment_output::preparation::Preparation;
 use segment_output::segmenter::{Engine, Segmenter, segmenter_of};
 use segment_output::wrapper::{Wrapper, wrapper_of};
 use std::alloc::Global;
@@ -21,9 +22,18 @@ pub enum Search {
     Memoised,
 }
 
+/// What is done to a text.
+#[derive(Drop)]
+pub struct Job {
+    /// What is done to it first.
+    pub preparation: Preparation,
+    /// And what then.
+    pub work: Work,
+}
+
 /// What is done to a text, with all that it takes.
 #[derive(Drop)]
-pub enum Job {
+pub enum Work {
     /// It is cut into segments: by what, how they are written, and how the boundaries are found.
     Cut(Segmenter, Style, Search),
     /// Its lines are wrapped.
@@ -31,24 +41,37 @@ pub enum Job {
 }
 
 impl Job {
-    /// Whether segments are only counted.
-    pub fn is_counted(&self) -> bool
-        ensures { result ≡ is_counted self.now }
+    /// The numbers beside that of the segments, where these are only counted.
+    pub fn numbers(&self) -> Option<Numbers>
+        ensures { result ≡ numbers_of self.now.work }
     {
-        matches!(self, Job::Cut(_, Style::Counted, _))
+        match &self.work {
+            Work::Cut(_, Style::Counted(numbers), _) => Some(*numbers),
+            _ => None,
+        }
     }
 }
 
-/// What a request asks for, with these dictionaries where its kind of segments has some. The error is want of memory.
+/// What a request asks for, with these dictionaries where its kind of segments has some. Fails only when out of memory.
 pub fn job_of(alloc: Global, request: &Request, dictionaries: Dictionaries) -> Result<Job>
     ensures { IfOk result (λ job. IsAsked request.now (script_words dictionaries) job) }
+{
+    let work = work_of(alloc, request, dictionaries)?;
+    Ok(Job {
+        preparation: request.preparation,
+        work,
+    })
+}
+
+fn work_of(alloc: Global, request: &Request, dictionaries: Dictionaries) -> Result<Work>
+    ensures { IfOk result (λ work. IsAskedWork request.now (script_words dictionaries) work) }
 {
     match request.task {
         Task::Cut(kind, style, engine) => {
             let segmenter = segmenter_of(alloc, kind, engine, options_of(request), dictionaries)?;
-            Ok(Job::Cut(segmenter, style, search_by(engine)))
+            Ok(Work::Cut(segmenter, style, search_by(engine)))
         }
-        Task::Wrap(width) => Ok(Job::Wrap(wrapper_of(
+        Task::Wrap(width) => Ok(Work::Wrap(wrapper_of(
             alloc,
             width,
             options_of(request),

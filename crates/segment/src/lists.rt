@@ -26,7 +26,7 @@ pub trait ReadLists {
     /// The words of each list, or that there is none, where they are known.
     ghost lists: { Self → List ℕ → Option (Option Words) };
 
-    /// The dictionary of a list, if it is there. The errors are a list that can't be read or has no words, and want of memory.
+    /// The dictionary of a list, if it is there. The errors are a list that can't be read or has no words, and being out of memory.
     fn read_list(&self, name: &str) -> Result<Option<DictionaryBreakData>>
         ensures { IfOk result (λ read. IfSome (lists self.now name.now) (λ words. option_map words_of read ≡ words)) };
 }

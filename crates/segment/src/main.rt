@@ -33,7 +33,7 @@ fn main(rt: HostRuntime) -> ExitCode {
     }
 }
 
-// Follows the command line. The errors are what a dictionary lacks, and want of memory.
+// Follows the command line. The errors are what a dictionary lacks, and being out of memory.
 fn start(rt: &HostRuntime) -> Result<ExitCode> {
     let alloc = rt.alloc();
     let words: Vec<String> = env::args(rt)?.collect(alloc)?;
@@ -44,10 +44,10 @@ fn start(rt: &HostRuntime) -> Result<ExitCode> {
     }
 }
 
-// Prints what clap has to say, which is help or why the command line can't be followed. The error is want of memory.
+// Prints what clap has to say, which is help or why the command line can't be followed. Fails only when out of memory.
 fn answer(rt: &HostRuntime, error: &clap::Error) -> Result<ExitCode> {
     if error.kind() == ErrorKind::OutOfMemory {
-        bail!("no memory");
+        bail!("out of memory");
     }
     error.print(rt)?;
     Ok(ExitCode::from(error.exit_code() as u8))

@@ -2,19 +2,20 @@
 ghost use Rattle.std.specs.Prelude.{◌≡◌, ◌⊎◌, false, option_map, IfErr, IfOk, IfSome, OnOk};
 ghost use Rattle.std.specs.Io.KnownBytes.{Appends, IsAtEnd};
 ghost use Rattle.segment_output.specs.Fault.{IsBeforeWriting, IsReadFault};
-ghost use Rattle.segment.specs.Job.{is_parted, output_of, printed_by, IsBegunBy, IsFound};
+ghost use Rattle.segment.specs.Job.{is_split, output_of, printed_by, text_of, work_output, IsBegunBy, IsFound, IsTally};
 
-use crate::job::{Job, Search};
+use crate::job::{Job, Search, Work};
 use segment_output::fault::Fault;
-use segment_output::found::Found;
+use segment_output::found::{Found, Size, Tally};
 use segment_output::memo::print_by_memo;
 use segment_output::output::write_count;
 use segment_output::parts::print_parts;
 use std::alloc::Global;
+use std::io;
 use std::io::{Read, Write};
 
-/// Does to what a reader has what a job says, and writes it: each segment on a line of its own, how many there are, with the reader's
-/// name if it has one, or the wrapped lines. What is written doesn't depend on the engine. Where the plain engine cuts texts behind their
+/// Does to what a reader has what a job says, and writes it: each segment on a line of its own, how many there are, with the numbers beside
+/// and the reader's name if it has one, or the wrapped lines. What is written doesn't depend on the engine. Where the plain engine cuts texts behind their
 /// line feeds, lines are written as they come. The errors are those of the reader and of the memoised engine, which are met before
 /// anything is written, but that of a reader after the lines that it gave, and of the writer.
 pub fn run<I: Read, O: Write>(
@@ -23,20 +24,20 @@ pub fn run<I: Read, O: Write>(
     name: Option<&str>,
     input: &mut I,
     out: &mut O,
-) -> Result<Found, Fault>
+) -> Result<Tally, Fault>
     ensures read_all { OnOk result (IsAtEnd (I.remaining input.new)) }
-    ensures written { IfOk result (λ found. IfSome (I.remaining input.old) (λ bytes. IsFound job.now bytes found
+    ensures written { IfOk result (λ tally. IfSome (I.remaining input.old) (λ bytes. IsTally job.now bytes tally
         × Appends (O.contents out.old) (O.contents out.new) (output_of job.now (option_map (λ name. name.now) name.entry) bytes))) }
-    ensures unwritten { IfErr result (λ fault. IsBeforeWriting fault → is_parted job.now ≡ false → out.new ≡ out.old) }
+    ensures unwritten { IfErr result (λ fault. IsBeforeWriting fault → is_split job.now ≡ false → out.new ≡ out.old) }
     ensures begun { IfErr result (λ fault. IsReadFault fault → (out.new ≡ out.old)
         ⊎ IsBegunBy job.now (I.remaining input.old) (I.remaining input.new) (O.contents out.old) (O.contents out.new)) }
 {
-    let found = print_job(alloc, job, input, out)?;
-    if !job.is_counted() {
-        return Ok(found);
-    }
-    match write_count(alloc, found.segments, name, out) {
-        Ok(()) => Ok(found),
+    let tally = print_job(alloc, job, input, out)?;
+    let Some(numbers) = job.numbers() else {
+        return Ok(tally);
+    };
+    match write_count(alloc, numbers, tally, name, out) {
+        Ok(()) => Ok(tally),
         Err(error) => Err(Fault::Write(error)),
     }
 }
@@ -57,16 +58,16 @@ fn print_job<I: Read, O: Write>(
     job: &Job,
     input: &mut I,
     out: &mut O,
-) -> Result<Found, Fault>
+) -> Result<Tally, Fault>
     ensures read_all { OnOk result (IsAtEnd (I.remaining input.new)) }
-    ensures written { IfOk result (λ found. IfSome (I.remaining input.old) (λ bytes. IsFound job.now bytes found
+    ensures written { IfOk result (λ tally. IfSome (I.remaining input.old) (λ bytes. IsTally job.now bytes tally
         × Appends (O.contents out.old) (O.contents out.new) (printed_by job.now bytes))) }
-    ensures unwritten { IfErr result (λ fault. IsBeforeWriting fault → is_parted job.now ≡ false → out.new ≡ out.old) }
+    ensures unwritten { IfErr result (λ fault. IsBeforeWriting fault → is_split job.now ≡ false → out.new ≡ out.old) }
     ensures begun { IfErr result (λ fault. IsReadFault fault → (out.new ≡ out.old)
         ⊎ IsBegunBy job.now (I.remaining input.old) (I.remaining input.new) (O.contents out.old) (O.contents out.new)) }
 {
-    if let Job::Cut(segmenter, style, Search::Plain) = job {
-        if segmenter.has_parts() {
+    if let Work::Cut(segmenter, style, Search::Plain) = &job.work {
+        if job.preparation.is_none() && segmenter.has_parts() {
             return print_parts(alloc, segmenter, *style, input, out);
         }
     }
@@ -79,24 +80,42 @@ fn print_whole<I: Read, O: Write>(
     job: &Job,
     input: &mut I,
     out: &mut O,
-) -> Result<Found, Fault>
+) -> Result<Tally, Fault>
     ensures read_all { OnOk result (IsAtEnd (I.remaining input.new)) }
-    ensures written { IfOk result (λ found. IfSome (I.remaining input.old) (λ bytes. IsFound job.now bytes found
+    ensures written { IfOk result (λ tally. IfSome (I.remaining input.old) (λ bytes. IsTally job.now bytes tally
         × Appends (O.contents out.old) (O.contents out.new) (printed_by job.now bytes))) }
     ensures unwritten { IfErr result (λ fault. IsBeforeWriting fault → out.new ≡ out.old) }
 {
     let text = read_text(alloc, input)?;
-    print_text(alloc, job, text.as_slice(), out)
+    let size = Size::of(text.as_slice());
+    let text = prepare(alloc, job, text)?;
+    let found = print_text(alloc, &job.work, text.as_slice(), out)?;
+    Ok(Tally { found, size })
+}
+
+// The text to which the work is done.
+fn prepare(alloc: Global, job: &Job, text: Vec<u8>) -> Result<Vec<u8>, Fault>
+    ensures { IfOk result (λ made. made.items ≡ text_of job.now text.items) }
+{
+    match job.preparation.apply(alloc, text) {
+        Ok(made) => Ok(made),
+        Err(error) => Err(Fault::Read(io::Error::from(error))),
+    }
 }
 
 // Writes the segments of a text, each on a line of its own, unless they are only counted, or its wrapped lines.
-fn print_text<O: Write>(alloc: Global, job: &Job, text: &[u8], out: &mut O) -> Result<Found, Fault>
-    ensures written { IfOk result (λ found. IsFound job.now text.now found
-        × Appends (O.contents out.old) (O.contents out.new) (printed_by job.now text.now)) }
+fn print_text<O: Write>(
+    alloc: Global,
+    work: &Work,
+    text: &[u8],
+    out: &mut O,
+) -> Result<Found, Fault>
+    ensures written { IfOk result (λ found. IsFound work.now text.now found
+        × Appends (O.contents out.old) (O.contents out.new) (work_output work.now text.now)) }
     ensures unwritten { IfErr result (λ fault. IsBeforeWriting fault → out.new ≡ out.old) }
 {
-    match job {
-        Job::Cut(segmenter, style, Search::Plain) => {
+    match work {
+        Work::Cut(segmenter, style, Search::Plain) => {
             match segmenter.print(alloc, text, *style, out) {
                 Ok(segments) => Ok(Found {
                     segments,
@@ -105,10 +124,10 @@ fn print_text<O: Write>(alloc: Global, job: &Job, text: &[u8], out: &mut O) -> R
                 Err(error) => Err(Fault::Write(error)),
             }
         }
-        Job::Cut(segmenter, style, Search::Memoised) => {
+        Work::Cut(segmenter, style, Search::Memoised) => {
             print_by_memo(alloc, segmenter, text, *style, out)
         }
-        Job::Wrap(wrapper) => match wrapper.print(alloc, text, out) {
+        Work::Wrap(wrapper) => match wrapper.print(alloc, text, out) {
             Ok(()) => Ok(Found {
                 segments: 0,
                 lookups: 0,

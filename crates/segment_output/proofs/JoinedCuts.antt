@@ -105,7 +105,7 @@ line-front Raw done more segment order within = ap (λ (bytes : List ℕ). bytes
 line-front ZeroEnded done more segment order within = ap (λ (bytes : List ℕ). bytes ++ 0 ∷ []) (slice-front done more segment.from segment.to order within)
 line-front Json done more segment order within = ap (λ (bytes : List ℕ). print (object_of bytes segment) ++ 10 ∷ []) (slice-front done more segment.from segment.to order within)
 line-front Offsets done more segment order within = refl
-line-front Counted done more segment order within = refl
+line-front (Counted numbers) done more segment order within = refl
 
 line-back : (style : Style) (done part : List ℕ) (segment : Segment) → line_of style (done ++ part) (later (length done) segment) ≡ line_at style (length done) part segment
 line-back Escaped done part segment = ap (λ (bytes : List ℕ). escaped bytes ++ 10 ∷ []) (slice-back done part segment.from segment.to)
@@ -113,7 +113,7 @@ line-back Raw done part segment = ap (λ (bytes : List ℕ). bytes ++ 10 ∷ [])
 line-back ZeroEnded done part segment = ap (λ (bytes : List ℕ). bytes ++ 0 ∷ []) (slice-back done part segment.from segment.to)
 line-back Json done part segment = ap (λ (bytes : List ℕ). print (object_of bytes (later (length done) segment)) ++ 10 ∷ []) (slice-back done part segment.from segment.to)
 line-back Offsets done part segment = refl
-line-back Counted done part segment = refl
+line-back (Counted numbers) done part segment = refl
 
 lines-kept : (f g : Segment → List ℕ) (is : Bool) (segment : Segment) (segments : List Segment) → f segment ≡ g segment → flat_map f segments ≡ flat_map g segments
     → flat_map f (cond is (segment ∷ segments) segments) ≡ flat_map g (cond is (segment ∷ segments) segments)

@@ -1,12 +1,14 @@
 pub mod Escaping
+pub mod Fields
 pub mod FoundByMemo
 pub mod Gathered
 pub mod JoinedCuts
 pub mod MarkedPlaces
-pub mod PartedText
 pub mod Printed
 pub mod Segments
 pub mod ShownLines
 pub mod ShownWide
+pub mod SplitText
 pub mod Stretches
+pub mod Words
 pub mod WrittenTokens

@@ -1,4 +1,4 @@
--- Boundaries that say something, with the marks that it comes to.
+-- Boundaries that say something, with the marks that they give.
 use Rattle.std.proofs.Common.{◌≡◌, ℕ, Option, None, Some, List, [], ◌∷◌, map, refl, sym, ap, ◌∙◌}
 use Rattle.std.specs.Iterator.{YieldsFirst}
 use Rattle.icu_segmenter.specs.Boundary.{Boundary}

@@ -1,5 +1,5 @@
 -- What is written of a text: each of its segments on a line of its own, or how many there are.
-use Rattle.std.specs.Prelude.{ℕ, ◌+◌, Bool, false, not, ◌||◌, Option, None, Some, List, [], ◌∷◌, ◌++◌, codes, drop, map, filter, decimal}
+use Rattle.std.specs.Prelude.{ℕ, ◌+◌, Bool, false, not, ◌||◌, Option, None, Some, List, [], ◌∷◌, ◌++◌, if◌then◌else◌, codes, drop, map, filter, decimal}
 use Rattle.std.specs.List.{flat_map, slice_range, zip}
 use Rattle.std.specs.Str.Lossy.{utf8_lossy}
 use Rattle.json.specs.Print.{print}
@@ -10,6 +10,8 @@ use Rattle.icu_segmenter.specs.declared.options.WordType.TheVariants as word
 use Rattle.segment_output.specs.Escapes.{escaped}
 use Rattle.segment_output.specs.declared.marks.Mark.{Mark}
 use Rattle.segment_output.specs.declared.marks.Mark.TheVariants.{Unmarked, Word, Line}
+use Rattle.segment_output.specs.declared.found.Size.{Size}
+use Rattle.segment_output.specs.declared.output.Numbers.{Numbers}
 use Rattle.segment_output.specs.declared.output.Style.{Style}
 use Rattle.segment_output.specs.declared.output.Style.TheVariants.{Escaped, Raw, ZeroEnded, Json, Offsets, Counted}
 
@@ -72,7 +74,7 @@ line_with Raw text segment shown = units_of text segment ++ 10 ∷ []
 line_with ZeroEnded text segment shown = units_of text segment ++ 0 ∷ []
 line_with Json text segment shown = print (object_of (units_of text segment) shown) ++ 10 ∷ []
 line_with Offsets text segment shown = decimal shown.from ++ 32 ∷ decimal shown.to ++ 10 ∷ []
-line_with Counted text segment shown = []
+line_with (Counted numbers) text segment shown = []
 
 abbrev pub line_of : Style → List ℕ → Segment → List ℕ
 line_of style text segment = line_with style text segment segment
@@ -96,7 +98,20 @@ abbrev pub ended : Option ℕ → ℕ × Mark → List Segment
 ended None end = []
 ended (Some start) end = record { from = start; to = end.0; mark = end.1 } ∷ []
 
--- the line of a count: how many there are, and the name of what they were counted in, if it has one
-abbrev pub count_line : ℕ → Option (List ℕ) → List ℕ
-count_line count None = decimal count ++ 10 ∷ []
-count_line count (Some name) = decimal count ++ 32 ∷ name ++ 10 ∷ []
+-- ---- counts
+
+-- a number beside another, if it is asked for
+abbrev pub beside : Bool → ℕ → List ℕ
+beside is_asked count = if is_asked then 32 ∷ decimal count else []
+
+-- how many segments there are, and the line feeds and bytes of the text that are asked for
+abbrev pub counts : Numbers → ℕ → Size → List ℕ
+counts numbers segments size = decimal segments ++ beside numbers.lines size.lines ++ beside numbers.bytes size.bytes
+
+-- the name of what they were counted in, if it has one, at the line's end
+abbrev pub line_end : Option (List ℕ) → List ℕ
+line_end None = 10 ∷ []
+line_end (Some name) = 32 ∷ name ++ 10 ∷ []
+
+abbrev pub count_line : Numbers → ℕ → Size → Option (List ℕ) → List ℕ
+count_line numbers segments size name = counts numbers segments size ++ line_end name

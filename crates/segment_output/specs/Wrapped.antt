@@ -5,17 +5,17 @@ use Rattle.icu_segmenter.specs.LineBreaks.{LineRules}
 use Rattle.icu_segmenter.specs.LineBreaks.LineFinder.{ByClusters}
 use Rattle.icu_segmenter.specs.Rules.Rules.{ByMachine}
 use Rattle.icu_segmenter.specs.ScriptWords.{no_words}
-use Rattle.icu_segmenter.specs.Wrapping.{TextLine, hangs}
+use Rattle.icu_segmenter.specs.Wrapping.{TextLine, is_trailing_space}
 use Rattle.icu_segmenter.specs.WrappedLines.{wrapped_text}
 use Rattle.icu_segmenter_uax29.specs.Clusters.{cluster_machine}
 
--- the bytes of a line without those of the characters that hang at its end, which have one byte each
-abbrev pub without_hanging : List ℕ → List ℕ
-without_hanging bytes = take (length bytes - suffix_len hangs bytes) bytes
+-- the bytes of a line without its trailing white space
+abbrev pub without_trailing_space : List ℕ → List ℕ
+without_trailing_space bytes = take (length bytes - suffix_len is_trailing_space bytes) bytes
 
 -- a line, and a line feed
 abbrev pub printed_line : List ℕ → List ℕ
-printed_line bytes = without_hanging bytes ++ 10 ∷ []
+printed_line bytes = without_trailing_space bytes ++ 10 ∷ []
 
 abbrev pub printed_lines : List TextLine → List ℕ
 printed_lines lines = flat_map (λ line. printed_line line.units) lines
@@ -30,10 +30,10 @@ pub record Wrapping : Type 0 where
 abbrev pub cluster_lines : LineRules
 cluster_lines = record { finder = ByClusters; payloads = record { words = no_words; clusters = ByMachine cluster_machine } }
 
--- the lines that a wrapped line is shown as: where it is wider than the columns, without what hangs at its end, wrapped once more, if such lines are broken
+-- the lines that a wrapped line is shown as: where it is wider than the columns, without its trailing white space, wrapped once more, if such lines are broken
 abbrev pub shown_as : Option LineRules → ℕ → TextLine → List TextLine
 shown_as None columns line = line ∷ []
-shown_as (Some rules) columns line = if nat_lt columns line.columns then wrapped_text rules columns (without_hanging line.units) else line ∷ []
+shown_as (Some rules) columns line = if nat_lt columns line.columns then wrapped_text rules columns (without_trailing_space line.units) else line ∷ []
 
 abbrev pub shown_line : Wrapping → TextLine → List ℕ
 shown_line wrapping line = printed_lines (shown_as wrapping.broken wrapping.columns line)

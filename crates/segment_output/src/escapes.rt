@@ -4,8 +4,8 @@ ghost use Rattle.segment_output.specs.Escapes.{are_control, are_separator, contr
 
 use std::alloc::AllocError;
 
-/// Adds bytes in UTF-8 to some lines, with control characters, separators and backslashes as escapes, and all else as it is. The error is
-/// want of memory.
+/// Adds bytes in UTF-8 to some lines, with control characters, separators and backslashes as escapes, and all else as it is. Fails
+/// only when out of memory.
 #[inline(always)]
 pub fn push_escaped(bytes: &[u8], lines: &mut Vec<u8>) -> Result<(), AllocError>
     ensures { OnOk result (lines.new.items ≡ lines.old.items ++ escaped bytes.now) }

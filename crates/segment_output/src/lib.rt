@@ -5,13 +5,16 @@
 mod escapes;
 pub mod fault;
 pub mod found;
+pub mod joined;
 mod machine_lines;
 pub mod marks;
 pub mod memo;
 mod objects;
 pub mod output;
 pub mod parts;
+pub mod preparation;
 pub mod segmenter;
 mod stretch;
+pub mod tabs;
 mod wrapped;
 pub mod wrapper;

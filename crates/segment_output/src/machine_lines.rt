@@ -22,7 +22,7 @@ impl MachineLines {
     ghost use Rattle.icu_segmenter.specs.WrappedLines.{wrapper_rules};
     ghost use Rattle.segment_output.specs.Segmenter.{line_rules_by};
 
-    /// That of Unicode's data, with these options and dictionaries. The error is want of memory.
+    /// That of Unicode's data, with these options and dictionaries. Fails only when out of memory.
     pub fn try_new(
         alloc: Global,
         options: LineBreakOptions<'_>,

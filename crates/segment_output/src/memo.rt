@@ -29,7 +29,7 @@ type Memo<'data, 's> = MemoBreakIterator<
 
 /// Writes just what `Segmenter::print` writes, and flushes, but looks up no configuration of the machine twice: the look-ups are as
 /// many as there are different configurations that the scans of the segments look up. The errors are those of `with_memo`, which are met
-/// before anything is written, the writer's, and want of memory.
+/// before anything is written, the writer's, and being out of memory.
 pub fn print_by_memo<O: Write>(
     alloc: Global,
     segmenter: &Segmenter,

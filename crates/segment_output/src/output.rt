@@ -4,11 +4,12 @@ ghost use Rattle.std.specs.Io.KnownBytes.{Appends};
 ghost use Rattle.std.specs.Iterator.{IsFinite, YieldsThen};
 ghost use Rattle.std.specs.List.{slice_range};
 ghost use Rattle.segment_output.specs.Gathered.{AreGathered};
-ghost use Rattle.segment_output.specs.Output.{count_line, segments, line_at, lines_at};
+ghost use Rattle.segment_output.specs.Output.{beside, count_line, counts, line_end, segments, line_at, lines_at};
 ghost use Rattle.segment_output.specs.Stretch.{IsStretch};
 ghost use Rattle.segment_output.specs.declared.marks.Mark.{Mark};
 
 use crate::escapes::push_escaped;
+use crate::found::Tally;
 use crate::marks::Mark;
 use crate::objects::push_object;
 use crate::stretch::{Stretch, push_short, stretch_after};
@@ -29,8 +30,17 @@ pub enum Style {
     Json,
     /// As the places where they begin and end, in bytes.
     Offsets,
-    /// Not at all: they are only counted.
-    Counted,
+    /// Not at all: they are only counted, and these numbers stand beside how many there are.
+    Counted(Numbers),
+}
+
+/// The numbers that stand beside that of the segments, where they are counted.
+#[derive(Clone, Copy, Debug, PartialEq, Eq)]
+pub struct Numbers {
+    /// How many line feeds there are.
+    pub lines: bool,
+    /// How many bytes there are.
+    pub bytes: bool,
 }
 
 // The longest number has 20 digits, and one byte stands after them.
@@ -43,7 +53,7 @@ pub const LINES_LEN: usize = 65536;
 pub const LINES_CAPACITY: usize = 69632;
 
 /// Writes the segments between each two places that come, each with the mark of what ends there, or words alone, of a text or of a part of
-/// one before which so many bytes stand, flushes, and says how many there were. The errors are the writer's, and want of memory, also
+/// one before which so many bytes stand, flushes, and says how many there were. The errors are the writer's, and being out of memory, also
 /// where there are more segments, or bytes in all, than a `usize` counts.
 pub fn print_segments<N: Iterator<Item = (usize, Mark)>, O: Write>(
     alloc: Global,
@@ -75,7 +85,7 @@ pub fn print_segments<N: Iterator<Item = (usize, Mark)>, O: Write>(
             count = one_more(count)?;
             let segment = Segment { start, end, mark };
             match style {
-                Style::Counted => {}
+                Style::Counted(_) => {}
                 _ => push_long(text, before, segment, style, &mut stretch, &mut lines, out)?,
             }
         } else {
@@ -104,7 +114,7 @@ struct Segment {
     mark: Mark,
 }
 
-// Adds the line of a segment, and writes what was gathered before, where it is much. The errors are the writer's, and want of memory.
+// Adds the line of a segment, and writes what was gathered before, where it is much. The errors are the writer's, and being out of memory.
 // Apart, since an `io::Result` is wide.
 #[inline(never)]
 fn push_long<O: Write>(
@@ -154,32 +164,62 @@ fn push_segment(
     Ok(())
 }
 
-/// Writes how many segments there are, and after a space the name of what they were counted in, if it has one, on a line, and flushes.
-/// The errors are the writer's, and want of memory.
+/// Writes a line: how many segments there are, how many line feeds and bytes where these numbers are asked for, and the name of what they were
+/// counted in, if it has one, each after a space; and flushes. The errors are the writer's, and being out of memory.
 pub fn write_count<O: Write>(
     alloc: Global,
-    count: usize,
+    numbers: Numbers,
+    tally: Tally,
     name: Option<&str>,
     out: &mut O,
 ) -> io::Result<()>
-    ensures { OnOk result (Appends (O.contents out.old) (O.contents out.new) (count_line count (option_map (λ name. name.now) name.entry))) }
+    ensures { OnOk result (Appends (O.contents out.old) (O.contents out.new) (count_line numbers tally.found.segments tally.size (option_map (λ name. name.now) name.entry))) }
 {
     let mut line = Vec::new(alloc);
-    push_count(count, name, &mut line)?;
+    push_counts(numbers, tally, &mut line)?;
+    push_name(name, &mut line)?;
     out.write_all(line.as_slice())?;
     out.flush()
 }
 
-// Adds the line of a count.
-fn push_count(count: usize, name: Option<&str>, line: &mut Vec<u8>) -> Result<(), AllocError>
-    ensures { OnOk result (line.new.items ≡ line.old.items ++ count_line count (option_map (λ name. name.now) name.entry)) }
+// Adds how many segments there are, and the numbers beside.
+fn push_counts(numbers: Numbers, tally: Tally, line: &mut Vec<u8>) -> Result<(), AllocError>
+    ensures { OnOk result (line.new.items ≡ line.old.items ++ counts numbers tally.found.segments tally.size) }
 {
-    let Some(name) = name else {
-        return push_number(count, b'\n', line);
-    };
-    push_number(count, b' ', line)?;
-    line.extend_from_slice(name.as_bytes())?;
+    push_digits(tally.found.segments, line)?;
+    push_beside(numbers.lines, tally.size.lines, line)?;
+    push_beside(numbers.bytes, tally.size.bytes, line)
+}
+
+// Adds a space and a number, if it is asked for.
+fn push_beside(is_asked: bool, number: usize, line: &mut Vec<u8>) -> Result<(), AllocError>
+    ensures { OnOk result (line.new.items ≡ line.old.items ++ beside is_asked number) }
+{
+    if !is_asked {
+        return Ok(());
+    }
+    line.extend_from_slice(b" ")?;
+    push_digits(number, line)
+}
+
+// Adds a space and a name, if there is one, and a line feed.
+fn push_name(name: Option<&str>, line: &mut Vec<u8>) -> Result<(), AllocError>
+    ensures { OnOk result (line.new.items ≡ line.old.items ++ line_end (option_map (λ name. name.now) name.entry)) }
+{
+    if let Some(name) = name {
+        line.extend_from_slice(b" ")?;
+        line.extend_from_slice(name.as_bytes())?;
+    }
     line.extend_from_slice(b"\n")
+}
+
+// Adds a number in decimal.
+fn push_digits(number: usize, line: &mut Vec<u8>) -> Result<(), AllocError>
+    ensures { OnOk result (line.new.items ≡ line.old.items ++ decimal number) }
+{
+    let mut digits = [0; NUMBER_LEN];
+    let start = itoa::write_digits(number as u64, &mut digits, NUMBER_LEN);
+    line.extend_from_slice(&digits[start..])
 }
 
 /// Writes the lines that were gathered, and empties their vector. The errors are the writer's.
@@ -234,7 +274,7 @@ fn push_line(
             push_number(later(before, start)?, b' ', lines)?;
             push_number(later(before, end)?, b'\n', lines)
         }
-        Style::Counted => Ok(()),
+        Style::Counted(_) => Ok(()),
     }
 }
 

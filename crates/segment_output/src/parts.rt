@@ -8,9 +8,10 @@ ghost use Rattle.segment_output.specs.Fault.{IsReadFault};
 ghost use Rattle.segment_output.specs.Output.{lines_of};
 ghost use Rattle.segment_output.specs.Parts.{IsAdded, IsBegun, IsPartWritten};
 ghost use Rattle.segment_output.specs.Segmenter.{boundaries_by, segments_by};
+ghost use Rattle.segment_output.specs.Size.{size_of};
 
 use crate::fault::Fault;
-use crate::found::Found;
+use crate::found::{Found, Size, Tally};
 use crate::output::Style;
 use crate::segmenter::Segmenter;
 use memchr::memrchr;
@@ -26,8 +27,8 @@ const BLOCK_LEN: usize = 65536;
 pub struct Progress {
     /// What has come and isn't cut: the beginning of a line.
     held: Vec<u8>,
-    /// How many bytes are cut.
-    place: usize,
+    /// How large what is cut is.
+    size: Size,
     /// How many segments they have.
     segments: usize,
 }
@@ -41,11 +42,11 @@ pub fn print_parts<I: Read, O: Write>(
     style: Style,
     input: &mut I,
     out: &mut O,
-) -> Result<Found, Fault>
+) -> Result<Tally, Fault>
     requires { PartsBehind (boundaries_by segmenter.now) line_feed }
     ensures read_all { OnOk result (IsAtEnd (I.remaining input.new)) }
-    ensures written { IfOk result (λ found. IfSome (I.remaining input.old) (λ bytes.
-        (found.segments ≡ length (segments_by segmenter.now bytes)) × (found.lookups ≡ 0)
+    ensures written { IfOk result (λ tally. IfSome (I.remaining input.old) (λ bytes.
+        (tally.found.segments ≡ length (segments_by segmenter.now bytes)) × (tally.found.lookups ≡ 0) × (tally.size ≡ size_of bytes)
         × Appends (O.contents out.old) (O.contents out.new) (lines_of style bytes (segments_by segmenter.now bytes)))) }
     ensures begun { IfErr result (λ fault. IsReadFault fault → (out.new ≡ out.old)
         ⊎ IsBegun segmenter.now style (I.remaining input.old) (I.remaining input.new) (O.contents out.old) (O.contents out.new)) }
@@ -53,7 +54,7 @@ pub fn print_parts<I: Read, O: Write>(
     let mut block = [0u8; BLOCK_LEN];
     let mut progress = Progress {
         held: Vec::new(alloc),
-        place: 0,
+        size: Size { lines: 0, bytes: 0 },
         segments: 0,
     };
     'reads: for _ in 0..u64::MAX {
@@ -144,19 +145,23 @@ fn print_last<O: Write>(
     style: Style,
     progress: &mut Progress,
     out: &mut O,
-) -> Result<Found, Fault>
-    ensures written { IfOk result (λ found. (found.segments ≡ progress.new.segments) × (found.lookups ≡ 0)
+) -> Result<Tally, Fault>
+    ensures written { IfOk result (λ tally. (tally.found.segments ≡ progress.new.segments) × (tally.found.lookups ≡ 0) × (tally.size ≡ progress.new.size)
         × IsPartWritten segmenter.now style progress.old.held.items progress.old progress.new (O.contents out.old) (O.contents out.new)) }
     ensures only { IfErr result (λ fault. IsReadFault fault → ⊥) }
 {
     print_held(alloc, segmenter, style, progress, out)?;
-    Ok(Found {
+    let found = Found {
         segments: progress.segments,
         lookups: 0,
+    };
+    Ok(Tally {
+        found,
+        size: progress.size,
     })
 }
 
-// Writes the segments of what is held, as a part of the text. The errors are the writer's, and want of memory.
+// Writes the segments of what is held, as a part of the text. The errors are the writer's, and being out of memory.
 fn print_held<O: Write>(
     alloc: Global,
     segmenter: &Segmenter,
@@ -170,20 +175,22 @@ fn print_held<O: Write>(
 {
     let part = progress.held.as_slice();
     segmenter.cover(part);
-    let printed = segmenter.print_part(alloc, part, progress.place, style, out);
+    let printed = segmenter.print_part(alloc, part, progress.size.bytes, style, out);
     let count = printed.map_err(Fault::Write)?;
-    progress.place = sum(progress.place, part.len())?;
-    progress.segments = sum(progress.segments, count)?;
+    let Some(size) = progress.size.checked_add(Size::of(part)) else {
+        return Err(too_large());
+    };
+    let Some(segments) = progress.segments.checked_add(count) else {
+        return Err(too_large());
+    };
+    progress.size = size;
+    progress.segments = segments;
     Ok(())
 }
 
-// A sum. The error is one that no `usize` counts, which is answered as want of memory.
-fn sum(one: usize, other: usize) -> Result<usize, Fault>
-    ensures sum { IfOk result (λ sum. sum ≡ one + other) }
-    ensures only { IfErr result (λ fault. IsReadFault fault → ⊥) }
+// More than a `usize` counts: memory counts as run out.
+fn too_large() -> Fault
+    ensures { IsReadFault result → ⊥ }
 {
-    match one.checked_add(other) {
-        Some(sum) => Ok(sum),
-        None => Err(Fault::Write(io::Error::from(AllocError))),
-    }
+    Fault::Write(io::Error::from(AllocError))
 }

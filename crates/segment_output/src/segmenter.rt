@@ -69,7 +69,7 @@ pub enum Segmenter {
 
 impl Segmenter {
     /// Writes the segments of a part of a text before which so many bytes stand, each on a line of its own, flushes, and says how many
-    /// there are. The errors are the writer's, and want of memory.
+    /// there are. The errors are the writer's, and being out of memory.
     pub fn print_part<O: Write>(
         &self,
         alloc: Global,
@@ -168,7 +168,7 @@ impl Segmenter {
     }
 }
 
-/// The segmenter of a kind by an engine, with these options of lines and these dictionaries where its kind has some. The error is want of memory.
+/// The segmenter of a kind by an engine, with these options of lines and these dictionaries where its kind has some. Fails only when out of memory.
 pub fn segmenter_of(
     alloc: Global,
     kind: Kind,
@@ -226,7 +226,7 @@ fn word_segmenter(
     Ok(words)
 }
 
-/// A segmenter of lines by an engine, with these options and dictionaries. The error is want of memory.
+/// A segmenter of lines by an engine, with these options and dictionaries. Fails only when out of memory.
 pub fn line_segmenter(
     alloc: Global,
     engine: Engine,

@@ -42,7 +42,7 @@ pub fn stretch_after(text: &[u8], from: usize, style: Style) -> Stretch
         Style::Escaped => stretch_to(text, from, plain_end(text, from), b'\n'),
         Style::Raw => stretch_to(text, from, text.len(), b'\n'),
         Style::ZeroEnded => stretch_to(text, from, text.len(), b'\0'),
-        Style::Json | Style::Offsets | Style::Counted => no_stretch(),
+        Style::Json | Style::Offsets | Style::Counted(_) => no_stretch(),
     }
 }
 

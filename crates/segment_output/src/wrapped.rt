@@ -1,13 +1,13 @@
 //! How wrapped lines are written.
 ghost use Rattle.std.specs.Prelude.{◌≡◌, ◌++◌, OnOk};
-ghost use Rattle.icu_segmenter.specs.Wrapping.{hangs};
+ghost use Rattle.icu_segmenter.specs.Wrapping.{is_trailing_space};
 ghost use Rattle.icu_segmenter.specs.WrappedLines.{utf8_lines_to_come};
-ghost use Rattle.segment_output.specs.Wrapped.{printed_line, printed_lines, without_hanging};
+ghost use Rattle.segment_output.specs.Wrapped.{printed_line, printed_lines, without_trailing_space};
 
 use icu_segmenter::wrap::WrapUtf8Iterator;
 use std::alloc::AllocError;
 
-/// Adds each line that comes, without what hangs at its end, and a line feed after it. The error is want of memory.
+/// Adds each line that comes, without its trailing white space, and a line feed after it. Fails only when out of memory.
 pub fn push_lines(lines: WrapUtf8Iterator<'_, '_>, gathered: &mut Vec<u8>) -> Result<(), AllocError>
     ensures { OnOk result (gathered.new.items ≡ gathered.old.items ++ printed_lines (utf8_lines_to_come lines.entry)) }
 {
@@ -17,21 +17,21 @@ pub fn push_lines(lines: WrapUtf8Iterator<'_, '_>, gathered: &mut Vec<u8>) -> Re
     Ok(())
 }
 
-/// Adds a line. The error is want of memory.
+/// Adds a line. Fails only when out of memory.
 pub fn push_line(line: &[u8], gathered: &mut Vec<u8>) -> Result<(), AllocError>
     ensures { OnOk result (gathered.new.items ≡ gathered.old.items ++ printed_line line.now) }
 {
-    gathered.extend_from_slice(without_hanging(line))?;
+    gathered.extend_from_slice(without_trailing_space(line))?;
     gathered.extend_from_slice(b"\n")
 }
 
-/// A line without what hangs at its end.
-pub fn without_hanging(line: &[u8]) -> &[u8]
-    ensures { result.now ≡ without_hanging line.now }
+/// A line without its trailing white space.
+pub fn without_trailing_space(line: &[u8]) -> &[u8]
+    ensures { result.now ≡ without_trailing_space line.now }
 {
     let mut shown = line;
     while let [start @ .., last] = shown {
-        if !hangs(*last) {
+        if !is_trailing_space(*last) {
             break;
         }
         shown = start;
@@ -39,9 +39,9 @@ pub fn without_hanging(line: &[u8]) -> &[u8]
     shown
 }
 
-// Whether the character of this byte hangs at a line's end.
-fn hangs(byte: u8) -> bool
-    ensures { result ≡ hangs byte }
+// Whether this byte is a character of trailing white space.
+fn is_trailing_space(byte: u8) -> bool
+    ensures { result ≡ is_trailing_space byte }
 {
     byte == b' ' || byte == b'\n' || byte == b'\r'
 }

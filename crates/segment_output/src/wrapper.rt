@@ -9,7 +9,7 @@ ghost use Rattle.segment_output.specs.Wrapper.{wrapping_of, IsAskedWrapper};
 
 use crate::machine_lines::MachineLines;
 use crate::output::{LINES_CAPACITY, LINES_LEN, write_lines};
-use crate::wrapped::{push_line, push_lines, without_hanging};
+use crate::wrapped::{push_line, push_lines, without_trailing_space};
 use icu_segmenter::options::{LineBreakOptions, LineBreakStrictness};
 use icu_segmenter::provider::{DataError, Dictionaries};
 use icu_segmenter::wrap::{WrapUtf8Iterator, WrappedUtf8Line};
@@ -38,8 +38,8 @@ pub struct Wrapper {
 }
 
 impl Wrapper {
-    /// Writes the wrapped lines of a text, each without what hangs at its end and with a line feed, and flushes. What is ill-formed is
-    /// written as it is. The errors are the writer's, and want of memory.
+    /// Writes the wrapped lines of a text, each without its trailing white space and with a line feed, and flushes. What is ill-formed is
+    /// written as it is. The errors are the writer's, and being out of memory.
     pub fn print<O: Write>(&self, alloc: Global, text: &[u8], out: &mut O) -> io::Result<()>
         ensures { OnOk result (Appends (O.contents out.old) (O.contents out.new) (wrapped_output (wrapping_of self.now) text.now)) }
     {
@@ -96,12 +96,12 @@ fn push_broken(
     }
     let wrapper = clusters.wrapper();
     push_lines(
-        wrapper.wrap_utf8(without_hanging(line.bytes()), columns),
+        wrapper.wrap_utf8(without_trailing_space(line.bytes()), columns),
         gathered,
     )
 }
 
-/// A wrapper to a width, with these options of lines and these dictionaries. The error is want of memory.
+/// A wrapper to a width, with these options of lines and these dictionaries. Fails only when out of memory.
 pub fn wrapper_of(
     alloc: Global,
     width: Width,

@@ -42,14 +42,14 @@ pub struct WrappedUtf16Line<'s> {
 impl<'s> WrappedUtf16Line<'s> {
     ghost use Rattle.seg_wrap.specs.WrappedLines.{utf16_line_in};
 
-    /// Its 16-bit units, with what hangs at its end.
+    /// Its 16-bit units, with its trailing white space.
     pub fn units(&self) -> &'s [u16]
         ensures { result.now ≡ (utf16_line_in self.now).units }
     {
         self.units
     }
 
-    /// The columns that it takes, without what hangs at its end.
+    /// The columns that it takes, without its trailing white space.
     pub fn columns(&self) -> u128
         ensures { result ≡ (utf16_line_in self.now).columns }
     {

@@ -1,6 +1,6 @@
 -- Where the block has a line feed, what is held and its lines are a part.
 use Rattle.std.proofs.Common.{refl}
-use Rattle.segment_output.proofs.PartedText.{added}
+use Rattle.segment_output.proofs.SplitText.{added}
 use Rattle.segment_output.proofs.parts.add_block.Goals as goal
 
 pub returns-clause-added : goal.returns-clause-added

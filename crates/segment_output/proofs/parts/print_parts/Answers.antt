@@ -2,7 +2,7 @@
 use Rattle.std.proofs.Common.{ℕ, sym, ap, subst, take, refl}
 use Rattle.std.proofs.KnownBytes.{Consumes-nil}
 use Rattle.std.specs.Io.KnownBytes.{Consumes}
-use Rattle.segment_output.proofs.PartedText.{all-found, begun, keeps-nothing, under-way, unless-ok}
+use Rattle.segment_output.proofs.SplitText.{all-found, begun, keeps-nothing, under-way, unless-ok}
 use Rattle.segment_output.proofs.parts.print_parts.Goals as goal
 
 pub returns-in_err-len-clause-begun : goal.returns-in_err-len-clause-begun

@@ -1,5 +1,5 @@
 -- What came so far are lines, whose segments are written, and what is held.
-use Rattle.segment_output.proofs.PartedText.{IsUnderWay}
+use Rattle.segment_output.proofs.SplitText.{IsUnderWay}
 use Rattle.segment_output.proofs.parts.print_parts.Given as goal
 
 abbrev pub invariant-reads : goal.invariant-reads

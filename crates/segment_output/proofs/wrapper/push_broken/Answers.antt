@@ -4,7 +4,7 @@ use Rattle.icu_segmenter.specs.LineBreaks.{LineRules}
 use Rattle.icu_segmenter.specs.Lines.{owned_line_rules}
 use Rattle.icu_segmenter.specs.Wrapping.{TextLine}
 use Rattle.icu_segmenter.specs.WrappedLines.{utf8_line_in, utf8_lines_to_come, wrapped_text}
-use Rattle.segment_output.specs.Wrapped.{printed_line, printed_lines, shown_as, without_hanging}
+use Rattle.segment_output.specs.Wrapped.{printed_line, printed_lines, shown_as, without_trailing_space}
 use Rattle.segment_output.proofs.ShownWide.{shown-narrow, shown-wide}
 use Rattle.segment_output.proofs.wrapper.push_broken.Goals as goal
 
@@ -22,7 +22,7 @@ returns c =
     let wider : c.args.columns < c.args.line.columns = omega (arith, c.columns.ensures, c.if-columns.false) in
     let lines : utf8_lines_to_come c.wrap_utf8.result ≡ shown_as (Some rules) c.args.columns (utf8_line_in c.args.line) =
     c.wrap_utf8.ensures.lines
-    ∙ ap (λ (found : LineRules). wrapped_text found c.args.columns c.without_hanging.result.now) c.wrapper-wrapper.ensures
-    ∙ ap (λ (bytes : List ℕ). wrapped_text rules c.args.columns bytes) (c.without_hanging.ensures ∙ ap (λ (bytes : List ℕ). without_hanging bytes) c.bytes-2.ensures)
+    ∙ ap (λ (found : LineRules). wrapped_text found c.args.columns c.without_trailing_space.result.now) c.wrapper-wrapper.ensures
+    ∙ ap (λ (bytes : List ℕ). wrapped_text rules c.args.columns bytes) (c.without_trailing_space.ensures ∙ ap (λ (bytes : List ℕ). without_trailing_space bytes) c.bytes-2.ensures)
     ∙ sym (shown-wide rules c.args.columns (utf8_line_in c.args.line) wider) in
     subst (λ (lines : List TextLine). OnOk c.push_lines.result (c.push_lines.new.gathered.items ≡ c.args.gathered.now.items ++ printed_lines lines)) lines c.push_lines.ensures

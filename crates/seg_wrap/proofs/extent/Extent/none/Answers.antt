@@ -1,6 +1,6 @@
 use Rattle.std.proofs.Common.{refl}
 use Rattle.seg_wrap.specs.Wrapping.{columns_of}
-use Rattle.seg_wrap.specs.Walk.{total_of}
+use Rattle.seg_wrap.specs.Wrapping.{total_of}
 use Rattle.seg_wrap.proofs.extent.Extent.none.Goals as goal
 
 pub returns : goal.returns

@@ -4,7 +4,7 @@ use Rattle.segment_output.proofs.machine_lines.MachineLines.wrapper.Goals as goa
 
 pub unreachable-requires : goal.unreachable-requires
 unreachable-requires c =
-    c.args.self.now.by_machine (subst (λ (rules : LineRules). IsByPairTable rules.finder) c.as_borrowed.ensures c.in_default.ensures.refused)
+    c.args.self.now.by_machine (subst (λ (rules : LineRules). IsByPairTable rules.finder) c.as_borrowed.ensures c.in_default.ensures.rejected)
 
 pub returns : goal.returns
 returns c = c.in-Ok.ensures.made.0 ∙ c.as_borrowed.ensures

@@ -2,6 +2,7 @@
 use Rattle.std.proofs.Common.{◌≡◌, ℕ, ◌+◌, ◌<◌, ◌==◌, ◌⊎◌, inl, inr, Bool, true, false, cond, Option, None, Some, List, [], ◌∷◌, ◌++◌, IfErr, IfOk, IfSome, Result, Ok, Err, length, take, drop, map, filter, refl, sym, ap, ap₂, subst, ◌∙◌, arith, append-nil, append_assoc, eqb-true, length-append}
 use Rattle.std.specs.Prelude.{slice_index}
 use Rattle.std.proofs.lemmas.List.{take-append-drop, take_more}
+use Rattle.std.proofs.lemmas.List.Elements.{filter-append}
 use Rattle.std.proofs.KnownBytes.{Appends-trans, Consumes-trans, Consumes-whole}
 use Rattle.std.specs.Io.KnownBytes.{Appends, Consumes, IsAtEnd, Keeps}
 use Rattle.std.specs.List.{zip}
@@ -15,8 +16,10 @@ use Rattle.segment_output.specs.Marks.{mark_of}
 use Rattle.segment_output.specs.Output.{Segment, is_shown, lines_at, lines_of, segment_between, segments}
 use Rattle.segment_output.specs.Parts.{AreLines, IsAdded, IsBegun, IsPartWritten}
 use Rattle.segment_output.specs.Segmenter.{boundaries_by, has_words_alone, marking_by, segments_by}
+use Rattle.segment_output.specs.Size.{both_sizes, line_feeds, size_of}
 use Rattle.segment_output.specs.declared.fault.Fault.{Fault}
-use Rattle.segment_output.specs.declared.found.Found.{Found}
+use Rattle.segment_output.specs.declared.found.Size.{Size}
+use Rattle.segment_output.specs.declared.found.Tally.{Tally}
 use Rattle.segment_output.specs.declared.marks.Mark.{Mark}
 use Rattle.segment_output.specs.declared.output.Style.{Style}
 use Rattle.segment_output.specs.declared.parts.Progress.{Progress}
@@ -57,18 +60,33 @@ lines-more : (done part : List ℕ) → AreLines part → AreLines (done ++ part
 lines-more done part (before, is) = (done ++ before, ap (λ (bytes : List ℕ). done ++ bytes) is ∙ sym (append_assoc done before line_feed))
 
 -- what is written of lines, and how many segments they have
-pub record AreCut (segmenter : Segmenter) (style : Style) (done : List ℕ) (cut counted : ℕ) (old new : Option (List ℕ)) : Type 0 where
+pub record AreCut (segmenter : Segmenter) (style : Style) (done : List ℕ) (progress : Progress) (old new : Option (List ℕ)) : Type 0 where
   pub cover : IsCover 0 (length done) (boundaries_by segmenter done)
-  pub place : cut ≡ length done
-  pub count : counted ≡ length (segments_by segmenter done)
+  pub size : progress.size ≡ size_of done
+  pub count : progress.segments ≡ length (segments_by segmenter done)
   pub written : Appends old new (lines_of style done (segments_by segmenter done))
+
+cut-same : (segmenter : Segmenter) (style : Style) (done : List ℕ) (before after : Progress) (old new : Option (List ℕ)) → after.size ≡ before.size → after.segments ≡ before.segments
+    → AreCut segmenter style done before old new → AreCut segmenter style done after old new
+cut-same segmenter style done before after old new size count cut = record {
+  cover = cut.cover;
+  size = size ∙ cut.size;
+  count = count ∙ cut.count;
+  written = cut.written;
+}
+
+-- how large two texts are, one behind the other
+sizes-append : (one other : List ℕ) → size_of (one ++ other) ≡ both_sizes (size_of one) (size_of other)
+sizes-append one other =
+    ap₂ (λ (lines bytes : ℕ). let size : Size = record { lines = lines; bytes = bytes } in size)
+    (ap length (filter-append (λ byte. byte == 0x0A) one other) ∙ length-append (filter (λ byte. byte == 0x0A) one) (filter (λ byte. byte == 0x0A) other)) (length-append one other)
 
 -- what came so far are lines, whose segments are written, and what is held
 abbrev pub IsUnderWay : {O : Type 0} → Segmenter → Style → (O → Option (List ℕ)) → Option (List ℕ) → Option (List ℕ) → Progress → O → O → Type 0
 IsUnderWay segmenter style contents from now progress old new =
     (done : List ℕ) × Consumes from now (done ++ progress.held.items)
-    × (((done ≡ []) × (progress.place ≡ 0) × (progress.segments ≡ 0) × (new ≡ old))
-    ⊎ (AreLines done × AreCut segmenter style done progress.place progress.segments (contents old) (contents new)))
+    × (((done ≡ []) × (progress.size ≡ size_of []) × (progress.segments ≡ 0) × (new ≡ old))
+    ⊎ (AreLines done × AreCut segmenter style done progress (contents old) (contents new)))
 
 module _ (segmenter : Segmenter) (style : Style) (parts : PartsBehind (boundaries_by segmenter) line_feed) where
   boundaries-are : (done part : List ℕ) → AreLines done
@@ -109,28 +127,28 @@ module _ (segmenter : Segmenter) (style : Style) (parts : PartsBehind (boundarie
           (cover-joined (length done) (length part) (boundaries_by segmenter done) (boundaries_by segmenter part) covers cover)
 
   -- one part more, and the first one
-  cut-more : (done part : List ℕ) (before after : Progress) (old mid new : Option (List ℕ)) → AreLines done → AreCut segmenter style done before.place before.segments old mid
-      → IsPartWritten segmenter style part before after mid new → AreCut segmenter style (done ++ part) after.place after.segments old new
+  cut-more : (done part : List ℕ) (before after : Progress) (old mid new : Option (List ℕ)) → AreLines done → AreCut segmenter style done before old mid
+      → IsPartWritten segmenter style part before after mid new → AreCut segmenter style (done ++ part) after old new
   cut-more done part before after old mid new lines cut written = record {
     cover = all-cover done part lines cut.cover written.cover;
-    place = written.place ∙ ap (λ (n : ℕ). n + length part) cut.place ∙ sym (length-append done part);
+    size = written.size ∙ ap (λ (size : Size). both_sizes size (size_of part)) cut.size ∙ sym (sizes-append done part);
     count = written.count ∙ ap (λ (n : ℕ). n + length (segments_by segmenter part)) cut.count ∙ sym (all-count done part lines cut.cover written.cover);
     written = rw (all-lines done part lines cut.cover written.cover)
         (Appends-trans old mid new _ _ cut.written
-        (subst (λ (place : ℕ). Appends mid new (lines_at style place part (segments_by segmenter part))) cut.place written.written));
+        (subst (λ (size : Size). Appends mid new (lines_at style size.bytes part (segments_by segmenter part))) cut.size written.written));
   }
 
-  cut-first : (part : List ℕ) (before after : Progress) (old new : Option (List ℕ)) → before.place ≡ 0 → before.segments ≡ 0
-      → IsPartWritten segmenter style part before after old new → AreCut segmenter style part after.place after.segments old new
+  cut-first : (part : List ℕ) (before after : Progress) (old new : Option (List ℕ)) → before.size ≡ size_of [] → before.segments ≡ 0
+      → IsPartWritten segmenter style part before after old new → AreCut segmenter style part after old new
   cut-first part before after old new at none written =
-      let from_zero : after.place ≡ 0 + length part = written.place ∙ ap (λ (n : ℕ). n + length part) at in
+      let from_none : after.size ≡ both_sizes (size_of []) (size_of part) = written.size ∙ ap (λ (size : Size). both_sizes size (size_of part)) at in
       let of_none : after.segments ≡ 0 + length (segments_by segmenter part) = written.count ∙ ap (λ (n : ℕ). n + length (segments_by segmenter part)) none in
       record {
         cover = written.cover;
-        place = omega (arith, from_zero);
+        size = from_none ∙ sym (sizes-append [] part);
         count = omega (arith, of_none);
         written = rw (← lines-at_zero style part (segments_by segmenter part))
-            (subst (λ (place : ℕ). Appends old new (lines_at style place part (segments_by segmenter part))) at written.written);
+            (subst (λ (size : Size). Appends old new (lines_at style size.bytes part (segments_by segmenter part))) at written.written);
       }
 
   module _ {O : Type 0} (contents : O → Option (List ℕ)) where
@@ -142,12 +160,12 @@ module _ (segmenter : Segmenter) (style : Style) (parts : PartsBehind (boundarie
         came = subst (Consumes from now) (append_assoc done before.held.items block) (Consumes-trans from mid now (done ++ before.held.items) block read more)
 
         on : IsAdded segmenter style block before after (new ≡ out) (contents out) (contents new) → IsUnderWay segmenter style contents from now after old new
-        on (inl (held, place, count, same)) = (
+        on (inl (held, size, count, same)) = (
           done,
           subst (λ (bytes : List ℕ). Consumes from now (done ++ bytes)) (sym held) came,
           elim cut [
-            | inl (none, at, nothing, unwritten) ↦ inl (none, place ∙ at, count ∙ nothing, same ∙ unwritten)
-            | inr (lines, cut) ↦ inr (lines, rw (place, count, same) cut)
+            | inl (none, at, nothing, unwritten) ↦ inl (none, size ∙ at, count ∙ nothing, same ∙ unwritten)
+            | inr (lines, cut) ↦ inr (lines, rw same (cut-same segmenter style done before after _ _ size count cut))
           ],
         )
         on (inr (part, lines, is, written)) = (
@@ -157,7 +175,7 @@ module _ (segmenter : Segmenter) (style : Style) (parts : PartsBehind (boundarie
             | inl (none, at, nothing, unwritten) ↦
                 inr (
                   lines-more done part lines,
-                  subst (λ (bytes : List ℕ). AreCut segmenter style bytes after.place after.segments (contents old) (contents new)) (ap (λ (bytes : List ℕ). bytes ++ part) (sym none))
+                  subst (λ (bytes : List ℕ). AreCut segmenter style bytes after (contents old) (contents new)) (ap (λ (bytes : List ℕ). bytes ++ part) (sym none))
                       (cut-first part before after (contents old) (contents new) at nothing
                       (subst (λ (o : O). IsPartWritten segmenter style part before after (contents o) (contents new)) unwritten written)),
                 )
@@ -168,26 +186,26 @@ module _ (segmenter : Segmenter) (style : Style) (parts : PartsBehind (boundarie
     -- what is held is the last part
     pub all-written : (from now : Option (List ℕ)) (before after : Progress) (old out new : O) → IsUnderWay segmenter style contents from now before old out → IsAtEnd now
         → IsPartWritten segmenter style before.held.items before after (contents out) (contents new)
-        → IfSome from (λ bytes. (after.segments ≡ length (segments_by segmenter bytes)) × Appends (contents old) (contents new) (lines_of style bytes (segments_by segmenter bytes)))
+        → IfSome from (λ bytes. (after.segments ≡ length (segments_by segmenter bytes)) × (after.size ≡ size_of bytes) × Appends (contents old) (contents new) (lines_of style bytes (segments_by segmenter bytes)))
     all-written from now before after old out new (done, read, cut) end written =
-        Consumes-whole from now (done ++ before.held.items) _ read end (let whole = on cut in (whole.count, whole.written))
+        Consumes-whole from now (done ++ before.held.items) _ read end (let whole = on cut in (whole.count, whole.size, whole.written))
       where
-        on : ((done ≡ []) × (before.place ≡ 0) × (before.segments ≡ 0) × (out ≡ old)) ⊎ (AreLines done × AreCut segmenter style done before.place before.segments (contents old) (contents out))
-            → AreCut segmenter style (done ++ before.held.items) after.place after.segments (contents old) (contents new)
+        on : ((done ≡ []) × (before.size ≡ size_of []) × (before.segments ≡ 0) × (out ≡ old)) ⊎ (AreLines done × AreCut segmenter style done before (contents old) (contents out))
+            → AreCut segmenter style (done ++ before.held.items) after (contents old) (contents new)
         on (inl (none, at, nothing, unwritten)) =
-            subst (λ (bytes : List ℕ). AreCut segmenter style bytes after.place after.segments (contents old) (contents new)) (ap (λ (bytes : List ℕ). bytes ++ before.held.items) (sym none))
+            subst (λ (bytes : List ℕ). AreCut segmenter style bytes after (contents old) (contents new)) (ap (λ (bytes : List ℕ). bytes ++ before.held.items) (sym none))
             (cut-first before.held.items before after (contents old) (contents new) at nothing
             (subst (λ (o : O). IsPartWritten segmenter style before.held.items before after (contents o) (contents new)) unwritten written))
         on (inr (lines, cut)) = cut-more done before.held.items before after (contents old) (contents out) (contents new) lines cut written
 
     -- the last read gives nothing
-    pub all-found : (from mid now : Option (List ℕ)) (read : List ℕ) (before after : Progress) (old out new : O) (r : Result Found Fault) → IsUnderWay segmenter style contents from mid before old out
+    pub all-found : (from mid now : Option (List ℕ)) (read : List ℕ) (before after : Progress) (old out new : O) (r : Result Tally Fault) → IsUnderWay segmenter style contents from mid before old out
         → Consumes mid now read → read ≡ [] → IsAtEnd now
-        → IfOk r (λ found. (found.segments ≡ after.segments) × (found.lookups ≡ 0) × IsPartWritten segmenter style before.held.items before after (contents out) (contents new))
-        → IfOk r (λ found. IfSome from (λ bytes. (found.segments ≡ length (segments_by segmenter bytes)) × (found.lookups ≡ 0)
+        → IfOk r (λ tally. (tally.found.segments ≡ after.segments) × (tally.found.lookups ≡ 0) × (tally.size ≡ after.size) × IsPartWritten segmenter style before.held.items before after (contents out) (contents new))
+        → IfOk r (λ tally. IfSome from (λ bytes. (tally.found.segments ≡ length (segments_by segmenter bytes)) × (tally.found.lookups ≡ 0) × (tally.size ≡ size_of bytes)
         × Appends (contents old) (contents new) (lines_of style bytes (segments_by segmenter bytes))))
     all-found from mid now read before after old out new (Err fault) way more none end printed = tt
-    all-found from mid now read before after old out new (Ok found) (done, taken, cut) more none end (count, lookups, written) =
+    all-found from mid now read before after old out new (Ok tally) (done, taken, cut) more none end (count, lookups, size, written) =
         counted from (all-written from now before after old out new (done, all, cut) end written)
       where
         all : Consumes from now (done ++ before.held.items)
@@ -195,13 +213,13 @@ module _ (segmenter : Segmenter) (style : Style) (parts : PartsBehind (boundarie
             (Consumes-trans from mid now (done ++ before.held.items) read taken more)
 
         counted : (from : Option (List ℕ))
-            → IfSome from (λ bytes. (after.segments ≡ length (segments_by segmenter bytes)) × Appends (contents old) (contents new) (lines_of style bytes (segments_by segmenter bytes)))
-            → IfSome from (λ bytes. (found.segments ≡ length (segments_by segmenter bytes)) × (found.lookups ≡ 0)
+            → IfSome from (λ bytes. (after.segments ≡ length (segments_by segmenter bytes)) × (after.size ≡ size_of bytes) × Appends (contents old) (contents new) (lines_of style bytes (segments_by segmenter bytes)))
+            → IfSome from (λ bytes. (tally.found.segments ≡ length (segments_by segmenter bytes)) × (tally.found.lookups ≡ 0) × (tally.size ≡ size_of bytes)
             × Appends (contents old) (contents new) (lines_of style bytes (segments_by segmenter bytes)))
         counted None is = tt
-        counted (Some bytes) (is, appends) = (count ∙ is, lookups, appends)
+        counted (Some bytes) (is, large, appends) = (count ∙ is, lookups, size ∙ large, appends)
 
-    -- the reader fails, or there is no memory for what it gave
+    -- the reader fails, or memory for what it gave runs out
     pub begun : (from mid now : Option (List ℕ)) (more : List ℕ) (progress : Progress) (old out new : O) → IsUnderWay segmenter style contents from mid progress old out → Consumes mid now more → new ≡ out
         → (new ≡ old) ⊎ IsBegun segmenter style from now (contents old) (contents new)
     begun from mid now more progress old out new (done, read, cut) gave same =
@@ -223,8 +241,8 @@ keeps-nothing None new keeps = tt
 keeps-nothing (Some xs) None keeps = absurd keeps
 keeps-nothing (Some xs) (Some ys) keeps = sym keeps
 
-pub unless-ok : {P : Type 0} (r : Result Found Fault) → P → IfErr r (λ fault. IsReadFault fault → P)
-unless-ok (Ok found) is = tt
+pub unless-ok : {P : Type 0} (r : Result Tally Fault) → P → IfErr r (λ fault. IsReadFault fault → P)
+unless-ok (Ok tally) is = tt
 unless-ok (Err fault) is = λ of_reader. is
 
 -- ---- a block with a line feed
@@ -235,7 +253,7 @@ last-line block last within is = (take last block, take_more block last 0 within
 pub added : (segmenter : Segmenter) (style : Style) (block part lines rest none : List ℕ) (last : ℕ) (before one other after : Progress) (IsUnwritten : Type 0) (old new : Option (List ℕ))
     → last < length block → (slice_index block last == 0x0A) ≡ true → lines ≡ take (last + 1) block → rest ≡ drop (last + 1) block
     → part ≡ before.held.items ++ lines → none ≡ [] → after.held.items ≡ none ++ rest
-    → one.place ≡ before.place → one.segments ≡ before.segments → after.place ≡ other.place → after.segments ≡ other.segments
+    → one.size ≡ before.size → one.segments ≡ before.segments → after.size ≡ other.size → after.segments ≡ other.segments
     → IsPartWritten segmenter style part one other old new → IsAdded segmenter style block before after IsUnwritten old new
 added segmenter style block part lines rest none last before one other after IsUnwritten old new within is front back part-is none-is held-is at count to counted written =
     inr (
@@ -246,8 +264,8 @@ added segmenter style block part lines rest none last before one other after IsU
           ∙ ap₂ (λ (one other : List ℕ). one ++ other) (sym part-is) (sym (held-is ∙ ap (λ (bytes : List ℕ). bytes ++ rest) none-is)),
       record {
         cover = written.cover;
-        place = to ∙ written.place ∙ ap (λ (n : ℕ). n + length part) at;
+        size = to ∙ written.size ∙ ap (λ (size : Size). both_sizes size (size_of part)) at;
         count = counted ∙ written.count ∙ ap (λ (n : ℕ). n + length (segments_by segmenter part)) count;
-        written = subst (λ (place : ℕ). Appends old new (lines_at style place part (segments_by segmenter part))) at written.written;
+        written = subst (λ (size : Size). Appends old new (lines_at style size.bytes part (segments_by segmenter part))) at written.written;
       },
     )
