@@ -4,3 +4,4 @@ mod Whole
 mod Hints
 mod Nearest
 mod Parts
+mod Suppressing

@@ -45,3 +45,4 @@ pub use Rattle.seg_wrap.specs.WrappedLines
 pub mod TextSegments
 pub mod SegmentsLeft
 pub mod NearBoundaries
+pub mod SuppressedLeft
