@@ -1,13 +1,14 @@
 -- The boundaries that abbreviations leave.
-use Rattle.std.proofs.Common.{◌≡◌, ℕ, ◌<◌, Bool, true, false, List, [], ◌∷◌, map, refl, sym, ap, subst, ◌∙◌}
-use Rattle.std.specs.Prelude.{Option, Some, None, filter}
+use Rattle.std.proofs.Common.{◌≡◌, ℕ, Bool, true, false, List, [], ◌∷◌, refl, sym, ap, subst, ◌∙◌}
+use Rattle.std.specs.Prelude.{Some, None}
 use Rattle.std.specs.Iterator.{YieldsFirst}
 use Rattle.seg_text.specs.declared.boundary.Boundary.{Boundary}
-use Rattle.seg_text.specs.Boundaries.{offsets}
-use Rattle.seg_text.specs.Items.{Text}
+use Rattle.seg_text.specs.Boundaries.{boundaries_in, offsets, IsCover}
+use Rattle.seg_text.specs.Items.{IsRising, Text}
 use Rattle.seg_data.specs.WordSets.{Words}
 use Rattle.seg_suppress.specs.Kept.{AreAscending, left_of, stays, IsLater}
-use Rattle.seg_suppress.proofs.Texts.{ascend-any, filter-map, kept-later, kept_of, places_of}
+use Rattle.seg_suppress.specs.Suppression.{without_abbreviated}
+use Rattle.seg_suppress.proofs.Texts.{ascend-any, filter-map, kept-later, kept_of, left-covers, left-in, places_of}
 use Rattle.icu_segmenter.specs.TextSegments.{marked}
 
 marked-offsets : {M : Type 0} (mark : ℕ → M) (boundaries : List Boundary) → offsets boundaries ≡ places_of (marked mark boundaries)
@@ -35,6 +36,11 @@ left-none mark left words joined text before after owed is gives = (
   marked-left mark words joined text (left after) ∙ ap (kept_of words joined text) gives.1,
 )
 
+pub none-ascends : {S M : Type 0} (mark : ℕ → M) (left : S → List Boundary) (before after : S) → YieldsFirst (λ (s : S). marked mark (left s)) before None after
+    → AreAscending (offsets (left after))
+none-ascends mark left before after gives =
+    subst (λ (places : List ℕ). AreAscending places) (sym (marked-offsets mark (left after) ∙ ap places_of gives.1)) tt
+
 module _ {S M : Type 0} (mark : ℕ → M) (left : S → List Boundary) (words : Words) (joined : Bool) (text : Text) (next : Bool) (rest : Text) (before after : S)
     (place : ℕ) (said : M) (gives : YieldsFirst (λ (s : S). marked mark (left s)) before (Some (place, said)) after) (later : IsLater words place joined text next rest)
     (owed : List Boundary) (is : IsLeft mark words joined text (left before) owed) where
@@ -60,3 +66,29 @@ module _ {S M : Type 0} (mark : ℕ → M) (left : S → List Boundary) (words :
 
   pub left-ascends : AreAscending (offsets (left after))
   left-ascends = ascend-any place (offsets (left after)) ascends
+
+-- ---- places alone
+
+pub next-place : {M : Type 0} (mark : ℕ → M) (before after : List Boundary) (place : ℕ) (said : M) → marked mark before ≡ (place, said) ∷ marked mark after
+    → offsets before ≡ place ∷ offsets after
+next-place mark before after place said gives =
+    marked-offsets mark before ∙ ap places_of gives ∙ ap (λ (places : List ℕ). place ∷ places) (sym (marked-offsets mark after))
+
+pub no-place : {M : Type 0} (mark : ℕ → M) (boundaries : List Boundary) → marked mark boundaries ≡ [] → offsets boundaries ≡ []
+no-place mark boundaries none = marked-offsets mark boundaries ∙ ap places_of none
+
+-- ---- all boundaries that stay
+
+pub all-left : (words : Words) (find : List ℕ → List Boundary) (text start : Text) (found left : List Boundary) → IsRising start.items start.end → start ≡ text
+    → found ≡ boundaries_in find text → left ≡ left_of words false start found → left ≡ boundaries_in (without_abbreviated words find) text
+all-left words find text start found left rising same is kept =
+    kept
+    ∙ ap (left_of words false start) (is ∙ ap (boundaries_in find) (sym same))
+    ∙ left-in words find start rising
+    ∙ ap (boundaries_in (without_abbreviated words find)) same
+
+pub all-cover : (words : Words) (text start : Text) (end : ℕ) (found left : List Boundary) → start ≡ text → text.end ≡ end → left ≡ left_of words false start found
+    → IsCover 0 end found → IsCover 0 end left
+all-cover words text start end found left same ends kept cover =
+    subst (λ (boundaries : List Boundary). IsCover 0 end boundaries) (sym kept)
+    (left-covers words start end found (ap (λ (text : Text). text.end) same ∙ ends) cover)

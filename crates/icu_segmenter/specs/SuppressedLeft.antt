@@ -7,15 +7,15 @@ use Rattle.seg_data.specs.ScriptWords.{words_after}
 use Rattle.icu_segmenter.specs.declared.suppress.SuppressedBreaks.{SuppressedBreaks}
 
 -- the boundaries that are still to come, and their places
-abbrev pub suppressed_left : {B U M I : Type 0} → SuppressedBreaks B U M I → List Boundary
+abbrev pub suppressed_left : {B I U M : Type 0} → SuppressedBreaks B I U M → List Boundary
 suppressed_left breaks = breaks.kept
 
-abbrev pub suppressed_places : {B U M I : Type 0} → SuppressedBreaks B U M I → List ℕ
+abbrev pub suppressed_places : {B I U M : Type 0} → SuppressedBreaks B I U M → List ℕ
 suppressed_places breaks = offsets (suppressed_left breaks)
 
 -- the abbreviations, and all boundaries of the sentences
-abbrev pub suppressed_words : {B U M I : Type 0} → SuppressedBreaks B U M I → Words
+abbrev pub suppressed_words : {B I U M : Type 0} → SuppressedBreaks B I U M → Words
 suppressed_words breaks = words_after breaks.words
 
-abbrev pub suppressed_source : {B U M I : Type 0} → SuppressedBreaks B U M I → B
+abbrev pub suppressed_source : {B I U M : Type 0} → SuppressedBreaks B I U M → B
 suppressed_source breaks = breaks.source

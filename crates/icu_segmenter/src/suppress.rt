@@ -44,12 +44,15 @@ pub trait SentenceBreaks: BreakIterator {
 
     /// The same boundaries, but for those before which the text ends with one of these abbreviations. May be asked as long as no
     /// boundary was given. Takes no memory.
-    final fn suppressed_by<'data>(self, abbreviations: &'data Abbreviations) -> SuppressedBreaks<'data, Self, Self::CodePoints>
-        requires found { Self.left self ≡ boundaries_in (Self.find self) (decode (Self.whole self)) }
+    final fn suppressed_by<'data>(
+        self,
+        abbreviations: &'data Abbreviations,
+    ) -> SuppressedBreaks<'data, Self, Self::CodePoints>
+        requires found { Self.left self ≡ boundaries_in (Self.find self) (Self.decode (Self.whole self)) }
         requires cover { IsCover 0 (length (Self.whole self)) (Self.left self) }
-        requires start { Self.CodePoints.text (Self.start self) ≡ decode (Self.whole self) }
-        requires end { (decode (Self.whole self)).end ≡ length (Self.whole self) }
-        ensures boundaries { suppressed_left result ≡ boundaries_in (without_abbreviated (abbreviations_of abbreviations.now) (Self.find self)) (decode (Self.whole self)) }
+        requires start { Self.CodePoints.text (Self.start self) ≡ Self.decode (Self.whole self) }
+        requires end { (Self.decode (Self.whole self)).end ≡ length (Self.whole self) }
+        ensures boundaries { suppressed_left result ≡ boundaries_in (without_abbreviated (abbreviations_of abbreviations.now) (Self.find self)) (Self.decode (Self.whole self)) }
         ensures cover { IsCover 0 (length (Self.whole self)) (suppressed_left result) }
         ensures source { (suppressed_words result ≡ abbreviations_of abbreviations.now) × (suppressed_source result ≡ self) }
     {

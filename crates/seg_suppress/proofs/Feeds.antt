@@ -1,5 +1,5 @@
 -- A text may be split after line feeds, where no abbreviation has one.
-use Rattle.std.proofs.Common.{◌≡◌, ℕ, zero, suc, ◌+◌, ◌<◌, ◌≤◌, Bool, true, false, cond, eqb, List, [], ◌∷◌, ◌++◌, map, take, drop, length, Contains, refl, sym, ap, subst, ◌∙◌, arith, append_assoc, append-nil, length-append}
+use Rattle.std.proofs.Common.{◌≡◌, ℕ, suc, ◌+◌, ◌<◌, ◌≤◌, Bool, true, false, List, [], ◌∷◌, ◌++◌, take, drop, length, Contains, refl, sym, ap, ◌∙◌, arith, append_assoc, append-nil, length-append}
 use Rattle.std.specs.Prelude.{◌&&◌, ◌||◌, ◌==◌, not, nat_lt, filter, if◌then◌else◌}
 use Rattle.std.specs.List.{list_all}
 use Rattle.std.proofs.lemmas.Bool.{eqb-true}
@@ -15,7 +15,7 @@ use Rattle.seg_text.specs.Boundaries.{IsCover, RisesTo, shift, shift_all}
 use Rattle.seg_data.specs.WordSets.{Words, has_empty, tails_after}
 use Rattle.seg_suppress.specs.InLines.{AreInLines}
 use Rattle.seg_suppress.specs.Suppression.{is_abbreviated, is_abbreviated_after, is_letter_or_digit, is_space, is_word_and_spaces, stays_in, without_abbreviated}
-use Rattle.seg_suppress.proofs.Reading.{lt-false, lt-true, no-word}
+use Rattle.seg_suppress.proofs.Reading.{lt-true, no-word}
 use Rattle.seg_suppress.proofs.Texts.{filter-map}
 
 -- ---- words without line feeds
@@ -175,7 +175,7 @@ module _ (words : Words) (none : HaveNoFeeds words) (before second : List ℕ) w
       ∙ rw (
         filter-same (stays_in words (first ++ second)) (stays_in words first) (length first) (find first) stays-first (up-to (length first) (find first) (cover first)),
         filter-map (shift (length first)) (stays_in words (first ++ second)) (stays_in words second) stays-second (drop 1 (find second)),
-        kept-first find (cover second)
+        kept-first find (cover second),
       ) refl
 
 pub in-parts : (words : Words) → AreInLines words → (find : List ℕ → List Boundary) → ((cs : List ℕ) → IsCover 0 (length cs) (find cs))

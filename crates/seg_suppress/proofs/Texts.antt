@@ -1,5 +1,5 @@
 -- Boundaries of a text that stay, and those of its code points.
-use Rattle.std.proofs.Common.{◌≡◌, ℕ, zero, suc, ◌<◌, ◌≤◌, Bool, true, false, cond, List, [], ◌∷◌, map, take, drop, length, refl, sym, ap, ◌∙◌, arith}
+use Rattle.std.proofs.Common.{◌≡◌, ℕ, zero, suc, ◌≤◌, Bool, true, false, cond, List, [], ◌∷◌, map, take, drop, length, refl, sym, ap, ◌∙◌, arith}
 use Rattle.std.specs.Prelude.{◌&&◌, not, nat_lt, filter}
 use Rattle.std.proofs.lemmas.Bool.Decides.{nat_tests}
 use Rattle.std.proofs.lemmas.Bool.{false≢true}
@@ -7,9 +7,9 @@ use Rattle.seg_text.specs.declared.boundary.Boundary.{Boundary}
 use Rattle.seg_text.specs.Boundaries.{IsCover, RisesTo, boundaries_in, boundary_in, offsets}
 use Rattle.seg_text.specs.Items.{Item, IsRising, Text, code_points, place_of}
 use Rattle.seg_data.specs.WordSets.{Words}
-use Rattle.seg_suppress.specs.Suppression.{is_abbreviated, is_abbreviated_after, stays_in, without_abbreviated}
+use Rattle.seg_suppress.specs.Suppression.{is_abbreviated_after, stays_in, without_abbreviated}
 use Rattle.seg_suppress.specs.Kept.{AreAscending, AscendFrom, codes_before, left_of, stays, IsLater}
-use Rattle.seg_suppress.proofs.Reading.{codes-reached, lt-false, lt-true}
+use Rattle.seg_suppress.proofs.Reading.{lt-false, lt-true}
 
 -- ---- filters
 

@@ -8,8 +8,8 @@ ghost use Rattle.icu_segmenter.specs.TextSegments.{marked};
 ghost use Rattle.seg_suppress.specs.Kept.{left_of, AreAscending};
 
 use crate::segments::BreakIterator;
-use seg_suppress::starts::Starts;
 use seg_data::provider::DictionaryCursor;
+use seg_suppress::starts::Starts;
 use seg_text::cursor::Cursor;
 use std::marker::Model;
 
@@ -38,7 +38,7 @@ impl<'data, B: BreakIterator, I: Cursor> Kept<'data, B, I> {
     /// Those of some boundaries, where the cursor stands at the text's start, by words of which nothing was read.
     pub(super) fn new(breaks: B, words: DictionaryCursor<'data>, text: I) -> Self
         requires { AreAscending (offsets (B.left breaks)) }
-        ensures { result ≡ left_of (words_after words) false (I.text text) (B.left breaks) }
+        ensures { result ≡ left_of (words_after words.entry) false (I.text text) (B.left breaks) }
     {
         Kept {
             breaks,
@@ -64,11 +64,11 @@ impl<'data, B: BreakIterator, I: Cursor> Kept<'data, B, I> {
     pub(super) fn next_break(&mut self) -> Option<(usize, B::Mark)>
         ensures { YieldsFirst (λ left. marked B.mark left) self.old result self.new }
     {
-        while let Some((place, mark)) = self.breaks.next_break() {
+        'breaks: loop {
+            let (place, mark) = self.breaks.next_break()?;
             if self.starts.keeps(place) {
                 return Some((place, mark));
             }
         }
-        None
     }
 }

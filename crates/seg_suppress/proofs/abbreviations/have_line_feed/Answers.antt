@@ -1,4 +1,4 @@
-use Rattle.std.proofs.Common.{◌≡◌, ℕ, ◌+◌, ◌<◌, true, List, [], ◌∷◌, ◌++◌, get_or, length, map, take, Contains, inl, inr, refl, subst, sym, ap, ◌∙◌, arith}
+use Rattle.std.proofs.Common.{◌≡◌, ℕ, ◌+◌, ◌<◌, List, get_or, length, take, Contains, inl, inr, subst, sym, ap, ◌∙◌, arith}
 use Rattle.std.specs.Borrow.{Bor}
 use Rattle.std.specs.Str.{chars}
 use Rattle.std.proofs.lemmas.Bool.{false≢true}
@@ -20,7 +20,7 @@ lines-more : (words : List (Bor (List ℕ))) (i : ℕ) (d : Bor (List ℕ)) → 
 lines-more words i d inside in_lines none word has feed =
     let last : List ℕ = chars (get_or words i d).now in
     elim (Contains-push_cases (code_points_of_each (take i words)) last word
-      (subst (λ (all : Words). Contains all word) (map_more (λ (text : Bor (List ℕ)). chars text.now) words i d inside) has)) [
+    (subst (λ (all : Words). Contains all word) (map_more (λ (text : Bor (List ℕ)). chars text.now) words i d inside) has)) [
       | inl before ↦ in_lines word before feed
       | inr is ↦ none (subst (λ (cs : List ℕ). Contains cs 10) (sym is) feed)
     ]

@@ -1,4 +1,4 @@
-use Rattle.seg_suppress.proofs.Reading.{word-false, word-true}
+use Rattle.seg_suppress.proofs.Reading.{word-false}
 use Rattle.seg_suppress.proofs.starts.ends_word.Goals as goal
 
 pub returns-in_default : goal.returns-in_default

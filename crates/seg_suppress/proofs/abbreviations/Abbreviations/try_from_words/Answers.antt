@@ -1,4 +1,3 @@
-use Rattle.std.proofs.Common.{refl}
 use Rattle.seg_suppress.proofs.abbreviations.Abbreviations.try_from_words.Goals as goal
 
 pub invariant_of-result : goal.invariant_of-result

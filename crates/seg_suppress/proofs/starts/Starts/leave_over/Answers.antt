@@ -1,6 +1,5 @@
-use Rattle.std.proofs.Common.{◌∙◌, ap, refl, sym}
-use Rattle.seg_data.specs.ScriptWords.{words_after}
-use Rattle.seg_suppress.proofs.Reading.{later-next, later-none, later-start}
+use Rattle.std.proofs.Common.{refl}
+use Rattle.seg_suppress.proofs.Reading.{later-next, later-start}
 use Rattle.seg_suppress.proofs.starts.Starts.leave_over.Goals as goal
 
 pub loop-self-init : goal.loop-self-init
