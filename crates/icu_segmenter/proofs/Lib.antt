@@ -6,3 +6,4 @@ mod Nearest
 mod Parts
 pub mod Given
 pub mod Filling
+mod Suppressing

@@ -7,6 +7,7 @@
 
 pub mod cursor;
 pub mod segments;
+pub mod suppress;
 
 pub use seg_clusters::grapheme::{GraphemeClusterSegmenter, GraphemeClusterSegmenterBorrowed};
 pub use seg_clusters::sentence::{SentenceSegmenter, SentenceSegmenterBorrowed};

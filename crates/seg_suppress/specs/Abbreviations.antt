@@ -1,0 +1,16 @@
+-- What is seen of abbreviations.
+use Rattle.seg_data.specs.WordSets.{Words}
+use Rattle.seg_data.specs.ScriptWords.{words_of}
+use Rattle.seg_suppress.specs.declared.abbreviations.Abbreviations.{Abbreviations}
+use Rattle.seg_suppress.specs.declared.abbreviations.AbbreviationError.{AbbreviationError}
+use Rattle.seg_suppress.specs.declared.abbreviations.AbbreviationError.TheVariants.{Memory, LineFeed}
+use Rattle.seg_suppress.specs.InLines.{AreInLines}
+
+-- the abbreviations of a set
+abbrev pub abbreviations_of : Abbreviations → Words
+abbreviations_of abbreviations = words_of abbreviations.words
+
+-- why words were refused
+abbrev pub IsRefusal : Words → AbbreviationError → Type 0
+IsRefusal words Memory = Unit {0}
+IsRefusal words LineFeed = AreInLines words → ⊥

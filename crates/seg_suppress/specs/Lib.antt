@@ -1,0 +1,4 @@
+pub mod Suppression
+pub mod InLines
+pub mod Kept
+pub mod Abbreviations
