@@ -46,3 +46,4 @@ pub mod TextSegments
 pub mod SegmentsLeft
 pub mod NearBoundaries
 pub mod SuppressedLeft
+pub mod Suppressing

@@ -1,6 +1,7 @@
 //! Laws of the boundaries of sentences.
 
-ghost use Rattle.seg_text.specs.Boundaries.{HasEqualOrdinals, HasRestart, HasOneAnswer};
+ghost use Rattle.std.specs.Prelude.{ℕ, List, length};
+ghost use Rattle.seg_text.specs.Boundaries.{HasEqualOrdinals, HasRestart, IsCover, HasOneAnswer};
 ghost use Rattle.seg_clusters.specs.Rules.{PartsTexts, ResetsAfter, boundaries_by, first_stretch};
 ghost use Rattle.seg_clusters.specs.Clusters.{sentence_rules};
 
@@ -30,6 +31,13 @@ pub fn restart(segmenter: SentenceSegmenterBorrowed<'_>)
     ensures { HasRestart (boundaries_by (sentence_rules segmenter.entry)) }
 {
     engine::restart(segmenter.engine);
+}
+
+/// Law: the boundaries of a list of code points rise strictly from 0, where the first is, to its length, where the last is.
+pub fn cover(segmenter: SentenceSegmenterBorrowed<'_>)
+    ensures { (code_points : List ℕ) → IsCover 0 (length code_points) (boundaries_by (sentence_rules segmenter.entry) code_points) }
+{
+    engine::cover(segmenter.engine);
 }
 
 /// Law: a text may be parted behind each code point that `resets_after` names: where the first of two texts ends with it, the
