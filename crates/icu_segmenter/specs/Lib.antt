@@ -47,3 +47,4 @@ pub mod SegmentsLeft
 pub mod NearBoundaries
 pub mod Filled
 pub mod SuppressedLeft
+pub mod Suppressing

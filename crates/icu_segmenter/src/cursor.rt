@@ -21,6 +21,7 @@ mod line_starts;
 mod lines;
 mod nearest;
 mod sentences;
+mod suppressed;
 mod texts;
 mod words;
 

@@ -19,13 +19,16 @@ ghost use Rattle.seg_suppress.specs.Abbreviations.{abbreviations_of};
 ghost use Rattle.seg_suppress.specs.Suppression.{without_abbreviated};
 
 mod kept;
+mod segmenter;
 mod sentence_breaks;
 
 use crate::segments::BreakIterator;
 use kept::Kept;
 use seg_data::provider::DictionaryCursor;
 pub use seg_suppress::abbreviations::{AbbreviationError, Abbreviations};
+pub use seg_suppress::laws;
 use seg_text::cursor::Cursor;
+pub use segmenter::SuppressingSegmenter;
 use std::alloc::AllocError;
 
 /// An iterator over the boundaries of sentences.
