@@ -28,6 +28,18 @@ went-on all old now index x left later filling is inside =
     let next : index + 1 ≡ suc index = omega arith in
     rw next (record { rest = rest; some = some; written = ap (λ now. set now index x) filling.written ∙ written })
 
+-- what is left behind one that is gone
+pub behind : {X : Type 0} (all : List X) (index : ℕ) (x : X) (left : List X) → drop index all ≡ x ∷ left → drop (index + 1) all ≡ left
+behind all index x left is =
+    let next : index + 1 ≡ suc index = omega arith in
+    rw next (on all index is)
+  where
+    on : (all : List _) (index : ℕ) → drop index all ≡ x ∷ left → drop (suc index) all ≡ left
+    on [] zero is = cc
+    on [] (suc index) is = cc
+    on (y ∷ all) zero is = cc
+    on (y ∷ all) (suc index) is = on all index is
+
 -- none are left
 pub at-end : {X : Type 0} (room : ℕ) (all old now : List X) (index : ℕ) (left : List X) → Filling all old now index left → left ≡ [] → index < room → TakesFirst room all old now index
 at-end room all old now index left filling is inside =
