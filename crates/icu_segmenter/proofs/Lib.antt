@@ -5,3 +5,4 @@ mod Hints
 mod Nearest
 mod Parts
 mod Suppressing
+mod Sources
