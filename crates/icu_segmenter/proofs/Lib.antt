@@ -7,3 +7,4 @@ mod Parts
 pub mod Given
 pub mod Filling
 mod Suppressing
+mod Sources
