@@ -71,7 +71,7 @@ pub trait SentenceBreaks: BreakIterator {
 }
 
 /// The boundaries of sentences in a text but those that abbreviations suppress, as places: bytes in str, UTF-8 and Latin-1, 16-bit
-/// units in UTF-16. The first is 0, the last the text's length. After None it is None for ever.
+/// units in UTF-16. The first is 0, the last the text's length. After None it stays None.
 ///
 /// It reads the text once more than the sentences do, and again where an abbreviation may begin. Takes no memory.
 #[derive(Drop)]

@@ -10,7 +10,7 @@ use Rattle.seg_suppress.specs.InLines.{AreInLines}
 abbrev pub abbreviations_of : Abbreviations → Words
 abbreviations_of abbreviations = words_of abbreviations.words
 
--- why words were refused: one of them has a line feed, or none, and memory is missing
-abbrev pub IsRefusal : Words → AbbreviationError → Type 0
-IsRefusal words Memory = AreInLines words
-IsRefusal words LineFeed = AreInLines words → ⊥
+-- why words were rejected: one of them has a line feed, or none, and memory is missing
+abbrev pub IsRejection : Words → AbbreviationError → Type 0
+IsRejection words Memory = AreInLines words
+IsRejection words LineFeed = AreInLines words → ⊥

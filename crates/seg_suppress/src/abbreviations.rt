@@ -38,7 +38,7 @@ impl Drop for Abbreviations {
 
 impl Abbreviations {
     ghost use Rattle.seg_data.specs.ScriptWords.{words_after};
-    ghost use Rattle.seg_suppress.specs.Abbreviations.{abbreviations_of, IsRefusal};
+    ghost use Rattle.seg_suppress.specs.Abbreviations.{abbreviations_of, IsRejection};
 
     /// The set of these abbreviations: their order says nothing, and one that is there twice counts once. The empty word suppresses
     /// nothing. One that ends with a space wants that space after it.
@@ -48,7 +48,7 @@ impl Abbreviations {
     pub fn try_from_words(alloc: Global, words: &[&str]) -> Result<Self, AbbreviationError>
         ensures made { IfOk result (λ abbreviations. IsSameSet (abbreviations_of abbreviations) (code_points_of_each words.now)
             × AreInLines (code_points_of_each words.now)) }
-        ensures refused { IfErr result (IsRefusal (code_points_of_each words.now)) }
+        ensures rejected { IfErr result (IsRejection (code_points_of_each words.now)) }
     {
         if have_line_feed(words) {
             return Err(AbbreviationError::LineFeed);

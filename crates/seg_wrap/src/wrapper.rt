@@ -122,7 +122,7 @@ impl<'s> WrappedLine<'s> {
     }
 }
 
-/// The lines of a text, wrapped to columns. After None it is None for ever.
+/// The lines of a text, wrapped to columns. After None it stays None.
 #[derive(Debug)]
 pub struct WrapIterator<'data, 's> {
     text: &'s str,
@@ -215,7 +215,7 @@ impl<'s> WrappedUtf8Line<'s> {
     }
 }
 
-/// The lines of possibly ill-formed UTF-8, wrapped to columns. After None it is None for ever.
+/// The lines of possibly ill-formed UTF-8, wrapped to columns. After None it stays None.
 #[derive(Debug)]
 pub struct WrapUtf8Iterator<'data, 's> {
     bytes: &'s [u8],

@@ -64,7 +64,7 @@ impl<'s> WrappedUtf16Line<'s> {
     }
 }
 
-/// The lines of possibly ill-formed UTF-16, wrapped to columns. After None it is None for ever.
+/// The lines of possibly ill-formed UTF-16, wrapped to columns. After None it stays None.
 #[derive(Debug)]
 pub struct WrapUtf16Iterator<'data, 's> {
     units: &'s [u16],

@@ -6,5 +6,5 @@ invariant_of-result c = record { in_lines = λ word has. c.have_line_feed.ensure
 pub returns-in-Ok-clause-made : goal.returns-in-Ok-clause-made
 returns-in-Ok-clause-made c = (c.in-Ok.ensures.words, c.have_line_feed.ensures.none c.if-have_line_feed.false)
 
-pub returns-in-Err-clause-refused : goal.returns-in-Err-clause-refused
-returns-in-Err-clause-refused c = c.have_line_feed.ensures.none c.if-have_line_feed.false
+pub returns-in-Err-clause-rejected : goal.returns-in-Err-clause-rejected
+returns-in-Err-clause-rejected c = c.have_line_feed.ensures.none c.if-have_line_feed.false
