@@ -1,7 +1,7 @@
 -- A text whose tabs are spaces, field by field.
 use Rattle.std.proofs.Common.{◌≡◌, ℕ, suc, ◌+◌, ◌==◌, ◌||◌, not, Bool, true, false, cond, List, [], ◌∷◌, ◌++◌, take, drop, refl, sym, ap, ap₂, subst, ◌∙◌, append-nil, append_assoc, arith, length}
 use Rattle.std.specs.List.{prefix_len}
-use Rattle.segment_output.specs.Tabs.{expanded, expanded_after, tab_spaces}
+use Rattle.segment_output.specs.Tabs.{expanded_after, tab_spaces}
 
 none-of : (bytes : List ℕ) → length bytes ≡ 0 → bytes ≡ []
 none-of [] is = refl

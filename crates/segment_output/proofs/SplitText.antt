@@ -16,7 +16,7 @@ use Rattle.segment_output.specs.Marks.{mark_of}
 use Rattle.segment_output.specs.Output.{Segment, is_shown, lines_at, lines_of, segment_between, segments}
 use Rattle.segment_output.specs.Parts.{AreLines, IsAdded, IsBegun, IsPartWritten}
 use Rattle.segment_output.specs.Segmenter.{boundaries_by, has_words_alone, marking_by, segments_by}
-use Rattle.segment_output.specs.Size.{both_sizes, line_feeds, size_of}
+use Rattle.segment_output.specs.Size.{both_sizes, size_of}
 use Rattle.segment_output.specs.declared.fault.Fault.{Fault}
 use Rattle.segment_output.specs.declared.found.Size.{Size}
 use Rattle.segment_output.specs.declared.found.Tally.{Tally}
