@@ -42,6 +42,9 @@ pub use Rattle.seg_words.specs.WordRules
 pub use Rattle.seg_words.specs.Words
 pub use Rattle.seg_wrap.specs.Wrapping
 pub use Rattle.seg_wrap.specs.WrappedLines
+pub use Rattle.seg_suppress.specs.Suppression
+pub use Rattle.seg_suppress.specs.InLines
+pub use Rattle.seg_suppress.specs.Abbreviations
 pub mod TextSegments
 pub mod SegmentsLeft
 pub mod NearBoundaries

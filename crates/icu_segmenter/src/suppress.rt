@@ -73,7 +73,8 @@ pub trait SentenceBreaks: BreakIterator {
 /// The boundaries of sentences in a text but those that abbreviations suppress, as places: bytes in str, UTF-8 and Latin-1, 16-bit
 /// units in UTF-16. The first is 0, the last the text's length. After None it stays None.
 ///
-/// It reads the text once more than the sentences do, and again where an abbreviation may begin. Takes no memory.
+/// It reads the text once more than the sentences do, and from each place where an abbreviation may begin as far as one goes on there,
+/// with the spaces after it. Takes no memory.
 #[derive(Drop)]
 pub struct SuppressedBreaks<'data, B: BreakIterator, I: Cursor> {
     kept: Kept<'data, B, I>,
