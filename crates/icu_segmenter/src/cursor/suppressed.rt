@@ -1,9 +1,8 @@
-//! Cursors over the sentences of a text that abbreviations leave.
+//! Whether a text whose sentences abbreviations leave may be split after line feeds.
 
 ghost use Rattle.icu_segmenter.specs.Suppressing.{suppressing_finder};
 
-use crate::cursor::nearest::{nearest_above, nearest_below};
-use crate::cursor::{Segmenter, SegmenterOf};
+use crate::cursor::Segmenter;
 use crate::suppress::SuppressingSegmenter;
 use seg_suppress::laws::parts_behind_line_feeds;
 
@@ -13,33 +12,5 @@ impl<'data> Segmenter for SuppressingSegmenter<'data> {
     fn parts_behind_line_feeds(&self) -> bool {
         parts_behind_line_feeds(self.abbreviations, self.sentences);
         self.sentences.resets_after('\n')
-    }
-}
-
-impl<'data, 's> SegmenterOf<&'s [u8]> for SuppressingSegmenter<'data> {
-    fn cover(&self, text: &'s [u8]) {
-        let _ = self.segment_utf8(text);
-    }
-
-    fn nearest_above(&self, text: &'s [u8], place: usize) -> Option<usize> {
-        nearest_above(self.segment_utf8(text), place)
-    }
-
-    fn nearest_below(&self, text: &'s [u8], place: usize) -> Option<usize> {
-        nearest_below(self.segment_utf8(text), place)
-    }
-}
-
-impl<'data, 's> SegmenterOf<&'s [u16]> for SuppressingSegmenter<'data> {
-    fn cover(&self, text: &'s [u16]) {
-        let _ = self.segment_utf16(text);
-    }
-
-    fn nearest_above(&self, text: &'s [u16], place: usize) -> Option<usize> {
-        nearest_above(self.segment_utf16(text), place)
-    }
-
-    fn nearest_below(&self, text: &'s [u16], place: usize) -> Option<usize> {
-        nearest_below(self.segment_utf16(text), place)
     }
 }
