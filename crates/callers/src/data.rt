@@ -19,7 +19,7 @@ use thiserror::Error;
 pub enum Failure {
     /// The data are rejected.
     #[error("{0}")]
-    Refused(#[from] DataError),
+    Rejected(#[from] DataError),
     /// No memory is left for them.
     #[error("no memory")]
     NoMemory(#[from] AllocError),

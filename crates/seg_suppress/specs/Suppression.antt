@@ -1,19 +1,16 @@
 -- Boundaries of sentences that are left out, because the text before them ends with an abbreviation.
-use Rattle.std.specs.Prelude.{◌≡◌, ℕ, ◌<◌, ◌++◌, ◌⊎◌, ◌==◌, ◌&&◌, ◌||◌, not, nat_le, nat_lt, if◌then◌else◌, Bool, false, List, [], ◌∷◌, All, Contains, IsTrue, filter, length, take}
+use Rattle.std.specs.Prelude.{◌≡◌, ℕ, ◌<◌, ◌++◌, ◌⊎◌, ◌==◌, ◌&&◌, ◌||◌, not, nat_lt, Bool, false, List, [], ◌∷◌, All, Contains, IsTrue, filter, length, take}
 use Rattle.std.specs.List.{list_all}
 use Rattle.std.specs.Char.{is_whitespace}
 use Rattle.std.specs.Char.Unicode.Alphabetic.{is_alphabetic}
 use Rattle.std.specs.Char.Unicode.Numeric.{is_numeric}
+use Rattle.seg_text.specs.Decoding.{character_of}
 use Rattle.seg_text.specs.declared.boundary.Boundary.{Boundary}
 use Rattle.seg_data.specs.WordSets.{Words, has_empty, tails_after}
 
--- the character of a code point: U+FFFD where it is a surrogate
-abbrev pub shown : ℕ → ℕ
-shown c = if nat_lt c 0xD800 || (nat_le 0xE000 c && nat_le c 0x10FFFF) then c else 0xFFFD
-
 -- a letter or a digit
 abbrev pub is_letter_or_digit : ℕ → Bool
-is_letter_or_digit c = is_alphabetic (shown c) || is_numeric (shown c)
+is_letter_or_digit c = is_alphabetic (character_of c) || is_numeric (character_of c)
 
 -- what separates lines or paragraphs: LF, CR and the class Sep of UAX #29
 abbrev pub is_separator : ℕ → Bool
@@ -21,7 +18,7 @@ is_separator c = (c == 0x0A) || (c == 0x0D) || (c == 0x85) || (c == 0x2028) || (
 
 -- a space: any other white space, the class Sp of UAX #29
 abbrev pub is_space : ℕ → Bool
-is_space c = is_whitespace (shown c) && not (is_separator c)
+is_space c = is_whitespace (character_of c) && not (is_separator c)
 
 -- nothing, or code points of which the last is neither a letter nor a digit
 abbrev pub IsApart : List ℕ → Type 0

@@ -1,20 +1,15 @@
 //! Letters, digits and spaces.
 
 ghost use Rattle.std.specs.Prelude.{◌≡◌};
-ghost use Rattle.seg_suppress.specs.Suppression.{is_letter_or_digit, is_separator, is_space, shown};
+ghost use Rattle.seg_suppress.specs.Suppression.{is_letter_or_digit, is_separator, is_space};
 
-/// The character of a code point, and U+FFFD for a surrogate.
-fn shown(code_point: u32) -> char
-    ensures { result ≡ shown code_point }
-{
-    char::from_u32(code_point).unwrap_or(char::REPLACEMENT_CHARACTER)
-}
+use seg_text::character::character_of;
 
 /// Whether a code point is a letter or a digit.
 pub(crate) fn is_letter_or_digit(code_point: u32) -> bool
     ensures { result ≡ is_letter_or_digit code_point }
 {
-    shown(code_point).is_alphanumeric()
+    character_of(code_point).is_alphanumeric()
 }
 
 /// Whether a code point separates lines or paragraphs.
@@ -32,5 +27,5 @@ fn is_separator(code_point: u32) -> bool
 pub(crate) fn is_space(code_point: u32) -> bool
     ensures { result ≡ is_space code_point }
 {
-    shown(code_point).is_whitespace() && !is_separator(code_point)
+    character_of(code_point).is_whitespace() && !is_separator(code_point)
 }

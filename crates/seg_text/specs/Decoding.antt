@@ -1,7 +1,11 @@
 -- Possibly ill-formed UTF-8, by Table 3-7 of the Unicode Standard.
-use Rattle.std.specs.Prelude.{◌≡◌, ℕ, suc, ◌+◌, ◌-◌, ◌*◌, ◌<◌, ◌≤◌, ◌⊎◌, ◌&&◌, ◌==◌, nat_le, nat_lt, List, [], ◌∷◌, length, take, find, Contains, slice_index, if◌then◌else◌, bit_and}
+use Rattle.std.specs.Prelude.{◌≡◌, ℕ, suc, ◌+◌, ◌-◌, ◌*◌, ◌<◌, ◌≤◌, ◌⊎◌, ◌&&◌, ◌||◌, ◌==◌, nat_le, nat_lt, List, [], ◌∷◌, length, take, find, Contains, slice_index, if◌then◌else◌, bit_and}
 use Rattle.std.specs.Option.{option_map_or}
 use Rattle.seg_text.specs.Items.{Item, Text, Reader, Reading, items_by}
+
+-- the character of a code point: U+FFFD where it is a surrogate or none at all
+abbrev pub character_of : ℕ → ℕ
+character_of c = if nat_lt c 0xD800 || (nat_le 0xE000 c && nat_le c 0x10FFFF) then c else 0xFFFD
 
 -- the first and the last byte of a range, with both in it
 abbrev pub Range : Type 0

@@ -2,6 +2,7 @@
 #![tactic(auto)]
 
 pub mod boundary;
+pub mod character;
 pub mod cursor;
 pub mod indices;
 pub mod laws;

@@ -5,10 +5,11 @@ use Rattle.std.specs.List.{list_all}
 use Rattle.std.proofs.lemmas.List.Folds.{list_all-append}
 use Rattle.std.proofs.lemmas.List.{append_assoc, append-nil, length-append, length-map}
 use Rattle.unicode_width.proofs.Rules.{width_or_zero-le}
+use Rattle.seg_text.specs.Decoding.{character_of}
 use Rattle.seg_text.specs.Items.{IsRising, Item, Text, code_points, start_of}
 use Rattle.seg_wrap.specs.declared.extent.Extent.{Extent}
 use Rattle.seg_wrap.specs.Walk.{IsMeasuring, line_extent, joined_extents}
-use Rattle.seg_wrap.specs.Wrapping.{columns_of, is_trailing_space, shown, total_of, width_of}
+use Rattle.seg_wrap.specs.Wrapping.{columns_of, is_trailing_space, total_of, width_of}
 use Rattle.seg_wrap.proofs.Places.{few-items}
 
 pub total-append : (xs ys : List ℕ) → total_of (xs ++ ys) ≡ total_of xs + total_of ys
@@ -62,7 +63,7 @@ columns-grow xs ys = rw (columns-append xs ys) (by (list_all is_trailing_space y
 pub total-most : (cs : List ℕ) → total_of cs ≤ 3 * length cs
 unfolding total_of
 total-most [] = omega arith
-total-most (c ∷ cs) = omega (arith, width_or_zero-le false (shown c), total-most cs)
+total-most (c ∷ cs) = omega (arith, width_or_zero-le false (character_of c), total-most cs)
 
 -- a character by itself
 abbrev one_of : Bool → ℕ → Extent

@@ -1,10 +1,10 @@
 -- Lines of a text, wrapped to so many columns.
-use Rattle.std.specs.Prelude.{ℕ, ◌+◌, ◌-◌, ◌==◌, ◌||◌, ◌&&◌, nat_lt, nat_le, Bool, false, List, [], ◌∷◌, ◌++◌, drop, take, length, if◌then◌else◌, ◌≡◌, ◌<◌, ◌≤◌, map}
+use Rattle.std.specs.Prelude.{ℕ, ◌+◌, ◌-◌, ◌==◌, ◌||◌, ◌&&◌, nat_lt, Bool, false, List, [], ◌∷◌, ◌++◌, drop, take, length, if◌then◌else◌, ◌≡◌, ◌<◌, ◌≤◌, map}
 use Rattle.std.specs.List.{list_all, prefix_len}
 use Rattle.std.specs.Option.{unwrap_or}
 use Rattle.unicode_width.specs.Width.{char_width}
 use Rattle.seg_text.specs.declared.boundary.Boundary.{Boundary}
-use Rattle.seg_text.specs.Decoding.{utf8}
+use Rattle.seg_text.specs.Decoding.{character_of, utf8}
 use Rattle.seg_text.specs.Items.{Item, Text, code_points, rest_after, start_of}
 
 -- ---- columns
@@ -13,13 +13,9 @@ use Rattle.seg_text.specs.Items.{Item, Text, code_points, rest_after, start_of}
 abbrev pub is_trailing_space : ℕ → Bool
 is_trailing_space c = (c == 0x20) || (c == 0xA) || (c == 0xD)
 
--- the character that is shown for a code point: U+FFFD where it is none itself
-abbrev pub shown : ℕ → ℕ
-shown c = if nat_lt c 0xD800 || (nat_le 0xE000 c && nat_le c 0x10FFFF) then c else 0xFFFD
-
 -- the columns of a code point: a character without a width has none
 abbrev pub width_of : ℕ → ℕ
-width_of c = unwrap_or (char_width false (shown c)) 0
+width_of c = unwrap_or (char_width false (character_of c)) 0
 
 -- the columns of characters that others follow in their line: the sum of their widths
 unfoldable pub total_of : List ℕ → ℕ

@@ -3,24 +3,18 @@
 ghost use Rattle.std.specs.Prelude.{◌≡◌, ◌+◌, ◌*◌, ◌≤◌, ◌<◌, ◌^◌, ◌∷◌, [], length};
 ghost use Rattle.seg_text.specs.Items.{code_points, start_of};
 ghost use Rattle.seg_wrap.specs.Walk.{line_extent, joined_extents};
-ghost use Rattle.seg_wrap.specs.Wrapping.{is_trailing_space, shown, width_of};
+ghost use Rattle.seg_wrap.specs.Wrapping.{is_trailing_space, width_of};
 
+use seg_text::character::character_of;
 use seg_text::cursor::Cursor;
 use unicode_width::UnicodeWidthChar;
-
-// The character that is shown for a code point.
-fn shown(code_point: u32) -> char
-    ensures { result ≡ shown code_point }
-{
-    char::from_u32(code_point).unwrap_or(char::REPLACEMENT_CHARACTER)
-}
 
 // The columns of a code point.
 fn width_of(code_point: u32) -> u128
     ensures value { result ≡ width_of code_point }
     ensures bound { result ≤ 3 }
 {
-    match shown(code_point).width() {
+    match character_of(code_point).width() {
         Some(width) => width as u128,
         None => 0,
     }

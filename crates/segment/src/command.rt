@@ -202,15 +202,20 @@ fn json_argument<'a>(alloc: Global) -> Result<Arg<'a>, AllocError> {
 }
 
 fn count_argument<'a>(alloc: Global) -> Result<Arg<'a>, AllocError> {
-    let count = flag(alloc, "count", COUNT_HELP).conflicts_with("offsets")?;
-    let count = count.conflicts_with("raw")?;
-    let count = count.conflicts_with("null")?;
-    count.conflicts_with("json")
+    without_segments(flag(alloc, "count", COUNT_HELP))
+}
+
+// An argument with which no segment is written.
+fn without_segments<'a>(argument: Arg<'a>) -> Result<Arg<'a>, AllocError> {
+    let argument = argument.conflicts_with("offsets")?;
+    let argument = argument.conflicts_with("raw")?;
+    let argument = argument.conflicts_with("null")?;
+    argument.conflicts_with("json")
 }
 
 // A number beside that of the segments.
 fn number_argument<'a>(alloc: Global, name: &'a str, help: &'a str) -> Result<Arg<'a>, AllocError> {
-    flag(alloc, name, help).requires_arg("count")
+    without_segments(flag(alloc, name, help).requires_arg("count")?)
 }
 
 fn engine_argument<'a>(alloc: Global, engines: &'a [&'a str]) -> Arg<'a> {

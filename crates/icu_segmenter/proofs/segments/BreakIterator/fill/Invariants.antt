@@ -1,4 +1,4 @@
--- So many places were written, and what they stand for is gone.
+-- So many places were written, and their boundaries are gone.
 use Rattle.std.proofs.Common.{◌≡◌}
 use Rattle.std.specs.Prelude.{drop}
 use Rattle.icu_segmenter.specs.Boundaries.{offsets}
