@@ -4,6 +4,7 @@ ghost use Rattle.std.specs.Prelude.{◌<◌, length};
 use crate::engine::{Data, ENGINES, are_engines, is_chosen};
 use crate::trial::{PASSES, Trial};
 use anyhow::{Context, Result, ensure};
+use bench::segmenter::Text;
 use std::alloc::{AllocError, Global};
 use std::io::Write;
 use std::rt::{Clock, Files};
@@ -12,7 +13,11 @@ use std::{fs, io};
 // How many bytes a text has at most.
 const TEXT_LEN: usize = 300_000;
 
-const USAGE: &str = "usage: speed [{grapheme,sentence,word,line}-{classic,neo,memo}].. FILE\n";
+// The words of encodings.
+const ENCODINGS: [&str; 4] = ["utf8", "str", "latin1", "utf16"];
+
+const USAGE: &str =
+    "usage: speed [{grapheme,sentence,word,line}-{classic,neo,memo}].. [utf8|str|latin1|utf16] FILE\n";
 
 /// Measures the engines that the words name over the text of the file that the last word names, and
 /// returns the exit status: 0, or 2 where the words are no command's.
@@ -22,23 +27,27 @@ pub fn run<R: AllocGlobal + Files + Clock, O: Write, E: Write>(
     out: &mut O,
     err: &mut E,
 ) -> Result<u8> {
-    let Some((file, engines)) = request_of(words) else {
+    let Some((file, encoding, engines)) = request_of(words) else {
         return refuse(err);
     };
     let bytes = fs::read(rt, file).context("reading the file")?;
     ensure!(!bytes.is_empty(), "the file is empty");
     let text = repeated(rt.alloc(), bytes.as_slice())?;
     let mut trials = trials_of(rt, engines)?;
-    measure(rt, trials.as_mut_slice(), text.as_slice())?;
+    measure_in(rt, trials.as_mut_slice(), encoding, text.as_slice())?;
     print(trials.as_slice(), text.len(), out, err)?;
     Ok(0)
 }
 
-// The file that the words name, and the engines' words before it.
-fn request_of<'a>(words: &'a [&'a str]) -> Option<(&'a str, &'a [&'a str])> {
-    let (file, engines) = words.split_last()?;
+// The file that the words name, the encoding before it, or else UTF-8, and the engines' words before these.
+fn request_of<'a>(words: &'a [&'a str]) -> Option<(&'a str, &'a str, &'a [&'a str])> {
+    let (file, before) = words.split_last()?;
+    let (encoding, engines) = match before.split_last() {
+        Some((word, engines)) if ENCODINGS.contains(word) => (*word, engines),
+        _ => (ENCODINGS[0], before),
+    };
     if are_engines(engines) {
-        Some((file, engines))
+        Some((file, encoding, engines))
     } else {
         None
     }
@@ -73,9 +82,29 @@ fn trials_of<R: AllocGlobal + Clock>(rt: &R, engines: &[&str]) -> Result<Vec<Tri
     Ok(trials)
 }
 
+// Measures the engines over a text in an encoding: in Latin-1 the bytes as they are, in str and UTF-16 what they say in UTF-8.
+fn measure_in<R: AllocGlobal + Clock>(
+    rt: &R,
+    trials: &mut [Trial],
+    encoding: &str,
+    bytes: &[u8],
+) -> Result<()> {
+    let alloc = rt.alloc();
+    let text = String::from_utf8_lossy(alloc, bytes)?;
+    match encoding {
+        "str" => measure(rt, trials, Text::Str(text.as_str())),
+        "latin1" => measure(rt, trials, Text::Latin1(bytes)),
+        "utf16" => {
+            let units: Vec<u16> = text.as_str().encode_utf16().collect(alloc)?;
+            measure(rt, trials, Text::Utf16(units.as_slice()))
+        }
+        _ => measure(rt, trials, Text::Utf8(bytes)),
+    }
+}
+
 // Goes over the text with each engine in turn, and that again and again, so that what disturbs the
 // machine disturbs them all.
-fn measure<R: AllocGlobal + Clock>(rt: &R, trials: &mut [Trial], text: &[u8]) -> Result<()> {
+fn measure<R: AllocGlobal + Clock>(rt: &R, trials: &mut [Trial], text: Text<'_>) -> Result<()> {
     for _ in 0..PASSES {
         for trial in trials.iter_mut() {
             trial.pass(rt, rt.alloc(), text)?;

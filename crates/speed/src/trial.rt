@@ -5,7 +5,7 @@ use crate::making::segmenter_of;
 use crate::segmenter::{memo_tally, tally};
 use crate::tally::Tally;
 use anyhow::Result;
-use bench::segmenter::Segmenter;
+use bench::segmenter::{Segmenter, Text};
 use std::alloc::Global;
 use std::io;
 use std::io::Write;
@@ -45,14 +45,15 @@ impl Trial {
         })
     }
 
-    /// Goes over the text once, a memoised engine with a table of cells that is made anew. The errors that are met are want of
-    /// memory, and a clock that can't be read.
-    pub fn pass<C: Clock>(&mut self, clock: &C, alloc: Global, text: &[u8]) -> Result<()> {
+    /// Goes over the text once, in UTF-8 a memoised engine with a table of cells that is made anew; in other encodings it has no memo. The
+    /// errors that are met are out of memory, and a clock that can't be read.
+    pub fn pass<C: Clock>(&mut self, clock: &C, alloc: Global, text: Text<'_>) -> Result<()> {
         let start = Instant::now(clock)?;
-        self.tally = if self.engine.is_memoised() {
-            memo_tally(alloc, &self.segmenter, text)?
-        } else {
-            tally(&self.segmenter, text)
+        self.tally = match text {
+            Text::Utf8(bytes) if self.engine.is_memoised() => {
+                memo_tally(alloc, &self.segmenter, bytes)?
+            }
+            _ => tally(&self.segmenter, text),
         };
         self.best = self.best.min(start.elapsed(clock)?);
         Ok(())
