@@ -5,7 +5,7 @@
 
 tools/rows/PROGRAM.rows has a row a line: the words after the program's name, what it reads, what it must write, and where the status isn't 0 the status
 and what it must say on standard error, or how that begins where it has no line feed at its end. Texts are Python literals, bytes are written b"..". A line
-`file: NAME, TEXT` makes a file that words may name, and `devices: WORDS, READ, WRITE` has the program run with a standard input that can't be read and a
+`file: NAME, TEXT` makes a file that words may name, `file: NAME, TEXT, COUNT, REST` one that has the text so often, and then the rest, and `devices: WORDS, READ, WRITE` has the program run with a standard input that can't be read and a
 standard output that takes nothing, and says what it must complain of; with `unread: WORDS, STATUS, COMPLAINT` it has the first, and mustn't see it.
 `comes: WORDS, TEXT, WANTED, REST, WANTED` has the first text written while the rest hasn't come. `repeated: WORDS, MORE, TEXT, COUNT, REST` has the text so
 often, and then the rest, and asks whether the same is written with more words. `parts: WORDS, TEXT, COUNT, REST` has
@@ -133,7 +133,9 @@ def read(path, folder_as_input, full):
                 continue
             place, fields = f"{os.path.basename(path)}:{number}", ast.literal_eval(f"({said.strip()},)")
             if kind == "file":
-                found.files[fields[0]] = as_bytes(fields[1])
+                name, text, *more = fields
+                count, rest = more or (1, "")
+                found.files[name] = as_bytes(text) * count + as_bytes(rest)
             elif kind == "devices":
                 found.rows += rows_with_devices(place, *fields, folder_as_input, full)
             elif kind == "unread":

@@ -2,6 +2,7 @@
 use Rattle.std.specs.Prelude.{◌≡◌, ℕ, ◌&&◌, Bool, true, false, Option, None, Some, List, [], ◌++◌, length}
 use Rattle.std.specs.Option.{option_map, option_map_or}
 use Rattle.icu_segmenter.specs.ScriptWords.{ScriptWords}
+use Rattle.icu_segmenter.specs.WordSets.{Words}
 use Rattle.icu_segmenter.specs.declared.options.LineBreakOptions.{LineBreakOptions}
 use Rattle.segment_output.specs.Memo.{IsFoundBy}
 use Rattle.segment_output.specs.Output.{count_line, lines_of}
@@ -98,14 +99,14 @@ AreOptions request options =
     (options.strictness ≡ request.strictness) × (options.word_option ≡ request.word_option)
     × (option_map (λ language. language.now) options.content_locale ≡ request.language)
 
--- work is the one that a request asks for, with the words of scripts
-abbrev pub IsAskedWork : Request → ScriptWords → Work → Type 0
-IsAskedWork request words (Cut segmenter style search) =
+-- work is the one that a request asks for, with the words of scripts, and abbreviations, if there are some
+abbrev pub IsAskedWork : Request → ScriptWords → Option Words → Work → Type 0
+IsAskedWork request words abbreviations (Cut segmenter style search) =
     (kind : Kind) × (engine : Engine) × (request.task ≡ task.Cut kind style engine) × (search ≡ search_by engine)
-    × ((options : LineBreakOptions) × AreOptions request options × IsAskedOf kind engine options words segmenter)
-IsAskedWork request words (Wrap wrapper) =
+    × ((options : LineBreakOptions) × AreOptions request options × IsAskedOf kind engine options words abbreviations segmenter)
+IsAskedWork request words abbreviations (Wrap wrapper) =
     (width : Width) × (request.task ≡ task.Wrap width) × ((options : LineBreakOptions) × AreOptions request options × IsAskedWrapper width options words wrapper)
 
 -- a job is the one that a request asks for
-abbrev pub IsAsked : Request → ScriptWords → Job → Type 0
-IsAsked request words job = (job.preparation ≡ request.preparation) × IsAskedWork request words job.work
+abbrev pub IsAsked : Request → ScriptWords → Option Words → Job → Type 0
+IsAsked request words abbreviations job = (job.preparation ≡ request.preparation) × IsAskedWork request words abbreviations job.work

@@ -1,4 +1,6 @@
+pub mod Abbreviations
 pub mod Command
 pub mod Dictionaries
 pub mod Job
 pub mod Lists
+pub mod Words

@@ -38,7 +38,7 @@ pub struct Request {
     pub strictness: Option<LineBreakStrictness>,
     /// Of lines, whether they break within words.
     pub word_option: Option<LineBreakWordOption>,
-    /// Of lines, the language of the text.
+    /// Of lines and sentences, the language of the text.
     pub language: Option<LanguageIdentifier>,
 }
 
@@ -105,6 +105,14 @@ const ENGINE_HELP: &str =
 const DICTIONARIES_HELP: &str =
     "A folder of such files: thai.txt, lao.txt, khmer.txt, myanmar.txt and cj.txt, as many as there are [env: SEGMENT_DICTIONARIES]";
 
+const ABBREVIATIONS_HELP: &str =
+    "A file of abbreviations, one a line, after which a sentence goes on";
+
+const LISTED_HELP: &str =
+    "The language of the text, as en or en-GB: takes such a file from the folder, as abbreviations-en.txt";
+
+const FOLDER_HELP: &str = "The folder of such files [env: SEGMENT_DICTIONARIES]";
+
 /// The arguments that there are: each kind of segments is a subcommand. Where columns stand in an option, all that isn't one is a file.
 /// Fails only when out of memory.
 pub fn command_line<'a>(alloc: Global, columns: Columns) -> Result<Command<'a>, AllocError> {
@@ -146,7 +154,19 @@ fn sentence_command<'a>(alloc: Global) -> Result<Command<'a>, AllocError> {
     let command = Command::new(alloc, "sentence").about("Writes sentences");
     let command = command.arg(engine_argument(alloc, &ENGINES))?;
     let command = command.arg(flag(alloc, "join", JOIN_HELP))?;
-    with_files(alloc, with_styles(alloc, command)?)
+    let command = with_abbreviations(alloc, with_styles(alloc, command)?)?;
+    with_files(alloc, command)
+}
+
+// Abbreviations go with the default engine: only its texts are split after line feeds.
+fn with_abbreviations<'a>(alloc: Global, command: Command<'a>) -> Result<Command<'a>, AllocError> {
+    let file = option(alloc, "abbreviations", ABBREVIATIONS_HELP).value_name("FILE");
+    let file = file.conflicts_with("lang")?;
+    let command = command.arg(file.conflicts_with("engine")?)?;
+    let language = option(alloc, "lang", LISTED_HELP).value_name("LANGUAGE");
+    let command = command.arg(language.conflicts_with("engine")?)?;
+    let folder = option(alloc, "dictionaries", FOLDER_HELP).value_name("FOLDER");
+    command.arg(folder.requires_arg("lang")?)
 }
 
 fn line_command<'a>(alloc: Global) -> Result<Command<'a>, AllocError> {

@@ -4,18 +4,15 @@ ghost use Rattle.icu_segmenter.specs.ScriptWords.{words_of, script_words};
 ghost use Rattle.segment.specs.Dictionaries.{words_with};
 
 use crate::command::{Task, script_of};
-use crate::folder::folder_dictionaries;
+use crate::folder::{folder_dictionaries, folder_of};
 use crate::lists::{Choice, choice_by};
-use anyhow::{Context, Result, bail, ensure};
+use crate::words::{without_mark, words_in};
+use anyhow::{Context, Result, ensure};
 use clap::ArgMatches;
 use icu_segmenter::provider::{ComplexScript, Dictionaries, DictionaryBreakData};
 use std::alloc::Global;
-use std::env::VarError;
+use std::fs;
 use std::rt::{Env, Files};
-use std::{env, fs};
-
-// What names a folder of lists where the command line names none.
-const VARIABLE: &str = "SEGMENT_DICTIONARIES";
 
 /// The dictionaries that a task has: of the files that are named, one word a line, each in its script's place, and of a folder's lists for
 /// the other scripts. The errors are a file that can't be read, isn't UTF-8 or has no words, and a folder without lists, which are named, and
@@ -39,13 +36,9 @@ fn more_dictionaries<R: AllocGlobal + Files + Env>(
     if choice == Choice::Nothing {
         return Ok(Dictionaries::none());
     }
-    if let Some(folder) = matches.get_str("dictionaries") {
-        return folder_dictionaries(rt, folder, choice);
-    }
-    match env::var(rt, VARIABLE) {
-        Ok(folder) if !folder.is_empty() => folder_dictionaries(rt, folder.as_str(), choice),
-        Ok(_) | Err(VarError::NotPresent) => Ok(Dictionaries::none()),
-        Err(error) => bail!("{VARIABLE}: {error}"),
+    match folder_of(rt, matches)? {
+        Some(folder) => folder_dictionaries(rt, folder.as_str(), choice),
+        None => Ok(Dictionaries::none()),
     }
 }
 
@@ -74,12 +67,7 @@ fn read_dictionary<R: AllocGlobal + Files>(rt: &R, file: &str) -> Result<Diction
 /// The dictionary of a text's lines, without a byte order mark at its start, and but for lines that are empty or white space alone. The
 /// errors are being out of memory, and no words.
 pub fn dictionary_of(alloc: Global, text: &str) -> Result<DictionaryBreakData> {
-    let text = text.strip_prefix('\u{FEFF}').unwrap_or(text);
-    let words: Vec<&str> = text
-        .lines()
-        .map(|line| line.trim())
-        .filter(|word| !word.is_empty())
-        .collect(alloc)?;
+    let words = words_in(alloc, without_mark(text))?;
     ensure!(!words.is_empty(), "the dictionary has no words");
     Ok(DictionaryBreakData::try_from_words(alloc, words.as_slice())?)
 }

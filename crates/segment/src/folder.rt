@@ -5,11 +5,16 @@ ghost use Rattle.segment.specs.Lists.{path_of};
 use crate::dictionary::dictionary_of;
 use crate::lists::{Choice, ReadLists, listed_dictionaries};
 use anyhow::{Context, Result, bail};
+use clap::ArgMatches;
 use icu_segmenter::provider::{Dictionaries, DictionaryBreakData};
 use std::alloc::{AllocError, Global};
-use std::fs;
+use std::env::VarError;
 use std::io::ErrorKind;
-use std::rt::Files;
+use std::rt::{Env, Files};
+use std::{env, fs};
+
+// What names a folder of lists where the command line names none.
+const VARIABLE: &str = "SEGMENT_DICTIONARIES";
 
 // The lists that a folder may have.
 const NAMES: [&str; 5] = ["thai", "lao", "khmer", "myanmar", "cj"];
@@ -38,6 +43,23 @@ impl<'a, R: AllocGlobal + Files> ReadLists for Folder<'a, R> {
     }
 }
 
+/// The folder of lists that the command line names, or else the environment, unless that is empty. The errors are a name that isn't UTF-8,
+/// and being out of memory.
+pub fn folder_of<R: AllocGlobal + Env>(rt: &R, matches: &ArgMatches<'_>) -> Result<Option<String>> {
+    if let Some(folder) = matches.get_str("dictionaries") {
+        return Ok(Some(String::from_str(rt.alloc(), folder)?));
+    }
+    let folder = match env::var(rt, VARIABLE) {
+        Ok(folder) => folder,
+        Err(VarError::NotPresent) => return Ok(None),
+        Err(error) => bail!("{VARIABLE}: {error}"),
+    };
+    if folder.is_empty() {
+        return Ok(None);
+    }
+    Ok(Some(folder))
+}
+
 /// The dictionaries of the lists in a folder that are chosen. The errors are a folder that isn't there or has no list, a list that can't be
 /// read, isn't UTF-8 or has no words, each of which is named, and being out of memory.
 pub fn folder_dictionaries<R: AllocGlobal + Files>(
@@ -61,8 +83,8 @@ fn check_folder<R: AllocGlobal + Files>(rt: &R, path: &str) -> Result<()> {
     bail!("there is no thai.txt, lao.txt, khmer.txt, myanmar.txt or cj.txt in it")
 }
 
-// Where a list stands in a folder.
-fn path_of(alloc: Global, folder: &str, name: &str) -> Result<String, AllocError>
+/// Where a list stands in a folder.
+pub fn path_of(alloc: Global, folder: &str, name: &str) -> Result<String, AllocError>
     ensures { IfOk result (λ path. string_bytes path ≡ path_of folder.now name.now) }
 {
     let mut path = String::new(alloc);

@@ -1,15 +1,17 @@
 //! What a request asks for, with all that it takes.
 ghost use Rattle.std.specs.Prelude.{◌≡◌, IfOk};
+ghost use Rattle.std.specs.Option.{option_map};
+ghost use Rattle.icu_segmenter.specs.Abbreviations.{abbreviations_of};
 ghost use Rattle.icu_segmenter.specs.ScriptWords.{script_words};
 ghost use Rattle.segment.specs.Job.{numbers_of, search_by, AreOptions, IsAsked, IsAskedWork};
 
 use crate::command::{Request, Task};
 use anyhow::Result;
 use icu_segmenter::options::LineBreakOptions;
-use icu_segmenter::provider::Dictionaries;
 use segment_output::output::{Numbers, Style};
 use segment_output::preparation::Preparation;
 use segment_output::segmenter::{Engine, Segmenter, segmenter_of};
+use segment_output::vocabulary::Vocabulary;
 use segment_output::wrapper::{Wrapper, wrapper_of};
 use std::alloc::Global;
 
@@ -52,31 +54,33 @@ impl Job {
     }
 }
 
-/// What a request asks for, with these dictionaries where its kind of segments has some. Fails only when out of memory.
-pub fn job_of(alloc: Global, request: &Request, dictionaries: Dictionaries) -> Result<Job>
-    ensures { IfOk result (λ job. IsAsked request.now (script_words dictionaries) job) }
+/// What a request asks for, with these words where its kind of segments has some. Fails only when out of memory.
+pub fn job_of(alloc: Global, request: &Request, words: Vocabulary) -> Result<Job>
+    ensures { IfOk result (λ job. IsAsked request.now (script_words words.dictionaries) (option_map abbreviations_of words.abbreviations) job) }
 {
-    let work = work_of(alloc, request, dictionaries)?;
+    let work = work_of(alloc, request, words)?;
     Ok(Job {
         preparation: request.preparation,
         work,
     })
 }
 
-fn work_of(alloc: Global, request: &Request, dictionaries: Dictionaries) -> Result<Work>
-    ensures { IfOk result (λ work. IsAskedWork request.now (script_words dictionaries) work) }
+fn work_of(alloc: Global, request: &Request, words: Vocabulary) -> Result<Work>
+    ensures { IfOk result (λ work. IsAskedWork request.now (script_words words.dictionaries) (option_map abbreviations_of words.abbreviations) work) }
 {
     match request.task {
         Task::Cut(kind, style, engine) => {
-            let segmenter = segmenter_of(alloc, kind, engine, options_of(request), dictionaries)?;
+            let segmenter = segmenter_of(alloc, kind, engine, options_of(request), words)?;
             Ok(Work::Cut(segmenter, style, search_by(engine)))
         }
-        Task::Wrap(width) => Ok(Work::Wrap(wrapper_of(
-            alloc,
-            width,
-            options_of(request),
-            dictionaries,
-        )?)),
+        Task::Wrap(width) => {
+            let Vocabulary {
+                dictionaries,
+                abbreviations: _,
+            } = words;
+            let wrapper = wrapper_of(alloc, width, options_of(request), dictionaries)?;
+            Ok(Work::Wrap(wrapper))
+        }
     }
 }
 

@@ -2,6 +2,7 @@
 //! or how many there are, or wraps lines to columns.
 #![tactic(auto)]
 
+mod abbreviations;
 mod command;
 mod dictionary;
 mod files;
@@ -9,7 +10,9 @@ mod folder;
 mod job;
 mod lists;
 mod run;
+mod words;
 
+use abbreviations::{Place, abbreviations_at, place_of};
 use anyhow::{Result, bail};
 use clap::ArgMatches;
 use clap::error::ErrorKind;
@@ -17,6 +20,7 @@ use command::{Request, columns_by, command_line, request_of};
 use dictionary::dictionaries_of;
 use files::run_all;
 use job::job_of;
+use segment_output::vocabulary::Vocabulary;
 use std::env;
 use std::process::ExitCode;
 
@@ -70,10 +74,31 @@ fn refuse<E: std::fmt::Display>(rt: &HostRuntime, error: &E) -> Result<ExitCode>
     Ok(ExitCode::from(USAGE_STATUS))
 }
 
-// Does it to the files that are named.
+// Reads the lists that a request takes, and does it to the files. A language whose list is in no folder is a wrong command line.
 fn run_request(rt: &HostRuntime, request: &Request, matches: &ArgMatches<'_>) -> Result<ExitCode> {
-    let dictionaries = dictionaries_of(rt, request.task, matches)?;
-    let job = job_of(rt.alloc(), request, dictionaries)?;
+    let place = place_of(rt, request, matches)?;
+    if let Place::InNoFolder = &place {
+        return refuse(
+            rt,
+            &"'--lang <LANGUAGE>' needs '--dictionaries <FOLDER>' or SEGMENT_DICTIONARIES",
+        );
+    }
+    let abbreviations = abbreviations_at(rt, &place)?;
+    let words = Vocabulary {
+        dictionaries: dictionaries_of(rt, request.task, matches)?,
+        abbreviations,
+    };
+    run_files(rt, request, words, matches)
+}
+
+// Does what a request asks for to the files that are named.
+fn run_files(
+    rt: &HostRuntime,
+    request: &Request,
+    words: Vocabulary,
+    matches: &ArgMatches<'_>,
+) -> Result<ExitCode> {
+    let job = job_of(rt.alloc(), request, words)?;
     match matches.get_strs("file") {
         Some(names) => Ok(run_all(rt, &job, names)),
         None => Ok(run_all(rt, &job, &[])),

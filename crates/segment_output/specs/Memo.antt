@@ -1,5 +1,5 @@
 -- What a memoised engine finds, and by how many look-ups.
-use Rattle.std.specs.Prelude.{◌≡◌, ◌≤◌, ℕ, Option, Some, List, [], length}
+use Rattle.std.specs.Prelude.{◌≡◌, ◌≤◌, ℕ, Option, None, Some, List, [], length}
 use Rattle.std.specs.Iterator.{YieldsFirst}
 use Rattle.icu_segmenter.specs.Configurations.{AreLookedUp, configurations, subject}
 use Rattle.icu_segmenter.specs.Items.{Text, code_points, rest_after}
@@ -17,7 +17,7 @@ use Rattle.segment_output.specs.Output.{Segment}
 use Rattle.segment_output.specs.Segmenter.{segments_by}
 use Rattle.segment_output.specs.declared.found.Found.{Found}
 use Rattle.segment_output.specs.declared.segmenter.Segmenter.{Segmenter}
-use Rattle.segment_output.specs.declared.segmenter.Segmenter.TheVariants.{Clusters, Words, WordsAlone, Sentences, Lines}
+use Rattle.segment_output.specs.declared.segmenter.Segmenter.TheVariants.{Clusters, Words, WordsAlone, Sentences, Suppressing, Lines}
 
 -- a call of an iterator over a memo gave the first of what was left, and the memo's machine and text stay
 abbrev pub StepsMemo : {S A : Type 0} → (S → Memo) → (S → List A) → S → Option A → S → Type 0
@@ -42,6 +42,7 @@ machine_by (Clusters clusters) = machine_in (owned_cluster_rules clusters)
 machine_by (Words words) = machine_in (owned_word_rules words).rules
 machine_by (WordsAlone words) = machine_in (owned_word_rules words).rules
 machine_by (Sentences sentences) = machine_in (owned_sentence_rules sentences)
+machine_by (Suppressing sentences abbreviations) = None
 machine_by (Lines lines) = machine_of_lines (owned_line_rules lines)
 
 -- all segments of some bytes were found by a segmenter's machine, which looked up no configuration twice

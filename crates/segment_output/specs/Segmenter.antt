@@ -1,5 +1,7 @@
 -- The segments that each segmenter gives, and which one is made.
-use Rattle.std.specs.Prelude.{◌≡◌, ℕ, Bool, true, false, None, List}
+use Rattle.std.specs.Prelude.{◌≡◌, ℕ, Bool, true, false, Option, None, Some, List}
+use Rattle.icu_segmenter.specs.Abbreviations.{abbreviations_of}
+use Rattle.icu_segmenter.specs.Boundaries.{boundaries_in}
 use Rattle.icu_segmenter.specs.Boundary.{Boundary}
 use Rattle.icu_segmenter.specs.Clusters.{owned_cluster_rules, owned_sentence_rules}
 use Rattle.icu_segmenter.specs.LineBreaks.{LineRules, line_boundaries_of, table_lines, turn_lines, lines_with_words}
@@ -7,11 +9,14 @@ use Rattle.icu_segmenter.specs.LineRules.{style_of}
 use Rattle.icu_segmenter.specs.Lines.{chosen_rules, owned_line_rules, without_ja}
 use Rattle.icu_segmenter.specs.Options.{machine_choice}
 use Rattle.icu_segmenter.specs.Rules.{Rules, boundaries_of}
+use Rattle.icu_segmenter.specs.Rules.{boundaries_by as found_by}
 use Rattle.icu_segmenter.specs.Rules.Rules.{ByTable, ByMachine}
 use Rattle.icu_segmenter.specs.ScriptWords.{ScriptWords, no_words}
+use Rattle.icu_segmenter.specs.Suppression.{without_abbreviated}
 use Rattle.icu_segmenter.specs.TextSegments.{marked}
 use Rattle.icu_segmenter.specs.Decoding.{utf8}
 use Rattle.icu_segmenter.specs.WordRules.{WordRules, machine_words, table_words, word_boundaries_of}
+use Rattle.icu_segmenter.specs.WordSets.{Words as WordSet}
 use Rattle.icu_segmenter.specs.Words.{owned_word_rules}
 use Rattle.icu_segmenter.specs.declared.options.LineBreakOptions.{LineBreakOptions}
 use Rattle.icu_segmenter_data.specs.Unicode.{cluster_table, line_table, line_17_table, sentence_table, word_table}
@@ -28,7 +33,11 @@ use Rattle.segment_output.specs.declared.segmenter.Kind.TheVariants as kind
 use Rattle.segment_output.specs.declared.marks.Marking.{Marking}
 use Rattle.segment_output.specs.declared.marks.Marking.TheVariants as marking
 use Rattle.segment_output.specs.declared.segmenter.Segmenter.{Segmenter}
-use Rattle.segment_output.specs.declared.segmenter.Segmenter.TheVariants.{Clusters, Words, WordsAlone, Sentences, Lines}
+use Rattle.segment_output.specs.declared.segmenter.Segmenter.TheVariants.{Clusters, Words, WordsAlone, Sentences, Suppressing, Lines}
+
+-- how sentences are found in a list of code points by some rules, where they go on after abbreviations
+abbrev pub suppressed_finder : Rules → WordSet → List ℕ → List Boundary
+suppressed_finder rules abbreviations = without_abbreviated abbreviations (found_by rules)
 
 -- the boundaries of some bytes, which are seen as UTF-8
 abbrev pub boundaries_by : Segmenter → List ℕ → List Boundary
@@ -36,6 +45,7 @@ boundaries_by (Clusters clusters) bytes = boundaries_of (owned_cluster_rules clu
 boundaries_by (Words words) bytes = word_boundaries_of (owned_word_rules words) (utf8 bytes)
 boundaries_by (WordsAlone words) bytes = word_boundaries_of (owned_word_rules words) (utf8 bytes)
 boundaries_by (Sentences sentences) bytes = boundaries_of (owned_sentence_rules sentences) (utf8 bytes)
+boundaries_by (Suppressing sentences abbreviations) bytes = boundaries_in (suppressed_finder (owned_sentence_rules sentences) (abbreviations_of abbreviations)) (utf8 bytes)
 boundaries_by (Lines lines) bytes = line_boundaries_of (owned_line_rules lines) (utf8 bytes)
 
 -- what they say of the segments that end there
@@ -44,6 +54,7 @@ marking_by (Clusters clusters) = marking.Nothing
 marking_by (Words words) = marking.Types
 marking_by (WordsAlone words) = marking.Types
 marking_by (Sentences sentences) = marking.Nothing
+marking_by (Suppressing sentences abbreviations) = marking.Nothing
 marking_by (Lines lines) = marking.Ends
 
 -- are words alone shown
@@ -52,6 +63,7 @@ has_words_alone (Clusters clusters) = false
 has_words_alone (Words words) = false
 has_words_alone (WordsAlone words) = true
 has_words_alone (Sentences sentences) = false
+has_words_alone (Suppressing sentences abbreviations) = false
 has_words_alone (Lines lines) = false
 
 -- the segments of such bytes
@@ -89,10 +101,13 @@ line_rules_of engine.Memo options = chosen_rules line_machine line_tailorings cl
 abbrev pub line_rules_by : Engine → LineBreakOptions → ScriptWords → LineRules
 line_rules_by engine options words = lines_with_words (line_rules_of engine options) (without_ja words)
 
--- a segmenter is that of a kind: by an engine over Unicode's data, with options of lines and the words of scripts
-abbrev pub IsAskedOf : Kind → Engine → LineBreakOptions → ScriptWords → Segmenter → Type 0
-IsAskedOf asked engine options words (Clusters clusters) = (asked ≡ kind.Clusters) × (owned_cluster_rules clusters ≡ cluster_rules_by engine)
-IsAskedOf asked engine options words (Words segmenter) = (asked ≡ kind.Words) × (owned_word_rules segmenter ≡ word_rules_by engine words)
-IsAskedOf asked engine options words (WordsAlone segmenter) = (asked ≡ kind.WordsAlone) × (owned_word_rules segmenter ≡ word_rules_by engine words)
-IsAskedOf asked engine options words (Sentences sentences) = (asked ≡ kind.Sentences) × (owned_sentence_rules sentences ≡ sentence_rules_by engine)
-IsAskedOf asked engine options words (Lines lines) = (asked ≡ kind.Lines) × (owned_line_rules lines ≡ line_rules_by engine options words)
+-- a segmenter is that of a kind: by an engine over Unicode's data, with options of lines, the words of scripts, and abbreviations, if there are some
+abbrev pub IsAskedOf : Kind → Engine → LineBreakOptions → ScriptWords → Option WordSet → Segmenter → Type 0
+IsAskedOf asked engine options words abbreviations (Clusters clusters) = (asked ≡ kind.Clusters) × (owned_cluster_rules clusters ≡ cluster_rules_by engine)
+IsAskedOf asked engine options words abbreviations (Words segmenter) = (asked ≡ kind.Words) × (owned_word_rules segmenter ≡ word_rules_by engine words)
+IsAskedOf asked engine options words abbreviations (WordsAlone segmenter) = (asked ≡ kind.WordsAlone) × (owned_word_rules segmenter ≡ word_rules_by engine words)
+IsAskedOf asked engine options words abbreviations (Sentences sentences) =
+    (asked ≡ kind.Sentences) × (abbreviations ≡ None) × (owned_sentence_rules sentences ≡ sentence_rules_by engine)
+IsAskedOf asked engine options words abbreviations (Suppressing sentences known) =
+    (asked ≡ kind.Sentences) × (abbreviations ≡ Some (abbreviations_of known)) × (owned_sentence_rules sentences ≡ sentence_rules_by engine)
+IsAskedOf asked engine options words abbreviations (Lines lines) = (asked ≡ kind.Lines) × (owned_line_rules lines ≡ line_rules_by engine options words)

@@ -16,5 +16,6 @@ pub mod preparation;
 pub mod segmenter;
 mod stretch;
 pub mod tabs;
+pub mod vocabulary;
 mod wrapped;
 pub mod wrapper;

@@ -29,7 +29,7 @@ type Memo<'data, 's> = MemoBreakIterator<
 
 /// Writes just what `Segmenter::print` writes, and flushes, but looks up no configuration of the machine twice: the look-ups are as
 /// many as there are different configurations that the scans of the segments look up. The errors are those of `with_memo`, which are met
-/// before anything is written, the writer's, and being out of memory.
+/// before anything is written, and `NotNeo` where there are abbreviations; the writer's, and being out of memory.
 pub fn print_by_memo<O: Write>(
     alloc: Global,
     segmenter: &Segmenter,
@@ -90,6 +90,7 @@ pub fn print_by_memo<O: Write>(
                 out,
             )
         }
+        Segmenter::Suppressing(_, _) => Err(Fault::Memo(MemoError::NotNeo)),
         Segmenter::Lines(lines) => {
             let lines = lines.as_borrowed().segment_utf8(text);
             print_memo(

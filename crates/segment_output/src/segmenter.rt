@@ -1,23 +1,28 @@
 //! Segmenters by Unicode's data.
 ghost use Rattle.std.specs.Prelude.{◌≡◌, length, IfOk, IsTrue};
+ghost use Rattle.std.specs.Option.{option_map};
 ghost use Rattle.std.specs.Io.KnownBytes.{Appends};
 ghost use Rattle.segment_output.specs.Output.{lines_at, lines_of, segments};
+ghost use Rattle.icu_segmenter.specs.Abbreviations.{abbreviations_of};
 ghost use Rattle.icu_segmenter.specs.Boundaries.{IsCover};
 ghost use Rattle.icu_segmenter.specs.Clusters.{owned_cluster_rules, owned_sentence_rules};
 ghost use Rattle.icu_segmenter.specs.Lines.{owned_line_rules};
 ghost use Rattle.icu_segmenter.specs.NearBoundaries.{line_feed};
 ghost use Rattle.icu_segmenter.specs.Rules.{PartsBehind};
 ghost use Rattle.icu_segmenter.specs.ScriptWords.{script_words};
+ghost use Rattle.icu_segmenter.specs.Suppressing.{suppressing_finder};
 ghost use Rattle.icu_segmenter.specs.TextSegments.{marked};
 ghost use Rattle.icu_segmenter.specs.Words.{owned_word_rules};
-ghost use Rattle.segment_output.specs.Segmenter.{boundaries_by, cluster_rules_by, line_rules_by, line_rules_of, segments_by, sentence_rules_by, word_rules_by, IsAskedOf};
+ghost use Rattle.segment_output.specs.Segmenter.{boundaries_by, cluster_rules_by, line_rules_by, line_rules_of, segments_by, sentence_rules_by, suppressed_finder, word_rules_by, IsAskedOf};
 
 use crate::marks::{HasMark, Marked};
 use crate::output::{Style, print_segments};
+use crate::vocabulary::Vocabulary;
 use icu_segmenter::cursor::{Segmenter as Cursor, SegmenterOf};
 use icu_segmenter::options::LineBreakOptions;
 use icu_segmenter::provider::{DataError, Dictionaries};
 use icu_segmenter::segments::BreakIterator;
+use icu_segmenter::suppress::{Abbreviations, SuppressingSegmenter};
 use icu_segmenter::{GraphemeClusterSegmenter, LineSegmenter, SentenceSegmenter, WordSegmenter};
 use icu_segmenter_data::classic;
 use std::alloc::Global;
@@ -63,6 +68,8 @@ pub enum Segmenter {
     WordsAlone(WordSegmenter),
     /// Of sentences.
     Sentences(SentenceSegmenter),
+    /// Of sentences, which go on after these abbreviations.
+    Suppressing(SentenceSegmenter, Abbreviations),
     /// Of lines.
     Lines(LineSegmenter),
 }
@@ -96,6 +103,10 @@ impl Segmenter {
             }
             Segmenter::Sentences(sentences) => {
                 let places = sentences.as_borrowed().segment_utf8(part);
+                print_breaks(alloc, places, false, part, before, style, out)
+            }
+            Segmenter::Suppressing(sentences, abbreviations) => {
+                let places = suppressing(sentences, abbreviations).segment_utf8(part);
                 print_breaks(alloc, places, false, part, before, style, out)
             }
             Segmenter::Lines(lines) => {
@@ -150,6 +161,9 @@ impl Segmenter {
             Segmenter::Words(words) => words.as_borrowed().parts_behind_line_feeds(),
             Segmenter::WordsAlone(words) => words.as_borrowed().parts_behind_line_feeds(),
             Segmenter::Sentences(sentences) => sentences.as_borrowed().parts_behind_line_feeds(),
+            Segmenter::Suppressing(sentences, abbreviations) => {
+                suppressing(sentences, abbreviations).parts_behind_line_feeds()
+            }
             Segmenter::Lines(lines) => lines.as_borrowed().parts_behind_line_feeds(),
         }
     }
@@ -163,21 +177,44 @@ impl Segmenter {
             Segmenter::Words(words) => words.as_borrowed().cover(text),
             Segmenter::WordsAlone(words) => words.as_borrowed().cover(text),
             Segmenter::Sentences(sentences) => sentences.as_borrowed().cover(text),
+            Segmenter::Suppressing(sentences, abbreviations) => {
+                let_go(suppressing(sentences, abbreviations).segment_utf8(text))
+            }
             Segmenter::Lines(lines) => lines.as_borrowed().cover(text),
         }
     }
 }
 
-/// The segmenter of a kind by an engine, with these options of lines and these dictionaries where its kind has some. Fails only when out of memory.
+// What finds sentences, which go on after these abbreviations.
+fn suppressing<'data>(
+    sentences: &'data SentenceSegmenter,
+    abbreviations: &'data Abbreviations,
+) -> SuppressingSegmenter<'data>
+    ensures { suppressing_finder result ≡ suppressed_finder (owned_sentence_rules sentences.now) (abbreviations_of abbreviations.now) }
+{
+    SuppressingSegmenter {
+        sentences: sentences.as_borrowed(),
+        abbreviations,
+    }
+}
+
+// Drops an iterator. Of the boundaries that abbreviations leave, that is proved in generic code alone.
+fn let_go<B: BreakIterator>(_breaks: B) {}
+
+/// The segmenter of a kind by an engine, with these options of lines and these words where its kind has some. Fails only when out of memory.
 pub fn segmenter_of(
     alloc: Global,
     kind: Kind,
     engine: Engine,
     options: LineBreakOptions<'_>,
-    dictionaries: Dictionaries,
+    words: Vocabulary,
 ) -> Result<Segmenter, DataError>
-    ensures { IfOk result (λ segmenter. IsAskedOf kind engine options.entry (script_words dictionaries) segmenter) }
+    ensures { IfOk result (λ segmenter. IsAskedOf kind engine options.entry (script_words words.dictionaries) (option_map abbreviations_of words.abbreviations) segmenter) }
 {
+    let Vocabulary {
+        dictionaries,
+        abbreviations,
+    } = words;
     match kind {
         Kind::Clusters => Ok(Segmenter::Clusters(cluster_segmenter(alloc, engine)?)),
         Kind::Words => Ok(Segmenter::Words(word_segmenter(alloc, engine, dictionaries)?)),
@@ -185,7 +222,13 @@ pub fn segmenter_of(
             let words = word_segmenter(alloc, engine, dictionaries)?;
             Ok(Segmenter::WordsAlone(words))
         }
-        Kind::Sentences => Ok(Segmenter::Sentences(sentence_segmenter(alloc, engine)?)),
+        Kind::Sentences => {
+            let sentences = sentence_segmenter(alloc, engine)?;
+            match abbreviations {
+                Some(abbreviations) => Ok(Segmenter::Suppressing(sentences, abbreviations)),
+                None => Ok(Segmenter::Sentences(sentences)),
+            }
+        }
         Kind::Lines => {
             let lines = line_segmenter(alloc, engine, options, dictionaries)?;
             Ok(Segmenter::Lines(lines))

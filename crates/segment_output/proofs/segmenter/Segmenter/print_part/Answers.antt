@@ -1,5 +1,6 @@
 -- Each iterator has all the boundaries left when it is made.
 use Rattle.std.proofs.Common.{true, false, ap, ◌∙◌}
+use Rattle.icu_segmenter.specs.Boundaries.{boundaries_in}
 use Rattle.icu_segmenter.specs.LineBreaks.{LineRules, line_boundaries_of}
 use Rattle.icu_segmenter.specs.Rules.{Rules, boundaries_of}
 use Rattle.icu_segmenter.specs.Decoding.{utf8}
@@ -33,6 +34,12 @@ returns-in-Sentences g c =
     rw c.in-Sentences.is
     (all-printed false (mark_of marking.Nothing) (λ found. lines_at c.args.style c.args.before c.args.part.now found) _ _ _ _ _
     (c.segment_utf8-places-in-Sentences.ensures.boundaries ∙ ap (λ (rules : Rules). boundaries_of rules (utf8 c.args.part.now)) c.as_borrowed-in-Sentences.ensures) c.print_breaks-in-Sentences.ensures)
+
+pub returns-in-Suppressing : goal.returns-in-Suppressing
+returns-in-Suppressing g c =
+    rw c.in-Suppressing.is
+    (all-printed false (mark_of marking.Nothing) (λ found. lines_at c.args.style c.args.before c.args.part.now found) _ _ _ _ _
+    (c.segment_utf8-places-in-Suppressing.ensures.boundaries ∙ ap (λ find. boundaries_in find (utf8 c.args.part.now)) c.suppressing.ensures) c.print_breaks-in-Suppressing.ensures)
 
 pub returns-in-Lines : goal.returns-in-Lines
 returns-in-Lines g c =

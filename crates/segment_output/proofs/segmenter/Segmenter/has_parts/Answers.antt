@@ -1,0 +1,14 @@
+-- Abbreviations leave line feeds as they are.
+use Rattle.std.proofs.Common.{ℕ, List, subst}
+use Rattle.icu_segmenter.specs.Boundary.{Boundary}
+use Rattle.icu_segmenter.specs.Boundaries.{boundaries_in}
+use Rattle.icu_segmenter.specs.Decoding.{utf8}
+use Rattle.icu_segmenter.specs.NearBoundaries.{line_feed}
+use Rattle.icu_segmenter.specs.Rules.{PartsBehind}
+use Rattle.segment_output.proofs.segmenter.Segmenter.has_parts.Goals as goal
+
+pub returns-in-Suppressing : goal.returns-in-Suppressing
+returns-in-Suppressing c =
+    rw c.in-Suppressing.is
+    (λ is.
+    subst (λ (find : List ℕ → List Boundary). PartsBehind (λ bytes. boundaries_in find (utf8 bytes)) line_feed) c.suppressing.ensures (c.parts_behind_line_feeds-in-Suppressing.ensures.utf8 is))
