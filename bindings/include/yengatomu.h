@@ -60,7 +60,8 @@ enum { YENGATOMU_MAY_BREAK, YENGATOMU_MUST_BREAK };
  * If it isn't YENGATOMU_OK, the slot is empty. */
 uint32_t yengatomu_open(yengatomu_slot *slot, uint32_t kind, uint32_t strictness, uint32_t word_break, bool chinese_or_japanese);
 
-/* Gives a segmenter of words or lines the words of a script that is written without spaces, if it has none of that script yet.
+/* Gives a segmenter of words or lines the words of a script that is written without spaces, if it has none of that script yet;
+ * otherwise nothing changes, and it is YENGATOMU_OK. A list of no words counts as one: to load another, open the slot anew.
  * Of lines YENGATOMU_CHINESE_OR_JAPANESE changes nothing. YENGATOMU_NO_SUCH for another number, another kind or an empty slot,
  * YENGATOMU_NOT_UTF8 where a word is ill-formed. If it isn't YENGATOMU_OK, the slot is as it was. */
 uint32_t yengatomu_load_dictionary(yengatomu_slot *slot, const yengatomu_word *words, size_t count, uint32_t script);
@@ -69,7 +70,7 @@ uint32_t yengatomu_load_dictionary(yengatomu_slot *slot, const yengatomu_word *w
 void yengatomu_close(yengatomu_slot *slot);
 
 /* Writes the first boundaries above from to out, as many as there is room for, and returns how many: those of the text from there on,
- * taken alone. Its last is len. Where from is 0, or a boundary and the slot has no dictionary, they are the boundaries of the whole
+ * taken alone. The last of all is len; a room of len holds them all, and a room of 0 gives 0. Where from is 0, or a boundary and the slot has no dictionary, they are the boundaries of the whole
  * text: so go on from the last one, until 0 is returned. With a dictionary go on only from behind a line feed.
  * 0 where from is len or more, and where the slot is empty. */
 size_t yengatomu_boundaries(yengatomu_slot *slot, const uint8_t *text, size_t len, size_t from, size_t *out, size_t room);
@@ -91,7 +92,8 @@ size_t yengatomu_previous_utf16(yengatomu_slot *slot, const uint16_t *text, size
 
 /* Writes where the first lines end that the text from there on is wrapped to, as many as there is room for, and returns how many.
  * A line takes as many segments as fit in the columns, at least one, and ends where it must. Spaces, line feeds and carriage returns
- * at its end take no columns. 0 of other kinds than lines. */
+ * at its end take no columns. Go on as with yengatomu_boundaries. 0 where from is len or more, where the slot is empty, and of other
+ * kinds than lines. */
 size_t yengatomu_wrap(yengatomu_slot *slot, const uint8_t *text, size_t len, size_t from, size_t columns, size_t *ends, size_t room);
 size_t yengatomu_wrap_utf16(yengatomu_slot *slot, const uint16_t *text, size_t len, size_t from, size_t columns, size_t *ends, size_t room);
 /* The same, with how many columns each line takes. It writes as many as both buffers have room for. */

@@ -1,6 +1,6 @@
 """Measures how long the package takes for texts of 10 MB.
 
-    python3 speed.py FILE..
+    YENGATOMU_LIB_DIR=../lib python3 speed.py FILE..
 
 Of each file, repeated or cut off to 10 MB, and each kind: seconds for all boundaries of the str and of its bytes, for all segments as str, and for counting
 them; the best of three. Of lines also for wrapping to 80 columns.
