@@ -5,7 +5,7 @@
 mod rows;
 mod texts;
 
-use anyhow::{Context, Result};
+use anyhow::{Result, bail};
 use icu_segmenter_uax14::line_machine;
 use icu_segmenter_uax29::{cluster_machine, sentence_machine, word_machine};
 use rows::{clusters, lines, refused, sentences, words};
@@ -16,52 +16,95 @@ use seg_rules::rules::Rules;
 use std::alloc::Global;
 use texts::{have_same, text_of};
 
+/// Rules, with the name of what they find, and how many symbols there are beside the end of a text.
+#[derive(Clone, Copy)]
+struct Kind<'a> {
+    name: &'a str,
+    rules: &'a Rules<'a>,
+    symbols: usize,
+}
+
 fn main(rt: HostRuntime) -> Result<()> {
-    let alloc = rt.alloc();
-    let machine = cluster_machine(alloc)?;
-    print(
-        &rt,
-        "clusters",
-        &clusters::RULES,
-        clusters::SYMBOLS,
-        &machine,
-    )?;
-    let machine = word_machine(alloc)?;
-    print(&rt, "words", &words::RULES, words::SYMBOLS, &machine)?;
-    let machine = sentence_machine(alloc)?;
-    print(
-        &rt,
-        "sentences",
-        &sentences::RULES,
-        sentences::SYMBOLS,
-        &machine,
-    )?;
-    let machine = line_machine(alloc)?;
-    print(&rt, "lines", &lines::RULES, lines::SYMBOLS, &machine)?;
+    print_clusters(&rt)?;
+    print_words(&rt)?;
+    print_sentences(&rt)?;
+    print_lines(&rt)?;
     print_refusal(&rt, &refused::NEEDS_PAST, 3)?;
     print_refusal(&rt, &refused::TWO_UNDECIDED, 3)?;
     print_refusal(&rt, &refused::TWO_LOOKAHEADS, 5)?;
     print_refusal(&rt, &refused::TWO_LOOKAHEADS, 256)
 }
 
+fn print_clusters(rt: &HostRuntime) -> Result<()> {
+    let machine = cluster_machine(rt.alloc())?;
+    let kind = Kind {
+        name: "clusters",
+        rules: &clusters::RULES,
+        symbols: clusters::SYMBOLS,
+    };
+    print(rt, kind, &machine)
+}
+
+fn print_words(rt: &HostRuntime) -> Result<()> {
+    let machine = word_machine(rt.alloc())?;
+    let kind = Kind {
+        name: "words",
+        rules: &words::RULES,
+        symbols: words::SYMBOLS,
+    };
+    print(rt, kind, &machine)
+}
+
+fn print_sentences(rt: &HostRuntime) -> Result<()> {
+    let machine = sentence_machine(rt.alloc())?;
+    let kind = Kind {
+        name: "sentences",
+        rules: &sentences::RULES,
+        symbols: sentences::SYMBOLS,
+    };
+    print(rt, kind, &machine)
+}
+
+fn print_lines(rt: &HostRuntime) -> Result<()> {
+    let machine = line_machine(rt.alloc())?;
+    let kind = Kind {
+        name: "lines",
+        rules: &lines::RULES,
+        symbols: lines::SYMBOLS,
+    };
+    print(rt, kind, &machine)
+}
+
 // Compiles rules, and says whether their machine has the boundaries of another one.
-fn print(
-    rt: &HostRuntime,
-    name: &str,
-    rules: &Rules<'_>,
-    symbols: usize,
-    machine: &SegmenterStateMachine,
-) -> Result<()> {
+fn print(rt: &HostRuntime, kind: Kind<'_>, machine: &SegmenterStateMachine) -> Result<()> {
     let characters = characters_of(rt.alloc(), machine)?;
-    let compiled = compile(rt.alloc(), rules, symbols, characters)?;
-    let rows = rules.above.len().saturating_add(rules.below.len());
-    let states = compiled.states().len();
-    let text = text_of(rt.alloc(), machine)?;
-    let found = if have_same(&compiled, machine, text.as_str()) {
+    let compiled = compile(rt.alloc(), kind.rules, kind.symbols, characters)?;
+    let found = compared(rt.alloc(), &compiled, machine)?;
+    print_found(rt, kind, compiled.states().len(), found)
+}
+
+// What a machine finds, beside another one.
+fn compared(
+    alloc: Global,
+    compiled: &SegmenterStateMachine,
+    machine: &SegmenterStateMachine,
+) -> Result<&'static str> {
+    let text = text_of(alloc, machine)?;
+    Ok(if have_same(compiled, machine, text.as_str()) {
         "the same"
     } else {
         "other"
-    };
+    })
+}
+
+// Prints how large rules and their machine are, and what it finds.
+fn print_found(rt: &HostRuntime, kind: Kind<'_>, states: usize, found: &str) -> Result<()> {
+    let Kind {
+        name,
+        rules,
+        symbols,
+    } = kind;
+    let rows = rules.above.len().saturating_add(rules.below.len());
     println!(rt; "{name}: {rows} rows, {symbols} symbols, {states} states, {found} boundaries")?;
     Ok(())
 }
@@ -79,21 +122,34 @@ fn characters_of(alloc: Global, machine: &SegmenterStateMachine) -> Result<Chara
 
 // Prints why rules have no machine.
 fn print_refusal(rt: &HostRuntime, rules: &Rules<'_>, symbols: usize) -> Result<()> {
-    let characters = Characters {
-        symbols: ClassTable::try_from_ranges(Vec::new(rt.alloc()), 1)?,
-        pseudo_symbol_shift: u8::MAX,
-        pseudo_symbol_map: Vec::new(rt.alloc()),
-    };
-    let error = compile(rt.alloc(), rules, symbols, characters)
-        .err()
-        .context("rules that have a machine")?;
+    let error = refusal(rt.alloc(), rules, symbols)?;
     println!(rt; "{error}")?;
-    if let Some(witness) = witness_of(&error) {
-        println!(rt;
-            "    row {:?}, symbols {:?}, from {}",
-            witness.row, witness.symbols, witness.begin
-        )?;
+    match witness_of(&error) {
+        Some(witness) => print_witness(rt, witness),
+        None => Ok(()),
     }
+}
+
+// Why rules have no machine.
+fn refusal(alloc: Global, rules: &Rules<'_>, symbols: usize) -> Result<CompileError> {
+    let characters = Characters {
+        symbols: ClassTable::try_from_ranges(Vec::new(alloc), 1)?,
+        pseudo_symbol_shift: u8::MAX,
+        pseudo_symbol_map: Vec::new(alloc),
+    };
+    match compile(alloc, rules, symbols, characters) {
+        Ok(_) => bail!("rules that have a machine"),
+        Err(error) => Ok(error),
+    }
+}
+
+fn print_witness(rt: &HostRuntime, witness: &Witness) -> Result<()> {
+    let Witness {
+        row,
+        symbols,
+        begin,
+    } = witness;
+    println!(rt; "    row {row:?}, symbols {symbols:?}, from {begin}")?;
     Ok(())
 }
 
