@@ -139,6 +139,7 @@ fn refusal(alloc: Global, rules: &Rules<'_>, symbols: usize) -> Result<CompileEr
     };
     match compile(alloc, rules, symbols, characters) {
         Ok(_) => bail!("rules that have a machine"),
+        Err(CompileError::Memory) => bail!("out of memory"),
         Err(error) => Ok(error),
     }
 }

@@ -131,7 +131,10 @@ fn symbols_of(rules: &Rules<'_>, symbols: usize) -> Result<u8, CompileError> {
             return Err(CompileError::UnknownRow(number));
         }
     }
-    u8::try_from(symbols).map_err(|_| CompileError::TooManySymbols)
+    match u8::try_from(symbols) {
+        Ok(symbols) => Ok(symbols),
+        Err(_) => Err(CompileError::TooManySymbols),
+    }
 }
 
 // Finds the states.

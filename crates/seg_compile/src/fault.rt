@@ -3,7 +3,7 @@
 use std::alloc::{AllocError, AllocFailed};
 
 /// Why there is no machine.
-#[derive(Clone, Copy, Debug, PartialEq)]
+#[derive(Clone, Copy)]
 pub(crate) enum Fault {
     /// Out of memory.
     Memory,
@@ -16,7 +16,7 @@ pub(crate) enum Fault {
 }
 
 /// Why a scan can't be followed.
-#[derive(Clone, Copy, Debug, PartialEq)]
+#[derive(Clone, Copy)]
 pub(crate) enum Why {
     /// Two older places are undecided.
     Undecided,
