@@ -32,8 +32,8 @@ def main():
     for kind, source, folder, module in (("cluster", clusters, "src", "crate"), ("sentence", sentences, "src/sentences", "crate::sentences"),
                                          ("word", words, "src/words", "crate::words")):
         table = source.transitions()
-        write(f"{folder}/ranges.rt", "\n".join(ranges_file(source.symbols_of(sys.argv[1]), module)) + "\n")
-        write(f"{folder}/transitions.rt", "\n".join(transitions_file(table, module)) + "\n")
+        write(f"{folder}/ranges.rt", "\n".join(ranges_file(source.symbols_of(sys.argv[1]), module, f"{kind}s, for {'`machine`' if kind == 'cluster' else 'their machine'}")) + "\n")
+        write(f"{folder}/transitions.rt", "\n".join(transitions_file(table, module, "clusters, for `machine`" if kind == "cluster" else f"{kind}s")) + "\n")
         text, numbers = certificate(kind, list(source.SYMBOLS), machine_of(table, source.state_names(), source.accepting()))
         write(f"proofs/{kind.capitalize()}Certificate.antt", text)
         print(numbers)

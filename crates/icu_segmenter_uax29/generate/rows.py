@@ -56,16 +56,16 @@ def imports(module, names):
     return lines + [line.rstrip(", ") + "};"]
 
 
-def ranges_file(symbols, module):
+def ranges_file(symbols, module, whose):
     ranges = ranges_of(symbols)
     items = (f"(0x{first:X}, 0x{last:X}, {symbol})" for first, last, symbol in ranges)
-    return ["//! The code points of each symbol.",
+    return [f"//! The code points of each symbol of {whose}.",
             "// Written by generate/generate.py from the rows of Unicode 18.0. Do not edit.", "",
             "#[rattlefmt::skip]", *imports(f"{module}::symbols", {r[2] for r in ranges}), "use seg_machine::provider::Symbol;", "",
             *array("The code points of each symbol; others have OTHER.", "RANGES", "(u32, u32, Symbol)", len(ranges), lines_of(items))]
 
 
-def transitions_file(table, module):
+def transitions_file(table, module, whose):
     """Of rows, each a symbol and where it leads from each state."""
     widths = [max(map(len, column)) for column in zip(*(row for _, row in table))]
     body = []
@@ -73,7 +73,7 @@ def transitions_file(table, module):
         cells = [(name + ",").ljust(width + 1) for name, width in zip(row, widths)]
         body += [f"    // {symbol}", *("    " + " ".join(cells[k:k + PER_LINE]).rstrip() for k in range(0, len(cells), PER_LINE))]
     names = {name for _, row in table for name in row}
-    return ["//! The transitions of the machine.",
+    return [f"//! The transitions of the machine of {whose}.",
             "// Written by generate/generate.py from the rules of UAX #29. Do not edit.", "",
             "#[rattlefmt::skip]", *imports(f"{module}::states", names), "use seg_machine::provider::State;", "",
             *array("A row for each symbol, in it where each state leads to, in the order of the states.", "TRANSITIONS", "State",
