@@ -87,6 +87,15 @@ impl<'a, S: FinderOf<&'a [u16]>> Indices<&'a [u16], S> {
     }
 }
 
+pub trait Reads {
+    fn fork(&self) -> Self
+        ensures { result ≡ self.now };
+
+    final fn rest(&self) -> usize {
+        1 + 1
+    }
+}
+
 pub fn seek(
     place: usize,
 ) -> usize {
@@ -128,6 +137,7 @@ class Places(unittest.TestCase):
         self.assertEqual(self.place("input.len()", "1"), "indices::units::Indices+u8+E::new_of_bytes")
         self.assertEqual(self.place("self.len() / 2", "0"), "indices::units::RefSliceU16Parted::halves")
         self.assertEqual(self.place("let _ = text;", ""), "indices::units::Latin1FinderOfRefSliceU8::cover")
+        self.assertEqual(self.place("1 + 1", "1"), "indices::units::Reads::rest")
         self.assertEqual(self.place("        units.len()\n", "        0\n"), "indices::units::Indices+ref+slice+u16+S::of_units")
         self.assertEqual(self.place("    place\n", "    place + 1\n"), "indices::units::seek")
         self.assertEqual(self.place("seek(place)", "seek(0)"), "indices::units::seek_for_c")
