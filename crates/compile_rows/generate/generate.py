@@ -1,21 +1,16 @@
 #!/usr/bin/env python3
-"""Writes src/rows/clusters.rt, words.rt, sentences.rt and lines.rt: the rows of UAX #29 and UAX #14 as data of the code.
+"""Writes src/rows/lines.rt: the rows of UAX #14 as data of the code.
 
 usage: generate.py
 
-The rows are those of icu_segmenter_uax29/specs (ClusterRules.antt, WordRules.antt, SentenceRules.antt) and of
-icu_segmenter_uax14/specs/LineRules.antt; a class is the number whose bits are its symbols."""
+The rows are those of icu_segmenter_uax14/specs/LineRules.antt; a class is the number whose bits are its symbols."""
 import os
 import sys
 
 sys.dont_write_bytecode = True
 HERE = os.path.dirname(os.path.abspath(__file__))
 sys.path[:0] = [os.path.join(HERE, "..", "..", crate, "generate") for crate in ("icu_segmenter_uax14", "icu_segmenter_uax29")]
-import clusters  # noqa: E402
-import sentences  # noqa: E402
-import words  # noqa: E402
 from line_rows import line_rules  # noqa: E402
-from rules import rules_of  # noqa: E402
 from written import HALF  # noqa: E402
 
 
@@ -50,9 +45,6 @@ def write(module, what, rules):
 
 
 def main():
-    write("clusters", "extended grapheme clusters, GB3 to GB999 of UAX #29,", rules_of("cluster", list(clusters.SYMBOLS)))
-    write("words", "words, WB3 to WB999 of UAX #29,", rules_of("word", list(words.SYMBOLS)))
-    write("sentences", "sentences, SB3 to SB998 of UAX #29,", rules_of("sentence", list(sentences.SYMBOLS)))
     write("lines", "lines, LB4 to LB31 of UAX #14,", line_rules())
 
 

@@ -1,164 +1,140 @@
-//! Compiles the rows of UAX #29 and UAX #14, and compares the machines with those that stand in the code, on a text of all that
-//! three symbols may be. Then rows that have no machine.
+//! Compiles rules, as text and as rows: the places that the machines of some find in texts, those of UAX #29 and UAX #14 beside the
+//! machines that stand in the code, and why others are refused.
 #![tactic(auto)]
 
+mod data;
+mod good;
+mod large;
 mod rows;
 mod texts;
+mod wrong;
 
 use anyhow::{Result, bail};
-use icu_segmenter_uax14::line_machine;
+use data::print_rows;
 use icu_segmenter_uax29::{cluster_machine, sentence_machine, word_machine};
-use rows::{clusters, lines, refused, sentences, words};
-use seg_compile::compile::{Characters, CompileError, Witness, compile};
-use seg_data::provider::ClassTable;
+use seg_compile::compile::{CompileError, Witness};
 use seg_machine::provider::SegmenterStateMachine;
-use seg_rules::rules::Rules;
-use std::alloc::Global;
+use seg_machine::rule_segmenter_v2::RuleBreakIterator;
+use seg_machine::tailored_machine::TailoredMachineBorrowed;
+use seg_notation::TextRules;
+use seg_text::indices::StrCharIndices;
 use texts::{have_same, text_of};
 
-/// Rules, with the name of what they find, and how many symbols there are beside the end of a text.
-#[derive(Clone, Copy)]
-struct Kind<'a> {
-    name: &'a str,
-    rules: &'a Rules<'a>,
-    symbols: usize,
-}
-
 fn main(rt: HostRuntime) -> Result<()> {
-    print_clusters(&rt)?;
-    print_words(&rt)?;
-    print_sentences(&rt)?;
-    print_lines(&rt)?;
-    print_refusal(&rt, &refused::NEEDS_PAST, 3)?;
-    print_refusal(&rt, &refused::TWO_UNDECIDED, 3)?;
-    print_refusal(&rt, &refused::TWO_LOOKAHEADS, 5)?;
-    print_refusal(&rt, &refused::TWO_LOOKAHEADS, 256)
+    print_places(&rt, good::NAMES, &good::NAME_TEXTS)?;
+    print_places(&rt, good::ADDRESSES, &good::ADDRESS_TEXTS)?;
+    print_places(&rt, good::RECORDS, &good::RECORD_TEXTS)?;
+    print_same(
+        &rt,
+        "clusters",
+        good::CLUSTERS,
+        &cluster_machine(rt.alloc())?,
+    )?;
+    print_same(&rt, "words", good::WORDS, &word_machine(rt.alloc())?)?;
+    print_same(
+        &rt,
+        "sentences",
+        good::SENTENCES,
+        &sentence_machine(rt.alloc())?,
+    )?;
+    print_witness(&rt, wrong::TWO_LOOKAHEADS)?;
+    print_wrong(&rt)?;
+    print_large(&rt)?;
+    print_rows(&rt)
 }
 
-fn print_clusters(rt: &HostRuntime) -> Result<()> {
-    let machine = cluster_machine(rt.alloc())?;
-    let kind = Kind {
-        name: "clusters",
-        rules: &clusters::RULES,
-        symbols: clusters::SYMBOLS,
-    };
-    print(rt, kind, &machine)
+// Prints where texts are parted by rules.
+fn print_places(rt: &HostRuntime, rules: &str, texts: &[&str]) -> Result<()> {
+    let rules = TextRules::try_from_text(rt.alloc(), rules)?;
+    let machine = rules.compile(rt.alloc())?;
+    for text in texts {
+        println!(rt; "{text:?}")?;
+        print_boundaries(rt, &machine, text)?;
+    }
+    Ok(())
 }
 
-fn print_words(rt: &HostRuntime) -> Result<()> {
-    let machine = word_machine(rt.alloc())?;
-    let kind = Kind {
-        name: "words",
-        rules: &words::RULES,
-        symbols: words::SYMBOLS,
-    };
-    print(rt, kind, &machine)
+// Prints the boundaries of a text, those of status 1 with an exclamation mark.
+fn print_boundaries(rt: &HostRuntime, machine: &SegmenterStateMachine, text: &str) -> Result<()> {
+    let machine = TailoredMachineBorrowed::without_tailoring(machine);
+    let mut places = RuleBreakIterator::new(machine, StrCharIndices::new(text));
+    for _ in 0..=text.len() {
+        let Some(place) = places.next() else {
+            break;
+        };
+        let sign = if places.status() == 1 { "!" } else { "" };
+        print!(rt; " {place}{sign}")?;
+    }
+    println!(rt; "")?;
+    Ok(())
 }
 
-fn print_sentences(rt: &HostRuntime) -> Result<()> {
-    let machine = sentence_machine(rt.alloc())?;
-    let kind = Kind {
-        name: "sentences",
-        rules: &sentences::RULES,
-        symbols: sentences::SYMBOLS,
-    };
-    print(rt, kind, &machine)
-}
-
-fn print_lines(rt: &HostRuntime) -> Result<()> {
-    let machine = line_machine(rt.alloc())?;
-    let kind = Kind {
-        name: "lines",
-        rules: &lines::RULES,
-        symbols: lines::SYMBOLS,
-    };
-    print(rt, kind, &machine)
-}
-
-// Compiles rules, and says whether their machine has the boundaries of another one.
-fn print(rt: &HostRuntime, kind: Kind<'_>, machine: &SegmenterStateMachine) -> Result<()> {
-    let characters = characters_of(rt.alloc(), machine)?;
-    let compiled = compile(rt.alloc(), kind.rules, kind.symbols, characters)?;
-    let found = compared(rt.alloc(), &compiled, machine)?;
-    print_found(rt, kind, compiled.states().len(), found)
-}
-
-// What a machine finds, beside another one.
-fn compared(
-    alloc: Global,
-    compiled: &SegmenterStateMachine,
+// Prints whether rules of a standard have the boundaries of a machine.
+fn print_same(
+    rt: &HostRuntime,
+    name: &str,
+    rules: &str,
     machine: &SegmenterStateMachine,
-) -> Result<&'static str> {
-    let text = text_of(alloc, machine)?;
-    Ok(if have_same(compiled, machine, text.as_str()) {
+) -> Result<()> {
+    let rules = TextRules::try_from_text(rt.alloc(), rules)?;
+    let compiled = rules.compile(rt.alloc())?;
+    let text = text_of(rt.alloc(), machine)?;
+    let found = if have_same(&compiled, machine, text.as_str()) {
         "the same"
     } else {
         "other"
-    })
-}
-
-// Prints how large rules and their machine are, and what it finds.
-fn print_found(rt: &HostRuntime, kind: Kind<'_>, states: usize, found: &str) -> Result<()> {
-    let Kind {
-        name,
-        rules,
-        symbols,
-    } = kind;
-    let rows = rules.above.len().saturating_add(rules.below.len());
-    println!(rt; "{name}: {rows} rows, {symbols} symbols, {states} states, {found} boundaries")?;
-    Ok(())
-}
-
-// The symbols of a machine's code points.
-fn characters_of(alloc: Global, machine: &SegmenterStateMachine) -> Result<Characters> {
-    let symbols = machine.symbols();
-    let ranges = Vec::from_slice(alloc, symbols.ranges())?;
-    Ok(Characters {
-        symbols: ClassTable::try_from_ranges(ranges, symbols.default())?,
-        pseudo_symbol_shift: machine.pseudo_symbol_shift(),
-        pseudo_symbol_map: Vec::from_slice(alloc, machine.pseudo_symbol_map())?,
-    })
-}
-
-// Prints why rules have no machine.
-fn print_refusal(rt: &HostRuntime, rules: &Rules<'_>, symbols: usize) -> Result<()> {
-    let error = refusal(rt.alloc(), rules, symbols)?;
-    println!(rt; "{error}")?;
-    match witness_of(&error) {
-        Some(witness) => print_witness(rt, witness),
-        None => Ok(()),
-    }
-}
-
-// Why rules have no machine.
-fn refusal(alloc: Global, rules: &Rules<'_>, symbols: usize) -> Result<CompileError> {
-    let characters = Characters {
-        symbols: ClassTable::try_from_ranges(Vec::new(alloc), 1)?,
-        pseudo_symbol_shift: u8::MAX,
-        pseudo_symbol_map: Vec::new(alloc),
     };
-    match compile(alloc, rules, symbols, characters) {
-        Ok(_) => bail!("rules that have a machine"),
-        Err(CompileError::Memory) => bail!("out of memory"),
-        Err(error) => Ok(error),
-    }
-}
-
-fn print_witness(rt: &HostRuntime, witness: &Witness) -> Result<()> {
-    let Witness {
-        row,
-        symbols,
-        begin,
-    } = witness;
-    println!(rt; "    row {row:?}, symbols {symbols:?}, from {begin}")?;
+    let symbols = rules.symbols();
+    let states = compiled.states().len();
+    println!(rt; "{name}: {symbols} symbols, {states} states, {found} boundaries")?;
     Ok(())
 }
 
-fn witness_of(error: &CompileError) -> Option<&Witness> {
-    match error {
-        CompileError::TwoUndecided(witness)
-        | CompileError::TwoLookaheads(witness)
-        | CompileError::NeedsPast(witness) => Some(witness),
-        _ => None,
+// Prints why rules have no machine, by their line and the names of symbols.
+fn print_witness(rt: &HostRuntime, rules: &str) -> Result<()> {
+    let rules = TextRules::try_from_text(rt.alloc(), rules)?;
+    match rules.compile(rt.alloc()) {
+        Err(CompileError::TwoLookaheads(witness)) => print_symbols(rt, &rules, &witness),
+        _ => bail!("rules that need no two lookaheads"),
     }
+}
+
+fn print_symbols(rt: &HostRuntime, rules: &TextRules, witness: &Witness) -> Result<()> {
+    let line = match witness.row {
+        Some(row) => rules.line_of_row(row),
+        None => None,
+    };
+    print!(rt; "two lookaheads at line {line:?}, in")?;
+    for symbol in witness.symbols.as_slice() {
+        let name = rules.name_of(*symbol).unwrap_or("?");
+        print!(rt; " {name}")?;
+    }
+    println!(rt; "")?;
+    Ok(())
+}
+
+// Prints what is wrong with texts.
+fn print_wrong(rt: &HostRuntime) -> Result<()> {
+    for (name, text) in wrong::TEXTS.as_slice() {
+        print_error(rt, name, text)?;
+    }
+    Ok(())
+}
+
+fn print_error(rt: &HostRuntime, name: &str, text: &str) -> Result<()> {
+    match TextRules::try_from_text(rt.alloc(), text) {
+        Ok(_) => bail!("{name}: rules"),
+        Err(error) => println!(rt; "{name}: {error}")?,
+    }
+    Ok(())
+}
+
+// Prints what is wrong with texts that are too large.
+fn print_large(rt: &HostRuntime) -> Result<()> {
+    let sets = large::sets(rt.alloc(), 300)?;
+    print_error(rt, "300 sets", sets.as_str())?;
+    let rules = large::rules(rt.alloc(), 256)?;
+    print_error(rt, "256 rules", rules.as_str())?;
+    let long = large::line(rt.alloc(), 100_000)?;
+    print_error(rt, "a long line", long.as_str())
 }

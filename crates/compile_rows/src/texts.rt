@@ -13,7 +13,7 @@ pub(crate) fn text_of(
 ) -> Result<String, AllocError> {
     let characters = characters_of(alloc, machine)?;
     let mut text = String::new(alloc);
-    for first in characters.iter() {
+    for first in characters.as_slice() {
         add_pairs(&mut text, *first, characters.as_slice())?;
     }
     Ok(text)
@@ -67,7 +67,7 @@ pub(crate) fn have_same(
 ) -> bool {
     let mut ones = boundaries(one, text);
     let mut others = boundaries(other, text);
-    for _ in 0..u64::MAX {
+    for _ in 0..=text.len() {
         let place = ones.next();
         if others.next() != place || others.status() != ones.status() {
             return false;

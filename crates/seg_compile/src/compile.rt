@@ -82,8 +82,8 @@ pub struct Characters {
 /// The machine of rules over the symbols from 1 up to `symbols`: its boundaries of every list of code points are, with their
 /// statuses, the places where the rules break. Of its states no two are alike.
 ///
-/// The errors are what of the rules is too large (`TooManySymbols` to `TooManyStates`), a text that shows what no machine follows that
-/// the check knows (`TwoUndecided` to `NeedsPast`), what is wrong with the characters (`Data`), and out of memory (`Memory`).
+/// It fails if the rules are too large (`TooManySymbols` to `TooManyStates`); if no machine that the check can follow finds their places,
+/// with a text that shows it (`TwoUndecided` to `NeedsPast`); if the characters are rejected (`Data`); and when out of memory.
 pub fn compile(
     alloc: Global,
     rules: &Rules<'_>,
