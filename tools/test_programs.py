@@ -5,7 +5,7 @@
 
 tools/rows/PROGRAM.rows has a row a line: the words after the program's name, what it reads, what it must write, and where the status isn't 0 the status
 and what it must say on standard error, or how that begins where it has no line feed at its end. Texts are Python literals, bytes are written b"..". A line
-`file: NAME, TEXT` makes a file that words may name, `file: NAME, TEXT, COUNT, REST` one that has the text so often, and then the rest, and `devices: WORDS, READ, WRITE` has the program run with a standard input that can't be read and a
+`file: NAME, TEXT` makes a file that words may name, `file: NAME, TEXT, COUNT, REST` one that has the text so often, and then the rest, `copies: FOLDER` makes all files of a folder of the repository, and `devices: WORDS, READ, WRITE` has the program run with a standard input that can't be read and a
 standard output that takes nothing, and says what it must complain of; with `unread: WORDS, STATUS, COMPLAINT` it has the first, and mustn't see it.
 `comes: WORDS, TEXT, WANTED, REST, WANTED` has the first text written while the rest hasn't come. `repeated: WORDS, MORE, TEXT, COUNT, REST` has the text so
 often, and then the rest, and asks whether the same is written with more words. `parts: WORDS, TEXT, COUNT, REST` has
@@ -123,19 +123,30 @@ def rows_with_devices(place, words, unread, unwritten, folder_as_input, full):
     yield Row(place, words, folder_as_input, b"", 1, b"", {"stderr": full})
 
 
+def copies_of(folder):
+    """Returns what each file of a folder has, by its name."""
+    files = {}
+    for name in sorted(os.listdir(folder)):
+        with open(f"{folder}/{name}", "rb") as it:
+            files[name] = it.read()
+    return files
+
+
 def read(path, folder_as_input, full):
     """Reads a file of rows."""
     found = Rows()
     with open(path, encoding="utf-8") as it:
         for number, line in enumerate(it, 1):
             kind, said = ("row", line) if line.startswith(('"', "'")) else line.partition(": ")[::2]
-            if kind not in ("row", "file", "devices", "unread", "comes", "repeated", "parts", "set"):
+            if kind not in ("row", "file", "copies", "devices", "unread", "comes", "repeated", "parts", "set"):
                 continue
             place, fields = f"{os.path.basename(path)}:{number}", ast.literal_eval(f"({said.strip()},)")
             if kind == "file":
                 name, text, *more = fields
                 count, rest = more or (1, "")
                 found.files[name] = as_bytes(text) * count + as_bytes(rest)
+            elif kind == "copies":
+                found.files |= copies_of(*fields)
             elif kind == "devices":
                 found.rows += rows_with_devices(place, *fields, folder_as_input, full)
             elif kind == "unread":

@@ -1,6 +1,7 @@
 /* Asks the library what standard input says, a command a line, and prints a line for each question:
  *
  *     open KIND STRICTNESS WORD_BREAK CHINESE_OR_JAPANESE      the status
+ *     rules FILE                  opens by the rules in a file; the status, and the line of an error
  *     load SCRIPT FILE            the words of a file, one a line; the status
  *     text FILE, units FILE       takes the text of a file: UTF-8, or UTF-16 in the machine's byte order
  *     hex DIGITS, hex16 DIGITS    the same from digits, two a byte or four a unit; none is the empty text
@@ -192,6 +193,14 @@ static uint32_t load(uint32_t script, const char *path) {
     return status;
 }
 
+static void print_rules(const char *path) {
+    size_t size, line;
+    uint8_t *bytes = read_file(path, &size);
+    uint32_t status = yengatomu_open_rules(&slot, bytes, size, &line);
+    printf("%u %zu\n", status, line);
+    free(bytes);
+}
+
 static bool is_done(char *line) {
     char rest[4096];
     unsigned a, b, c, d;
@@ -201,6 +210,8 @@ static bool is_done(char *line) {
         printf("%u\n", yengatomu_open(&slot, a, b, c, d));
     else if (sscanf(line, "load %u %4095s", &a, rest) == 2)
         printf("%u\n", load(a, rest));
+    else if (sscanf(line, "rules %4095s", rest) == 1)
+        print_rules(rest);
     else if (sscanf(line, "text %4095s", rest) == 1 || sscanf(line, "units %4095s", rest) == 1) {
         uint8_t *bytes = read_file(rest, &number);
         take(bytes, number, line[0] == 'u');

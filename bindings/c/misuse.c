@@ -1,4 +1,4 @@
-/* What a caller may get wrong or overdo, and what must come of it: numbers that there are none of, slots that are empty, opened twice or
+/* What a caller may get wrong or overdo, and what must come of it: numbers that there are none of, rules that are wrong, slots that are empty, opened twice or
  * moved, starts inside a character and past the end, buffers without room, empty and ill-formed texts, and, with the word `large`, a text
  * of 2^33 bytes. Under valgrind it must leave nothing behind. */
 #define _DEFAULT_SOURCE
@@ -250,6 +250,71 @@ static void try_dictionaries(void) {
     }
 }
 
+static const char snake[] = "Letter = \\p{L} + \\p{M} + \\p{Nd}\nLine = [_ -]\nLetter \xc3\x97 Letter\nLine \xc3\x97 Line\n\xc3\xb7\n";
+
+static void check_snake(yengatomu_slot *slot) {
+    static const size_t wanted[] = {5, 6, 10};
+    static const uint16_t units[] = {'s', 'n', 'a', 'k', 'e', '_', 'c', 'a', 's', 'e'};
+    const yengatomu_word word = {bytes_of("a"), 1};
+    const uint8_t *text = bytes_of("snake_case");
+    size_t places[ROOM];
+    uint8_t marks[ROOM];
+    CHECK(slot->full);
+    CHECK(yengatomu_boundaries(slot, text, 10, 0, places, ROOM) == 3 && !memcmp(places, wanted, sizeof wanted));
+    CHECK(yengatomu_boundaries_utf16(slot, units, 10, 0, places, ROOM) == 3 && !memcmp(places, wanted, sizeof wanted));
+    CHECK(yengatomu_marked_boundaries(slot, text, 10, 0, places, ROOM, marks, ROOM) == 3 && !memcmp(marks, "\0\0\0", 3));
+    CHECK(yengatomu_next(slot, text, 10, 0) == 5 && yengatomu_previous(slot, text, 10, 10) == 6);
+    CHECK(yengatomu_count(slot, text, 10) == 3 && yengatomu_count_words(slot, text, 10) == 0);
+    CHECK(yengatomu_wrap(slot, text, 10, 0, 3, places, ROOM) == 0);
+    CHECK(yengatomu_load_dictionary(slot, &word, 1, YENGATOMU_THAI) == YENGATOMU_NO_SUCH);
+}
+
+/* Rules that are wrong, cut off at each byte, without a machine, and in slots that hold something. */
+static void try_rules(void) {
+    static const struct {
+        const char *text;
+        uint32_t status;
+        size_t line;
+    } rows[] = {
+        {"", YENGATOMU_WRONG_RULES, 1},
+        {"\n# nothing\n", YENGATOMU_WRONG_RULES, 3},
+        {"A = [a]\nA \xc3\x97 B\n\xc3\xb7\n", YENGATOMU_WRONG_RULES, 2},
+        {"A = [a]\nA \xc3\x97 A\n", YENGATOMU_WRONG_RULES, 3},
+        {"A = [a]\nA \xc3\x97 A\n\xc3", YENGATOMU_WRONG_RULES, 0},
+        {"\xff", YENGATOMU_WRONG_RULES, 0},
+        {"A = [a]\nB = [b]\nA B \xc3\xb7 A\nB A \xc3\xb7 B\n\xc3\x97\n", YENGATOMU_NO_MACHINE, 3},
+    };
+    yengatomu_slot slot = {0};
+    size_t line = 7, len = sizeof snake - 1;
+    for (size_t i = 0; i < 2 * sizeof rows / sizeof *rows; i++) {
+        /* Each second time the slot holds a segmenter, which must be freed. */
+        if (i % 2) CHECK(yengatomu_open_rules(&slot, bytes_of(snake), len, &line) == YENGATOMU_OK && line == 0);
+        line = 7;
+        CHECK(yengatomu_open_rules(&slot, bytes_of(rows[i / 2].text), strlen(rows[i / 2].text), &line) == rows[i / 2].status);
+        CHECK(line == rows[i / 2].line);
+        check_empty(&slot);
+    }
+    for (size_t some = 0; some < len; some++) {
+        uint8_t *front = block(some);
+        uint32_t status;
+        memcpy(front, snake, some);
+        status = yengatomu_open_rules(&slot, front, some, &line);
+        /* (the last rule is there but for the line feed behind it) */
+        CHECK(status == (some == len - 1 ? YENGATOMU_OK : YENGATOMU_WRONG_RULES) && line <= 6);
+        CHECK(slot.full == (status == YENGATOMU_OK));
+        free(front);
+    }
+    check_snake(&slot);
+    CHECK(yengatomu_open(&slot, YENGATOMU_WORDS, 0, 0, false) == YENGATOMU_OK);
+    CHECK(yengatomu_open_rules(&slot, bytes_of(snake), len, &line) == YENGATOMU_OK && line == 0);
+    check_snake(&slot);
+    check_empty_text(&slot);
+    check_rests(&slot, "ab__c-- d!\n\xff\xe0\xb8\xa0_");
+    check_room(&slot, "ab__c-- d!\n\xff\xe0\xb8\xa0_");
+    yengatomu_close(&slot);
+    check_empty(&slot);
+}
+
 /* A text of 2^33 zero bytes with a line feed at 2^32, at 2^32 + 7 and 1,000 bytes before the end. */
 static void try_large(void) {
     const size_t len = (size_t)1 << 33, middle = (size_t)1 << 32;
@@ -288,6 +353,7 @@ int main(int count, char **words) {
     try_texts();
     try_ill_formed();
     try_dictionaries();
+    try_rules();
     if (count > 1 && !strcmp(words[1], "large")) try_large();
     return failed ? 1 : 0;
 }

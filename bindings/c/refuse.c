@@ -1,4 +1,4 @@
-/* Refuses each growth of open and load_dictionary in turn, alone and with all that come behind it. Each must say that memory is missing, leave no
+/* Refuses each growth of open, open_rules and load_dictionary in turn, alone and with all that come behind it. Each must say that memory is missing, leave no
  * block behind, and leave the slot empty, or as it was. The other calls must ask for no memory at all.
  *
  * Link it with -Wl,--wrap=NAME for malloc, calloc, realloc, aligned_alloc, posix_memalign and free. */
@@ -61,6 +61,7 @@ void __wrap_free(void *at) {
 }
 
 static const char text[] = "Can't \xe0\xb8\xa0\xe0\xb8\xb2\xe0\xb8\xa9\xe0\xb8\xb2\xe0\xb9\x84\xe0\xb8\x97\xe0\xb8\xa2 3.14! Yes.\n\xff\xf0\x9f\x87";
+static const char rules[] = "Letter = [a..z]\nDigit = [0..9]\nLetter \xc3\x97 Letter\nDigit \xc3\x97 Digit\n\xc3\xb7\n";
 static const uint16_t units[] = {'a', 0xD800, ' ', 0xDC00, 0xD83C, 0xDDFB, '\n', 0xE20, '.'};
 enum { UNITS = sizeof units / sizeof *units, ROOM = sizeof text };
 
@@ -135,6 +136,42 @@ static void refuse_opens(uint32_t kind, uint32_t strictness) {
     printf("open %u %u: %ld growths\n", kind, strictness, number);
 }
 
+/* Opens a slot by rules in the same way. */
+static bool refuse_rules(long number, const size_t *wanted, size_t count) {
+    yengatomu_slot slot = {0};
+    size_t line = 7;
+    long before = live;
+    uint32_t status;
+    if (number % 2) CHECK(yengatomu_open(&slot, YENGATOMU_WORDS, 0, 0, false) == YENGATOMU_OK);
+    refused = 0;
+    left = number;
+    status = yengatomu_open_rules(&slot, (const uint8_t *)rules, sizeof rules - 1, &line);
+    left = -1;
+    CHECK(line == 0);
+    if (status == YENGATOMU_OK) {
+        CHECK(slot.full && finds(&slot, wanted, count));
+        yengatomu_close(&slot);
+    } else {
+        CHECK(status == YENGATOMU_NO_MEMORY && refused);
+    }
+    CHECK(!slot.full && live == before);
+    return refused;
+}
+
+static void refuse_all_rules(void) {
+    yengatomu_slot slot = {0};
+    size_t wanted[ROOM], count, line;
+    long number = 0;
+    CHECK(yengatomu_open_rules(&slot, (const uint8_t *)rules, sizeof rules - 1, &line) == YENGATOMU_OK);
+    count = found(&slot, wanted);
+    CHECK(count > 3 && growths_of_calls(&slot) == 0);
+    yengatomu_close(&slot);
+    for (once = false; refuse_rules(number, wanted, count); once = !once) number += once;
+    CHECK(number > 0);
+    once = false;
+    printf("rules: %ld growths\n", number);
+}
+
 /* Loads a dictionary in the same way into a new segmenter. */
 static bool refuse_load(uint32_t kind, uint32_t script, long number) {
     static const yengatomu_word words[] = {
@@ -178,6 +215,7 @@ int main(void) {
     for (uint32_t kind = YENGATOMU_CLUSTERS; kind <= YENGATOMU_LINES; kind++) refuse_opens(kind, YENGATOMU_STRICT);
     refuse_opens(YENGATOMU_LINES, YENGATOMU_LOOSE);
     refuse_opens(YENGATOMU_LINES, YENGATOMU_ANYWHERE);
+    refuse_all_rules();
     for (uint32_t script = YENGATOMU_MYANMAR; script <= YENGATOMU_THAI; script++) {
         refuse_loads(YENGATOMU_WORDS, script);
         refuse_loads(YENGATOMU_LINES, script);

@@ -16,7 +16,7 @@
  * - A slot begins as zero bytes, and nobody but these calls writes to it. It may be moved, but not copied and used twice.
  * - A slot serves one call at a time. Different slots may be used by different threads, and a slot may pass from one to another.
  * - Each length is that of the array in front of it, in its own elements. No array is NULL, not even one of length 0.
- * - Buffers overlap neither one another nor the text. */
+ * - Buffers overlap neither one another nor the text. What error points to is one of one element. */
 #ifndef YENGATOMU_H
 #define YENGATOMU_H
 #include <stdbool.h>
@@ -48,6 +48,8 @@ enum { YENGATOMU_BREAK_NORMAL, YENGATOMU_BREAK_ALL, YENGATOMU_KEEP_ALL };
 enum { YENGATOMU_MYANMAR = 1, YENGATOMU_CHINESE_OR_JAPANESE, YENGATOMU_KHMER, YENGATOMU_LAO, YENGATOMU_THAI };
 /* what open and load_dictionary return */
 enum { YENGATOMU_OK, YENGATOMU_NO_MEMORY, YENGATOMU_NO_SUCH, YENGATOMU_NOT_UTF8 };
+/* what open_rules returns beside YENGATOMU_OK and YENGATOMU_NO_MEMORY */
+enum { YENGATOMU_WRONG_RULES = 2, YENGATOMU_NO_MACHINE };
 /* marks of words: what ends at the boundary */
 enum { YENGATOMU_NO_WORD, YENGATOMU_NUMBER, YENGATOMU_LETTERS };
 /* marks of lines: whether the line must end at the boundary */
@@ -59,6 +61,19 @@ enum { YENGATOMU_MAY_BREAK, YENGATOMU_MUST_BREAK };
  * is none of those above; strictness, word_break and chinese_or_japanese are those of lines, and other kinds don't read them.
  * If it isn't YENGATOMU_OK, the slot is empty. */
 uint32_t yengatomu_open(yengatomu_slot *slot, uint32_t kind, uint32_t strictness, uint32_t word_break, bool chinese_or_japanese);
+
+/* Frees what the slot holds and makes a segmenter by your own rules in its place: a text of UTF-8, in the notation that the page
+ * crates/segment/segment.1 of this repository tells, as
+ *
+ *     Letter = \p{L} + \p{M} + \p{Nd}
+ *     Letter × Letter
+ *     ÷
+ *
+ * Its boundaries are where the rules break, and the other calls take it as one of clusters. YENGATOMU_WRONG_RULES where the text is
+ * ill-formed or a line of it is wrong; YENGATOMU_NO_MACHINE where the rules are too large, or need to know too much of the text to be
+ * followed. *error is then the number of the line, from 1 on: that which is wrong, or that of a rule which shows why there is no
+ * machine; 0 where the text is ill-formed, where no rule shows it, and in all other cases. If it isn't YENGATOMU_OK, the slot is empty. */
+uint32_t yengatomu_open_rules(yengatomu_slot *slot, const uint8_t *text, size_t len, size_t *error);
 
 /* Gives a segmenter of words or lines the words of a script that is written without spaces, if it has none of that script yet;
  * otherwise nothing changes, and it is YENGATOMU_OK. A list of no words counts as one: to load another, open the slot anew.

@@ -13,6 +13,13 @@ import yengatomu
 from yengatomu import Kind, Script, Segmenter, Strictness, WordBreak, WordType, _library
 
 THAI = ["ภาษา", "ไทย"]
+# `snake`, `_` and `case` of `snake_case`.
+SNAKE = r"""Letter = \p{L} + \p{M} + \p{Nd}
+Line   = [_ -]
+Letter × Letter
+Line × Line
+÷
+"""
 SAMPLES = [
     "",
     "a",
@@ -87,6 +94,15 @@ class Examples(unittest.TestCase):
                 segmenter.load_dictionary(words, Script.THAI)
                 self.assertEqual(list(segmenter.segments("".join(THAI))), THAI)
                 self.assertEqual(list(segmenter.segments("".join(THAI).encode())), [it.encode() for it in THAI])
+
+    def test_rules(self):
+        for rules in (SNAKE, SNAKE.encode()):
+            snake = Segmenter.by_rules(rules)
+            self.assertEqual(snake.boundaries("snake_case"), [0, 5, 6, 10])
+            self.assertEqual(list(snake.segments("é9__👩 e\u0301")), ["é9", "__", "👩", " ", "e\u0301"])
+            self.assertEqual(list(snake.segments(b"a\xffb")), [b"a", b"\xff", b"b"])
+            self.assertEqual((snake.count("snake_case"), snake.next("snake_case", 5), snake.previous("snake_case", 5)), (3, 6, 0))
+            self.assertIs(snake.kind, Kind.CLUSTERS)
 
     def test_versions(self):
         self.assertRegex(yengatomu.version(), r"^\d+\.\d+\.\d+$")
@@ -204,6 +220,15 @@ class Long(unittest.TestCase):
                                 if whole[1] is not None:
                                     self.assertEqual(list(segmenter.wrapped(given, 9)), whole[1])
 
+    def test_many_calls_of_rules(self):
+        snake, text = Segmenter.by_rules(SNAKE), "ab__c-- 👩!" * 50
+        for it in (text, text.encode()):
+            whole = snake.boundaries(it)
+            self.assertEqual(len(whole), 7 * 50 + 1)
+            for room in (1, 7, 100):
+                with mock.patch.object(yengatomu, "ROOM", room):
+                    self.assertEqual(snake.boundaries(it), whole)
+
     def test_wrap(self):
         text = "".join(random_texts(40, 100))
         segmenter = Segmenter(Kind.LINES)
@@ -274,9 +299,26 @@ class Refused(unittest.TestCase):
         segmenter.load_dictionary(THAI[:1], Script.THAI)
         self.assertEqual(list(segmenter.segments("".join(THAI))), THAI)
 
+    def test_rules(self):
+        for wrong in (None, 1, ["÷"], bytearray(b"!")):
+            self.assertRaises(TypeError, Segmenter.by_rules, wrong)
+        self.assertRaises(ValueError, Segmenter.by_rules, "\ud800")
+        for rules, said in (
+            (b"!\xff", "the rules are no UTF-8"),
+            ("", "line 1 of the rules is wrong"),
+            ("A = [a]\nA × B\n÷", "line 2 of the rules is wrong"),
+            (SNAKE[:-2], "line 5 of the rules is wrong"),
+            ("A = [a]\nB = [b]\nA B ÷ A\nB A ÷ B\n×\n", "the rules can't be followed, as line 3 shows"),
+        ):
+            with self.assertRaises(ValueError) as it:
+                Segmenter.by_rules(rules)
+            self.assertEqual(str(it.exception), said)
+
     def test_no_memory(self):
         with mock.patch.object(_library, "open_slot", return_value=_library.NO_MEMORY):
             self.assertRaises(MemoryError, Segmenter, Kind.WORDS)
+        with mock.patch.object(_library, "open_rules", return_value=_library.NO_MEMORY):
+            self.assertRaises(MemoryError, Segmenter.by_rules, SNAKE)
         with mock.patch.object(_library, "load_dictionary", return_value=_library.NO_MEMORY):
             self.assertRaises(MemoryError, Segmenter(Kind.WORDS).load_dictionary, THAI, Script.THAI)
 
@@ -303,6 +345,7 @@ class Lifetimes(unittest.TestCase):
         def make():
             for kind in Kind:
                 segmenter = Segmenter(kind)
+                Segmenter.by_rules(SNAKE)
                 if kind is Kind.WORDS:
                     segmenter.load_dictionary([f"{it:06}" for it in range(1000)], Script.THAI)
 

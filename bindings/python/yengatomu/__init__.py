@@ -9,7 +9,8 @@
 A text is `str`, and then places are its own indices, or `bytes` of UTF-8, which may be ill-formed. What is ill-formed counts as U+FFFD, and so does a
 surrogate that stands alone in a `str`. Segments are slices of the text as it was given.
 
-The functions of this module use a segmenter of each kind and thread, without options and dictionaries; `Segmenter` has both.
+The functions of this module use a segmenter of each kind and thread, without options and dictionaries; `Segmenter` has both, and `Segmenter.by_rules` one
+by rules of your own.
 """
 
 from __future__ import annotations
@@ -156,13 +157,37 @@ class Segmenter:
         word_break: WordBreak = WordBreak.NORMAL,
         chinese_or_japanese: bool = False,
     ) -> None:
-        self._kind, self._has_words = Kind(kind), False
-        self._lock, self._slot = threading.Lock(), _library.Slot()
+        self._begin(Kind(kind))
         status = _library.open_slot(self._slot, self._kind, Strictness(strictness), WordBreak(word_break), bool(chinese_or_japanese))
         if status == _library.NO_MEMORY:
             raise MemoryError
         if status != _library.OK:
             raise ValueError("no such kind or option")
+
+    def _begin(self, kind: Kind) -> None:
+        self._kind, self._has_words = kind, False
+        self._lock, self._slot = threading.Lock(), _library.Slot()
+
+    @classmethod
+    def by_rules(cls, rules: Union[str, bytes]) -> Segmenter:
+        """Returns a segmenter by rules of your own: symbols, each a set of code points, and then rows, of which the first that fits a place joins or parts there.
+
+        crates/segment/segment.1 of the repository tells the notation. Its kind is that of clusters. ValueError, with the line, where the rules are wrong, and
+        where they need to know too much of a text to be followed.
+        """
+        if not isinstance(rules, (str, bytes)):
+            raise TypeError(f"rules are str or bytes, not {type(rules).__name__}")
+        encoded, line = rules.encode() if isinstance(rules, str) else rules, _library.Line()
+        made = cls.__new__(cls)
+        made._begin(Kind.CLUSTERS)
+        status = _library.open_rules(made._slot, encoded, len(encoded), line)
+        if status == _library.NO_MEMORY:
+            raise MemoryError
+        if status == _library.WRONG_RULES:
+            raise ValueError(f"line {line.value} of the rules is wrong" if line.value else "the rules are no UTF-8")
+        if status != _library.OK:
+            raise ValueError("the rules can't be followed" + (f", as line {line.value} shows" if line.value else ""))
+        return made
 
     @property
     def kind(self) -> Kind:

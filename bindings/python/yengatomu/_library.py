@@ -12,6 +12,8 @@ import os
 NAME = "libyengatomu.so.0"
 # What open and load_dictionary return.
 OK, NO_MEMORY, NO_SUCH, NOT_UTF8 = range(4)
+# What open_rules returns beside OK and NO_MEMORY.
+WRONG_RULES, NO_MACHINE = 2, 3
 # No boundary.
 NONE = ctypes.c_size_t(-1).value
 
@@ -46,6 +48,8 @@ class Word(ctypes.Structure):
     _fields_ = [("bytes", ctypes.c_char_p), ("len", ctypes.c_size_t)]
 
 
+# What open_rules writes the number of a line to.
+Line = ctypes.c_size_t
 _SLOT, _SIZE, _U32, _TEXT, _ARRAY = ctypes.POINTER(Slot), ctypes.c_size_t, ctypes.c_uint32, ctypes.c_char_p, ctypes.c_void_p
 
 
@@ -56,6 +60,7 @@ def _call(name: str, result, *arguments):
 
 
 open_slot = _call("open", _U32, _SLOT, _U32, _U32, _U32, ctypes.c_bool)
+open_rules = _call("open_rules", _U32, _SLOT, _TEXT, _SIZE, ctypes.POINTER(_SIZE))
 load_dictionary = _call("load_dictionary", _U32, _SLOT, ctypes.POINTER(Word), _SIZE, _U32)
 _call("close", None, _SLOT)
 boundaries = _call("boundaries", _SIZE, _SLOT, _TEXT, _SIZE, _SIZE, _ARRAY, _SIZE)

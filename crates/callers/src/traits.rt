@@ -90,7 +90,7 @@ fn boundaries_by(
 }
 
 /// A cursor over one word.
-#[derive(Debug, Drop)]
+#[derive(Drop)]
 struct OneWord<'w> {
     rest: &'w [u32],
     is_lost: bool,

@@ -1,24 +1,26 @@
--- The columns of characters that are put together.
+-- The columns of cells that are put together.
 use Rattle.std.proofs.Common.{◌≡◌, ℕ, ◌+◌, ◌*◌, ◌≤◌, Bool, true, false, List, [], ◌∷◌, ◌++◌, length, refl, sym, ap, ◌∙◌, arith}
 use Rattle.std.specs.Prelude.{if◌then◌else◌, ◌&&◌}
-use Rattle.std.specs.List.{list_all}
 use Rattle.std.proofs.lemmas.List.Folds.{list_all-append}
-use Rattle.std.proofs.lemmas.List.{append_assoc, append-nil, length-append, length-map}
+use Rattle.std.proofs.lemmas.List.{append_assoc, append-nil, length-append, length-map, map-append}
 use Rattle.unicode_width.proofs.Rules.{width_or_zero-le}
 use Rattle.seg_text.specs.Decoding.{character_of}
 use Rattle.seg_text.specs.Items.{IsRising, Item, Text, code_points, start_of}
 use Rattle.seg_wrap.specs.declared.extent.Extent.{Extent}
 use Rattle.seg_wrap.specs.Walk.{IsMeasuring, line_extent, joined_extents}
-use Rattle.seg_wrap.specs.Wrapping.{columns_of, is_trailing_space, total_of, width_of}
+use Rattle.seg_wrap.specs.Wrapping.{Cell, are_trailing, by_characters, cell_of, columns_of, is_trailing_space, total_of, width_of}
 use Rattle.seg_wrap.proofs.Places.{few-items}
 
-pub total-append : (xs ys : List ℕ) → total_of (xs ++ ys) ≡ total_of xs + total_of ys
+pub total-append : (xs ys : List Cell) → total_of (xs ++ ys) ≡ total_of xs + total_of ys
 unfolding total_of
 total-append [] ys = omega arith
 total-append (x ∷ xs) ys = rw (total-append xs ys) (omega arith)
 
+trailing-append : (xs ys : List Cell) → are_trailing (xs ++ ys) ≡ (are_trailing xs && are_trailing ys)
+trailing-append xs ys = list_all-append (λ (cell : Cell). cell.is_trailing) xs ys
+
 -- where what follows is trailing white space, and where it isn't
-pub columns-append : (xs ys : List ℕ) → columns_of (xs ++ ys) ≡ (if list_all is_trailing_space ys then columns_of xs else total_of xs + columns_of ys)
+pub columns-append : (xs ys : List Cell) → columns_of (xs ++ ys) ≡ (if are_trailing ys then columns_of xs else total_of xs + columns_of ys)
 unfolding columns_of total_of
 columns-append [] ys = on ys
   where
@@ -26,12 +28,12 @@ columns-append [] ys = on ys
     by true n = refl
     by false n = omega arith
 
-    on : (ys : List ℕ) → columns_of ys ≡ (if list_all is_trailing_space ys then 0 else 0 + columns_of ys)
+    on : (ys : List Cell) → columns_of ys ≡ (if are_trailing ys then 0 else 0 + columns_of ys)
     on [] = refl
-    on (y ∷ ys) = by (list_all is_trailing_space (y ∷ ys)) (width_of y + columns_of ys)
+    on (y ∷ ys) = by (are_trailing (y ∷ ys)) (y.width + columns_of ys)
 columns-append (x ∷ xs) ys =
-    rw (columns-append xs ys, list_all-append is_trailing_space (x ∷ xs) ys)
-    (by (list_all is_trailing_space (x ∷ xs)) (list_all is_trailing_space ys) (width_of x) (columns_of xs) (total_of xs) (columns_of ys))
+    rw (columns-append xs ys, trailing-append (x ∷ xs) ys)
+    (by (are_trailing (x ∷ xs)) (are_trailing ys) x.width (columns_of xs) (total_of xs) (columns_of ys))
   where
     by : (b c : Bool) (w m t n : ℕ)
         → (if b && c then 0 else w + (if c then m else t + n)) ≡ (if c then (if b then 0 else w + m) else w + t + n)
@@ -40,27 +42,28 @@ columns-append (x ∷ xs) ys =
     by false true w m t n = refl
     by false false w m t n = omega arith
 
-pub extent-append : (xs ys : List ℕ) → line_extent (xs ++ ys) ≡ joined_extents (line_extent xs) (line_extent ys)
-extent-append xs ys = rw (columns-append xs ys, total-append xs ys, list_all-append is_trailing_space xs ys) refl
+pub extent-append : (xs ys : List Cell) → line_extent (xs ++ ys) ≡ joined_extents (line_extent xs) (line_extent ys)
+extent-append xs ys = rw (columns-append xs ys, total-append xs ys, trailing-append xs ys) refl
 
-pub columns-most : (cs : List ℕ) → columns_of cs ≤ total_of cs
+pub columns-most : (cells : List Cell) → columns_of cells ≤ total_of cells
 unfolding columns_of total_of
 columns-most [] = omega arith
-columns-most (c ∷ cs) = by (list_all is_trailing_space (c ∷ cs)) (columns-most cs)
+columns-most (cell ∷ cells) = by (are_trailing (cell ∷ cells)) (columns-most cells)
   where
-    by : (b : Bool) → columns_of cs ≤ total_of cs → (if b then 0 else width_of c + columns_of cs) ≤ width_of c + total_of cs
+    by : (b : Bool) → columns_of cells ≤ total_of cells → (if b then 0 else cell.width + columns_of cells) ≤ cell.width + total_of cells
     by true most = omega arith
     by false most = omega (arith, most)
 
--- with more characters there are no fewer columns
-pub columns-grow : (xs ys : List ℕ) → columns_of xs ≤ columns_of (xs ++ ys)
-columns-grow xs ys = rw (columns-append xs ys) (by (list_all is_trailing_space ys))
+-- with more cells there are no fewer columns
+pub columns-grow : (xs ys : List Cell) → columns_of xs ≤ columns_of (xs ++ ys)
+columns-grow xs ys = rw (columns-append xs ys) (by (are_trailing ys))
   where
     by : (b : Bool) → columns_of xs ≤ (if b then columns_of xs else total_of xs + columns_of ys)
     by true = omega arith
     by false = omega (arith, columns-most xs)
 
-pub total-most : (cs : List ℕ) → total_of cs ≤ 3 * length cs
+-- characters one by one
+pub total-most : (cs : List ℕ) → total_of (by_characters cs) ≤ 3 * length cs
 unfolding total_of
 total-most [] = omega arith
 total-most (c ∷ cs) = omega (arith, width_or_zero-le false (character_of c), total-most cs)
@@ -69,7 +72,7 @@ total-most (c ∷ cs) = omega (arith, width_or_zero-le false (character_of c), t
 abbrev one_of : Bool → ℕ → Extent
 one_of b w = record { columns = if b then 0 else w; inner_columns = w; is_trailing = b }
 
-extent-one : (c : ℕ) → line_extent (c ∷ []) ≡ one_of (is_trailing_space c) (width_of c)
+extent-one : (c : ℕ) → line_extent (cell_of c ∷ []) ≡ one_of (is_trailing_space c) (width_of c)
 unfolding columns_of total_of
 extent-one c = by (is_trailing_space c) (width_of c)
   where
@@ -80,10 +83,10 @@ extent-one c = by (is_trailing_space c) (width_of c)
     by true w = ap (λ (n : ℕ). extent 0 n true) (omega arith)
     by false w = ap (λ (n : ℕ). extent n n false) (omega arith)
 
-extent-trailing : (c width : ℕ) → width ≡ width_of c → is_trailing_space c ≡ true → one_of true width ≡ line_extent (c ∷ [])
+extent-trailing : (c width : ℕ) → width ≡ width_of c → is_trailing_space c ≡ true → one_of true width ≡ line_extent (cell_of c ∷ [])
 extent-trailing c width is does = sym (extent-one c ∙ rw (does, is) refl)
 
-extent-standing : (c width : ℕ) → width ≡ width_of c → is_trailing_space c ≡ false → one_of false width ≡ line_extent (c ∷ [])
+extent-standing : (c width : ℕ) → width ≡ width_of c → is_trailing_space c ≡ false → one_of false width ≡ line_extent (cell_of c ∷ [])
 extent-standing c width is does = sym (extent-one c ∙ rw (does, is) refl)
 
 -- a character after others
@@ -91,7 +94,7 @@ abbrev extent : ℕ → ℕ → Bool → Extent
 extent columns inner_columns is_trailing = record { columns = columns; inner_columns = inner_columns; is_trailing = is_trailing }
 
 pub followed-trailing : (before : Extent) (c width : ℕ) → width ≡ width_of c → is_trailing_space c ≡ true
-    → extent before.columns (before.inner_columns + width) before.is_trailing ≡ joined_extents before (line_extent (c ∷ []))
+    → extent before.columns (before.inner_columns + width) before.is_trailing ≡ joined_extents before (line_extent (cell_of c ∷ []))
 followed-trailing before c width is does =
     ap (λ (b : Bool). extent before.columns (before.inner_columns + width) b) (same before.is_trailing) ∙ ap (λ (one : Extent). joined_extents before one) (extent-trailing c width is does)
   where
@@ -100,7 +103,7 @@ followed-trailing before c width is does =
     same false = refl
 
 pub followed-standing : (before : Extent) (c width : ℕ) → width ≡ width_of c → is_trailing_space c ≡ false
-    → extent (before.inner_columns + width) (before.inner_columns + width) false ≡ joined_extents before (line_extent (c ∷ []))
+    → extent (before.inner_columns + width) (before.inner_columns + width) false ≡ joined_extents before (line_extent (cell_of c ∷ []))
 followed-standing before c width is does =
     ap (λ (b : Bool). extent (before.inner_columns + width) (before.inner_columns + width) b) (none before.is_trailing)
     ∙ ap (λ (one : Extent). joined_extents before one) (extent-standing c width is does)
@@ -112,16 +115,16 @@ followed-standing before c width is does =
 -- ---- a text is read item by item
 
 pub measuring-next : (text rest later : Text) (item : Item) (before after : Extent) → IsMeasuring text rest before → rest.items ≡ item ∷ later.items
-    → after ≡ joined_extents before (line_extent (item.1 ∷ [])) → IsMeasuring text later after
+    → after ≡ joined_extents before (line_extent (cell_of item.1 ∷ [])) → IsMeasuring text later after
 measuring-next text rest later item before after is starts next = record {
   read = is.read ++ item.1 ∷ [];
-  measured = rw (next, is.measured) (sym (extent-append is.read (item.1 ∷ [])));
+  measured = rw (next, is.measured, map-append cell_of is.read (item.1 ∷ [])) (sym (extent-append (by_characters is.read) (cell_of item.1 ∷ [])));
   characters = is.characters ∙ ap (λ (items : List Item). is.read ++ code_points items) starts ∙ sym (append_assoc is.read (item.1 ∷ []) (code_points later.items));
 }
 
-pub measuring-end : (text rest : Text) (extent : Extent) → IsMeasuring text rest extent → rest.items ≡ [] → extent ≡ line_extent (code_points text.items)
+pub measuring-end : (text rest : Text) (extent : Extent) → IsMeasuring text rest extent → rest.items ≡ [] → extent ≡ line_extent (by_characters (code_points text.items))
 measuring-end text rest extent is none =
-    is.measured ∙ ap line_extent (sym (is.characters ∙ ap (λ (items : List Item). is.read ++ code_points items) none ∙ append-nil is.read))
+    is.measured ∙ ap (λ (cs : List ℕ). line_extent (by_characters cs)) (sym (is.characters ∙ ap (λ (items : List Item). is.read ++ code_points items) none ∙ append-nil is.read))
 
 -- what was read takes few columns
 pub measuring-room : (text rest : Text) (extent : Extent) → IsRising text.items text.end → IsMeasuring text rest extent

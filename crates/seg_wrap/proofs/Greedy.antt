@@ -55,27 +55,27 @@ unbroken-goes first [] next later is = is.0
 unbroken-goes first (one ∷ others) next later is = whole-mark first one others ∙ unbroken-goes one others next later is.1
 
 -- a line has no fewer columns than its beginning
-whole-grow : (first : Segment) (others : List Segment) → columns_of first.characters ≤ columns_of (whole first others).characters
+whole-grow : (first : Segment) (others : List Segment) → columns_of first.cells ≤ columns_of (whole first others).cells
 unfolding whole
 whole-grow first [] = omega arith
 whole-grow first (one ∷ others) =
-    omega (arith, columns-grow first.characters one.characters, whole-grow (as_one first one) others)
+    omega (arith, columns-grow first.cells one.cells, whole-grow (as_one first one) others)
 
 whole-append : (first : Segment) (others later : List Segment) → whole first (others ++ later) ≡ whole (whole first others) later
 unfolding whole
 whole-append first [] later = refl
 whole-append first (one ∷ others) later = whole-append (as_one first one) others later
 
-ends : (limit : ℕ) (line next : Segment) → (line.is_mandatory ≡ false → limit < columns_of (line.characters ++ next.characters)) → ends_before limit line next ≡ true
+ends : (limit : ℕ) (line next : Segment) → (line.is_mandatory ≡ false → limit < columns_of (line.cells ++ next.cells)) → ends_before limit line next ≡ true
 ends limit line next full = on line.is_mandatory full
   where
-    on : (b : Bool) → (b ≡ false → limit < columns_of (line.characters ++ next.characters)) → (b || nat_lt limit (columns_of (line.characters ++ next.characters))) ≡ true
+    on : (b : Bool) → (b ≡ false → limit < columns_of (line.cells ++ next.cells)) → (b || nat_lt limit (columns_of (line.cells ++ next.cells))) ≡ true
     on true full = refl
     on false full = lt-ltb _ _ (full refl)
 
-goes-on : (limit : ℕ) (line next : Segment) → line.is_mandatory ≡ false → columns_of (line.characters ++ next.characters) ≤ limit → ends_before limit line next ≡ false
+goes-on : (limit : ℕ) (line next : Segment) → line.is_mandatory ≡ false → columns_of (line.cells ++ next.cells) ≤ limit → ends_before limit line next ≡ false
 goes-on limit line next goes fits =
-    rw goes (le-ltb limit (columns_of (line.characters ++ next.characters)) fits)
+    rw goes (le-ltb limit (columns_of (line.cells ++ next.cells)) fits)
 
 -- ---- what the greedy lines are
 
@@ -95,13 +95,13 @@ parts-wrapped limit line (next ∷ segments) =
 -- ---- the segments of a line are taken one by one
 
 parts-on : (limit : ℕ) (first : Segment) (others extra after : List Segment) → IsUnbroken first (others ++ extra)
-    → (0 < length (others ++ extra) → columns_of (whole first (others ++ extra)).characters ≤ limit)
+    → (0 < length (others ++ extra) → columns_of (whole first (others ++ extra)).cells ≤ limit)
     → parts_from limit (record { first = first; others = others }) (extra ++ after) ≡ parts_from limit (record { first = first; others = others ++ extra }) after
 unfolding parts_from whole
 parts-on limit first others [] after is fits = rw (append-nil others) refl
 parts-on limit first others (next ∷ extra) after is fits =
     let some : 0 < length (others ++ next ∷ extra) = omega (arith, length-append others (next ∷ extra)) in
-    let within : columns_of (whole (as_one (whole first others) next) extra).characters ≤ limit = rw (← whole-append first others (next ∷ extra)) (fits some) in
+    let within : columns_of (whole (as_one (whole first others) next) extra).cells ≤ limit = rw (← whole-append first others (next ∷ extra)) (fits some) in
     let same : (others ++ next ∷ []) ++ extra ≡ others ++ next ∷ extra = append_assoc others (next ∷ []) extra in
     let further = parts-on limit first (others ++ next ∷ []) extra after (rw same is) (rw same fits) in
     rw (goes-on limit (whole first others) next (unbroken-goes first others next extra is)
@@ -136,7 +136,7 @@ fits-of limit columns true is = absurd (true≢false is)
 fits-of limit columns false is = ltb-false limit columns is
 
 are-from : (limit : ℕ) (line : Parts) (segments : List Segment) → IsUnbroken line.first line.others
-    → (0 < length line.others → columns_of (whole_of line).characters ≤ limit)
+    → (0 < length line.others → columns_of (whole_of line).cells ≤ limit)
     → AreLines limit (parts_of line ++ segments) (parts_from limit line segments)
 unfolding parts_from AreLines IsUnbroken
 are-from limit line [] is fits =
@@ -146,11 +146,11 @@ are-from limit line (next ∷ segments) is fits =
     (λ further within. are-from limit (with_next line next) segments further within)
   where
     columns : ℕ
-    columns = columns_of ((whole_of line).characters ++ next.characters)
+    columns = columns_of ((whole_of line).cells ++ next.cells)
 
     on : (b : Bool) → ends_before limit (whole_of line) next ≡ b
         → AreLines limit (next ∷ segments) (parts_from limit (alone next) segments)
-        → (IsUnbroken line.first (line.others ++ next ∷ []) → (0 < length (line.others ++ next ∷ []) → columns_of (whole line.first (line.others ++ next ∷ [])).characters ≤ limit)
+        → (IsUnbroken line.first (line.others ++ next ∷ []) → (0 < length (line.others ++ next ∷ []) → columns_of (whole line.first (line.others ++ next ∷ [])).cells ≤ limit)
         → AreLines limit (line.first ∷ (line.others ++ next ∷ []) ++ segments) (parts_from limit (with_next line next) segments))
         → AreLines limit (parts_of line ++ next ∷ segments)
         (if b then line ∷ parts_from limit (alone next) segments else parts_from limit (with_next line next) segments)

@@ -8,7 +8,7 @@ use Rattle.seg_text.specs.Items.{IsRising, Text, rest_after}
 use Rattle.seg_text.proofs.Places.{IsRising-drop}
 use Rattle.seg_wrap.specs.declared.wrapping.Piece.{Piece}
 use Rattle.seg_wrap.specs.Walk.{AreCuts, IsHeldPiece, LinesLeft, lines_held, segment_at}
-use Rattle.seg_wrap.specs.Wrapping.{Line, Segment, count_before, ends_before, line_of, lines_from, as_one, rest_from, segments_from, text_lines}
+use Rattle.seg_wrap.specs.Wrapping.{Line, Measure, Segment, count_before, ends_before, line_of, lines_from, as_one, rest_from, segments_from, text_lines}
 use Rattle.seg_wrap.proofs.Places.{count-within, few-items, place-within}
 
 -- each break stands behind an item or more
@@ -24,10 +24,10 @@ cuts-few text (one ∷ boundaries) cuts =
       cuts-few (rest_from one.offset text) boundaries cuts.1.1,
     )
 
-segments-few : (text : Text) (boundaries : List Boundary) → length (segments_from text boundaries) ≡ length boundaries
+segments-few : (measure : Measure) (text : Text) (boundaries : List Boundary) → length (segments_from measure text boundaries) ≡ length boundaries
 unfolding segments_from
-segments-few text [] = refl
-segments-few text (one ∷ boundaries) = ap suc (segments-few (rest_from one.offset text) boundaries)
+segments-few measure text [] = refl
+segments-few measure text (one ∷ boundaries) = ap suc (segments-few measure (rest_from one.offset text) boundaries)
 
 -- a line takes a segment or more
 lines-few : (limit : ℕ) (line : Segment) (segments : List Segment) → length (lines_from limit line segments) ≤ 1 + length segments
@@ -53,30 +53,30 @@ lines-some limit line (next ∷ segments) = by (ends_before limit line next) (li
     by false goes = goes
 
 -- the piece that is held ends in the text
-pub held-within : (text : Text) (held : Option Piece) (piece : Piece) (boundaries : List Boundary) → IsRising text.items text.end
-    → IsHeldPiece text held boundaries → held ≡ Some piece → piece.end ≤ text.end
-held-within text held piece boundaries rises is some =
-    let held_is : IsHeldPiece text (Some piece) boundaries = rw some at is in
+pub held-within : (measure : Measure) (text : Text) (held : Option Piece) (piece : Piece) (boundaries : List Boundary) → IsRising text.items text.end
+    → IsHeldPiece measure text held boundaries → held ≡ Some piece → piece.end ≤ text.end
+held-within measure text held piece boundaries rises is some =
+    let held_is : IsHeldPiece measure text (Some piece) boundaries = rw some at is in
     let later = IsRising-drop text.items text.end (count_before piece.end text) rises in
     omega (arith, held_is.0.at, place-within (rest_from piece.end text).items text.end later)
 
 -- with it there is a line, and no more than one for it and one for each unit after it
-pub held-some : (limit : ℕ) (text : Text) (held : Option Piece) (piece : Piece) (boundaries : List Boundary) → held ≡ Some piece
-    → 1 ≤ length (lines_held limit text held boundaries)
-held-some limit text held piece boundaries some =
-    rw some (lines-some limit (segment_at text piece) (segments_from (rest_from piece.end text) boundaries))
+pub held-some : (measure : Measure) (limit : ℕ) (text : Text) (held : Option Piece) (piece : Piece) (boundaries : List Boundary) → held ≡ Some piece
+    → 1 ≤ length (lines_held measure limit text held boundaries)
+held-some measure limit text held piece boundaries some =
+    rw some (lines-some limit (segment_at measure text piece) (segments_from measure (rest_from piece.end text) boundaries))
 
-pub held-few : (limit : ℕ) (text : Text) (held : Option Piece) (piece : Piece) (boundaries : List Boundary) → IsRising text.items text.end
-    → IsHeldPiece text held boundaries → held ≡ Some piece → length (lines_held limit text held boundaries) ≤ 1 + (text.end - piece.end)
-held-few limit text held piece boundaries rises is some =
-    let held_is : IsHeldPiece text (Some piece) boundaries = rw some at is in
+pub held-few : (measure : Measure) (limit : ℕ) (text : Text) (held : Option Piece) (piece : Piece) (boundaries : List Boundary) → IsRising text.items text.end
+    → IsHeldPiece measure text held boundaries → held ≡ Some piece → length (lines_held measure limit text held boundaries) ≤ 1 + (text.end - piece.end)
+held-few measure limit text held piece boundaries rises is some =
+    let held_is : IsHeldPiece measure text (Some piece) boundaries = rw some at is in
     let rest = rest_from piece.end text in
     rw some
     (omega (
       arith,
       held_is.0.at,
-      lines-few limit (segment_at text piece) (segments_from rest boundaries),
-      segments-few rest boundaries,
+      lines-few limit (segment_at measure text piece) (segments_from measure rest boundaries),
+      segments-few measure rest boundaries,
       cuts-few rest boundaries held_is.1,
       few-items rest.items text.end (IsRising-drop text.items text.end (count_before piece.end text) rises),
     ))

@@ -8,7 +8,7 @@ use Rattle.seg_text.specs.declared.boundary.Boundary.{Boundary}
 use Rattle.seg_text.specs.Items.{IsRising, Item, Text, place_of, rest_after, start_of}
 use Rattle.seg_text.proofs.Places.{IsRising-drop}
 use Rattle.seg_wrap.specs.Walk.{AreCuts}
-use Rattle.seg_wrap.specs.Wrapping.{Line, Segment, TextLine, between, count_before, ends_before, line_of, lines_from, as_one, rest_from, segments_from, text_lines, wrapped_lines}
+use Rattle.seg_wrap.specs.Wrapping.{Line, Measure, Segment, TextLine, between, count_before, ends_before, line_of, lines_from, as_one, rest_from, segments_from, text_lines, wrapped_lines}
 use Rattle.seg_wrap.proofs.Texts.{IsTextOf}
 use Rattle.seg_wrap.proofs.Places.{characters-length, count-within, place-grows, place-within}
 
@@ -41,12 +41,12 @@ length-of-lines limit line (next ∷ segments) =
     on true anew further = ap (λ (n : ℕ). length line.characters + n) anew
     on false anew further = omega (arith, further, length-append line.characters next.characters)
 
-length-of-segments : (text : Text) (boundaries : List Boundary) → AreCuts text boundaries → segments_length (segments_from text boundaries) ≡ length text.items
+length-of-segments : (measure : Measure) (text : Text) (boundaries : List Boundary) → AreCuts text boundaries → segments_length (segments_from measure text boundaries) ≡ length text.items
 unfolding AreCuts segments_from segments_length
-length-of-segments text [] cuts = sym (ap length cuts)
-length-of-segments text (one ∷ boundaries) cuts =
+length-of-segments measure text [] cuts = sym (ap length cuts)
+length-of-segments measure text (one ∷ boundaries) cuts =
     let count : ℕ = count_before one.offset text in
-    omega (arith, characters-length text one.offset, length-of-segments (rest_from one.offset text) boundaries cuts.1.1, length-drop count text.items, count-within text one.offset)
+    omega (arith, characters-length text one.offset, length-of-segments measure (rest_from one.offset text) boundaries cuts.1.1, length-drop count text.items, count-within text one.offset)
 
 -- what lines with as many characters as there are items stand in
 lines-joined : (units : List ℕ) (text : Text) (lines : List Line) → IsRising text.items text.end → lines_length lines ≡ length text.items
@@ -64,21 +64,21 @@ lines-joined units text (line ∷ lines) rises same =
     ap (λ (later : List ℕ). between (start_of text) (start_of rest) units ++ later) (lines-joined units rest lines rises_on left)
     ∙ between-join units (start_of text) (start_of rest) text.end (place-grows text.items text.end taken rises) (place-within rest.items text.end rises_on)
 
-pub wrapped-joined : (limit : ℕ) (units : List ℕ) (text : Text) (boundaries : List Boundary) → IsRising text.items text.end → AreCuts text boundaries
-    → flat_map (λ (line : TextLine). line.units) (text_lines units text (wrapped_lines limit (segments_from text boundaries))) ≡ between (start_of text) text.end units
+pub wrapped-joined : (measure : Measure) (limit : ℕ) (units : List ℕ) (text : Text) (boundaries : List Boundary) → IsRising text.items text.end → AreCuts text boundaries
+    → flat_map (λ (line : TextLine). line.units) (text_lines units text (wrapped_lines limit (segments_from measure text boundaries))) ≡ between (start_of text) text.end units
 unfolding lines_length segments_length
-wrapped-joined limit units text boundaries rises cuts =
-    lines-joined units text (wrapped_lines limit (segments_from text boundaries)) rises
-    (on (segments_from text boundaries) ∙ length-of-segments text boundaries cuts)
+wrapped-joined measure limit units text boundaries rises cuts =
+    lines-joined units text (wrapped_lines limit (segments_from measure text boundaries)) rises
+    (on (segments_from measure text boundaries) ∙ length-of-segments measure text boundaries cuts)
   where
     on : (segments : List Segment) → lines_length (wrapped_lines limit segments) ≡ segments_length segments
     on [] = refl
     on (first ∷ segments) = length-of-lines limit first segments
 
 -- and those of a text that stands in some units are the units
-pub units-joined : (limit : ℕ) (units : List ℕ) (text : Text) (boundaries : List Boundary) → IsTextOf units text → AreCuts text boundaries
-    → flat_map (λ (line : TextLine). line.units) (text_lines units text (wrapped_lines limit (segments_from text boundaries))) ≡ units
-units-joined limit units text boundaries is cuts =
-    wrapped-joined limit units text boundaries is.rises cuts
+pub units-joined : (measure : Measure) (limit : ℕ) (units : List ℕ) (text : Text) (boundaries : List Boundary) → IsTextOf units text → AreCuts text boundaries
+    → flat_map (λ (line : TextLine). line.units) (text_lines units text (wrapped_lines limit (segments_from measure text boundaries))) ≡ units
+units-joined measure limit units text boundaries is cuts =
+    wrapped-joined measure limit units text boundaries is.rises cuts
     ∙ ap (λ (n : ℕ). between n text.end units) is.start
     ∙ take_all (text.end - 0) units (omega (arith, is.end))

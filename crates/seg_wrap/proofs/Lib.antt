@@ -1,5 +1,7 @@
 pub mod Places
 pub mod Extents
+pub mod Cells
+pub mod Clusters
 pub mod Greedy
 pub mod Walks
 pub mod Texts

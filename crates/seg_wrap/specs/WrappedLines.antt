@@ -12,16 +12,17 @@ use Rattle.seg_wrap.specs.declared.wrapper.WrappedUtf8Line.{WrappedUtf8Line}
 use Rattle.seg_wrap.specs.declared.wrapper.WrapUtf8Iterator.{WrapUtf8Iterator}
 use Rattle.seg_wrap.specs.declared.wrapper.utf16.WrappedUtf16Line.{WrappedUtf16Line}
 use Rattle.seg_wrap.specs.declared.wrapper.utf16.WrapUtf16Iterator.{WrapUtf16Iterator}
-use Rattle.seg_wrap.specs.Wrapping.{TextLine, segments_of, text_lines, wrapped_lines}
+use Rattle.seg_wrap.specs.Walk.{measure_of}
+use Rattle.seg_wrap.specs.Wrapping.{Measure, TextLine, segments_of, text_lines, wrapped_lines}
 
--- the lines of a text that stands in some units, which this decodes, wrapped to so many columns at the breaks that these rules find
-abbrev pub wrapped_units : (List ℕ → Text) → LineRules → ℕ → List ℕ → List TextLine
-wrapped_units decode rules limit units =
-    text_lines units (decode units) (wrapped_lines limit (segments_of (decode units) (line_boundaries_of rules (decode units))))
+-- the lines of a text that stands in some units, which this decodes, so measured, wrapped to so many columns at the breaks that these rules find
+abbrev pub wrapped_units : (List ℕ → Text) → Measure → LineRules → ℕ → List ℕ → List TextLine
+wrapped_units decode measure rules limit units =
+    text_lines units (decode units) (wrapped_lines limit (segments_of measure (decode units) (line_boundaries_of rules (decode units))))
 
 -- the same of possibly ill-formed UTF-8
-abbrev pub wrapped_text : LineRules → ℕ → List ℕ → List TextLine
-wrapped_text rules limit bytes = wrapped_units utf8 rules limit bytes
+abbrev pub wrapped_text : Measure → LineRules → ℕ → List ℕ → List TextLine
+wrapped_text measure rules limit bytes = wrapped_units utf8 measure rules limit bytes
 
 -- what lines stand in, one after another
 abbrev pub joined_units : List TextLine → List ℕ
@@ -30,6 +31,10 @@ joined_units lines = flat_map (λ line. line.units) lines
 -- what a wrapper finds line breaks by
 abbrev pub wrapper_rules : LineWrapper → LineRules
 wrapper_rules wrapper = line_rules wrapper.lines
+
+-- and how it measures what stands between them
+abbrev pub wrapper_measure : LineWrapper → Measure
+wrapper_measure wrapper = measure_of wrapper.measuring
 
 -- a line that was given
 abbrev pub line_in : WrappedLine → TextLine

@@ -1,9 +1,9 @@
-//! How many columns characters take, at a line's end and before it.
+//! How many columns cells take, at a line's end and before it.
 
 ghost use Rattle.std.specs.Prelude.{◌≡◌, ◌+◌, ◌*◌, ◌≤◌, ◌<◌, ◌^◌, ◌∷◌, [], length};
 ghost use Rattle.seg_text.specs.Items.{code_points, start_of};
 ghost use Rattle.seg_wrap.specs.Walk.{line_extent, joined_extents};
-ghost use Rattle.seg_wrap.specs.Wrapping.{is_trailing_space, width_of};
+ghost use Rattle.seg_wrap.specs.Wrapping.{by_characters, cell_of, is_trailing_space, width_of};
 
 use seg_text::character::character_of;
 use seg_text::cursor::Cursor;
@@ -27,7 +27,7 @@ fn is_trailing_space(code_point: u32) -> bool
     code_point == 0x20 || code_point == 0xA || code_point == 0xD
 }
 
-/// The columns of some characters.
+/// The columns of some cells.
 #[derive(Clone, Copy, Debug)]
 pub(crate) struct Extent {
     /// Where they end a line: trailing white space isn't counted.
@@ -39,8 +39,8 @@ pub(crate) struct Extent {
 }
 
 impl Extent {
-    /// That of no character.
-    fn none() -> Self
+    /// That of no cell.
+    pub(crate) fn none() -> Self
         ensures { result ≡ line_extent [] }
     {
         Extent {
@@ -50,10 +50,21 @@ impl Extent {
         }
     }
 
-    /// That of these characters and then one more.
+    /// That of one cell.
+    pub(crate) fn of_cell(width: u128, is_trailing: bool) -> Self
+        ensures { result ≡ line_extent (record { width = width; is_trailing = is_trailing } ∷ []) }
+    {
+        Extent {
+            columns: if is_trailing { 0 } else { width },
+            inner_columns: width,
+            is_trailing,
+        }
+    }
+
+    /// That of these cells and then the character's.
     fn followed_by(self, code_point: u32) -> Self
         requires room { self.inner_columns + 3 < 2 ^ 128 }
-        ensures { result ≡ joined_extents self (line_extent (code_point ∷ [])) }
+        ensures { result ≡ joined_extents self (line_extent (cell_of code_point ∷ [])) }
     {
         let inner_columns = self.inner_columns + width_of(code_point);
         if is_trailing_space(code_point) {
@@ -69,7 +80,7 @@ impl Extent {
         }
     }
 
-    /// That of these characters and then others.
+    /// That of these cells and then others.
     pub(crate) fn joined(self, after: Extent) -> Self
         requires room { self.inner_columns + after.inner_columns < 2 ^ 128 }
         requires within { after.columns ≤ after.inner_columns }
@@ -86,10 +97,10 @@ impl Extent {
         }
     }
 
-    /// That of what is left of a text.
+    /// That of the characters that are left of a text.
     pub(crate) fn of_text<I: Cursor>(mut text: I) -> Self
         requires { (I.text text).end < 2 ^ 64 }
-        ensures measured { result ≡ line_extent (code_points (I.text text).items) }
+        ensures measured { result ≡ line_extent (by_characters (code_points (I.text text).items)) }
         ensures small { result.inner_columns + 3 * start_of (I.text text) ≤ 3 * (I.text text).end }
     {
         let mut extent = Extent::none();

@@ -4,5 +4,6 @@
 mod breaks;
 mod extent;
 pub mod laws;
+mod measure;
 pub mod wrapper;
 mod wrapping;

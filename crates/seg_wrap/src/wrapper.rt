@@ -5,13 +5,17 @@ ghost use Rattle.std.specs.Iterator.{YieldsFirstBy, MakesProgress, item_count};
 ghost use Rattle.seg_text.specs.Items.{start_of};
 ghost use Rattle.seg_text.specs.Decoding.{utf8};
 ghost use Rattle.seg_lines.specs.Lines.{line_rules};
-ghost use Rattle.seg_wrap.specs.Wrapping.{between, bytes_columns, rest_from};
+ghost use Rattle.seg_wrap.specs.Walk.{measure_of};
+ghost use Rattle.seg_wrap.specs.Wrapping.{between, by_characters, by_clusters, bytes_columns, rest_from};
+ghost use Rattle.seg_clusters.specs.Clusters.{cluster_rules};
 ghost use Rattle.seg_lines.specs.LineBreaks.{IsByPairTable};
 
 mod utf16;
 
 use crate::extent::Extent;
-use crate::wrapping::Wrapping;
+use crate::measure::Measuring;
+use crate::wrapping::{Setting, Wrapping};
+use seg_clusters::grapheme::GraphemeClusterSegmenterBorrowed;
 use seg_lines::inner::is_neo;
 use seg_lines::line::{LineBreakIterator, LineSegmenterBorrowed};
 use seg_text::indices::{StrCharIndices, Utf8CharIndices};
@@ -28,7 +32,7 @@ pub enum WrapError {
     NotNeo,
 }
 
-/// Wraps the lines of texts to columns, by the widths of their characters.
+/// Wraps the lines of texts to columns, by the widths of their characters, or of their clusters (`by_cluster`).
 ///
 /// A line takes segments of the text, each from one line break to the next, as long as they have room in its columns. It ends
 /// at each break where it must, and at the end of the text. A segment that is wider than the columns stands on a line
@@ -36,47 +40,76 @@ pub enum WrapError {
 #[derive(Clone, Copy, Debug)]
 pub struct LineWrapper<'data> {
     lines: LineSegmenterBorrowed<'data>,
+    measuring: Measuring<'data>,
 }
 
 impl<'data> LineWrapper<'data> {
-    ghost use Rattle.seg_wrap.specs.WrappedLines.{joined_units, lines_to_come, utf8_lines_to_come, wrapped_text, wrapper_rules};
+    ghost use Rattle.seg_wrap.specs.WrappedLines.{joined_units, lines_to_come, utf8_lines_to_come, wrapped_text, wrapper_measure, wrapper_rules};
 
-    /// A wrapper by the breaks that a machine finds. `NotNeo` where a pair table finds them.
+    /// A wrapper by the breaks that a machine finds, and by the widths of characters. `NotNeo` where a pair table finds the breaks.
     pub fn new(lines: LineSegmenterBorrowed<'data>) -> Result<Self, WrapError>
         ensures made { IfOk result (λ wrapper. (wrapper_rules wrapper ≡ line_rules lines.entry) × (IsByPairTable (line_rules lines.entry).finder → ⊥)) }
+        ensures measure { IfOk result (λ wrapper. wrapper_measure wrapper ≡ by_characters) }
         ensures rejected { OnErr result (IsByPairTable (line_rules lines.entry).finder) }
     {
         if is_neo(lines) {
-            Ok(LineWrapper { lines })
+            Ok(LineWrapper {
+                lines,
+                measuring: Measuring::Characters,
+            })
         } else {
             Err(WrapError::NotNeo)
         }
     }
 
+    /// The wrapper by the same breaks that counts columns cluster by cluster: each takes the width of its str, so a family of emoji takes
+    /// two columns, and a control character one. The clusters are those of a line's segments, each by itself; one that has
+    /// more than 128 bytes of UTF-8 takes the sum of its characters' widths. Takes no memory.
+    pub fn by_cluster(self, clusters: GraphemeClusterSegmenterBorrowed<'data>) -> Self
+        ensures lines { wrapper_rules result ≡ wrapper_rules self.entry }
+        ensures measure { wrapper_measure result ≡ by_clusters (cluster_rules clusters.entry) }
+    {
+        LineWrapper {
+            measuring: Measuring::Clusters(clusters),
+            ..self
+        }
+    }
+
+    // To so many columns, counted as the wrapper does.
+    pub(crate) fn setting(self, columns: usize) -> Setting<'data>
+        ensures columns { result.columns ≡ columns }
+        ensures measure { measure_of result.measuring ≡ wrapper_measure self.entry }
+    {
+        Setting {
+            columns,
+            measuring: self.measuring,
+        }
+    }
+
     /// The lines of a text, each of at most these columns unless it is one segment. Takes no memory.
     pub fn wrap_str<'s>(self, text: &'s str, columns: usize) -> WrapIterator<'data, 's>
-        ensures lines { lines_to_come result ≡ wrapped_text (wrapper_rules self.entry) columns text.now }
+        ensures lines { lines_to_come result ≡ wrapped_text (wrapper_measure self.entry) (wrapper_rules self.entry) columns text.now }
         ensures joined { joined_units (lines_to_come result) ≡ text.now }
     {
         let mut breaks = self.lines.segment_str(text);
         let _start = breaks.next();
         WrapIterator {
             text,
-            lines: Wrapping::new(breaks, StrCharIndices::new(text), columns),
+            lines: Wrapping::new(breaks, StrCharIndices::new(text), self.setting(columns)),
         }
     }
 
     /// The lines of possibly ill-formed UTF-8. What is ill-formed is as wide as the U+FFFD that it is decoded as, and stays as
     /// it is in the lines. Takes no memory.
     pub fn wrap_utf8<'s>(self, bytes: &'s [u8], columns: usize) -> WrapUtf8Iterator<'data, 's>
-        ensures lines { utf8_lines_to_come result ≡ wrapped_text (wrapper_rules self.entry) columns bytes.now }
+        ensures lines { utf8_lines_to_come result ≡ wrapped_text (wrapper_measure self.entry) (wrapper_rules self.entry) columns bytes.now }
         ensures joined { joined_units (utf8_lines_to_come result) ≡ bytes.now }
     {
         let mut breaks = self.lines.segment_utf8(bytes);
         let _start = breaks.next();
         WrapUtf8Iterator {
             bytes,
-            lines: Wrapping::new(breaks, Utf8CharIndices::new(bytes), columns),
+            lines: Wrapping::new(breaks, Utf8CharIndices::new(bytes), self.setting(columns)),
         }
     }
 }
@@ -126,7 +159,7 @@ impl<'s> WrappedLine<'s> {
 #[derive(Debug)]
 pub struct WrapIterator<'data, 's> {
     text: &'s str,
-    lines: Wrapping<StrCharIndices<'s>, LineBreakIterator<'data, 's, Utf8>>,
+    lines: Wrapping<'data, StrCharIndices<'s>, LineBreakIterator<'data, 's, Utf8>>,
     ghost rest: { lines.text ≡ rest_from (start_of lines.text) (utf8 text.now) },
 }
 
@@ -219,7 +252,11 @@ impl<'s> WrappedUtf8Line<'s> {
 #[derive(Debug)]
 pub struct WrapUtf8Iterator<'data, 's> {
     bytes: &'s [u8],
-    lines: Wrapping<Utf8CharIndices<'s>, LineBreakIterator<'data, 's, PotentiallyIllFormedUtf8>>,
+    lines: Wrapping<
+        'data,
+        Utf8CharIndices<'s>,
+        LineBreakIterator<'data, 's, PotentiallyIllFormedUtf8>,
+    >,
     ghost rest: { lines.text ≡ rest_from (start_of lines.text) (utf8 bytes.now) },
 }
 

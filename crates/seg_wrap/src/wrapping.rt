@@ -1,11 +1,12 @@
 //! Lines, wrapped to columns at any breaks.
 
-ghost use Rattle.std.specs.Prelude.{◌≡◌, ◌≤◌, ◌∷◌, length, IfSome};
-ghost use Rattle.seg_wrap.specs.Walk.{AreCuts, GivesLine, IsHeldPiece, IsFirstPiece, lines_held, rest_held, segment_at, segments_held};
-ghost use Rattle.seg_wrap.specs.Wrapping.{line_of, lines_from, rest_from, segments_from, wrapped_lines};
+ghost use Rattle.std.specs.Prelude.{◌≡◌, ◌≤◌, ◌∷◌, List, length, IfSome};
+ghost use Rattle.seg_wrap.specs.Walk.{AreCuts, GivesLine, IsHeldPiece, IsFirstPiece, IsFirstSegment, line_at, lines_held, measure_of, rest_held, segment_at, segments_held};
+ghost use Rattle.seg_wrap.specs.Wrapping.{Cell, lines_from, rest_from, segments_from, wrapped_lines};
 
 use crate::breaks::Breaks;
 use crate::extent::Extent;
+use crate::measure::Measuring;
 use seg_text::cursor::Cursor;
 use std::marker::Model;
 
@@ -30,9 +31,18 @@ struct Piece {
     is_mandatory: bool,
 }
 
+/// To how many columns lines are wrapped, and how these are counted.
+#[derive(Clone, Copy, Debug)]
+pub(crate) struct Setting<'data> {
+    /// The columns.
+    pub(crate) columns: usize,
+    /// How the characters of a segment are measured.
+    pub(crate) measuring: Measuring<'data>,
+}
+
 /// The lines of a text, wrapped to so many columns.
 #[derive(Debug)]
-pub(crate) struct Wrapping<I: Cursor, B: Breaks> {
+pub(crate) struct Wrapping<'data, I: Cursor, B: Breaks> {
     breaks: B,
     // The text from the next line on.
     rest: I,
@@ -40,48 +50,48 @@ pub(crate) struct Wrapping<I: Cursor, B: Breaks> {
     after: I,
     // That segment.
     held: Option<Piece>,
-    columns: u128,
+    setting: Setting<'data>,
 }
 
 // Written out, so that it is proved here and not in each program that wraps.
-impl<I: Cursor, B: Breaks> Drop for Wrapping<I, B> {
+impl<'data, I: Cursor, B: Breaks> Drop for Wrapping<'data, I, B> {
     fn drop(self) {
         let Wrapping {
             breaks: _,
             rest: _,
             after: _,
             held: _,
-            columns: _,
+            setting: _,
         } = self;
     }
 }
 
-impl<I: Cursor, B: Breaks> Model for Wrapping<I, B> {
+impl<'data, I: Cursor, B: Breaks> Model for Wrapping<'data, I, B> {
     ghost use Rattle.std.specs.Prelude.{◌≡◌};
-    ghost use Rattle.seg_wrap.specs.Walk.{IsHeldPiece, LinesLeft, lines_held, rest_held};
+    ghost use Rattle.seg_wrap.specs.Walk.{IsHeldPiece, LinesLeft, lines_held, measure_of, rest_held};
 
     ghost Value = { LinesLeft };
 
-    ghost view = { λ s. record { text = I.text s.rest; lines = lines_held s.columns (I.text s.rest) s.held (B.left s.breaks) } };
+    ghost view = { λ s. record { text = I.text s.rest; lines = lines_held (measure_of s.setting.measuring) s.setting.columns (I.text s.rest) s.held (B.left s.breaks) } };
 
-    ghost invariant = { λ s. IsHeldPiece (I.text s.rest) s.held (B.left s.breaks) × (I.text s.after ≡ rest_held (I.text s.rest) s.held) };
+    ghost invariant = { λ s. IsHeldPiece (measure_of s.setting.measuring) (I.text s.rest) s.held (B.left s.breaks) × (I.text s.after ≡ rest_held (I.text s.rest) s.held) };
 }
 
-impl<I: Cursor, B: Breaks> Wrapping<I, B> {
+impl<'data, I: Cursor, B: Breaks> Wrapping<'data, I, B> {
     /// The lines of a text that has these breaks after its start.
-    pub(crate) fn new(mut breaks: B, text: I, columns: usize) -> Self
+    pub(crate) fn new(mut breaks: B, text: I, setting: Setting<'data>) -> Self
         requires { AreCuts (I.text text) (B.left breaks) }
         ensures text { result.text ≡ I.text text }
-        ensures lines { result.lines ≡ wrapped_lines columns (segments_from (I.text text) (B.left breaks)) }
+        ensures lines { result.lines ≡ wrapped_lines setting.entry.columns (segments_from (measure_of setting.entry.measuring) (I.text text) (B.left breaks)) }
     {
         let mut after = text.fork();
-        let held = next_piece(&mut breaks, &mut after);
+        let held = next_piece(&mut breaks, &mut after, setting.measuring);
         Wrapping {
             breaks,
             rest: text,
             after,
             held,
-            columns: columns as u128,
+            setting,
         }
     }
 
@@ -94,7 +104,7 @@ impl<I: Cursor, B: Breaks> Wrapping<I, B> {
             rest: self.rest.fork(),
             after: self.after.fork(),
             held: self.held,
-            columns: self.columns,
+            setting: self.setting,
         }
     }
 
@@ -119,7 +129,7 @@ impl<I: Cursor, B: Breaks> Wrapping<I, B> {
             &mut self.after,
             &self.rest,
             first,
-            self.columns,
+            self.setting,
         );
         let start = self.rest.place();
         self.rest.seek(line.end);
@@ -134,14 +144,19 @@ impl<I: Cursor, B: Breaks> Wrapping<I, B> {
 }
 
 /// The piece up to the next break. The cursor goes over it.
-fn next_piece<I: Cursor, B: Breaks>(breaks: &mut B, after: &mut I) -> Option<Piece>
+fn next_piece<I: Cursor, B: Breaks>(
+    breaks: &mut B,
+    after: &mut I,
+    measuring: Measuring<'_>,
+) -> Option<Piece>
     requires { AreCuts (I.text after.old) (B.left breaks.old) }
-    ensures segments { segments_held (I.text after.old) result (B.left breaks.new) ≡ segments_from (I.text after.old) (B.left breaks.old) }
-    ensures held { IsHeldPiece (I.text after.old) result (B.left breaks.new) }
+    ensures segments { segments_held (measure_of measuring.entry) (I.text after.old) result (B.left breaks.new)
+        ≡ segments_from (measure_of measuring.entry) (I.text after.old) (B.left breaks.old) }
+    ensures held { IsHeldPiece (measure_of measuring.entry) (I.text after.old) result (B.left breaks.new) }
     ensures after { I.text after.new ≡ rest_held (I.text after.old) result }
 {
     let found = breaks.next_break()?;
-    let extent = Extent::of_text(after.up_to(found.end));
+    let extent = measuring.extent_of(after.up_to(found.end));
     after.seek(found.end);
     Some(Piece {
         end: found.end,
@@ -157,26 +172,28 @@ fn next_line<I: Cursor, B: Breaks>(
     after: &mut I,
     rest: &I,
     first: Piece,
-    columns: u128,
+    setting: Setting<'_>,
 ) -> (Piece, Option<Piece>)
-    requires piece { IsFirstPiece (I.text rest.now) first }
+    requires piece { IsFirstSegment (measure_of setting.measuring) (I.text rest.now) first }
     requires cuts { AreCuts (rest_from first.end (I.text rest.now)) (B.left breaks.old) }
     requires at { I.text after.old ≡ rest_from first.end (I.text rest.now) }
-    ensures lines { lines_from columns (segment_at (I.text rest.now) first) (segments_from (rest_from first.end (I.text rest.now)) (B.left breaks.old))
-        ≡ line_of (segment_at (I.text rest.now) result.0) ∷ lines_held columns (rest_from result.0.end (I.text rest.now)) result.1 (B.left breaks.new) }
-    ensures piece { IsFirstPiece (I.text rest.now) result.0 }
-    ensures held { IsHeldPiece (rest_from result.0.end (I.text rest.now)) result.1 (B.left breaks.new) }
+    ensures lines { let measure = measure_of setting.entry.measuring in
+        let limit = setting.entry.columns in
+        lines_from limit (segment_at measure (I.text rest.now) first) (segments_from measure (rest_from first.end (I.text rest.now)) (B.left breaks.old))
+        ≡ line_at (I.text rest.now) result.0 ∷ lines_held measure limit (rest_from result.0.end (I.text rest.now)) result.1 (B.left breaks.new) }
+    ensures piece { (cells : List Cell) × IsFirstPiece (I.text rest.now) cells result.0 }
+    ensures held { IsHeldPiece (measure_of setting.entry.measuring) (rest_from result.0.end (I.text rest.now)) result.1 (B.left breaks.new) }
     ensures after { I.text after.new ≡ rest_held (rest_from result.0.end (I.text rest.now)) result.1 }
 {
     let mut line = first;
-    let mut held = next_piece(breaks, after);
+    let mut held = next_piece(breaks, after, setting.measuring);
     'line: while let Some(piece) = held {
         let extent = line.extent.joined(piece.extent);
-        if line.is_mandatory || columns < extent.columns {
+        if line.is_mandatory || (setting.columns as u128) < extent.columns {
             break 'line;
         }
         line = Piece { extent, ..piece };
-        held = next_piece(breaks, after);
+        held = next_piece(breaks, after, setting.measuring);
     }
     let _text = rest;
     (line, held)

@@ -97,6 +97,11 @@ const JOIN_HELP: &str = "Join the lines between blank lines first, each two by a
 
 const JSON_HELP: &str = "Write a JSON object for each segment: text, begin, end, type or mandatory";
 
+const BREAK_WORDS_HELP: &str = "Break what is wider than the columns between clusters";
+
+const BY_CLUSTER_HELP: &str =
+    "Count the columns of a cluster as those of its text: a family of emoji takes two";
+
 const WIDTH_HELP: &str = "The columns that a line has at most, which then don't stand before files";
 
 const ENGINE_HELP: &str =
@@ -111,6 +116,12 @@ const ABBREVIATIONS_HELP: &str =
 const LISTED_HELP: &str =
     "The language of the text, as en or en-GB: takes such a file from the folder, as abbreviations-en.txt";
 
+const RULES_HELP: &str =
+    "The file of rules: symbols by their sets of code points, and where texts break between them";
+
+const SHOW_HELP: &str =
+    "Write the machine of the rules, a line for each of its states, and cut nothing";
+
 const FOLDER_HELP: &str = "The folder of such files [env: SEGMENT_DICTIONARIES]";
 
 /// The arguments that there are: each kind of segments is a subcommand. Where columns stand in an option, all that isn't one is a file.
@@ -120,7 +131,7 @@ pub fn command_line<'a>(alloc: Global, columns: Columns) -> Result<Command<'a>, 
     let command = Command::new(alloc, "segment")
         .version("1.0.0")
         .about(
-            "Cuts text (UTF-8) into segments by Unicode's data, and writes each on a line of its own, or wraps its lines",
+            "Cuts text (UTF-8) into segments by Unicode's data or by rules of your own, and writes each on a line of its own, or wraps its lines",
         )
         .subcommand_required(true);
     command.subcommands(kinds)
@@ -132,6 +143,7 @@ fn kind_commands<'a>(alloc: Global, columns: Columns) -> Result<Vec<Command<'a>>
     kinds.push(word_command(alloc)?)?;
     kinds.push(sentence_command(alloc)?)?;
     kinds.push(line_command(alloc)?)?;
+    kinds.push(rules_command(alloc)?)?;
     kinds.push(wrap_command(alloc, columns)?)?;
     Ok(kinds)
 }
@@ -178,13 +190,23 @@ fn line_command<'a>(alloc: Global) -> Result<Command<'a>, AllocError> {
     with_files(alloc, with_dictionaries(alloc, command)?)
 }
 
+fn rules_command<'a>(alloc: Global) -> Result<Command<'a>, AllocError> {
+    let command = Command::new(alloc, "rules").about(
+        "Writes what stands between places where rules of your own break",
+    );
+    let command = command.arg(rules_argument(alloc))?;
+    let command = command.arg(show_argument(alloc)?)?;
+    with_files(alloc, with_styles(alloc, command)?)
+}
+
 fn wrap_command<'a>(alloc: Global, columns: Columns) -> Result<Command<'a>, AllocError> {
     let command = Command::new(alloc, "wrap").about("Wraps lines to columns");
     let command = with_columns(alloc, command, columns)?;
     let command = command.arg(tabs_argument(alloc))?;
     let command = command.arg(flag(alloc, "join", JOIN_HELP))?;
-    let help = "Break what is wider than the columns between clusters";
-    let command = with_line_options(alloc, command.arg(flag(alloc, "break-words", help))?)?;
+    let command = command.arg(flag(alloc, "break-words", BREAK_WORDS_HELP))?;
+    let command = command.arg(flag(alloc, "by-cluster", BY_CLUSTER_HELP))?;
+    let command = with_line_options(alloc, command)?;
     with_files(alloc, with_dictionaries(alloc, command)?)
 }
 
@@ -279,6 +301,19 @@ fn files_argument<'a>(alloc: Global) -> Arg<'a> {
         .num_args(0..)
         .value_name("FILE")
         .help("The files, one after another; - is standard input, and so is none")
+}
+
+fn rules_argument<'a>(alloc: Global) -> Arg<'a> {
+    Arg::new(alloc, "rules")
+        .action(ArgAction::Set)
+        .required(true)
+        .value_name("RULES")
+        .help(RULES_HELP)
+}
+
+fn show_argument<'a>(alloc: Global) -> Result<Arg<'a>, AllocError> {
+    let show = without_segments(flag(alloc, "show-machine", SHOW_HELP))?;
+    show.conflicts_with("count")?.conflicts_with("file")
 }
 
 fn width_argument<'a>(alloc: Global) -> Arg<'a> {
@@ -413,6 +448,7 @@ fn width_of(matches: &ArgMatches<'_>) -> Result<Width>
     Ok(Width {
         columns,
         breaks_words: matches.get_flag("break-words"),
+        by_cluster: matches.get_flag("by-cluster"),
     })
 }
 
@@ -463,7 +499,8 @@ fn kind_of(word: &str, alone: bool) -> Result<Kind>
     }
 }
 
-fn style_of(matches: &ArgMatches<'_>) -> Style
+/// How segments are written.
+pub fn style_of(matches: &ArgMatches<'_>) -> Style
     ensures { IsStyle (found_of matches.now) result }
 {
     if matches.get_flag("count") {

@@ -1,5 +1,5 @@
-//! Cuts texts into grapheme clusters, words, sentences or lines, by the data of Unicode, and writes each segment on a line of its own,
-//! or how many there are, or wraps lines to columns.
+//! Cuts texts into grapheme clusters, words, sentences or lines, by the data of Unicode, or by rules of the caller's own, and writes each
+//! segment on a line of its own, or how many there are, or wraps lines to columns.
 #![tactic(auto)]
 
 mod abbreviations;
@@ -9,7 +9,9 @@ mod files;
 mod folder;
 mod job;
 mod lists;
+mod rules;
 mod run;
+mod shown;
 mod words;
 
 use abbreviations::{Place, abbreviations_at, place_of};
@@ -19,7 +21,8 @@ use clap::error::ErrorKind;
 use command::{Request, columns_by, command_line, request_of};
 use dictionary::dictionaries_of;
 use files::run_all;
-use job::job_of;
+use job::{Job, job_of};
+use rules::{OwnRules, RulesRequest, job_by, rules_at, rules_request_of};
 use segment_output::vocabulary::Vocabulary;
 use std::env;
 use std::process::ExitCode;
@@ -62,10 +65,42 @@ fn follow(rt: &HostRuntime, matches: &ArgMatches<'_>) -> Result<ExitCode> {
     let Some((kind, matches)) = matches.subcommand() else {
         return refuse(rt, &"no kind of segments is named");
     };
+    if kind == "rules" {
+        return follow_rules(rt, matches);
+    }
     match request_of(kind, matches) {
         Ok(request) => run_request(rt, &request, matches),
         Err(error) => refuse(rt, &error),
     }
+}
+
+// Cuts the files that are named by the rules that are, or shows their machine. Rules that can't be followed are a wrong command line.
+fn follow_rules(rt: &HostRuntime, matches: &ArgMatches<'_>) -> Result<ExitCode> {
+    let request = match rules_request_of(matches) {
+        Ok(request) => request,
+        Err(error) => return refuse(rt, &error),
+    };
+    match rules_at(rt, request.path) {
+        Ok(rules) => run_rules(rt, request, rules, matches),
+        Err(error) => {
+            eprintln!(rt; "segment: {error:#}")?;
+            Ok(ExitCode::from(USAGE_STATUS))
+        }
+    }
+}
+
+// Shows the machine of rules, or cuts the files that are named by them.
+fn run_rules(
+    rt: &HostRuntime,
+    request: RulesRequest<'_>,
+    rules: OwnRules,
+    matches: &ArgMatches<'_>,
+) -> Result<ExitCode> {
+    if request.shows_machine {
+        print!(rt; "{rules}")?;
+        return Ok(ExitCode::SUCCESS);
+    }
+    Ok(run_files(rt, &job_by(rules, request.style), matches))
 }
 
 // Says why a command line can't be followed.
@@ -88,19 +123,14 @@ fn run_request(rt: &HostRuntime, request: &Request, matches: &ArgMatches<'_>) ->
         dictionaries: dictionaries_of(rt, request.task, matches)?,
         abbreviations,
     };
-    run_files(rt, request, words, matches)
+    let job = job_of(rt.alloc(), request, words)?;
+    Ok(run_files(rt, &job, matches))
 }
 
-// Does what a request asks for to the files that are named.
-fn run_files(
-    rt: &HostRuntime,
-    request: &Request,
-    words: Vocabulary,
-    matches: &ArgMatches<'_>,
-) -> Result<ExitCode> {
-    let job = job_of(rt.alloc(), request, words)?;
+// Does a job to the files that are named.
+fn run_files(rt: &HostRuntime, job: &Job, matches: &ArgMatches<'_>) -> ExitCode {
     match matches.get_strs("file") {
-        Some(names) => Ok(run_all(rt, &job, names)),
-        None => Ok(run_all(rt, &job, &[])),
+        Some(names) => run_all(rt, job, names),
+        None => run_all(rt, job, &[]),
     }
 }

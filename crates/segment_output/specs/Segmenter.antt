@@ -7,6 +7,7 @@ use Rattle.icu_segmenter.specs.Clusters.{owned_cluster_rules, owned_sentence_rul
 use Rattle.icu_segmenter.specs.LineBreaks.{LineRules, line_boundaries_of, table_lines, turn_lines, lines_with_words}
 use Rattle.icu_segmenter.specs.LineRules.{style_of}
 use Rattle.icu_segmenter.specs.Lines.{chosen_rules, owned_line_rules, without_ja}
+use Rattle.icu_segmenter.specs.Machine.{Machine}
 use Rattle.icu_segmenter.specs.Options.{machine_choice}
 use Rattle.icu_segmenter.specs.Rules.{Rules, boundaries_of}
 use Rattle.icu_segmenter.specs.Rules.{boundaries_by as found_by}
@@ -69,6 +70,15 @@ has_words_alone (Lines lines) = false
 -- the segments of such bytes
 abbrev pub segments_by : Segmenter → List ℕ → List Segment
 segments_by segmenter bytes = segments (has_words_alone segmenter) (marked (mark_of (marking_by segmenter)) (boundaries_by segmenter bytes))
+
+-- a segmenter's boundaries are those of a machine; nothing is said of its segments, and all are shown
+abbrev pub IsByMachine : Machine → Segmenter → Type 0
+IsByMachine machine (Clusters clusters) = owned_cluster_rules clusters ≡ ByMachine machine
+IsByMachine machine (Words words) = ⊥
+IsByMachine machine (WordsAlone words) = ⊥
+IsByMachine machine (Sentences sentences) = ⊥
+IsByMachine machine (Suppressing sentences abbreviations) = ⊥
+IsByMachine machine (Lines lines) = ⊥
 
 -- ---- the rules of each engine, over Unicode's data
 

@@ -5,7 +5,7 @@ use Rattle.icu_segmenter.specs.LineBreaks.{LineRules}
 use Rattle.icu_segmenter.specs.LineBreaks.LineFinder.{ByClusters}
 use Rattle.icu_segmenter.specs.Rules.Rules.{ByMachine}
 use Rattle.icu_segmenter.specs.ScriptWords.{no_words}
-use Rattle.icu_segmenter.specs.Wrapping.{TextLine, is_trailing_space}
+use Rattle.icu_segmenter.specs.Wrapping.{Measure, TextLine, is_trailing_space}
 use Rattle.icu_segmenter.specs.WrappedLines.{wrapped_text}
 use Rattle.icu_segmenter_uax29.specs.Clusters.{cluster_machine}
 
@@ -20,27 +20,29 @@ printed_line bytes = without_trailing_space bytes ++ 10 ∷ []
 abbrev pub printed_lines : List TextLine → List ℕ
 printed_lines lines = flat_map (λ line. printed_line line.units) lines
 
--- how lines are wrapped: to so many columns, at the breaks of some rules, and by which rules those that are wider are broken, if they are
+-- how lines are wrapped: to so many columns, at the breaks of some rules, by which rules those that are wider are broken, if they are, and how columns are counted
 pub record Wrapping : Type 0 where
   pub columns : ℕ
   pub lines : LineRules
   pub broken : Option LineRules
+  pub measure : Measure
 
 -- lines that may end at each boundary of a cluster
 abbrev pub cluster_lines : LineRules
 cluster_lines = record { finder = ByClusters; payloads = record { words = no_words; clusters = ByMachine cluster_machine } }
 
 -- the lines that a wrapped line is shown as: where it is wider than the columns, without its trailing white space, wrapped once more, if such lines are broken
-abbrev pub shown_as : Option LineRules → ℕ → TextLine → List TextLine
-shown_as None columns line = line ∷ []
-shown_as (Some rules) columns line = if nat_lt columns line.columns then wrapped_text rules columns (without_trailing_space line.units) else line ∷ []
+abbrev pub shown_as : Measure → Option LineRules → ℕ → TextLine → List TextLine
+shown_as measure None columns line = line ∷ []
+shown_as measure (Some rules) columns line =
+    if nat_lt columns line.columns then wrapped_text measure rules columns (without_trailing_space line.units) else line ∷ []
 
 abbrev pub shown_line : Wrapping → TextLine → List ℕ
-shown_line wrapping line = printed_lines (shown_as wrapping.broken wrapping.columns line)
+shown_line wrapping line = printed_lines (shown_as wrapping.measure wrapping.broken wrapping.columns line)
 
 abbrev pub shown_lines : Wrapping → List TextLine → List ℕ
 shown_lines wrapping lines = flat_map (shown_line wrapping) lines
 
 -- what is written of some bytes: their wrapped lines, each as it is shown
 abbrev pub wrapped_output : Wrapping → List ℕ → List ℕ
-wrapped_output wrapping bytes = shown_lines wrapping (wrapped_text wrapping.lines wrapping.columns bytes)
+wrapped_output wrapping bytes = shown_lines wrapping (wrapped_text wrapping.measure wrapping.lines wrapping.columns bytes)

@@ -2,6 +2,7 @@
 ghost use Rattle.std.specs.Prelude.{◌≡◌, IfOk};
 ghost use Rattle.icu_segmenter.specs.Lines.{owned_line_rules};
 ghost use Rattle.icu_segmenter.specs.LineBreaks.{IsByPairTable};
+ghost use Rattle.icu_segmenter.specs.Wrapping.{by_characters};
 
 use crate::segmenter::{Engine, line_segmenter};
 use icu_segmenter::LineSegmenter;
@@ -19,7 +20,7 @@ pub struct MachineLines {
 
 impl MachineLines {
     ghost use Rattle.icu_segmenter.specs.ScriptWords.{script_words};
-    ghost use Rattle.icu_segmenter.specs.WrappedLines.{wrapper_rules};
+    ghost use Rattle.icu_segmenter.specs.WrappedLines.{wrapper_measure, wrapper_rules};
     ghost use Rattle.segment_output.specs.Segmenter.{line_rules_by};
 
     /// That of Unicode's data, with these options and dictionaries. Fails only when out of memory.
@@ -34,9 +35,10 @@ impl MachineLines {
         Ok(MachineLines { lines })
     }
 
-    /// The wrapper of lines by the same breaks. Takes no memory.
+    /// The wrapper of lines by the same breaks, and by the widths of characters. Takes no memory.
     pub fn wrapper(&self) -> LineWrapper<'_>
-        ensures { wrapper_rules result ≡ owned_line_rules self.now.lines }
+        ensures lines { wrapper_rules result ≡ owned_line_rules self.now.lines }
+        ensures measure { wrapper_measure result ≡ by_characters }
     {
         let Ok(wrapper) = LineWrapper::new(self.lines.as_borrowed()) else {
             unreachable!()

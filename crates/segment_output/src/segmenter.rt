@@ -13,14 +13,14 @@ ghost use Rattle.icu_segmenter.specs.ScriptWords.{script_words};
 ghost use Rattle.icu_segmenter.specs.Suppressing.{suppressing_finder};
 ghost use Rattle.icu_segmenter.specs.TextSegments.{marked};
 ghost use Rattle.icu_segmenter.specs.Words.{owned_word_rules};
-ghost use Rattle.segment_output.specs.Segmenter.{boundaries_by, cluster_rules_by, line_rules_by, line_rules_of, segments_by, sentence_rules_by, suppressed_finder, word_rules_by, IsAskedOf};
+ghost use Rattle.segment_output.specs.Segmenter.{boundaries_by, cluster_rules_by, line_rules_by, line_rules_of, segments_by, sentence_rules_by, suppressed_finder, word_rules_by, IsAskedOf, IsByMachine};
 
 use crate::marks::{HasMark, Marked};
 use crate::output::{Style, print_segments};
 use crate::vocabulary::Vocabulary;
 use icu_segmenter::cursor::{Segmenter as Cursor, SegmenterOf};
 use icu_segmenter::options::LineBreakOptions;
-use icu_segmenter::provider::{DataError, Dictionaries};
+use icu_segmenter::provider::{DataError, Dictionaries, SegmenterStateMachine};
 use icu_segmenter::segments::BreakIterator;
 use icu_segmenter::suppress::{Abbreviations, SuppressingSegmenter};
 use icu_segmenter::{GraphemeClusterSegmenter, LineSegmenter, SentenceSegmenter, WordSegmenter};
@@ -200,6 +200,18 @@ fn suppressing<'data>(
 
 // Drops an iterator. Of the boundaries that abbreviations leave, that is proved in generic code alone.
 fn let_go<B: BreakIterator>(_breaks: B) {}
+
+impl Segmenter {
+    /// A segmenter of what a machine finds, which may be the caller's own. Takes no memory.
+    pub fn by_machine(machine: SegmenterStateMachine) -> Self
+        ensures { IsByMachine machine result }
+    {
+        let Ok(clusters) = GraphemeClusterSegmenter::try_new_neo(machine) else {
+            unreachable!()
+        };
+        Segmenter::Clusters(clusters)
+    }
+}
 
 /// The segmenter of a kind by an engine, with these options of lines and these words where its kind has some. Fails only when out of memory.
 pub fn segmenter_of(

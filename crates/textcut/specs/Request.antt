@@ -2,6 +2,7 @@
 use Rattle.std.specs.Prelude.{◌≡◌, ℕ, ◌≤◌, List, [], ◌∷◌, length, codes}
 use Rattle.std.specs.Str.{IsUtf8}
 use Rattle.std.specs.Str.Parse.{IsNumeral, digits_value}
+use Rattle.icu_segmenter.specs.Wrapping.{by_characters}
 use Rattle.icu_segmenter.specs.WrappedLines.{wrapped_text}
 use Rattle.textcut.specs.Command.{places_of, sample_lines, words_of}
 use Rattle.textcut.specs.Lines.{lines_of}
@@ -31,4 +32,4 @@ IsReadable (Wrapped columns) bytes = IsUtf8 bytes
 -- what is printed of the bytes that are read
 abbrev pub output_of : Request → List ℕ → List ℕ
 output_of (Boundaries command) bytes = lines_of (places_of command bytes)
-output_of (Wrapped columns) bytes = printed_lines (wrapped_text sample_lines columns bytes)
+output_of (Wrapped columns) bytes = printed_lines (wrapped_text by_characters sample_lines columns bytes)

@@ -4,7 +4,7 @@ ghost use Rattle.textcut.specs.Command.{texts, words_of};
 ghost use Rattle.textcut.specs.declared.command.Command.{Command as AnyCommand};
 
 /// What a command line asks for.
-#[derive(Clone, Copy, Debug, PartialEq, Eq)]
+#[derive(Clone, Copy)]
 pub enum Command {
     /// The grapheme clusters, by the pair table that is built in.
     GraphemeClassic,

@@ -7,7 +7,7 @@ use std::alloc::AllocError;
 use std::io::{ErrorKind, Write};
 
 /// Why nothing, or not all, was printed.
-#[derive(Clone, Copy, Debug, PartialEq, Eq)]
+#[derive(Clone, Copy)]
 pub enum Failure {
     /// The words are no request's.
     Usage,

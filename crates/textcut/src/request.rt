@@ -8,7 +8,7 @@ ghost use Rattle.textcut.specs.declared.request.Request.{Request as AnyRequest};
 use crate::command::{Command, command_of};
 
 /// What a command line asks for.
-#[derive(Clone, Copy, Debug)]
+#[derive(Clone, Copy)]
 pub enum Request {
     /// The boundaries of a text.
     Boundaries(Command),

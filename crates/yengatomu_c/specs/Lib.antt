@@ -5,4 +5,5 @@ pub mod Versions
 pub mod Words
 pub mod Wrapped
 pub mod Finders
+pub mod ByRules
 pub mod Options

@@ -3,7 +3,7 @@ use Rattle.std.specs.Prelude.{◌≡◌, ℕ, ◌+◌, ◌-◌, ◌^◌, List, [
 use Rattle.icu_segmenter.specs.Items.{Text}
 use Rattle.icu_segmenter.specs.LineBreaks.{LineFinder}
 use Rattle.icu_segmenter.specs.LineBreaks.LineFinder.{ByClusters, ByPlaces, ByTable, ByTurns, ByMachine}
-use Rattle.icu_segmenter.specs.Wrapping.{TextLine}
+use Rattle.icu_segmenter.specs.Wrapping.{TextLine, by_characters}
 use Rattle.icu_segmenter.specs.WrappedLines.{wrapped_units}
 use Rattle.yengatomu_c.specs.Finders.{Finder}
 use Rattle.yengatomu_c.specs.Finders.Finder.{Clusters, Words, Sentences, Lines}
@@ -18,7 +18,7 @@ if_by_machine (ByMachine m) lines = lines
 
 -- the lines that a text that stands in some units, which this decodes, is wrapped to from one place on; other kinds have none
 abbrev pub wrapped_behind : Finder → (List ℕ → Text) → ℕ → List ℕ → ℕ → List TextLine
-wrapped_behind (Lines rules) decode columns units from = if_by_machine rules.finder (wrapped_units decode rules columns (drop from units))
+wrapped_behind (Lines rules) decode columns units from = if_by_machine rules.finder (wrapped_units decode by_characters rules columns (drop from units))
 wrapped_behind (Clusters rules) decode columns units from = []
 wrapped_behind (Words rules) decode columns units from = []
 wrapped_behind (Sentences rules) decode columns units from = []

@@ -9,6 +9,7 @@ ghost use Rattle.icu_segmenter.specs.Boundaries.{HasRestart};
 ghost use Rattle.icu_segmenter.specs.Decoding.{utf8};
 ghost use Rattle.icu_segmenter.specs.NearBoundaries.{IsNearestAbove, IsNearestBelow};
 ghost use Rattle.icu_segmenter.specs.Filled.{IsFilled, TakesFirst};
+ghost use Rattle.yengatomu_c.specs.ByRules.{IsOpenedByRules};
 ghost use Rattle.yengatomu_c.specs.Finders.{GoesOnAt, LineFeedsReset, find_by, finder_in, marks_behind, places_behind, places_in};
 ghost use Rattle.yengatomu_c.specs.Loaded.{IsLoaded, numbered_script};
 ghost use Rattle.yengatomu_c.specs.Options.{IsOpened, numbered_finder};
@@ -21,6 +22,7 @@ mod handle;
 pub mod laws;
 mod parts;
 mod request;
+mod rules;
 mod segmenter;
 mod slot;
 mod texts;
@@ -30,6 +32,7 @@ mod wrapped;
 
 use dictionary::Refusal;
 use request::{LineNumbers, requested};
+use rules::Complaint;
 use segmenter::Segmenter;
 use slot::Slot;
 use std::alloc::Global;
@@ -68,6 +71,39 @@ pub extern "C" fn yengatomu_open(
             0
         }
         Err(_) => 1,
+    }
+}
+
+/// Makes a segmenter by the rules in a text, in the notation of `seg_notation`, in the place of what the slot held: boundaries of it are those
+/// of clusters, where the rules break. 0 where it is made, 1 where memory is missing, 2 where the text isn't UTF-8 or its rules are wrong, 3 where
+/// the rules have no machine. Of 2 `error` is the line, from 1 on, and 0 where the text isn't UTF-8; of 3 that of a row that shows it, 0 if none
+/// does; of others 0.
+#[unsafe(no_mangle)]
+pub extern "C" fn yengatomu_open_rules(
+    alloc: Global,
+    slot: &mut Slot,
+    text: &[u8],
+    error: &mut usize,
+) -> u32
+    ensures opened { IsOpenedByRules text.now (finder_in slot.new) error.new result }
+    ensures restart { IfSome (finder_in slot.new) (λ finder. HasRestart (find_by finder)) }
+{
+    let _ = slot.take(alloc);
+    *error = 0;
+    match rules::boxed(alloc, text) {
+        Ok(segmenter) => {
+            slot.put(segmenter);
+            0
+        }
+        Err(Complaint::Memory) => 1,
+        Err(Complaint::Wrong(line)) => {
+            *error = line;
+            2
+        }
+        Err(Complaint::NoMachine(line)) => {
+            *error = line;
+            3
+        }
     }
 }
 

@@ -4,7 +4,7 @@ ghost use Rattle.std.specs.Prelude.{◌≡◌, ◌+◌, ◌<◌, ◌^◌, ℕ, L
 ghost use Rattle.icu_segmenter.specs.Decoding.{utf8};
 ghost use Rattle.icu_segmenter.specs.Items.{Text};
 ghost use Rattle.icu_segmenter.specs.Wrapping.{TextLine};
-ghost use Rattle.icu_segmenter.specs.WrappedLines.{joined_units, utf16_lines_to_come, utf8_lines_to_come, wrapped_units, wrapper_rules};
+ghost use Rattle.icu_segmenter.specs.WrappedLines.{joined_units, utf16_lines_to_come, utf8_lines_to_come, wrapped_units, wrapper_measure, wrapper_rules};
 ghost use Rattle.icu_segmenter.specs.Filled.{IsFilled, TakesFirst};
 ghost use Rattle.yengatomu_c.specs.Finders.{finder_of};
 ghost use Rattle.yengatomu_c.specs.Wrapped.{GivesLine, ends_from, widths_of, wrapped_behind};
@@ -79,7 +79,7 @@ pub fn ends_and_widths(
 /// The wrapper by a segmenter of lines, if it is one by a machine.
 pub fn wrapper_of(segmenter: &Segmenter) -> Option<LineWrapper<'_>>
     ensures { MatchOption result ((decode : List ℕ → Text) (columns : ℕ) (units : List ℕ) (from : ℕ) → wrapped_behind (finder_of segmenter.now) decode columns units from ≡ [])
-        (λ wrapper. (decode : List ℕ → Text) (columns : ℕ) (units : List ℕ) (from : ℕ) → wrapped_behind (finder_of segmenter.now) decode columns units from ≡ wrapped_units decode (wrapper_rules wrapper) columns (drop from units)) }
+        (λ wrapper. (decode : List ℕ → Text) (columns : ℕ) (units : List ℕ) (from : ℕ) → wrapped_behind (finder_of segmenter.now) decode columns units from ≡ wrapped_units decode (wrapper_measure wrapper) (wrapper_rules wrapper) columns (drop from units)) }
 {
     match segmenter {
         Segmenter::Lines(lines) => LineWrapper::new(lines.as_borrowed()).ok(),

@@ -88,6 +88,11 @@ pub const YENGATOMU_NO_SUCH: u32 = 2;
 /// Result: a word isn't UTF-8.
 pub const YENGATOMU_NOT_UTF8: u32 = 3;
 
+/// Result of rules: the text isn't UTF-8, or its rules are wrong.
+pub const YENGATOMU_WRONG_RULES: u32 = 2;
+/// Result of rules: the rules are too large, or need to know too much of the text to be followed.
+pub const YENGATOMU_NO_MACHINE: u32 = 3;
+
 /// Mark of words: what ends at the boundary is neither letters nor a number.
 pub const YENGATOMU_NO_WORD: u8 = 0;
 /// Mark of words: a number ends at the boundary.
@@ -106,6 +111,12 @@ extern "C" {
     /// Frees what the slot holds and opens a segmenter of the kind in its place. `YENGATOMU_NO_SUCH` for a number that is none of
     /// the above. Options are those of lines; other kinds don't read them. If it isn't `YENGATOMU_OK`, the slot is empty.
     pub fn yengatomu_open(slot: *mut yengatomu_slot, kind: u32, strictness: u32, word_break: u32, chinese_or_japanese: bool) -> u32;
+
+    /// Frees what the slot holds and opens a segmenter by the caller's own rules in its place: a text of UTF-8. The other calls take it as
+    /// one of clusters. `YENGATOMU_WRONG_RULES` where the text is ill-formed or a line of it is wrong, `YENGATOMU_NO_MACHINE` where
+    /// the rules are too large or can't be followed: `error` is then the number of the line, from 1 on; 0 where the text is ill-formed,
+    /// where no line shows it, and in all other cases. If it isn't `YENGATOMU_OK`, the slot is empty.
+    pub fn yengatomu_open_rules(slot: *mut yengatomu_slot, text: *const u8, len: usize, error: *mut usize) -> u32;
 
     /// Gives a segmenter of words or lines the words of a script, if it has none of that script yet. `YENGATOMU_NO_SUCH` for another
     /// number, another kind or an empty slot; `YENGATOMU_NOT_UTF8` where a word is ill-formed. If it isn't `YENGATOMU_OK`, the slot is

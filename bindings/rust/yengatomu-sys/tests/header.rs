@@ -42,6 +42,7 @@ fn numbers() {
         YENGATOMU_BREAK_NORMAL YENGATOMU_BREAK_ALL YENGATOMU_KEEP_ALL
         YENGATOMU_MYANMAR YENGATOMU_CHINESE_OR_JAPANESE YENGATOMU_KHMER YENGATOMU_LAO YENGATOMU_THAI
         YENGATOMU_OK YENGATOMU_NO_MEMORY YENGATOMU_NO_SUCH YENGATOMU_NOT_UTF8
+        YENGATOMU_WRONG_RULES YENGATOMU_NO_MACHINE
         YENGATOMU_NO_WORD YENGATOMU_NUMBER YENGATOMU_LETTERS
         YENGATOMU_MAY_BREAK YENGATOMU_MUST_BREAK
     };
@@ -113,7 +114,7 @@ fn of_crate() -> Calls {
 #[test]
 fn calls() {
     let stated = of_header();
-    assert_eq!(stated.len(), 21);
+    assert_eq!(stated.len(), 22);
     assert_eq!(of_crate(), stated);
 }
 
@@ -135,6 +136,12 @@ fn opens_and_closes() {
         assert_eq!(yengatomu_open(&mut slot, YENGATOMU_CLUSTERS, 0, 0, false), YENGATOMU_OK);
         assert_eq!(yengatomu_boundaries(&mut slot, text.as_ptr(), 2, 0, out.as_mut_ptr(), 4), 2);
         assert_eq!(out[..2], [1, 2]);
+        let (rules, mut line) = ("A = [a]\nA × A\n÷", 7);
+        assert_eq!(yengatomu_open_rules(&mut slot, rules.as_ptr(), rules.len(), &mut line), YENGATOMU_OK);
+        assert_eq!(line, 0);
+        assert_eq!(yengatomu_count(&mut slot, text.as_ptr(), 2), 2);
+        assert_eq!(yengatomu_open_rules(&mut slot, rules.as_ptr(), rules.len() - 2, &mut line), YENGATOMU_WRONG_RULES);
+        assert_eq!(line, 3);
         yengatomu_close(&mut slot);
         yengatomu_close(&mut slot);
         assert_eq!(yengatomu_count(&mut slot, text.as_ptr(), 2), 0, "of an empty slot");

@@ -10,7 +10,7 @@ mod sealed {
     }
 }
 
-/// One of [`Grapheme`], [`Word`], [`Sentence`] and [`Line`](enum@Line).
+/// One of [`Grapheme`], [`Word`], [`Sentence`], [`Line`](enum@Line) and [`Rule`].
 pub trait Kind: sealed::Kind {}
 
 /// A kind whose segments are marked: [`Word`] and [`Line`](enum@Line).
@@ -45,6 +45,8 @@ kinds! {
     Sentence = YENGATOMU_SENTENCES;
     /// What stands between two places where a line may break, by UAX #14.
     Line = YENGATOMU_LINES;
+    /// What stands between two places where the caller's own rules part a text. To the library it is as clusters.
+    Rule = YENGATOMU_CLUSTERS;
 }
 
 impl Marked for Word {

@@ -85,7 +85,8 @@ pub use text::{Slice, Text, Unit};
 
 /// Segments texts by Unicode's data.
 ///
-/// It is one of [`GraphemeSegmenter`], [`WordSegmenter`], [`SentenceSegmenter`] and [`LineSegmenter`], whose `new` makes it.
+/// It is one of [`GraphemeSegmenter`], [`WordSegmenter`], [`SentenceSegmenter`] and [`LineSegmenter`], whose `new` makes it, or a
+/// [`RuleSegmenter`], by rules of your own: [`by_rules`](Segmenter::by_rules).
 pub struct Segmenter<K: Kind> {
     slot: Slot,
     kind: PhantomData<K>,
@@ -99,6 +100,8 @@ pub type WordSegmenter = Segmenter<kind::Word>;
 pub type SentenceSegmenter = Segmenter<kind::Sentence>;
 /// Segments texts where lines may break, and wraps them.
 pub type LineSegmenter = Segmenter<kind::Line>;
+/// Segments texts by the caller's own rules.
+pub type RuleSegmenter = Segmenter<kind::Rule>;
 
 impl GraphemeSegmenter {
     /// A segmenter of grapheme clusters.
@@ -195,6 +198,33 @@ impl LineSegmenter {
     #[inline]
     pub fn wrap<'t, T: ?Sized + Text>(&self, text: &'t T, columns: usize) -> Lines<'_, 't, T::Slice> {
         Lines::new(Wraps { slot: &self.slot, text: text.as_slice(), columns })
+    }
+}
+
+impl RuleSegmenter {
+    /// A segmenter by rules of your own: symbols, each a set of code points, and then rows, of which the first that fits a place joins (`×`)
+    /// or parts (`÷`) what stands there. The page `crates/segment/segment.1` of the repository tells the notation. The library finds a
+    /// machine of the rules, and it is proved that such a machine's boundaries are where they part a text.
+    ///
+    /// ```
+    /// use yengatomu::{Error, Segmenter};
+    ///
+    /// let rules = r"
+    ///     Letter = \p{L} + \p{M} + \p{Nd}
+    ///     Line   = [_ -]
+    ///     Letter × Letter
+    ///     Line × Line
+    ///     ÷";
+    /// let snake = Segmenter::by_rules(rules).unwrap();
+    /// assert_eq!(snake.segments("snake_case").collect::<Vec<_>>(), ["snake", "_", "case"]);
+    /// assert_eq!(Segmenter::by_rules("Letter × Letter\n÷").err(), Some(Error::WrongRules(1)));
+    /// ```
+    ///
+    /// # Errors
+    ///
+    /// [`Error::OutOfMemory`]; [`Error::WrongRules`] where a line is wrong; [`Error::NoMachine`] where no machine is found.
+    pub fn by_rules(rules: &str) -> Result<Self, Error> {
+        Ok(Self { slot: Slot::open_rules(rules)?, kind: PhantomData })
     }
 }
 

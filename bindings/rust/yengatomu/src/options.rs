@@ -122,17 +122,24 @@ pub enum Error {
     OutOfMemory,
     /// A word of a dictionary isn't UTF-8.
     NotUtf8,
+    /// A line of rules is wrong: its number, from 1 on.
+    WrongRules(usize),
+    /// Rules are too large, or need to know too much of the text to be followed: the line of a rule that shows it, if one does.
+    NoMachine(Option<usize>),
     /// The library doesn't know the kind, option or script: it is of another version than this crate.
     NotSupported,
 }
 
 impl fmt::Display for Error {
     fn fmt(&self, f: &mut fmt::Formatter<'_>) -> fmt::Result {
-        f.write_str(match self {
-            Self::OutOfMemory => "out of memory",
-            Self::NotUtf8 => "a word of the dictionary isn't UTF-8",
-            Self::NotSupported => "libyengatomu doesn't support it",
-        })
+        match self {
+            Self::OutOfMemory => f.write_str("out of memory"),
+            Self::NotUtf8 => f.write_str("a word of the dictionary isn't UTF-8"),
+            Self::WrongRules(line) => write!(f, "line {line} of the rules is wrong"),
+            Self::NoMachine(Some(line)) => write!(f, "the rules can't be followed, as line {line} shows"),
+            Self::NoMachine(None) => f.write_str("the rules can't be followed"),
+            Self::NotSupported => f.write_str("libyengatomu doesn't support it"),
+        }
     }
 }
 

@@ -38,6 +38,16 @@ impl Slot {
         Ok(Self { slot: UnsafeCell::new(slot), has_dictionary: false })
     }
 
+    pub(crate) fn open_rules(rules: &str) -> Result<Self, Error> {
+        let (mut slot, mut line) = (sys::yengatomu_slot::EMPTY, 0);
+        // SAFETY: the slot began empty; the rules are borrowed until the call returns, which keeps no pointer to them.
+        match unsafe { sys::yengatomu_open_rules(&mut slot, rules.as_ptr(), rules.len(), &mut line) } {
+            sys::YENGATOMU_WRONG_RULES => Err(Error::WrongRules(line)),
+            sys::YENGATOMU_NO_MACHINE => Err(Error::NoMachine((line > 0).then_some(line))),
+            result => done(result).map(|()| Self { slot: UnsafeCell::new(slot), has_dictionary: false }),
+        }
+    }
+
     pub(crate) fn load_dictionary<W: AsRef<[u8]>>(&mut self, words: &[W], script: Script) -> Result<(), Error> {
         let words: Vec<_> = words
             .iter()

@@ -439,6 +439,38 @@ fn dictionaries() {
     assert!(words.segments("ภาษาไทย").eq(["ภาษา", "ไทย"]));
 }
 
+const SNAKE: &str = "Letter = \\p{L} + \\p{M} + \\p{Nd}\nLine = [_ -]\nLetter × Letter\nLine × Line\n÷\n";
+
+#[test]
+fn rules() {
+    let snake = Segmenter::by_rules(SNAKE).unwrap();
+    assert!(snake.boundaries("snake_case").eq([0, 5, 6, 10]));
+    assert!(snake.segments("snake_case").rev().eq(["case", "_", "snake"]));
+    assert!(snake.segments("e\u{301}9__!?").eq(["e\u{301}9", "__", "!", "?"]));
+    assert!(snake.segments(b"a\xffb".as_slice()).eq([b"a".as_slice(), b"\xff", b"b"]));
+    assert!(snake.boundaries([0x61, 0xd800, 0x5f, 0x5fu16].as_slice()).eq([0, 1, 2, 4]));
+    assert_eq!(snake.count("snake_case"), 3);
+    assert_eq!((snake.previous_boundary("snake_case", 6), snake.next_boundary("snake_case", 6)), (Some(5), Some(10)));
+    assert!(snake.is_boundary("snake_case", 5) && !snake.is_boundary("snake_case", 4));
+    assert_eq!(format!("{snake:?}"), "Segmenter { kind: \"Rule\", has_dictionary: false, .. }");
+    // They begin anew at each boundary, also where no line feed stands before it.
+    let text = "ab__c-- d!".repeat(500);
+    assert!(snake.segments(&text).eq(["ab", "__", "c", "--", " ", "d", "!"].repeat(500)));
+}
+
+#[test]
+fn rules_that_are_wrong() {
+    let wrong = [("", 1), ("÷\n=", 2), ("Letter × Letter\n÷", 1), ("A = [a]\nA × A", 2), ("A = [a]\n\nA = [b]\n÷", 3), ("÷\0", 1)];
+    for (rules, line) in wrong {
+        assert_eq!(Segmenter::by_rules(rules).err(), Some(Error::WrongRules(line)), "{rules:?}");
+    }
+    assert_eq!(Error::WrongRules(2).to_string(), "line 2 of the rules is wrong");
+    // Of a, b, a what came before the last boundary is needed.
+    assert_eq!(Segmenter::by_rules("A = [a]\nB = [b]\nA B ÷ A\nB A ÷ B\n×\n").err(), Some(Error::NoMachine(Some(3))));
+    assert_eq!(Error::NoMachine(Some(3)).to_string(), "the rules can't be followed, as line 3 shows");
+    assert_eq!(Error::NoMachine(None).to_string(), "the rules can't be followed");
+}
+
 #[test]
 fn every_option_opens() {
     for strictness in [Strictness::Strict, Strictness::Normal, Strictness::Loose, Strictness::Anywhere] {

@@ -14,19 +14,19 @@ use seg_text::scaffold::Utf16;
 use std::alloc::AllocError;
 
 impl<'data> LineWrapper<'data> {
-    ghost use Rattle.seg_wrap.specs.WrappedLines.{joined_units, utf16_lines_to_come, wrapped_units, wrapper_rules};
+    ghost use Rattle.seg_wrap.specs.WrappedLines.{joined_units, utf16_lines_to_come, wrapped_units, wrapper_measure, wrapper_rules};
 
     /// The lines of possibly ill-formed UTF-16, each of at most these columns unless it is one segment. A surrogate that stands
     /// alone is as wide as U+FFFD, and stays as it is in the lines. Takes no memory.
     pub fn wrap_utf16<'s>(self, units: &'s [u16], columns: usize) -> WrapUtf16Iterator<'data, 's>
-        ensures lines { utf16_lines_to_come result ≡ wrapped_units utf16 (wrapper_rules self.entry) columns units.now }
+        ensures lines { utf16_lines_to_come result ≡ wrapped_units utf16 (wrapper_measure self.entry) (wrapper_rules self.entry) columns units.now }
         ensures joined { joined_units (utf16_lines_to_come result) ≡ units.now }
     {
         let mut breaks = self.lines.segment_utf16(units);
         let _start = breaks.next();
         WrapUtf16Iterator {
             units,
-            lines: Wrapping::new(breaks, Utf16Indices::new(units), columns),
+            lines: Wrapping::new(breaks, Utf16Indices::new(units), self.setting(columns)),
         }
     }
 }
@@ -68,7 +68,7 @@ impl<'s> WrappedUtf16Line<'s> {
 #[derive(Debug)]
 pub struct WrapUtf16Iterator<'data, 's> {
     units: &'s [u16],
-    lines: Wrapping<Utf16Indices<'s>, LineBreakIterator<'data, 's, Utf16>>,
+    lines: Wrapping<'data, Utf16Indices<'s>, LineBreakIterator<'data, 's, Utf16>>,
     ghost rest: { lines.text ≡ rest_from (start_of lines.text) (utf16 units.now) },
 }
 

@@ -18,4 +18,4 @@ returns-clause-joined c =
     after-first c.args.text.now (utf8 c.args.text.now) (line_boundaries_by (line_rules c.args.self.lines)) c.segment_str-breaks.result.boundaries c.next-start.new.self.boundaries _
     (utf8-text c.args.text.now) c.segment_str-breaks.ensures.boundaries c.segment_str-breaks.ensures.cover c.next-start.ensures.steps.1 in
     rw (c.new-2.ensures.lines, c.new-2.ensures.text, c.new.ensures)
-    (units-joined c.args.columns c.args.text.now (utf8 c.args.text.now) (lines_left c.next-start.new.self) (utf8-text c.args.text.now) started.1)
+    (units-joined _ c.setting.result.columns c.args.text.now (utf8 c.args.text.now) (lines_left c.next-start.new.self) (utf8-text c.args.text.now) started.1)

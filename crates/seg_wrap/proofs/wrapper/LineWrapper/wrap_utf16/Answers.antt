@@ -18,4 +18,4 @@ returns-clause-joined c =
     after-first c.args.units.now (utf16 c.args.units.now) (line_boundaries_by (line_rules c.args.self.lines)) c.segment_utf16-breaks.result.boundaries c.next-start.new.self.boundaries _
     (utf16-text c.args.units.now) c.segment_utf16-breaks.ensures.boundaries c.segment_utf16-breaks.ensures.cover c.next-start.ensures.steps.1 in
     rw (c.new-2.ensures.lines, c.new-2.ensures.text, c.new.ensures)
-    (units-joined c.args.columns c.args.units.now (utf16 c.args.units.now) (lines_left c.next-start.new.self) (utf16-text c.args.units.now) started.1)
+    (units-joined _ c.setting.result.columns c.args.units.now (utf16 c.args.units.now) (lines_left c.next-start.new.self) (utf16-text c.args.units.now) started.1)

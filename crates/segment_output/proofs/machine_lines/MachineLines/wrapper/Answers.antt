@@ -6,5 +6,5 @@ pub unreachable-requires : goal.unreachable-requires
 unreachable-requires c =
     c.args.self.now.by_machine (subst (λ (rules : LineRules). IsByPairTable rules.finder) c.as_borrowed.ensures c.in_default.ensures.rejected)
 
-pub returns : goal.returns
-returns c = c.in-Ok.ensures.made.0 ∙ c.as_borrowed.ensures
+pub returns-clause-lines : goal.returns-clause-lines
+returns-clause-lines c = c.in-Ok.ensures.made.0 ∙ c.as_borrowed.ensures

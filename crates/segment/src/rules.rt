@@ -1,0 +1,143 @@
+//! Rules of the caller's own, from a file.
+ghost use Rattle.std.specs.Prelude.{IfOk};
+ghost use Rattle.clap.specs.Matches.{found_of};
+ghost use Rattle.seg_notation.specs.Texts.{rules_in};
+ghost use Rattle.seg_rules.specs.Passed.{FindsPlaces};
+ghost use Rattle.segment.specs.Rules.{IsJobByRules, IsRulesRequest};
+
+use crate::command::style_of;
+use crate::job::{Job, Search, Work};
+use crate::words::without_mark;
+use anyhow::{Context, Result, bail};
+use clap::ArgMatches;
+use icu_segmenter::provider::{SegmenterStateMachine, Symbol};
+use seg_compile::compile::{CompileError, Witness};
+use seg_notation::TextRules;
+use segment_output::output::Style;
+use segment_output::preparation::Preparation;
+use segment_output::segmenter::Segmenter;
+use std::alloc::{AllocError, Global};
+use std::fs;
+use std::rt::Files;
+
+/// What a command line with rules asks for.
+#[derive(Clone, Copy)]
+pub struct RulesRequest<'m> {
+    /// The file that has the rules.
+    pub path: &'m str,
+    /// How segments are written.
+    pub style: Style,
+    /// Whether the machine is shown, and no text is cut.
+    pub shows_machine: bool,
+}
+
+/// Rules, with a machine that finds the places where they break.
+#[derive(Drop)]
+pub struct OwnRules {
+    rules: TextRules,
+    machine: SegmenterStateMachine,
+    ghost finds: { FindsPlaces (rules_in rules) machine },
+}
+
+impl OwnRules {
+    /// The rules.
+    pub fn rules(&self) -> &TextRules {
+        &self.rules
+    }
+
+    /// Their machine.
+    pub fn machine(&self) -> &SegmenterStateMachine {
+        &self.machine
+    }
+}
+
+/// What the arguments of rules ask for. The error is that no file of rules is named.
+pub fn rules_request_of<'m>(matches: &'m ArgMatches<'_>) -> Result<RulesRequest<'m>>
+    ensures { IfOk result (IsRulesRequest (found_of matches.now)) }
+{
+    match matches.get_str("rules") {
+        Some(path) => Ok(RulesRequest {
+            path,
+            style: style_of(matches),
+            shows_machine: matches.get_flag("show-machine"),
+        }),
+        None => bail!("no file of rules is named"),
+    }
+}
+
+/// The rules in a file. The errors, which name it, are one that can't be read or isn't UTF-8, rules that are wrong, with their line, rules
+/// without a machine, with what shows it, and being out of memory.
+pub fn rules_at<R: AllocGlobal + Files>(rt: &R, path: &str) -> Result<OwnRules> {
+    read_rules(rt, path).context(format_args!("{path}"))
+}
+
+fn read_rules<R: AllocGlobal + Files>(rt: &R, path: &str) -> Result<OwnRules> {
+    let text = fs::read_to_string(rt, path)?;
+    let rules = TextRules::try_from_text(rt.alloc(), without_mark(text.as_str()))?;
+    with_machine(rt.alloc(), rules)
+}
+
+// Rules with their machine. The errors are rules without one, with the line of a rule and a text that show it, and being out of memory.
+fn with_machine(alloc: Global, rules: TextRules) -> Result<OwnRules> {
+    match rules.compile(alloc) {
+        Ok(machine) => Ok(OwnRules { rules, machine }),
+        Err(error) => {
+            let said = complaint(alloc, &rules, &error)?;
+            bail!("{said}")
+        }
+    }
+}
+
+/// The job of rules: texts are cut where they break.
+pub fn job_by(rules: OwnRules, style: Style) -> Job
+    ensures { IsJobByRules (rules_in rules.rules) style result }
+{
+    let OwnRules { rules: _, machine } = rules;
+    Job {
+        preparation: Preparation {
+            tabs: None,
+            joins: false,
+        },
+        work: Work::Cut(Segmenter::by_machine(machine), style, Search::Plain),
+    }
+}
+
+// Why rules have no machine. Fails only when out of memory.
+fn complaint(alloc: Global, rules: &TextRules, error: &CompileError) -> Result<String, AllocError> {
+    let Some(witness) = witness_of(error) else {
+        return format!(in alloc; "{error}");
+    };
+    let names = names_of(alloc, rules, witness.symbols.as_slice())?;
+    match line_of(rules, witness) {
+        Some(line) => format!(in alloc; "line {line}: {error}, as{names} shows"),
+        None => format!(in alloc; "{error}, as{names} shows"),
+    }
+}
+
+fn witness_of(error: &CompileError) -> Option<&Witness> {
+    match error {
+        CompileError::TwoUndecided(witness) => Some(witness),
+        CompileError::TwoLookaheads(witness) => Some(witness),
+        CompileError::NeedsPast(witness) => Some(witness),
+        _ => None,
+    }
+}
+
+fn line_of(rules: &TextRules, witness: &Witness) -> Option<usize> {
+    rules.line_of_row(witness.row?)
+}
+
+// The names of symbols, a space before each. Fails only when out of memory.
+fn names_of(alloc: Global, rules: &TextRules, symbols: &[Symbol]) -> Result<String, AllocError> {
+    let mut names = String::new(alloc);
+    for symbol in symbols {
+        names.push(' ')?;
+        names.push_str(name_of(rules, *symbol))?;
+    }
+    Ok(names)
+}
+
+/// The name of a symbol, which may be the end of the text.
+pub fn name_of(rules: &TextRules, symbol: Symbol) -> &str {
+    rules.name_of(symbol).unwrap_or("eot")
+}
