@@ -1,7 +1,7 @@
 //! The engines, and the words that the command line has for them.
 
 /// What is measured: what is found, and by which engine.
-#[derive(Clone, Copy, Debug, PartialEq, Eq)]
+#[derive(Clone, Copy)]
 pub enum Engine {
     /// The grapheme clusters, by a pair table.
     GraphemeClassic,
@@ -49,7 +49,7 @@ pub const ENGINES: [Engine; 13] = [
 ];
 
 /// Where an engine's data come from.
-#[derive(Clone, Copy, Debug, PartialEq, Eq)]
+#[derive(Clone, Copy)]
 pub enum Data {
     /// Those of the crate `bench`, written by hand.
     Small,

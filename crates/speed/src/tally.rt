@@ -2,7 +2,7 @@
 ghost use Rattle.std.specs.Iterator.{IsFinite};
 
 /// How many numbers there are, and their sum, both modulo 2^64.
-#[derive(Clone, Copy, Debug, Default, PartialEq, Eq)]
+#[derive(Clone, Copy, Default)]
 pub struct Tally {
     /// How many numbers there are.
     pub count: u64,
@@ -10,8 +10,8 @@ pub struct Tally {
     pub sum: u64,
 }
 
-/// How many numbers come, and their sum, both modulo 2^64.
-#[inline(always)]
+/// How many numbers come, and their sum, both modulo 2^64. Not inlined, so that each iterator's loop has registers of its own.
+#[inline(never)]
 pub fn tally_of<N: Iterator<Item = usize> + Drop>(numbers: N) -> Tally
     requires can { N.can_next numbers }
     requires ends { IsFinite (N.remaining numbers) }

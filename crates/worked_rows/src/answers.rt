@@ -53,14 +53,13 @@ fn answer_by_segmenters(alloc: Global, row: Row<'_>, question: &str) -> Result<S
     if let Some(name) = question.strip_prefix("same ") {
         return same::sameness(alloc, row, name);
     }
-    let (question, engine) = question.split_once(" by ").unwrap_or((question, ""));
     if let Some(kind) = question.strip_prefix("memo of ") {
-        return segmenter_answer(alloc, row, kind, engine, Manner::Memo);
+        return segmenter_answer(alloc, row, kind, Manner::Memo);
     }
     if let Some(kind) = question.strip_prefix("shown ") {
-        return segmenter_answer(alloc, row, kind, engine, Manner::Shown);
+        return segmenter_answer(alloc, row, kind, Manner::Shown);
     }
-    segmenter_answer(alloc, row, question, engine, Manner::Boundaries)
+    segmenter_answer(alloc, row, question, Manner::Boundaries)
 }
 
 /// An answer, or the number and the name of why the data are rejected. Fails only when out of memory.

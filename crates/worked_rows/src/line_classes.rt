@@ -1,7 +1,8 @@
 //! The numbers of the classes of lines, by their names.
 
 use crate::row::Row;
-use anyhow::{Result, bail};
+use crate::words::meaning;
+use anyhow::{Context, Result};
 use icu_segmenter::provider::RuleBreakData;
 use std::alloc::Global;
 
@@ -48,10 +49,6 @@ const LINE_CLASSES: [(&str, u8); 121] = named! {
 
 /// The number of the class of lines whose constant has a name. The errors are out of memory, and a name that no constant has.
 pub fn line_class(alloc: Global, row: Row<'_>) -> Result<String> {
-    for (known, number) in LINE_CLASSES {
-        if known == row.asked() {
-            return Ok(format!(in alloc; "{number}")?);
-        }
-    }
-    bail!("no class")
+    let number = meaning(&LINE_CLASSES, row.asked()).context("no class")?;
+    Ok(format!(in alloc; "{number}")?)
 }

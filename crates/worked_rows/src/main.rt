@@ -27,6 +27,7 @@ mod same;
 mod samples;
 mod segmenters;
 mod tables;
+mod words;
 mod wrapped;
 
 use answers::{answer_of, or_fault};

@@ -2,6 +2,7 @@
 
 use crate::numbers::{hex_of, number_of};
 use crate::row::Row;
+use crate::words::meaning;
 use anyhow::{Context, Result, bail};
 use icu_segmenter::memo::MemoError;
 use icu_segmenter::options::WordType;
@@ -33,14 +34,15 @@ pub fn acceptance(alloc: Global, row: Row<'_>) -> Result<String> {
     Ok(format!(in alloc; "{acceptance:?}, {byte}")?)
 }
 
+const WORD_TYPES: [(&str, WordType); 3] = [
+    ("none", WordType::None),
+    ("number", WordType::Number),
+    ("letter", WordType::Letter),
+];
+
 /// Whether a type of words is word-like.
 pub fn word_type(alloc: Global, row: Row<'_>) -> Result<String> {
-    let word_type = match row.asked() {
-        "none" => WordType::None,
-        "number" => WordType::Number,
-        "letter" => WordType::Letter,
-        _ => bail!("no type"),
-    };
+    let word_type = meaning(&WORD_TYPES, row.asked()).context("no type")?;
     let is_word_like = word_type.is_word_like();
     Ok(format!(in alloc; "{is_word_like}")?)
 }
@@ -53,17 +55,21 @@ pub fn language(alloc: Global, row: Row<'_>) -> Result<String> {
     }
 }
 
+const MEMO_ERRORS: [(&str, MemoError); 4] = [
+    ("MemoError Memory", MemoError::Memory),
+    ("MemoError NotNeo", MemoError::NotNeo),
+    ("MemoError HasDictionary", MemoError::HasDictionary),
+    ("MemoError TooLarge", MemoError::TooLarge),
+];
+
 /// The text of an error of this name.
 pub fn error(alloc: Global, row: Row<'_>) -> Result<String> {
-    let text = match row.asked() {
-        "MemoError Memory" => format!(in alloc; "{}", MemoError::Memory),
-        "MemoError NotNeo" => format!(in alloc; "{}", MemoError::NotNeo),
-        "MemoError HasDictionary" => format!(in alloc; "{}", MemoError::HasDictionary),
-        "MemoError TooLarge" => format!(in alloc; "{}", MemoError::TooLarge),
-        "WrapError NotNeo" => format!(in alloc; "{}", WrapError::NotNeo),
-        _ => bail!("no error"),
-    };
-    Ok(text?)
+    let name = row.asked();
+    if name == "WrapError NotNeo" {
+        return Ok(format!(in alloc; "{}", WrapError::NotNeo)?);
+    }
+    let error = meaning(&MEMO_ERRORS, name).context("no error")?;
+    Ok(format!(in alloc; "{error}")?)
 }
 
 // The faults of data.

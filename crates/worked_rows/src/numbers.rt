@@ -1,6 +1,7 @@
 //! Numbers, and what is made of them, as the files write them.
 
-use anyhow::{Context, Result, bail};
+use crate::words::meaning;
+use anyhow::{Context, Result};
 use icu_segmenter::provider::{Acceptance, ComplexScript, Lookahead, Symbol};
 use std::alloc::{AllocError, Global};
 
@@ -76,14 +77,15 @@ fn symbol_and_script(word: &str) -> Result<(Symbol, ComplexScript)> {
     Ok((number_of(symbol)?, script_named(script)?))
 }
 
+const SCRIPTS: [(&str, ComplexScript); 4] = [
+    ("None", ComplexScript::None),
+    ("Thai", ComplexScript::Thai),
+    ("Myanmar", ComplexScript::Myanmar),
+    ("ChineseOrJapanese", ComplexScript::ChineseOrJapanese),
+];
+
 fn script_named(name: &str) -> Result<ComplexScript> {
-    Ok(match name {
-        "None" => ComplexScript::None,
-        "Thai" => ComplexScript::Thai,
-        "Myanmar" => ComplexScript::Myanmar,
-        "ChineseOrJapanese" => ComplexScript::ChineseOrJapanese,
-        _ => bail!("no script"),
-    })
+    Ok(meaning(&SCRIPTS, name).context("no script")?)
 }
 
 /// States, as `-` that accepts nothing, `1` that accepts with this status, and `0?1` with status 1 on condition of the lookahead 0;

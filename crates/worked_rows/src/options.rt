@@ -1,7 +1,8 @@
 //! Options, as the files write them.
 
 use crate::row::Row;
-use anyhow::{Result, bail};
+use crate::words::meaning;
+use anyhow::{Context, Result};
 use icu_segmenter::options::{
     LanguageIdentifier, LineBreakOptions, LineBreakStrictness, LineBreakWordOption,
 };
@@ -43,23 +44,25 @@ impl Options {
     }
 }
 
+const STRICTNESSES: [(&str, Option<LineBreakStrictness>); 5] = [
+    ("-", None),
+    ("loose", Some(LineBreakStrictness::Loose)),
+    ("normal", Some(LineBreakStrictness::Normal)),
+    ("strict", Some(LineBreakStrictness::Strict)),
+    ("anywhere", Some(LineBreakStrictness::Anywhere)),
+];
+
 fn strictness_of(word: &str) -> Result<Option<LineBreakStrictness>> {
-    Ok(match word {
-        "-" => None,
-        "loose" => Some(LineBreakStrictness::Loose),
-        "normal" => Some(LineBreakStrictness::Normal),
-        "strict" => Some(LineBreakStrictness::Strict),
-        "anywhere" => Some(LineBreakStrictness::Anywhere),
-        _ => bail!("no strictness"),
-    })
+    Ok(meaning(&STRICTNESSES, word).context("no strictness")?)
 }
 
+const WORD_OPTIONS: [(&str, Option<LineBreakWordOption>); 4] = [
+    ("-", None),
+    ("normal", Some(LineBreakWordOption::Normal)),
+    ("break-all", Some(LineBreakWordOption::BreakAll)),
+    ("keep-all", Some(LineBreakWordOption::KeepAll)),
+];
+
 fn word_option_of(word: &str) -> Result<Option<LineBreakWordOption>> {
-    Ok(match word {
-        "-" => None,
-        "normal" => Some(LineBreakWordOption::Normal),
-        "break-all" => Some(LineBreakWordOption::BreakAll),
-        "keep-all" => Some(LineBreakWordOption::KeepAll),
-        _ => bail!("no word option"),
-    })
+    Ok(meaning(&WORD_OPTIONS, word).context("no word option")?)
 }

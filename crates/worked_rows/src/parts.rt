@@ -3,6 +3,7 @@
 use crate::data::{machine_of, override_of, table_of, tailoring_of};
 use crate::dictionaries::{all_words, first_words};
 use crate::row::Row;
+use crate::words::meaning;
 use anyhow::{Context, Result, bail};
 use icu_segmenter::provider::{
     Dictionaries, LineTailorings, RuleBreakData, RuleBreakDataOverride, SegmenterStateMachine,
@@ -33,20 +34,21 @@ pub enum Kind {
     Lines17,
 }
 
-/// The kind of these names.
-pub fn kind_of(name: &str, engine: &str) -> Result<Kind> {
-    Ok(match (name, engine) {
-        ("clusters", "machine") => Kind::NeoClusters,
-        ("clusters", "table") => Kind::Clusters,
-        ("sentences", "machine") => Kind::NeoSentences,
-        ("sentences", "table") => Kind::Sentences,
-        ("words", "machine") => Kind::NeoWords,
-        ("words", "table") => Kind::Words,
-        ("lines", "machine") => Kind::NeoLines,
-        ("lines", "table") => Kind::Lines,
-        ("lines", "turns") => Kind::Lines17,
-        _ => bail!("no question"),
-    })
+const KINDS: [(&str, Kind); 9] = [
+    ("clusters by machine", Kind::NeoClusters),
+    ("clusters by table", Kind::Clusters),
+    ("sentences by machine", Kind::NeoSentences),
+    ("sentences by table", Kind::Sentences),
+    ("words by machine", Kind::NeoWords),
+    ("words by table", Kind::Words),
+    ("lines by machine", Kind::NeoLines),
+    ("lines by table", Kind::Lines),
+    ("lines by turns", Kind::Lines17),
+];
+
+/// The kind of this name.
+pub fn kind_of(name: &str) -> Result<Kind> {
+    Ok(meaning(&KINDS, name).context("no question")?)
 }
 
 /// What a segmenter is made of: what its kind has no use for is missing.

@@ -29,14 +29,8 @@ pub enum Manner {
 }
 
 /// The answer by borrowed data, which is to be that by owned ones.
-pub fn segmenter_answer(
-    alloc: Global,
-    row: Row<'_>,
-    kind: &str,
-    engine: &str,
-    manner: Manner,
-) -> Result<String> {
-    let kind = kind_of(kind, engine)?;
+pub fn segmenter_answer(alloc: Global, row: Row<'_>, kind: &str, manner: Manner) -> Result<String> {
+    let kind = kind_of(kind)?;
     let mut parts = Parts::of(alloc, row, kind)?;
     answer_by(alloc, row, kind, manner, &mut parts)
 }
