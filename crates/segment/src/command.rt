@@ -138,13 +138,19 @@ pub fn command_line<'a>(alloc: Global, columns: Columns) -> Result<Command<'a>, 
 }
 
 fn kind_commands<'a>(alloc: Global, columns: Columns) -> Result<Vec<Command<'a>>, AllocError> {
+    let mut kinds = unicode_commands(alloc)?;
+    kinds.push(rules_command(alloc)?)?;
+    kinds.push(wrap_command(alloc, columns)?)?;
+    Ok(kinds)
+}
+
+// Kinds of segments by Unicode's data.
+fn unicode_commands<'a>(alloc: Global) -> Result<Vec<Command<'a>>, AllocError> {
     let mut kinds = Vec::new(alloc);
     kinds.push(grapheme_command(alloc)?)?;
     kinds.push(word_command(alloc)?)?;
     kinds.push(sentence_command(alloc)?)?;
     kinds.push(line_command(alloc)?)?;
-    kinds.push(rules_command(alloc)?)?;
-    kinds.push(wrap_command(alloc, columns)?)?;
     Ok(kinds)
 }
 
