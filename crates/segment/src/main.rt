@@ -23,6 +23,7 @@ use dictionary::dictionaries_of;
 use files::run_all;
 use job::{Job, job_of};
 use rules::{OwnRules, RulesRequest, job_by, rules_at, rules_request_of};
+use segment_output::output::Style;
 use segment_output::vocabulary::Vocabulary;
 use std::env;
 use std::process::ExitCode;
@@ -97,10 +98,19 @@ fn run_rules(
     matches: &ArgMatches<'_>,
 ) -> Result<ExitCode> {
     if request.shows_machine {
-        print!(rt; "{rules}")?;
-        return Ok(ExitCode::SUCCESS);
+        return show_machine(rt, &rules);
     }
-    Ok(run_files(rt, &job_by(rules, request.style), matches))
+    Ok(cut_by(rt, rules, request.style, matches))
+}
+
+fn show_machine(rt: &HostRuntime, rules: &OwnRules) -> Result<ExitCode> {
+    print!(rt; "{rules}")?;
+    Ok(ExitCode::SUCCESS)
+}
+
+fn cut_by(rt: &HostRuntime, rules: OwnRules, style: Style, matches: &ArgMatches<'_>) -> ExitCode {
+    let job = job_by(rules, style);
+    run_files(rt, &job, matches)
 }
 
 // Says why a command line can't be followed.
@@ -123,6 +133,16 @@ fn run_request(rt: &HostRuntime, request: &Request, matches: &ArgMatches<'_>) ->
         dictionaries: dictionaries_of(rt, request.task, matches)?,
         abbreviations,
     };
+    run_words(rt, request, words, matches)
+}
+
+// Does what a request asks for, with these words, to the files that are named.
+fn run_words(
+    rt: &HostRuntime,
+    request: &Request,
+    words: Vocabulary,
+    matches: &ArgMatches<'_>,
+) -> Result<ExitCode> {
     let job = job_of(rt.alloc(), request, words)?;
     Ok(run_files(rt, &job, matches))
 }
