@@ -99,9 +99,6 @@ const JSON_HELP: &str = "Write a JSON object for each segment: text, begin, end,
 
 const BREAK_WORDS_HELP: &str = "Break what is wider than the columns between clusters";
 
-const BY_CLUSTER_HELP: &str =
-    "Count the columns of a cluster as those of its text: a family of emoji takes two";
-
 const WIDTH_HELP: &str = "The columns that a line has at most, which then don't stand before files";
 
 const ENGINE_HELP: &str =
@@ -211,7 +208,6 @@ fn wrap_command<'a>(alloc: Global, columns: Columns) -> Result<Command<'a>, Allo
     let command = command.arg(tabs_argument(alloc))?;
     let command = command.arg(flag(alloc, "join", JOIN_HELP))?;
     let command = command.arg(flag(alloc, "break-words", BREAK_WORDS_HELP))?;
-    let command = command.arg(flag(alloc, "by-cluster", BY_CLUSTER_HELP))?;
     let command = with_line_options(alloc, command)?;
     with_files(alloc, with_dictionaries(alloc, command)?)
 }
@@ -454,7 +450,6 @@ fn width_of(matches: &ArgMatches<'_>) -> Result<Width>
     Ok(Width {
         columns,
         breaks_words: matches.get_flag("break-words"),
-        by_cluster: matches.get_flag("by-cluster"),
     })
 }
 

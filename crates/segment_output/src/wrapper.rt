@@ -1,22 +1,18 @@
 //! Lines, wrapped to columns.
 ghost use Rattle.std.specs.Prelude.{◌≡◌, ◌++◌, Some, IfOk, OnOk};
-ghost use Rattle.std.specs.Option.{option_map};
 ghost use Rattle.std.specs.Io.KnownBytes.{Appends};
-ghost use Rattle.icu_segmenter.specs.Clusters.{owned_cluster_rules};
 ghost use Rattle.icu_segmenter.specs.Lines.{owned_line_rules};
 ghost use Rattle.icu_segmenter.specs.ScriptWords.{script_words};
 ghost use Rattle.icu_segmenter.specs.WrappedLines.{utf8_line_in, utf8_lines_to_come, wrapper_measure, wrapper_rules};
 ghost use Rattle.segment_output.specs.Wrapped.{cluster_lines, printed_lines, shown_as, shown_line, shown_lines, wrapped_output};
-ghost use Rattle.segment_output.specs.Wrapper.{asked_measure, measure_by, wrapping_of, IsAskedWrapper};
+ghost use Rattle.segment_output.specs.Wrapper.{wrapping_of, IsAskedWrapper};
 
 use crate::machine_lines::MachineLines;
 use crate::output::{LINES_CAPACITY, LINES_LEN, write_lines};
 use crate::wrapped::{push_line, push_lines, without_trailing_space};
-use icu_segmenter::GraphemeClusterSegmenter;
 use icu_segmenter::options::{LineBreakOptions, LineBreakStrictness};
 use icu_segmenter::provider::{DataError, Dictionaries};
 use icu_segmenter::wrap::{LineWrapper, WrapUtf8Iterator, WrappedUtf8Line};
-use icu_segmenter_data::grapheme_segmenter;
 use std::alloc::{AllocError, Global};
 use std::io;
 use std::io::Write;
@@ -28,8 +24,6 @@ pub struct Width {
     pub columns: usize,
     /// Whether what is wider, and no line may end in it, is broken between clusters.
     pub breaks_words: bool,
-    /// Whether columns are counted cluster by cluster, and not character by character.
-    pub by_cluster: bool,
 }
 
 /// Wraps lines, with data of its own.
@@ -41,8 +35,6 @@ pub struct Wrapper {
     lines: MachineLines,
     /// What finds it in a line that is wider, where such lines are broken: at each cluster.
     clusters: Option<MachineLines>,
-    /// What finds the clusters of which each is measured as one, where columns are counted so.
-    measured: Option<GraphemeClusterSegmenter>,
 }
 
 impl Wrapper {
@@ -51,20 +43,8 @@ impl Wrapper {
     pub fn print<O: Write>(&self, alloc: Global, text: &[u8], out: &mut O) -> io::Result<()>
         ensures { OnOk result (Appends (O.contents out.old) (O.contents out.new) (wrapped_output (wrapping_of self.now) text.now)) }
     {
-        let wrapper = self.line_wrapper(&self.lines);
+        let wrapper = self.lines.wrapper();
         self.print_all(alloc, wrapper.wrap_utf8(text, self.columns), out)
-    }
-
-    // What wraps at these breaks, and counts columns as is asked.
-    fn line_wrapper<'data>(&'data self, lines: &'data MachineLines) -> LineWrapper<'data>
-        ensures lines { wrapper_rules result ≡ owned_line_rules lines.now.lines }
-        ensures measure { wrapper_measure result ≡ (wrapping_of self.now).measure }
-    {
-        let wrapper = lines.wrapper();
-        match &self.measured {
-            Some(measured) => wrapper.by_cluster(measured.as_borrowed()),
-            None => wrapper,
-        }
     }
 
     // Writes each line that comes as it is shown, and flushes.
@@ -96,9 +76,7 @@ impl Wrapper {
         ensures { OnOk result (gathered.new.items ≡ gathered.old.items ++ shown_line (wrapping_of self.now) (utf8_line_in line.entry)) }
     {
         match &self.clusters {
-            Some(clusters) => {
-                push_broken(line, self.line_wrapper(clusters), self.columns, gathered)
-            }
+            Some(clusters) => { push_broken(line, clusters.wrapper(), self.columns, gathered) }
             None => push_line(line.bytes(), gathered),
         }
     }
@@ -140,22 +118,7 @@ pub fn wrapper_of(
         columns: width.columns,
         lines: MachineLines::try_new(alloc, options, dictionaries)?,
         clusters,
-        measured: measured_clusters(alloc, width)?,
     })
-}
-
-// What finds the clusters of which each is measured as one, where columns are counted so.
-fn measured_clusters(
-    alloc: Global,
-    width: Width,
-) -> Result<Option<GraphemeClusterSegmenter>, DataError>
-    ensures { IfOk result (λ measured. measure_by (option_map owned_cluster_rules measured) ≡ asked_measure width.by_cluster) }
-{
-    if width.by_cluster {
-        Ok(Some(grapheme_segmenter(alloc)?))
-    } else {
-        Ok(None)
-    }
 }
 
 // Lines that may end at each boundary of a cluster.
