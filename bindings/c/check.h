@@ -12,7 +12,7 @@ static int failed;
 
 /* A block of just so many bytes, so that valgrind sees a read past its end. */
 static inline void *block(size_t bytes) {
-    void *it = malloc(bytes ? bytes : 1);
+    void *it = calloc(bytes ? bytes : 1, 1);
     if (!it) {
         fprintf(stderr, "no memory\n");
         exit(2);
