@@ -104,7 +104,9 @@ AreColumns found columns =
 -- a width is the one that is named, of some columns
 abbrev pub IsWidth : Found → Width → Type 0
 IsWidth found width =
-    AreColumns found width.columns × (0 < width.columns) × IsFlag found (codes "break-words") width.breaks_words
+    AreColumns found width.columns × (0 < width.columns)
+    × IsFlag found (codes "break-words") width.breaks_words
+    × IsFlag found (codes "by-cluster") width.by_cluster
 
 -- tabs are spaces up to multiples of the columns that are named, if they are
 abbrev pub AreTabs : Found → Option ℕ → Type 0

@@ -99,6 +99,8 @@ const JSON_HELP: &str = "Write a JSON object for each segment: text, begin, end,
 
 const BREAK_WORDS_HELP: &str = "Break what is wider than the columns between clusters";
 
+const BY_CLUSTER_HELP: &str = "Count the columns of each cluster, and not of each character";
+
 const WIDTH_HELP: &str = "The columns that a line has at most, which then don't stand before files";
 
 const ENGINE_HELP: &str =
@@ -205,11 +207,15 @@ fn rules_command<'a>(alloc: Global) -> Result<Command<'a>, AllocError> {
 fn wrap_command<'a>(alloc: Global, columns: Columns) -> Result<Command<'a>, AllocError> {
     let command = Command::new(alloc, "wrap").about("Wraps lines to columns");
     let command = with_columns(alloc, command, columns)?;
-    let command = command.arg(tabs_argument(alloc))?;
-    let command = command.arg(flag(alloc, "join", JOIN_HELP))?;
-    let command = command.arg(flag(alloc, "break-words", BREAK_WORDS_HELP))?;
+    let command = with_wrap_flags(alloc, command.arg(tabs_argument(alloc))?)?;
     let command = with_line_options(alloc, command)?;
     with_files(alloc, with_dictionaries(alloc, command)?)
+}
+
+fn with_wrap_flags<'a>(alloc: Global, command: Command<'a>) -> Result<Command<'a>, AllocError> {
+    let command = command.arg(flag(alloc, "join", JOIN_HELP))?;
+    let command = command.arg(flag(alloc, "break-words", BREAK_WORDS_HELP))?;
+    command.arg(flag(alloc, "by-cluster", BY_CLUSTER_HELP))
 }
 
 fn with_columns<'a>(
@@ -450,6 +456,7 @@ fn width_of(matches: &ArgMatches<'_>) -> Result<Width>
     Ok(Width {
         columns,
         breaks_words: matches.get_flag("break-words"),
+        by_cluster: matches.get_flag("by-cluster"),
     })
 }
 

@@ -3,9 +3,10 @@ use Rattle.std.specs.Prelude.{ℕ, ◌-◌, nat_lt, Option, None, Some, List, []
 use Rattle.std.specs.List.{flat_map, suffix_len}
 use Rattle.icu_segmenter.specs.LineBreaks.{LineRules}
 use Rattle.icu_segmenter.specs.LineBreaks.LineFinder.{ByClusters}
+use Rattle.icu_segmenter.specs.Rules.{Rules}
 use Rattle.icu_segmenter.specs.Rules.Rules.{ByMachine}
 use Rattle.icu_segmenter.specs.ScriptWords.{no_words}
-use Rattle.icu_segmenter.specs.Wrapping.{Measure, TextLine, is_trailing_space}
+use Rattle.icu_segmenter.specs.Wrapping.{Measure, TextLine, by_characters, by_clusters, is_trailing_space}
 use Rattle.icu_segmenter.specs.WrappedLines.{wrapped_text}
 use Rattle.icu_segmenter_uax29.specs.Clusters.{cluster_machine}
 
@@ -26,6 +27,11 @@ pub record Wrapping : Type 0 where
   pub lines : LineRules
   pub broken : Option LineRules
   pub measure : Measure
+
+-- how columns are counted: by the clusters of some rules, or by character where there are none
+abbrev pub measure_by : Option Rules → Measure
+measure_by None = by_characters
+measure_by (Some rules) = by_clusters rules
 
 -- lines that may end at each boundary of a cluster
 abbrev pub cluster_lines : LineRules

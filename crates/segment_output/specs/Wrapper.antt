@@ -1,31 +1,41 @@
 -- How a wrapper wraps, and which one is asked for.
-use Rattle.std.specs.Prelude.{◌≡◌, None, Some, if◌then◌else◌}
+use Rattle.std.specs.Prelude.{◌≡◌, Bool, Option, None, Some, if◌then◌else◌}
 use Rattle.std.specs.Option.{option_map}
 use Rattle.icu_segmenter.specs.Lines.{owned_line_rules}
+use Rattle.icu_segmenter.specs.Rules.{Rules}
+use Rattle.icu_segmenter.specs.Rules.Rules.{ByMachine}
 use Rattle.icu_segmenter.specs.ScriptWords.{ScriptWords}
-use Rattle.icu_segmenter.specs.Wrapping.{by_characters}
 use Rattle.icu_segmenter.specs.declared.options.LineBreakOptions.{LineBreakOptions}
+use Rattle.icu_segmenter_uax29.specs.Clusters.{cluster_machine}
 use Rattle.segment_output.specs.Segmenter.{line_rules_by}
-use Rattle.segment_output.specs.Wrapped.{Wrapping, cluster_lines}
+use Rattle.segment_output.specs.Wrapped.{Wrapping, cluster_lines, measure_by}
 use Rattle.segment_output.specs.declared.segmenter.Engine.TheVariants as engine
 use Rattle.segment_output.specs.declared.wrapper.Width.{Width}
 use Rattle.segment_output.specs.declared.wrapper.Wrapper.{Wrapper}
 
-abbrev pub wrapping_of : Wrapper → Wrapping
-wrapping_of wrapper = record {
+-- by the clusters of these rules, if they are there
+abbrev pub wrapping_by : Option Rules → Wrapper → Wrapping
+wrapping_by clusters wrapper = record {
   columns = wrapper.columns;
   lines = owned_line_rules wrapper.lines.lines;
   broken = option_map (λ clusters. owned_line_rules clusters.lines) wrapper.clusters;
-  measure = by_characters;
+  measure = measure_by clusters;
 }
 
+-- the clusters by which columns are counted, if they are: those of UAX #29
+abbrev pub counted_clusters : Bool → Option Rules
+counted_clusters by_cluster = if by_cluster then Some (ByMachine cluster_machine) else None
+
+abbrev pub wrapping_of : Wrapper → Wrapping
+wrapping_of wrapper = wrapping_by (counted_clusters wrapper.by_cluster) wrapper
+
 -- a wrapper is that to a width: over Unicode's data, with options of lines and the words of scripts; where words are broken, they are
--- between clusters. Columns are counted by character
+-- between clusters
 abbrev pub IsAskedWrapper : Width → LineBreakOptions → ScriptWords → Wrapper → Type 0
 IsAskedWrapper width options words wrapper =
     wrapping_of wrapper ≡ record {
       columns = width.columns;
       lines = line_rules_by engine.Neo options words;
       broken = if width.breaks_words then Some cluster_lines else None;
-      measure = by_characters;
+      measure = measure_by (counted_clusters width.by_cluster);
     }

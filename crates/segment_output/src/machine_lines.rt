@@ -1,14 +1,15 @@
 //! Segmenters of lines whose breaks a machine finds.
 ghost use Rattle.std.specs.Prelude.{◌≡◌, IfOk};
+ghost use Rattle.std.specs.Option.{option_map};
+ghost use Rattle.icu_segmenter.specs.Clusters.{cluster_rules};
 ghost use Rattle.icu_segmenter.specs.Lines.{owned_line_rules};
 ghost use Rattle.icu_segmenter.specs.LineBreaks.{IsByPairTable};
-ghost use Rattle.icu_segmenter.specs.Wrapping.{by_characters};
 
 use crate::segmenter::{Engine, line_segmenter};
-use icu_segmenter::LineSegmenter;
 use icu_segmenter::options::LineBreakOptions;
 use icu_segmenter::provider::{DataError, Dictionaries};
 use icu_segmenter::wrap::LineWrapper;
+use icu_segmenter::{GraphemeClusterSegmenterBorrowed, LineSegmenter};
 use std::alloc::Global;
 
 /// A segmenter of lines whose breaks a machine finds.
@@ -22,6 +23,7 @@ impl MachineLines {
     ghost use Rattle.icu_segmenter.specs.ScriptWords.{script_words};
     ghost use Rattle.icu_segmenter.specs.WrappedLines.{wrapper_measure, wrapper_rules};
     ghost use Rattle.segment_output.specs.Segmenter.{line_rules_by};
+    ghost use Rattle.segment_output.specs.Wrapped.{measure_by};
 
     /// That of Unicode's data, with these options and dictionaries. Fails only when out of memory.
     pub fn try_new(
@@ -35,14 +37,21 @@ impl MachineLines {
         Ok(MachineLines { lines })
     }
 
-    /// The wrapper of lines by the same breaks, and by the widths of characters. Takes no memory.
-    pub fn wrapper(&self) -> LineWrapper<'_>
+    /// The wrapper of lines by the same breaks, which counts columns by these clusters, or by character where there are none. Takes no
+    /// memory.
+    pub fn wrapper<'data>(
+        &'data self,
+        clusters: Option<GraphemeClusterSegmenterBorrowed<'data>>,
+    ) -> LineWrapper<'data>
         ensures lines { wrapper_rules result ≡ owned_line_rules self.now.lines }
-        ensures measure { wrapper_measure result ≡ by_characters }
+        ensures measure { wrapper_measure result ≡ measure_by (option_map cluster_rules clusters.entry) }
     {
         let Ok(wrapper) = LineWrapper::new(self.lines.as_borrowed()) else {
             unreachable!()
         };
-        wrapper
+        match clusters {
+            Some(clusters) => wrapper.by_cluster(clusters),
+            None => wrapper,
+        }
     }
 }

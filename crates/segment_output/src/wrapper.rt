@@ -1,21 +1,25 @@
 //! Lines, wrapped to columns.
 ghost use Rattle.std.specs.Prelude.{◌≡◌, ◌++◌, Some, IfOk, OnOk};
+ghost use Rattle.std.specs.Option.{option_map};
 ghost use Rattle.std.specs.Io.KnownBytes.{Appends};
+ghost use Rattle.icu_segmenter.specs.Clusters.{cluster_rules};
 ghost use Rattle.icu_segmenter.specs.Lines.{owned_line_rules};
 ghost use Rattle.icu_segmenter.specs.ScriptWords.{script_words};
 ghost use Rattle.icu_segmenter.specs.WrappedLines.{utf8_line_in, utf8_lines_to_come, wrapper_measure, wrapper_rules};
 ghost use Rattle.segment_output.specs.Wrapped.{cluster_lines, printed_lines, shown_as, shown_line, shown_lines, wrapped_output};
-ghost use Rattle.segment_output.specs.Wrapper.{wrapping_of, IsAskedWrapper};
+ghost use Rattle.segment_output.specs.Wrapper.{wrapping_by, wrapping_of, IsAskedWrapper};
 
 use crate::machine_lines::MachineLines;
 use crate::output::{LINES_CAPACITY, LINES_LEN, write_lines};
 use crate::wrapped::{push_line, push_lines, without_trailing_space};
+use icu_segmenter::GraphemeClusterSegmenterBorrowed;
 use icu_segmenter::options::{LineBreakOptions, LineBreakStrictness};
 use icu_segmenter::provider::{DataError, Dictionaries};
 use icu_segmenter::wrap::{LineWrapper, WrapUtf8Iterator, WrappedUtf8Line};
+use icu_segmenter_data::grapheme_segmenter;
 use std::alloc::{AllocError, Global};
 use std::io;
-use std::io::Write;
+use std::io::{ErrorKind, Write};
 
 /// How lines are wrapped.
 #[derive(Clone, Copy, Debug, PartialEq, Eq)]
@@ -24,6 +28,8 @@ pub struct Width {
     pub columns: usize,
     /// Whether what is wider, and no line may end in it, is broken between clusters.
     pub breaks_words: bool,
+    /// Whether columns are counted cluster by cluster, and not character by character.
+    pub by_cluster: bool,
 }
 
 /// Wraps lines, with data of its own.
@@ -31,6 +37,8 @@ pub struct Width {
 pub struct Wrapper {
     /// The columns that a line has at most.
     columns: usize,
+    /// Whether they are counted by cluster.
+    by_cluster: bool,
     /// What finds where a line may end.
     lines: MachineLines,
     /// What finds it in a line that is wider, where such lines are broken: at each cluster.
@@ -43,22 +51,42 @@ impl Wrapper {
     pub fn print<O: Write>(&self, alloc: Global, text: &[u8], out: &mut O) -> io::Result<()>
         ensures { OnOk result (Appends (O.contents out.old) (O.contents out.new) (wrapped_output (wrapping_of self.now) text.now)) }
     {
-        let wrapper = self.lines.wrapper();
-        self.print_all(alloc, wrapper.wrap_utf8(text, self.columns), out)
+        if !self.by_cluster {
+            return self.print_by(alloc, None, text, out);
+        }
+        let Ok(clusters) = grapheme_segmenter(alloc) else {
+            return Err(io::Error::from(ErrorKind::OutOfMemory));
+        };
+        self.print_by(alloc, Some(clusters.as_borrowed()), text, out)
+    }
+
+    // The same, where columns are counted by these clusters, or by character where there are none.
+    fn print_by<O: Write>(
+        &self,
+        alloc: Global,
+        clusters: Option<GraphemeClusterSegmenterBorrowed<'_>>,
+        text: &[u8],
+        out: &mut O,
+    ) -> io::Result<()>
+        ensures { OnOk result (Appends (O.contents out.old) (O.contents out.new) (wrapped_output (wrapping_by (option_map cluster_rules clusters.entry) self.now) text.now)) }
+    {
+        let wrapper = self.lines.wrapper(clusters);
+        self.print_all(alloc, clusters, wrapper.wrap_utf8(text, self.columns), out)
     }
 
     // Writes each line that comes as it is shown, and flushes.
     fn print_all<O: Write>(
         &self,
         alloc: Global,
+        clusters: Option<GraphemeClusterSegmenterBorrowed<'_>>,
         lines: WrapUtf8Iterator<'_, '_>,
         out: &mut O,
     ) -> io::Result<()>
-        ensures { OnOk result (Appends (O.contents out.old) (O.contents out.new) (shown_lines (wrapping_of self.now) (utf8_lines_to_come lines.entry))) }
+        ensures { OnOk result (Appends (O.contents out.old) (O.contents out.new) (shown_lines (wrapping_by (option_map cluster_rules clusters.entry) self.now) (utf8_lines_to_come lines.entry))) }
     {
         let mut gathered = Vec::with_capacity(alloc, LINES_CAPACITY)?;
         for line in lines {
-            self.push_shown(line, &mut gathered)?;
+            self.push_shown(clusters, line, &mut gathered)?;
             if gathered.len() >= LINES_LEN {
                 write_lines(&mut gathered, out)?;
             }
@@ -70,13 +98,16 @@ impl Wrapper {
     // Adds a line as it is shown.
     fn push_shown(
         &self,
+        counted: Option<GraphemeClusterSegmenterBorrowed<'_>>,
         line: WrappedUtf8Line<'_>,
         gathered: &mut Vec<u8>,
     ) -> Result<(), AllocError>
-        ensures { OnOk result (gathered.new.items ≡ gathered.old.items ++ shown_line (wrapping_of self.now) (utf8_line_in line.entry)) }
+        ensures { OnOk result (gathered.new.items ≡ gathered.old.items ++ shown_line (wrapping_by (option_map cluster_rules counted.entry) self.now) (utf8_line_in line.entry)) }
     {
         match &self.clusters {
-            Some(clusters) => { push_broken(line, clusters.wrapper(), self.columns, gathered) }
+            Some(clusters) => {
+                push_broken(line, clusters.wrapper(counted), self.columns, gathered)
+            }
             None => push_line(line.bytes(), gathered),
         }
     }
@@ -116,6 +147,7 @@ pub fn wrapper_of(
     };
     Ok(Wrapper {
         columns: width.columns,
+        by_cluster: width.by_cluster,
         lines: MachineLines::try_new(alloc, options, dictionaries)?,
         clusters,
     })
