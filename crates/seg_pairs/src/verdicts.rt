@@ -7,7 +7,7 @@ ghost use Rattle.seg_pairs.specs.Verdict.{Lands, LandsOrWalks, EndsIn, IsStepBel
 
 use crate::elements::{Element, Elements};
 use crate::provider::{BreakState, RuleBreakData};
-use crate::walk::{Stop, walk};
+use crate::walk::{Stop, walk_apart};
 
 /// What a verdict on an element leads to.
 #[derive(Clone, Copy, Debug)]
@@ -220,7 +220,7 @@ fn walk_step<E: Elements>(
     ensures end { E.end rest.new ≡ E.end rest.old }
     ensures table { E.table rest.new ≡ E.table rest.old }
 {
-    let stop = walk(table, state, left, right, rest);
+    let stop = walk_apart(table, state, left, right, rest);
     let Stop {
         state,
         entry,

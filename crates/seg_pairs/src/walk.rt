@@ -83,6 +83,33 @@ pub fn walk<E: Elements>(
     }
 }
 
+/// The same on a copy of `rest`, so that what the caller has can stay in registers.
+#[inline(always)]
+pub fn walk_apart<E: Elements>(
+    table: &RuleBreakData,
+    start: u8,
+    left: Element,
+    right: Element,
+    rest: &mut E,
+) -> Stop<E>
+    requires start { start < table.now.property_count }
+    requires right { right.class < table.now.property_count }
+    requires table { E.table rest.old ≡ table.now }
+    ensures stop { IsStop table.now start (left ∷ right ∷ E.left rest.old) result.state result.entry result.before result.next (E.left rest.new)
+        result.saved_before result.saved (E.left result.saved_rest) result.saved_class }
+    ensures next { IfSome result.next (λ next. next.class < table.now.property_count) }
+    ensures saved { result.saved.class < table.now.property_count }
+    ensures end { E.end rest.new ≡ E.end rest.old }
+    ensures table { E.table rest.new ≡ E.table rest.old }
+    ensures saved_end { E.end result.saved_rest ≡ E.end rest.old }
+    ensures saved_table { E.table result.saved_rest ≡ E.table rest.old }
+{
+    let mut ahead = rest.fork();
+    let stop = walk(table, start, left, right, &mut ahead);
+    *rest = ahead;
+    stop
+}
+
 /// The entry of two elements.
 pub fn entry_between(table: &RuleBreakData, left: Element, right: Element) -> BreakState
     requires left { left.class < table.now.property_count }

@@ -1,5 +1,5 @@
 -- What is printed of an iterator that says what it has left.
-use Rattle.std.proofs.Common.{◌≡◌, ℕ, Bool, List, None, Option, Result, Ok, Err, IfOk, length, subst}
+use Rattle.std.proofs.Common.{◌≡◌, ℕ, Bool, List, None, Option, Result, Ok, Err, IfOk, length, ap, subst, ◌∙◌}
 use Rattle.std.specs.Iterator.{YieldsFirst, YieldsThen}
 use Rattle.std.specs.Io.KnownBytes.{Appends}
 use Rattle.icu_segmenter.specs.Boundary.{Boundary}
@@ -27,6 +27,7 @@ all-printed alone mark lines left all old new r is printed =
     subst (λ (all : List Boundary). IfOk r (λ count. (count ≡ length (segments alone (marked mark all))) × Appends old new (lines (segments alone (marked mark all))))) is printed
 
 -- a whole text is a part before which nothing stands
-pub printed-whole : (style : Style) (text : List ℕ) (found : List Segment) (P : Type 0) (old new : Option (List ℕ)) → P × Appends old new (lines_at style 0 text found)
-    → P × Appends old new (lines_of style text found)
-printed-whole style text found P old new (p, printed) = (p, subst (Appends old new) (lines-at_zero style text found) printed)
+pub printed-whole : (style : Style) (before : ℕ) (text : List ℕ) (found : List Segment) (P : Type 0) (old new : Option (List ℕ)) → before ≡ 0
+    → P × Appends old new (lines_at style before text found) → P × Appends old new (lines_of style text found)
+printed-whole style before text found P old new none (p, printed) =
+    (p, subst (Appends old new) (ap (λ (before : ℕ). lines_at style before text found) none ∙ lines-at_zero style text found) printed)

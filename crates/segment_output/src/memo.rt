@@ -12,7 +12,7 @@ ghost use Rattle.segment_output.specs.Segmenter.{segments_by};
 use crate::fault::Fault;
 use crate::found::Found;
 use crate::marks::{Mark, Marking};
-use crate::output::{Style, print_segments};
+use crate::output::{Part, Style, print_segments};
 use crate::segmenter::Segmenter;
 use icu_segmenter::memo::{MemoBreakIterator, MemoError};
 use icu_segmenter::rule_segmenter_v2::CountedTransitions;
@@ -41,16 +41,22 @@ pub fn print_by_memo<O: Write>(
         × Appends (O.contents out.old) (O.contents out.new) (lines_of style text.now (segments_by segmenter.now text.now))) }
     ensures unwritten { IfErr result (λ fault. IsBeforeWriting fault → out.new ≡ out.old) }
 {
+    let part = Part {
+        bytes: text,
+        before: 0,
+        style,
+    };
     match segmenter {
         Segmenter::Clusters(clusters) => {
             let clusters = clusters.as_borrowed().segment_utf8(text);
             print_memo(
                 alloc,
                 clusters.with_memo(alloc),
-                Marking::Nothing,
-                false,
-                text,
-                style,
+                Shown {
+                    marking: Marking::Nothing,
+                    alone: false,
+                },
+                part,
                 out,
             )
         }
@@ -59,10 +65,11 @@ pub fn print_by_memo<O: Write>(
             print_memo(
                 alloc,
                 words.with_memo(alloc),
-                Marking::Types,
-                false,
-                text,
-                style,
+                Shown {
+                    marking: Marking::Types,
+                    alone: false,
+                },
+                part,
                 out,
             )
         }
@@ -71,10 +78,11 @@ pub fn print_by_memo<O: Write>(
             print_memo(
                 alloc,
                 words.with_memo(alloc),
-                Marking::Types,
-                true,
-                text,
-                style,
+                Shown {
+                    marking: Marking::Types,
+                    alone: true,
+                },
+                part,
                 out,
             )
         }
@@ -83,10 +91,11 @@ pub fn print_by_memo<O: Write>(
             print_memo(
                 alloc,
                 sentences.with_memo(alloc),
-                Marking::Nothing,
-                false,
-                text,
-                style,
+                Shown {
+                    marking: Marking::Nothing,
+                    alone: false,
+                },
+                part,
                 out,
             )
         }
@@ -96,36 +105,48 @@ pub fn print_by_memo<O: Write>(
             print_memo(
                 alloc,
                 lines.with_memo(alloc),
-                Marking::Ends,
-                false,
-                text,
-                style,
+                Shown {
+                    marking: Marking::Ends,
+                    alone: false,
+                },
+                part,
                 out,
             )
         }
     }
 }
 
-// Writes the segments between the boundaries that a memoised engine has still to give, if there is one, or words alone.
+// What is shown of the segments of a kind.
+#[derive(Clone, Copy)]
+struct Shown {
+    // What their boundaries say of them.
+    marking: Marking,
+    // Whether words alone are shown.
+    alone: bool,
+}
+
+// Writes the segments of a whole text between the boundaries that a memoised engine has still to give, if there is one.
 fn print_memo<O: Write>(
     alloc: Global,
     memo: Result<Memo<'_, '_>, MemoError>,
-    marking: Marking,
-    alone: bool,
-    text: &[u8],
-    style: Style,
+    shown: Shown,
+    part: Part<'_>,
     out: &mut O,
 ) -> Result<Found, Fault>
+    requires { part.before ≡ 0 }
     ensures written { MatchResult memo.entry
-        (λ memo. IfOk result (λ found. IsPrinted memo (segments alone (marked (mark_of marking) memo.coming.left)) found
-        × Appends (O.contents out.old) (O.contents out.new) (lines_of style text.now (segments alone (marked (mark_of marking) memo.coming.left))))) (λ _. IsErr result) }
+        (λ memo. IfOk result (λ found. IsPrinted memo (segments shown.alone (marked (mark_of shown.marking) memo.coming.left)) found
+        × Appends (O.contents out.old) (O.contents out.new) (lines_of part.entry.style part.entry.bytes.now (segments shown.alone (marked (mark_of shown.marking) memo.coming.left))))) (λ _. IsErr result) }
     ensures unwritten { IfErr result (λ fault. IsBeforeWriting fault → out.new ≡ out.old) }
 {
     let mut places = match memo {
-        Ok(memo) => MemoPlaces { memo, marking },
+        Ok(memo) => MemoPlaces {
+            memo,
+            marking: shown.marking,
+        },
         Err(error) => return Err(Fault::Memo(error)),
     };
-    match print_segments(alloc, &mut places, alone, text, 0, style, out) {
+    match print_segments(alloc, &mut places, shown.alone, part, out) {
         Ok(segments) => {
             let lookups = places.memo.lookups();
             Ok(Found { segments, lookups })

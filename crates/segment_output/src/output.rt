@@ -34,6 +34,17 @@ pub enum Style {
     Counted(Numbers),
 }
 
+/// A text, or a part of one, and how its segments are written.
+#[derive(Clone, Copy)]
+pub struct Part<'s> {
+    /// Its bytes.
+    pub bytes: &'s [u8],
+    /// How many bytes of the text stand before it.
+    pub before: usize,
+    /// How its segments are written.
+    pub style: Style,
+}
+
 /// The numbers that stand beside that of the segments, where they are counted.
 #[derive(Clone, Copy, Debug, PartialEq, Eq)]
 pub struct Numbers {
@@ -52,26 +63,24 @@ pub const LINES_LEN: usize = 65536;
 /// Room for such lines and one more, unless that is a long one.
 pub const LINES_CAPACITY: usize = 69632;
 
-/// Writes the segments between each two places that come, each with the mark of what ends there, or words alone, of a text or of a part of
-/// one before which so many bytes stand, flushes, and says how many there were. The errors are the writer's, and being out of memory, also
-/// where there are more segments, or bytes in all, than a `usize` counts.
+/// Writes the segments of a part between each two places that come, each with the mark of what ends there, or words alone, flushes, and says
+/// how many there were. The errors are the writer's, and being out of memory, also where there are more segments, or bytes in all, than a
+/// `usize` counts.
 pub fn print_segments<N: Iterator<Item = (usize, Mark)>, O: Write>(
     alloc: Global,
     places: &mut N,
     alone: bool,
-    text: &[u8],
-    before: usize,
-    style: Style,
+    part: Part<'_>,
     out: &mut O,
 ) -> io::Result<usize>
     requires can { N.can_next places.old }
     requires ends { IsFinite (N.remaining places.old) }
     ensures { IfOk result (λ count. (given : List (ℕ × Mark)) × YieldsThen N.next_gives places.old given None places.new
         × (count ≡ length (segments alone given))
-        × Appends (O.contents out.old) (O.contents out.new) (lines_at style before text.now (segments alone given))) }
+        × Appends (O.contents out.old) (O.contents out.new) (lines_at part.entry.style part.entry.before part.entry.bytes.now (segments alone given))) }
 {
     let mut lines = Vec::with_capacity(alloc, LINES_CAPACITY)?;
-    let mut stretch = stretch_after(text, 0, style);
+    let mut stretch = stretch_after(part.bytes, 0, part.style);
     let mut count: usize = 0;
     // Before the first place no segment begins, and the short way isn't taken.
     let mut start = usize::MAX;
@@ -79,14 +88,14 @@ pub fn print_segments<N: Iterator<Item = (usize, Mark)>, O: Write>(
     'places: while let Some((end, mark)) = places.next() {
         if !mark.is_shown(alone) {
             has_begun = true;
-        } else if push_short(text, start, end, &stretch, &mut lines) {
+        } else if push_short(part.bytes, start, end, &stretch, &mut lines) {
             count = one_more(count)?;
         } else if has_begun {
             count = one_more(count)?;
             let segment = Segment { start, end, mark };
-            match style {
+            match part.style {
                 Style::Counted(_) => {}
-                _ => push_long(text, before, segment, style, &mut stretch, &mut lines, out)?,
+                _ => push_long(part, segment, &mut stretch, &mut lines, out)?,
             }
         } else {
             has_begun = true;
@@ -118,48 +127,48 @@ struct Segment {
 // Apart, since an `io::Result` is wide.
 #[inline(never)]
 fn push_long<O: Write>(
-    text: &[u8],
-    before: usize,
+    part: Part<'_>,
     segment: Segment,
-    style: Style,
     stretch: &mut Stretch,
     lines: &mut Vec<u8>,
     out: &mut O,
 ) -> io::Result<()>
-    requires { IsStretch style text.now stretch.old }
-    ensures stretch { OnOk result (IsStretch style text.now stretch.new) }
+    requires { IsStretch part.style part.bytes.now stretch.old }
+    ensures stretch { OnOk result (IsStretch part.entry.style part.entry.bytes.now stretch.new) }
     ensures lines { OnOk result (AreGathered (O.contents out.old) (O.contents out.new) lines.new.items
-        (lines.old.items ++ line_at style before text.now (record { from = segment.start; to = segment.end; mark = segment.mark }))) }
+        (lines.old.items ++ line_at part.entry.style part.entry.before part.entry.bytes.now (record { from = segment.start; to = segment.end; mark = segment.mark }))) }
 {
     if lines.len() >= LINES_LEN {
         write_lines(lines, out)?;
     }
-    push_segment(text, before, segment, style, stretch, lines)?;
+    push_segment(part, segment, stretch, lines)?;
     Ok(())
 }
 
 // Adds the line of a segment, and finds the next stretch, where the segment doesn't end before this one does.
 fn push_segment(
-    text: &[u8],
-    before: usize,
+    part: Part<'_>,
     segment: Segment,
-    style: Style,
     stretch: &mut Stretch,
     lines: &mut Vec<u8>,
 ) -> Result<(), AllocError>
-    requires { IsStretch style text.now stretch.old }
-    ensures stretch { OnOk result (IsStretch style text.now stretch.new) }
-    ensures lines { OnOk result (lines.new.items ≡ lines.old.items ++ line_at style before text.now (record { from = segment.start; to = segment.end; mark = segment.mark })) }
+    requires { IsStretch part.style part.bytes.now stretch.old }
+    ensures stretch { OnOk result (IsStretch part.entry.style part.entry.bytes.now stretch.new) }
+    ensures lines { OnOk result (lines.new.items ≡ lines.old.items ++ line_at part.entry.style part.entry.before part.entry.bytes.now (record { from = segment.start; to = segment.end; mark = segment.mark })) }
 {
-    let Segment { start, end, mark } = segment;
+    let Segment {
+        start,
+        end,
+        mark: _,
+    } = segment;
     if stretch.from <= start && start <= end && end <= stretch.to {
-        lines.extend_from_slice(&text[start..end])?;
+        lines.extend_from_slice(&part.bytes[start..end])?;
         lines.push(stretch.last)?;
         return Ok(());
     }
-    push_line(text, before, start, end, mark, style, lines)?;
+    push_line(part, segment, lines)?;
     if end > stretch.to {
-        *stretch = stretch_after(text, end, style);
+        *stretch = stretch_after(part.bytes, end, part.style);
     }
     Ok(())
 }
@@ -235,44 +244,32 @@ pub fn write_lines<O: Write>(lines: &mut Vec<u8>, out: &mut O) -> io::Result<()>
 }
 
 // Adds the line of a segment.
-fn push_line(
-    text: &[u8],
-    before: usize,
-    start: usize,
-    end: usize,
-    mark: Mark,
-    style: Style,
-    lines: &mut Vec<u8>,
-) -> Result<(), AllocError>
-    ensures { OnOk result (lines.new.items ≡ lines.old.items ++ line_at style before text.now (record { from = start; to = end; mark = mark })) }
+fn push_line(part: Part<'_>, segment: Segment, lines: &mut Vec<u8>) -> Result<(), AllocError>
+    ensures { OnOk result (lines.new.items ≡ lines.old.items ++ line_at part.entry.style part.entry.before part.entry.bytes.now (record { from = segment.start; to = segment.end; mark = segment.mark })) }
 {
-    match style {
+    let Segment { start, end, mark } = segment;
+    let bytes = segment_of(part.bytes, start, end);
+    match part.style {
         Style::Escaped => {
-            push_escaped(segment_of(text, start, end), lines)?;
+            push_escaped(bytes, lines)?;
             lines.extend_from_slice(b"\n")
         }
         Style::Raw => {
-            lines.extend_from_slice(segment_of(text, start, end))?;
+            lines.extend_from_slice(bytes)?;
             lines.extend_from_slice(b"\n")
         }
         Style::ZeroEnded => {
-            lines.extend_from_slice(segment_of(text, start, end))?;
+            lines.extend_from_slice(bytes)?;
             lines.extend_from_slice(b"\0")
         }
         Style::Json => {
-            let segment = segment_of(text, start, end);
-            push_object(
-                segment,
-                later(before, start)?,
-                later(before, end)?,
-                mark,
-                lines,
-            )?;
+            let (start, end) = (later(part.before, start)?, later(part.before, end)?);
+            push_object(bytes, start, end, mark, lines)?;
             lines.extend_from_slice(b"\n")
         }
         Style::Offsets => {
-            push_number(later(before, start)?, b' ', lines)?;
-            push_number(later(before, end)?, b'\n', lines)
+            push_number(later(part.before, start)?, b' ', lines)?;
+            push_number(later(part.before, end)?, b'\n', lines)
         }
         Style::Counted(_) => Ok(()),
     }

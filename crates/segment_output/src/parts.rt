@@ -12,7 +12,7 @@ ghost use Rattle.segment_output.specs.Size.{size_of};
 
 use crate::fault::Fault;
 use crate::found::{Found, Size, Tally};
-use crate::output::Style;
+use crate::output::{Part, Style};
 use crate::segmenter::Segmenter;
 use memchr::memrchr;
 use std::alloc::{AllocError, Global};
@@ -60,10 +60,10 @@ pub fn print_parts<I: Read, O: Write>(
     'reads: for _ in 0..u64::MAX {
         let len = read_block(input, &mut block)?;
         if len == 0 {
-            return print_last(alloc, segmenter, style, &mut progress, out);
+            return print_last(segmenter, style, &mut progress, out);
         }
         let (bytes, _) = block.split_at(len);
-        if let Err(fault) = add_block(alloc, segmenter, style, bytes, &mut progress, out) {
+        if let Err(fault) = add_block(segmenter, style, bytes, &mut progress, out) {
             return Err(fault);
         }
     }
@@ -109,7 +109,6 @@ fn read_again<I: Read>(input: &mut I, block: &mut [u8]) -> io::Result<usize>
 
 // Adds a block that has come: where it has a line feed, all up to its last one is written.
 fn add_block<O: Write>(
-    alloc: Global,
     segmenter: &Segmenter,
     style: Style,
     block: &[u8],
@@ -124,9 +123,9 @@ fn add_block<O: Write>(
     };
     let (lines, rest) = block.split_at(last + 1);
     hold(lines, &mut progress.held)?;
-    let mut next = Vec::new(alloc);
+    let mut next = Vec::new(*progress.held.allocator());
     hold(rest, &mut next)?;
-    print_held(alloc, segmenter, style, progress, out)?;
+    print_held(segmenter, style, progress, out)?;
     progress.held = next;
     Ok(())
 }
@@ -140,7 +139,6 @@ fn hold(bytes: &[u8], held: &mut Vec<u8>) -> Result<(), Fault>
 
 // Writes the segments of what is held, which is the text's last part.
 fn print_last<O: Write>(
-    alloc: Global,
     segmenter: &Segmenter,
     style: Style,
     progress: &mut Progress,
@@ -150,7 +148,7 @@ fn print_last<O: Write>(
         × IsPartWritten segmenter.now style progress.old.held.items progress.old progress.new (O.contents out.old) (O.contents out.new)) }
     ensures only { IfErr result (λ fault. IsReadFault fault → ⊥) }
 {
-    print_held(alloc, segmenter, style, progress, out)?;
+    print_held(segmenter, style, progress, out)?;
     let found = Found {
         segments: progress.segments,
         lookups: 0,
@@ -163,7 +161,6 @@ fn print_last<O: Write>(
 
 // Writes the segments of what is held, as a part of the text. The errors are the writer's, and being out of memory.
 fn print_held<O: Write>(
-    alloc: Global,
     segmenter: &Segmenter,
     style: Style,
     progress: &mut Progress,
@@ -173,11 +170,18 @@ fn print_held<O: Write>(
     ensures held { progress.new.held ≡ progress.old.held }
     ensures only { IfErr result (λ fault. IsReadFault fault → ⊥) }
 {
-    let part = progress.held.as_slice();
-    segmenter.cover(part);
-    let printed = segmenter.print_part(alloc, part, progress.size.bytes, style, out);
-    let count = printed.map_err(Fault::Write)?;
-    let Some(size) = progress.size.checked_add(Size::of(part)) else {
+    let alloc = *progress.held.allocator();
+    let bytes = progress.held.as_slice();
+    segmenter.cover(bytes);
+    let part = Part {
+        bytes,
+        before: progress.size.bytes,
+        style,
+    };
+    let count = segmenter
+        .print_part(alloc, part, out)
+        .map_err(Fault::Write)?;
+    let Some(size) = progress.size.checked_add(Size::of(bytes)) else {
         return Err(too_large());
     };
     let Some(segments) = progress.segments.checked_add(count) else {

@@ -16,7 +16,7 @@ ghost use Rattle.icu_segmenter.specs.Words.{owned_word_rules};
 ghost use Rattle.segment_output.specs.Segmenter.{boundaries_by, cluster_rules_by, line_rules_by, line_rules_of, segments_by, sentence_rules_by, suppressed_finder, word_rules_by, IsAskedOf, IsByMachine};
 
 use crate::marks::{HasMark, Marked};
-use crate::output::{Style, print_segments};
+use crate::output::{Part, Style, print_segments};
 use crate::vocabulary::Vocabulary;
 use icu_segmenter::cursor::{Segmenter as Cursor, SegmenterOf};
 use icu_segmenter::options::LineBreakOptions;
@@ -75,43 +75,41 @@ pub enum Segmenter {
 }
 
 impl Segmenter {
-    /// Writes the segments of a part of a text before which so many bytes stand, each on a line of its own, flushes, and says how many
-    /// there are. The errors are the writer's, and being out of memory.
+    /// Writes the segments of a part of a text, each on a line of its own, flushes, and says how many there are. The errors are the
+    /// writer's, and being out of memory.
     pub fn print_part<O: Write>(
         &self,
         alloc: Global,
-        part: &[u8],
-        before: usize,
-        style: Style,
+        part: Part<'_>,
         out: &mut O,
     ) -> io::Result<usize>
-        ensures { IfOk result (λ count. (count ≡ length (segments_by self.now part.now))
-            × Appends (O.contents out.old) (O.contents out.new) (lines_at style before part.now (segments_by self.now part.now))) }
+        ensures { IfOk result (λ count. (count ≡ length (segments_by self.now part.entry.bytes.now))
+            × Appends (O.contents out.old) (O.contents out.new) (lines_at part.entry.style part.entry.before part.entry.bytes.now (segments_by self.now part.entry.bytes.now))) }
     {
         match self {
             Segmenter::Clusters(clusters) => {
-                let places = clusters.as_borrowed().segment_utf8(part);
-                print_breaks(alloc, places, false, part, before, style, out)
+                let places = clusters.as_borrowed().segment_utf8(part.bytes);
+                print_breaks(alloc, places, false, part, out)
             }
             Segmenter::Words(words) => {
-                let places = words.as_borrowed().segment_utf8(part);
-                print_breaks(alloc, places, false, part, before, style, out)
+                let places = words.as_borrowed().segment_utf8(part.bytes);
+                print_breaks(alloc, places, false, part, out)
             }
             Segmenter::WordsAlone(words) => {
-                let places = words.as_borrowed().segment_utf8(part);
-                print_breaks(alloc, places, true, part, before, style, out)
+                let places = words.as_borrowed().segment_utf8(part.bytes);
+                print_breaks(alloc, places, true, part, out)
             }
             Segmenter::Sentences(sentences) => {
-                let places = sentences.as_borrowed().segment_utf8(part);
-                print_breaks(alloc, places, false, part, before, style, out)
+                let places = sentences.as_borrowed().segment_utf8(part.bytes);
+                print_breaks(alloc, places, false, part, out)
             }
             Segmenter::Suppressing(sentences, abbreviations) => {
-                let places = suppressing(sentences, abbreviations).segment_utf8(part);
-                print_breaks(alloc, places, false, part, before, style, out)
+                let places = suppressing(sentences, abbreviations).segment_utf8(part.bytes);
+                print_breaks(alloc, places, false, part, out)
             }
             Segmenter::Lines(lines) => {
-                let places = lines.as_borrowed().segment_utf8(part);
-                print_breaks(alloc, places, false, part, before, style, out)
+                let places = lines.as_borrowed().segment_utf8(part.bytes);
+                print_breaks(alloc, places, false, part, out)
             }
         }
     }
@@ -127,7 +125,12 @@ impl Segmenter {
         ensures { IfOk result (λ count. (count ≡ length (segments_by self.now text.now))
             × Appends (O.contents out.old) (O.contents out.new) (lines_of style text.now (segments_by self.now text.now))) }
     {
-        self.print_part(alloc, text, 0, style, out)
+        let part = Part {
+            bytes: text,
+            before: 0,
+            style,
+        };
+        self.print_part(alloc, part, out)
     }
 }
 
@@ -137,17 +140,15 @@ fn print_breaks<M: HasMark, B: BreakIterator<Mark = M>, O: Write>(
     alloc: Global,
     breaks: B,
     alone: bool,
-    part: &[u8],
-    before: usize,
-    style: Style,
+    part: Part<'_>,
     out: &mut O,
 ) -> io::Result<usize>
     ensures { IfOk result (λ count.
         let found = segments alone (marked (λ status. M.said (B.mark status)) (B.left breaks)) in
-        (count ≡ length found) × Appends (O.contents out.old) (O.contents out.new) (lines_at style before part.now found)) }
+        (count ≡ length found) × Appends (O.contents out.old) (O.contents out.new) (lines_at part.entry.style part.entry.before part.entry.bytes.now found)) }
 {
     let mut places = Marked { breaks };
-    print_segments(alloc, &mut places, alone, part, before, style, out)
+    print_segments(alloc, &mut places, alone, part, out)
 }
 
 impl Segmenter {

@@ -10,8 +10,8 @@ use Rattle.segment_output.proofs.memo.print_memo.Goals as goal
 pub returns-in-Ok-print_segments-clause-written : goal.returns-in-Ok-print_segments-clause-written
 returns-in-Ok-print_segments-clause-written g c =
     rw c.in-Ok.is
-    (printed-whole c.args.style c.args.text.now _ _ _ _
-    (is-printed (λ (s : MemoPlaces). s.memo) (λ (s : MemoPlaces). marked (mark_of s.marking) s.memo.coming.left) (segments c.args.alone) (λ found. lines_at c.args.style 0 c.args.text.now found)
-    (record { memo = c.in-Ok.memo; marking = c.args.marking })
+    (printed-whole c.args.part.style c.args.part.before c.args.part.bytes.now _ _ _ _ c.requires
+    (is-printed (λ (s : MemoPlaces). s.memo) (λ (s : MemoPlaces). marked (mark_of s.marking) s.memo.coming.left) (segments c.args.shown.alone) (λ found. lines_at c.args.part.style c.args.part.before c.args.part.bytes.now found)
+    (record { memo = c.in-Ok.memo; marking = c.args.shown.marking })
     c.print_segments.new.places c.in-Ok-print_segments.segments c.lookups-lookups.result _ _ c.in-Ok-print_segments.ensures (λ none. map-none _ _ none) c.lookups-lookups.ensures.given
     c.lookups-lookups.ensures.different c.lookups-lookups.ensures.bound))

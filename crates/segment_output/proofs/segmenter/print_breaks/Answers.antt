@@ -8,4 +8,4 @@ use Rattle.segment_output.proofs.segmenter.print_breaks.Goals as goal
 pub returns : goal.returns
 returns g c =
     lines-are_left (λ s. marked (λ status. g.M.HasMark.said (g.B.BreakIterator.mark status)) (g.B.BreakIterator.left s.breaks)) (segments c.args.alone)
-    (λ found. lines_at c.args.style c.args.before c.args.part.now found) _ c.print_segments.new.places _ _ _ _ c.print_segments.ensures refl
+    (λ found. lines_at c.args.part.style c.args.part.before c.args.part.bytes.now found) _ c.print_segments.new.places _ _ _ _ c.print_segments.ensures refl

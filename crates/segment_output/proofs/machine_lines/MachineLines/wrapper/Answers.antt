@@ -6,5 +6,8 @@ pub unreachable-requires : goal.unreachable-requires
 unreachable-requires c =
     c.args.self.now.by_machine (subst (λ (rules : LineRules). IsByPairTable rules.finder) c.as_borrowed.ensures c.in_default.ensures.rejected)
 
-pub returns-clause-lines : goal.returns-clause-lines
-returns-clause-lines c = c.in-Ok.ensures.made.0 ∙ c.as_borrowed.ensures
+pub returns-in-Some-clause-lines : goal.returns-in-Some-clause-lines
+returns-in-Some-clause-lines c = c.by_cluster.ensures.lines ∙ c.in-Ok.ensures.made.0 ∙ c.as_borrowed.ensures
+
+pub returns-in-None-clause-lines : goal.returns-in-None-clause-lines
+returns-in-None-clause-lines c = c.in-Ok.ensures.made.0 ∙ c.as_borrowed.ensures

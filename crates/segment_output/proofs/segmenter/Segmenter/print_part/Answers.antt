@@ -14,35 +14,35 @@ use Rattle.segment_output.proofs.segmenter.Segmenter.print_part.Goals as goal
 pub returns-in-Clusters : goal.returns-in-Clusters
 returns-in-Clusters g c =
     rw c.in-Clusters.is
-    (all-printed false (mark_of marking.Nothing) (λ found. lines_at c.args.style c.args.before c.args.part.now found) _ _ _ _ _
-    (c.segment_utf8-places.ensures.boundaries ∙ ap (λ (rules : Rules). boundaries_of rules (utf8 c.args.part.now)) c.as_borrowed.ensures) c.print_breaks.ensures)
+    (all-printed false (mark_of marking.Nothing) (λ found. lines_at c.args.part.style c.args.part.before c.args.part.bytes.now found) _ _ _ _ _
+    (c.segment_utf8-places.ensures.boundaries ∙ ap (λ (rules : Rules). boundaries_of rules (utf8 c.args.part.bytes.now)) c.as_borrowed.ensures) c.print_breaks.ensures)
 
 pub returns-in-Words : goal.returns-in-Words
 returns-in-Words g c =
     rw c.in-Words.is
-    (all-printed false (mark_of marking.Types) (λ found. lines_at c.args.style c.args.before c.args.part.now found) _ _ _ _ _
-    (c.segment_utf8-places-in-Words.ensures.boundaries ∙ ap (λ (rules : WordRules). word_boundaries_of rules (utf8 c.args.part.now)) c.as_borrowed-in-Words.ensures) c.print_breaks-in-Words.ensures)
+    (all-printed false (mark_of marking.Types) (λ found. lines_at c.args.part.style c.args.part.before c.args.part.bytes.now found) _ _ _ _ _
+    (c.segment_utf8-places-in-Words.ensures.boundaries ∙ ap (λ (rules : WordRules). word_boundaries_of rules (utf8 c.args.part.bytes.now)) c.as_borrowed-in-Words.ensures) c.print_breaks-in-Words.ensures)
 
 pub returns-in-WordsAlone : goal.returns-in-WordsAlone
 returns-in-WordsAlone g c =
     rw c.in-WordsAlone.is
-    (all-printed true (mark_of marking.Types) (λ found. lines_at c.args.style c.args.before c.args.part.now found) _ _ _ _ _
-    (c.segment_utf8-places-in-WordsAlone.ensures.boundaries ∙ ap (λ (rules : WordRules). word_boundaries_of rules (utf8 c.args.part.now)) c.as_borrowed-in-WordsAlone.ensures) c.print_breaks-in-WordsAlone.ensures)
+    (all-printed true (mark_of marking.Types) (λ found. lines_at c.args.part.style c.args.part.before c.args.part.bytes.now found) _ _ _ _ _
+    (c.segment_utf8-places-in-WordsAlone.ensures.boundaries ∙ ap (λ (rules : WordRules). word_boundaries_of rules (utf8 c.args.part.bytes.now)) c.as_borrowed-in-WordsAlone.ensures) c.print_breaks-in-WordsAlone.ensures)
 
 pub returns-in-Sentences : goal.returns-in-Sentences
 returns-in-Sentences g c =
     rw c.in-Sentences.is
-    (all-printed false (mark_of marking.Nothing) (λ found. lines_at c.args.style c.args.before c.args.part.now found) _ _ _ _ _
-    (c.segment_utf8-places-in-Sentences.ensures.boundaries ∙ ap (λ (rules : Rules). boundaries_of rules (utf8 c.args.part.now)) c.as_borrowed-in-Sentences.ensures) c.print_breaks-in-Sentences.ensures)
+    (all-printed false (mark_of marking.Nothing) (λ found. lines_at c.args.part.style c.args.part.before c.args.part.bytes.now found) _ _ _ _ _
+    (c.segment_utf8-places-in-Sentences.ensures.boundaries ∙ ap (λ (rules : Rules). boundaries_of rules (utf8 c.args.part.bytes.now)) c.as_borrowed-in-Sentences.ensures) c.print_breaks-in-Sentences.ensures)
 
 pub returns-in-Suppressing : goal.returns-in-Suppressing
 returns-in-Suppressing g c =
     rw c.in-Suppressing.is
-    (all-printed false (mark_of marking.Nothing) (λ found. lines_at c.args.style c.args.before c.args.part.now found) _ _ _ _ _
-    (c.segment_utf8-places-in-Suppressing.ensures.boundaries ∙ ap (λ find. boundaries_in find (utf8 c.args.part.now)) c.suppressing.ensures) c.print_breaks-in-Suppressing.ensures)
+    (all-printed false (mark_of marking.Nothing) (λ found. lines_at c.args.part.style c.args.part.before c.args.part.bytes.now found) _ _ _ _ _
+    (c.segment_utf8-places-in-Suppressing.ensures.boundaries ∙ ap (λ find. boundaries_in find (utf8 c.args.part.bytes.now)) c.suppressing.ensures) c.print_breaks-in-Suppressing.ensures)
 
 pub returns-in-Lines : goal.returns-in-Lines
 returns-in-Lines g c =
     rw c.in-Lines.is
-    (all-printed false (mark_of marking.Ends) (λ found. lines_at c.args.style c.args.before c.args.part.now found) _ _ _ _ _
-    (c.segment_utf8-places-in-Lines.ensures.boundaries ∙ ap (λ (rules : LineRules). line_boundaries_of rules (utf8 c.args.part.now)) c.as_borrowed-in-Lines.ensures) c.print_breaks-in-Lines.ensures)
+    (all-printed false (mark_of marking.Ends) (λ found. lines_at c.args.part.style c.args.part.before c.args.part.bytes.now found) _ _ _ _ _
+    (c.segment_utf8-places-in-Lines.ensures.boundaries ∙ ap (λ (rules : LineRules). line_boundaries_of rules (utf8 c.args.part.bytes.now)) c.as_borrowed-in-Lines.ensures) c.print_breaks-in-Lines.ensures)
