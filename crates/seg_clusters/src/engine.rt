@@ -101,7 +101,8 @@ pub struct Boundaries<'data, I: Cursor> {
     by: BoundariesBy<'data, I>,
 }
 
-/// Which engine gives them.
+/// Which engine gives them. The fields of both are in such an order that words of one stand over words of the other, and bytes over bytes: so
+/// either stays in registers.
 #[derive(Debug, Drop)]
 enum BoundariesBy<'data, I: Cursor> {
     /// Those of a pair table.

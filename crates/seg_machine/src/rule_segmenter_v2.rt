@@ -25,11 +25,11 @@ use std::marker::Model;
 /// Each segment is the pick of the machine for what is left of the text.
 #[derive(Debug, Drop)]
 pub struct RuleBreakIterator<'data, I: Cursor> {
+    started: bool,
+    ahead: Ahead<I>,
     machine: TailoredMachineBorrowed<'data>,
     // What is left after the boundary that was given last.
     rest: I,
-    ahead: Ahead<I>,
-    started: bool,
     status: u8,
 }
 

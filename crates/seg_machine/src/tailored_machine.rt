@@ -58,11 +58,11 @@ impl TailoredMachine {
 /// A checked machine, tailored or not, that is borrowed. It is what engines read, step by step.
 #[derive(Clone, Copy, Debug)]
 pub struct TailoredMachineBorrowed<'data> {
-    machine: &'data SegmenterStateMachine,
     pseudo_symbol_map: &'data [(Symbol, ComplexScript)],
     replacing: Option<&'data SegmenterStateMachineOverride>,
     // Each value below it is its own symbol: it is the shift where nothing is replaced, and else 0.
     plain_below: u8,
+    machine: &'data SegmenterStateMachine,
     ghost text_symbols: { HasTextSymbols (with_parts machine.now pseudo_symbol_map.now (option_map (λ t. t.now) replacing)) },
     ghost plain: { ArePlainBelow (with_parts machine.now pseudo_symbol_map.now (option_map (λ t. t.now) replacing)) plain_below },
 }

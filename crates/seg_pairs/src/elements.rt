@@ -55,10 +55,10 @@ pub trait Elements: Drop {
 /// The items of a text as elements, with the classes of a pair table and its override.
 #[derive(Debug, Drop)]
 pub struct Items<'data, I: Cursor> {
-    /// What the classes are by.
-    pub pairs: PairDataBorrowed<'data>,
     /// The items that aren't read yet.
     pub cursor: I,
+    /// What the classes are by.
+    pub pairs: PairDataBorrowed<'data>,
 }
 
 impl<'data, I: Cursor> Elements for Items<'data, I> {
