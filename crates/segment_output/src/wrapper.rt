@@ -19,7 +19,7 @@ use icu_segmenter::wrap::{LineWrapper, WrapUtf8Iterator, WrappedUtf8Line};
 use icu_segmenter_data::grapheme_segmenter;
 use std::alloc::{AllocError, Global};
 use std::io;
-use std::io::{ErrorKind, Write};
+use std::io::Write;
 
 /// How lines are wrapped.
 #[derive(Clone, Copy, Debug, PartialEq, Eq)]
@@ -55,7 +55,7 @@ impl Wrapper {
             return self.print_by(alloc, None, text, out);
         }
         let Ok(clusters) = grapheme_segmenter(alloc) else {
-            return Err(io::Error::from(ErrorKind::OutOfMemory));
+            return Err(io::Error::from(AllocError));
         };
         self.print_by(alloc, Some(clusters.as_borrowed()), text, out)
     }
