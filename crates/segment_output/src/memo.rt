@@ -1,5 +1,5 @@
 //! The same segments by the memoised engine.
-ghost use Rattle.std.specs.Prelude.{◌≡◌, IfErr, IfOk, IsErr, MatchResult};
+ghost use Rattle.std.specs.Prelude.{◌≡◌, true, false, IfErr, IfOk, IsErr, MatchResult};
 ghost use Rattle.std.specs.Io.KnownBytes.{Appends};
 ghost use Rattle.std.specs.Iterator.{item_count};
 ghost use Rattle.icu_segmenter.specs.TextSegments.{marked};
@@ -8,6 +8,7 @@ ghost use Rattle.segment_output.specs.Marks.{mark_of};
 ghost use Rattle.segment_output.specs.Memo.{IsFoundBy, IsPrinted, StepsMemo};
 ghost use Rattle.segment_output.specs.Output.{lines_of, segments};
 ghost use Rattle.segment_output.specs.Segmenter.{segments_by};
+ghost use Rattle.segment_output.specs.declared.marks.Marking.TheVariants.{Types};
 
 use crate::fault::Fault;
 use crate::found::Found;
@@ -48,70 +49,25 @@ pub fn print_by_memo<O: Write>(
     };
     match segmenter {
         Segmenter::Clusters(clusters) => {
-            let clusters = clusters.as_borrowed().segment_utf8(text);
-            print_memo(
-                alloc,
-                clusters.with_memo(alloc),
-                Shown {
-                    marking: Marking::Nothing,
-                    alone: false,
-                },
-                part,
-                out,
-            )
+            let memo = clusters.as_borrowed().segment_utf8(text).with_memo(alloc);
+            print_memo(alloc, memo, Shown::all(Marking::Nothing), part, out)
         }
         Segmenter::Words(words) => {
-            let words = words.as_borrowed().segment_utf8(text);
-            print_memo(
-                alloc,
-                words.with_memo(alloc),
-                Shown {
-                    marking: Marking::Types,
-                    alone: false,
-                },
-                part,
-                out,
-            )
+            let memo = words.as_borrowed().segment_utf8(text).with_memo(alloc);
+            print_memo(alloc, memo, Shown::all(Marking::Types), part, out)
         }
         Segmenter::WordsAlone(words) => {
-            let words = words.as_borrowed().segment_utf8(text);
-            print_memo(
-                alloc,
-                words.with_memo(alloc),
-                Shown {
-                    marking: Marking::Types,
-                    alone: true,
-                },
-                part,
-                out,
-            )
+            let memo = words.as_borrowed().segment_utf8(text).with_memo(alloc);
+            print_memo(alloc, memo, Shown::words_alone(), part, out)
         }
         Segmenter::Sentences(sentences) => {
-            let sentences = sentences.as_borrowed().segment_utf8(text);
-            print_memo(
-                alloc,
-                sentences.with_memo(alloc),
-                Shown {
-                    marking: Marking::Nothing,
-                    alone: false,
-                },
-                part,
-                out,
-            )
+            let memo = sentences.as_borrowed().segment_utf8(text).with_memo(alloc);
+            print_memo(alloc, memo, Shown::all(Marking::Nothing), part, out)
         }
         Segmenter::Suppressing(_, _) => Err(Fault::Memo(MemoError::NotNeo)),
         Segmenter::Lines(lines) => {
-            let lines = lines.as_borrowed().segment_utf8(text);
-            print_memo(
-                alloc,
-                lines.with_memo(alloc),
-                Shown {
-                    marking: Marking::Ends,
-                    alone: false,
-                },
-                part,
-                out,
-            )
+            let memo = lines.as_borrowed().segment_utf8(text).with_memo(alloc);
+            print_memo(alloc, memo, Shown::all(Marking::Ends), part, out)
         }
     }
 }
@@ -123,6 +79,30 @@ struct Shown {
     marking: Marking,
     // Whether words alone are shown.
     alone: bool,
+}
+
+impl Shown {
+    // All segments.
+    fn all(marking: Marking) -> Self
+        ensures marking { result.marking ≡ marking }
+        ensures alone { result.alone ≡ false }
+    {
+        Shown {
+            marking,
+            alone: false,
+        }
+    }
+
+    // Words alone.
+    fn words_alone() -> Self
+        ensures marking { result.marking ≡ Types }
+        ensures alone { result.alone ≡ true }
+    {
+        Shown {
+            marking: Marking::Types,
+            alone: true,
+        }
+    }
 }
 
 // Writes the segments of a whole text between the boundaries that a memoised engine has still to give, if there is one.
