@@ -2,7 +2,7 @@
 
 use crate::row::Row;
 use crate::segmenters::{Manner, same_clusters, segmenter_answer};
-use crate::{items, line_classes, machines, memos, names, pieces, readers, same, tables, wrapped};
+use crate::{items, line_classes, machines, memos, names, pieces, readers, same, tables};
 use anyhow::Result;
 use std::alloc::Global;
 
@@ -23,7 +23,7 @@ pub fn answer_of(alloc: Global, row: Row<'_>) -> Result<String> {
         "same clusters" => same_clusters(alloc, row),
         "look-ups" => memos::look_ups(alloc, row),
         "look-ups by a reader" => readers::look_ups_by_a_reader(alloc, row),
-        "wrapped lines" => wrapped::wrapped(alloc, row),
+        "wrapped lines" => segmenter_answer(alloc, row, "lines by machine", Manner::Wrapped),
         question => other_answer(alloc, row, question),
     }
 }

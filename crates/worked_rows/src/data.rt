@@ -50,14 +50,30 @@ fn machine_like(
     row: Row<'_>,
     sample: Option<&SegmenterStateMachine>,
 ) -> Result<SegmenterStateMachine> {
-    let lookaheads = number_of(row.part_since("lookaheads", "machine").unwrap_or("0"))?;
-    let lookaheads = usize::from(lookaheads);
-    let shift = number_of(row.part("shift").unwrap_or(SHIFT))?;
     let states = states_in(alloc, row, sample)?;
     let moves = moves_in(alloc, row, sample, states.len())?;
+    machine_with(alloc, row, sample, states, moves)
+}
+
+// The same with these states and moves.
+fn machine_with(
+    alloc: Global,
+    row: Row<'_>,
+    sample: Option<&SegmenterStateMachine>,
+    states: Vec<(Acceptance, Option<Lookahead>)>,
+    moves: Vec<State>,
+) -> Result<SegmenterStateMachine> {
+    let (lookaheads, shift) = machine_numbers(row)?;
     let map = map_in(alloc, row, sample)?;
     let symbols = symbols_in(alloc, row, sample)?;
     Ok(SegmenterStateMachine::try_from_parts(symbols, states, moves, lookaheads, shift, map)?)
+}
+
+// How many lookaheads a machine has, and its first pseudo symbol.
+fn machine_numbers(row: Row<'_>) -> Result<(usize, Symbol)> {
+    let lookaheads = number_of(row.part_since("lookaheads", "machine").unwrap_or("0"))?;
+    let shift = number_of(row.part("shift").unwrap_or(SHIFT))?;
+    Ok((usize::from(lookaheads), shift))
 }
 
 // The sample machine of a row, if it names one.

@@ -49,6 +49,10 @@ const LINE_CLASSES: [(&str, u8); 121] = named! {
 
 /// The number of the class of lines whose constant has a name. The errors are out of memory, and a name that no constant has.
 pub fn line_class(alloc: Global, row: Row<'_>) -> Result<String> {
-    let number = meaning(&LINE_CLASSES, row.asked()).context("no class")?;
+    let number = number_of_class(row.asked()).context("no class")?;
     Ok(format!(in alloc; "{number}")?)
+}
+
+fn number_of_class(name: &str) -> Option<u8> {
+    meaning(&LINE_CLASSES, name)
 }

@@ -69,8 +69,13 @@ const FILES: [&str; 21] = [
 
 fn main(rt: HostRuntime) -> Result<ExitCode> {
     let folder = env::args(&rt)?.nth(1).context("usage: worked_rows FOLDER")?;
-    let failed = failed_in_all(&rt, folder.as_str())?;
-    print_laws(&rt)?;
+    status_of(&rt, folder.as_str())
+}
+
+// Asks all files, prints what laws give, and returns the exit status.
+fn status_of(rt: &HostRuntime, folder: &str) -> Result<ExitCode> {
+    let failed = failed_in_all(rt, folder)?;
+    print_laws(rt)?;
     Ok(if failed > 0 {
         ExitCode::FAILURE
     } else {
@@ -101,14 +106,23 @@ fn print_laws(rt: &HostRuntime) -> Result<()> {
 
 // Asks a file, and returns how many of its rows failed.
 fn failed_in(rt: &HostRuntime, folder: &str, file: &str) -> Result<u32> {
-    let path = format!(in rt.alloc(); "{folder}/{file}")?;
-    let text = fs::read_to_string(rt, path.as_str()).context("reading a file of rows")?;
-    let (agreed, failed) = counts_of(rt, file, text.as_str())?;
+    let (agreed, failed) = counts_in(rt, folder, file)?;
     println!(rt; "{file}: {agreed} agreed, {failed} failed")?;
     Ok(failed)
 }
 
-// How many rows of a file agree, and how many fail. The lines of settings of a row begin with the last one that says what is asked.
+// How many rows of a file agree, and how many fail.
+fn counts_in(rt: &HostRuntime, folder: &str, file: &str) -> Result<(u32, u32)> {
+    let text = text_of(rt, folder, file)?;
+    counts_of(rt, file, text.as_str())
+}
+
+fn text_of(rt: &HostRuntime, folder: &str, file: &str) -> Result<String> {
+    let path = format!(in rt.alloc(); "{folder}/{file}")?;
+    Ok(fs::read_to_string(rt, path.as_str()).context("reading a file of rows")?)
+}
+
+// How many rows of a text agree, and how many fail. The lines of settings of a row begin with the last one that says what is asked.
 fn counts_of(rt: &HostRuntime, file: &str, text: &str) -> Result<(u32, u32)> {
     let (mut agreed, mut failed, mut number) = (0_u32, 0_u32, 0_u32);
     let (mut begin, mut end) = (0_usize, 0_usize);
@@ -120,15 +134,22 @@ fn counts_of(rt: &HostRuntime, file: &str, text: &str) -> Result<(u32, u32)> {
         let settings = text.get(begin..end).unwrap_or("");
         end = end.saturating_add(line.len()).saturating_add(1);
         if let Some((asked, wanted)) = row_of(line) {
-            let row = Row::new(settings, asked);
-            let found = or_fault(rt.alloc(), answer_of(rt.alloc(), row))?;
-            if found.as_str().trim() == wanted.trim() {
+            if agrees(rt, file, number, Row::new(settings, asked), wanted)? {
                 agreed = agreed.saturating_add(1);
             } else {
                 failed = failed.saturating_add(1);
-                println!(rt; "{file}:{number}: found {found}")?;
             }
         }
     }
     Ok((agreed, failed))
+}
+
+// Whether the answer to a row is the one that is wanted. Prints any other.
+fn agrees(rt: &HostRuntime, file: &str, number: u32, row: Row<'_>, wanted: &str) -> Result<bool> {
+    let found = or_fault(rt.alloc(), answer_of(rt.alloc(), row))?;
+    let is_wanted = found.as_str().trim() == wanted.trim();
+    if !is_wanted {
+        println!(rt; "{file}:{number}: found {found}")?;
+    }
+    Ok(is_wanted)
 }

@@ -9,7 +9,7 @@ use icu_segmenter::options::WordType;
 use icu_segmenter::provider::{Acceptance, BreakState, DataError, LanguageIdentifier};
 use icu_segmenter::wrap::WrapError;
 use seg_clusters::script_iter::script_of;
-use std::alloc::Global;
+use std::alloc::{AllocError, Global};
 
 /// The script of a code point in hexadecimal digits.
 pub fn script(alloc: Global, row: Row<'_>) -> Result<String> {
@@ -97,13 +97,17 @@ const FAULTS: [DataError; 19] = [
 
 /// The number of the fault of this name, and its text as far as its second word.
 pub fn fault(alloc: Global, row: Row<'_>) -> Result<String> {
-    for fault in FAULTS {
-        let name = format!(in alloc; "{fault:?}")?;
-        if name.as_str() == row.asked() {
-            return numbered(alloc, fault);
+    for fault in &FAULTS {
+        if is_named(alloc, *fault, row.asked())? {
+            return numbered(alloc, *fault);
         }
     }
     bail!("no fault of this name")
+}
+
+fn is_named(alloc: Global, fault: DataError, name: &str) -> Result<bool, AllocError> {
+    let shown = format!(in alloc; "{fault:?}")?;
+    Ok(shown.as_str() == name)
 }
 
 fn numbered(alloc: Global, fault: DataError) -> Result<String> {

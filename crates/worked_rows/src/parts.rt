@@ -75,14 +75,8 @@ pub struct Parts {
 }
 
 impl Parts {
-    /// Those of a row. The error is why one of them is rejected.
-    pub fn of(alloc: Global, row: Row<'_>, kind: Kind) -> Result<Self> {
-        let mut parts = Parts::none();
-        parts.read(alloc, row, kind)?;
-        Ok(parts)
-    }
-
-    fn none() -> Self {
+    /// Nothing.
+    pub fn none() -> Self {
         Parts {
             machine: None,
             cluster_machine: None,
@@ -96,7 +90,8 @@ impl Parts {
         }
     }
 
-    fn read(&mut self, alloc: Global, row: Row<'_>, kind: Kind) -> Result<()> {
+    /// Reads those of a row. The error is why one of them is rejected.
+    pub fn read(&mut self, alloc: Global, row: Row<'_>, kind: Kind) -> Result<()> {
         match kind {
             Kind::NeoClusters => self.read_machine(alloc, row),
             Kind::NeoSentences => {

@@ -10,7 +10,7 @@ use bench::found::push_word;
 use bench::segmenter::Text;
 use icu_segmenter::complex::{ComplexPayloadBorrowed, ComplexPayloadsBorrowed};
 use icu_segmenter::indices::{StrCharIndices, Utf16Indices};
-use icu_segmenter::provider::DictionaryBreakData;
+use icu_segmenter::provider::{ComplexScript, DictionaryBreakData};
 use icu_segmenter::{GraphemeClusterSegmenter, GraphemeClusterSegmenterBorrowed};
 use seg_clusters::runs::RunCuts;
 use seg_clusters::script_iter::ScriptIterator;
@@ -73,9 +73,17 @@ fn cuts_in(
 /// The cuts of a run, by the words and the clusters of the machine.
 pub fn run_cuts(alloc: Global, row: Row<'_>) -> Result<String> {
     let clusters = clusters_of(alloc, row)?;
+    run_cuts_with(alloc, row, clusters.as_borrowed())
+}
+
+fn run_cuts_with(
+    alloc: Global,
+    row: Row<'_>,
+    clusters: GraphemeClusterSegmenterBorrowed<'_>,
+) -> Result<String> {
     let first = all_words(alloc, row.parts_of("words "))?;
     let later = all_words(alloc, row.parts_of("later "))?;
-    let mut payloads = ComplexPayloadsBorrowed::new(first.as_borrowed(), clusters.as_borrowed());
+    let mut payloads = ComplexPayloadsBorrowed::new(first.as_borrowed(), clusters);
     payloads.load(later.as_borrowed());
     run_cuts_by(alloc, row, payloads)
 }
@@ -119,21 +127,38 @@ fn shown_pieces<I: Cursor>(alloc: Global, text: I) -> Result<String, AllocError>
         let Some((piece, script)) = pieces.next_piece() else {
             break;
         };
-        // Of a piece there is one piece.
-        let mut parts = ScriptIterator::new(piece);
-        let first = parts.place();
-        let _ = parts.next_piece();
-        let last = parts.place();
-        let end = pieces.place();
-        let is_one = parts.next_piece().is_none() && first == start && last == end;
-        let mark = if is_one { "" } else { "?" };
-        let word = format!(in alloc; "{start}-{end} {script:?}{mark}")?;
-        push_word(&mut out, word.as_str())?;
+        let (end, part) = (pieces.place(), part_of(piece));
+        let mark = if part == Some((start, end)) { "" } else { "?" };
+        push_piece(alloc, &mut out, start, end, script, mark)?;
     }
     if pieces.next_piece().is_some() {
         out.push('?')?;
     }
     Ok(out)
+}
+
+// Where the only piece of a piece begins and ends; none where there are others.
+fn part_of<I: Cursor>(piece: I) -> Option<(usize, usize)> {
+    let mut parts = ScriptIterator::new(piece);
+    let first = parts.place();
+    let _ = parts.next_piece();
+    let last = parts.place();
+    if parts.next_piece().is_some() {
+        return None;
+    }
+    Some((first, last))
+}
+
+fn push_piece(
+    alloc: Global,
+    out: &mut String,
+    start: usize,
+    end: usize,
+    script: ComplexScript,
+    mark: &str,
+) -> Result<(), AllocError> {
+    let word = format!(in alloc; "{start}-{end} {script:?}{mark}")?;
+    push_word(out, word.as_str())
 }
 
 /// What the dictionary of Thai answers after a text, or after each of its words where the row asks its data.

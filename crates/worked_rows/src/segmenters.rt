@@ -12,6 +12,7 @@ use crate::owned::own;
 use crate::parts::{Kind, Parts, kind_of};
 use crate::row::Row;
 use crate::samples::Sample;
+use crate::wrapped::wrapped_answer;
 use anyhow::{Result, bail};
 use bench::segmenter::{SegmenterBorrowed, Text};
 use icu_segmenter::GraphemeClusterSegmenterBorrowed;
@@ -26,12 +27,14 @@ pub enum Manner {
     Memo,
     /// How an iterator is shown.
     Shown,
+    /// Wrapped lines.
+    Wrapped,
 }
 
 /// The answer by borrowed data, which is to be that by owned ones.
 pub fn segmenter_answer(alloc: Global, row: Row<'_>, kind: &str, manner: Manner) -> Result<String> {
     let kind = kind_of(kind)?;
-    let mut parts = Parts::of(alloc, row, kind)?;
+    let mut parts = Parts::none();
     answer_by(alloc, row, kind, manner, &mut parts)
 }
 
@@ -42,6 +45,7 @@ fn answer_by(
     manner: Manner,
     parts: &mut Parts,
 ) -> Result<String> {
+    parts.read(alloc, row, kind)?;
     let borrowed = or_fault(alloc, borrowed_answer(alloc, row, kind, manner, parts))?;
     let owned = or_fault(alloc, owned_answer(alloc, row, kind, manner, parts))?;
     if borrowed != owned {
@@ -92,6 +96,7 @@ fn answer_of(
 ) -> Result<String> {
     let answer = match manner {
         Manner::Memo => return memo_answer(alloc, segmenter, text),
+        Manner::Wrapped => return wrapped_answer(alloc, row, segmenter),
         Manner::Shown => shown_answer(alloc, segmenter),
         Manner::Boundaries if row.part("data").is_some() => "accepted".to_owned(alloc),
         Manner::Boundaries if row.part("short-texts").is_some() => {

@@ -1,8 +1,5 @@
 //! Lines wrapped to columns.
 
-use crate::options::Options;
-use crate::owned::own;
-use crate::parts::{Kind, Parts};
 use crate::row::Row;
 use crate::samples::quoted;
 use anyhow::{Result, bail};
@@ -12,18 +9,11 @@ use std::alloc::{AllocError, Global};
 
 /// The wrapped lines of a `str`, which are those of its bytes: where each ends, in bytes, the columns that it takes, and `!` where it
 /// must end there.
-pub fn wrapped(alloc: Global, row: Row<'_>) -> Result<String> {
-    let mut parts = Parts::of(alloc, row, Kind::NeoLines)?;
-    wrapped_by(alloc, row, &mut parts)
-}
-
-fn wrapped_by(alloc: Global, row: Row<'_>, parts: &mut Parts) -> Result<String> {
-    let options = Options::of(row)?;
-    let segmenter = own(parts, Kind::NeoLines, &options)?;
-    wrapped_with(alloc, row, segmenter.as_borrowed())
-}
-
-fn wrapped_with(alloc: Global, row: Row<'_>, segmenter: SegmenterBorrowed<'_>) -> Result<String> {
+pub fn wrapped_answer(
+    alloc: Global,
+    row: Row<'_>,
+    segmenter: SegmenterBorrowed<'_>,
+) -> Result<String> {
     match segmenter {
         SegmenterBorrowed::Lines(lines) => wrapped_in(alloc, row, LineWrapper::new(lines)?),
         _ => bail!("no segmenter of lines"),
