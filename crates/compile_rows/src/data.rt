@@ -1,7 +1,6 @@
-//! Rules as rows: those of lines, compiled, and rows that have no machine.
+//! Rules as rows: those of lines with their tailorings, compiled, and rows that have no machine.
 
 use crate::rows::{lines, refused};
-use crate::texts::{have_same, text_of};
 use anyhow::{Result, bail};
 use icu_segmenter_uax14::line_machine;
 use seg_compile::compile::{Characters, CompileError, Witness, compile};
@@ -10,7 +9,7 @@ use seg_machine::provider::SegmenterStateMachine;
 use seg_rules::rules::Rules;
 use std::alloc::Global;
 
-/// Compiles the rows of lines, says whether their machine has the boundaries of that which stands in the code, and prints why other rows
+/// Compiles the rows of lines, says whether their machine is that which stands in the code, state by state, and prints why other rows
 /// have none.
 pub(crate) fn print_rows(rt: &HostRuntime) -> Result<()> {
     print_lines(rt)?;
@@ -24,20 +23,20 @@ fn print_lines(rt: &HostRuntime) -> Result<()> {
     let machine = line_machine(rt.alloc())?;
     let characters = characters_of(rt.alloc(), &machine)?;
     let compiled = compile(rt.alloc(), &lines::RULES, lines::SYMBOLS, characters)?;
-    let text = text_of(rt.alloc(), &machine)?;
-    let found = have_same(&compiled, &machine, text.as_str());
-    print_found(rt, compiled.states().len(), found)
+    let is_same = compiled.states() == machine.states()
+        && compiled.transitions() == machine.transitions();
+    print_found(rt, compiled.states().len(), is_same)
 }
 
-// Prints how large the rows of lines and their machine are, and what it finds.
+// Prints how large the rows of lines and their machine are, and whether it is that which stands in the code.
 fn print_found(rt: &HostRuntime, states: usize, is_same: bool) -> Result<()> {
-    let rows = lines::RULES
-        .above
-        .len()
-        .saturating_add(lines::RULES.below.len());
+    let rules = &lines::RULES;
+    let rows = rules.above.len().saturating_add(rules.below.len());
     let symbols = lines::SYMBOLS;
-    let found = if is_same { "the same" } else { "other" };
-    println!(rt; "lines: {rows} rows, {symbols} symbols, {states} states, {found} boundaries")?;
+    let found = if is_same { "the same" } else { "another" };
+    println!(rt;
+        "tailored lines: {rows} rows, {symbols} symbols, {states} states, {found} machine"
+    )?;
     Ok(())
 }
 

@@ -68,6 +68,15 @@ Semi ÷
 
 pub(crate) static RECORD_TEXTS: [&str; 3] = ["a=1;b=2;\nc=3\r\nd", "a\\;b;c\\\\;d", "\n\n"];
 
+/// Texts for the rules of lines.
+pub(crate) static LINE_TEXTS: [&str; 5] = [
+    "Add 3.50 kg (or so).",
+    "$(.5) %(.7)",
+    "日本語の文。次の文",
+    "한국어 문장",
+    "a\r\nb",
+];
+
 /// Words, of UAX #29.
 pub(crate) static WORDS: &str = r"
 CR              = \p{WB=CR}

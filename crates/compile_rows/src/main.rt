@@ -1,16 +1,18 @@
 //! Compiles rules, as text and as rows: the places that the machines of some find in texts, those of UAX #29 and UAX #14 beside the
-//! machines that stand in the code, and why others are refused.
+//! machines that stand in the code, and why others are refused. The text of UAX #14 is read from the files of data/.
 #![tactic(auto)]
 
 mod data;
 mod good;
 mod large;
+mod lines;
 mod rows;
 mod texts;
 mod wrong;
 
 use anyhow::{Result, bail};
 use data::print_rows;
+use icu_segmenter_uax14::line_machine;
 use icu_segmenter_uax29::{cluster_machine, sentence_machine, word_machine};
 use seg_compile::compile::{CompileError, Witness};
 use seg_machine::provider::SegmenterStateMachine;
@@ -18,29 +20,38 @@ use seg_machine::rule_segmenter_v2::RuleBreakIterator;
 use seg_machine::tailored_machine::TailoredMachineBorrowed;
 use seg_notation::TextRules;
 use seg_text::indices::StrCharIndices;
-use texts::{have_same, text_of};
+use texts::{have_same, keeps_symbols, text_of};
 
 fn main(rt: HostRuntime) -> Result<()> {
     print_places(&rt, good::NAMES, &good::NAME_TEXTS)?;
     print_places(&rt, good::ADDRESSES, &good::ADDRESS_TEXTS)?;
     print_places(&rt, good::RECORDS, &good::RECORD_TEXTS)?;
-    print_same(
-        &rt,
-        "clusters",
-        good::CLUSTERS,
-        &cluster_machine(rt.alloc())?,
-    )?;
-    print_same(&rt, "words", good::WORDS, &word_machine(rt.alloc())?)?;
-    print_same(
-        &rt,
-        "sentences",
-        good::SENTENCES,
-        &sentence_machine(rt.alloc())?,
-    )?;
+    print_standards(&rt)?;
+    print_tailored(&rt)?;
     print_witness(&rt, wrong::TWO_LOOKAHEADS)?;
     print_wrong(&rt)?;
     print_large(&rt)?;
     print_rows(&rt)
+}
+
+// Prints whether the rules of the standards have the boundaries of the machines in the code.
+fn print_standards(rt: &HostRuntime) -> Result<()> {
+    let alloc = rt.alloc();
+    print_same(rt, "clusters", good::CLUSTERS, &cluster_machine(alloc)?)?;
+    print_same(rt, "words", good::WORDS, &word_machine(alloc)?)?;
+    print_same(rt, "sentences", good::SENTENCES, &sentence_machine(alloc)?)?;
+    let lines = lines::text(rt)?;
+    print_same(rt, "lines", lines.as_str(), &line_machine(alloc)?)
+}
+
+// Prints where lines may break by the standard, and by rows that are added to it.
+fn print_tailored(rt: &HostRuntime) -> Result<()> {
+    print_places(rt, lines::text(rt)?.as_str(), &good::LINE_TEXTS)?;
+    for path in ["keep_all.rules", "break_all.rules"] {
+        println!(rt; "{path}")?;
+        print_places(rt, lines::tailored(rt, path)?.as_str(), &good::LINE_TEXTS)?;
+    }
+    Ok(())
 }
 
 // Prints where texts are parted by rules.
@@ -79,11 +90,8 @@ fn print_same(
     let rules = TextRules::try_from_text(rt.alloc(), rules)?;
     let compiled = rules.compile(rt.alloc())?;
     let text = text_of(rt.alloc(), machine)?;
-    let found = if have_same(&compiled, machine, text.as_str()) {
-        "the same"
-    } else {
-        "other"
-    };
+    let is_same = keeps_symbols(machine, &compiled) && have_same(&compiled, machine, text.as_str());
+    let found = if is_same { "the same" } else { "other" };
     let symbols = rules.symbols();
     let states = compiled.states().len();
     println!(rt; "{name}: {symbols} symbols, {states} states, {found} boundaries")?;

@@ -1,10 +1,12 @@
-//! A text of all that three symbols may be, and whether two machines find the same boundaries of it.
+//! A text of all that three symbols may be, and whether two machines find the same boundaries of it, and have code points as one.
 
 use seg_machine::provider::{SegmenterStateMachine, Symbol};
 use seg_machine::rule_segmenter_v2::RuleBreakIterator;
 use seg_machine::tailored_machine::TailoredMachineBorrowed;
 use seg_text::indices::StrCharIndices;
 use std::alloc::{AllocError, Global};
+
+const MAX_CODE_POINT: u32 = 0x10_FFFF;
 
 /// A text that has each three of the symbols that characters have in a machine, one after another.
 pub(crate) fn text_of(
@@ -57,6 +59,22 @@ fn add_thirds(
         text.push(*third)?;
     }
     Ok(())
+}
+
+/// Whether code points that have one symbol in a machine have one in another.
+pub(crate) fn keeps_symbols(one: &SegmenterStateMachine, other: &SegmenterStateMachine) -> bool {
+    let one = TailoredMachineBorrowed::without_tailoring(one);
+    let other = TailoredMachineBorrowed::without_tailoring(other);
+    let mut found: [Option<Symbol>; 256] = [None; 256];
+    for code_point in 0..=MAX_CODE_POINT {
+        let symbol = other.symbol(code_point);
+        match found.get_mut(usize::from(one.symbol(code_point))) {
+            Some(Some(known)) if *known != symbol => return false,
+            Some(known) => *known = Some(symbol),
+            None => return false,
+        }
+    }
+    true
 }
 
 /// Whether two machines find the same boundaries of a text, with the same statuses.
