@@ -15,8 +15,8 @@ use icu_segmenter::options::{
     WordBreakOptions,
 };
 use icu_segmenter::provider::{
-    DataError, Dictionaries, DictionariesBorrowed, DictionaryBreakData, RuleBreakData,
-    RuleBreakDataOverride,
+    DataError, Dictionaries, DictionariesBorrowed, DictionaryBreakData, LineTailorings,
+    RuleBreakData, RuleBreakDataOverride, SegmenterStateMachine,
 };
 use icu_segmenter::{
     GraphemeClusterSegmenter, GraphemeClusterSegmenterBorrowed, LineSegmenter,
@@ -280,22 +280,56 @@ fn language(dice: &mut Dice) -> Option<LanguageIdentifier> {
     })
 }
 
+// What lines by a machine take.
+#[derive(Drop)]
+struct LineMachines {
+    machine: SegmenterStateMachine,
+    clusters: SegmenterStateMachine,
+    tailorings: LineTailorings,
+}
+
+fn line_machines(alloc: Global, dice: &mut Dice) -> Result<LineMachines, Failure> {
+    let machines = both(machine(alloc, dice), machine(alloc, dice));
+    let ((machine, clusters), tailorings) = both(machines, tailorings(alloc, dice))?;
+    Ok(LineMachines {
+        machine,
+        clusters,
+        tailorings,
+    })
+}
+
 fn lines_by_machine(alloc: Global, dice: &mut Dice) -> Result<bool, Failure> {
     let language = language(dice);
     let options = line_options(dice, &language);
-    let machines = both(machine(alloc, dice), machine(alloc, dice));
-    let ((machine, clusters), tailorings) = both(machines, tailorings(alloc, dice))?;
+    let machines = line_machines(alloc, dice)?;
     if dice.comes(128) {
-        let lines = LineSegmenter::try_new_neo_for_non_complex_scripts(
-            machine, tailorings, clusters, options,
-        );
-        return examine_given_lines(alloc, dice, lines);
+        return examine_given_lines(alloc, dice, given_neo_lines(machines, options));
     }
-    let tailorings = tailorings.as_borrowed();
-    let lines = LineSegmenterBorrowed::new_neo_for_non_complex_scripts(
-        &machine, tailorings, &clusters, options,
-    );
-    examine_lines(alloc, dice, lines)
+    examine_lines(alloc, dice, borrowed_neo_lines(&machines, options))
+}
+
+fn given_neo_lines(
+    machines: LineMachines,
+    options: LineBreakOptions<'_>,
+) -> Result<LineSegmenter, DataError> {
+    let LineMachines {
+        machine,
+        clusters,
+        tailorings,
+    } = machines;
+    LineSegmenter::try_new_neo_for_non_complex_scripts(machine, tailorings, clusters, options)
+}
+
+fn borrowed_neo_lines<'a>(
+    machines: &'a LineMachines,
+    options: LineBreakOptions<'_>,
+) -> Result<LineSegmenterBorrowed<'a>, DataError> {
+    LineSegmenterBorrowed::new_neo_for_non_complex_scripts(
+        &machines.machine,
+        machines.tailorings.as_borrowed(),
+        &machines.clusters,
+        options,
+    )
 }
 
 // How many classes pair tables of lines have, and those of the engine 17.
@@ -379,13 +413,27 @@ fn lines_by_turns(alloc: Global, dice: &mut Dice) -> Result<bool, Failure> {
     let language = language(dice);
     let options = line_options(dice, &language);
     let complex = RuleBreakData::LINE_V3_PROPERTY_SA;
-    let LineTables { table, clusters } = line_tables(alloc, dice, TURN_CLASSES, complex)?;
+    let tables = line_tables(alloc, dice, TURN_CLASSES, complex)?;
     if dice.comes(128) {
-        let lines = LineSegmenter::try_new_17_for_non_complex_scripts(table, clusters, options);
-        return examine_given_lines(alloc, dice, lines);
+        return examine_given_lines(alloc, dice, given_lines_17(tables, options));
     }
-    let lines = LineSegmenterBorrowed::new_17_for_non_complex_scripts(&table, &clusters, options);
-    examine_lines(alloc, dice, lines)
+    examine_lines(alloc, dice, borrowed_lines_17(&tables, options))
+}
+
+fn given_lines_17(
+    tables: LineTables,
+    options: LineBreakOptions<'_>,
+) -> Result<LineSegmenter, DataError> {
+    let LineTables { table, clusters } = tables;
+    LineSegmenter::try_new_17_for_non_complex_scripts(table, clusters, options)
+}
+
+fn borrowed_lines_17<'a>(
+    tables: &'a LineTables,
+    options: LineBreakOptions<'_>,
+) -> Result<LineSegmenterBorrowed<'a>, DataError> {
+    let LineTables { table, clusters } = tables;
+    LineSegmenterBorrowed::new_17_for_non_complex_scripts(table, clusters, options)
 }
 
 // Loads dictionaries of lines first.
@@ -425,12 +473,18 @@ fn check_cuts(
     words: &DictionaryBreakData,
     text: &str,
 ) -> Result<bool, Failure> {
-    let cuts = ComplexPayloadBorrowed::Dict(words).segment_str(text, clusters, 0);
+    let cuts: Vec<usize> = ComplexPayloadBorrowed::Dict(words)
+        .segment_str(text, clusters, 0)
+        .collect(alloc)?;
+    check_rising(cuts.as_slice(), text.len())?;
+    Ok(false)
+}
+
+fn check_rising(cuts: &[usize], end: usize) -> Result<(), Failure> {
     let mut before = 0;
     for place in cuts {
-        check(place > before, "cuts that don't rise")?;
-        before = place;
+        check(*place > before, "cuts that don't rise")?;
+        before = *place;
     }
-    check(before == text.len(), "cuts that don't end at the end")?;
-    Ok(false)
+    check(before == end, "cuts that don't end at the end")
 }

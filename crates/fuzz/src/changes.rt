@@ -10,7 +10,7 @@ use seg_machine::rule_segmenter_v2::RuleBreakIterator;
 use seg_machine::tailored_machine::TailoredMachineBorrowed;
 use seg_rules::certificate::{Configuration, Entry};
 use std::alloc::{AllocError, Global};
-use std::io::Write;
+use std::io::{self, Write};
 
 // What may be changed: the lists of a certificate, and those of the machine.
 const PARTS: [&str; 11] = [
@@ -35,22 +35,42 @@ pub fn try_changes<O: Write>(
     seed: u64,
     out: &mut O,
 ) -> Result<(), Failure> {
-    let small = machine(alloc, &STATES, &TRANSITIONS)?;
-    check(NUMBERS.passes(&small), "the certificate")?;
-    let mut dice = Dice::new(seed);
-    let mut accepted = [0_u64; PARTS.len()];
-    for case in 0..cases {
-        let part = (case % PARTS.len() as u64) as usize;
-        if is_accepted(alloc, &mut dice, &small, part)? {
-            accepted[part] = accepted[part].saturating_add(1);
-        }
-    }
+    let accepted = accepted_counts(alloc, cases, seed)?;
+    Ok(print_accepted(cases, &accepted, out)?)
+}
+
+// Of how many certificates and machines the check accepts the change, part by part.
+type Counts = [u64; PARTS.len()];
+
+fn print_accepted<O: Write>(cases: u64, accepted: &Counts, out: &mut O) -> io::Result<()> {
     write!(out, "Certificates: {cases} changed; accepted")?;
     for (name, count) in PARTS.iter().zip(accepted) {
         write!(out, " {name} {count}")?;
     }
-    writeln!(out)?;
-    Ok(())
+    writeln!(out)
+}
+
+fn accepted_counts(alloc: Global, cases: u64, seed: u64) -> Result<Counts, Failure> {
+    let small = machine(alloc, &STATES, &TRANSITIONS)?;
+    counts_by(alloc, cases, seed, &small)
+}
+
+fn counts_by(
+    alloc: Global,
+    cases: u64,
+    seed: u64,
+    small: &SegmenterStateMachine,
+) -> Result<Counts, Failure> {
+    check(NUMBERS.passes(small), "the certificate")?;
+    let mut dice = Dice::new(seed);
+    let mut accepted = [0_u64; PARTS.len()];
+    for case in 0..cases {
+        let part = (case % PARTS.len() as u64) as usize;
+        if is_accepted(alloc, &mut dice, small, part)? {
+            accepted[part] = accepted[part].saturating_add(1);
+        }
+    }
+    Ok(accepted)
 }
 
 // Changes one entry of the part of this number, and says whether the check accepts it. It may accept only what needn't be as it is.

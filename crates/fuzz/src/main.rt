@@ -48,11 +48,12 @@ fn main(rt: HostRuntime) -> ExitCode {
 // Tries what the command line asks for.
 fn start(rt: &HostRuntime) -> Result<()> {
     let words = words(rt)?;
-    match words.as_slice() {
-        [_, mode] if mode.as_str() == "ranges" => {
-            try_ranges(rt.alloc(), &mut rt.stdout())?;
-            Ok(())
-        }
+    try_words(rt, words.as_slice())
+}
+
+fn try_words(rt: &HostRuntime, words: &[String]) -> Result<()> {
+    match words {
+        [_, mode] if mode.as_str() == "ranges" => { Ok(try_ranges(rt.alloc(), &mut rt.stdout())?) }
         [_, mode, names @ ..] if mode.as_str() == "refusals" => try_refusals(rt, names),
         [_, cases, seed] => try_cases(rt, cases.as_str(), seed.as_str()),
         _ => Err(Failure::Usage.into()),
@@ -75,16 +76,16 @@ const CHANGES: u64 = 100;
 fn try_cases(rt: &HostRuntime, cases: &str, seed: &str) -> Result<()> {
     let cases = cases.parse().context("the number of cases")?;
     let seed = seed.parse().context("the seed")?;
-    for kind in Kind::ALL {
-        let tally = tally_of(rt.alloc(), kind, cases, seed)?;
+    try_kinds(rt, cases, seed)?;
+    let changes = cases.saturating_mul(CHANGES);
+    Ok(try_changes(rt.alloc(), changes, seed, &mut rt.stdout())?)
+}
+
+fn try_kinds(rt: &HostRuntime, cases: u64, seed: u64) -> Result<()> {
+    for kind in &Kind::ALL {
+        let tally = tally_of(rt.alloc(), *kind, cases, seed)?;
         println!(rt; "{kind:?}: {tally}")?;
     }
-    try_changes(
-        rt.alloc(),
-        cases.saturating_mul(CHANGES),
-        seed,
-        &mut rt.stdout(),
-    )?;
     Ok(())
 }
 

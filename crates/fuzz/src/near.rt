@@ -89,10 +89,12 @@ pub fn check_words(segmenter: SegmenterBorrowed<'_>, text: &str) -> Result<(), F
 
 fn check_same_words(segmenter: WordSegmenterBorrowed<'_>, text: &str) -> Result<(), Failure> {
     let mut words = segmenter.segment_str(text).words();
+    let mut agrees = true;
     for segment in segmenter.segment_str(text).marked_segments() {
         if segment.2.is_word_like() {
-            check(words.next() == Some(segment), "segments that are no words")?;
+            agrees &= words.next() == Some(segment);
         }
     }
+    check(agrees, "segments that are no words")?;
     check(words.next().is_none(), "words that are no segments")
 }

@@ -52,19 +52,28 @@ impl<'s> Whole for &'s [u16] {
 }
 
 // What a part leaves of what it begins, unless it is empty.
-fn rest_behind<U: Whole>(part: U, rest: U) -> Option<U> {
+fn rest_behind<U: Whole>(part: U, rest: Option<U>) -> Option<U> {
     if part.size() == 0 {
         return None;
     }
-    rest.behind(part)
+    rest?.behind(part)
 }
 
 // The same of a part that is to stand at a place of the whole.
-fn rest_from<U: Whole>(whole: U, place: usize, part: U, rest: U) -> Option<U> {
+fn rest_from<U: Whole>(whole: U, place: usize, part: U, rest: Option<U>) -> Option<U> {
+    let rest = rest?;
     if whole.size().saturating_sub(rest.size()) != place {
         return None;
     }
-    rest_behind(part, rest)
+    rest_behind(part, Some(rest))
+}
+
+// Whether there is a rest, which has nothing.
+fn is_empty<U: Whole>(rest: Option<U>) -> bool {
+    match rest {
+        Some(rest) => rest.size() == 0,
+        None => false,
+    }
 }
 
 // Whether the segments are the text: alone, with their places, or with their marks too.
@@ -87,14 +96,11 @@ where
     requires found { B.left breaks ≡ boundaries_in (B.find breaks) (B.decode (B.whole breaks)) }
     requires cover { IsCover 0 (length (B.whole breaks)) (B.left breaks) }
 {
-    let mut rest = breaks.text();
+    let mut rest = Some(breaks.text());
     for segment in breaks.segments() {
-        let Some(after) = rest_behind(segment, rest) else {
-            return false;
-        };
-        rest = after;
+        rest = rest_behind(segment, rest);
     }
-    rest.size() == 0
+    is_empty(rest)
 }
 
 fn has_indices<B: BreakIterator>(breaks: B) -> bool
@@ -104,14 +110,11 @@ where
     requires cover { IsCover 0 (length (B.whole breaks)) (B.left breaks) }
 {
     let whole = breaks.text();
-    let mut rest = whole;
+    let mut rest = Some(whole);
     for (place, segment) in breaks.segment_indices() {
-        let Some(after) = rest_from(whole, place, segment, rest) else {
-            return false;
-        };
-        rest = after;
+        rest = rest_from(whole, place, segment, rest);
     }
-    rest.size() == 0
+    is_empty(rest)
 }
 
 fn has_marked_segments<B: BreakIterator>(breaks: B) -> bool
@@ -121,14 +124,11 @@ where
     requires cover { IsCover 0 (length (B.whole breaks)) (B.left breaks) }
 {
     let whole = breaks.text();
-    let mut rest = whole;
+    let mut rest = Some(whole);
     for (place, segment, _) in breaks.marked_segments() {
-        let Some(after) = rest_from(whole, place, segment, rest) else {
-            return false;
-        };
-        rest = after;
+        rest = rest_from(whole, place, segment, rest);
     }
-    rest.size() == 0
+    is_empty(rest)
 }
 
 /// The segments of a text are to be its parts, as each iterator of segments gives them, by number.
@@ -207,23 +207,17 @@ pub fn check_wrapped(
 }
 
 fn has_wrapped_lines(wrapper: LineWrapper<'_>, text: &str, columns: usize) -> bool {
-    let mut rest = text.as_bytes();
+    let mut rest = Some(text);
     for line in wrapper.wrap_str(text, columns) {
-        let Some(after) = rest_behind(line.text().as_bytes(), rest) else {
-            return false;
-        };
-        rest = after;
+        rest = rest_behind(line.text(), rest);
     }
-    rest.is_empty()
+    is_empty(rest)
 }
 
 fn has_wrapped_utf8(wrapper: LineWrapper<'_>, bytes: &[u8], columns: usize) -> bool {
-    let mut rest = bytes;
+    let mut rest = Some(bytes);
     for line in wrapper.wrap_utf8(bytes, columns) {
-        let Some(after) = rest_behind(line.bytes(), rest) else {
-            return false;
-        };
-        rest = after;
+        rest = rest_behind(line.bytes(), rest);
     }
-    rest.is_empty()
+    is_empty(rest)
 }

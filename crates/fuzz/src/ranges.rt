@@ -32,9 +32,23 @@ const TRANSITIONS: [State; 12] = [
 /// Makes the table in both forms, and prints how many boundaries the text of all characters has. The errors are `Memory`, `Write`, and
 /// `Wrong` where the forms don't agree.
 pub fn try_ranges<O: Write>(alloc: Global, out: &mut O) -> Result<(), Failure> {
+    let count = boundary_count(alloc)?;
+    writeln!(
+        out,
+        "a range for each of {CODE_POINTS} code points: {count} boundaries"
+    )?;
+    Ok(())
+}
+
+// How many boundaries the text of all characters has by the table in both forms.
+fn boundary_count(alloc: Global) -> Result<usize, Failure> {
     let plain = ClassTable::try_from_ranges(ranges(alloc)?, OTHER)?;
     let indexed = ClassTable::try_from_ranges(ranges(alloc)?, OTHER)?.indexed(alloc)?;
     check_values(&plain, &indexed)?;
+    count_by_both(alloc, plain, indexed)
+}
+
+fn count_by_both(alloc: Global, plain: ClassTable, indexed: ClassTable) -> Result<usize, Failure> {
     let text = all_characters(alloc)?;
     let found = boundaries(alloc, plain, text.as_str())?;
     let found_by_index = boundaries(alloc, indexed, text.as_str())?;
@@ -42,12 +56,7 @@ pub fn try_ranges<O: Write>(alloc: Global, out: &mut O) -> Result<(), Failure> {
         found.as_slice() == found_by_index.as_slice(),
         "other boundaries by an index",
     )?;
-    let count = found.len();
-    writeln!(
-        out,
-        "a range for each of {CODE_POINTS} code points: {count} boundaries"
-    )?;
-    Ok(())
+    Ok(found.len())
 }
 
 // A range for each code point.
@@ -88,10 +97,14 @@ fn all_characters(alloc: Global) -> Result<String, AllocError> {
 
 // The boundaries of a text into runs of characters of one symbol.
 fn boundaries(alloc: Global, symbols: ClassTable, text: &str) -> Result<Found, Failure> {
+    let machine = machine(alloc, symbols)?;
+    let runs = GraphemeClusterSegmenterBorrowed::new_neo(&machine)?;
+    Ok(SegmenterBorrowed::Clusters(runs).boundaries(alloc, Text::Str(text))?)
+}
+
+fn machine(alloc: Global, symbols: ClassTable) -> Result<SegmenterStateMachine, Failure> {
     let states = Vec::from_slice(alloc, &STATES)?;
     let transitions = Vec::from_slice(alloc, &TRANSITIONS)?;
     let map = Vec::new(alloc);
-    let machine = SegmenterStateMachine::try_from_parts(symbols, states, transitions, 0, 4, map)?;
-    let runs = GraphemeClusterSegmenterBorrowed::new_neo(&machine)?;
-    Ok(SegmenterBorrowed::Clusters(runs).boundaries(alloc, Text::Str(text))?)
+    Ok(SegmenterStateMachine::try_from_parts(symbols, states, transitions, 0, 4, map)?)
 }

@@ -37,14 +37,23 @@ pub fn examine(
     let segmenter = made?;
     let mut has_memo = false;
     for _ in 0..TIMES {
-        let manner = dice.below(3);
-        let columns = usize::from(dice.below(12));
-        let units = random_units(alloc, dice)?;
-        check_units(alloc, segmenter, manner, units.as_slice())?;
-        let bytes = random_bytes(alloc, dice)?;
-        has_memo = check_bytes(alloc, segmenter, manner, columns, bytes.as_slice())?;
+        has_memo = check_texts(alloc, dice, segmenter)?;
     }
     Ok(has_memo)
+}
+
+// Segments random units and random bytes, and says whether the bytes have a memo.
+fn check_texts(
+    alloc: Global,
+    dice: &mut Dice,
+    segmenter: SegmenterBorrowed<'_>,
+) -> Result<bool, Failure> {
+    let manner = dice.below(3);
+    let columns = usize::from(dice.below(12));
+    let units = random_units(alloc, dice)?;
+    check_units(alloc, segmenter, manner, units.as_slice())?;
+    let bytes = random_bytes(alloc, dice)?;
+    check_bytes(alloc, segmenter, manner, columns, bytes.as_slice())
 }
 
 fn check_units(
@@ -82,15 +91,36 @@ fn check_text(
     text: &str,
     expected: &Found,
 ) -> Result<bool, Failure> {
-    check_same(alloc, segmenter, Text::Str(text), expected)?;
-    check_segments(manner, segmenter, Text::Str(text))?;
-    check_wrapped(segmenter, Text::Str(text), columns)?;
-    check_words(segmenter, text)?;
-    check_utf16(alloc, segmenter, text, expected)?;
-    check_latin1(alloc, segmenter, manner, text, expected)?;
+    check_parts(segmenter, manner, columns, text)?;
+    check_encodings(alloc, segmenter, manner, text, expected)?;
     let found = segmenter.boundaries(alloc, Text::Str(text))?;
     check_near(segmenter, text, columns, &found)?;
     has_memo(alloc, segmenter, text, &found)
+}
+
+// The segments of a text, its wrapped lines and its words are to agree with its boundaries.
+fn check_parts(
+    segmenter: SegmenterBorrowed<'_>,
+    manner: u8,
+    columns: usize,
+    text: &str,
+) -> Result<(), Failure> {
+    check_segments(manner, segmenter, Text::Str(text))?;
+    check_wrapped(segmenter, Text::Str(text), columns)?;
+    check_words(segmenter, text)
+}
+
+// A text is to have these boundaries in each encoding that has it.
+fn check_encodings(
+    alloc: Global,
+    segmenter: SegmenterBorrowed<'_>,
+    manner: u8,
+    text: &str,
+    expected: &Found,
+) -> Result<(), Failure> {
+    check_same(alloc, segmenter, Text::Str(text), expected)?;
+    check_utf16(alloc, segmenter, text, expected)?;
+    check_latin1(alloc, segmenter, manner, text, expected)
 }
 
 fn check_utf16(
@@ -199,14 +229,25 @@ fn has_memo(
     text: &str,
     found: &Found,
 ) -> Result<bool, Failure> {
-    let mut memo = match memo(alloc, segmenter, text) {
-        Ok(memo) => memo,
-        Err(MemoError::Memory) => return Err(Failure::Memory),
-        Err(_) => return Ok(false),
-    };
-    for (place, _) in found {
-        check(memo.next() == Some(*place), "a memo that doesn't agree")?;
+    match memo(alloc, segmenter, text) {
+        Ok(mut memo) => {
+            check(agrees(&mut memo, found), "a memo that doesn't agree")?;
+            check(memo.next().is_none(), "a memo that goes on")?;
+            Ok(true)
+        }
+        Err(MemoError::Memory) => Err(Failure::Memory),
+        Err(_) => Ok(false),
     }
-    check(memo.next().is_none(), "a memo that goes on")?;
-    Ok(true)
+}
+
+// Whether a memo gives these boundaries first.
+fn agrees<'data, 's>(
+    memo: &mut MemoBreakIterator<'data, 's, Utf8, CountedTransitions<'data>>,
+    found: &Found,
+) -> bool {
+    let mut agrees = true;
+    for (place, _) in found {
+        agrees &= memo.next() == Some(*place);
+    }
+    agrees
 }
