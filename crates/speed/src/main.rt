@@ -13,13 +13,16 @@ use std::env;
 use std::process::ExitCode;
 
 fn main(rt: HostRuntime) -> anyhow::Result<ExitCode> {
-    let alloc = rt.alloc();
-    let arguments: Vec<String> = env::args(&rt)?.collect(alloc)?;
+    let arguments: Vec<String> = env::args(&rt)?.collect(rt.alloc())?;
+    Ok(ExitCode::from(status_of(&rt, arguments.as_slice())?))
+}
+
+// Measures what the words after the program's name say, and returns the exit status.
+fn status_of(rt: &HostRuntime, arguments: &[String]) -> anyhow::Result<u8> {
     let words: Vec<&str> = arguments
         .iter()
         .skip(1)
         .map(|word| word.as_str())
-        .collect(alloc)?;
-    let status = run::run(&rt, words.as_slice(), &mut rt.stdout(), &mut rt.stderr())?;
-    Ok(ExitCode::from(status))
+        .collect(rt.alloc())?;
+    run::run(rt, words.as_slice(), &mut rt.stdout(), &mut rt.stderr())
 }

@@ -8,88 +8,82 @@ use crate::engine::{Data, Engine};
 use anyhow::Result;
 use bench::segmenter::Segmenter;
 use icu_segmenter::options::{LineBreakOptions, SentenceBreakOptions, WordBreakOptions};
-use icu_segmenter::provider::{LineTailorings, RuleBreakData, SegmenterStateMachine};
 use icu_segmenter::{GraphemeClusterSegmenter, LineSegmenter, SentenceSegmenter, WordSegmenter};
 use std::alloc::Global;
 
 /// The segmenter of an engine with its data, with no dictionaries. Fails only when out of memory.
 pub fn segmenter_of(alloc: Global, engine: Engine, source: Data) -> Result<Segmenter> {
     match engine {
-        Engine::GraphemeClassic => clusters_by_table(cluster_table(alloc, source)?),
-        Engine::GraphemeNeo | Engine::GraphemeMemo => {
-            clusters_by_machine(cluster_machine(alloc, source)?)
-        }
-        Engine::SentenceClassic => sentences_by_table(sentence_table(alloc, source)?),
-        Engine::SentenceNeo | Engine::SentenceMemo => {
-            sentences_by_machine(sentence_machine(alloc, source)?)
-        }
-        Engine::WordClassic => {
-            words_by_table(word_table(alloc, source)?, cluster_table(alloc, source)?)
-        }
-        Engine::WordNeo | Engine::WordMemo => {
-            words_by_machine(word_machine(alloc, source)?, cluster_table(alloc, source)?)
-        }
-        Engine::LineClassic => {
-            lines_by_table(line_table(alloc, source)?, cluster_table(alloc, source)?)
-        }
-        Engine::Line17 => {
-            lines_by_turns(line_17_table(alloc, source)?, cluster_table(alloc, source)?)
-        }
-        Engine::LineNeo | Engine::LineMemo => lines_by_machine(
-            line_machine(alloc, source)?,
-            line_tailorings(alloc, source)?,
-            cluster_machine(alloc, source)?,
-        ),
+        Engine::GraphemeClassic => clusters_by_table(alloc, source),
+        Engine::GraphemeNeo | Engine::GraphemeMemo => clusters_by_machine(alloc, source),
+        Engine::SentenceClassic => sentences_by_table(alloc, source),
+        Engine::SentenceNeo | Engine::SentenceMemo => sentences_by_machine(alloc, source),
+        Engine::WordClassic => words_by_table(alloc, source),
+        Engine::WordNeo | Engine::WordMemo => words_by_machine(alloc, source),
+        Engine::LineClassic => lines_by_table(alloc, source),
+        Engine::Line17 => lines_by_turns(alloc, source),
+        Engine::LineNeo | Engine::LineMemo => lines_by_machine(alloc, source),
     }
 }
 
-fn clusters_by_table(table: RuleBreakData) -> Result<Segmenter> {
+fn clusters_by_table(alloc: Global, source: Data) -> Result<Segmenter> {
+    let table = cluster_table(alloc, source)?;
     Ok(Segmenter::Clusters(GraphemeClusterSegmenter::try_new(table)?))
 }
 
-fn clusters_by_machine(machine: SegmenterStateMachine) -> Result<Segmenter> {
+fn clusters_by_machine(alloc: Global, source: Data) -> Result<Segmenter> {
+    let machine = cluster_machine(alloc, source)?;
     Ok(Segmenter::Clusters(GraphemeClusterSegmenter::try_new_neo(machine)?))
 }
 
-fn sentences_by_table(table: RuleBreakData) -> Result<Segmenter> {
+fn sentences_by_table(alloc: Global, source: Data) -> Result<Segmenter> {
+    let table = sentence_table(alloc, source)?;
     let options = SentenceBreakOptions::default();
     Ok(Segmenter::Sentences(SentenceSegmenter::try_new(table, None, options)?))
 }
 
-fn sentences_by_machine(machine: SegmenterStateMachine) -> Result<Segmenter> {
+fn sentences_by_machine(alloc: Global, source: Data) -> Result<Segmenter> {
+    let machine = sentence_machine(alloc, source)?;
     let options = SentenceBreakOptions::default();
     Ok(Segmenter::Sentences(SentenceSegmenter::try_new_neo(machine, None, options)?))
 }
 
-fn words_by_table(table: RuleBreakData, clusters: RuleBreakData) -> Result<Segmenter> {
+fn words_by_table(alloc: Global, source: Data) -> Result<Segmenter> {
+    let table = word_table(alloc, source)?;
+    let clusters = cluster_table(alloc, source)?;
     let options = WordBreakOptions::default();
     let segmenter = WordSegmenter::try_new_for_non_complex_scripts(table, None, clusters, options)?;
     Ok(Segmenter::Words(segmenter))
 }
 
-fn words_by_machine(machine: SegmenterStateMachine, clusters: RuleBreakData) -> Result<Segmenter> {
+fn words_by_machine(alloc: Global, source: Data) -> Result<Segmenter> {
+    let machine = word_machine(alloc, source)?;
+    let clusters = cluster_table(alloc, source)?;
     let options = WordBreakOptions::default();
     let segmenter = WordSegmenter::try_new_neo_for_non_complex_scripts(machine, clusters, options)?;
     Ok(Segmenter::Words(segmenter))
 }
 
-fn lines_by_table(table: RuleBreakData, clusters: RuleBreakData) -> Result<Segmenter> {
+fn lines_by_table(alloc: Global, source: Data) -> Result<Segmenter> {
+    let table = line_table(alloc, source)?;
+    let clusters = cluster_table(alloc, source)?;
     let options = LineBreakOptions::default();
     let segmenter = LineSegmenter::try_new_for_non_complex_scripts(table, clusters, options)?;
     Ok(Segmenter::Lines(segmenter))
 }
 
-fn lines_by_turns(table: RuleBreakData, clusters: RuleBreakData) -> Result<Segmenter> {
+fn lines_by_turns(alloc: Global, source: Data) -> Result<Segmenter> {
+    let table = line_17_table(alloc, source)?;
+    let clusters = cluster_table(alloc, source)?;
     let options = LineBreakOptions::default();
     let segmenter = LineSegmenter::try_new_17_for_non_complex_scripts(table, clusters, options)?;
     Ok(Segmenter::Lines(segmenter))
 }
 
-fn lines_by_machine(
-    machine: SegmenterStateMachine,
-    tailorings: LineTailorings,
-    clusters: SegmenterStateMachine,
-) -> Result<Segmenter> {
+fn lines_by_machine(alloc: Global, source: Data) -> Result<Segmenter> {
+    let machine = line_machine(alloc, source)?;
+    let clusters = cluster_machine(alloc, source)?;
+    let tailorings = line_tailorings(alloc, source)?;
     let options = LineBreakOptions::default();
     let segmenter = LineSegmenter::try_new_neo_for_non_complex_scripts(
         machine, tailorings, clusters, options,

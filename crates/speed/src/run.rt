@@ -1,7 +1,7 @@
 //! The program, over any runtime and writers.
 ghost use Rattle.std.specs.Prelude.{◌<◌, length};
 
-use crate::engine::{Data, ENGINES, are_engines, is_chosen};
+use crate::engine::{Data, ENGINES, Engine, are_engines, is_chosen};
 use crate::trial::{PASSES, Trial};
 use anyhow::{Context, Result, ensure};
 use bench::segmenter::Text;
@@ -30,12 +30,8 @@ pub fn run<R: AllocGlobal + Files + Clock, O: Write, E: Write>(
     let Some((file, encoding, engines)) = request_of(words) else {
         return refuse(err);
     };
-    let bytes = fs::read(rt, file).context("reading the file")?;
-    ensure!(!bytes.is_empty(), "the file is empty");
-    let text = repeated(rt.alloc(), bytes.as_slice())?;
-    let mut trials = trials_of(rt, engines)?;
-    measure_in(rt, trials.as_mut_slice(), encoding, text.as_slice())?;
-    print(trials.as_slice(), text.len(), out, err)?;
+    let text = text_of(rt, file)?;
+    measure_engines(rt, engines, encoding, text.as_slice(), out, err)?;
     Ok(0)
 }
 
@@ -59,6 +55,27 @@ fn refuse<E: Write>(err: &mut E) -> Result<u8> {
     Ok(2)
 }
 
+// The bytes of a file, again and again.
+fn text_of<R: AllocGlobal + Files>(rt: &R, file: &str) -> Result<Vec<u8>> {
+    let bytes = fs::read(rt, file).context("reading the file")?;
+    ensure!(!bytes.is_empty(), "the file is empty");
+    Ok(repeated(rt.alloc(), bytes.as_slice())?)
+}
+
+// Measures the engines that the words name over a text, and prints what was found.
+fn measure_engines<R: AllocGlobal + Clock, O: Write, E: Write>(
+    rt: &R,
+    engines: &[&str],
+    encoding: &str,
+    text: &[u8],
+    out: &mut O,
+    err: &mut E,
+) -> Result<()> {
+    let mut trials = trials_of(rt, engines)?;
+    measure_in(rt, trials.as_mut_slice(), encoding, text)?;
+    Ok(print(trials.as_slice(), text.len(), out, err)?)
+}
+
 // The bytes, cut off where they are too many, as often as they have room.
 fn repeated(alloc: Global, bytes: &[u8]) -> Result<Vec<u8>, AllocError>
     requires { 0 < length bytes.now }
@@ -69,17 +86,24 @@ fn repeated(alloc: Global, bytes: &[u8]) -> Result<Vec<u8>, AllocError>
 
 // The engines that the words name, each with both data.
 fn trials_of<R: AllocGlobal + Clock>(rt: &R, engines: &[&str]) -> Result<Vec<Trial>> {
-    let alloc = rt.alloc();
-    let mut trials = Vec::new(alloc);
-    for engine in ENGINES {
-        if is_chosen(engines, engine) {
-            let small = Trial::new(rt, alloc, engine, Data::Small)?;
-            trials.push(small).map_err(AllocError::from)?;
-            let real = Trial::new(rt, alloc, engine, Data::Real)?;
-            trials.push(real).map_err(AllocError::from)?;
+    let mut trials = Vec::new(rt.alloc());
+    for engine in &ENGINES {
+        if is_chosen(engines, *engine) {
+            add_trial(rt, *engine, Data::Small, &mut trials)?;
+            add_trial(rt, *engine, Data::Real, &mut trials)?;
         }
     }
     Ok(trials)
+}
+
+fn add_trial<R: AllocGlobal + Clock>(
+    rt: &R,
+    engine: Engine,
+    source: Data,
+    trials: &mut Vec<Trial>,
+) -> Result<()> {
+    let trial = Trial::new(rt, rt.alloc(), engine, source)?;
+    Ok(trials.push(trial).map_err(AllocError::from)?)
 }
 
 // Measures the engines over a text in an encoding: in Latin-1 the bytes as they are, in str and UTF-16 what they say in UTF-8.
@@ -89,17 +113,22 @@ fn measure_in<R: AllocGlobal + Clock>(
     encoding: &str,
     bytes: &[u8],
 ) -> Result<()> {
-    let alloc = rt.alloc();
-    let text = String::from_utf8_lossy(alloc, bytes)?;
+    let text = String::from_utf8_lossy(rt.alloc(), bytes)?;
     match encoding {
         "str" => measure(rt, trials, Text::Str(text.as_str())),
         "latin1" => measure(rt, trials, Text::Latin1(bytes)),
-        "utf16" => {
-            let units: Vec<u16> = text.as_str().encode_utf16().collect(alloc)?;
-            measure(rt, trials, Text::Utf16(units.as_slice()))
-        }
+        "utf16" => measure_in_utf16(rt, trials, text.as_str()),
         _ => measure(rt, trials, Text::Utf8(bytes)),
     }
+}
+
+fn measure_in_utf16<R: AllocGlobal + Clock>(
+    rt: &R,
+    trials: &mut [Trial],
+    text: &str,
+) -> Result<()> {
+    let units: Vec<u16> = text.encode_utf16().collect(rt.alloc())?;
+    measure(rt, trials, Text::Utf16(units.as_slice()))
 }
 
 // Goes over the text with each engine in turn, and that again and again, so that what disturbs the

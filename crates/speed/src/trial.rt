@@ -35,11 +35,13 @@ pub struct Trial {
 impl Trial {
     /// The engine with these data. The errors that are met are out of memory, and a clock that can't be read.
     pub fn new<C: Clock>(clock: &C, alloc: Global, engine: Engine, source: Data) -> Result<Trial> {
+        let making = making_time(clock, alloc, engine, source)?;
+        let segmenter = segmenter_of(alloc, engine, source)?;
         Ok(Trial {
             engine,
             source,
-            segmenter: segmenter_of(alloc, engine, source)?,
-            making: making_time(clock, alloc, engine, source)?,
+            segmenter,
+            making,
             tally: Tally::default(),
             best: Duration::MAX,
         })
