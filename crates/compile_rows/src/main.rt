@@ -29,6 +29,7 @@ fn main(rt: HostRuntime) -> Result<()> {
     print_standards(&rt)?;
     print_tailored(&rt)?;
     print_witness(&rt, wrong::TWO_LOOKAHEADS)?;
+    print_witness(&rt, wrong::TWO_UNDECIDED)?;
     print_wrong(&rt)?;
     print_large(&rt)?;
     print_rows(&rt)
@@ -102,17 +103,22 @@ fn print_same(
 fn print_witness(rt: &HostRuntime, rules: &str) -> Result<()> {
     let rules = TextRules::try_from_text(rt.alloc(), rules)?;
     match rules.compile(rt.alloc()) {
-        Err(CompileError::TwoLookaheads(witness)) => print_symbols(rt, &rules, &witness),
-        _ => bail!("rules that need no two lookaheads"),
+        Err(CompileError::TwoLookaheads(witness)) => {
+            print_symbols(rt, "lookaheads", &rules, &witness)
+        }
+        Err(CompileError::TwoUndecided(witness)) => {
+            print_symbols(rt, "undecided", &rules, &witness)
+        }
+        _ => bail!("rules that can be followed"),
     }
 }
 
-fn print_symbols(rt: &HostRuntime, rules: &TextRules, witness: &Witness) -> Result<()> {
+fn print_symbols(rt: &HostRuntime, what: &str, rules: &TextRules, witness: &Witness) -> Result<()> {
     let line = match witness.row {
         Some(row) => rules.line_of_row(row),
         None => None,
     };
-    print!(rt; "two lookaheads at line {line:?}, in")?;
+    print!(rt; "two {what} at line {line:?}, in")?;
     for symbol in witness.symbols.as_slice() {
         let name = rules.name_of(*symbol).unwrap_or("?");
         print!(rt; " {name}")?;

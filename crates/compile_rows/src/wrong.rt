@@ -64,3 +64,14 @@ Digit × Digit
 other × other? other
 ÷
 ";
+
+/// Rules that are read and have no machine: while a Beta is looked for, the places behind others are undecided too.
+pub(crate) static TWO_UNDECIDED: &str = r"
+Alpha = [a]
+Beta  = [b]
+Mark  = \p{M}
+
+X Mark* treated as X; alone as other
+Alpha × other* Beta
+÷
+";

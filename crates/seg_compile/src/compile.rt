@@ -160,11 +160,11 @@ fn refusal(given: Given<'_>, tables: &Tables, scans: &Records, fault: Fault) -> 
     let Fault::Stuck(from, symbol, why) = fault else {
         return CompileError::from(fault);
     };
-    let Ok(witness) = witness_of(given, tables, scans, Way { from, symbol }) else {
+    let Ok(witness) = witness_of(given, tables, scans, Way { from, symbol }, why) else {
         return CompileError::Memory;
     };
     match why {
-        Why::Undecided => CompileError::TwoUndecided(witness),
+        Why::Undecided(_) => CompileError::TwoUndecided(witness),
         Why::Lookaheads => CompileError::TwoLookaheads(witness),
         Why::Past => CompileError::NeedsPast(witness),
     }

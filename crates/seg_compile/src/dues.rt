@@ -97,9 +97,18 @@ impl<'a> Draft<'a> {
 
     /// The first row that is owed, or that which decides.
     pub(crate) fn first_row(&self) -> Option<usize> {
-        let first = self.entries.first().map_or(self.row, |entry| Some(entry.0));
-        first.filter(|number| *number != MARKS)
+        first_row(self.entries.as_slice()).or(self.row)
     }
+}
+
+// The row of the first entry that has one.
+fn first_row(entries: &[Owed]) -> Option<usize> {
+    for (number, _) in entries {
+        if *number != MARKS {
+            return Some(*number);
+        }
+    }
+    None
 }
 
 impl Given<'_> {
@@ -173,6 +182,11 @@ impl Dues {
         };
         let entries = self.entries.get(part.from..part.to);
         (entries.unwrap_or(&[]), part.otherwise)
+    }
+
+    /// The first row that is owed, of a number.
+    pub(crate) fn first_row(&self, number: u8) -> Option<usize> {
+        first_row(self.owed(number).0)
     }
 
     /// The number of what is owed, which is kept if it is new.

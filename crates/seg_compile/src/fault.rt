@@ -18,8 +18,8 @@ pub(crate) enum Fault {
 /// Why a scan can't be followed.
 #[derive(Clone, Copy)]
 pub(crate) enum Why {
-    /// Two older places are undecided.
-    Undecided,
+    /// Two older places are undecided, and this is owed to the older of them.
+    Undecided(u8),
     /// Two older places need a lookahead.
     Lookaheads,
     /// What came before the scan makes another boundary the first.

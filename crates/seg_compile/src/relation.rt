@@ -182,7 +182,7 @@ impl<'a> Relation<'a> {
     // What becomes of a scan that goes on to a state.
     fn go(&self, is: Configuration, owed: Owed, state: State, symbol: u8) -> Step {
         if is_open(owed.older) && owed.newest != 0 {
-            return Step::Errs(Why::Undecided);
+            return Step::Errs(Why::Undecided(owed.older));
         }
         let before = self.tables.befores.moved(is.before, symbol);
         let is = Configuration {

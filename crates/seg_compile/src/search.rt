@@ -96,7 +96,7 @@ impl<'a> Search<'a> {
         let older = tables.after(scan.older.owed, scan.before, way.symbol);
         let newest = tables.after(newest, scan.before, way.symbol);
         if is_open(older) && newest != 0 {
-            return Err(Fault::Stuck(way.from, way.symbol, Why::Undecided));
+            return Err(Fault::Stuck(way.from, way.symbol, Why::Undecided(older)));
         }
         let next = Scan {
             kind: Kind::Goes,

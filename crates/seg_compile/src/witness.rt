@@ -1,6 +1,7 @@
 //! What shows that rules can't be followed: a row and a text.
 
 use crate::dues::Draft;
+use crate::fault::Why;
 use crate::given::Given;
 use crate::lists::at;
 use crate::records::{Records, Way};
@@ -26,6 +27,7 @@ pub(crate) fn witness_of(
     tables: &Tables,
     scans: &Records,
     stuck: Way,
+    why: Why,
 ) -> Result<Witness, AllocError> {
     let mut symbols = Vec::new(given.alloc);
     let root = walk(scans, Some(stuck), &mut symbols)?;
@@ -34,13 +36,27 @@ pub(crate) fn witness_of(
     walk(befores, befores.way(before(scans, root)), &mut symbols)?;
     symbols.reverse();
     let begin = symbols.len().saturating_sub(read);
-    let mut draft = Draft::new(given);
-    draft.owe(tables.befores.records.get(before(scans, stuck.from)))?;
+    let row = row_of(given, tables, before(scans, stuck.from), why)?;
     Ok(Witness {
-        row: draft.first_row(),
+        row,
         symbols,
         begin,
     })
+}
+
+// The row that is read there: of the older place, if two are undecided, or of the newest one, before which this stands.
+fn row_of(
+    given: Given<'_>,
+    tables: &Tables,
+    before: u16,
+    why: Why,
+) -> Result<Option<usize>, AllocError> {
+    if let Why::Undecided(older) = why {
+        return Ok(tables.dues.first_row(older));
+    }
+    let mut draft = Draft::new(given);
+    draft.owe(tables.befores.records.get(before))?;
+    Ok(draft.first_row())
 }
 
 // What stands before the newest place, of the record of a scan.
