@@ -125,8 +125,9 @@ fn read(folder: &Path, name: &str) -> String {
     fs::read_to_string(&path).unwrap_or_else(|error| panic!("{}: {error}", path.display()))
 }
 
-/// Rows that later versions of Unicode cut in another way. U+2701 isn't Extended_Pictographic any more, so rule GB11 doesn't join it.
-const LATER: [(&str, &[&str]); 1] = [("\u{2701}\u{200d}\u{2701}", &["\u{2701}\u{200d}", "\u{2701}"])];
+/// Rows that later versions of Unicode cut in another way. U+2701 isn't Extended_Pictographic any more, so the rules GB11 and WB3c don't join it.
+const LATER: [(&str, &[&str]); 2] =
+    [("\u{2701}\u{200d}\u{2701}", &["\u{2701}\u{200d}", "\u{2701}"]), ("a\u{200d}\u{2701}", &["a\u{200d}", "\u{2701}"])];
 
 /// Compares a row with what was found, and says whether they are equal. Where they aren't, it has to be a row of `LATER`.
 fn compare(name: &str, text: &str, found: &[&str], stated: &[&str]) -> bool {
