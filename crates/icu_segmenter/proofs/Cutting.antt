@@ -8,7 +8,7 @@ use Rattle.seg_text.specs.Boundaries.{GivesNext, IsCover, Remainder, RisesTo, bo
 use Rattle.seg_text.specs.Items.{Text, code_points}
 use Rattle.seg_text.specs.Decoding.{utf8, utf8_items}
 use Rattle.seg_text.proofs.Str.{seek-boundary}
-use Rattle.seg_wrap.specs.Wrapping.{between}
+use Rattle.seg_lines.specs.Wrapping.{between}
 use Rattle.icu_segmenter.specs.TextSegments.{AreCuts, IsPlace, Segment, marked, nothing, segments_from}
 
 pub place-boundary : (bytes : List ℕ) (place : ℕ) → IsUtf8 bytes → IsPlace (utf8 bytes) place → IsCharBoundary bytes place

@@ -8,3 +8,7 @@ pub mod Given
 pub mod Filling
 mod Suppressing
 mod Sources
+mod Reading
+mod Texts
+mod Feeds
+mod Exact

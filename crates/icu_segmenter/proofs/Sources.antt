@@ -5,7 +5,7 @@ use Rattle.seg_text.specs.Boundaries.{boundaries_in, IsCover}
 use Rattle.seg_text.specs.Items.{Rest, Text}
 use Rattle.seg_data.specs.WordSets.{Words}
 use Rattle.seg_clusters.specs.Rules.{Rules, boundaries_by}
-use Rattle.seg_suppress.specs.Suppression.{without_abbreviated}
+use Rattle.icu_segmenter.specs.Suppression.{without_abbreviated}
 
 -- a cursor at the start of some units
 abbrev pub whole_of : List ℕ → Rest ℕ

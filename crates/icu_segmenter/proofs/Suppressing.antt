@@ -6,9 +6,9 @@ use Rattle.seg_text.specs.declared.boundary.Boundary.{Boundary}
 use Rattle.seg_text.specs.Boundaries.{boundaries_in, offsets, IsCover}
 use Rattle.seg_text.specs.Items.{IsRising, Text}
 use Rattle.seg_data.specs.WordSets.{Words}
-use Rattle.seg_suppress.specs.Kept.{AreAscending, left_of, stays, IsLater}
-use Rattle.seg_suppress.specs.Suppression.{without_abbreviated}
-use Rattle.seg_suppress.proofs.Texts.{ascend-any, filter-map, kept-later, kept_of, left-covers, left-in, places_of}
+use Rattle.icu_segmenter.specs.Kept.{AreAscending, left_of, stays, IsLater}
+use Rattle.icu_segmenter.specs.Suppression.{without_abbreviated}
+use Rattle.icu_segmenter.proofs.Texts.{ascend-any, filter-map, kept-later, kept_of, left-covers, left-in, places_of}
 use Rattle.icu_segmenter.specs.TextSegments.{marked}
 
 marked-offsets : {M : Type 0} (mark : ℕ → M) (boundaries : List Boundary) → offsets boundaries ≡ places_of (marked mark boundaries)

@@ -8,7 +8,7 @@ use Rattle.std.proofs.lemmas.List.Sums.{count_by-le-length, length-filter}
 use Rattle.seg_text.specs.Items.{Text}
 use Rattle.seg_words.specs.declared.word.WordType.{WordType}
 use Rattle.seg_words.specs.WordRules.{is_word_like}
-use Rattle.seg_wrap.specs.Wrapping.{between}
+use Rattle.seg_lines.specs.Wrapping.{between}
 use Rattle.icu_segmenter.specs.TextSegments.{AreCuts, AreSegments, IsPlace, Segment, indices_of, segments_from, units_of, words_of}
 use Rattle.icu_segmenter.proofs.Cutting.{cuts-within}
 

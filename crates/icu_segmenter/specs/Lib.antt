@@ -40,11 +40,12 @@ pub use Rattle.seg_clusters.specs.DictionaryCuts
 pub use Rattle.seg_clusters.specs.Payloads
 pub use Rattle.seg_words.specs.WordRules
 pub use Rattle.seg_words.specs.Words
-pub use Rattle.seg_wrap.specs.Wrapping
-pub use Rattle.seg_wrap.specs.WrappedLines
-pub use Rattle.seg_suppress.specs.Suppression
-pub use Rattle.seg_suppress.specs.InLines
-pub use Rattle.seg_suppress.specs.Abbreviations
+pub use Rattle.seg_lines.specs.Wrapping
+pub use Rattle.seg_lines.specs.WrappedLines
+pub mod Suppression
+pub mod InLines
+pub mod Kept
+pub mod Abbreviations
 pub mod TextSegments
 pub mod SegmentsLeft
 pub mod NearBoundaries

@@ -3,8 +3,8 @@ use Rattle.std.specs.Prelude.{ℕ, List}
 use Rattle.seg_text.specs.declared.boundary.Boundary.{Boundary}
 use Rattle.seg_clusters.specs.Clusters.{sentence_rules}
 use Rattle.seg_clusters.specs.Rules.{boundaries_by}
-use Rattle.seg_suppress.specs.Abbreviations.{abbreviations_of}
-use Rattle.seg_suppress.specs.Suppression.{without_abbreviated}
+use Rattle.icu_segmenter.specs.Abbreviations.{abbreviations_of}
+use Rattle.icu_segmenter.specs.Suppression.{without_abbreviated}
 use Rattle.icu_segmenter.specs.declared.suppress.segmenter.SuppressingSegmenter.{SuppressingSegmenter}
 
 -- how the boundaries of a list of code points are found

@@ -3,7 +3,7 @@ use Rattle.std.specs.Prelude.{◌≡◌, ℕ, ◌<◌, List, [], ◌∷◌, All,
 use Rattle.std.specs.List.{flat_map}
 use Rattle.seg_text.specs.declared.boundary.Boundary.{Boundary}
 use Rattle.seg_text.specs.Items.{Text, rest_after, start_of}
-use Rattle.seg_wrap.specs.Wrapping.{between}
+use Rattle.seg_lines.specs.Wrapping.{between}
 use Rattle.seg_words.specs.declared.word.WordType.{WordType}
 use Rattle.seg_words.specs.WordRules.{is_word_like}
 

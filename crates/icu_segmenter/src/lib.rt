@@ -59,7 +59,7 @@ pub mod memo {
 
 /// Lines of a text, wrapped to columns.
 pub mod wrap {
-    pub use seg_wrap::wrapper::{
+    pub use seg_lines::wrap::{
         LineWrapper, WrapError, WrapIterator, WrapUtf8Iterator, WrapUtf16Iterator, WrappedLine,
         WrappedUtf8Line, WrappedUtf16Line, utf8_columns,
     };

@@ -15,18 +15,21 @@
 
 ghost use Rattle.std.specs.Prelude.{◌≡◌, ⊤, length};
 ghost use Rattle.seg_text.specs.Boundaries.{boundaries_in, IsCover};
-ghost use Rattle.seg_suppress.specs.Abbreviations.{abbreviations_of};
-ghost use Rattle.seg_suppress.specs.Suppression.{without_abbreviated};
+ghost use Rattle.icu_segmenter.specs.Abbreviations.{abbreviations_of};
+ghost use Rattle.icu_segmenter.specs.Suppression.{without_abbreviated};
 
+mod abbreviations;
+mod characters;
 mod kept;
+pub mod laws;
 mod segmenter;
 mod sentence_breaks;
+mod starts;
 
 use crate::segments::BreakIterator;
+pub use abbreviations::{AbbreviationError, Abbreviations};
 use kept::Kept;
 use seg_data::provider::DictionaryCursor;
-pub use seg_suppress::abbreviations::{AbbreviationError, Abbreviations};
-pub use seg_suppress::laws;
 use seg_text::cursor::Cursor;
 pub use segmenter::SuppressingSegmenter;
 use std::alloc::AllocError;

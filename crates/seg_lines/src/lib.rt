@@ -1,9 +1,8 @@
-//! Lines of texts: where they may be broken, and where they must be.
+//! Lines of texts: where they may be broken, where they must be, and how they are wrapped to columns.
 #![tactic(auto)]
 
 mod boundaries;
 mod finder;
-pub mod inner;
 mod joined;
 pub mod laws;
 pub mod line;
@@ -11,3 +10,4 @@ mod memo;
 mod neo_lines;
 pub mod provider;
 mod unmarked;
+pub mod wrap;

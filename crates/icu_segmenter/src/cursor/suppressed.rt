@@ -4,7 +4,7 @@ ghost use Rattle.icu_segmenter.specs.Suppressing.{suppressing_finder};
 
 use crate::cursor::Segmenter;
 use crate::suppress::SuppressingSegmenter;
-use seg_suppress::laws::parts_behind_line_feeds;
+use crate::suppress::laws::parts_behind_line_feeds;
 
 impl<'data> Segmenter for SuppressingSegmenter<'data> {
     ghost find = { λ segmenter. suppressing_finder segmenter };

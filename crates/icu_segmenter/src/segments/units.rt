@@ -2,7 +2,7 @@
 
 ghost use Rattle.std.specs.Prelude.{◌≡◌, ℕ, ◌≤◌, ⊤, List, length};
 ghost use Rattle.seg_text.specs.Decoding.{utf8};
-ghost use Rattle.seg_wrap.specs.Wrapping.{between};
+ghost use Rattle.seg_lines.specs.Wrapping.{between};
 ghost use Rattle.icu_segmenter.specs.TextSegments.{IsPlace};
 
 /// What a text stands in: a `str`, bytes, or 16-bit units.

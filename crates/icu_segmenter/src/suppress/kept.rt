@@ -5,11 +5,11 @@ ghost use Rattle.std.specs.Iterator.{YieldsFirst};
 ghost use Rattle.seg_text.specs.Boundaries.{offsets};
 ghost use Rattle.seg_data.specs.ScriptWords.{words_after};
 ghost use Rattle.icu_segmenter.specs.TextSegments.{marked};
-ghost use Rattle.seg_suppress.specs.Kept.{left_of, AreAscending};
+ghost use Rattle.icu_segmenter.specs.Kept.{left_of, AreAscending};
 
 use crate::segments::BreakIterator;
+use crate::suppress::starts::Starts;
 use seg_data::provider::DictionaryCursor;
-use seg_suppress::starts::Starts;
 use seg_text::cursor::Cursor;
 use std::marker::Model;
 
@@ -25,7 +25,7 @@ impl<'data, B: BreakIterator, I: Cursor> Model for Kept<'data, B, I> {
     ghost use Rattle.seg_text.specs.declared.boundary.Boundary.{Boundary};
     ghost use Rattle.seg_text.specs.Boundaries.{offsets};
     ghost use Rattle.seg_data.specs.ScriptWords.{words_after};
-    ghost use Rattle.seg_suppress.specs.Kept.{left_of, AreAscending};
+    ghost use Rattle.icu_segmenter.specs.Kept.{left_of, AreAscending};
 
     ghost Value = { List Boundary };
 

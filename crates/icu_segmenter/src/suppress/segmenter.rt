@@ -5,8 +5,8 @@ ghost use Rattle.seg_text.specs.Boundaries.{boundaries_in, IsCover};
 ghost use Rattle.seg_text.specs.Decoding.{latin1, utf8, utf16};
 ghost use Rattle.seg_clusters.specs.Clusters.{sentence_rules};
 ghost use Rattle.seg_clusters.specs.Rules.{boundaries_by};
-ghost use Rattle.seg_suppress.specs.Abbreviations.{abbreviations_of};
-ghost use Rattle.seg_suppress.specs.Suppression.{without_abbreviated};
+ghost use Rattle.icu_segmenter.specs.Abbreviations.{abbreviations_of};
+ghost use Rattle.icu_segmenter.specs.Suppression.{without_abbreviated};
 
 use crate::suppress::{Abbreviations, SentenceBreaks, SuppressedBreaks};
 use seg_clusters::sentence::{SentenceBreakIterator, SentenceSegmenterBorrowed};

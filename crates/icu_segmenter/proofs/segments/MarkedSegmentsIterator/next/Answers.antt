@@ -1,5 +1,5 @@
 use Rattle.icu_segmenter.specs.TextSegments.{marked}
-use Rattle.seg_wrap.proofs.Given.{fewer}
+use Rattle.seg_lines.proofs.Given.{fewer}
 use Rattle.icu_segmenter.proofs.Cutting.{first-left, next-end, none-left}
 use Rattle.icu_segmenter.proofs.segments.MarkedSegmentsIterator.next.Goals as goal
 

@@ -1,6 +1,6 @@
 use Rattle.std.proofs.Common.{ap, refl, ◌∙◌}
-use Rattle.seg_suppress.specs.Abbreviations.{abbreviations_of}
-use Rattle.seg_suppress.proofs.Texts.{ascending}
+use Rattle.icu_segmenter.specs.Abbreviations.{abbreviations_of}
+use Rattle.icu_segmenter.proofs.Texts.{ascending}
 use Rattle.icu_segmenter.proofs.Suppressing.{all-cover, all-left}
 use Rattle.icu_segmenter.proofs.suppress.SentenceBreaks.suppressed_by.Goals as goal
 

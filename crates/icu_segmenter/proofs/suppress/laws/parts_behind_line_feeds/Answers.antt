@@ -1,0 +1,18 @@
+use Rattle.std.proofs.Common.{refl, subst}
+use Rattle.seg_data.specs.WordSets.{Words}
+use Rattle.seg_clusters.proofs.SplitTexts.{texts-split}
+use Rattle.seg_clusters.specs.Clusters.{sentence_rules}
+use Rattle.seg_clusters.specs.Rules.{boundaries_by}
+use Rattle.icu_segmenter.specs.Abbreviations.{abbreviations_of}
+use Rattle.icu_segmenter.specs.InLines.{AreInLines}
+use Rattle.icu_segmenter.specs.Suppression.{without_abbreviated}
+use Rattle.icu_segmenter.proofs.Feeds.{in-parts}
+use Rattle.icu_segmenter.proofs.Texts.{found-covers}
+use Rattle.icu_segmenter.proofs.suppress.laws.parts_behind_line_feeds.Goals as goal
+
+pub returns : goal.returns
+returns c resets =
+    let words : Words = abbreviations_of c.args.abbreviations.now in
+    let find = boundaries_by (sentence_rules c.args.segmenter) in
+    texts-split (without_abbreviated words find) (λ cs. found-covers words find cs (c.cover.ensures cs)) 10
+    (in-parts words c.args.abbreviations.now.in_lines find c.cover.ensures (c.parts_behind_resets.ensures resets).lists) refl

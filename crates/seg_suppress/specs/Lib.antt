@@ -1,4 +1,0 @@
-pub mod Suppression
-pub mod InLines
-pub mod Kept
-pub mod Abbreviations

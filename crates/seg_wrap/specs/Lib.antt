@@ -1,3 +1,0 @@
-pub mod Wrapping
-pub mod Walk
-pub mod WrappedLines
