@@ -1,10 +1,9 @@
-use Rattle.std.proofs.Common.{refl, subst}
+use Rattle.std.proofs.Common.{refl}
 use Rattle.seg_data.specs.WordSets.{Words}
 use Rattle.seg_clusters.proofs.SplitTexts.{texts-split}
 use Rattle.seg_clusters.specs.Clusters.{sentence_rules}
 use Rattle.seg_clusters.specs.Rules.{boundaries_by}
 use Rattle.icu_segmenter.specs.Abbreviations.{abbreviations_of}
-use Rattle.icu_segmenter.specs.InLines.{AreInLines}
 use Rattle.icu_segmenter.specs.Suppression.{without_abbreviated}
 use Rattle.icu_segmenter.proofs.Feeds.{in-parts}
 use Rattle.icu_segmenter.proofs.Texts.{found-covers}
