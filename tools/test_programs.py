@@ -5,7 +5,7 @@
 
 tools/rows/PROGRAM.rows has a row a line: the words after the program's name, what it reads, what it must write, and where the status isn't 0 the status
 and what it must say on standard error, or how that begins where it has no line feed at its end. Texts are Python literals, bytes are written b"..". A line
-`file: NAME, TEXT` makes a file that words may name, `file: NAME, TEXT, COUNT, REST` one that has the text so often, and then the rest, `copies: FOLDER` makes all files of a folder of the repository, and `devices: WORDS, READ, WRITE` has the program run with a standard input that can't be read and a
+`writes: WORDS, FILE` has it write what a file of the repository holds, `file: NAME, TEXT` makes a file that words may name, `file: NAME, TEXT, COUNT, REST` one that has the text so often, and then the rest, `copies: FOLDER` makes all files of a folder of the repository, and `devices: WORDS, READ, WRITE` has the program run with a standard input that can't be read and a
 standard output that takes nothing, and says what it must complain of; with `unread: WORDS, STATUS, COMPLAINT` it has the first, and mustn't see it.
 `comes: WORDS, TEXT, WANTED, REST, WANTED` has the first text written while the rest hasn't come. `repeated: WORDS, MORE, TEXT, COUNT, REST` has the text so
 often, and then the rest, and asks whether the same is written with more words. `parts: WORDS, TEXT, COUNT, REST` has
@@ -16,6 +16,7 @@ The options of a manual page, crates/PROGRAM/PROGRAM.1, must be those of the pro
 """
 import ast
 import os
+import pathlib
 import re
 import shlex
 import subprocess
@@ -54,6 +55,17 @@ class Row:
         if ran.returncode == self.status and wrote == self.wanted and is_said:
             return None
         return f"{self.setting} {shlex.join(self.words)}: status {ran.returncode}, written {wrote!r}, said {said!r}".lstrip()
+
+
+@dataclass
+class Writes(Row):
+    """A run that must write much."""
+
+    def fault(self, program, folder):
+        written = subprocess.run([program, *self.words], input=self.given, capture_output=True, cwd=folder, timeout=60, check=False).stdout
+        if written == self.wanted:
+            return None
+        return f"{shlex.join(self.words)}: {len(written)} bytes, as wanted up to byte {len(os.path.commonprefix([written, self.wanted]))}"
 
 
 @dataclass
@@ -138,7 +150,7 @@ def read(path, folder_as_input, full):
     with open(path, encoding="utf-8") as it:
         for number, line in enumerate(it, 1):
             kind, said = ("row", line) if line.startswith(('"', "'")) else line.partition(": ")[::2]
-            if kind not in ("row", "file", "copies", "devices", "unread", "comes", "repeated", "parts", "set"):
+            if kind not in ("row", "writes", "file", "copies", "devices", "unread", "comes", "repeated", "parts", "set"):
                 continue
             place, fields = f"{os.path.basename(path)}:{number}", ast.literal_eval(f"({said.strip()},)")
             if kind == "file":
@@ -147,6 +159,9 @@ def read(path, folder_as_input, full):
                 found.files[name] = as_bytes(text) * count + as_bytes(rest)
             elif kind == "copies":
                 found.files |= copies_of(*fields)
+            elif kind == "writes":
+                words, file = fields
+                found.rows.append(Writes(place, shlex.split(words), b"", pathlib.Path(file).read_bytes()))
             elif kind == "devices":
                 found.rows += rows_with_devices(place, *fields, folder_as_input, full)
             elif kind == "unread":

@@ -17,7 +17,7 @@ MACHINES = {
     "grapheme_neo": [UAX29 / f"{part}.rt" for part in ("symbols", "states", "ranges", "transitions")],
     "sentence_neo": [UAX29 / f"sentences/{part}.rt" for part in ("symbols", "states", "ranges", "transitions")],
     "word_neo": [UAX29 / "words/symbols.rt", UAX29 / "words/typed/data.rt"],
-    "line_neo": [CRATES / "icu_segmenter_uax14/src/data.rt"],
+    "line_neo": [CRATES / f"icu_segmenter_uax14/src/{part}.rt" for part in ("data", "states")],
 }
 TABLES = {
     name: [CRATES / f"icu_segmenter_data/src/{folder}/data.rt"]

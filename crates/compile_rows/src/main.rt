@@ -6,12 +6,12 @@ mod data;
 mod good;
 mod large;
 mod lines;
-mod rows;
+mod refused;
 mod texts;
 mod wrong;
 
 use anyhow::{Result, bail};
-use data::print_rows;
+use data::print_refusals;
 use icu_segmenter_uax14::line_machine;
 use icu_segmenter_uax29::{cluster_machine, sentence_machine, word_machine};
 use seg_compile::compile::{CompileError, Witness};
@@ -32,7 +32,7 @@ fn main(rt: HostRuntime) -> Result<()> {
     print_witness(&rt, wrong::TWO_UNDECIDED)?;
     print_wrong(&rt)?;
     print_large(&rt)?;
-    print_rows(&rt)
+    print_refusals(&rt)
 }
 
 // Prints whether the rules of the standards have the boundaries of the machines in the code.

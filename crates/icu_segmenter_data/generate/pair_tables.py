@@ -8,7 +8,6 @@ decides it (Intermediate)."""
 from typing import NamedTuple
 
 from automata import JOINED, is_open
-from compiler import Compiler
 
 # A byte means an Index of a state below this.
 MOST = 120
@@ -30,7 +29,7 @@ class Walks:
     with the state that follows; or makes that place, or the one saved, a boundary ("BREAK", "NO_MATCH")."""
 
     def __init__(self, rules, classes):
-        self.rules, self.classes, self.compiler = rules, classes, Compiler(rules)
+        self.rules, self.classes, self.memo = rules, classes, {}
         self.alone = {c: self.read(State(0, 0), c) for c in classes.symbols}
         self.states, self.steps = list(dict.fromkeys(self.alone.values())), {}
         known = set(self.states)
@@ -49,7 +48,29 @@ class Walks:
         """What is owed after the class: a verdict where no text that goes on makes the place a boundary."""
         symbol = self.classes.symbols[c]
         due = self.rules.owed_after(due, symbol, self.rules.glues[state.before])
-        return JOINED if is_open(due) and not self.compiler.can_be_first(self.rules.moves[state.before][symbol], (due,)) else due
+        return JOINED if is_open(due) and not self.can_break(self.rules.moves[state.before][symbol], due) else due
+
+    def can_break(self, before, due):
+        """Whether some text, read on, makes a place to which this is owed a boundary."""
+        key = before, due
+        if key not in self.memo:
+            self.memo[key] = self.search(before, due)
+        return self.memo[key]
+
+    def search(self, before, due):
+        seen, todo = {(before, due)}, [(before, due)]
+        while todo:
+            before, due = todo.pop()
+            for symbol in range(self.rules.last + 1):
+                after = self.rules.owed_after(due, symbol, self.rules.glues[before])
+                if after == JOINED:
+                    continue
+                if not is_open(after):
+                    return True
+                if symbol and (then := (self.rules.moves[before][symbol], after)) not in seen:
+                    seen.add(then)
+                    todo.append(then)
+        return False
 
     def step(self, state, c):
         older = JOINED if state.saved is None else self.owed(state, c, state.saved)

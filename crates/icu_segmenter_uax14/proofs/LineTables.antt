@@ -1,4 +1,4 @@
--- The certificate of the machine of lines: written by generate/generate.py. Do not edit.
+-- The certificate of the machine of lines: written by line_generator. Do not edit.
 use Rattle.std.specs.Prelude.{◌≡◌, ℕ, Bool, true, false, ◌&&◌, nat_lt, List, [], ◌∷◌, length}
 use Rattle.std.proofs.Common.{refl}
 use Rattle.std.proofs.lemmas.Bool.{and_from}
@@ -1212,129 +1212,129 @@ waits =
 unfoldable pub relation : List (List Configuration)
 relation =
     (at 0 1 0 false 0 0 0 ∷ at 0 3 0 false 0 0 0 ∷ at 1 4 0 false 0 0 0 ∷ at 2 5 0 false 0 0 0 ∷ at 3 6 0 false 0 0 0 ∷ at 4 7 0 false 0 0 0 ∷ at 5 8 0 false 0 0 0 ∷ at 6 9 0 false 0 0 0 ∷ at 7 10 0 false 0 0 0 ∷ at 8 11 0 false 0 0 0 ∷ at 9 3 0 false 0 0 0 ∷ at 10 12 0 false 0 0 0 ∷ at 11 2 0 false 0 0 0 ∷ at 12 13 0 false 0 0 0 ∷ at 13 14 0 false 0 0 0 ∷ at 14 15 0 false 0 0 0 ∷ at 15 16 0 false 0 0 0 ∷ at 16 17 0 false 0 0 0 ∷ at 17 18 0 false 0 0 0 ∷ at 18 19 0 false 0 0 0 ∷ at 19 20 0 false 0 0 0 ∷ at 20 21 0 false 0 0 0 ∷ at 21 22 0 false 0 0 0 ∷ at 24 23 0 false 0 0 0 ∷ at 25 24 0 false 0 0 0 ∷ at 26 25 0 false 0 0 0 ∷ at 27 4 0 false 0 0 0 ∷ at 28 26 0 false 0 0 0 ∷ at 29 27 0 false 0 0 0 ∷ at 30 28 0 false 0 0 0 ∷ at 31 29 0 false 0 0 0 ∷ at 32 30 0 false 0 0 0 ∷ at 33 31 0 false 0 0 0 ∷ at 34 32 0 false 0 0 0 ∷ at 35 33 0 false 0 0 0 ∷ at 36 34 0 false 0 0 0 ∷ at 37 35 0 false 0 0 0 ∷ at 38 36 0 false 0 0 0 ∷ at 39 37 0 false 0 0 0 ∷ at 40 2 0 false 0 0 0 ∷ at 41 38 0 false 0 0 0 ∷ at 42 39 0 false 0 0 0 ∷ at 45 40 0 false 0 0 0 ∷ at 46 41 0 false 0 0 0 ∷ at 47 42 0 false 0 0 0 ∷ at 48 43 0 false 0 0 0 ∷ at 49 21 0 false 0 0 0 ∷ at 50 22 0 false 0 0 0 ∷ at 54 44 0 false 0 0 0 ∷ at 55 45 0 false 0 0 0 ∷ at 56 46 0 false 0 0 0 ∷ at 58 47 0 false 0 0 0 ∷ at 60 48 0 false 0 0 0 ∷ at 61 49 0 false 0 0 0 ∷ at 62 50 0 false 0 0 0 ∷ at 65 51 0 false 0 0 0 ∷ at 70 52 0 false 0 0 0 ∷ at 76 53 0 false 0 0 0 ∷ at 91 54 0 false 0 0 0 ∷ at 92 55 0 false 0 0 0 ∷ at 107 56 0 false 0 0 0 ∷ at 108 57 0 false 0 0 0 ∷ at 109 58 0 false 0 0 0 ∷ at 110 59 0 false 0 0 0 ∷ at 111 60 0 false 0 0 0 ∷ at 126 21 0 false 0 0 0 ∷ at 130 47 0 false 0 0 0 ∷ []) ∷
-    (at 1 1 0 true 2 0 0 ∷ at 1 2 0 true 2 0 0 ∷ at 1 1 0 true 2 0 1 ∷ at 1 2 0 true 2 0 1 ∷ []) ∷
-    (at 2 1 0 true 2 0 0 ∷ at 2 62 0 true 2 0 0 ∷ at 2 2 0 true 2 0 0 ∷ at 2 1 0 true 2 0 1 ∷ at 2 2 0 true 2 0 1 ∷ []) ∷
-    (at 3 1 0 true 2 0 0 ∷ at 3 2 0 true 2 0 0 ∷ at 3 1 0 true 2 0 1 ∷ at 3 2 0 true 2 0 1 ∷ []) ∷
-    (at 4 1 0 true 2 0 0 ∷ at 4 2 0 true 2 0 0 ∷ at 4 1 0 true 2 0 1 ∷ at 4 2 0 true 2 0 1 ∷ []) ∷
-    (at 5 1 0 true 2 0 0 ∷ at 5 62 0 true 2 0 0 ∷ at 5 2 0 true 2 0 0 ∷ at 5 1 0 true 2 0 1 ∷ at 5 2 0 true 2 0 1 ∷ []) ∷
-    (at 6 1 0 true 2 0 0 ∷ at 6 2 0 true 2 0 0 ∷ at 6 1 0 true 2 0 1 ∷ at 6 2 0 true 2 0 1 ∷ []) ∷
-    (at 7 1 0 true 2 0 0 ∷ at 7 2 0 true 2 0 0 ∷ at 7 1 0 true 2 0 1 ∷ at 7 2 0 true 2 0 1 ∷ []) ∷
-    (at 8 1 0 true 2 0 0 ∷ at 8 2 0 true 2 0 0 ∷ at 8 1 0 true 2 0 1 ∷ at 8 2 0 true 2 0 1 ∷ []) ∷
-    (at 9 1 0 true 2 0 0 ∷ at 9 2 0 true 2 0 0 ∷ at 9 1 0 true 2 0 1 ∷ at 9 2 0 true 2 0 1 ∷ []) ∷
-    (at 10 1 0 true 2 0 0 ∷ at 10 2 0 true 2 0 0 ∷ at 10 1 0 true 2 0 1 ∷ at 10 2 0 true 2 0 1 ∷ []) ∷
-    (at 11 1 0 true 2 1 0 ∷ at 40 1 0 true 2 1 0 ∷ at 11 2 0 true 2 1 0 ∷ at 40 2 0 true 2 1 0 ∷ at 11 1 0 true 2 1 1 ∷ at 40 1 0 true 2 1 1 ∷ at 11 2 0 true 2 1 1 ∷ at 40 2 0 true 2 1 1 ∷ []) ∷
-    (at 12 1 0 true 2 0 0 ∷ at 12 2 0 true 2 0 0 ∷ at 12 1 0 true 2 0 1 ∷ at 12 2 0 true 2 0 1 ∷ []) ∷
-    (at 13 1 0 true 2 0 0 ∷ at 13 2 0 true 2 0 0 ∷ at 13 1 0 true 2 0 1 ∷ at 13 2 0 true 2 0 1 ∷ []) ∷
-    (at 14 1 0 true 2 0 0 ∷ at 14 2 0 true 2 0 0 ∷ at 14 1 0 true 2 0 1 ∷ at 14 2 0 true 2 0 1 ∷ []) ∷
-    (at 15 1 0 true 2 0 0 ∷ at 15 2 0 true 2 0 0 ∷ at 15 1 0 true 2 0 1 ∷ at 15 2 0 true 2 0 1 ∷ []) ∷
-    (at 16 1 0 true 2 1 0 ∷ at 16 2 0 true 2 1 0 ∷ at 16 1 0 true 2 1 1 ∷ at 16 2 0 true 2 1 1 ∷ []) ∷
-    (at 17 1 0 true 2 0 0 ∷ at 17 2 0 true 2 0 0 ∷ at 17 1 0 true 2 0 1 ∷ at 17 2 0 true 2 0 1 ∷ []) ∷
-    (at 18 1 0 true 2 0 0 ∷ at 18 2 0 true 2 0 0 ∷ at 18 1 0 true 2 0 1 ∷ at 18 2 0 true 2 0 1 ∷ []) ∷
-    (at 19 1 0 true 2 0 0 ∷ at 19 2 0 true 2 0 0 ∷ at 19 1 0 true 2 0 1 ∷ at 19 2 0 true 2 0 1 ∷ []) ∷
-    (at 20 1 0 true 2 0 0 ∷ at 49 1 0 true 2 0 0 ∷ at 20 2 0 true 2 0 0 ∷ at 49 2 0 true 2 0 0 ∷ at 126 1 0 true 2 0 0 ∷ at 20 1 0 true 2 0 1 ∷ at 20 2 0 true 2 0 1 ∷ at 49 1 0 true 2 0 1 ∷ at 49 2 0 true 2 0 1 ∷ []) ∷
-    (at 21 1 0 true 2 0 0 ∷ at 50 1 0 true 2 0 0 ∷ at 21 2 0 true 2 0 0 ∷ at 50 2 0 true 2 0 0 ∷ at 21 1 0 true 2 0 1 ∷ at 21 2 0 true 2 0 1 ∷ at 50 1 0 true 2 0 1 ∷ at 50 2 0 true 2 0 1 ∷ []) ∷
-    (at 22 1 0 false 0 0 0 ∷ at 22 2 0 false 0 0 0 ∷ at 22 1 0 false 1 0 0 ∷ at 85 1 0 false 0 0 0 ∷ at 22 2 0 false 1 0 0 ∷ at 85 2 0 false 0 0 0 ∷ at 85 1 0 false 1 0 0 ∷ at 22 1 0 false 1 0 1 ∷ at 85 2 0 false 1 0 0 ∷ at 22 2 0 false 1 0 1 ∷ at 85 1 0 false 1 0 1 ∷ at 85 2 0 false 1 0 1 ∷ []) ∷
-    (at 23 1 0 false 0 0 0 ∷ at 23 2 0 false 0 0 0 ∷ at 23 1 0 false 1 0 0 ∷ at 87 1 0 false 0 0 0 ∷ at 23 2 0 false 1 0 0 ∷ at 87 2 0 false 0 0 0 ∷ at 87 1 0 false 1 0 0 ∷ at 23 1 0 false 1 0 1 ∷ at 87 2 0 false 1 0 0 ∷ at 23 2 0 false 1 0 1 ∷ at 87 1 0 false 1 0 1 ∷ at 87 2 0 false 1 0 1 ∷ []) ∷
-    (at 24 1 0 true 2 0 0 ∷ at 24 2 0 true 2 0 0 ∷ at 24 1 0 true 2 0 1 ∷ at 24 2 0 true 2 0 1 ∷ []) ∷
-    (at 25 1 0 true 2 0 0 ∷ at 25 2 0 true 2 0 0 ∷ at 25 1 0 true 2 0 1 ∷ at 25 2 0 true 2 0 1 ∷ []) ∷
-    (at 26 1 0 true 2 0 0 ∷ at 26 2 0 true 2 0 0 ∷ at 26 1 0 true 2 0 1 ∷ at 26 2 0 true 2 0 1 ∷ []) ∷
-    (at 27 1 0 true 2 0 0 ∷ at 27 2 0 true 2 0 0 ∷ at 27 1 0 true 2 0 1 ∷ at 27 2 0 true 2 0 1 ∷ []) ∷
-    (at 28 1 0 true 2 0 0 ∷ at 28 2 0 true 2 0 0 ∷ at 28 1 0 true 2 0 1 ∷ at 28 2 0 true 2 0 1 ∷ []) ∷
-    (at 29 1 0 true 2 0 0 ∷ at 29 2 0 true 2 0 0 ∷ at 29 1 0 true 2 0 1 ∷ at 29 2 0 true 2 0 1 ∷ []) ∷
-    (at 30 1 0 true 2 0 0 ∷ at 30 2 0 true 2 0 0 ∷ at 30 1 0 true 2 0 1 ∷ at 30 2 0 true 2 0 1 ∷ []) ∷
-    (at 31 1 0 true 2 0 0 ∷ at 31 2 0 true 2 0 0 ∷ at 31 1 0 true 2 0 1 ∷ at 31 2 0 true 2 0 1 ∷ []) ∷
-    (at 32 1 0 true 2 0 0 ∷ at 32 2 0 true 2 0 0 ∷ at 32 1 0 true 2 0 1 ∷ at 32 2 0 true 2 0 1 ∷ []) ∷
-    (at 33 1 0 true 2 0 0 ∷ at 33 2 0 true 2 0 0 ∷ at 33 1 0 true 2 0 1 ∷ at 33 2 0 true 2 0 1 ∷ []) ∷
-    (at 34 1 0 true 2 0 0 ∷ at 34 2 0 true 2 0 0 ∷ at 34 1 0 true 2 0 1 ∷ at 34 2 0 true 2 0 1 ∷ []) ∷
-    (at 35 1 0 true 2 0 0 ∷ at 35 2 0 true 2 0 0 ∷ at 35 1 0 true 2 0 1 ∷ at 35 2 0 true 2 0 1 ∷ []) ∷
-    (at 36 1 0 true 2 0 0 ∷ at 36 2 0 true 2 0 0 ∷ at 36 65 0 true 2 0 0 ∷ at 36 67 0 true 2 0 0 ∷ at 36 68 0 true 2 0 0 ∷ at 36 1 0 true 2 0 1 ∷ at 36 2 0 true 2 0 1 ∷ []) ∷
-    (at 37 1 0 true 2 0 0 ∷ at 37 2 0 true 2 0 0 ∷ at 37 1 0 true 2 0 1 ∷ at 37 2 0 true 2 0 1 ∷ []) ∷
-    (at 38 1 0 true 2 0 0 ∷ at 38 2 0 true 2 0 0 ∷ at 38 1 0 true 2 0 1 ∷ at 38 2 0 true 2 0 1 ∷ []) ∷
-    (at 39 1 0 true 2 0 0 ∷ at 39 2 0 true 2 0 0 ∷ at 39 1 0 true 2 0 1 ∷ at 39 2 0 true 2 0 1 ∷ []) ∷
-    (at 41 1 0 true 2 0 0 ∷ at 41 2 0 true 2 0 0 ∷ at 41 1 0 true 2 0 1 ∷ at 41 2 0 true 2 0 1 ∷ []) ∷
-    (at 42 1 0 true 2 0 0 ∷ at 42 2 0 true 2 0 0 ∷ at 42 1 0 true 2 0 1 ∷ at 42 2 0 true 2 0 1 ∷ []) ∷
-    (at 43 1 0 false 0 0 0 ∷ at 52 1 0 false 0 0 0 ∷ at 52 61 0 false 0 0 0 ∷ at 64 61 0 false 0 0 0 ∷ at 43 2 0 false 0 0 0 ∷ at 52 2 0 false 0 0 0 ∷ at 43 63 0 false 0 0 0 ∷ at 43 64 0 false 0 0 0 ∷ at 43 1 0 false 1 0 0 ∷ at 86 1 0 false 0 0 0 ∷ at 114 1 0 false 0 0 0 ∷ at 124 1 0 false 0 0 0 ∷ at 124 61 0 false 0 0 0 ∷ at 134 61 0 false 0 0 0 ∷ at 43 2 0 false 1 0 0 ∷ at 86 2 0 false 0 0 0 ∷ at 114 2 0 false 0 0 0 ∷ at 124 2 0 false 0 0 0 ∷ at 114 63 0 false 0 0 0 ∷ at 114 64 0 false 0 0 0 ∷ at 52 1 0 false 1 0 0 ∷ at 86 1 0 false 1 0 0 ∷ at 114 1 0 false 1 0 0 ∷ at 136 1 0 false 0 0 0 ∷ at 52 1 0 false 1 0 1 ∷ at 43 1 0 false 1 0 1 ∷ at 52 2 0 false 1 0 0 ∷ at 86 2 0 false 1 0 0 ∷ at 114 2 0 false 1 0 0 ∷ at 136 2 0 false 0 0 0 ∷ at 52 2 0 false 1 0 1 ∷ at 43 2 0 false 1 0 1 ∷ at 124 1 0 false 1 0 0 ∷ at 136 1 0 false 1 0 0 ∷ at 86 1 0 false 1 0 1 ∷ at 124 1 0 false 1 0 1 ∷ at 114 1 0 false 1 0 1 ∷ at 124 2 0 false 1 0 0 ∷ at 136 2 0 false 1 0 0 ∷ at 86 2 0 false 1 0 1 ∷ at 124 2 0 false 1 0 1 ∷ at 114 2 0 false 1 0 1 ∷ at 136 1 0 false 1 0 1 ∷ at 136 2 0 false 1 0 1 ∷ []) ∷
-    (at 44 1 0 false 0 0 0 ∷ at 44 2 0 false 0 0 0 ∷ at 44 63 0 false 0 0 0 ∷ at 44 64 0 false 0 0 0 ∷ at 44 1 0 false 1 0 0 ∷ at 115 1 0 false 0 0 0 ∷ at 44 2 0 false 1 0 0 ∷ at 115 2 0 false 0 0 0 ∷ at 115 63 0 false 0 0 0 ∷ at 115 64 0 false 0 0 0 ∷ at 115 1 0 false 1 0 0 ∷ at 44 1 0 false 1 0 1 ∷ at 115 2 0 false 1 0 0 ∷ at 44 2 0 false 1 0 1 ∷ at 115 1 0 false 1 0 1 ∷ at 115 2 0 false 1 0 1 ∷ []) ∷
-    (at 45 1 0 true 2 0 0 ∷ at 45 2 0 true 2 0 0 ∷ at 45 1 0 true 2 0 1 ∷ at 45 2 0 true 2 0 1 ∷ []) ∷
-    (at 46 1 0 true 2 0 0 ∷ at 46 2 0 true 2 0 0 ∷ at 46 1 0 true 2 0 1 ∷ at 46 2 0 true 2 0 1 ∷ []) ∷
-    (at 47 1 0 true 2 0 0 ∷ at 47 2 0 true 2 0 0 ∷ at 47 1 0 true 2 0 1 ∷ at 47 2 0 true 2 0 1 ∷ []) ∷
-    (at 48 1 0 true 2 0 0 ∷ at 48 2 0 true 2 0 0 ∷ at 48 1 0 true 2 0 1 ∷ at 48 2 0 true 2 0 1 ∷ []) ∷
-    (at 51 1 0 false 0 0 0 ∷ at 53 1 0 false 0 0 0 ∷ at 51 2 0 false 0 0 0 ∷ at 53 2 0 false 0 0 0 ∷ at 53 66 0 false 0 0 0 ∷ at 51 1 0 false 1 0 0 ∷ at 53 1 0 false 1 0 0 ∷ at 64 1 0 false 1 0 0 ∷ at 64 1 0 false 0 0 0 ∷ at 122 1 0 false 0 0 0 ∷ at 125 1 0 false 0 0 0 ∷ at 51 2 0 false 1 0 0 ∷ at 53 2 0 false 1 0 0 ∷ at 64 2 0 false 1 0 0 ∷ at 64 2 0 false 0 0 0 ∷ at 122 2 0 false 0 0 0 ∷ at 125 2 0 false 0 0 0 ∷ at 125 66 0 false 0 0 0 ∷ at 122 1 0 false 1 0 0 ∷ at 125 1 0 false 1 0 0 ∷ at 134 1 0 false 1 0 0 ∷ at 134 1 0 false 0 0 0 ∷ at 51 1 0 false 1 0 1 ∷ at 53 1 0 false 1 0 1 ∷ at 64 1 0 false 1 0 1 ∷ at 122 2 0 false 1 0 0 ∷ at 125 2 0 false 1 0 0 ∷ at 134 2 0 false 1 0 0 ∷ at 134 2 0 false 0 0 0 ∷ at 51 2 0 false 1 0 1 ∷ at 53 2 0 false 1 0 1 ∷ at 64 2 0 false 1 0 1 ∷ at 122 1 0 false 1 0 1 ∷ at 125 1 0 false 1 0 1 ∷ at 134 1 0 false 1 0 1 ∷ at 122 2 0 false 1 0 1 ∷ at 125 2 0 false 1 0 1 ∷ at 134 2 0 false 1 0 1 ∷ []) ∷
-    (at 54 1 0 true 2 0 0 ∷ at 61 1 0 true 2 0 0 ∷ at 61 2 0 true 2 0 0 ∷ at 61 1 0 true 2 0 1 ∷ at 61 2 0 true 2 0 1 ∷ []) ∷
+    (at 1 1 0 true 2 0 0 ∷ at 1 1 0 true 2 0 1 ∷ at 1 2 0 true 2 0 0 ∷ at 1 2 0 true 2 0 1 ∷ []) ∷
+    (at 2 1 0 true 2 0 0 ∷ at 2 1 0 true 2 0 1 ∷ at 2 2 0 true 2 0 0 ∷ at 2 2 0 true 2 0 1 ∷ at 2 62 0 true 2 0 0 ∷ []) ∷
+    (at 3 1 0 true 2 0 0 ∷ at 3 1 0 true 2 0 1 ∷ at 3 2 0 true 2 0 0 ∷ at 3 2 0 true 2 0 1 ∷ []) ∷
+    (at 4 1 0 true 2 0 0 ∷ at 4 1 0 true 2 0 1 ∷ at 4 2 0 true 2 0 0 ∷ at 4 2 0 true 2 0 1 ∷ []) ∷
+    (at 5 1 0 true 2 0 0 ∷ at 5 1 0 true 2 0 1 ∷ at 5 2 0 true 2 0 0 ∷ at 5 2 0 true 2 0 1 ∷ at 5 62 0 true 2 0 0 ∷ []) ∷
+    (at 6 1 0 true 2 0 0 ∷ at 6 1 0 true 2 0 1 ∷ at 6 2 0 true 2 0 0 ∷ at 6 2 0 true 2 0 1 ∷ []) ∷
+    (at 7 1 0 true 2 0 0 ∷ at 7 1 0 true 2 0 1 ∷ at 7 2 0 true 2 0 0 ∷ at 7 2 0 true 2 0 1 ∷ []) ∷
+    (at 8 1 0 true 2 0 0 ∷ at 8 1 0 true 2 0 1 ∷ at 8 2 0 true 2 0 0 ∷ at 8 2 0 true 2 0 1 ∷ []) ∷
+    (at 9 1 0 true 2 0 0 ∷ at 9 1 0 true 2 0 1 ∷ at 9 2 0 true 2 0 0 ∷ at 9 2 0 true 2 0 1 ∷ []) ∷
+    (at 10 1 0 true 2 0 0 ∷ at 10 1 0 true 2 0 1 ∷ at 10 2 0 true 2 0 0 ∷ at 10 2 0 true 2 0 1 ∷ []) ∷
+    (at 11 1 0 true 2 1 0 ∷ at 11 1 0 true 2 1 1 ∷ at 11 2 0 true 2 1 0 ∷ at 11 2 0 true 2 1 1 ∷ at 40 1 0 true 2 1 0 ∷ at 40 1 0 true 2 1 1 ∷ at 40 2 0 true 2 1 0 ∷ at 40 2 0 true 2 1 1 ∷ []) ∷
+    (at 12 1 0 true 2 0 0 ∷ at 12 1 0 true 2 0 1 ∷ at 12 2 0 true 2 0 0 ∷ at 12 2 0 true 2 0 1 ∷ []) ∷
+    (at 13 1 0 true 2 0 0 ∷ at 13 1 0 true 2 0 1 ∷ at 13 2 0 true 2 0 0 ∷ at 13 2 0 true 2 0 1 ∷ []) ∷
+    (at 14 1 0 true 2 0 0 ∷ at 14 1 0 true 2 0 1 ∷ at 14 2 0 true 2 0 0 ∷ at 14 2 0 true 2 0 1 ∷ []) ∷
+    (at 15 1 0 true 2 0 0 ∷ at 15 1 0 true 2 0 1 ∷ at 15 2 0 true 2 0 0 ∷ at 15 2 0 true 2 0 1 ∷ []) ∷
+    (at 16 1 0 true 2 1 0 ∷ at 16 1 0 true 2 1 1 ∷ at 16 2 0 true 2 1 0 ∷ at 16 2 0 true 2 1 1 ∷ []) ∷
+    (at 17 1 0 true 2 0 0 ∷ at 17 1 0 true 2 0 1 ∷ at 17 2 0 true 2 0 0 ∷ at 17 2 0 true 2 0 1 ∷ []) ∷
+    (at 18 1 0 true 2 0 0 ∷ at 18 1 0 true 2 0 1 ∷ at 18 2 0 true 2 0 0 ∷ at 18 2 0 true 2 0 1 ∷ []) ∷
+    (at 19 1 0 true 2 0 0 ∷ at 19 1 0 true 2 0 1 ∷ at 19 2 0 true 2 0 0 ∷ at 19 2 0 true 2 0 1 ∷ []) ∷
+    (at 20 1 0 true 2 0 0 ∷ at 20 1 0 true 2 0 1 ∷ at 20 2 0 true 2 0 0 ∷ at 20 2 0 true 2 0 1 ∷ at 49 1 0 true 2 0 0 ∷ at 49 1 0 true 2 0 1 ∷ at 49 2 0 true 2 0 0 ∷ at 49 2 0 true 2 0 1 ∷ at 126 1 0 true 2 0 0 ∷ []) ∷
+    (at 21 1 0 true 2 0 0 ∷ at 21 1 0 true 2 0 1 ∷ at 21 2 0 true 2 0 0 ∷ at 21 2 0 true 2 0 1 ∷ at 50 1 0 true 2 0 0 ∷ at 50 1 0 true 2 0 1 ∷ at 50 2 0 true 2 0 0 ∷ at 50 2 0 true 2 0 1 ∷ []) ∷
+    (at 22 1 0 false 0 0 0 ∷ at 22 1 0 false 1 0 0 ∷ at 22 1 0 false 1 0 1 ∷ at 22 2 0 false 0 0 0 ∷ at 22 2 0 false 1 0 0 ∷ at 22 2 0 false 1 0 1 ∷ at 85 1 0 false 0 0 0 ∷ at 85 1 0 false 1 0 0 ∷ at 85 1 0 false 1 0 1 ∷ at 85 2 0 false 0 0 0 ∷ at 85 2 0 false 1 0 0 ∷ at 85 2 0 false 1 0 1 ∷ []) ∷
+    (at 23 1 0 false 0 0 0 ∷ at 23 1 0 false 1 0 0 ∷ at 23 1 0 false 1 0 1 ∷ at 23 2 0 false 0 0 0 ∷ at 23 2 0 false 1 0 0 ∷ at 23 2 0 false 1 0 1 ∷ at 87 1 0 false 0 0 0 ∷ at 87 1 0 false 1 0 0 ∷ at 87 1 0 false 1 0 1 ∷ at 87 2 0 false 0 0 0 ∷ at 87 2 0 false 1 0 0 ∷ at 87 2 0 false 1 0 1 ∷ []) ∷
+    (at 24 1 0 true 2 0 0 ∷ at 24 1 0 true 2 0 1 ∷ at 24 2 0 true 2 0 0 ∷ at 24 2 0 true 2 0 1 ∷ []) ∷
+    (at 25 1 0 true 2 0 0 ∷ at 25 1 0 true 2 0 1 ∷ at 25 2 0 true 2 0 0 ∷ at 25 2 0 true 2 0 1 ∷ []) ∷
+    (at 26 1 0 true 2 0 0 ∷ at 26 1 0 true 2 0 1 ∷ at 26 2 0 true 2 0 0 ∷ at 26 2 0 true 2 0 1 ∷ []) ∷
+    (at 27 1 0 true 2 0 0 ∷ at 27 1 0 true 2 0 1 ∷ at 27 2 0 true 2 0 0 ∷ at 27 2 0 true 2 0 1 ∷ []) ∷
+    (at 28 1 0 true 2 0 0 ∷ at 28 1 0 true 2 0 1 ∷ at 28 2 0 true 2 0 0 ∷ at 28 2 0 true 2 0 1 ∷ []) ∷
+    (at 29 1 0 true 2 0 0 ∷ at 29 1 0 true 2 0 1 ∷ at 29 2 0 true 2 0 0 ∷ at 29 2 0 true 2 0 1 ∷ []) ∷
+    (at 30 1 0 true 2 0 0 ∷ at 30 1 0 true 2 0 1 ∷ at 30 2 0 true 2 0 0 ∷ at 30 2 0 true 2 0 1 ∷ []) ∷
+    (at 31 1 0 true 2 0 0 ∷ at 31 1 0 true 2 0 1 ∷ at 31 2 0 true 2 0 0 ∷ at 31 2 0 true 2 0 1 ∷ []) ∷
+    (at 32 1 0 true 2 0 0 ∷ at 32 1 0 true 2 0 1 ∷ at 32 2 0 true 2 0 0 ∷ at 32 2 0 true 2 0 1 ∷ []) ∷
+    (at 33 1 0 true 2 0 0 ∷ at 33 1 0 true 2 0 1 ∷ at 33 2 0 true 2 0 0 ∷ at 33 2 0 true 2 0 1 ∷ []) ∷
+    (at 34 1 0 true 2 0 0 ∷ at 34 1 0 true 2 0 1 ∷ at 34 2 0 true 2 0 0 ∷ at 34 2 0 true 2 0 1 ∷ []) ∷
+    (at 35 1 0 true 2 0 0 ∷ at 35 1 0 true 2 0 1 ∷ at 35 2 0 true 2 0 0 ∷ at 35 2 0 true 2 0 1 ∷ []) ∷
+    (at 36 1 0 true 2 0 0 ∷ at 36 1 0 true 2 0 1 ∷ at 36 2 0 true 2 0 0 ∷ at 36 2 0 true 2 0 1 ∷ at 36 65 0 true 2 0 0 ∷ at 36 67 0 true 2 0 0 ∷ at 36 68 0 true 2 0 0 ∷ []) ∷
+    (at 37 1 0 true 2 0 0 ∷ at 37 1 0 true 2 0 1 ∷ at 37 2 0 true 2 0 0 ∷ at 37 2 0 true 2 0 1 ∷ []) ∷
+    (at 38 1 0 true 2 0 0 ∷ at 38 1 0 true 2 0 1 ∷ at 38 2 0 true 2 0 0 ∷ at 38 2 0 true 2 0 1 ∷ []) ∷
+    (at 39 1 0 true 2 0 0 ∷ at 39 1 0 true 2 0 1 ∷ at 39 2 0 true 2 0 0 ∷ at 39 2 0 true 2 0 1 ∷ []) ∷
+    (at 41 1 0 true 2 0 0 ∷ at 41 1 0 true 2 0 1 ∷ at 41 2 0 true 2 0 0 ∷ at 41 2 0 true 2 0 1 ∷ []) ∷
+    (at 42 1 0 true 2 0 0 ∷ at 42 1 0 true 2 0 1 ∷ at 42 2 0 true 2 0 0 ∷ at 42 2 0 true 2 0 1 ∷ []) ∷
+    (at 43 1 0 false 0 0 0 ∷ at 43 1 0 false 1 0 0 ∷ at 43 1 0 false 1 0 1 ∷ at 43 2 0 false 0 0 0 ∷ at 43 2 0 false 1 0 0 ∷ at 43 2 0 false 1 0 1 ∷ at 43 63 0 false 0 0 0 ∷ at 43 64 0 false 0 0 0 ∷ at 52 1 0 false 0 0 0 ∷ at 52 1 0 false 1 0 0 ∷ at 52 1 0 false 1 0 1 ∷ at 52 2 0 false 0 0 0 ∷ at 52 2 0 false 1 0 0 ∷ at 52 2 0 false 1 0 1 ∷ at 52 61 0 false 0 0 0 ∷ at 64 61 0 false 0 0 0 ∷ at 86 1 0 false 0 0 0 ∷ at 86 1 0 false 1 0 0 ∷ at 86 1 0 false 1 0 1 ∷ at 86 2 0 false 0 0 0 ∷ at 86 2 0 false 1 0 0 ∷ at 86 2 0 false 1 0 1 ∷ at 114 1 0 false 0 0 0 ∷ at 114 1 0 false 1 0 0 ∷ at 114 1 0 false 1 0 1 ∷ at 114 2 0 false 0 0 0 ∷ at 114 2 0 false 1 0 0 ∷ at 114 2 0 false 1 0 1 ∷ at 114 63 0 false 0 0 0 ∷ at 114 64 0 false 0 0 0 ∷ at 124 1 0 false 0 0 0 ∷ at 124 1 0 false 1 0 0 ∷ at 124 1 0 false 1 0 1 ∷ at 124 2 0 false 0 0 0 ∷ at 124 2 0 false 1 0 0 ∷ at 124 2 0 false 1 0 1 ∷ at 124 61 0 false 0 0 0 ∷ at 134 61 0 false 0 0 0 ∷ at 136 1 0 false 0 0 0 ∷ at 136 1 0 false 1 0 0 ∷ at 136 1 0 false 1 0 1 ∷ at 136 2 0 false 0 0 0 ∷ at 136 2 0 false 1 0 0 ∷ at 136 2 0 false 1 0 1 ∷ []) ∷
+    (at 44 1 0 false 0 0 0 ∷ at 44 1 0 false 1 0 0 ∷ at 44 1 0 false 1 0 1 ∷ at 44 2 0 false 0 0 0 ∷ at 44 2 0 false 1 0 0 ∷ at 44 2 0 false 1 0 1 ∷ at 44 63 0 false 0 0 0 ∷ at 44 64 0 false 0 0 0 ∷ at 115 1 0 false 0 0 0 ∷ at 115 1 0 false 1 0 0 ∷ at 115 1 0 false 1 0 1 ∷ at 115 2 0 false 0 0 0 ∷ at 115 2 0 false 1 0 0 ∷ at 115 2 0 false 1 0 1 ∷ at 115 63 0 false 0 0 0 ∷ at 115 64 0 false 0 0 0 ∷ []) ∷
+    (at 45 1 0 true 2 0 0 ∷ at 45 1 0 true 2 0 1 ∷ at 45 2 0 true 2 0 0 ∷ at 45 2 0 true 2 0 1 ∷ []) ∷
+    (at 46 1 0 true 2 0 0 ∷ at 46 1 0 true 2 0 1 ∷ at 46 2 0 true 2 0 0 ∷ at 46 2 0 true 2 0 1 ∷ []) ∷
+    (at 47 1 0 true 2 0 0 ∷ at 47 1 0 true 2 0 1 ∷ at 47 2 0 true 2 0 0 ∷ at 47 2 0 true 2 0 1 ∷ []) ∷
+    (at 48 1 0 true 2 0 0 ∷ at 48 1 0 true 2 0 1 ∷ at 48 2 0 true 2 0 0 ∷ at 48 2 0 true 2 0 1 ∷ []) ∷
+    (at 51 1 0 false 0 0 0 ∷ at 51 1 0 false 1 0 0 ∷ at 51 1 0 false 1 0 1 ∷ at 51 2 0 false 0 0 0 ∷ at 51 2 0 false 1 0 0 ∷ at 51 2 0 false 1 0 1 ∷ at 53 1 0 false 0 0 0 ∷ at 53 1 0 false 1 0 0 ∷ at 53 1 0 false 1 0 1 ∷ at 53 2 0 false 0 0 0 ∷ at 53 2 0 false 1 0 0 ∷ at 53 2 0 false 1 0 1 ∷ at 53 66 0 false 0 0 0 ∷ at 64 1 0 false 0 0 0 ∷ at 64 1 0 false 1 0 0 ∷ at 64 1 0 false 1 0 1 ∷ at 64 2 0 false 0 0 0 ∷ at 64 2 0 false 1 0 0 ∷ at 64 2 0 false 1 0 1 ∷ at 122 1 0 false 0 0 0 ∷ at 122 1 0 false 1 0 0 ∷ at 122 1 0 false 1 0 1 ∷ at 122 2 0 false 0 0 0 ∷ at 122 2 0 false 1 0 0 ∷ at 122 2 0 false 1 0 1 ∷ at 125 1 0 false 0 0 0 ∷ at 125 1 0 false 1 0 0 ∷ at 125 1 0 false 1 0 1 ∷ at 125 2 0 false 0 0 0 ∷ at 125 2 0 false 1 0 0 ∷ at 125 2 0 false 1 0 1 ∷ at 125 66 0 false 0 0 0 ∷ at 134 1 0 false 0 0 0 ∷ at 134 1 0 false 1 0 0 ∷ at 134 1 0 false 1 0 1 ∷ at 134 2 0 false 0 0 0 ∷ at 134 2 0 false 1 0 0 ∷ at 134 2 0 false 1 0 1 ∷ []) ∷
+    (at 54 1 0 true 2 0 0 ∷ at 61 1 0 true 2 0 0 ∷ at 61 1 0 true 2 0 1 ∷ at 61 2 0 true 2 0 0 ∷ at 61 2 0 true 2 0 1 ∷ []) ∷
     (at 55 1 0 true 2 0 2 ∷ at 55 2 0 true 2 0 2 ∷ []) ∷
-    (at 56 1 0 true 2 0 0 ∷ at 56 2 0 true 2 0 0 ∷ at 56 1 0 true 2 0 1 ∷ at 56 2 0 true 2 0 1 ∷ []) ∷
-    (at 57 1 0 false 0 0 0 ∷ at 57 2 0 false 0 0 0 ∷ at 57 1 0 false 1 0 0 ∷ at 57 1 0 false 1 0 1 ∷ at 129 1 0 false 0 0 0 ∷ at 57 2 0 false 1 0 0 ∷ at 57 2 0 false 1 0 1 ∷ at 129 2 0 false 0 0 0 ∷ at 129 1 0 false 1 0 0 ∷ at 129 1 0 false 1 0 1 ∷ at 129 2 0 false 1 0 0 ∷ at 129 2 0 false 1 0 1 ∷ []) ∷
-    (at 58 1 0 true 2 0 0 ∷ at 58 2 0 true 2 0 0 ∷ at 58 1 0 true 2 0 1 ∷ at 130 1 0 true 2 0 0 ∷ at 58 2 0 true 2 0 1 ∷ at 130 2 0 true 2 0 0 ∷ at 130 1 0 true 2 0 1 ∷ at 130 2 0 true 2 0 1 ∷ []) ∷
-    (at 59 1 0 false 0 0 0 ∷ at 59 2 0 false 0 0 0 ∷ at 59 1 0 false 1 0 0 ∷ at 59 2 0 false 1 0 0 ∷ at 59 1 0 false 1 0 1 ∷ at 59 2 0 false 1 0 1 ∷ []) ∷
-    (at 60 1 0 true 2 0 0 ∷ at 60 2 0 true 2 0 0 ∷ at 60 1 0 true 2 0 1 ∷ at 60 2 0 true 2 0 1 ∷ []) ∷
-    (at 2 1 62 true 3 0 0 ∷ at 5 1 62 true 3 0 0 ∷ at 2 2 62 true 3 0 0 ∷ at 5 2 62 true 3 0 0 ∷ at 63 1 62 false 3 0 0 ∷ at 68 1 62 false 3 0 0 ∷ at 63 2 62 false 3 0 0 ∷ at 68 2 62 false 3 0 0 ∷ at 2 1 62 true 3 0 1 ∷ at 5 1 62 true 3 0 1 ∷ at 2 2 62 true 3 0 1 ∷ at 5 2 62 true 3 0 1 ∷ at 63 1 62 false 3 0 1 ∷ at 68 1 62 false 3 0 1 ∷ at 63 2 62 false 3 0 1 ∷ at 68 2 62 false 3 0 1 ∷ []) ∷
-    (at 62 1 0 true 2 0 0 ∷ at 62 2 0 true 2 0 0 ∷ at 62 1 0 true 2 0 1 ∷ at 62 2 0 true 2 0 1 ∷ []) ∷
-    (at 63 1 0 false 1 0 0 ∷ at 63 62 0 false 1 0 0 ∷ at 63 2 0 false 1 0 0 ∷ at 63 1 0 false 1 0 1 ∷ at 63 2 0 false 1 0 1 ∷ []) ∷
-    (at 64 1 61 false 3 0 0 ∷ at 64 2 61 false 3 0 0 ∷ at 134 1 61 false 3 0 0 ∷ at 64 1 61 false 3 0 1 ∷ at 134 2 61 false 3 0 0 ∷ at 64 2 61 false 3 0 1 ∷ at 134 1 61 false 3 0 1 ∷ at 134 2 61 false 3 0 1 ∷ []) ∷
-    (at 65 1 0 true 2 0 0 ∷ at 65 2 0 true 2 0 0 ∷ at 65 1 0 true 2 0 1 ∷ at 65 2 0 true 2 0 1 ∷ []) ∷
-    (at 66 1 0 false 1 0 0 ∷ at 66 2 0 false 1 0 0 ∷ at 66 1 0 false 1 0 1 ∷ at 66 2 0 false 1 0 1 ∷ []) ∷
-    (at 67 1 0 false 1 0 0 ∷ at 67 2 0 false 1 0 0 ∷ at 67 1 0 false 1 0 1 ∷ at 67 2 0 false 1 0 1 ∷ []) ∷
-    (at 68 1 0 false 1 0 0 ∷ at 68 62 0 false 1 0 0 ∷ at 68 2 0 false 1 0 0 ∷ at 68 1 0 false 1 0 1 ∷ at 68 2 0 false 1 0 1 ∷ []) ∷
-    (at 69 1 0 false 1 0 0 ∷ at 69 2 0 false 1 0 0 ∷ at 69 1 0 false 1 0 1 ∷ at 69 2 0 false 1 0 1 ∷ []) ∷
+    (at 56 1 0 true 2 0 0 ∷ at 56 1 0 true 2 0 1 ∷ at 56 2 0 true 2 0 0 ∷ at 56 2 0 true 2 0 1 ∷ []) ∷
+    (at 57 1 0 false 0 0 0 ∷ at 57 1 0 false 1 0 0 ∷ at 57 1 0 false 1 0 1 ∷ at 57 2 0 false 0 0 0 ∷ at 57 2 0 false 1 0 0 ∷ at 57 2 0 false 1 0 1 ∷ at 129 1 0 false 0 0 0 ∷ at 129 1 0 false 1 0 0 ∷ at 129 1 0 false 1 0 1 ∷ at 129 2 0 false 0 0 0 ∷ at 129 2 0 false 1 0 0 ∷ at 129 2 0 false 1 0 1 ∷ []) ∷
+    (at 58 1 0 true 2 0 0 ∷ at 58 1 0 true 2 0 1 ∷ at 58 2 0 true 2 0 0 ∷ at 58 2 0 true 2 0 1 ∷ at 130 1 0 true 2 0 0 ∷ at 130 1 0 true 2 0 1 ∷ at 130 2 0 true 2 0 0 ∷ at 130 2 0 true 2 0 1 ∷ []) ∷
+    (at 59 1 0 false 0 0 0 ∷ at 59 1 0 false 1 0 0 ∷ at 59 1 0 false 1 0 1 ∷ at 59 2 0 false 0 0 0 ∷ at 59 2 0 false 1 0 0 ∷ at 59 2 0 false 1 0 1 ∷ []) ∷
+    (at 60 1 0 true 2 0 0 ∷ at 60 1 0 true 2 0 1 ∷ at 60 2 0 true 2 0 0 ∷ at 60 2 0 true 2 0 1 ∷ []) ∷
+    (at 2 1 62 true 3 0 0 ∷ at 2 1 62 true 3 0 1 ∷ at 2 2 62 true 3 0 0 ∷ at 2 2 62 true 3 0 1 ∷ at 5 1 62 true 3 0 0 ∷ at 5 1 62 true 3 0 1 ∷ at 5 2 62 true 3 0 0 ∷ at 5 2 62 true 3 0 1 ∷ at 63 1 62 false 3 0 0 ∷ at 63 1 62 false 3 0 1 ∷ at 63 2 62 false 3 0 0 ∷ at 63 2 62 false 3 0 1 ∷ at 68 1 62 false 3 0 0 ∷ at 68 1 62 false 3 0 1 ∷ at 68 2 62 false 3 0 0 ∷ at 68 2 62 false 3 0 1 ∷ []) ∷
+    (at 62 1 0 true 2 0 0 ∷ at 62 1 0 true 2 0 1 ∷ at 62 2 0 true 2 0 0 ∷ at 62 2 0 true 2 0 1 ∷ []) ∷
+    (at 63 1 0 false 1 0 0 ∷ at 63 1 0 false 1 0 1 ∷ at 63 2 0 false 1 0 0 ∷ at 63 2 0 false 1 0 1 ∷ at 63 62 0 false 1 0 0 ∷ []) ∷
+    (at 64 1 61 false 3 0 0 ∷ at 64 1 61 false 3 0 1 ∷ at 64 2 61 false 3 0 0 ∷ at 64 2 61 false 3 0 1 ∷ at 134 1 61 false 3 0 0 ∷ at 134 1 61 false 3 0 1 ∷ at 134 2 61 false 3 0 0 ∷ at 134 2 61 false 3 0 1 ∷ []) ∷
+    (at 65 1 0 true 2 0 0 ∷ at 65 1 0 true 2 0 1 ∷ at 65 2 0 true 2 0 0 ∷ at 65 2 0 true 2 0 1 ∷ []) ∷
+    (at 66 1 0 false 1 0 0 ∷ at 66 1 0 false 1 0 1 ∷ at 66 2 0 false 1 0 0 ∷ at 66 2 0 false 1 0 1 ∷ []) ∷
+    (at 67 1 0 false 1 0 0 ∷ at 67 1 0 false 1 0 1 ∷ at 67 2 0 false 1 0 0 ∷ at 67 2 0 false 1 0 1 ∷ []) ∷
+    (at 68 1 0 false 1 0 0 ∷ at 68 1 0 false 1 0 1 ∷ at 68 2 0 false 1 0 0 ∷ at 68 2 0 false 1 0 1 ∷ at 68 62 0 false 1 0 0 ∷ []) ∷
+    (at 69 1 0 false 1 0 0 ∷ at 69 1 0 false 1 0 1 ∷ at 69 2 0 false 1 0 0 ∷ at 69 2 0 false 1 0 1 ∷ []) ∷
     (at 70 1 0 true 2 0 2 ∷ at 70 2 0 true 2 0 2 ∷ []) ∷
-    (at 71 1 0 false 1 0 0 ∷ at 71 2 0 false 1 0 0 ∷ at 71 1 0 false 1 0 1 ∷ at 71 2 0 false 1 0 1 ∷ []) ∷
-    (at 72 1 0 false 1 0 0 ∷ at 72 2 0 false 1 0 0 ∷ at 72 1 0 false 1 0 1 ∷ at 72 2 0 false 1 0 1 ∷ []) ∷
-    (at 73 1 0 false 1 0 0 ∷ at 73 2 0 false 1 0 0 ∷ at 73 1 0 false 1 0 1 ∷ at 73 2 0 false 1 0 1 ∷ []) ∷
-    (at 74 1 0 false 1 0 0 ∷ at 74 2 0 false 1 0 0 ∷ at 74 1 0 false 1 0 1 ∷ at 74 2 0 false 1 0 1 ∷ []) ∷
-    (at 75 1 0 false 1 0 0 ∷ at 75 2 0 false 1 0 0 ∷ at 75 1 0 false 1 0 1 ∷ at 75 2 0 false 1 0 1 ∷ []) ∷
+    (at 71 1 0 false 1 0 0 ∷ at 71 1 0 false 1 0 1 ∷ at 71 2 0 false 1 0 0 ∷ at 71 2 0 false 1 0 1 ∷ []) ∷
+    (at 72 1 0 false 1 0 0 ∷ at 72 1 0 false 1 0 1 ∷ at 72 2 0 false 1 0 0 ∷ at 72 2 0 false 1 0 1 ∷ []) ∷
+    (at 73 1 0 false 1 0 0 ∷ at 73 1 0 false 1 0 1 ∷ at 73 2 0 false 1 0 0 ∷ at 73 2 0 false 1 0 1 ∷ []) ∷
+    (at 74 1 0 false 1 0 0 ∷ at 74 1 0 false 1 0 1 ∷ at 74 2 0 false 1 0 0 ∷ at 74 2 0 false 1 0 1 ∷ []) ∷
+    (at 75 1 0 false 1 0 0 ∷ at 75 1 0 false 1 0 1 ∷ at 75 2 0 false 1 0 0 ∷ at 75 2 0 false 1 0 1 ∷ []) ∷
     (at 76 1 0 true 2 0 2 ∷ at 76 2 0 true 2 0 2 ∷ []) ∷
-    (at 77 1 0 false 1 0 0 ∷ at 77 2 0 false 1 0 0 ∷ at 77 1 0 false 1 0 1 ∷ at 77 2 0 false 1 0 1 ∷ []) ∷
-    (at 78 1 0 false 1 0 0 ∷ at 78 2 0 false 1 0 0 ∷ at 78 1 0 false 1 0 1 ∷ at 78 2 0 false 1 0 1 ∷ []) ∷
-    (at 79 1 0 false 1 0 0 ∷ at 79 2 0 false 1 0 0 ∷ at 79 1 0 false 1 0 1 ∷ at 79 2 0 false 1 0 1 ∷ []) ∷
-    (at 80 1 0 false 1 0 0 ∷ at 80 2 0 false 1 0 0 ∷ at 80 1 0 false 1 0 1 ∷ at 80 2 0 false 1 0 1 ∷ []) ∷
-    (at 81 1 0 false 1 0 0 ∷ at 81 2 0 false 1 0 0 ∷ at 81 1 0 false 1 0 1 ∷ at 81 2 0 false 1 0 1 ∷ []) ∷
-    (at 82 1 0 false 1 0 0 ∷ at 82 2 0 false 1 0 0 ∷ at 82 1 0 false 1 0 1 ∷ at 82 2 0 false 1 0 1 ∷ []) ∷
-    (at 83 1 0 false 1 0 0 ∷ at 120 1 0 false 1 0 0 ∷ at 83 2 0 false 1 0 0 ∷ at 120 2 0 false 1 0 0 ∷ at 144 1 0 false 1 0 0 ∷ at 83 1 0 false 1 0 1 ∷ at 83 2 0 false 1 0 1 ∷ at 120 1 0 false 1 0 1 ∷ at 120 2 0 false 1 0 1 ∷ []) ∷
-    (at 84 1 0 false 1 0 0 ∷ at 121 1 0 false 1 0 0 ∷ at 84 2 0 false 1 0 0 ∷ at 121 2 0 false 1 0 0 ∷ at 84 1 0 false 1 0 1 ∷ at 84 2 0 false 1 0 1 ∷ at 121 1 0 false 1 0 1 ∷ at 121 2 0 false 1 0 1 ∷ []) ∷
-    (at 88 1 0 false 1 0 0 ∷ at 88 2 0 false 1 0 0 ∷ at 88 1 0 false 1 0 1 ∷ at 88 2 0 false 1 0 1 ∷ []) ∷
-    (at 89 1 0 false 1 0 0 ∷ at 89 2 0 false 1 0 0 ∷ at 89 1 0 false 1 0 1 ∷ at 89 2 0 false 1 0 1 ∷ []) ∷
-    (at 90 1 0 false 1 0 0 ∷ at 90 2 0 false 1 0 0 ∷ at 90 1 0 false 1 0 1 ∷ at 90 2 0 false 1 0 1 ∷ []) ∷
-    (at 91 1 0 true 2 0 0 ∷ at 92 1 0 true 2 0 0 ∷ at 91 2 0 true 2 0 0 ∷ at 92 2 0 true 2 0 0 ∷ at 91 1 0 true 2 0 1 ∷ at 92 1 0 true 2 0 1 ∷ at 91 2 0 true 2 0 1 ∷ at 92 2 0 true 2 0 1 ∷ []) ∷
-    (at 93 1 0 false 1 0 0 ∷ at 93 2 0 false 1 0 0 ∷ at 93 1 0 false 1 0 1 ∷ at 93 2 0 false 1 0 1 ∷ []) ∷
-    (at 94 1 0 false 1 0 0 ∷ at 94 2 0 false 1 0 0 ∷ at 94 1 0 false 1 0 1 ∷ at 94 2 0 false 1 0 1 ∷ []) ∷
-    (at 95 1 0 false 1 0 0 ∷ at 95 2 0 false 1 0 0 ∷ at 95 1 0 false 1 0 1 ∷ at 95 2 0 false 1 0 1 ∷ []) ∷
-    (at 96 1 0 false 1 0 0 ∷ at 96 2 0 false 1 0 0 ∷ at 96 1 0 false 1 0 1 ∷ at 96 2 0 false 1 0 1 ∷ []) ∷
-    (at 97 1 0 false 1 0 0 ∷ at 97 2 0 false 1 0 0 ∷ at 97 1 0 false 1 0 1 ∷ at 97 2 0 false 1 0 1 ∷ []) ∷
-    (at 98 1 0 false 1 0 0 ∷ at 98 2 0 false 1 0 0 ∷ at 98 1 0 false 1 0 1 ∷ at 98 2 0 false 1 0 1 ∷ []) ∷
-    (at 99 1 0 false 1 0 0 ∷ at 99 2 0 false 1 0 0 ∷ at 99 1 0 false 1 0 1 ∷ at 99 2 0 false 1 0 1 ∷ []) ∷
-    (at 100 1 0 false 1 0 0 ∷ at 100 2 0 false 1 0 0 ∷ at 100 1 0 false 1 0 1 ∷ at 100 2 0 false 1 0 1 ∷ []) ∷
-    (at 101 1 0 false 1 0 0 ∷ at 101 2 0 false 1 0 0 ∷ at 101 1 0 false 1 0 1 ∷ at 101 2 0 false 1 0 1 ∷ []) ∷
-    (at 102 1 0 false 1 0 0 ∷ at 102 2 0 false 1 0 0 ∷ at 102 65 0 false 1 0 0 ∷ at 102 67 0 false 1 0 0 ∷ at 102 68 0 false 1 0 0 ∷ at 102 1 0 false 1 0 1 ∷ at 102 2 0 false 1 0 1 ∷ []) ∷
-    (at 103 1 0 false 1 0 0 ∷ at 103 2 0 false 1 0 0 ∷ at 103 1 0 false 1 0 1 ∷ at 103 2 0 false 1 0 1 ∷ []) ∷
-    (at 104 1 0 false 1 0 0 ∷ at 104 2 0 false 1 0 0 ∷ at 104 1 0 false 1 0 1 ∷ at 104 2 0 false 1 0 1 ∷ []) ∷
-    (at 105 1 0 false 1 0 0 ∷ at 105 2 0 false 1 0 0 ∷ at 105 1 0 false 1 0 1 ∷ at 105 2 0 false 1 0 1 ∷ []) ∷
-    (at 106 1 0 false 1 0 0 ∷ at 106 2 0 false 1 0 0 ∷ at 106 1 0 false 1 0 1 ∷ at 106 2 0 false 1 0 1 ∷ []) ∷
-    (at 107 1 0 true 2 0 0 ∷ at 107 2 0 true 2 0 0 ∷ at 107 1 0 true 2 0 1 ∷ at 107 2 0 true 2 0 1 ∷ []) ∷
-    (at 108 1 0 true 2 0 0 ∷ at 108 2 0 true 2 0 0 ∷ at 108 1 0 true 2 0 1 ∷ at 108 2 0 true 2 0 1 ∷ []) ∷
-    (at 109 1 0 true 2 0 0 ∷ at 109 2 0 true 2 0 0 ∷ at 109 1 0 true 2 0 1 ∷ at 109 2 0 true 2 0 1 ∷ []) ∷
-    (at 110 1 0 true 2 0 0 ∷ at 110 2 0 true 2 0 0 ∷ at 110 1 0 true 2 0 1 ∷ at 110 2 0 true 2 0 1 ∷ []) ∷
-    (at 111 1 0 true 2 0 0 ∷ at 111 2 0 true 2 0 0 ∷ at 111 1 0 true 2 0 1 ∷ at 111 2 0 true 2 0 1 ∷ []) ∷
-    (at 112 1 0 false 1 0 0 ∷ at 112 2 0 false 1 0 0 ∷ at 112 1 0 false 1 0 1 ∷ at 112 2 0 false 1 0 1 ∷ []) ∷
-    (at 113 1 0 false 0 0 0 ∷ at 123 1 0 false 0 0 0 ∷ at 113 2 0 false 0 0 0 ∷ at 123 2 0 false 0 0 0 ∷ at 113 1 0 false 1 0 0 ∷ at 113 2 0 false 1 0 0 ∷ at 123 1 0 false 1 0 0 ∷ at 123 1 0 false 1 0 1 ∷ at 113 1 0 false 1 0 1 ∷ at 123 2 0 false 1 0 0 ∷ at 123 2 0 false 1 0 1 ∷ at 113 2 0 false 1 0 1 ∷ []) ∷
-    (at 43 1 63 false 3 0 0 ∷ at 44 1 63 false 3 0 0 ∷ at 43 1 64 false 3 0 0 ∷ at 44 1 64 false 3 0 0 ∷ at 43 2 63 false 3 0 0 ∷ at 44 2 63 false 3 0 0 ∷ at 43 2 64 false 3 0 0 ∷ at 44 2 64 false 3 0 0 ∷ at 114 1 63 false 3 0 0 ∷ at 115 1 63 false 3 0 0 ∷ at 114 1 64 false 3 0 0 ∷ at 115 1 64 false 3 0 0 ∷ at 114 2 63 false 3 0 0 ∷ at 115 2 63 false 3 0 0 ∷ at 114 2 64 false 3 0 0 ∷ at 115 2 64 false 3 0 0 ∷ at 43 1 63 false 3 0 1 ∷ at 44 1 63 false 3 0 1 ∷ at 43 1 64 false 3 0 1 ∷ at 44 1 64 false 3 0 1 ∷ at 43 2 63 false 3 0 1 ∷ at 44 2 63 false 3 0 1 ∷ at 43 2 64 false 3 0 1 ∷ at 44 2 64 false 3 0 1 ∷ at 114 1 63 false 3 0 1 ∷ at 115 1 63 false 3 0 1 ∷ at 114 1 64 false 3 0 1 ∷ at 115 1 64 false 3 0 1 ∷ at 114 2 63 false 3 0 1 ∷ at 115 2 63 false 3 0 1 ∷ at 114 2 64 false 3 0 1 ∷ at 115 2 64 false 3 0 1 ∷ []) ∷
-    (at 116 1 0 false 1 0 0 ∷ at 116 2 0 false 1 0 0 ∷ at 116 1 0 false 1 0 1 ∷ at 116 2 0 false 1 0 1 ∷ []) ∷
-    (at 117 1 0 false 1 0 0 ∷ at 117 2 0 false 1 0 0 ∷ at 117 1 0 false 1 0 1 ∷ at 117 2 0 false 1 0 1 ∷ []) ∷
-    (at 118 1 0 false 1 0 0 ∷ at 118 2 0 false 1 0 0 ∷ at 118 1 0 false 1 0 1 ∷ at 118 2 0 false 1 0 1 ∷ []) ∷
-    (at 119 1 0 false 1 0 0 ∷ at 119 2 0 false 1 0 0 ∷ at 119 1 0 false 1 0 1 ∷ at 119 2 0 false 1 0 1 ∷ []) ∷
-    (at 127 1 0 false 1 0 0 ∷ at 132 1 0 false 1 0 0 ∷ at 132 2 0 false 1 0 0 ∷ at 132 1 0 false 1 0 1 ∷ at 132 2 0 false 1 0 1 ∷ []) ∷
+    (at 77 1 0 false 1 0 0 ∷ at 77 1 0 false 1 0 1 ∷ at 77 2 0 false 1 0 0 ∷ at 77 2 0 false 1 0 1 ∷ []) ∷
+    (at 78 1 0 false 1 0 0 ∷ at 78 1 0 false 1 0 1 ∷ at 78 2 0 false 1 0 0 ∷ at 78 2 0 false 1 0 1 ∷ []) ∷
+    (at 79 1 0 false 1 0 0 ∷ at 79 1 0 false 1 0 1 ∷ at 79 2 0 false 1 0 0 ∷ at 79 2 0 false 1 0 1 ∷ []) ∷
+    (at 80 1 0 false 1 0 0 ∷ at 80 1 0 false 1 0 1 ∷ at 80 2 0 false 1 0 0 ∷ at 80 2 0 false 1 0 1 ∷ []) ∷
+    (at 81 1 0 false 1 0 0 ∷ at 81 1 0 false 1 0 1 ∷ at 81 2 0 false 1 0 0 ∷ at 81 2 0 false 1 0 1 ∷ []) ∷
+    (at 82 1 0 false 1 0 0 ∷ at 82 1 0 false 1 0 1 ∷ at 82 2 0 false 1 0 0 ∷ at 82 2 0 false 1 0 1 ∷ []) ∷
+    (at 83 1 0 false 1 0 0 ∷ at 83 1 0 false 1 0 1 ∷ at 83 2 0 false 1 0 0 ∷ at 83 2 0 false 1 0 1 ∷ at 120 1 0 false 1 0 0 ∷ at 120 1 0 false 1 0 1 ∷ at 120 2 0 false 1 0 0 ∷ at 120 2 0 false 1 0 1 ∷ at 144 1 0 false 1 0 0 ∷ []) ∷
+    (at 84 1 0 false 1 0 0 ∷ at 84 1 0 false 1 0 1 ∷ at 84 2 0 false 1 0 0 ∷ at 84 2 0 false 1 0 1 ∷ at 121 1 0 false 1 0 0 ∷ at 121 1 0 false 1 0 1 ∷ at 121 2 0 false 1 0 0 ∷ at 121 2 0 false 1 0 1 ∷ []) ∷
+    (at 88 1 0 false 1 0 0 ∷ at 88 1 0 false 1 0 1 ∷ at 88 2 0 false 1 0 0 ∷ at 88 2 0 false 1 0 1 ∷ []) ∷
+    (at 89 1 0 false 1 0 0 ∷ at 89 1 0 false 1 0 1 ∷ at 89 2 0 false 1 0 0 ∷ at 89 2 0 false 1 0 1 ∷ []) ∷
+    (at 90 1 0 false 1 0 0 ∷ at 90 1 0 false 1 0 1 ∷ at 90 2 0 false 1 0 0 ∷ at 90 2 0 false 1 0 1 ∷ []) ∷
+    (at 91 1 0 true 2 0 0 ∷ at 91 1 0 true 2 0 1 ∷ at 91 2 0 true 2 0 0 ∷ at 91 2 0 true 2 0 1 ∷ at 92 1 0 true 2 0 0 ∷ at 92 1 0 true 2 0 1 ∷ at 92 2 0 true 2 0 0 ∷ at 92 2 0 true 2 0 1 ∷ []) ∷
+    (at 93 1 0 false 1 0 0 ∷ at 93 1 0 false 1 0 1 ∷ at 93 2 0 false 1 0 0 ∷ at 93 2 0 false 1 0 1 ∷ []) ∷
+    (at 94 1 0 false 1 0 0 ∷ at 94 1 0 false 1 0 1 ∷ at 94 2 0 false 1 0 0 ∷ at 94 2 0 false 1 0 1 ∷ []) ∷
+    (at 95 1 0 false 1 0 0 ∷ at 95 1 0 false 1 0 1 ∷ at 95 2 0 false 1 0 0 ∷ at 95 2 0 false 1 0 1 ∷ []) ∷
+    (at 96 1 0 false 1 0 0 ∷ at 96 1 0 false 1 0 1 ∷ at 96 2 0 false 1 0 0 ∷ at 96 2 0 false 1 0 1 ∷ []) ∷
+    (at 97 1 0 false 1 0 0 ∷ at 97 1 0 false 1 0 1 ∷ at 97 2 0 false 1 0 0 ∷ at 97 2 0 false 1 0 1 ∷ []) ∷
+    (at 98 1 0 false 1 0 0 ∷ at 98 1 0 false 1 0 1 ∷ at 98 2 0 false 1 0 0 ∷ at 98 2 0 false 1 0 1 ∷ []) ∷
+    (at 99 1 0 false 1 0 0 ∷ at 99 1 0 false 1 0 1 ∷ at 99 2 0 false 1 0 0 ∷ at 99 2 0 false 1 0 1 ∷ []) ∷
+    (at 100 1 0 false 1 0 0 ∷ at 100 1 0 false 1 0 1 ∷ at 100 2 0 false 1 0 0 ∷ at 100 2 0 false 1 0 1 ∷ []) ∷
+    (at 101 1 0 false 1 0 0 ∷ at 101 1 0 false 1 0 1 ∷ at 101 2 0 false 1 0 0 ∷ at 101 2 0 false 1 0 1 ∷ []) ∷
+    (at 102 1 0 false 1 0 0 ∷ at 102 1 0 false 1 0 1 ∷ at 102 2 0 false 1 0 0 ∷ at 102 2 0 false 1 0 1 ∷ at 102 65 0 false 1 0 0 ∷ at 102 67 0 false 1 0 0 ∷ at 102 68 0 false 1 0 0 ∷ []) ∷
+    (at 103 1 0 false 1 0 0 ∷ at 103 1 0 false 1 0 1 ∷ at 103 2 0 false 1 0 0 ∷ at 103 2 0 false 1 0 1 ∷ []) ∷
+    (at 104 1 0 false 1 0 0 ∷ at 104 1 0 false 1 0 1 ∷ at 104 2 0 false 1 0 0 ∷ at 104 2 0 false 1 0 1 ∷ []) ∷
+    (at 105 1 0 false 1 0 0 ∷ at 105 1 0 false 1 0 1 ∷ at 105 2 0 false 1 0 0 ∷ at 105 2 0 false 1 0 1 ∷ []) ∷
+    (at 106 1 0 false 1 0 0 ∷ at 106 1 0 false 1 0 1 ∷ at 106 2 0 false 1 0 0 ∷ at 106 2 0 false 1 0 1 ∷ []) ∷
+    (at 107 1 0 true 2 0 0 ∷ at 107 1 0 true 2 0 1 ∷ at 107 2 0 true 2 0 0 ∷ at 107 2 0 true 2 0 1 ∷ []) ∷
+    (at 108 1 0 true 2 0 0 ∷ at 108 1 0 true 2 0 1 ∷ at 108 2 0 true 2 0 0 ∷ at 108 2 0 true 2 0 1 ∷ []) ∷
+    (at 109 1 0 true 2 0 0 ∷ at 109 1 0 true 2 0 1 ∷ at 109 2 0 true 2 0 0 ∷ at 109 2 0 true 2 0 1 ∷ []) ∷
+    (at 110 1 0 true 2 0 0 ∷ at 110 1 0 true 2 0 1 ∷ at 110 2 0 true 2 0 0 ∷ at 110 2 0 true 2 0 1 ∷ []) ∷
+    (at 111 1 0 true 2 0 0 ∷ at 111 1 0 true 2 0 1 ∷ at 111 2 0 true 2 0 0 ∷ at 111 2 0 true 2 0 1 ∷ []) ∷
+    (at 112 1 0 false 1 0 0 ∷ at 112 1 0 false 1 0 1 ∷ at 112 2 0 false 1 0 0 ∷ at 112 2 0 false 1 0 1 ∷ []) ∷
+    (at 113 1 0 false 0 0 0 ∷ at 113 1 0 false 1 0 0 ∷ at 113 1 0 false 1 0 1 ∷ at 113 2 0 false 0 0 0 ∷ at 113 2 0 false 1 0 0 ∷ at 113 2 0 false 1 0 1 ∷ at 123 1 0 false 0 0 0 ∷ at 123 1 0 false 1 0 0 ∷ at 123 1 0 false 1 0 1 ∷ at 123 2 0 false 0 0 0 ∷ at 123 2 0 false 1 0 0 ∷ at 123 2 0 false 1 0 1 ∷ []) ∷
+    (at 43 1 63 false 3 0 0 ∷ at 43 1 63 false 3 0 1 ∷ at 43 1 64 false 3 0 0 ∷ at 43 1 64 false 3 0 1 ∷ at 43 2 63 false 3 0 0 ∷ at 43 2 63 false 3 0 1 ∷ at 43 2 64 false 3 0 0 ∷ at 43 2 64 false 3 0 1 ∷ at 44 1 63 false 3 0 0 ∷ at 44 1 63 false 3 0 1 ∷ at 44 1 64 false 3 0 0 ∷ at 44 1 64 false 3 0 1 ∷ at 44 2 63 false 3 0 0 ∷ at 44 2 63 false 3 0 1 ∷ at 44 2 64 false 3 0 0 ∷ at 44 2 64 false 3 0 1 ∷ at 114 1 63 false 3 0 0 ∷ at 114 1 63 false 3 0 1 ∷ at 114 1 64 false 3 0 0 ∷ at 114 1 64 false 3 0 1 ∷ at 114 2 63 false 3 0 0 ∷ at 114 2 63 false 3 0 1 ∷ at 114 2 64 false 3 0 0 ∷ at 114 2 64 false 3 0 1 ∷ at 115 1 63 false 3 0 0 ∷ at 115 1 63 false 3 0 1 ∷ at 115 1 64 false 3 0 0 ∷ at 115 1 64 false 3 0 1 ∷ at 115 2 63 false 3 0 0 ∷ at 115 2 63 false 3 0 1 ∷ at 115 2 64 false 3 0 0 ∷ at 115 2 64 false 3 0 1 ∷ []) ∷
+    (at 116 1 0 false 1 0 0 ∷ at 116 1 0 false 1 0 1 ∷ at 116 2 0 false 1 0 0 ∷ at 116 2 0 false 1 0 1 ∷ []) ∷
+    (at 117 1 0 false 1 0 0 ∷ at 117 1 0 false 1 0 1 ∷ at 117 2 0 false 1 0 0 ∷ at 117 2 0 false 1 0 1 ∷ []) ∷
+    (at 118 1 0 false 1 0 0 ∷ at 118 1 0 false 1 0 1 ∷ at 118 2 0 false 1 0 0 ∷ at 118 2 0 false 1 0 1 ∷ []) ∷
+    (at 119 1 0 false 1 0 0 ∷ at 119 1 0 false 1 0 1 ∷ at 119 2 0 false 1 0 0 ∷ at 119 2 0 false 1 0 1 ∷ []) ∷
+    (at 127 1 0 false 1 0 0 ∷ at 132 1 0 false 1 0 0 ∷ at 132 1 0 false 1 0 1 ∷ at 132 2 0 false 1 0 0 ∷ at 132 2 0 false 1 0 1 ∷ []) ∷
     (at 36 1 65 true 2 0 3 ∷ at 36 2 65 true 2 0 3 ∷ []) ∷
     (at 53 1 66 false 3 0 3 ∷ at 53 2 66 false 3 0 3 ∷ at 125 1 66 false 3 0 3 ∷ at 125 2 66 false 3 0 3 ∷ []) ∷
-    (at 128 1 0 false 1 0 0 ∷ at 128 2 0 false 1 0 0 ∷ at 128 1 0 false 1 0 1 ∷ at 128 2 0 false 1 0 1 ∷ []) ∷
-    (at 131 1 0 false 1 0 0 ∷ at 131 2 0 false 1 0 0 ∷ at 131 1 0 false 1 0 1 ∷ at 131 2 0 false 1 0 1 ∷ []) ∷
-    (at 133 1 0 false 1 0 0 ∷ at 133 2 0 false 1 0 0 ∷ at 133 1 0 false 1 0 1 ∷ at 133 2 0 false 1 0 1 ∷ []) ∷
-    (at 135 1 0 false 1 0 0 ∷ at 135 2 0 false 1 0 0 ∷ at 135 1 0 false 1 0 1 ∷ at 135 2 0 false 1 0 1 ∷ []) ∷
-    (at 137 1 0 false 1 0 0 ∷ at 138 1 0 false 1 0 0 ∷ at 137 2 0 false 1 0 0 ∷ at 138 2 0 false 1 0 0 ∷ at 137 1 0 false 1 0 1 ∷ at 138 1 0 false 1 0 1 ∷ at 137 2 0 false 1 0 1 ∷ at 138 2 0 false 1 0 1 ∷ []) ∷
-    (at 139 1 0 false 1 0 0 ∷ at 139 2 0 false 1 0 0 ∷ at 139 1 0 false 1 0 1 ∷ at 139 2 0 false 1 0 1 ∷ []) ∷
-    (at 140 1 0 false 1 0 0 ∷ at 140 2 0 false 1 0 0 ∷ at 140 1 0 false 1 0 1 ∷ at 140 2 0 false 1 0 1 ∷ []) ∷
-    (at 141 1 0 false 1 0 0 ∷ at 141 2 0 false 1 0 0 ∷ at 141 1 0 false 1 0 1 ∷ at 141 2 0 false 1 0 1 ∷ []) ∷
-    (at 142 1 0 false 1 0 0 ∷ at 142 2 0 false 1 0 0 ∷ at 142 1 0 false 1 0 1 ∷ at 142 2 0 false 1 0 1 ∷ []) ∷
-    (at 143 1 0 false 1 0 0 ∷ at 143 2 0 false 1 0 0 ∷ at 143 1 0 false 1 0 1 ∷ at 143 2 0 false 1 0 1 ∷ []) ∷
-    (at 36 1 67 true 3 0 0 ∷ at 36 1 68 true 3 0 0 ∷ at 36 2 67 true 3 0 0 ∷ at 36 2 68 true 3 0 0 ∷ at 102 1 67 false 3 0 0 ∷ at 102 1 68 false 3 0 0 ∷ at 102 2 67 false 3 0 0 ∷ at 102 2 68 false 3 0 0 ∷ at 36 1 67 true 3 0 1 ∷ at 36 1 68 true 3 0 1 ∷ at 36 2 67 true 3 0 1 ∷ at 36 2 68 true 3 0 1 ∷ at 102 1 67 false 3 0 1 ∷ at 102 1 68 false 3 0 1 ∷ at 102 2 67 false 3 0 1 ∷ at 102 2 68 false 3 0 1 ∷ []) ∷
+    (at 128 1 0 false 1 0 0 ∷ at 128 1 0 false 1 0 1 ∷ at 128 2 0 false 1 0 0 ∷ at 128 2 0 false 1 0 1 ∷ []) ∷
+    (at 131 1 0 false 1 0 0 ∷ at 131 1 0 false 1 0 1 ∷ at 131 2 0 false 1 0 0 ∷ at 131 2 0 false 1 0 1 ∷ []) ∷
+    (at 133 1 0 false 1 0 0 ∷ at 133 1 0 false 1 0 1 ∷ at 133 2 0 false 1 0 0 ∷ at 133 2 0 false 1 0 1 ∷ []) ∷
+    (at 135 1 0 false 1 0 0 ∷ at 135 1 0 false 1 0 1 ∷ at 135 2 0 false 1 0 0 ∷ at 135 2 0 false 1 0 1 ∷ []) ∷
+    (at 137 1 0 false 1 0 0 ∷ at 137 1 0 false 1 0 1 ∷ at 137 2 0 false 1 0 0 ∷ at 137 2 0 false 1 0 1 ∷ at 138 1 0 false 1 0 0 ∷ at 138 1 0 false 1 0 1 ∷ at 138 2 0 false 1 0 0 ∷ at 138 2 0 false 1 0 1 ∷ []) ∷
+    (at 139 1 0 false 1 0 0 ∷ at 139 1 0 false 1 0 1 ∷ at 139 2 0 false 1 0 0 ∷ at 139 2 0 false 1 0 1 ∷ []) ∷
+    (at 140 1 0 false 1 0 0 ∷ at 140 1 0 false 1 0 1 ∷ at 140 2 0 false 1 0 0 ∷ at 140 2 0 false 1 0 1 ∷ []) ∷
+    (at 141 1 0 false 1 0 0 ∷ at 141 1 0 false 1 0 1 ∷ at 141 2 0 false 1 0 0 ∷ at 141 2 0 false 1 0 1 ∷ []) ∷
+    (at 142 1 0 false 1 0 0 ∷ at 142 1 0 false 1 0 1 ∷ at 142 2 0 false 1 0 0 ∷ at 142 2 0 false 1 0 1 ∷ []) ∷
+    (at 143 1 0 false 1 0 0 ∷ at 143 1 0 false 1 0 1 ∷ at 143 2 0 false 1 0 0 ∷ at 143 2 0 false 1 0 1 ∷ []) ∷
+    (at 36 1 67 true 3 0 0 ∷ at 36 1 67 true 3 0 1 ∷ at 36 1 68 true 3 0 0 ∷ at 36 1 68 true 3 0 1 ∷ at 36 2 67 true 3 0 0 ∷ at 36 2 67 true 3 0 1 ∷ at 36 2 68 true 3 0 0 ∷ at 36 2 68 true 3 0 1 ∷ at 102 1 67 false 3 0 0 ∷ at 102 1 67 false 3 0 1 ∷ at 102 1 68 false 3 0 0 ∷ at 102 1 68 false 3 0 1 ∷ at 102 2 67 false 3 0 0 ∷ at 102 2 67 false 3 0 1 ∷ at 102 2 68 false 3 0 0 ∷ at 102 2 68 false 3 0 1 ∷ []) ∷
     ([]) ∷
     (at 102 1 65 false 1 0 3 ∷ at 102 2 65 false 1 0 3 ∷ []) ∷
     []

@@ -4,7 +4,8 @@ use Rattle.seg_data.specs.Table.{table}
 use Rattle.seg_data.specs.declared.provider.ComplexScript.{ComplexScript}
 use Rattle.seg_machine.specs.Machine.{Machine, Replacement, machine, tailoring, with_tailoring}
 use Rattle.seg_lines.specs.Options.{MachineTailorings}
-use Rattle.icu_segmenter_uax14.specs.declared.data.TheConstants.{RANGES, OTHER, STATES, TRANSITIONS, SHIFT, MAP, BREAK_ALL, BREAK_ALL_REPLACED, KEEP_ALL, KEEP_ALL_REPLACED, JA_LOOSE, LOOSE, JA_NORMAL, NORMAL, JA}
+use Rattle.icu_segmenter_uax14.specs.declared.states.TheConstants.{STATES, TRANSITIONS}
+use Rattle.icu_segmenter_uax14.specs.declared.data.TheConstants.{RANGES, OTHER, SHIFT, MAP, BREAK_ALL, BREAK_ALL_REPLACED, KEEP_ALL, KEEP_ALL_REPLACED, JA_LOOSE, LOOSE, JA_NORMAL, NORMAL, JA}
 
 unfoldable pub line_machine : Machine
 line_machine = machine (table RANGES OTHER) STATES TRANSITIONS 1 SHIFT MAP

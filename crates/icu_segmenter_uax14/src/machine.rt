@@ -5,9 +5,10 @@ ghost use Rattle.icu_segmenter_uax14.specs.Lines.{line_machine, line_tailorings}
 
 use crate::data::{
     BREAK_ALL, BREAK_ALL_REPLACED, JA, JA_LOOSE, JA_NORMAL, KEEP_ALL, KEEP_ALL_REPLACED, LOOSE,
-    MAP, NORMAL, OTHER, RANGES, SHIFT, STATES, TRANSITIONS,
+    MAP, NORMAL, OTHER, RANGES, SHIFT,
 };
 use crate::parts::{machine_of, tailoring_of};
+use crate::states::{STATES, TRANSITIONS};
 use seg_data::provider::DataError;
 use seg_lines::provider::LineTailorings;
 use seg_machine::provider::SegmenterStateMachine;

@@ -6,9 +6,8 @@ import sys
 HERE = os.path.dirname(os.path.abspath(__file__))
 sys.path.append(os.path.join(HERE, "..", "..", "seg_rules", "generate"))
 from automata import Rules  # noqa: E402
-from compiler import ACCEPT, Machine  # noqa: E402
 from instance import Instance  # noqa: E402
-from relation import Relation  # noqa: E402
+from relation import ACCEPT, Machine, Relation  # noqa: E402
 from written import Classes  # noqa: E402
 
 # The module of each kind, and which of its symbols' properties each word of its classes is of.

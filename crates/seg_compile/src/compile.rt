@@ -3,7 +3,7 @@ ghost use Rattle.std.specs.Prelude.{IfOk};
 ghost use Rattle.seg_rules.specs.Given.{rules_of};
 ghost use Rattle.seg_rules.specs.Passed.{FindsPlaces};
 
-use crate::certified::is_certified;
+pub use crate::certified::Certified;
 use crate::dues::VERDICTS;
 use crate::fault::{Fault, Why};
 use crate::given::Given;
@@ -92,26 +92,39 @@ pub fn compile(
 ) -> Result<SegmenterStateMachine, CompileError>
     ensures { IfOk result (λ machine. FindsPlaces (rules_of rules.now) machine) }
 {
+    let found = compile_certified(alloc, rules, symbols, characters)?;
+    Ok(found.into_machine())
+}
+
+/// The same machine with the certificate by which it passed the check. It fails as `compile` does.
+pub fn compile_certified(
+    alloc: Global,
+    rules: &Rules<'_>,
+    symbols: usize,
+    characters: Characters,
+) -> Result<Certified, CompileError>
+    ensures { IfOk result (λ found. FindsPlaces (rules_of rules.now) found.machine) }
+{
     let given = Given {
         alloc,
         rules,
         symbols: symbols_of(rules, symbols)?,
     };
     let tables = Tables::new(given)?;
-    let search = searched(given, &tables)?;
-    let parts = smallest(given, &search)?;
+    let parts = searched(given, &tables)?;
     let truths = related(given, &tables, &parts)?;
     let machine = SegmenterStateMachine::try_from_parts(
         characters.symbols,
         parts.states,
         parts.transitions,
-        search.names.len().min(1),
+        parts.lookaheads,
         characters.pseudo_symbol_shift,
         characters.pseudo_symbol_map,
     )
     .map_err(CompileError::Data)?;
-    if is_certified(given, &machine, &tables, truths.as_slice())? {
-        Ok(machine)
+    let found = Certified::new(given, machine, tables, truths.as_slice())?;
+    if found.passes(given)? {
+        Ok(found)
     } else {
         Err(CompileError::Unchecked)
     }
@@ -138,10 +151,10 @@ fn symbols_of(rules: &Rules<'_>, symbols: usize) -> Result<u8, CompileError> {
 }
 
 // Finds the states.
-fn searched<'a>(given: Given<'a>, tables: &'a Tables) -> Result<Search<'a>, CompileError> {
+fn searched(given: Given<'_>, tables: &Tables) -> Result<Parts, CompileError> {
     let mut search = Search::new(given, tables)?;
     match search.run() {
-        Ok(()) => Ok(search),
+        Ok(()) => Ok(smallest(given, &search)?),
         Err(fault) => Err(refusal(given, tables, &search.records, fault)),
     }
 }

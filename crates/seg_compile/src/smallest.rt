@@ -12,12 +12,13 @@ use std::alloc::AllocError;
 // A machine has at most 255 states.
 const MAX_STATES: usize = 255;
 
-/// The states and the transitions of a machine.
+/// The states, the transitions and the number of lookaheads of a machine.
 #[derive(Drop)]
 pub(crate) struct Parts {
     pub(crate) states: Vec<(Acceptance, Option<Lookahead>)>,
     /// By each symbol from the end, 0, on, where it leads from each state.
     pub(crate) transitions: Vec<State>,
+    pub(crate) lookaheads: usize,
 }
 
 /// The machine of the states that were found.
@@ -83,6 +84,7 @@ fn parts_of(given: Given<'_>, search: &Search<'_>, groups: &[u16]) -> Result<Par
     let mut parts = Parts {
         states: Vec::new(given.alloc),
         transitions: Vec::new(given.alloc),
+        lookaheads: search.names.len().min(1),
     };
     let mut firsts = Vec::new(given.alloc);
     for state in 0..NOWHERE {

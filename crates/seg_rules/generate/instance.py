@@ -2,8 +2,7 @@
 import re
 
 from automata import MARKS
-from compiler import CONDITION
-from relation import LOST, NEWEST, OLDER
+from relation import CONDITION, LOST, NEWEST, OLDER
 from written import HALF
 
 # What the tests unfold.

@@ -1,5 +1,5 @@
-"""The check of a machine: a relation of configurations, which say what may be true within a scan. It uses the automata of the rules and
-nothing of the compiler; the proof checks the relation again.
+"""The check of a machine: a relation of configurations, which say what may be true within a scan. It uses the automata of the rules; the
+proof checks the relation again.
 
 A configuration is (before, doubt, state, older, newest, last, named), where the scan of a text that begins at a boundary stands:
   before  the number of what stands before the place
@@ -11,9 +11,16 @@ A configuration is (before, doubt, state, older, newest, last, named), where the
   named   the place that was named last, or None
 A place is OLDER, NEWEST, LOST, which is no boundary, or END."""
 from automata import JOINED, is_open
-from compiler import CONDITION
 
+ACCEPT, CONDITION = "accept", "condition"
 OLDER, NEWEST, LOST, END = "older", "newest", "lost", "end"
+
+
+class Machine:
+    """accepts[q] is None, (ACCEPT, status, lookahead or None) or (CONDITION, status, lookahead); nexts[q][symbol] is a state or None."""
+
+    def __init__(self, accepts, nexts):
+        self.accepts, self.nexts = accepts, nexts
 
 
 class Refused(Exception):

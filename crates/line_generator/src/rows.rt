@@ -7,6 +7,25 @@ use seg_rules::rules::{Row, Rules};
 /// How many symbols there are beside the end of a text.
 pub(crate) const SYMBOLS: usize = 72;
 
+/// The properties of each symbol; 0 is the edge of a text.
+#[rattlefmt::skip]
+pub(crate) static NAMES: [&str; 73] = [
+    "Unknown, Edge", "Alphabetic", "Aksara", "Alphabetic, East Asian", "Alphabetic, Unassigned", "Alphabetic, Dotted",
+    "AksaraPrebase", "AksaraStart", "BreakBoth", "BreakAfter", "BreakAfter, East Asian", "BreakAfter, Loose",
+    "BreakBefore", "MandatoryBreak", "ContingentBreak", "ClosePunctuation", "ClosePunctuation, East Asian",
+    "CombiningMark", "CloseParenthesis", "CarriageReturn", "EBase", "EBase, East Asian", "EModifier, East Asian",
+    "Exclamation", "Exclamation, East Asian", "Glue", "Glue, East Asian", "H2, East Asian", "H3, East Asian",
+    "UnambiguousHyphen", "UnambiguousHyphen, Loose", "HebrewLetter", "Hyphen", "Ideographic",
+    "Ideographic, East Asian", "Ideographic, Unassigned", "Ideographic, Kept", "Ideographic, East Asian, Kept",
+    "Inseparable", "Inseparable, East Asian", "Inseparable, Loose", "Inseparable, East Asian, Loose", "InfixNumeric",
+    "Jl, East Asian", "Jt", "Jv", "LineFeed", "NextLine", "Nonstarter", "Nonstarter, East Asian",
+    "Nonstarter, East Asian, Kept", "Numeric", "OpenPunctuation", "OpenPunctuation, East Asian", "PostfixNumeric",
+    "PostfixNumeric, East Asian", "PostfixNumeric, Loose", "PostfixNumeric, East Asian, Loose", "PrefixNumeric",
+    "PrefixNumeric, East Asian", "PrefixNumeric, Loose", "PrefixNumeric, East Asian, Loose", "Quotation",
+    "Quotation, Opening", "Quotation, Closing", "RegionalIndicator", "Space", "BreakSymbols", "ViramaFinal", "Virama",
+    "WordJoiner", "ZWSpace", "Zwj",
+];
+
 /// The rules.
 #[rattlefmt::skip]
 pub(crate) static RULES: Rules<'static> = Rules {

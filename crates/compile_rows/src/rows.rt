@@ -1,4 +1,0 @@
-//! Rules as rows.
-
-pub(crate) mod lines;
-pub(crate) mod refused;
