@@ -21,6 +21,11 @@ impl ReadsUnits<u8> for Latin1 {
     ghost text = { latin1_from };
 
     #[inline(always)]
+    fn read_single(units: &[u8]) -> Option<u8> {
+        Some(units[0])
+    }
+
+    #[inline(always)]
     fn read_first(units: &[u8]) -> (usize, u8) {
         (1, units[0])
     }

@@ -1,5 +1,5 @@
 //! A cursor over a slice of units, for each encoding that reads them.
-ghost use Rattle.std.specs.Prelude.{◌≡◌, ◌≤◌, ◌<◌, ℕ, ⊤, drop, length, ◌+◌, ◌==◌, List};
+ghost use Rattle.std.specs.Prelude.{◌≡◌, ◌≤◌, ◌<◌, ℕ, ⊤, drop, length, ◌+◌, ◌==◌, List, IfSome};
 ghost use Rattle.std.specs.Iterator.{YieldsFirst, item_count, MakesProgress};
 ghost use Rattle.seg_text.specs.Items.{Rest, GoesOn, Text};
 ghost use Rattle.seg_text.specs.Lemmas.Encodings.{IsEncoding, text-rises};
@@ -26,6 +26,11 @@ pub trait ReadsUnits<U: Copy>: Sealed {
 
     /// The text of some units from a place on.
     ghost text: { ℕ → List U → Text };
+
+    /// The character of the first item, where its first unit tells that it takes no other.
+    fn read_single(units: &[U]) -> Option<Self::Character>
+        requires { 0 < length units.now }
+        ensures { IfSome result (λ character. (1, character) ≡ read units.now) };
 
     /// Reads the first item: how many units it takes, and its character.
     fn read_first(units: &[U]) -> (usize, Self::Character)
@@ -120,7 +125,13 @@ impl<'a, U: Copy, E: ReadsUnits<U>> Iterator for Indices<'a, U, E> {
     {
         let place = self.front_offset;
         if place < self.units.len() {
-            let (taken, character) = E::read_first(&self.units[place..]);
+            let units = &self.units[place..];
+            // An item of one unit goes its own way, so that what comes after needn't ask again which it is.
+            if let Some(character) = E::read_single(units) {
+                self.front_offset = place + 1;
+                return Some((place, character));
+            }
+            let (taken, character) = E::read_first(units);
             self.front_offset = place + taken;
             Some((place, character))
         } else {

@@ -25,6 +25,16 @@ impl ReadsUnits<u16> for Utf16 {
     ghost text = { utf16_from };
 
     #[inline(always)]
+    fn read_single(units: &[u16]) -> Option<u32> {
+        let first = units[0];
+        if first & 0xFC00 != 0xD800 {
+            Some(first as u32)
+        } else {
+            None
+        }
+    }
+
+    #[inline(always)]
     fn read_first(units: &[u16]) -> (usize, u32) {
         let first = units[0];
         if first & 0xFC00 != 0xD800 {

@@ -29,6 +29,16 @@ impl ReadsUnits<u8> for PotentiallyIllFormedUtf8 {
     ghost text = { utf8_from };
 
     #[inline(always)]
+    fn read_single(units: &[u8]) -> Option<char> {
+        let first = units[0];
+        if first < 0x80 {
+            Some(first as char)
+        } else {
+            None
+        }
+    }
+
+    #[inline(always)]
     fn read_first(units: &[u8]) -> (usize, char) {
         let first = units[0];
         if first < 0x80 {
