@@ -1,13 +1,13 @@
 //! What comes after an element of a text: a boundary, none, or a run of complex elements.
 
-ghost use Rattle.std.specs.Prelude.{◌≡◌, ◌<◌, ℕ, List, ◌∷◌};
+ghost use Rattle.std.specs.Prelude.{◌≡◌, ◌<◌, ℕ, List, ◌∷◌, IfSome};
 ghost use Rattle.seg_pairs.specs.PairTable.{PairTable};
 ghost use Rattle.seg_pairs.specs.Elements.{classes_of};
-ghost use Rattle.seg_pairs.specs.Verdict.{Lands, LandsOrWalks, EndsIn, IsStepBelow, IsOutcomeBelow, verdict, named_verdict, complex_verdict, chain, IsForward};
+ghost use Rattle.seg_pairs.specs.Verdict.{IsStop, Lands, LandsOrWalks, EndsIn, IsStepBelow, IsOutcomeBelow, verdict, named_verdict, complex_verdict, chain, IsForward};
 
 use crate::elements::{Element, Elements};
 use crate::provider::{BreakState, RuleBreakData};
-use crate::walk::{Stop, walk_apart};
+use crate::walk::{Stop, walk, walk_apart};
 
 /// What a verdict on an element leads to.
 #[derive(Clone, Copy, Debug)]
@@ -104,7 +104,8 @@ impl<'data> Verdicts for TableVerdicts<'data> {
         right: Element,
         rest: &mut E,
     ) -> Step {
-        walk_step(self.table, state, left, right, rest)
+        let stop = walk_apart(self.table, state, left, right, rest);
+        landing(stop, rest)
     }
 
     fn facts(&self) {}
@@ -148,7 +149,8 @@ impl<'data> Verdicts for ComplexVerdicts<'data> {
         right: Element,
         rest: &mut E,
     ) -> Step {
-        walk_step(self.table, state, left, right, rest)
+        let stop = walk(self.table, state, left, right, rest);
+        landing(stop, rest)
     }
 
     fn facts(&self) {}
@@ -203,24 +205,17 @@ pub fn pair_step(table: &RuleBreakData, left: Element, right: Element) -> Step
     }
 }
 
-/// The step where the entry of the two names a state.
+/// The step that a walk leads to where it stops. `rest` has the elements after the one before which it stops.
 #[inline(always)]
-fn walk_step<E: Elements>(
-    table: &RuleBreakData,
-    state: u8,
-    left: Element,
-    right: Element,
-    rest: &mut E,
-) -> Step
-    requires state { state < table.now.property_count }
-    requires right { right.class < table.now.property_count }
-    requires table { E.table rest.old ≡ table.now }
-    ensures lands { Lands (named_verdict table.now state left.class (classes_of (left ∷ right ∷ E.left rest.old))) (left ∷ right ∷ E.left rest.old) result (E.left rest.new) }
-    ensures class { IsStepBelow table.now.property_count result }
-    ensures end { E.end rest.new ≡ E.end rest.old }
-    ensures table { E.table rest.new ≡ E.table rest.old }
+fn landing<E: Elements>(stop: Stop<E>, rest: &mut E) -> Step
+    ensures lands { (table : PairTable) (start : ℕ) (left right : Element) (elements : List Element)
+        → IsStop table start (left ∷ right ∷ elements) stop.state stop.entry stop.before stop.next (E.left rest.old)
+        stop.saved_before stop.saved (E.left stop.saved_rest) stop.saved_class
+        → Lands (named_verdict table start left.class (classes_of (left ∷ right ∷ elements))) (left ∷ right ∷ elements) result (E.left rest.new) }
+    ensures class { (count : ℕ) → IfSome stop.next (λ next. next.class < count) → stop.saved.class < count → IsStepBelow count result }
+    ensures end { E.end stop.saved_rest ≡ E.end rest.old → E.end rest.new ≡ E.end rest.old }
+    ensures table { E.table stop.saved_rest ≡ E.table rest.old → E.table rest.new ≡ E.table rest.old }
 {
-    let stop = walk_apart(table, state, left, right, rest);
     let Stop {
         state,
         entry,
