@@ -254,3 +254,18 @@ pub engine-left : (t : PairTable) (elements : List Element) (end class : ℕ) (s
     → AreLeft started (place_at elements end) end (Left started t elements end class).left
 engine-left t elements end class started rises =
     rw (← class-start elements end) (stretches-left (class_stretch t) (class-within t) started (class_text elements end) (status_of t.rule_status_table class) rises)
+
+-- an element without its code point says the same of places and classes
+
+abbrev AreAlike : Option Element → Option Element → Type 0
+AreAlike next bare = (elements : List Element) (end : ℕ) → class_text (onto bare elements) end ≡ class_text (onto next elements) end
+
+pub same-rising : (next bare : Option Element) (elements : List Element) (end : ℕ) → AreAlike next bare
+    → IsRising (class_text (onto next elements) end).items end → IsRising (class_text (onto bare elements) end).items end
+same-rising next bare elements end alike rises = subst (λ (text : Text). IsRising text.items end) (sym (alike elements end)) rises
+
+pub same-before : (next bare : Option Element) (t : PairTable) (elements : List Element) (end class : ℕ) → AreAlike next bare
+    → (after : Remainder) (started : Bool) (place : ℕ)
+    → Gives (Left started t (onto bare elements) end class) after place → Gives (Left started t (onto next elements) end class) after place
+same-before next bare t elements end class alike after started place gives =
+    subst (λ (text : Text). Gives (remainder started (class_stretch t) text (status_of t.rule_status_table class)) after place) (alike elements end) gives

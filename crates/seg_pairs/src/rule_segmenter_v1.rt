@@ -1,12 +1,12 @@
 //! Boundaries by a pair table.
 
-ghost use Rattle.std.specs.Prelude.{◌≡◌, ⊤};
+ghost use Rattle.std.specs.Prelude.{◌≡◌, ◌<◌, ⊤, ℕ, None, List, IfSome};
 ghost use Rattle.std.specs.Iterator.{YieldsFirst, MakesProgress, item_count};
 ghost use Rattle.seg_text.specs.Items.{start_of};
 ghost use Rattle.seg_text.specs.Boundaries.{GivesNext, IsCover, boundaries_in, offsets_left};
 ghost use Rattle.seg_pairs.specs.PairData.{pair_table_of, override_of};
 ghost use Rattle.seg_pairs.specs.Breaks.{status_of, table_boundaries};
-ghost use Rattle.seg_pairs.specs.Elements.{onto, place_at};
+ghost use Rattle.seg_pairs.specs.Elements.{class_text, onto, place_at};
 
 use crate::elements::{Element, Elements, Items};
 use crate::pair_data::PairDataBorrowed;
@@ -20,7 +20,7 @@ use std::marker::Model;
 /// lead to from the one before. For tables by which no run begins.
 #[derive(Debug, Drop)]
 pub struct RuleBreakIterator<'data, I: Cursor> {
-    // The first element after the boundary that was given last.
+    // The first element after the boundary that was given last. Only its class and its place are asked for.
     next: Option<Element>,
     // The elements after that one.
     rest: Items<'data, I>,
@@ -105,7 +105,7 @@ impl<'data, I: Cursor> Iterator for RuleBreakIterator<'data, I> {
             self.started = true;
             return Some(place_before(self.next, &self.rest));
         }
-        let Some(left) = self.next else {
+        let Some(left) = placed(self.next) else {
             self.class = 0;
             return None;
         };
@@ -116,10 +116,10 @@ impl<'data, I: Cursor> Iterator for RuleBreakIterator<'data, I> {
             Outcome::Break(class, next) => {
                 self.class = class;
                 self.next = next;
+                Some(place_before(next, &self.rest))
             }
             Outcome::Run(_first, _second) => unreachable!(),
         }
-        Some(place_before(self.next, &self.rest))
     }
 
     fn size_hint(&self) -> (usize, Option<usize>) {
@@ -129,6 +129,25 @@ impl<'data, I: Cursor> Iterator for RuleBreakIterator<'data, I> {
             end: self.rest.cursor.end(),
         };
         reach.size_hint()
+    }
+}
+
+/// The same element by its class and its place, where there is one: one item, whose code point no boundary has to keep.
+#[inline(always)]
+fn placed(next: Option<Element>) -> Option<Element>
+    ensures text { (elements : List Element) (end : ℕ) → class_text (onto result elements) end ≡ class_text (onto next elements) end }
+    ensures none { result ≡ None → next ≡ None }
+    ensures class { (count : ℕ) → IfSome next (λ next. next.class < count) → IfSome result (λ next. next.class < count) }
+{
+    match next {
+        Some(Element { class, place, .. }) => Some(Element {
+            class,
+            is_joined: false,
+            is_single: true,
+            code_point: 0,
+            place,
+        }),
+        None => None,
     }
 }
 
