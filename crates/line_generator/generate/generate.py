@@ -44,7 +44,8 @@ def text(rules):
              "/// How many symbols there are beside the end of a text.", f"pub(crate) const SYMBOLS: usize = {rules.last};", "",
              "/// The properties of each symbol; 0 is the edge of a text.", "#[rattlefmt::skip]",
              f"pub(crate) static NAMES: [&str; {rules.last + 1}] = [", *lines_of(f'"{name_of(it)}"' for it in rules.properties), "];", "",
-             "/// The rules.", "#[rattlefmt::skip]", "pub(crate) static RULES: Rules<'static> = Rules {",
+             "/// The rules. A function that asks here isn't proved over all of them.", "pub(crate) fn rules() -> &'static Rules<'static> {",
+             "    &RULES", "}", "", "#[rattlefmt::skip]", "static RULES: Rules<'static> = Rules {",
              *field("above", rows(rules.above)), *field("below", rows(rules.below)),
              f"    has_marks: {'true' if rules.has_marks else 'false'},", f"    marks: {class_of(rules.marks)},", f"    bare: {class_of(rules.bare)},",
              f"    alone: {rules.alone},", f"    at_end: {rules.at_end},", "};", ""]

@@ -3,7 +3,7 @@
 use crate::claims::{CHECK_TESTS, RULE_TESTS, push_claims};
 use crate::page::{Page, push_words};
 use crate::plan::{push_plan, push_relation};
-use crate::rows::RULES;
+use crate::rows::rules;
 use crate::rules::push_rules;
 use crate::tables::{PART, Table, push_dues, push_parts, push_reads};
 use seg_compile::compile::Certified;
@@ -43,7 +43,7 @@ pub(crate) fn certificate(alloc: Global, lines: &Certified) -> Result<String, Al
 fn push_body(alloc: Global, lines: &Certified, page: &mut Page) -> Result<(), AllocError> {
     let befores = lines.befores(alloc)?;
     let parts = befores.len().div_ceil(PART);
-    push_rules(page, &RULES)?;
+    push_rules(page, rules())?;
     push_parts(page, Table::Befores, befores.as_slice())?;
     push_parts(page, Table::Moves, befores.as_slice())?;
     push_parts(page, Table::Owes, befores.as_slice())?;

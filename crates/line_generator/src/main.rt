@@ -16,7 +16,7 @@ mod tables;
 use anyhow::{Context, Result, bail};
 use arrays::arrays;
 use certificate::certificate;
-use rows::{RULES, SYMBOLS};
+use rows::{SYMBOLS, rules};
 use seg_compile::compile::{Certified, Characters, compile_certified};
 use seg_data::provider::ClassTable;
 use std::alloc::Global;
@@ -60,16 +60,16 @@ fn text_of(alloc: Global, word: &str) -> Result<String> {
 // The machine of lines. Its symbols of characters are others than in `icu_segmenter_uax14`, and aren't written.
 fn lines(alloc: Global) -> Result<Certified> {
     let characters = Characters {
-        symbols: ClassTable::try_from_ranges(Vec::new(alloc), RULES.alone)?,
+        symbols: ClassTable::try_from_ranges(Vec::new(alloc), rules().alone)?,
         pseudo_symbol_shift: u8::MAX,
         pseudo_symbol_map: Vec::new(alloc),
     };
-    Ok(compile_certified(alloc, &RULES, SYMBOLS, characters)?)
+    Ok(compile_certified(alloc, rules(), SYMBOLS, characters)?)
 }
 
 // How large the rules, the machine and its certificate are.
 fn sizes(alloc: Global, lines: &Certified) -> Result<String> {
-    let rows = RULES.above.len().saturating_add(RULES.below.len());
+    let rows = rules().above.len().saturating_add(rules().below.len());
     let befores = lines.befores(alloc)?.len();
     let states = lines.machine().states().len();
     let lookaheads = lines.machine().num_lookaheads();

@@ -26,9 +26,13 @@ pub(crate) static NAMES: [&str; 73] = [
     "WordJoiner", "ZWSpace", "Zwj",
 ];
 
-/// The rules.
+/// The rules. A function that asks here isn't proved over all of them.
+pub(crate) fn rules() -> &'static Rules<'static> {
+    &RULES
+}
+
 #[rattlefmt::skip]
-pub(crate) static RULES: Rules<'static> = Rules {
+static RULES: Rules<'static> = Rules {
     above: &[
         Row { left: &[(0x2000, One)], right: &[], verdict: 2 },
         Row { left: &[(0x80000, One)], right: &[(0x400000000000, One)], verdict: 0 },

@@ -1,7 +1,7 @@
 //! What may stand before places, and what may be owed to them.
 
 use crate::page::Page;
-use crate::rows::{RULES, SYMBOLS};
+use crate::rows::{SYMBOLS, rules};
 use crate::rules::push_pattern;
 use seg_rules::certificate::{Before, Due, Entry};
 use seg_rules::rules::Row;
@@ -103,9 +103,9 @@ fn push_moves(page: &mut Page, moves: &[u16]) -> Result<(), AllocError> {
 
 fn push_before(page: &mut Page, before: &Before<'_>) -> Result<(), AllocError> {
     page.push("record { above = ")?;
-    push_lives(page, RULES.above, before.above)?;
+    push_lives(page, rules().above, before.above)?;
     page.push("; below = ")?;
-    push_lives(page, RULES.below, before.below)?;
+    push_lives(page, rules().below, before.below)?;
     let glues = before.glues;
     write!(page.text, "; glues = {glues} }}")
 }
@@ -145,7 +145,11 @@ fn push_entries(page: &mut Page, entries: &[Entry]) -> Result<(), AllocError> {
 
 // Writes the right pattern of a row above that of marks, or below, as far as it is read.
 fn push_entry(page: &mut Page, is_below: bool, number: u8, live: u32) -> Result<(), AllocError> {
-    let rows = if is_below { RULES.below } else { RULES.above };
+    let rows = if is_below {
+        rules().below
+    } else {
+        rules().above
+    };
     let Some(row) = rows.get(usize::from(number)) else {
         return Ok(());
     };
