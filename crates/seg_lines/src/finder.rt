@@ -13,7 +13,7 @@ use seg_line_turns::turn_pairs::{OwnedTurnPairs, TurnPairs};
 use seg_machine::tailored_machine::{TailoredMachine, TailoredMachineBorrowed};
 
 /// What the breaks of lines are found by.
-#[derive(Debug, Drop)]
+#[derive(Debug)]
 pub(crate) enum OwnedFinder {
     /// The clusters: a line may be broken at each of their boundaries.
     Clusters,
@@ -25,6 +25,19 @@ pub(crate) enum OwnedFinder {
     Turns(OwnedTurnPairs),
     /// A machine of lines, with its tailoring.
     Machine(TailoredMachine),
+}
+
+// Written out, so that it is proved here and not in each function that drops one.
+impl Drop for OwnedFinder {
+    fn drop(self) {
+        match self {
+            OwnedFinder::Clusters => {}
+            OwnedFinder::Places => {}
+            OwnedFinder::Table(_) => {}
+            OwnedFinder::Turns(_) => {}
+            OwnedFinder::Machine(_) => {}
+        }
+    }
 }
 
 impl OwnedFinder {

@@ -152,11 +152,22 @@ impl<'data, 's, Y: RuleBreakType<'s>> Iterator for LineBreakIterator<'data, 's, 
 }
 
 /// Finds line breaks with data that it owns.
-#[derive(Debug, Drop)]
+#[derive(Debug)]
 pub struct LineSegmenter {
     finder: OwnedFinder,
     clusters: GraphemeClusterSegmenter,
     dictionaries: Dictionaries,
+}
+
+// Written out, so that it is proved here and not in each function that drops one.
+impl Drop for LineSegmenter {
+    fn drop(self) {
+        let LineSegmenter {
+            finder: _,
+            clusters: _,
+            dictionaries: _,
+        } = self;
+    }
 }
 
 impl LineSegmenter {

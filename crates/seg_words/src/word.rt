@@ -261,11 +261,22 @@ impl<'data, 's, Y: RuleBreakType<'s>> Iterator for WordBreakIteratorWithWordType
 }
 
 /// Finds words with data that it owns.
-#[derive(Debug, Drop)]
+#[derive(Debug)]
 pub struct WordSegmenter {
     engine: OwnedEngine,
     clusters: GraphemeClusterSegmenter,
     dictionaries: Dictionaries,
+}
+
+// Written out, so that it is proved here and not in each function that drops one.
+impl Drop for WordSegmenter {
+    fn drop(self) {
+        let WordSegmenter {
+            engine: _,
+            clusters: _,
+            dictionaries: _,
+        } = self;
+    }
 }
 
 impl WordSegmenter {
