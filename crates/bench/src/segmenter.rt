@@ -9,7 +9,6 @@ use icu_segmenter::{
 use std::alloc::{AllocError, Global};
 
 /// A segmenter with data that it owns.
-#[derive(Drop)]
 pub enum Segmenter {
     /// Of grapheme clusters.
     Clusters(GraphemeClusterSegmenter),
@@ -19,6 +18,18 @@ pub enum Segmenter {
     Words(WordSegmenter),
     /// Of lines.
     Lines(LineSegmenter),
+}
+
+// Written out, so that it is proved here and not in each function that drops one.
+impl Drop for Segmenter {
+    fn drop(self) {
+        match self {
+            Segmenter::Clusters(_) => {}
+            Segmenter::Sentences(_) => {}
+            Segmenter::Words(_) => {}
+            Segmenter::Lines(_) => {}
+        }
+    }
 }
 
 impl Segmenter {
