@@ -59,7 +59,7 @@ const OPTION_FILE: &str = "LineOptionTest.txt";
 // A file of the folder.
 fn read(rt: &HostRuntime, folder: &str, file: &str) -> Result<String> {
     let path = format!(in rt.alloc(); "{folder}/{file}")?;
-    Ok(fs::read_to_string(rt, path.as_str()).context("reading a test file")?)
+    fs::read_to_string(rt, path.as_str()).context("reading a test file")
 }
 
 fn print(rt: &HostRuntime, file: &str, name: &str, counts: Counts) -> Result<()> {

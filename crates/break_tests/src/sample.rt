@@ -4,7 +4,6 @@ use anyhow::{Context, Result};
 use std::alloc::{AllocError, Global};
 
 /// A text, and where its boundaries stand.
-#[derive(Drop)]
 pub struct Sample {
     /// The text.
     pub text: String,
@@ -16,6 +15,19 @@ pub struct Sample {
     pub unit_places: Vec<usize>,
     /// Its mandatory boundaries, in bytes of UTF-8, by the numbers of rules that the comment names.
     pub mandatory: Vec<usize>,
+}
+
+// Written out, so that it is proved here and not in each function that drops one.
+impl Drop for Sample {
+    fn drop(self) {
+        let Sample {
+            text: _,
+            units: _,
+            places: _,
+            unit_places: _,
+            mandatory: _,
+        } = self;
+    }
 }
 
 // The rules of UAX #14 by which a line must be broken: after the text and after LB4's and LB5's characters.

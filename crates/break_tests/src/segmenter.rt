@@ -12,7 +12,6 @@ use icu_segmenter_uax29 as uax29;
 use std::alloc::{AllocError, Global};
 
 /// A segmenter with data of its own.
-#[derive(Drop)]
 pub enum Segmenter {
     /// Of grapheme clusters.
     Clusters(GraphemeClusterSegmenter),
@@ -30,6 +29,22 @@ pub enum Segmenter {
     ProvedWords(uax29::WordSegmenter),
     /// Of sentences, proved to be those of UAX #29.
     ProvedSentences(uax29::SentenceSegmenter),
+}
+
+// Written out, so that it is proved here and not in each function that drops one.
+impl Drop for Segmenter {
+    fn drop(self) {
+        match self {
+            Segmenter::Clusters(_) => {}
+            Segmenter::Words(_) => {}
+            Segmenter::Sentences(_) => {}
+            Segmenter::Lines(_) => {}
+            Segmenter::LinesByTable(_) => {}
+            Segmenter::ProvedClusters(_) => {}
+            Segmenter::ProvedWords(_) => {}
+            Segmenter::ProvedSentences(_) => {}
+        }
+    }
 }
 
 impl Segmenter {
