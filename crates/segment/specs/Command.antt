@@ -50,17 +50,13 @@ HasScriptWord script.Thai word = word ≡ codes "thai"
 -- the word of a kind of segments, and whether `--words` stands beside it
 abbrev pub kind_word : Kind → List ℕ
 kind_word kind.Clusters = codes "grapheme"
-kind_word kind.Words = codes "word"
-kind_word kind.WordsAlone = codes "word"
+kind_word (kind.Words alone) = codes "word"
 kind_word kind.Sentences = codes "sentence"
 kind_word kind.Lines = codes "line"
 
 abbrev pub is_alone : Kind → Bool
-is_alone kind.Clusters = false
-is_alone kind.Words = false
-is_alone kind.WordsAlone = true
-is_alone kind.Sentences = false
-is_alone kind.Lines = false
+is_alone (kind.Words alone) = alone
+is_alone other = false
 
 abbrev pub engine_word : Engine → List ℕ
 engine_word engine.Neo = codes "neo"

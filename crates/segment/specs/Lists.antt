@@ -13,8 +13,7 @@ use Rattle.segment.specs.declared.lists.Choice.TheVariants.{Nothing, WithoutCj, 
 -- the lists that a kind of segments takes
 abbrev pub choice_of : Kind → Choice
 choice_of kind.Clusters = Nothing
-choice_of kind.Words = All
-choice_of kind.WordsAlone = All
+choice_of (kind.Words alone) = All
 choice_of kind.Sentences = Nothing
 choice_of kind.Lines = WithoutCj
 

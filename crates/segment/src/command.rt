@@ -497,10 +497,9 @@ fn kind_of(word: &str, alone: bool) -> Result<Kind>
         (λ _. (kind : AnyKind) → word.now ≡ kind_word kind → alone ≢ is_alone kind) }
 {
     match (word, alone) {
-        ("word", true) => Ok(Kind::WordsAlone),
+        ("word", alone) => Ok(Kind::Words { alone }),
         (_, true) => bail!("'--words' is an option of words"),
         ("grapheme", _) => Ok(Kind::Clusters),
-        ("word", _) => Ok(Kind::Words),
         ("sentence", _) => Ok(Kind::Sentences),
         ("line", _) => Ok(Kind::Lines),
         _ => bail!("no such kind of segments"),

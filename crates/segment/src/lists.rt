@@ -37,7 +37,7 @@ pub fn choice_by(task: Task) -> Choice
 {
     match task {
         Task::Cut(_, _, Engine::Memo) => Choice::Nothing,
-        Task::Cut(Kind::Words | Kind::WordsAlone, _, _) => Choice::All,
+        Task::Cut(Kind::Words { .. }, _, _) => Choice::All,
         Task::Cut(Kind::Lines, _, _) => Choice::WithoutCj,
         Task::Cut(_, _, _) => Choice::Nothing,
         Task::Wrap(_) => Choice::WithoutCj,

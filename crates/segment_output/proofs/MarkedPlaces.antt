@@ -13,12 +13,12 @@ module _ {S M : Type 0} (mark : ℕ → M) (said : M → Mark) (left : S → Lis
   marks-are [] = refl
   marks-are (found ∷ boundaries) = ap (λ ends. (found.offset, said (mark found.status)) ∷ ends) (marks-are boundaries)
 
-  pub first-marked : (s t : S) (r : Option (ℕ × M)) (end : ℕ × M) (given : ℕ × Mark) → YieldsFirst (λ s. marked mark (left s)) s r t → r ≡ Some end → given ≡ (end.0, said end.1)
-      → YieldsFirst (λ s. marks (left s)) s (Some given) t
-  first-marked s t r end given gives is is-said =
+  pub first-marked : (s t : S) (r : Option (ℕ × M)) (end : ℕ × M) (shown : Mark) → YieldsFirst (λ s. marked mark (left s)) s r t → r ≡ Some end → shown ≡ said end.1
+      → YieldsFirst (λ s. marks (left s)) s (Some (end.0, shown)) t
+  first-marked s t r end shown gives is is-said =
       let first : marked mark (left s) ≡ end ∷ marked mark (left t) = rw is at gives in
       sym (marks-are (left s)) ∙ ap (λ ends. map (λ end. (end.0, said end.1)) ends) first
-      ∙ ap (λ ends. (end.0, said end.1) ∷ ends) (marks-are (left t)) ∙ ap (λ end. end ∷ marks (left t)) (sym is-said)
+      ∙ ap (λ ends. (end.0, said end.1) ∷ ends) (marks-are (left t)) ∙ ap (λ shown. (end.0, shown) ∷ marks (left t)) (sym is-said)
 
   pub none-marked : (s t : S) (r : Option (ℕ × M)) → YieldsFirst (λ s. marked mark (left s)) s r t → r ≡ None → YieldsFirst (λ s. marks (left s)) s None t
   none-marked s t r gives is =

@@ -12,10 +12,9 @@ use Rattle.icu_segmenter.specs.NearBoundaries.{line_feed}
 use Rattle.icu_segmenter.specs.Rules.{PartsBehind}
 use Rattle.icu_segmenter.specs.TextSegments.{marked}
 use Rattle.segment_output.specs.Fault.{IsReadFault}
-use Rattle.segment_output.specs.Marks.{mark_of}
 use Rattle.segment_output.specs.Output.{Segment, is_shown, lines_at, lines_of, segment_between, segments}
 use Rattle.segment_output.specs.Parts.{AreLines, IsAdded, IsBegun, IsPartWritten}
-use Rattle.segment_output.specs.Segmenter.{boundaries_by, has_words_alone, marking_by, segments_by}
+use Rattle.segment_output.specs.Segmenter.{boundaries_by, has_words_alone, mark_by, segments_by}
 use Rattle.segment_output.specs.Size.{both_sizes, size_of}
 use Rattle.segment_output.specs.declared.fault.Fault.{Fault}
 use Rattle.segment_output.specs.declared.found.Size.{Size}
@@ -47,9 +46,6 @@ module _ (alone : Bool) (mark : ℕ → Mark) where
   segments-cut : (boundaries : List Boundary) → segments alone (marked mark boundaries) ≡ cut_all alone mark boundaries
   segments-cut [] = refl
   segments-cut (found ∷ boundaries) = segments-from (found.offset, mark found.status) boundaries
-
-abbrev mark_by : Segmenter → ℕ → Mark
-mark_by segmenter = mark_of (marking_by segmenter)
 
 cuts-are : (segmenter : Segmenter) (bytes : List ℕ) → segments_by segmenter bytes ≡ cut_all (has_words_alone segmenter) (mark_by segmenter) (boundaries_by segmenter bytes)
 cuts-are segmenter bytes = segments-cut (has_words_alone segmenter) (mark_by segmenter) (boundaries_by segmenter bytes)

@@ -2,7 +2,6 @@ pub mod Escapes
 pub mod Fault
 pub mod Gathered
 pub mod Joined
-pub mod Marks
 pub mod Memo
 pub mod Objects
 pub mod Output

@@ -17,7 +17,7 @@ use Rattle.segment_output.specs.Output.{Segment}
 use Rattle.segment_output.specs.Segmenter.{segments_by}
 use Rattle.segment_output.specs.declared.found.Found.{Found}
 use Rattle.segment_output.specs.declared.segmenter.Segmenter.{Segmenter}
-use Rattle.segment_output.specs.declared.segmenter.Segmenter.TheVariants.{Clusters, Words, WordsAlone, Sentences, Suppressing, Lines}
+use Rattle.segment_output.specs.declared.segmenter.Segmenter.TheVariants.{Clusters, Words, Sentences, Suppressing, Lines}
 
 -- a call of an iterator over a memo gave the first of what was left, and the memo's machine and text stay
 abbrev pub StepsMemo : {S A : Type 0} → (S → Memo) → (S → List A) → S → Option A → S → Type 0
@@ -39,8 +39,7 @@ IsPrinted memo segments found = (found.segments ≡ length segments) × AreLookU
 -- the machine by which a segmenter finds boundaries, if it does by one
 abbrev pub machine_by : Segmenter → Option Machine
 machine_by (Clusters clusters) = machine_in (owned_cluster_rules clusters)
-machine_by (Words words) = machine_in (owned_word_rules words).rules
-machine_by (WordsAlone words) = machine_in (owned_word_rules words).rules
+machine_by (Words words alone) = machine_in (owned_word_rules words).rules
 machine_by (Sentences sentences) = machine_in (owned_sentence_rules sentences)
 machine_by (Suppressing sentences abbreviations) = None
 machine_by (Lines lines) = machine_of_lines (owned_line_rules lines)

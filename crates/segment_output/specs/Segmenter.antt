@@ -1,5 +1,5 @@
 -- The segments that each segmenter gives, and which one is made.
-use Rattle.std.specs.Prelude.{◌≡◌, ℕ, Bool, true, false, Option, None, Some, List}
+use Rattle.std.specs.Prelude.{◌≡◌, ℕ, ◌==◌, Bool, false, Option, None, Some, List}
 use Rattle.icu_segmenter.specs.Abbreviations.{abbreviations_of}
 use Rattle.icu_segmenter.specs.Boundaries.{boundaries_in}
 use Rattle.icu_segmenter.specs.Boundary.{Boundary}
@@ -16,7 +16,7 @@ use Rattle.icu_segmenter.specs.ScriptWords.{ScriptWords, no_words}
 use Rattle.icu_segmenter.specs.Suppression.{without_abbreviated}
 use Rattle.icu_segmenter.specs.TextSegments.{marked}
 use Rattle.icu_segmenter.specs.Decoding.{utf8}
-use Rattle.icu_segmenter.specs.WordRules.{WordRules, machine_words, table_words, word_boundaries_of}
+use Rattle.icu_segmenter.specs.WordRules.{WordRules, machine_words, table_words, type_of, word_boundaries_of}
 use Rattle.icu_segmenter.specs.WordSets.{Words as WordSet}
 use Rattle.icu_segmenter.specs.Words.{owned_word_rules}
 use Rattle.icu_segmenter.specs.declared.options.LineBreakOptions.{LineBreakOptions}
@@ -25,16 +25,15 @@ use Rattle.icu_segmenter_uax14.specs.Lines.{line_machine, line_tailorings}
 use Rattle.icu_segmenter_uax29.specs.Clusters.{cluster_machine}
 use Rattle.icu_segmenter_uax29.specs.Sentences.{sentence_machine}
 use Rattle.icu_segmenter_uax29.specs.TypedWords.{typed_word_machine}
-use Rattle.segment_output.specs.Marks.{mark_of}
 use Rattle.segment_output.specs.Output.{Segment, segments}
 use Rattle.segment_output.specs.declared.segmenter.Engine.{Engine}
 use Rattle.segment_output.specs.declared.segmenter.Engine.TheVariants as engine
 use Rattle.segment_output.specs.declared.segmenter.Kind.{Kind}
 use Rattle.segment_output.specs.declared.segmenter.Kind.TheVariants as kind
-use Rattle.segment_output.specs.declared.marks.Marking.{Marking}
-use Rattle.segment_output.specs.declared.marks.Marking.TheVariants as marking
+use Rattle.segment_output.specs.declared.marks.Mark.{Mark}
+use Rattle.segment_output.specs.declared.marks.Mark.TheVariants.{Unmarked, Word, Line}
 use Rattle.segment_output.specs.declared.segmenter.Segmenter.{Segmenter}
-use Rattle.segment_output.specs.declared.segmenter.Segmenter.TheVariants.{Clusters, Words, WordsAlone, Sentences, Suppressing, Lines}
+use Rattle.segment_output.specs.declared.segmenter.Segmenter.TheVariants.{Clusters, Words, Sentences, Suppressing, Lines}
 
 -- how sentences are found in a list of code points by some rules, where they go on after abbreviations
 abbrev pub suppressed_finder : Rules → WordSet → List ℕ → List Boundary
@@ -43,42 +42,30 @@ suppressed_finder rules abbreviations = without_abbreviated abbreviations (found
 -- the boundaries of some bytes, which are seen as UTF-8
 abbrev pub boundaries_by : Segmenter → List ℕ → List Boundary
 boundaries_by (Clusters clusters) bytes = boundaries_of (owned_cluster_rules clusters) (utf8 bytes)
-boundaries_by (Words words) bytes = word_boundaries_of (owned_word_rules words) (utf8 bytes)
-boundaries_by (WordsAlone words) bytes = word_boundaries_of (owned_word_rules words) (utf8 bytes)
+boundaries_by (Words words alone) bytes = word_boundaries_of (owned_word_rules words) (utf8 bytes)
 boundaries_by (Sentences sentences) bytes = boundaries_of (owned_sentence_rules sentences) (utf8 bytes)
 boundaries_by (Suppressing sentences abbreviations) bytes = boundaries_in (suppressed_finder (owned_sentence_rules sentences) (abbreviations_of abbreviations)) (utf8 bytes)
 boundaries_by (Lines lines) bytes = line_boundaries_of (owned_line_rules lines) (utf8 bytes)
 
--- what they say of the segments that end there
-abbrev pub marking_by : Segmenter → Marking
-marking_by (Clusters clusters) = marking.Nothing
-marking_by (Words words) = marking.Types
-marking_by (WordsAlone words) = marking.Types
-marking_by (Sentences sentences) = marking.Nothing
-marking_by (Suppressing sentences abbreviations) = marking.Nothing
-marking_by (Lines lines) = marking.Ends
+-- what their statuses say of the segments that end there: of words their type, of lines whether a line must end there, and of others nothing
+abbrev pub mark_by : Segmenter → ℕ → Mark
+mark_by (Words words alone) = λ status. Word (type_of status)
+mark_by (Lines lines) = λ status. Line (status == 1)
+mark_by segmenter = λ status. Unmarked
 
 -- are words alone shown
 abbrev pub has_words_alone : Segmenter → Bool
-has_words_alone (Clusters clusters) = false
-has_words_alone (Words words) = false
-has_words_alone (WordsAlone words) = true
-has_words_alone (Sentences sentences) = false
-has_words_alone (Suppressing sentences abbreviations) = false
-has_words_alone (Lines lines) = false
+has_words_alone (Words words alone) = alone
+has_words_alone segmenter = false
 
 -- the segments of such bytes
 abbrev pub segments_by : Segmenter → List ℕ → List Segment
-segments_by segmenter bytes = segments (has_words_alone segmenter) (marked (mark_of (marking_by segmenter)) (boundaries_by segmenter bytes))
+segments_by segmenter bytes = segments (has_words_alone segmenter) (marked (mark_by segmenter) (boundaries_by segmenter bytes))
 
 -- a segmenter's boundaries are those of a machine; nothing is said of its segments, and all are shown
 abbrev pub IsByMachine : Machine → Segmenter → Type 0
 IsByMachine machine (Clusters clusters) = owned_cluster_rules clusters ≡ ByMachine machine
-IsByMachine machine (Words words) = ⊥
-IsByMachine machine (WordsAlone words) = ⊥
-IsByMachine machine (Sentences sentences) = ⊥
-IsByMachine machine (Suppressing sentences abbreviations) = ⊥
-IsByMachine machine (Lines lines) = ⊥
+IsByMachine machine segmenter = ⊥
 
 -- ---- the rules of each engine, over Unicode's data
 
@@ -114,8 +101,7 @@ line_rules_by engine options words = lines_with_words (line_rules_of engine opti
 -- a segmenter is that of a kind: by an engine over Unicode's data, with options of lines, the words of scripts, and abbreviations, if there are some
 abbrev pub IsAskedOf : Kind → Engine → LineBreakOptions → ScriptWords → Option WordSet → Segmenter → Type 0
 IsAskedOf asked engine options words abbreviations (Clusters clusters) = (asked ≡ kind.Clusters) × (owned_cluster_rules clusters ≡ cluster_rules_by engine)
-IsAskedOf asked engine options words abbreviations (Words segmenter) = (asked ≡ kind.Words) × (owned_word_rules segmenter ≡ word_rules_by engine words)
-IsAskedOf asked engine options words abbreviations (WordsAlone segmenter) = (asked ≡ kind.WordsAlone) × (owned_word_rules segmenter ≡ word_rules_by engine words)
+IsAskedOf asked engine options words abbreviations (Words segmenter alone) = (asked ≡ kind.Words alone) × (owned_word_rules segmenter ≡ word_rules_by engine words)
 IsAskedOf asked engine options words abbreviations (Sentences sentences) =
     (asked ≡ kind.Sentences) × (abbreviations ≡ None) × (owned_sentence_rules sentences ≡ sentence_rules_by engine)
 IsAskedOf asked engine options words abbreviations (Suppressing sentences known) =

@@ -13,7 +13,7 @@ use Rattle.segment_output.specs.declared.segmenter.Engine.TheVariants as engine
 use Rattle.segment_output.specs.declared.wrapper.Width.{Width}
 use Rattle.segment_output.specs.declared.wrapper.Wrapper.{Wrapper}
 
--- by the clusters of these rules, if they are there
+-- how a wrapper wraps, where columns are counted by the clusters of these rules
 abbrev pub wrapping_by : Option Rules → Wrapper → Wrapping
 wrapping_by clusters wrapper = record {
   columns = wrapper.columns;

@@ -1,9 +1,8 @@
 //! What is said of segments beside their places.
-ghost use Rattle.std.specs.Prelude.{◌≡◌};
+ghost use Rattle.std.specs.Prelude.{◌≡◌, ◌==◌};
 ghost use Rattle.std.specs.Iterator.{YieldsFirst, item_count};
 ghost use Rattle.icu_segmenter.specs.TextSegments.{marked};
 ghost use Rattle.icu_segmenter.specs.WordRules.{type_of};
-ghost use Rattle.segment_output.specs.Marks.{mark_of};
 ghost use Rattle.segment_output.specs.Output.{is_shown, is_word};
 ghost use Rattle.segment_output.specs.declared.marks.Mark.TheVariants.{Unmarked, Word, Line};
 
@@ -41,58 +40,38 @@ impl Mark {
     }
 }
 
-/// What the statuses of boundaries say of the segments that end there.
-#[derive(Clone, Copy, Debug, PartialEq, Eq)]
-pub enum Marking {
-    /// Nothing, as those of clusters and of sentences.
-    Nothing,
-    /// The types of words.
-    Types,
-    /// Whether a line must end.
-    Ends,
-}
-
-impl Marking {
-    /// What is said by a status.
-    pub fn mark(self, status: u8) -> Mark
-        ensures { result ≡ mark_of self status }
-    {
-        match self {
-            Marking::Nothing => Mark::Unmarked,
-            Marking::Types => Mark::Word(type_of(status)),
-            Marking::Ends => Mark::Line(status == 1),
-        }
-    }
-}
-
-// The type of what ends at a boundary of words with this status.
-fn type_of(status: u8) -> WordType
-    ensures { result ≡ type_of status }
-{
-    match status {
-        0 => WordType::None,
-        1 => WordType::Number,
-        _ => WordType::Letter,
-    }
-}
-
 /// What boundaries of a kind say of the segments that end there.
-pub trait HasMark {
+pub trait HasMark: Copy {
+    ghost use Rattle.std.specs.Prelude.{ℕ};
     ghost use Rattle.segment_output.specs.declared.marks.Mark.{Mark};
 
-    /// The same in clauses.
+    /// The mark of the segment, in clauses.
     ghost said: { Self → Mark };
 
+    /// That by the status of the boundary.
+    ghost by_status: { ℕ → Mark };
+
     /// The mark of the segment.
-    fn mark(&self) -> Mark
-        ensures { result ≡ said self.now };
+    fn mark(self) -> Mark
+        ensures { result ≡ said self };
+
+    /// The mark of a segment that ends at a boundary with this status.
+    fn of_status(status: u8) -> Mark
+        ensures { result ≡ by_status status };
 }
 
+// Of clusters and sentences nothing is said.
 impl HasMark for () {
     ghost said = { λ _. Unmarked };
 
+    ghost by_status = { λ _. Unmarked };
+
     #[inline(always)]
-    fn mark(&self) -> Mark {
+    fn mark(self) -> Mark {
+        Mark::Unmarked
+    }
+
+    fn of_status(_status: u8) -> Mark {
         Mark::Unmarked
     }
 }
@@ -100,18 +79,34 @@ impl HasMark for () {
 impl HasMark for WordType {
     ghost said = { λ kind. Word kind };
 
+    ghost by_status = { λ status. Word (type_of status) };
+
     #[inline(always)]
-    fn mark(&self) -> Mark {
-        Mark::Word(*self)
+    fn mark(self) -> Mark {
+        Mark::Word(self)
+    }
+
+    fn of_status(status: u8) -> Mark {
+        match status {
+            0 => Mark::Word(WordType::None),
+            1 => Mark::Word(WordType::Number),
+            _ => Mark::Word(WordType::Letter),
+        }
     }
 }
 
 impl HasMark for bool {
     ghost said = { λ is_mandatory. Line is_mandatory };
 
+    ghost by_status = { λ status. Line (status == 1) };
+
     #[inline(always)]
-    fn mark(&self) -> Mark {
-        Mark::Line(*self)
+    fn mark(self) -> Mark {
+        Mark::Line(self)
+    }
+
+    fn of_status(status: u8) -> Mark {
+        Mark::Line(status == 1)
     }
 }
 
@@ -131,16 +126,8 @@ impl<M: HasMark, B: BreakIterator<Mark = M>> Iterator for Marked<B> {
     #[inline(always)]
     fn next(&mut self) -> Option<(usize, Mark)> {
         match self.breaks.next_break() {
-            Some(end) => Some(marked_end(&end)),
+            Some(end) => Some((end.0, end.1.mark())),
             None => None,
         }
     }
-}
-
-// A boundary with its mark.
-#[inline(always)]
-fn marked_end<M: HasMark>(end: &(usize, M)) -> (usize, Mark)
-    ensures { result ≡ (end.now.0, M.said end.now.1) }
-{
-    (end.0, end.1.mark())
 }

@@ -1,25 +1,25 @@
 //! The same segments by the memoised engine.
-ghost use Rattle.std.specs.Prelude.{◌≡◌, true, false, IfErr, IfOk, IsErr, MatchResult};
+ghost use Rattle.std.specs.Prelude.{◌≡◌, IfErr, IfOk, IsErr, MatchResult};
 ghost use Rattle.std.specs.Io.KnownBytes.{Appends};
 ghost use Rattle.std.specs.Iterator.{item_count};
 ghost use Rattle.icu_segmenter.specs.TextSegments.{marked};
 ghost use Rattle.segment_output.specs.Fault.{IsBeforeWriting};
-ghost use Rattle.segment_output.specs.Marks.{mark_of};
 ghost use Rattle.segment_output.specs.Memo.{IsFoundBy, IsPrinted, StepsMemo};
 ghost use Rattle.segment_output.specs.Output.{lines_of, segments};
 ghost use Rattle.segment_output.specs.Segmenter.{segments_by};
-ghost use Rattle.segment_output.specs.declared.marks.Marking.TheVariants.{Types};
 
 use crate::fault::Fault;
 use crate::found::Found;
-use crate::marks::{Mark, Marking};
+use crate::marks::{HasMark, Mark};
 use crate::output::{Part, Style, print_segments};
 use crate::segmenter::Segmenter;
 use icu_segmenter::memo::{MemoBreakIterator, MemoError};
+use icu_segmenter::options::WordType;
 use icu_segmenter::rule_segmenter_v2::CountedTransitions;
 use icu_segmenter::scaffold::PotentiallyIllFormedUtf8;
 use std::alloc::Global;
 use std::io::Write;
+use std::marker::PhantomData;
 
 type Memo<'data, 's> = MemoBreakIterator<
     'data,
@@ -50,83 +50,47 @@ pub fn print_by_memo<O: Write>(
     match segmenter {
         Segmenter::Clusters(clusters) => {
             let memo = clusters.as_borrowed().segment_utf8(text).with_memo(alloc);
-            print_memo(alloc, memo, Shown::all(Marking::Nothing), part, out)
+            print_memo::<(), _>(alloc, memo, false, part, out)
         }
-        Segmenter::Words(words) => {
+        Segmenter::Words(words, alone) => {
             let memo = words.as_borrowed().segment_utf8(text).with_memo(alloc);
-            print_memo(alloc, memo, Shown::all(Marking::Types), part, out)
-        }
-        Segmenter::WordsAlone(words) => {
-            let memo = words.as_borrowed().segment_utf8(text).with_memo(alloc);
-            print_memo(alloc, memo, Shown::words_alone(), part, out)
+            print_memo::<WordType, _>(alloc, memo, *alone, part, out)
         }
         Segmenter::Sentences(sentences) => {
             let memo = sentences.as_borrowed().segment_utf8(text).with_memo(alloc);
-            print_memo(alloc, memo, Shown::all(Marking::Nothing), part, out)
+            print_memo::<(), _>(alloc, memo, false, part, out)
         }
         Segmenter::Suppressing(_, _) => Err(Fault::Memo(MemoError::NotNeo)),
         Segmenter::Lines(lines) => {
             let memo = lines.as_borrowed().segment_utf8(text).with_memo(alloc);
-            print_memo(alloc, memo, Shown::all(Marking::Ends), part, out)
+            print_memo::<bool, _>(alloc, memo, false, part, out)
         }
     }
 }
 
-// What is shown of the segments of a kind.
-#[derive(Clone, Copy)]
-struct Shown {
-    // What their boundaries say of them.
-    marking: Marking,
-    // Whether words alone are shown.
-    alone: bool,
-}
-
-impl Shown {
-    // All segments.
-    fn all(marking: Marking) -> Self
-        ensures marking { result.marking ≡ marking }
-        ensures alone { result.alone ≡ false }
-    {
-        Shown {
-            marking,
-            alone: false,
-        }
-    }
-
-    // Words alone.
-    fn words_alone() -> Self
-        ensures marking { result.marking ≡ Types }
-        ensures alone { result.alone ≡ true }
-    {
-        Shown {
-            marking: Marking::Types,
-            alone: true,
-        }
-    }
-}
-
-// Writes the segments of a whole text between the boundaries that a memoised engine has still to give, if there is one.
-fn print_memo<O: Write>(
+// Writes the segments of a whole text between the boundaries that a memoised engine has still to give, if there is one, or words alone.
+// `M` is what their statuses say.
+fn print_memo<M: HasMark, O: Write>(
     alloc: Global,
     memo: Result<Memo<'_, '_>, MemoError>,
-    shown: Shown,
+    alone: bool,
     part: Part<'_>,
     out: &mut O,
 ) -> Result<Found, Fault>
     requires { part.before ≡ 0 }
     ensures written { MatchResult memo.entry
-        (λ memo. IfOk result (λ found. IsPrinted memo (segments shown.alone (marked (mark_of shown.marking) memo.coming.left)) found
-        × Appends (O.contents out.old) (O.contents out.new) (lines_of part.entry.style part.entry.bytes.now (segments shown.alone (marked (mark_of shown.marking) memo.coming.left))))) (λ _. IsErr result) }
+        (λ memo. IfOk result (λ found. IsPrinted memo (segments alone (marked M.by_status memo.coming.left)) found
+        × Appends (O.contents out.old) (O.contents out.new) (lines_of part.entry.style part.entry.bytes.now (segments alone (marked M.by_status memo.coming.left))))) (λ _. IsErr result) }
     ensures unwritten { IfErr result (λ fault. IsBeforeWriting fault → out.new ≡ out.old) }
 {
-    let mut places = match memo {
+    let mut places: MemoPlaces<'_, '_, M> = match memo {
         Ok(memo) => MemoPlaces {
             memo,
-            marking: shown.marking,
+            marks: PhantomData,
         },
         Err(error) => return Err(Fault::Memo(error)),
     };
-    match print_segments(alloc, &mut places, shown.alone, part, out) {
+    match print_segments(alloc, &mut places, alone, part, out) {
         Ok(segments) => {
             let lookups = places.memo.lookups();
             Ok(Found { segments, lookups })
@@ -137,21 +101,21 @@ fn print_memo<O: Write>(
 
 /// The boundaries that a memoised engine has still to give, each with the mark of what ends there. Its machine and its text stay.
 #[derive(Drop)]
-pub struct MemoPlaces<'data, 's> {
+pub struct MemoPlaces<'data, 's, M: HasMark> {
     memo: Memo<'data, 's>,
-    marking: Marking,
+    marks: PhantomData<M>,
 }
 
-impl<'data, 's> Iterator for MemoPlaces<'data, 's> {
+impl<'data, 's, M: HasMark> Iterator for MemoPlaces<'data, 's, M> {
     type Item = (usize, Mark);
 
-    ghost next_gives = { StepsMemo (λ s. s.memo) (λ s. marked (mark_of s.marking) s.memo.coming.left) };
+    ghost next_gives = { StepsMemo (λ s. s.memo) (λ s. marked M.by_status s.memo.coming.left) };
 
-    ghost remaining = { item_count (λ s. marked (mark_of s.marking) s.memo.coming.left) };
+    ghost remaining = { item_count (λ s. marked M.by_status s.memo.coming.left) };
 
     fn next(&mut self) -> Option<(usize, Mark)> {
         match self.memo.next() {
-            Some(place) => Some((place, self.marking.mark(self.memo.status()))),
+            Some(place) => Some((place, M::of_status(self.memo.status()))),
             None => None,
         }
     }

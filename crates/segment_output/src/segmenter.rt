@@ -34,10 +34,11 @@ use std::io::Write;
 pub enum Kind {
     /// Grapheme clusters.
     Clusters,
-    /// Words, and what stands between them.
-    Words,
-    /// Words alone.
-    WordsAlone,
+    /// Words, alone or with what stands between them.
+    Words {
+        /// Whether alone.
+        alone: bool,
+    },
     /// Sentences.
     Sentences,
     /// Lines.
@@ -62,10 +63,8 @@ pub enum Engine {
 pub enum Segmenter {
     /// Of grapheme clusters.
     Clusters(GraphemeClusterSegmenter),
-    /// Of words, and of what stands between them.
-    Words(WordSegmenter),
-    /// Of words alone.
-    WordsAlone(WordSegmenter),
+    /// Of words, and whether they are shown alone, without what stands between them.
+    Words(WordSegmenter, bool),
     /// Of sentences.
     Sentences(SentenceSegmenter),
     /// Of sentences, which go on after these abbreviations.
@@ -91,13 +90,9 @@ impl Segmenter {
                 let places = clusters.as_borrowed().segment_utf8(part.bytes);
                 print_breaks(alloc, places, false, part, out)
             }
-            Segmenter::Words(words) => {
+            Segmenter::Words(words, alone) => {
                 let places = words.as_borrowed().segment_utf8(part.bytes);
-                print_breaks(alloc, places, false, part, out)
-            }
-            Segmenter::WordsAlone(words) => {
-                let places = words.as_borrowed().segment_utf8(part.bytes);
-                print_breaks(alloc, places, true, part, out)
+                print_breaks(alloc, places, *alone, part, out)
             }
             Segmenter::Sentences(sentences) => {
                 let places = sentences.as_borrowed().segment_utf8(part.bytes);
@@ -159,8 +154,7 @@ impl Segmenter {
     {
         match self {
             Segmenter::Clusters(clusters) => clusters.as_borrowed().parts_behind_line_feeds(),
-            Segmenter::Words(words) => words.as_borrowed().parts_behind_line_feeds(),
-            Segmenter::WordsAlone(words) => words.as_borrowed().parts_behind_line_feeds(),
+            Segmenter::Words(words, _) => words.as_borrowed().parts_behind_line_feeds(),
             Segmenter::Sentences(sentences) => sentences.as_borrowed().parts_behind_line_feeds(),
             Segmenter::Suppressing(sentences, abbreviations) => {
                 suppressing(sentences, abbreviations).parts_behind_line_feeds()
@@ -175,8 +169,7 @@ impl Segmenter {
     {
         match self {
             Segmenter::Clusters(clusters) => clusters.as_borrowed().cover(text),
-            Segmenter::Words(words) => words.as_borrowed().cover(text),
-            Segmenter::WordsAlone(words) => words.as_borrowed().cover(text),
+            Segmenter::Words(words, _) => words.as_borrowed().cover(text),
             Segmenter::Sentences(sentences) => sentences.as_borrowed().cover(text),
             Segmenter::Suppressing(sentences, abbreviations) => {
                 let_go(suppressing(sentences, abbreviations).segment_utf8(text))
@@ -230,10 +223,9 @@ pub fn segmenter_of(
     } = words;
     match kind {
         Kind::Clusters => Ok(Segmenter::Clusters(cluster_segmenter(alloc, engine)?)),
-        Kind::Words => Ok(Segmenter::Words(word_segmenter(alloc, engine, dictionaries)?)),
-        Kind::WordsAlone => {
+        Kind::Words { alone } => {
             let words = word_segmenter(alloc, engine, dictionaries)?;
-            Ok(Segmenter::WordsAlone(words))
+            Ok(Segmenter::Words(words, alone))
         }
         Kind::Sentences => {
             let sentences = sentence_segmenter(alloc, engine)?;

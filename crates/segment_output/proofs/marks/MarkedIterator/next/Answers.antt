@@ -4,7 +4,7 @@ use Rattle.segment_output.proofs.marks.MarkedIterator.next.Goals as goal
 
 pub returns-in-Some-clause-steps : goal.returns-in-Some-clause-steps
 returns-in-Some-clause-steps g c =
-    first-marked g.B.BreakIterator.mark g.M.HasMark.said g.B.BreakIterator.left _ _ _ c.in-Some.end c.marked_end.result c.next_break.ensures c.in-Some.is c.marked_end.ensures
+    first-marked g.B.BreakIterator.mark g.M.HasMark.said g.B.BreakIterator.left _ _ _ c.in-Some.end c.mark.result c.next_break.ensures c.in-Some.is c.mark.ensures
 
 pub returns-in-None-clause-steps : goal.returns-in-None-clause-steps
 returns-in-None-clause-steps g c =
