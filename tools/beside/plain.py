@@ -115,7 +115,7 @@ def line_classes():
 
 
 def main(arguments):
-    if len(arguments) != 1:
+    if len(arguments) != 1 or arguments[0].startswith("-"):
         sys.exit("usage: plain.py FOLDER")
     folder = pathlib.Path(arguments[0])
     folder.mkdir(parents=True, exist_ok=True)
