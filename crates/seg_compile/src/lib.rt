@@ -1,4 +1,4 @@
-//! A compiler of rules of boundaries that are data to machines that are checked: `compile`.
+//! A compiler of rules of boundaries that are data to machines that are checked: `compile`, and `compile_certified` with the certificate.
 //!
 //! It reads the rules into tables of what may stand before places and of what may be owed to them, looks for the states of a machine,
 //! makes equal states one, and relates the machine to the rules. Of all this nothing is trusted: `check` of seg_rules reads the rules,
