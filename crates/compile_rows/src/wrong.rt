@@ -1,7 +1,7 @@
 //! Texts that are refused, each with what is wrong with it.
 
 /// Each text, after a name of what is wrong.
-pub(crate) static TEXTS: [(&str, &str); 31] = [
+pub(crate) static TEXTS: [(&str, &str); 33] = [
     ("no text", ""),
     ("nothing but a comment", "# none\n\n"),
     ("no last rule", "A = [a]\nA × A\n"),
@@ -16,6 +16,8 @@ pub(crate) static TEXTS: [(&str, &str); 31] = [
     ("an unknown value", "B = \\p{gc=Letters}\n÷"),
     ("a property without its end", "B = \\p{Alphabetic\n÷"),
     ("a bracket without its end", "B = [a..z\n÷"),
+    ("a bracket with a space alone", "B = [ ]\n÷"),
+    ("a letter behind a backslash", "B = [\\n]\n÷"),
     ("a range without its end", "B = [a..]\n÷"),
     ("a backward range", "B = [z..a]\n÷"),
     ("a number that is no code point", "B = U+110000\n÷"),

@@ -63,6 +63,12 @@ pub enum Fault {
     /// A bracket without its end.
     #[error("wanted a ]")]
     NoBracket,
+    /// A bracket with nothing in it: a space only separates.
+    #[error("wanted a character or U+.. before ]; a space needs a \\ before it")]
+    EmptyBracket,
+    /// A letter or a digit after a backslash, which would mean itself.
+    #[error("wanted a sign or a space after \\: a line feed is U+000A")]
+    EscapedLetter,
     /// No character where a range begins or ends.
     #[error("wanted a character or U+.. on both sides of two dots")]
     NoCharacter,

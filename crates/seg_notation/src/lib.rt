@@ -6,7 +6,7 @@
 //! - `Letter = \p{Alphabetic} - \p{Ideographic}` names a symbol by its set of code points. Terms are joined from left to right, by `+`
 //!   for what is in either and `-` for what is in the first alone. A term is `\p{..}` with a property or with a property and its
 //!   value, as `\p{gc=Lu}`, `[..]`, `U+2014`, `U+2010..U+2015`, or the name of a set above. Code points in no set have the symbol `other`.
-//! - In brackets stand characters and `a..z` or `U+0041..U+005A`; blanks part them. A `\` makes the character after it a plain one: it
+//! - In brackets stand characters and `a..z` or `U+0041..U+005A`; blanks part them. A `\` makes the sign or blank after it a plain one: it
 //!   is needed for `\]`, `\\`, a blank, two dots, and a `U+` before a digit.
 //! - `Letter (Comma | Dot)? × Digit` joins what stands before a place to what comes after it; `÷` parts them, and `!` parts them with
 //!   status 1. The first rule decides whose sides both fit. `a*` is any number of a, `a?` at most one, `(a a)*` an even number, and

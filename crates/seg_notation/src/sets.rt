@@ -127,11 +127,19 @@ fn bracket(alloc: Global, line: &mut Line<'_>) -> Result<CodePoints, Fault> {
     let mut ranges = Vec::new(alloc);
     for _ in 0..line.len() {
         if line.takes(']') {
-            return Ok(CodePoints::of_ranges(alloc, ranges.as_slice())?);
+            return code_points_of(alloc, ranges.as_slice());
         }
         ranges.push(range(line)?)?;
     }
     Err(Fault::NoBracket)
+}
+
+// The code points of a bracket, which isn't empty.
+fn code_points_of(alloc: Global, ranges: &[(u32, u32)]) -> Result<CodePoints, Fault> {
+    if ranges.is_empty() {
+        return Err(Fault::EmptyBracket);
+    }
+    Ok(CodePoints::of_ranges(alloc, ranges)?)
 }
 
 // Reads a character within brackets, or a range of them.
@@ -175,10 +183,16 @@ fn character(line: &mut Line<'_>) -> Result<u32, Fault> {
     }
     let is_escaped = line.takes_at_once('\\');
     match line.read() {
+        Some(character) if is_escaped && is_letter(character) => Err(Fault::EscapedLetter),
         Some(character) => Ok(u32::from(character)),
         None if is_escaped => Err(Fault::NoCharacter),
         None => Err(Fault::NoBracket),
     }
+}
+
+// Whether a character is a letter or a digit of ASCII, which means nothing else after a backslash; that of `U+` may stand there.
+fn is_letter(character: char) -> bool {
+    character.is_ascii_alphanumeric() && character != 'U'
 }
 
 // Reads a code point by its number, as `U+2010`.
