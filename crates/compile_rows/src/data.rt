@@ -1,4 +1,4 @@
-//! Rules as rows that have no machine.
+//! Why rules as rows have no machine.
 
 use crate::refused;
 use anyhow::{Result, bail};

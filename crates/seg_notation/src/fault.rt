@@ -66,7 +66,7 @@ pub enum Fault {
     /// A bracket with nothing in it: a space only separates.
     #[error("wanted a character or U+.. before ]; a space needs a \\ before it")]
     EmptyBracket,
-    /// A letter or a digit after a backslash, which would mean itself.
+    /// A letter or a digit after a backslash, which would mean itself; that of `U+` alone may stand there.
     #[error("wanted a sign or a space after \\: a line feed is U+000A")]
     EscapedLetter,
     /// No character where a range begins or ends.
