@@ -2,18 +2,18 @@
 //! machines that stand in the code, and why others are refused. The text of UAX #14 is read from the files of data/.
 #![tactic(auto)]
 
-mod data;
 mod good;
 mod large;
 mod lines;
+mod refusals;
 mod refused;
 mod texts;
 mod wrong;
 
 use anyhow::{Result, bail};
-use data::print_refusals;
 use icu_segmenter_uax14::line_machine;
 use icu_segmenter_uax29::{cluster_machine, sentence_machine, word_machine};
+use refusals::print_refusals;
 use seg_compile::compile::{CompileError, Witness};
 use seg_machine::provider::SegmenterStateMachine;
 use seg_machine::rule_segmenter_v2::RuleBreakIterator;

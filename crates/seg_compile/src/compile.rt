@@ -33,16 +33,16 @@ pub enum CompileError {
     #[error("row {0} has a pattern of more than 7 items, or a verdict above 2")]
     UnknownRow(usize),
     /// More than 4,096 may stand before places, more than 252 be owed to them, or a scan has more to know than 1,024 states may.
-    #[error("more may stand before places, be owed to them or be known within a scan than is looked at")]
+    #[error("the rules lead to more cases than the compiler looks at")]
     TooLarge,
     /// More than 255 states.
     #[error("more than 255 states")]
     TooManyStates,
-    /// Within a scan two older places are undecided, and the check knows one.
-    #[error("two older places are undecided, and the check knows one")]
+    /// Within a scan more than one earlier place depends on what follows. The check knows one.
+    #[error("more than one earlier place depends on what follows")]
     TwoUndecided(Witness),
-    /// Within a scan two older places need a lookahead, and the check knows one.
-    #[error("two older places need a lookahead, and the check knows one")]
+    /// Within a scan more than one earlier place needs a lookahead. The check knows one.
+    #[error("more than one earlier place needs a lookahead")]
     TwoLookaheads(Witness),
     /// No machine that begins anew at each boundary follows the rules.
     #[error("no machine that begins anew at each boundary follows the rules")]
