@@ -85,8 +85,9 @@ uint32_t yengatomu_load_dictionary(yengatomu_slot *slot, const yengatomu_word *w
 void yengatomu_close(yengatomu_slot *slot);
 
 /* Writes the first boundaries above from to out, as many as there is room for, and returns how many: those of the text from there on,
- * taken alone. The last of all is len; a room of len holds them all, and a room of 0 gives 0. Where from is 0, or a boundary and the slot has no dictionary, they are the boundaries of the whole
- * text: so go on from the last one, until 0 is returned. With a dictionary go on only from behind a line feed.
+ * taken alone. The last of all is len; a room of len holds them all, and a room of 0 gives 0. Where from is 0, or a boundary and the
+ * slot has no dictionary, they are the boundaries of the whole text: so go on from the last one, until 0 is returned. With a dictionary
+ * go on only from behind a line feed.
  * 0 where from is len or more, and where the slot is empty. */
 size_t yengatomu_boundaries(yengatomu_slot *slot, const uint8_t *text, size_t len, size_t from, size_t *out, size_t room);
 size_t yengatomu_boundaries_utf16(yengatomu_slot *slot, const uint16_t *text, size_t len, size_t from, size_t *out, size_t room);
