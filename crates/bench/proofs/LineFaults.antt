@@ -6,7 +6,7 @@ use Rattle.seg_data.specs.Faults.{IsFaultless, IsLowestFault}
 use Rattle.seg_pairs.specs.PairData.{HasPairFault}
 use Rattle.seg_pairs.specs.PairTable.{PairTable}
 use Rattle.icu_segmenter.specs.LineClasses.{class_number}
-use Rattle.icu_segmenter.specs.LineClasses.LineEngine.{Classic}
+use Rattle.icu_segmenter.specs.LineEngine.TheVariants.{Classic}
 use Rattle.icu_segmenter.specs.LineClasses.LineClass.{BA, BK, CJ, CR, EX, HY, ID, IN, LF, NL, NS, SP, ZW}
 use Rattle.icu_segmenter.specs.LineRules.{HasLineTableFault, is_one_of}
 use Rattle.bench.specs.LineTables.{line_entry, line_table}

@@ -7,7 +7,7 @@ use Rattle.seg_pairs.specs.PairData.{HasPairFault}
 use Rattle.seg_pairs.specs.PairTable.{PairTable}
 use Rattle.icu_segmenter.specs.LineRules.{is_one_of}
 use Rattle.icu_segmenter.specs.LineClasses.{class_number}
-use Rattle.icu_segmenter.specs.LineClasses.LineEngine.{Seventeen}
+use Rattle.icu_segmenter.specs.LineEngine.TheVariants.{Seventeen}
 use Rattle.icu_segmenter.specs.LineClasses.LineClass.{BA, BA_EASTASIAN, BK, CJ, CR, EX, EX_EASTASIAN, HY, ID, ID_EASTASIAN, IN, IN_EASTASIAN, LF, NL, NS, NS_EASTASIAN, SP, ZW}
 use Rattle.icu_segmenter.specs.TurnRules.{HasTurnTableFault}
 use Rattle.bench.specs.TurnTables.{turn_entry, turn_table}

@@ -3,7 +3,7 @@
 ghost use Rattle.std.specs.Prelude.{◌≡◌, [], ◌∷◌, ◌++◌, IfOk, OnOk};
 ghost use Rattle.icu_segmenter.specs.Faults.{IsFaultless};
 ghost use Rattle.icu_segmenter.specs.LineRules.{is_one_of};
-ghost use Rattle.icu_segmenter.specs.LineClasses.LineEngine.{Seventeen};
+ghost use Rattle.icu_segmenter.specs.LineEngine.TheVariants.{Seventeen};
 ghost use Rattle.icu_segmenter.specs.LineClasses.LineClass.{BA, BA_EASTASIAN, BK, CJ, CR, EX, EX_EASTASIAN, HY, ID, ID_EASTASIAN, IN, IN_EASTASIAN, LF, NL, NS, NS_EASTASIAN, SP, ZW};
 ghost use Rattle.icu_segmenter.specs.TurnRules.{HasTurnTableFault};
 ghost use Rattle.bench.specs.PairTables.{cluster_table};

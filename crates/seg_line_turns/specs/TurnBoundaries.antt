@@ -8,7 +8,7 @@ use Rattle.seg_pairs.specs.PairTable.{PairTable, entry_of}
 use Rattle.seg_line_rules.specs.LineRules.{TableRules}
 use Rattle.seg_line_rules.specs.LineBoundaries.{inside, complex_length}
 use Rattle.seg_line_rules.specs.LineUnits.{bears_none}
-use Rattle.seg_line_rules.specs.LineClasses.LineEngine.{Seventeen}
+use Rattle.seg_line_rules.specs.declared.engines.LineEngine.TheVariants.{Seventeen}
 use Rattle.seg_line_turns.specs.declared.turn_pairs.TurnPairs.{TurnPairs}
 use Rattle.seg_line_turns.specs.declared.turn_pairs.OwnedTurnPairs.{OwnedTurnPairs}
 use Rattle.seg_line_turns.specs.Turns.{Turn, turn, first_unit}

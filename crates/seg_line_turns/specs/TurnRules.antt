@@ -8,7 +8,7 @@ use Rattle.seg_line_rules.specs.LineRules.{TableRules, is_complex_context, line_
 use Rattle.seg_line_rules.specs.LineClasses.{class_number}
 use Rattle.seg_line_rules.specs.LineClasses.LineClass.{ID, SA}
 use Rattle.seg_line_rules.specs.LineUnits.{is_joiner}
-use Rattle.seg_line_rules.specs.LineClasses.LineEngine.{Seventeen}
+use Rattle.seg_line_rules.specs.declared.engines.LineEngine.TheVariants.{Seventeen}
 
 -- An item, and the marks that are glued to it: what a turn looks at from the left.
 

@@ -1,6 +1,6 @@
 //! The sets of classes that the rules of the engine 17 speak of.
 ghost use Rattle.std.specs.Prelude.{◌≡◌};
-ghost use Rattle.seg_line_rules.specs.LineClasses.LineEngine.{Seventeen};
+ghost use Rattle.seg_line_rules.specs.declared.engines.LineEngine.TheVariants.{Seventeen};
 ghost use Rattle.seg_line_rules.specs.LineRules.{is_complex_context};
 ghost use Rattle.seg_line_rules.specs.LineUnits.{bears_none, is_mark};
 ghost use Rattle.seg_line_turns.specs.TurnClasses.{is_after_quote, is_before_hyphen, is_before_quote, is_glue, is_hyphen, is_letter, is_opening, is_start};

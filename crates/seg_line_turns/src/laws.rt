@@ -5,7 +5,7 @@ ghost use Rattle.std.specs.Prelude.{◌≡◌, ℕ, List, length};
 ghost use Rattle.seg_text.specs.Boundaries.{HasEqualOrdinals, IsCover, Cuts};
 ghost use Rattle.seg_line_rules.specs.LineBoundaries.{CutsCover, KeepsMarks, inside, line_boundaries};
 ghost use Rattle.seg_line_rules.specs.LineUnits.{counted_units, units_of};
-ghost use Rattle.seg_line_rules.specs.LineClasses.LineEngine.{Seventeen};
+ghost use Rattle.seg_line_rules.specs.declared.engines.LineEngine.TheVariants.{Seventeen};
 ghost use Rattle.seg_line_rules.specs.LineRules.{TableRules};
 ghost use Rattle.seg_line_turns.specs.PlainTexts.{ArePlain, HasNoOpening};
 ghost use Rattle.seg_line_turns.specs.TurnBoundaries.{HasOneTurnList, turn_boundaries, StartsBear, turn_rules_by};

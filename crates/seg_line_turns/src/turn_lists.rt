@@ -2,7 +2,7 @@
 ghost use Rattle.std.specs.Prelude.{◌≡◌, [], ◌∷◌, Some, None, map};
 ghost use Rattle.seg_line_rules.specs.LineLists.{fits, is_kept, keeps, listed, loose_list, loose_rows, hyphen_row, wave_row, iteration_row, middle_dot_row, leader_row, exclamation_row, wide_postfix_row, postfix_row, wide_prefix_row, prefix_row};
 ghost use Rattle.seg_line_rules.specs.LineRules.{is_one_of};
-ghost use Rattle.seg_line_rules.specs.LineClasses.LineEngine.{Seventeen};
+ghost use Rattle.seg_line_rules.specs.declared.engines.LineEngine.TheVariants.{Seventeen};
 ghost use Rattle.seg_line_rules.specs.LineClasses.LineClass.{NS, NS_EASTASIAN};
 
 use seg_line_rules::lists::{

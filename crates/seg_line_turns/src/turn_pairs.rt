@@ -4,7 +4,7 @@ ghost use Rattle.seg_data.specs.declared.provider.DataError.TheVariants.{Complex
 ghost use Rattle.seg_data.specs.Faults.{IsFaultless, IsLowestFault};
 ghost use Rattle.seg_line_rules.specs.LineRules.{class_read, is_loose_or_normal, is_read_as_id};
 ghost use Rattle.seg_line_rules.specs.LineClasses.{class_number};
-ghost use Rattle.seg_line_rules.specs.LineClasses.LineEngine.{Seventeen};
+ghost use Rattle.seg_line_rules.specs.declared.engines.LineEngine.TheVariants.{Seventeen};
 ghost use Rattle.seg_line_rules.specs.LineClasses.LineClass.{ID};
 ghost use Rattle.seg_line_turns.specs.TurnRules.{HasOwnTurnFault};
 

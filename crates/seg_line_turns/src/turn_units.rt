@@ -1,6 +1,6 @@
 //! The left unit of a turn, and what a turn finds.
 ghost use Rattle.std.specs.Prelude.{◌≡◌};
-ghost use Rattle.seg_line_rules.specs.LineClasses.LineEngine.{Seventeen};
+ghost use Rattle.seg_line_rules.specs.declared.engines.LineEngine.TheVariants.{Seventeen};
 ghost use Rattle.seg_line_rules.specs.LineUnits.{is_joiner};
 ghost use Rattle.seg_line_turns.specs.TurnPlaces.{outcome_unless};
 

@@ -22,7 +22,7 @@ use Rattle.seg_clusters.proofs.UnwordedSpans.{inner-none}
 use Rattle.seg_line_rules.specs.declared.line_pairs.LinePairs.{LinePairs}
 use Rattle.seg_line_rules.specs.LineBoundaries.{inside, line_boundaries, line_stretch, rules_by, KeepsMarks}
 use Rattle.seg_line_rules.specs.LineRules.{TableRules}
-use Rattle.seg_line_rules.specs.LineClasses.LineEngine.{Seventeen, Classic}
+use Rattle.seg_line_rules.specs.declared.engines.LineEngine.TheVariants.{Seventeen, Classic}
 use Rattle.seg_line_rules.proofs.LineRestarts.{line-restarts}
 use Rattle.seg_line_rules.proofs.LineStretches.{line-going}
 use Rattle.seg_line_turns.specs.declared.turn_pairs.TurnPairs.{TurnPairs}
