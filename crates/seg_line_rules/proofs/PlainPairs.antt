@@ -1,5 +1,5 @@
 -- Pairs of units of one item each, between which the table alone decides.
-use Rattle.std.proofs.Common.{◌≡◌, ℕ, suc, ◌+◌, ◌&&◌, ◌||◌, ◌==◌, not, Bool, true, false, cond, None, List, [], ◌∷◌, drop, refl, sym, ap, ◌∙◌}
+use Rattle.std.proofs.Common.{◌≡◌, ℕ, suc, ◌&&◌, ◌||◌, ◌==◌, not, Bool, true, false, cond, None, List, [], ◌∷◌, drop, refl, sym, ap, ◌∙◌}
 use Rattle.seg_text.specs.Items.{Text, code_points}
 use Rattle.seg_text.specs.Boundaries.{boundary, Cuts, Stretch}
 use Rattle.seg_text.specs.declared.boundary.Boundary.{Boundary}

@@ -1,5 +1,5 @@
 -- A text whose lines are found one after another: what is read ahead, what comes next, and what is left.
-use Rattle.std.specs.Prelude.{◌≡◌, ◌<◌, ℕ, Option, Some, None, [], ◌∷◌, ◌≢◌, ◌≤◌, List, ◌++◌, length, IfSome, ◌==◌, ◌&&◌, ◌||◌, not, Bool, true, false, if◌then◌else◌, nat_lt, filter}
+use Rattle.std.specs.Prelude.{◌≡◌, ◌<◌, ℕ, Option, Some, None, [], ◌∷◌, ◌≢◌, ◌≤◌, List, ◌++◌, length, IfSome, ◌||◌, Bool, true, false, if◌then◌else◌, nat_lt, filter}
 use Rattle.seg_text.specs.Items.{Text, code_points, rest_after, start_of}
 use Rattle.seg_text.specs.declared.boundary.Boundary.{Boundary}
 use Rattle.seg_text.specs.Boundaries.{boundary, boundaries_in, Cuts, AreCutsOf, with_status, cut_places, later_boundaries, Remainder}

@@ -8,9 +8,9 @@ ghost use Rattle.seg_text.specs.Boundaries.{GivesNext, IsCover, boundary, offset
 ghost use Rattle.seg_clusters.specs.Payloads.{payloads_of, run_cuts_by};
 ghost use Rattle.seg_line_rules.specs.LineBoundaries.{inside, table_line_boundaries_of, rules_by};
 
+use crate::classic::ClassicEngine;
 use crate::events::{LineEvent, LineEvents, LineSource};
 use crate::inside_cuts::InsideCuts;
-use crate::classic::ClassicEngine;
 use crate::line_pairs::LinePairs;
 use seg_clusters::complex::ComplexPayloadsBorrowed;
 use seg_text::cursor::Cursor;

@@ -27,39 +27,73 @@ impl ClassNumber {
 }
 
 pub(crate) const AI: ClassNumber = ClassNumber(1, 1);
+
 pub(crate) const AI_EASTASIAN: ClassNumber = ClassNumber(1, 2);
+
 pub(crate) const AL: ClassNumber = ClassNumber(3, 4);
+
 pub(crate) const AL_DOTTED_CIRCLE: ClassNumber = ClassNumber(4, 5);
+
 pub(crate) const AL_EASTASIAN: ClassNumber = ClassNumber(3, 6);
+
 pub(crate) const BA: ClassNumber = ClassNumber(8, 10);
+
 pub(crate) const BK: ClassNumber = ClassNumber(10, 13);
+
 pub(crate) const CJ: ClassNumber = ClassNumber(12, 15);
+
 pub(crate) const CM: ClassNumber = ClassNumber(14, 18);
+
 pub(crate) const CM_EASTASIAN: ClassNumber = ClassNumber(14, 19);
+
 pub(crate) const CR: ClassNumber = ClassNumber(16, 21);
+
 pub(crate) const EX: ClassNumber = ClassNumber(19, 25);
+
 pub(crate) const EX_EASTASIAN: ClassNumber = ClassNumber(19, 26);
+
 pub(crate) const H2: ClassNumber = ClassNumber(21, 29);
+
 pub(crate) const H3: ClassNumber = ClassNumber(22, 30);
+
 pub(crate) const HY: ClassNumber = ClassNumber(24, 33);
+
 pub(crate) const ID: ClassNumber = ClassNumber(25, 34);
+
 pub(crate) const ID_EASTASIAN: ClassNumber = ClassNumber(25, 36);
+
 pub(crate) const IN: ClassNumber = ClassNumber(27, 37);
+
 pub(crate) const IN_EASTASIAN: ClassNumber = ClassNumber(27, 38);
+
 pub(crate) const JL: ClassNumber = ClassNumber(29, 40);
+
 pub(crate) const JT: ClassNumber = ClassNumber(30, 41);
+
 pub(crate) const JV: ClassNumber = ClassNumber(31, 42);
+
 pub(crate) const LF: ClassNumber = ClassNumber(32, 43);
+
 pub(crate) const NL: ClassNumber = ClassNumber(33, 44);
+
 pub(crate) const NS: ClassNumber = ClassNumber(34, 45);
+
 pub(crate) const NS_EASTASIAN: ClassNumber = ClassNumber(34, 46);
+
 pub(crate) const NU: ClassNumber = ClassNumber(35, 47);
+
 pub(crate) const PO: ClassNumber = ClassNumber(38, 50);
+
 pub(crate) const PO_EASTASIAN: ClassNumber = ClassNumber(39, 51);
+
 pub(crate) const PR: ClassNumber = ClassNumber(40, 52);
+
 pub(crate) const PR_EASTASIAN: ClassNumber = ClassNumber(41, 53);
+
 pub(crate) const SP: ClassNumber = ClassNumber(47, 60);
+
 pub(crate) const ZW: ClassNumber = ClassNumber(53, 67);
+
 pub(crate) const ZWJ: ClassNumber = ClassNumber(54, 68);
 
 /// Whether the class is one of marks.

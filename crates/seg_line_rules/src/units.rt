@@ -49,7 +49,11 @@ impl<'data, I: Cursor> Units<'data, I> {
     }
 
     /// The units of a text whose first item is read already. `rest` has the items after it. Takes no memory.
-    pub(crate) fn from_item(pairs: LinePairs<'data, ClassicEngine>, first: ClassedItem, rest: I) -> Self
+    pub(crate) fn from_item(
+        pairs: LinePairs<'data, ClassicEngine>,
+        first: ClassedItem,
+        rest: I,
+    ) -> Self
         requires { HasClass (rules_by pairs) first }
         ensures { result ≡ record { rules = rules_by pairs.entry; left = line_elements (rules_by pairs.entry) (text_from first (I.text rest)).items; end = (I.text rest).end } }
     {
