@@ -48,7 +48,7 @@ const CLASSES: [(u32, u32, u8); 20] = [
 /// Fails only when out of memory.
 pub fn line_table(alloc: Global) -> Result<RuleBreakData, AllocError>
     ensures value { IfOk result (λ table. table ≡ line_table) }
-    ensures sound { IfOk result (λ table. IsFaultless (HasLineTableFault table cluster_table)) }
+    ensures sound { IfOk result (λ table. IsFaultless (HasLineTableFault Classic table cluster_table)) }
 {
     let Ok(classes) = ClassTable::try_from_ranges(Vec::from_slice(alloc, &CLASSES)?, OTHER) else {
         unreachable!()
