@@ -1,9 +1,10 @@
 -- Which classes are marks, and which bear them.
 use Rattle.std.proofs.Common.{◌≡◌, ℕ, ◌==◌, ◌||◌, ◌&&◌, not, Bool, true, false, List, [], ◌∷◌, refl, sym, ap, ◌∙◌, map}
 use Rattle.std.proofs.lemmas.Bool.{eqb-true}
-use Rattle.seg_line_rules.specs.LineClasses.{LineEngine, class_number}
+use Rattle.seg_line_rules.specs.declared.engines.LineEngine.{LineEngine}
+use Rattle.seg_line_rules.specs.LineClasses.{class_number}
 use Rattle.seg_line_rules.specs.LineClasses.LineClass.{BK, CM, CM_EASTASIAN, CR, LF, NL, SP, ZW, ZWJ}
-use Rattle.seg_line_rules.specs.LineClasses.LineEngine.{Classic, Seventeen}
+use Rattle.seg_line_rules.specs.declared.engines.LineEngine.TheVariants.{Classic, Seventeen}
 use Rattle.seg_line_rules.specs.LineRules.{is_among, is_named_class, is_one_of}
 use Rattle.seg_line_rules.specs.LineUnits.{is_mark, bears_none, is_glued}
 

@@ -3,6 +3,9 @@
 #![tactic(auto)]
 
 pub mod boundaries;
+pub mod classes;
+pub mod classic;
+pub mod engines;
 pub mod events;
 pub mod inside_cuts;
 pub mod laws;

@@ -5,7 +5,7 @@ use Rattle.seg_line_rules.specs.LineRules.{is_among, is_one_of, is_complex_conte
 use Rattle.seg_line_rules.specs.LineClasses.{class_number}
 use Rattle.seg_line_rules.specs.LineClasses.LineClass.{BK, CM, CM_EASTASIAN, CR, HH, HY, LF, NL, QU, QU_PF, QU_PI, SA, SA_MC_MN, SP, ZW, ZWJ}
 use Rattle.seg_line_rules.specs.LineUnits.{is_mark, bears_none}
-use Rattle.seg_line_rules.specs.LineClasses.LineEngine.{Seventeen}
+use Rattle.seg_line_rules.specs.declared.engines.LineEngine.TheVariants.{Seventeen}
 use Rattle.seg_line_turns.specs.TurnClasses.{is_glue, is_complex_mark, is_start}
 
 abbrev pub Each : (ℕ → Bool) → List ℕ → Type 0
