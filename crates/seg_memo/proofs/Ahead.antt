@@ -107,7 +107,7 @@ pub in-hand : (s : Subject) (m : Machine) (states : ℕ) (transitions : List ℕ
     → IsReadBy s m states transitions → Turn s t start (configuration state place 0) last counted → IsKeptSymbol s m text start place symbol left → next ≡ slice_index transitions (state + symbol * states)
     → Read s m (configuration state place 0) states transitions symbol next
 in-hand s m states transitions t text left start state place symbol next counted last read turn ahead is = record {
-  sound = turn.table.fit.sound;
+  sound = turn.fit.sound;
   read = read;
   within = turn.within;
   symbol_is = ahead.symbol_is;

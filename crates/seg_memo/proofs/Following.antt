@@ -18,7 +18,7 @@ use Rattle.seg_memo.specs.declared.configuration.Outcome.{Outcome}
 use Rattle.seg_memo.specs.declared.configuration.Outcome.TheVariants.{Nothing, Picked, Kept}
 use Rattle.seg_memo.specs.declared.configuration.LookUp.TheVariants.{Ends, Leads}
 use Rattle.seg_memo.specs.Configurations.{Subject, configuration, following, condition_held, entering, look_ups_on, look_ups, entered, at, outcome, outcome_at, arrival, look_up}
-use Rattle.seg_memo.specs.Grids.{IsSound, IsConfigurationOf}
+use Rattle.seg_memo.specs.Grids.{IsSound, IsConfigurationOf, IsOn}
 
 -- a configuration comes after another
 pub record Follows (s : Subject) (before after : Configuration) : Type 0 where
@@ -171,6 +171,15 @@ look-ups-cons : (s : Subject) (c : Configuration) (next : ℕ) (states : List �
     → look_ups_on s c (next ∷ states) ≡ c ∷ option_map_or {T = ℕ × ℕ} {U = List Configuration} (λ f. []) found (look_ups_on s (entering s c next) states)
 unfolding look_ups_on
 look-ups-cons s c next states found is = rw is refl
+
+-- it looks up that configuration
+pub look-ups-on : (s : Subject) (c : Configuration) → IsOn c (look_ups s c)
+unfolding look_ups
+look-ups-on s c = on (following s c)
+  where
+    on : (states : List ℕ) → IsOn c (look_ups_on s c states)
+    on [] = subst (IsOn c) (sym (look-ups-nil s c)) (inl refl)
+    on (next ∷ states) = subst (IsOn c) (sym (look-ups-cons s c next states (condition_held c.kept (state_at s.machine next)) refl)) (inl refl)
 
 look-ups-none : (s : Subject) (c : Configuration) → following s c ≡ [] → look_ups s c ≡ c ∷ []
 unfolding look_ups

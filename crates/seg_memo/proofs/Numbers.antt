@@ -1,12 +1,12 @@
 -- The numbers of configurations.
-use Rattle.std.proofs.Common.{◌≡◌, ℕ, suc, ◌+◌, ◌*◌, ◌^◌, ◌<◌, ◌≤◌, length, refl, ap, ◌∙◌, arith}
+use Rattle.std.proofs.Common.{◌≡◌, ℕ, suc, ◌+◌, ◌*◌, ◌^◌, ◌<◌, ◌≤◌, length, ap, ◌∙◌, arith}
 use Rattle.std.proofs.lemmas.Nat.{mul-add-lt, same_from_place, mul-le, pow_pos}
 use Rattle.seg_memo.specs.declared.configuration.Configuration.{Configuration}
-use Rattle.seg_memo.specs.Configurations.{Subject, configurations}
-use Rattle.seg_memo.specs.Grids.{Grid, IsConfigurationOf, IsSound, IsFit, number}
+use Rattle.seg_memo.specs.Configurations.{Subject, configuration, configurations, start_at}
+use Rattle.seg_memo.specs.Grids.{IsConfigurationOf, IsSound, number}
 
--- it is a place of the table
-pub number-below : (s : Subject) (c : Configuration) → IsConfigurationOf s c → number s c < configurations s.machine (length s.symbols)
+-- there are no more than configurations
+pub number-below : (s : Subject) (c : Configuration) → IsConfigurationOf s c → number (length s.machine.states) (2 ^ s.machine.num_lookaheads) c < configurations s.machine (length s.symbols)
 unfolding number
 number-below s c within =
     let m = s.machine in
@@ -14,33 +14,27 @@ number-below s c within =
     let states : (c.place * 2 ^ m.num_lookaheads + c.kept) * length m.states + c.state < length m.states * (2 ^ m.num_lookaheads * (length s.symbols + 1)) = mul-add-lt _ (length m.states) c.state _ sets within.state in
     omega (arith, states)
 
-same : (c d : Configuration) → c.state ≡ d.state → c.place ≡ d.place → c.kept ≡ d.kept → c ≡ d
+pub same : (c d : Configuration) → c.state ≡ d.state → c.place ≡ d.place → c.kept ≡ d.kept → c ≡ d
 same c d s p k =
-    ap (λ (x : ℕ). let r : Configuration = record { state = x; place = c.place; kept = c.kept } in r) s
-    ∙ ap (λ (x : ℕ). let r : Configuration = record { state = d.state; place = x; kept = c.kept } in r) p
-    ∙ ap (λ (x : ℕ). let r : Configuration = record { state = d.state; place = d.place; kept = x } in r) k
+    ap (λ (x : ℕ). configuration x c.place c.kept) s ∙ ap (λ (x : ℕ). configuration d.state x c.kept) p ∙ ap (λ (x : ℕ). configuration d.state d.place x) k
 
--- and no other's
-pub number-same : (s : Subject) (c d : Configuration) → IsConfigurationOf s c → IsConfigurationOf s d → number s c ≡ number s d → c ≡ d
+-- each has its own
+pub number-same : (states sets : ℕ) (c d : Configuration) → c.state < states → c.kept < sets → d.state < states → d.kept < sets → number states sets c ≡ number states sets d → c ≡ d
 unfolding number
-number-same s c d inside within is =
-    let states = same_from_place _ c.state _ d.state (length s.machine.states) inside.state within.state is in
-    let sets = same_from_place c.place c.kept d.place d.kept (2 ^ s.machine.num_lookaheads) inside.kept within.kept states.0 in
-    same c d states.1 sets.0 sets.1
+number-same states sets c d c_state c_kept d_state d_kept is =
+    let sums = same_from_place _ c.state _ d.state states c_state d_state is in
+    let places = same_from_place c.place c.kept d.place d.kept sets c_kept d_kept sums.0 in
+    same c d sums.1 places.0 places.1
 
--- as the code makes it
-pub number-is : (s : Subject) (g : Grid) (c : Configuration) → IsFit s g → (c.place * g.sets + c.kept) * g.states + c.state ≡ number s c
+-- the first configuration of a place has the least number of those from there on
+pub number-least : (states sets place : ℕ) (c : Configuration) → place ≤ c.place → number states sets (start_at place) ≤ number states sets c
 unfolding number
-number-is s g c fit = rw (fit.states, fit.sets) refl
+number-least states sets place c past =
+    let at : place * sets ≤ c.place * sets = mul-le place sets c.place sets past (omega arith) in
+    let all : (place * sets + 0) * states ≤ (c.place * sets + c.kept) * states = mul-le (place * sets + 0) states (c.place * sets + c.kept) states (omega (arith, at)) (omega arith) in
+    omega (arith, all)
 
--- it fits a word, and so do its parts
-pub number-fits : (s : Subject) (g : Grid) (c : Configuration) → IsFit s g → IsConfigurationOf s c → (c.place * g.sets + c.kept) * g.states + c.state < 2 ^ 64
-number-fits s g c fit within = omega (arith, number-is s g c fit, number-below s c within, fit.sound.room)
-
-pub number-in : (s : Subject) (g : Grid) (c : Configuration) → IsFit s g → IsConfigurationOf s c → number s c < length g.cells
-number-in s g c fit within = omega (arith, number-below s c within, fit.size)
-
--- so does one place more than there are
+-- one place more than there are fits a word
 pub items-fit : (s : Subject) → IsSound s → suc (length s.symbols) < 2 ^ 64
 items-fit s sound =
     let states = length s.machine.states in

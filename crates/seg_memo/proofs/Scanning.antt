@@ -1,14 +1,14 @@
 -- What a scan looks up: all of it is of the text, and of each look-up what comes after it.
-use Rattle.std.proofs.Common.{◌≡◌, ℕ, ◌≤◌, ◌==◌, true, List, [], ◌∷◌, ◌++◌, length, refl, sym, ap, ◌∙◌, subst, arith, inl, inr}
+use Rattle.std.proofs.Common.{◌≡◌, ℕ, ◌≤◌, List, [], ◌∷◌, ◌++◌, length, refl, sym, ap, ◌∙◌, subst, arith, inl, inr}
 use Rattle.std.proofs.lemmas.Nat.{pow_pos}
 use Rattle.seg_memo.specs.declared.configuration.Configuration.{Configuration}
 use Rattle.seg_memo.specs.declared.configuration.Outcome.{Outcome}
 use Rattle.seg_memo.specs.declared.configuration.LookUp.{LookUp}
 use Rattle.seg_memo.specs.declared.configuration.LookUp.TheVariants.{Ends, Leads}
 use Rattle.seg_memo.specs.Configurations.{Subject, start_at, following, look_ups, all_look_ups, AreStarts, look_up}
-use Rattle.seg_memo.specs.Grids.{IsSound, IsConfigurationOf, IsOn, has_number, number}
-use Rattle.seg_memo.proofs.Following.{ends, look-ups-leads, states-lead, leads-within}
-use Rattle.seg_memo.proofs.Counts.{AreWithin, has-cons, has-append, or-left, or-right, on-append}
+use Rattle.seg_memo.specs.Grids.{IsSound, IsConfigurationOf, IsOn, onto}
+use Rattle.seg_memo.proofs.Following.{ends, look-ups-leads, look-ups-on, states-lead, leads-within}
+use Rattle.seg_memo.proofs.Lists.{AreWithin, Same, on-append, on-left, on-onto, on-right, onto-on}
 
 -- induction over a scan
 pub along : (s : Subject) (P : Configuration → Type 0) → IsSound s
@@ -43,28 +43,25 @@ scan-within s c sound within =
     further c inside cs rest e on = elim on [ inl is ↦ subst (IsConfigurationOf s) (sym is) inside | inr more ↦ rest e more ]
 
 -- what is looked up from one of its look-ups on is some of it
-abbrev pub AreOf : Subject → List Configuration → List Configuration → Type 0
-AreOf s cs ds = (i : ℕ) → has_number s i cs ≡ true → has_number s i ds ≡ true
+abbrev pub AreOf : List Configuration → List Configuration → Type 0
+AreOf cs ds = (c : Configuration) → IsOn c cs → IsOn c ds
 
-of-cons : (s : Subject) (c : Configuration) (cs ds : List Configuration) → AreOf s cs ds → AreOf s cs (c ∷ ds)
-of-cons s c cs ds are i has = has-cons s i c ds ∙ or-right (number s c == i) (has_number s i ds) (are i has)
-
-pub scan-part : (s : Subject) (c d : Configuration) → IsSound s → IsConfigurationOf s c → IsOn d (look_ups s c) → AreOf s (look_ups s d) (look_ups s c)
+pub scan-part : (s : Subject) (c d : Configuration) → IsSound s → IsConfigurationOf s c → IsOn d (look_ups s c) → AreOf (look_ups s d) (look_ups s c)
 scan-part s c d sound within on =
-    along s (λ c. (d : Configuration) → IsOn d (look_ups s c) → AreOf s (look_ups s d) (look_ups s c)) sound
+    along s (λ c. (d : Configuration) → IsOn d (look_ups s c) → AreOf (look_ups s d) (look_ups s c)) sound
     (λ c o inside is d on. alone c d (subst (IsOn d) (ends s c o sound inside is).alone on))
     (λ c e inside is rest d on. further c e d (look-ups-leads s c e sound inside is) (rest d) (subst (IsOn d) (look-ups-leads s c e sound inside is) on))
     (following s c) c refl within d on
   where
-    alone : (c d : Configuration) → IsOn d (c ∷ []) → AreOf s (look_ups s d) (look_ups s c)
-    alone c d on = elim on [ inl is ↦ subst (λ (x : Configuration). AreOf s (look_ups s x) (look_ups s c)) (sym is) (λ i has. has) | inr none ↦ absurd none ]
+    alone : (c d : Configuration) → IsOn d (c ∷ []) → AreOf (look_ups s d) (look_ups s c)
+    alone c d on = elim on [ inl is ↦ subst (λ (x : Configuration). AreOf (look_ups s x) (look_ups s c)) (sym is) (λ e there. there) | inr none ↦ absurd none ]
 
-    further : (c e d : Configuration) → look_ups s c ≡ c ∷ look_ups s e → (IsOn d (look_ups s e) → AreOf s (look_ups s d) (look_ups s e)) → IsOn d (c ∷ look_ups s e)
-        → AreOf s (look_ups s d) (look_ups s c)
+    further : (c e d : Configuration) → look_ups s c ≡ c ∷ look_ups s e → (IsOn d (look_ups s e) → AreOf (look_ups s d) (look_ups s e)) → IsOn d (c ∷ look_ups s e)
+        → AreOf (look_ups s d) (look_ups s c)
     further c e d all rest on =
         elim on [
-          | inl is ↦ subst (λ (x : Configuration). AreOf s (look_ups s x) (look_ups s c)) (sym is) (λ i has. has)
-          | inr more ↦ subst (AreOf s (look_ups s d)) (sym all) (of-cons s c (look_ups s d) (look_ups s e) (rest more))
+          | inl is ↦ subst (λ (x : Configuration). AreOf (look_ups s x) (look_ups s c)) (sym is) (λ e there. there)
+          | inr more ↦ subst (AreOf (look_ups s d)) (sym all) (λ x there. inr (rest more x there))
         ]
 
 -- all scans
@@ -90,13 +87,40 @@ all-within s (start ∷ starts) place sound are within d on =
     ]
 
 pub all-part : (s : Subject) (starts : List ℕ) (place : ℕ) (d : Configuration) → IsSound s → AreStarts s starts place → place ≤ length s.symbols → IsOn d (all_look_ups s starts)
-    → AreOf s (look_ups s d) (all_look_ups s starts)
+    → AreOf (look_ups s d) (all_look_ups s starts)
 all-part s [] place d sound are within on = absurd (subst (IsOn d) (all-nil s) on)
 all-part s (start ∷ starts) place d sound are within on =
     let less : start ≤ length s.symbols = omega (arith, within, are.1) in
-    λ i has.
-    ap (has_number s i) (all-cons s start starts) ∙ has-append s i (look_ups s (start_at start)) (all_look_ups s starts)
-    ∙ elim (on-append d (look_ups s (start_at start)) (all_look_ups s starts) (subst (IsOn d) (all-cons s start starts) on)) [
-      | inl first ↦ or-left (has_number s i (look_ups s (start_at start))) (has_number s i (all_look_ups s starts)) (scan-part s (start_at start) d sound (start-within s start sound less) first i has)
-      | inr rest ↦ or-right (has_number s i (look_ups s (start_at start))) (has_number s i (all_look_ups s starts)) (all-part s starts start d sound are.2 less rest i has)
-    ]
+    λ c there.
+    subst (IsOn c) (sym (all-cons s start starts))
+    (elim (on-append d (look_ups s (start_at start)) (all_look_ups s starts) (subst (IsOn d) (all-cons s start starts) on)) [
+      | inl first ↦ on-left c (look_ups s (start_at start)) (all_look_ups s starts) (scan-part s (start_at start) d sound (start-within s start sound less) first c there)
+      | inr rest ↦ on-right c (look_ups s (start_at start)) (all_look_ups s starts) (all-part s starts start d sound are.2 less rest c there)
+    ])
+
+pub on-scan : (s : Subject) (start : ℕ) (starts : List ℕ) (c : Configuration) → IsOn c (look_ups s (start_at start)) → IsOn c (all_look_ups s (start ∷ starts))
+on-scan s start starts c on = subst (IsOn c) (sym (all-cons s start starts)) (on-left c (look_ups s (start_at start)) (all_look_ups s starts) on)
+
+pub visited-within : (s : Subject) (starts : List ℕ) (end : ℕ) (path : List Configuration) → IsSound s → AreStarts s starts end → end ≤ length s.symbols → AreWithin s path → AreWithin s (path ++ all_look_ups s starts)
+visited-within s starts end path sound are within inside d on =
+    elim (on-append d path (all_look_ups s starts) on) [ inl first ↦ inside d first | inr before ↦ all-within s starts end sound are within d before ]
+
+-- a scan that looked up a path, and would go on over what was looked up before
+pub visited : (s : Subject) (starts : List ℕ) (start : ℕ) (path rest : List Configuration) → look_ups s (start_at start) ≡ onto path rest → ((c : Configuration) → IsOn c rest → IsOn c (all_look_ups s starts))
+    → Same (path ++ all_look_ups s starts) (all_look_ups s (start ∷ starts))
+visited s starts start path rest is part c = (
+  λ on.
+      elim (on-append c path (all_look_ups s starts) on) [
+        | inl there ↦ on-scan s start starts c (subst (IsOn c) (sym is) (on-onto c path rest (inl there)))
+        | inr before ↦ subst (IsOn c) (sym (all-cons s start starts)) (on-right c (look_ups s (start_at start)) (all_look_ups s starts) before)
+      ],
+  λ on.
+      elim (on-append c (look_ups s (start_at start)) (all_look_ups s starts) (subst (IsOn c) (all-cons s start starts) on)) [
+        | inl there ↦
+            elim (onto-on c path rest (subst (IsOn c) is there)) [
+              | inl first ↦ on-left c path (all_look_ups s starts) first
+              | inr last ↦ on-right c path (all_look_ups s starts) (part c last)
+            ]
+        | inr before ↦ on-right c path (all_look_ups s starts) before
+      ],
+)

@@ -1,5 +1,5 @@
 -- A segment, of what the code has in hand.
-use Rattle.std.proofs.Common.{◌≡◌, ◌≢◌, ℕ, ◌+◌, ◌<◌, ◌≤◌, ◌||◌, Bool, Option, Some, None, List, [], ◌∷◌, length, drop, IsSome, refl, sym, ap, ◌∙◌, subst, arith, inl, inr}
+use Rattle.std.proofs.Common.{◌≡◌, ◌≢◌, ℕ, suc, ◌+◌, ◌<◌, ◌≤◌, Option, Some, None, List, [], ◌∷◌, length, drop, IsSome, refl, sym, ap, ◌∙◌, subst, arith, inl, inr}
 use Rattle.std.specs.Option.{option_map}
 use Rattle.std.proofs.lemmas.Bool.{cases_lt}
 use Rattle.std.proofs.lemmas.List.{drop_all, length-drop}
@@ -10,12 +10,10 @@ use Rattle.seg_machine.specs.Machine.{Machine, symbol_and_script, symbols_of}
 use Rattle.seg_machine.specs.Pick.{pick}
 use Rattle.seg_machine.proofs.Picks.{pick-bounds}
 use Rattle.seg_machine.proofs.Scanned.{pick-some}
-use Rattle.seg_memo.specs.declared.configuration.Outcome.{Outcome}
-use Rattle.seg_memo.specs.declared.configuration.Outcome.TheVariants.{Nothing, Picked, Kept}
-use Rattle.seg_memo.specs.Configurations.{Subject, reading, start_at, look_ups, all_look_ups, outcome_at, picked}
-use Rattle.seg_memo.specs.Grids.{Grid, IsAt, IsMemo, IsReadBy, IsScanned, IsSound, has_number}
-use Rattle.seg_memo.proofs.Counts.{has-append, has-nil}
-use Rattle.seg_memo.proofs.Scanning.{all-cons}
+use Rattle.seg_memo.specs.declared.configuration.Outcome.TheVariants.{Picked}
+use Rattle.seg_memo.specs.declared.table.Table.{Table}
+use Rattle.seg_memo.specs.Configurations.{Subject, AreStarts, different, reading, start_at, all_look_ups, outcome_at, picked}
+use Rattle.seg_memo.specs.Grids.{IsAt, IsFit, IsReadBy, IsScanned, IsSound, TellFrom}
 use Rattle.seg_memo.proofs.Picking.{picked-start}
 
 -- a reader's transitions change no symbol
@@ -37,17 +35,9 @@ pub record Segment (s : Subject) (place : ℕ) (found : Boundary) : Type 0 where
   pub picks : pick s.machine (drop place s.symbols) ≡ Some p
   pub is : found ≡ shift place p
 
-picked-is : (s : Subject) (g : Grid) (place : ℕ) (o : Outcome) → IsScanned s g place o → picked o ≡ option_map (shift place) (pick s.machine (drop place s.symbols))
-picked-is s g place o scanned = ap picked scanned.is ∙ picked-start s place scanned.within
-
 nonempty : (m : Machine) (items : List Item) → items ≢ [] → symbols_of m (code_points items) ≢ []
 nonempty m [] some = absurd (some refl)
 nonempty m (item ∷ items) some = λ e. cc
-
-picked-some : (o : Outcome) (b : Boundary) → picked o ≡ Some b → o ≡ Picked b
-picked-some Nothing b is = cc
-picked-some (Picked found) b is = let same : found ≡ b = cc in ap Picked same
-picked-some (Kept lookahead status) b is = cc
 
 -- a text isn't at its end
 pub some-left : (s : Subject) (m : Machine) (states : ℕ) (transitions : List ℕ) (place : ℕ) (items : List Item) → IsReadBy s m states transitions → IsAt s m place items → items ≢ []
@@ -71,35 +61,32 @@ start-picks s m states transitions place items sound within read here some none 
     on None there e = cc
     on (Some p) there e = cc
 
-pub segment-found : (s : Subject) (g : Grid) (place : ℕ) (o : Outcome) (found : Option Boundary) (b : Boundary) → IsScanned s g place o → found ≡ picked o → found ≡ Some b → Segment s place b
-segment-found s g place o found b scanned is some = on (pick s.machine (drop place s.symbols)) refl (sym some ∙ is ∙ picked-is s g place o scanned)
+pub found-segment : (s : Subject) (place : ℕ) (b : Boundary) → place ≤ length s.symbols → outcome_at s (start_at place) ≡ Picked b → Segment s place b
+found-segment s place b within is = on (pick s.machine (drop place s.symbols)) refl (sym (ap picked is) ∙ picked-start s place within)
   where
     on : (f : Option Boundary) → pick s.machine (drop place s.symbols) ≡ f → Some b ≡ option_map (shift place) f → Segment s place b
     on None picks e = cc
     on (Some p) picks e = let same : b ≡ shift place p = cc in record { p = p; picks = picks; is = same }
 
--- a segment ends in the text
-segment-within : (s : Subject) (m : Machine) (states : ℕ) (transitions : List ℕ) (place : ℕ) (items : List Item) (b : Boundary) → IsReadBy s m states transitions → IsAt s m place items
-    → items ≢ [] → place ≤ length s.symbols → Segment s place b → (place < b.offset) × (b.offset ≤ length s.symbols)
-segment-within s m states transitions place items b read here some within segment =
-    let left : drop place s.symbols ≢ [] = subst (λ (xs : List ℕ). xs ≢ []) (own-symbols s m states transitions place items read here) (nonempty s.machine items some) in
-    let bounds = pick-bounds s.machine (drop place s.symbols) segment.p segment.picks left in
-    let offset : b.offset ≡ place + segment.p.offset = ap (λ (x : Boundary). x.offset) segment.is in
-    (omega (arith, bounds.0, offset), omega (arith, bounds.1, offset, length-drop place s.symbols, within))
-
 -- the scans with this one more
-pub segment-memo : (s : Subject) (m : Machine) (states : ℕ) (transitions : List ℕ) (g : Grid) (place : ℕ) (o : Outcome) (items : List Item) (b : Boundary)
-    → IsScanned s g place o → IsReadBy s m states transitions → IsAt s m place items → items ≢ [] → Segment s place b → IsMemo s g b.offset
-segment-memo s m states transitions g place o items b scanned read here some segment =
-    let bounds = segment-within s m states transitions place items b read here some scanned.within segment in
+pub memo-more : (s : Subject) (t : Table) (counted start : ℕ) (starts : List ℕ) (b : Boundary) → AreStarts s starts start → start < length s.symbols → outcome_at s (start_at start) ≡ Picked b
+    → IsFit s t b.offset → TellFrom s t (suc b.offset) (all_look_ups s (start ∷ starts)) [] → counted ≡ different (all_look_ups s (start ∷ starts)) → IsScanned s t counted start b
+memo-more s t counted start starts b are some is fit cells count =
+    let segment = found-segment s start b (omega (arith, some)) is in
+    let left = length-drop start s.symbols in
+    let bounds = pick-bounds s.machine (drop start s.symbols) segment.p segment.picks (λ none. let long : length (drop start s.symbols) ≡ 0 = ap length none in omega (arith, long, left, some)) in
+    let offset : b.offset ≡ start + segment.p.offset = ap (λ (x : Boundary). x.offset) segment.is in
     record {
-      starts = place ∷ scanned.starts;
-      are = ((segment.p, segment.picks, ap (λ (x : Boundary). x.offset) segment.is), bounds.0, scanned.are);
-      within = bounds.1;
-      table = scanned.table b (picked-some o b (picked-is s g place o scanned ∙ ap (option_map (shift place)) segment.picks ∙ ap Some (sym segment.is)));
-      filling = λ i.
-          scanned.filling i
-          ∙ sym (ap (λ (c : Bool). c || has_number s i (all_look_ups s (place ∷ scanned.starts))) (has-nil s i)
-          ∙ ap (has_number s i) (all-cons s place scanned.starts)
-          ∙ has-append s i (look_ups s (start_at place)) (all_look_ups s scanned.starts));
+      memo = record {
+        starts = start ∷ starts;
+        are = ((segment.p, segment.picks, offset), omega (arith, bounds.0, offset), are);
+        within = omega (arith, bounds.1, offset, left, some);
+        fit = fit;
+        cells = cells;
+        count = count;
+      };
+      is = is;
     }
+
+pub scanned-segment : (s : Subject) (t : Table) (counted start : ℕ) (b : Boundary) → IsScanned s t counted start b → start ≤ length s.symbols → Segment s start b
+scanned-segment s t counted start b scanned within = found-segment s start b within scanned.is

@@ -7,10 +7,9 @@ ghost use Rattle.seg_text.specs.Items.{Text, rest_after};
 ghost use Rattle.seg_machine.specs.Pick.{pick};
 ghost use Rattle.seg_machine.specs.Tailored.{parts_of};
 ghost use Rattle.seg_memo.specs.Configurations.{Named, Scan, Subject, floor, look_up, IfLeads};
-ghost use Rattle.seg_memo.specs.Grids.{GoesOverItems, IsKeptSymbol, IsAt, IsMemo, IsNamed, IsReadBy, IsScanned, IsSound, IsWalked, IsConfigurationOf, CursorStandsAt, Went, Has, Keeps, KeepsOthers, cell, late};
+ghost use Rattle.seg_memo.specs.Grids.{GoesOverItems, IsKeptSymbol, IsAt, IsMemo, IsNamed, IsReadBy, IsScanned, IsSound, IsWalked, IsConfigurationOf, CursorStandsAt, Went, cell};
 ghost use Rattle.seg_memo.specs.declared.configuration.Cell.TheVariants.{Unknown};
 ghost use Rattle.seg_memo.specs.declared.configuration.LookUp.TheVariants.{Leads};
-ghost use Rattle.seg_memo.specs.declared.configuration.Outcome.TheVariants.{Picked};
 
 use crate::configuration::{
     Cell, Configuration, LookUp, Outcome, arrive, before, entered, floor, holding, known, name_of,
@@ -96,11 +95,11 @@ fn go_forward<I: Cursor, R: ReadTransitions>(
     ghost named: { Named }
     requires read { IsReadBy named.subject (parts_of machine.now) (R.states reader.old) (R.transitions reader.old) }
     requires named { (count : ℕ) × (R.counted reader.old ≡ count + 1)
-        × Keeps named.subject table.old named.last first count (λ whole. IsNamed named.subject whole named.start named.last first × (cell named.subject whole first ≡ Unknown)) }
+        × IsNamed named.subject table.old count named.start named.last first × (cell table.old first ≡ Unknown) }
     requires second { (look_up named.subject first ≡ Leads second) × IsConfigurationOf named.subject second }
     requires rest { IsAt named.subject (parts_of machine.now) second.place (I.text rest.old).items }
     ensures read { IsReadBy named.subject (parts_of machine.now) (R.states reader.new) (R.transitions reader.new) }
-    ensures went { Keeps named.subject table.new named.last first (R.counted reader.new) (λ whole. Went named.subject whole named.start named.last first result.0 result.1) }
+    ensures went { Went named.subject table.new (R.counted reader.new) named.start named.last first result.0 result.1 }
 {
     let mut here = first;
     let mut next = second;
@@ -131,9 +130,8 @@ fn go_back(
 ) -> Outcome
     ghost named: { Named }
     requires states { named.subject.machine.states ≡ (parts_of machine.now).states }
-    requires went { (count : ℕ) × Keeps named.subject table.old named.last first count (λ whole. Went named.subject whole named.start named.last first last outcome) }
-    ensures walked { (count : ℕ) → Keeps named.subject table.old named.last first count (λ whole. Went named.subject whole named.start named.last first last outcome)
-        → Keeps named.subject table.new named.last first count (λ whole. IsWalked named.subject whole named.start named.last first result) }
+    requires went { (count : ℕ) × Went named.subject table.old count named.start named.last first last outcome }
+    ensures walked { (count : ℕ) → Went named.subject table.old count named.start named.last first last outcome → IsWalked named.subject table.new count named.start named.last first result }
 {
     let mut here = last;
     let mut outcome = outcome;
@@ -163,11 +161,11 @@ fn outcome_from<I: Cursor, R: ReadTransitions>(
 ) -> Outcome
     ghost named: { Named }
     requires read { IsReadBy named.subject (parts_of machine.now) (R.states reader.old) (R.transitions reader.old) }
-    requires named { Keeps named.subject table.old named.last first (R.counted reader.old) (λ whole. IsNamed named.subject whole named.start named.last first) }
+    requires named { IsNamed named.subject table.old (R.counted reader.old) named.start named.last first }
     requires rest { IsAt named.subject (parts_of machine.now) first.place (I.text rest.now).items }
     requires from { from ≡ floor first.place named.last }
     ensures read { IsReadBy named.subject (parts_of machine.now) (R.states reader.new) (R.transitions reader.new) }
-    ensures walked { KeepsOthers named.subject table.new named.last first (R.counted reader.new) (λ whole. IsWalked named.subject whole named.start named.last first result) }
+    ensures walked { IsWalked named.subject table.new (R.counted reader.new) named.start named.last first result }
 {
     if let Some(outcome) = known(table.cell(first)) {
         return outcome;
@@ -210,10 +208,10 @@ fn scan_kept<I: Cursor, R: ReadTransitions>(
     ghost named: { Named }
     requires read { IsReadBy named.subject (parts_of machine.now) (R.states reader.old) (R.transitions reader.old) }
     requires last { last ≡ named.last }
-    requires named { Keeps named.subject table.old named.last first (R.counted reader.old) (λ whole. IsNamed named.subject whole named.start named.last first) }
+    requires named { IsNamed named.subject table.old (R.counted reader.old) named.start named.last first }
     requires rest { IsAt named.subject (parts_of machine.now) first.place (I.text rest.now).items }
     ensures read { IsReadBy named.subject (parts_of machine.now) (R.states reader.new) (R.transitions reader.new) }
-    ensures scanned { Has named.subject table.new result.0.offset (late named.subject result.0.offset) (R.counted reader.new) (λ whole. IsScanned named.subject whole named.start (Picked result.0)) }
+    ensures scanned { IsScanned named.subject table.new (R.counted reader.new) named.start result.0 }
     ensures stands { (text : Text) → GoesOverItems text named.start (I.text rest.now) first.place → CursorStandsAt text named.start (floor named.start named.last) stood
         → CursorStandsAt text named.start result.0.offset result.1 }
 {
@@ -249,13 +247,13 @@ fn scan_plain<I: Cursor, R: ReadTransitions>(
     ghost scan: { Scan }
     requires names { names ≡ false → scan.subject.machine.num_lookaheads ≡ 0 }
     requires read { IsReadBy scan.subject (parts_of machine.now) (R.states reader.old) (R.transitions reader.old) }
-    requires memo { Has scan.subject table.old scan.start (late scan.subject scan.start) (R.counted reader.old) (λ whole. IsMemo scan.subject whole scan.start) }
+    requires memo { IsMemo scan.subject table.old (R.counted reader.old) scan.start }
     requires start { start ≡ scan.start }
     requires rest { IsAt scan.subject (parts_of machine.now) scan.start (I.text rest.now).items }
     requires some { (I.text rest.now).items ≢ [] }
     requires ahead { IsKeptSymbol scan.subject (parts_of machine.now) (I.text rest.now) scan.start scan.start first.old (I.text ahead.old) }
     ensures read { IsReadBy scan.subject (parts_of machine.now) (R.states reader.new) (R.transitions reader.new) }
-    ensures scanned { Has scan.subject table.new result.0.offset (late scan.subject result.0.offset) (R.counted reader.new) (λ whole. IsScanned scan.subject whole scan.start (Picked result.0)) }
+    ensures scanned { IsScanned scan.subject table.new (R.counted reader.new) scan.start result.0 }
     ensures stands { CursorStandsAt (I.text rest.now) scan.start result.0.offset result.1 }
     ensures ahead { IsKeptSymbol scan.subject (parts_of machine.now) (I.text rest.now) scan.start result.2 first.new (I.text ahead.new) }
 {
@@ -315,13 +313,13 @@ fn scan_any<I: Cursor, R: ReadTransitions>(
 ) -> (Boundary, usize, usize)
     ghost scan: { Scan }
     requires read { IsReadBy scan.subject (parts_of machine.now) (R.states reader.old) (R.transitions reader.old) }
-    requires memo { Has scan.subject table.old scan.start (late scan.subject scan.start) (R.counted reader.old) (λ whole. IsMemo scan.subject whole scan.start) }
+    requires memo { IsMemo scan.subject table.old (R.counted reader.old) scan.start }
     requires start { start ≡ scan.start }
     requires rest { IsAt scan.subject (parts_of machine.now) scan.start (I.text rest.now).items }
     requires some { (I.text rest.now).items ≢ [] }
     requires ahead { IsKeptSymbol scan.subject (parts_of machine.now) (I.text rest.now) scan.start scan.start first.old (I.text ahead.old) }
     ensures read { IsReadBy scan.subject (parts_of machine.now) (R.states reader.new) (R.transitions reader.new) }
-    ensures scanned { Has scan.subject table.new result.0.offset (late scan.subject result.0.offset) (R.counted reader.new) (λ whole. IsScanned scan.subject whole scan.start (Picked result.0)) }
+    ensures scanned { IsScanned scan.subject table.new (R.counted reader.new) scan.start result.0 }
     ensures stands { CursorStandsAt (I.text rest.now) scan.start result.0.offset result.1 }
     ensures ahead { IsKeptSymbol scan.subject (parts_of machine.now) (I.text rest.now) scan.start result.2 first.new (I.text ahead.new) }
 {
@@ -356,12 +354,12 @@ pub(crate) fn next_segment<I: Cursor, R: ReadTransitions>(
 ) -> Boundary
     ghost subject: { Subject }
     requires read { IsReadBy subject (parts_of scanned.now.machine) (R.states reader.old) (R.transitions reader.old) }
-    requires memo { Has subject table.old start (late subject start) (R.counted reader.old) (λ whole. IsMemo subject whole start) }
+    requires memo { IsMemo subject table.old (R.counted reader.old) start }
     requires rest { IsAt subject (parts_of scanned.now.machine) start (I.text rest.old).items }
     requires some { (I.text rest.old).items ≢ [] }
     requires ahead { IsKeptSymbol subject (parts_of scanned.now.machine) (I.text rest.old) start start first.old (I.text ahead.old) }
     ensures read { IsReadBy subject (parts_of scanned.now.machine) (R.states reader.new) (R.transitions reader.new) }
-    ensures memo { Has subject table.new result.offset (late subject result.offset) (R.counted reader.new) (λ whole. IsMemo subject whole result.offset) }
+    ensures memo { IsMemo subject table.new (R.counted reader.new) result.offset }
     ensures segment { (p : AnyBoundary) × (pick subject.machine (drop start subject.symbols) ≡ Some p) × (result ≡ shift start p)
         × (I.text rest.new ≡ rest_after p.offset (I.text rest.old)) }
     ensures ahead { IsKeptSymbol subject (parts_of scanned.now.machine) (I.text rest.new) result.offset result.offset first.new (I.text ahead.new) }

@@ -5,9 +5,8 @@ use Rattle.seg_memo.specs.Configurations.{floor, start_at}
 use Rattle.seg_memo.specs.Grids.{CursorStandsAt}
 use Rattle.seg_memo.proofs.Ahead.{names-none, ahead-next, comes, comes-free, comes-kept, goes-after, in-hand, kept-at, stands-same, starts-after, starts-ahead, still-read, stops, turn-same}
 use Rattle.seg_memo.proofs.Following.{fewer}
-use Rattle.seg_memo.proofs.Ways.{count-room}
 use Rattle.seg_memo.proofs.Moves.{stands, stays}
-use Rattle.seg_memo.proofs.Onward.{entry-accepts, entry-not, turn-accepts, turn-begins, turn-ends, turn-first, turn-held, turn-known, turn-last, turn-marks, turn-names, turn-some}
+use Rattle.seg_memo.proofs.Onward.{entry-accepts, entry-not, turn-accepts, turn-begins, turn-ends, turn-first, turn-held, turn-known, turn-last, turn-marks, turn-names, turn-room, turn-some}
 use Rattle.seg_memo.proofs.Reading.{entry-few, next-within, symbol-fits}
 use Rattle.seg_memo.proofs.Segments.{some-left}
 use Rattle.seg_memo.proofs.search.scan_plain.Goals as goal
@@ -23,10 +22,10 @@ scan-init g c = record {
 }
 
 pub read-next-requires-clause-symbol : goal.read-next-requires-clause-symbol
-read-next-requires-clause-symbol g c = symbol-fits _ _ _ _ _ _ c.scan.invariant.turn.table.fit.sound c.scan.invariant.read c.scan.invariant.ahead.symbol_is
+read-next-requires-clause-symbol g c = symbol-fits _ _ _ _ _ _ c.scan.invariant.turn.fit.sound c.scan.invariant.read c.scan.invariant.ahead.symbol_is
 
 pub read-next-requires-clause-room : goal.read-next-requires-clause-room
-read-next-requires-clause-room g c = count-room _ _ _ c.scan.invariant.turn.table.fit c.scan.invariant.turn.count
+read-next-requires-clause-room g c = turn-room _ _ _ _ _ _ c.scan.invariant.turn
 
 pub unreachable-requires : goal.unreachable-requires
 unreachable-requires g c =
@@ -44,10 +43,10 @@ entry-entry-requires g c =
     (in-hand _ _ _ _ _ _ _ _ _ _ _ _ _ _ c.scan.invariant.read c.scan.invariant.turn c.scan.invariant.ahead c.read-next.ensures.value) c.if-next.false
 
 pub name_of-requires : goal.name_of-requires
-name_of-requires g c = λ none. names-none _ _ _ _ _ _ c.scan.invariant.turn.table.fit.sound c.scan.invariant.read c.entry-entry.ensures (c.requires.1.1.0 none)
+name_of-requires g c = λ none. names-none _ _ _ _ _ _ c.scan.invariant.turn.fit.sound c.scan.invariant.read c.entry-entry.ensures (c.requires.1.1.0 none)
 
 pub naming-here-requires : goal.naming-here-requires
-naming-here-requires g c = entry-few _ _ _ _ _ _ c.scan.invariant.turn.table.fit.sound c.scan.invariant.read c.entry-entry.ensures
+naming-here-requires g c = entry-few _ _ _ _ _ _ c.scan.invariant.turn.fit.sound c.scan.invariant.read c.entry-entry.ensures
 
 pub scan_kept-stood-requires : goal.scan_kept-stood-requires
 scan_kept-stood-requires g c κs within =
@@ -82,14 +81,14 @@ pub mark-requires : goal.mark-requires
 mark-requires g c =
     let k = comes-free _ _ _ _ _ (comes _ _ _ _ _ _ _ _ _ _ _ _ _ _ _ _ c.scan.invariant.read c.scan.invariant.turn c.scan.invariant.ahead c.scan.invariant.after c.read-next.ensures.value c.if-next.false c.entry-entry.ensures) (sym c.name_of.ensures ∙ c.in_default-name_of.is) in
     let held = turn-held _ _ _ _ _ _ _ _ c.scan.invariant.turn c.in-Some-last.is k.leads k.within in
-    (held.0, (held.1.0, (held.1.1, refl)))
+    record { here = held.0; from = held.1 }
 
 pub returns-then-mark : goal.returns-then-mark
 returns-then-mark g c =
     let k = comes-free _ _ _ _ _ (comes _ _ _ _ _ _ _ _ _ _ _ _ _ _ _ _ c.scan.invariant.read c.scan.invariant.turn c.scan.invariant.ahead c.scan.invariant.after c.read-next.ensures.value c.if-next.false c.entry-entry.ensures) (sym c.name_of.ensures ∙ c.in_default-name_of.is) in
     record {
       read = still-read _ _ _ _ _ _ c.scan.invariant.read c.read-next.ensures.states c.read-next.ensures.transitions;
-      scanned = turn-known _ _ _ _ _ _ _ _ _ _ refl (turn-last _ _ _ _ _ _ _ c.scan.invariant.turn c.in-Some-last.is) k.leads k.within (entry-not _ _ _ _ _ _ c.scan.invariant.read c.entry-entry.ensures c.in_default-0₀.not-Accept) c.mark.ensures c.if-mark.true c.read-next.ensures.counted;
+      scanned = turn-known _ _ _ _ _ _ _ _ _ refl (turn-last _ _ _ _ _ _ _ c.scan.invariant.turn c.in-Some-last.is) k.leads k.within (entry-not _ _ _ _ _ _ c.scan.invariant.read c.entry-entry.ensures c.in_default-0₀.not-Accept) (c.mark.ensures.known c.if-mark.true) c.read-next.ensures.counted;
       stands = subst (λ (x : Option Boundary). CursorStandsAt (g.I.Cursor.text c.args.rest.now) g.scan.start (floor g.scan.start x) c.scan.stood) c.in-Some-last.is c.scan.invariant.stands;
       ahead = c.scan.invariant.ahead;
     }
@@ -97,7 +96,7 @@ returns-then-mark g c =
 pub scan-smaller : goal.scan-smaller
 scan-smaller g c =
     let k = comes-free _ _ _ _ _ (comes _ _ _ _ _ _ _ _ _ _ _ _ _ _ _ _ c.scan.invariant.read c.scan.invariant.turn c.scan.invariant.ahead c.scan.invariant.after c.read-next.ensures.value c.if-next.false c.entry-entry.ensures) (sym c.name_of.ensures ∙ c.in_default-name_of.is) in
-    fewer _ _ _ c.scan.invariant.turn.table.fit.sound c.scan.invariant.turn.within k.leads
+    fewer _ _ _ c.scan.invariant.turn.fit.sound c.scan.invariant.turn.within k.leads
 
 pub scan-preserved : goal.scan-preserved
 scan-preserved g c =
@@ -117,7 +116,7 @@ scan-preserved g c =
       | in_default-0₀+in-Some-last+else-mark w ↦ record {
         read = still-read _ _ _ _ _ _ c.scan.invariant.read c.read-next.ensures.states c.read-next.ensures.transitions;
         turn = turn-same _ _ _ _ _ _ _ _
-            (turn-marks _ _ _ _ _ _ _ _ _ _ refl (turn-last _ _ _ _ _ _ _ c.scan.invariant.turn w.in-Some-last.is) k.leads k.within (entry-not _ _ _ _ _ _ c.scan.invariant.read c.entry-entry.ensures w.in_default-0₀.not-Accept) w.mark.ensures w.if-mark.false c.read-next.ensures.counted)
+            (turn-marks _ _ _ _ _ _ _ _ _ refl (turn-last _ _ _ _ _ _ _ c.scan.invariant.turn w.in-Some-last.is) k.leads k.within (entry-not _ _ _ _ _ _ c.scan.invariant.read c.entry-entry.ensures w.in_default-0₀.not-Accept) (w.mark.ensures.new w.if-mark.false) c.read-next.ensures.counted)
             w.table-is w.last-is;
         ahead = ahead-next _ _ _ _ _ _ _ _ _ _ _ c.scan.invariant.ahead c.scan.invariant.after c.next_symbol-in-scan.ensures.symbol c.next_symbol-in-scan.ensures.place c.next_symbol-in-scan.ensures.rest c.next_symbol-in-scan.ensures.goes;
         after = c.next_symbol-in-scan.ensures.place;

@@ -8,9 +8,6 @@ use Rattle.seg_memo.proofs.search.scan_plain.Given as goal
 abbrev pub ghost-next_symbol : goal.ghost-next_symbol
 ghost-next_symbol g a = g.scan.subject
 
-abbrev pub ghost-mark : goal.ghost-mark
-ghost-mark g a = record { subject = g.scan.subject; start = a.from }
-
 abbrev pub ghost-scan_kept : goal.ghost-scan_kept
 ghost-scan_kept g a = record { subject = g.scan.subject; start = g.scan.start; last = a.last }
 

@@ -1,21 +1,23 @@
 use Rattle.std.proofs.Common.{arith}
-use Rattle.seg_memo.proofs.Windows.{reached}
+use Rattle.seg_memo.proofs.Cells.{reached}
 use Rattle.seg_memo.proofs.table.Table.index.Goals as goal
 
+pub overflow_mul-result : goal.overflow_mul-result
+overflow_mul-result c = omega (arith, (reached c.args.self.now c.args.here c.requires).sets)
+
+pub overflow_add-result : goal.overflow_add-result
+overflow_add-result c = omega (arith, (reached c.args.self.now c.args.here c.requires).kept)
+
 pub overflow_mul-result-2 : goal.overflow_mul-result-2
-overflow_mul-result-2 g c = omega (arith, (reached g.scan.subject c.args.self.now g.scan.start c.args.here c.requires.0 c.requires.1.0 c.requires.1.1).product)
+overflow_mul-result-2 c = omega (arith, (reached c.args.self.now c.args.here c.requires).product)
 
 pub overflow_add-result-2 : goal.overflow_add-result-2
-overflow_add-result-2 g c = omega (arith, (reached g.scan.subject c.args.self.now g.scan.start c.args.here c.requires.0 c.requires.1.0 c.requires.1.1).sum)
+overflow_add-result-2 c = omega (arith, (reached c.args.self.now c.args.here c.requires).sum)
 
 pub overflow_sub-result : goal.overflow_sub-result
-overflow_sub-result g c = (reached g.scan.subject c.args.self.now g.scan.start c.args.here c.requires.0 c.requires.1.0 c.requires.1.1).past
+overflow_sub-result c = (reached c.args.self.now c.args.here c.requires).past
 
-pub returns-clause-number : goal.returns-clause-number
-returns-clause-number g c = (reached g.scan.subject c.args.self.now g.scan.start c.args.here c.requires.0 c.requires.1.0 c.requires.1.1).number_is
-
-pub returns-clause-room : goal.returns-clause-room
-returns-clause-room g c = (reached g.scan.subject c.args.self.now g.scan.start c.args.here c.requires.0 c.requires.1.0 c.requires.1.1).room
-
-pub returns-clause-fits : goal.returns-clause-fits
-returns-clause-fits g c = (reached g.scan.subject c.args.self.now g.scan.start c.args.here c.requires.0 c.requires.1.0 c.requires.1.1).fits
+pub returns : goal.returns
+returns c =
+    let r = reached c.args.self.now c.args.here c.requires in
+    record { number = r.number_is; room = r.room; fits = r.fits }

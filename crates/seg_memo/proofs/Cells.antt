@@ -1,0 +1,139 @@
+-- What is done to the cells of a table, by their numbers.
+use Rattle.std.proofs.Common.{◌≡◌, ◌≢◌, ℕ, ◌+◌, ◌-◌, ◌*◌, ◌^◌, ◌<◌, ◌≤◌, List, [], length, get_or, set, take, refl, sym, ap, ◌∙◌, arith, inl, inr}
+use Rattle.std.specs.Prelude.{vec_capacity}
+use Rattle.std.proofs.lemmas.Bool.{cases_lt}
+use Rattle.std.proofs.lemmas.Nat.{mul-le}
+use Rattle.std.proofs.lemmas.List.{get_or-set_same, get_or-set_other, get_or-take, get_or_past, get_or_read, length-take}
+use Rattle.seg_memo.specs.declared.configuration.Configuration.{Configuration}
+use Rattle.seg_memo.specs.declared.configuration.Cell.{Cell}
+use Rattle.seg_memo.specs.declared.configuration.Cell.TheVariants.{Unknown}
+use Rattle.seg_memo.specs.declared.table.Table.{Table}
+use Rattle.seg_memo.specs.Configurations.{start_at}
+use Rattle.seg_memo.specs.Grids.{HasCell, IsLeft, IsSet, cell, number}
+use Rattle.seg_memo.proofs.Numbers.{number-least, number-same}
+
+-- the number of a configuration, as the code makes it
+pub record Reached (t : Table) (c : Configuration) : Type 0 where
+  pub sets : c.place * t.sets < 2 ^ 64
+  pub kept : c.place * t.sets + c.kept < 2 ^ 64
+  pub product : (c.place * t.sets + c.kept) * t.states < 2 ^ 64
+  pub sum : (c.place * t.sets + c.kept) * t.states + c.state < 2 ^ 64
+  pub past : t.first ≤ (c.place * t.sets + c.kept) * t.states + c.state
+  pub number_is : t.first + ((c.place * t.sets + c.kept) * t.states + c.state - t.first) ≡ number t.states t.sets c
+  pub room : (c.place * t.sets + c.kept) * t.states + c.state - t.first < vec_capacity t.cells
+  pub fits : t.first + ((c.place * t.sets + c.kept) * t.states + c.state - t.first) < 2 ^ 64
+
+pub reached : (t : Table) (c : Configuration) → HasCell t c → Reached t c
+unfolding number
+reached t c has =
+    let all : (c.place * t.sets + c.kept) * 1 ≤ (c.place * t.sets + c.kept) * t.states = mul-le (c.place * t.sets + c.kept) 1 (c.place * t.sets + c.kept) t.states (omega arith) (omega (arith, has.state)) in
+    record {
+      sets = omega (arith, all, has.fits);
+      kept = omega (arith, all, has.fits);
+      product = omega (arith, has.fits);
+      sum = has.fits;
+      past = has.first;
+      number_is = omega (arith, has.first);
+      room = omega (arith, has.room);
+      fits = omega (arith, has.first, has.fits);
+    }
+
+-- a cell by its index
+pub cell-is : (t : Table) (c : Configuration) (index : ℕ) → t.first + index ≡ number t.states t.sets c → cell t c ≡ get_or t.cells.items index Unknown
+unfolding cell
+cell-is t c index is = ap (λ (n : ℕ). get_or t.cells.items n Unknown) (omega (arith, is))
+
+has-on : (t u : Table) (c : Configuration) → u.states ≡ t.states → u.sets ≡ t.sets → vec_capacity t.cells ≤ vec_capacity u.cells → HasCell t c → u.first ≤ number t.states t.sets c → HasCell u c
+has-on t u c states sets capacity has past = record {
+  state = rw states has.state;
+  kept = rw sets has.kept;
+  first = rw (states, sets) past;
+  room = rw (states, sets) (omega (arith, has.room, capacity));
+  fits = rw (states, sets) has.fits;
+}
+
+-- a cell is written
+pub set-there : (t u : Table) (items : List Cell) (c : Configuration) (x : Cell) (index : ℕ) → HasCell t c → t.first + index ≡ number t.states t.sets c → u.states ≡ t.states → u.sets ≡ t.sets → u.first ≡ t.first
+    → vec_capacity t.cells ≤ vec_capacity u.cells → index < length items → u.cells.items ≡ set items index x → ((i : ℕ) → get_or items i Unknown ≡ get_or t.cells.items i Unknown) → IsSet t u 0 c x
+set-there t u items c x index has is states sets first capacity inside made kept = record {
+  own =
+      cell-is u c index (rw (states, sets, first) is) ∙ ap (λ (xs : List Cell). get_or xs index Unknown) made ∙ get_or-set_same items index x Unknown inside;
+  others = λ d past there.
+      let before = there.first in (
+        has-on t u d states sets capacity there (omega (arith, first, before)),
+        λ other.
+            let k : ℕ = number t.states t.sets d - t.first in
+            let at : t.first + k ≡ number t.states t.sets d = omega (arith, before) in
+            cell-is u d k (rw (states, sets, first) at)
+            ∙ ap (λ (xs : List Cell). get_or xs k Unknown) made
+            ∙ get_or-set_other items index k x Unknown (λ e. other (number-same t.states t.sets d c there.state there.kept has.state has.kept (sym at ∙ ap (λ (n : ℕ). t.first + n) e ∙ is)))
+            ∙ kept k
+            ∙ sym (cell-is t d k at),
+      );
+}
+
+-- cells are let go, or made
+pub left-there : (t u : Table) (gone from : ℕ) → u.states ≡ t.states → u.sets ≡ t.sets → u.first ≡ t.first + gone
+    → ((c : Configuration) → from ≤ c.place → HasCell t c → u.first ≤ number t.states t.sets c) → vec_capacity t.cells ≤ vec_capacity u.cells
+    → ((i : ℕ) → get_or u.cells.items i Unknown ≡ get_or t.cells.items (gone + i) Unknown) → IsLeft t u from
+left-there t u gone from states sets first past capacity same c here has =
+    let before = past c here has in
+    let k : ℕ = number t.states t.sets c - u.first in
+    let at : u.first + k ≡ number t.states t.sets c = omega (arith, before) in
+    (has-on t u c states sets capacity has before, cell-is u c k (rw (states, sets) at) ∙ same k ∙ sym (cell-is t c (gone + k) (omega (arith, at, first))))
+
+pub left-from : (t u : Table) (gone from : ℕ) → u.states ≡ t.states → u.sets ≡ t.sets → t.first + gone ≡ number t.states t.sets (start_at from) → u.first ≡ t.first + gone
+    → vec_capacity t.cells ≤ vec_capacity u.cells → ((i : ℕ) → get_or u.cells.items i Unknown ≡ get_or t.cells.items (gone + i) Unknown) → IsLeft t u from
+left-from t u gone from states sets is first capacity same =
+    left-there t u gone from states sets first (λ c past has. let least = number-least t.states t.sets from c past in omega (arith, first, is, least)) capacity same
+
+pub left-more : (t u : Table) (from : ℕ) → u.states ≡ t.states → u.sets ≡ t.sets → u.first ≡ t.first → vec_capacity t.cells ≤ vec_capacity u.cells
+    → ((i : ℕ) → get_or u.cells.items i Unknown ≡ get_or t.cells.items i Unknown) → IsLeft t u from
+left-more t u from states sets first capacity same =
+    left-there t u 0 from states sets (omega (arith, first)) (λ c past has. let before = has.first in omega (arith, first, before)) capacity
+    (λ i. same i ∙ ap (λ (n : ℕ). get_or t.cells.items n Unknown) (omega arith))
+
+-- there are none after them
+pub none-after : (new old : List Cell) (gone i : ℕ) → new ≡ [] → length old ≤ gone → get_or new i Unknown ≡ get_or old (gone + i) Unknown
+none-after new old gone i none past = ap (λ (xs : List Cell). get_or xs i Unknown) none ∙ sym (get_or_past old (gone + i) Unknown (omega (arith, past)))
+
+pub left-on : (t u v : Table) (from : ℕ) → IsLeft t u from → IsLeft u v from → IsLeft t v from
+left-on t u v from one more c past has =
+    let first = one c past has in
+    let then = more c past first.0 in
+    (then.0, then.1 ∙ first.1)
+
+pub left-set : (t u v : Table) (from : ℕ) (here : Configuration) (x : Cell) → IsLeft t u from → IsSet u v 0 here x → IsSet t v from here x
+left-set t u v from here x one more = record {
+  own = more.own;
+  others = λ c past has.
+      let first = one c past has in
+      let then = more.others c (omega arith) first.0 in
+      (then.0, λ other. then.1 other ∙ first.1);
+}
+
+-- a table without cells
+
+pub new-cell : (t : Table) (c : Configuration) → t.cells.items ≡ [] → cell t c ≡ Unknown
+unfolding cell
+new-cell t c none = rw none refl
+
+pub new-has : (t : Table) (c : Configuration) → t.first ≡ 0 → c.state < t.states → c.kept < t.sets → number t.states t.sets c < vec_capacity t.cells → number t.states t.sets c < 2 ^ 64 → HasCell t c
+new-has t c first state kept room fits = record { state = state; kept = kept; first = omega (arith, first); room = room; fits = fits }
+
+-- a cell is read
+pub cell-read : (t : Table) (c : Configuration) (index : ℕ) (was : Cell) → t.first + index ≡ number t.states t.sets c → index < length t.cells.items → was ≡ get_or t.cells.items index was → was ≡ cell t c
+cell-read t c index was is inside read = get_or_read t.cells.items index was inside read Unknown ∙ sym (cell-is t c index is)
+
+pub cell-past : (t : Table) (c : Configuration) (index : ℕ) → t.first + index ≡ number t.states t.sets c → length t.cells.items ≤ index → Unknown ≡ cell t c
+cell-past t c index is past = sym (cell-is t c index is ∙ get_or_past t.cells.items index Unknown past)
+
+-- cells are moved to the front
+pub cells-moved : (old mid new : List Cell) (gone left : ℕ) → gone + left ≡ length old → length mid ≡ length old → ((k : ℕ) (d : Cell) → 0 ≤ k → k < 0 + left → get_or mid k d ≡ get_or old (gone + (k - 0)) d)
+    → new ≡ take left mid → (i : ℕ) → get_or new i Unknown ≡ get_or old (gone + i) Unknown
+cells-moved old mid new gone left all long moved is i =
+    ap (λ (xs : List Cell). get_or xs i Unknown) is
+    ∙ elim (cases_lt i left) [
+      | inl less ↦ get_or-take left mid i Unknown less ∙ moved i Unknown (omega arith) (omega (arith, less)) ∙ ap (λ (n : ℕ). get_or old n Unknown) (omega arith)
+      | inr past ↦ get_or_past (take left mid) i Unknown (omega (arith, past, length-take left mid, long, all)) ∙ sym (get_or_past old (gone + i) Unknown (omega (arith, past, all)))
+    ]
