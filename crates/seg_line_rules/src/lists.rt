@@ -25,6 +25,7 @@ pub struct Neighbours {
 
 /// Whether no boundary stands between two classes under `KeepAll`.
 #[tactic(auto, unfolding(crate::specs::LineLists::keeps))]
+#[inline(always)]
 pub fn keeps(engine: LineEngine, style: LineStyle, left: u8, right: u8) -> bool
     ensures { result ≡ keeps engine style left right }
 {
@@ -33,6 +34,7 @@ pub fn keeps(engine: LineEngine, style: LineStyle, left: u8, right: u8) -> bool
 
 /// Whether a boundary stands between two units by the list of the strictness, where it decides. `is_joined`: the left unit ends with ZWJ.
 #[tactic(auto, unfolding(crate::specs::LineLists::listed))]
+#[inline(always)]
 pub fn listed(
     engine: LineEngine,
     style: LineStyle,

@@ -15,6 +15,7 @@ use Rattle.seg_line_rules.specs.declared.plain_pairs.ClassedItem.{ClassedItem}
 use Rattle.seg_line_rules.specs.LineClasses.{class_number}
 use Rattle.seg_line_rules.specs.LineClasses.LineClass.{CM, CM_EASTASIAN, HH, HY, IS, QU_PF, SA, SA_MC_MN, SP, ZWJ}
 use Rattle.seg_line_rules.specs.declared.engines.LineEngine.TheVariants.{Seventeen}
+use Rattle.seg_line_rules.proofs.Marks.{none-among}
 use Rattle.seg_line_rules.proofs.PlainPairs.{and-first, and-last, and-off, if-off, keeps-off, listed-off, not-true, said-break, said-go}
 use Rattle.seg_line_turns.specs.TurnEvents.{entry_turn, going_text, is_asked, is_plain_turn, is_unanswered, plain_turn, unread_turns}
 use Rattle.seg_line_turns.specs.TurnBoundaries.{later_turns, turn_stretch_of}
@@ -24,7 +25,6 @@ use Rattle.seg_line_turns.specs.Turns.{Turn, class_turn, list_turn, right_turn, 
 use Rattle.seg_line_turns.specs.Turns.Turn.{BreakAt, GoTo}
 use Rattle.seg_line_turns.proofs.TurnEvents.{turn-next}
 use Rattle.seg_line_turns.proofs.TurnReads.{turn-cons}
-use Rattle.seg_line_turns.proofs.TurnSets.{none-among}
 
 and-off-last : (a b : Bool) → b ≡ false → (a && b) ≡ false
 and-off-last true b off = off
