@@ -14,7 +14,7 @@ use Rattle.seg_memo.specs.declared.table.Table.{Table}
 use Rattle.seg_memo.specs.Configurations.{AreLookedUp, AreStarts, Subject, all_look_ups, configurations, different, reading, subject}
 use Rattle.seg_memo.specs.Grids.{HasCell, IsConfigurationOf, IsMemo, IsOn, IsSound, Tells, cell, number}
 use Rattle.seg_memo.proofs.Lists.{different-bound}
-use Rattle.seg_memo.proofs.Memoised.{symbols-length}
+use Rattle.seg_memo.proofs.Reading.{symbols-length}
 use Rattle.seg_memo.proofs.Numbers.{items-fit, number-below}
 use Rattle.seg_memo.proofs.Scanning.{all-nil, all-within}
 

@@ -1,5 +1,5 @@
 -- The outcome of a scan that keeps a lookahead, and its end.
-use Rattle.std.proofs.Common.{◌≡◌, ℕ, suc, ◌+◌, ◌-◌, ◌<◌, ◌≤◌, ◌==◌, Bool, Option, Some, None, List, [], ◌∷◌, ◌++◌, length, refl, sym, ap, ◌∙◌, subst, arith, inl, inr, eq-eqb}
+use Rattle.std.proofs.Common.{◌≡◌, ℕ, ◌+◌, ◌-◌, ◌≤◌, Bool, Option, Some, None, List, ◌∷◌, ◌++◌, length, refl, sym, ap, ◌∙◌, subst, arith, inl, inr, eq-eqb}
 use Rattle.std.proofs.lemmas.Bool.{cases_eq, cases_lt, ne_eqb}
 use Rattle.seg_text.specs.declared.boundary.Boundary.{Boundary}
 use Rattle.seg_text.specs.Boundaries.{boundary}
@@ -13,11 +13,11 @@ use Rattle.seg_memo.specs.declared.configuration.Cell.{Cell}
 use Rattle.seg_memo.specs.declared.configuration.Cell.TheVariants.{KnownNothing, Unknown, Way}
 use Rattle.seg_memo.specs.declared.table.Table.{Table}
 use Rattle.seg_memo.specs.Configurations.{Subject, all_look_ups, entered, floor, later, outcome_at, picked, start_at}
-use Rattle.seg_memo.specs.Grids.{HasCell, IsConfigurationOf, IsFit, IsLeft, IsNamed, IsOn, IsReadBy, IsScanned, IsSet, IsWalked, Keeps, Went, cell, came_from, holding, known}
+use Rattle.seg_memo.specs.Grids.{HasCell, IsConfigurationOf, IsFit, IsLeft, IsNamed, IsReadBy, IsScanned, IsSet, IsWalked, Source, Went, cell, came_from, holding, known}
 use Rattle.seg_memo.proofs.Following.{look-ups-on, picked-past, same-picked}
 use Rattle.seg_memo.proofs.Lists.{on-append}
 use Rattle.seg_memo.proofs.Plain.{never-kept}
-use Rattle.seg_memo.proofs.Reading.{state-read}
+use Rattle.seg_memo.proofs.Reading.{entered-read}
 use Rattle.seg_memo.proofs.Scanning.{start-within}
 use Rattle.seg_memo.proofs.Segments.{memo-more}
 use Rattle.seg_memo.proofs.Tells.{fit-later, keeps-fill, keeps-left}
@@ -53,11 +53,6 @@ pub walked-cell : (s : Subject) (t : Table) (counted start : ℕ) (last : Option
 walked-cell s t counted start last first o w = w.keeps.fit.has first w.comes.within w.comes.low
 
 -- a state as the code reads it
-
-pub entered-read : (s : Subject) (m : Machine) (states : ℕ) (transitions : List ℕ) (c : Configuration) (o result : Outcome) (entry : Acceptance × Option ℕ) → IsReadBy s m states transitions
-    → entry ≡ state_at m c.state → result ≡ entered c.place entry o → entered c.place (state_at s.machine c.state) o ≡ result
-entered-read s m states transitions c o result entry reads e is =
-    ap (λ (x : Acceptance × Option ℕ). entered c.place x o) (state-read s m states transitions c.state reads ∙ sym e) ∙ sym is
 
 states-same : (s : Subject) (m : Machine) (state : ℕ) → s.machine.states ≡ m.states → state_at m state ≡ state_at s.machine state
 unfolding state_at
@@ -132,14 +127,14 @@ walked-picked s t counted start last first o found w picks past =
     ]))
     w.keeps.count
 
-pub picked-found : (s : Subject) (m : Machine) (states : ℕ) (transitions : List ℕ) (t : Table) (counted start : ℕ) (last : Option Boundary) (first : Configuration) (o result : Outcome) (entry : Acceptance × Option ℕ)
+pub picked-found : (r : Source) (m : Machine) (states : ℕ) (transitions : List ℕ) (t : Table) (counted start : ℕ) (last : Option Boundary) (first : Configuration) (o result : Outcome) (entry : Acceptance × Option ℕ)
     (is_picked : Option Boundary) (found : Boundary)
-    → IsWalked s t counted start last first o → IsReadBy s m states transitions → entry ≡ state_at m first.state → result ≡ entered first.place entry o
-    → is_picked ≡ picked result → is_picked ≡ Some found → (first.place ≤ found.offset) × IsScanned s t counted start found
-picked-found s m states transitions t counted start last first o result entry is_picked found w reads e is picks some =
-    let found_is = entered-read s m states transitions first o result entry reads e is ∙ picked-some result found (sym picks ∙ some) in
-    let past = entered-past s first (state_at s.machine first.state) o found w.is w.comes.within found_is in
-    (past, walked-picked s t counted start last first o found w found_is past)
+    → IsWalked r.subject t counted start last first o → IsReadBy r m states transitions → entry ≡ state_at m first.state → result ≡ entered first.place entry o
+    → is_picked ≡ picked result → is_picked ≡ Some found → (first.place ≤ found.offset) × IsScanned r.subject t counted start found
+picked-found r m states transitions t counted start last first o result entry is_picked found w reads e is picks some =
+    let found_is = entered-read reads first o result entry e is ∙ picked-some result found (sym picks ∙ some) in
+    let past = entered-past r.subject first (state_at r.subject.machine first.state) o found w.is w.comes.within found_is in
+    (past, walked-picked r.subject t counted start last first o found w found_is past)
 
 -- no pick but the last acceptance
 
@@ -190,18 +185,18 @@ walked-last s t u counted start last first o b w is none set =
     ])
     k.count
 
-pub last-found : (s : Subject) (m : Machine) (states : ℕ) (transitions : List ℕ) (t u : Table) (counted start : ℕ) (last : Option Boundary) (first : Configuration) (o result : Outcome)
+pub last-found : (r : Source) (m : Machine) (states : ℕ) (transitions : List ℕ) (t u : Table) (counted start : ℕ) (last : Option Boundary) (first : Configuration) (o result : Outcome)
     (entry : Acceptance × Option ℕ) (is_picked : Option Boundary) (b : Boundary)
-    → IsWalked s t counted start last first o → IsReadBy s m states transitions → entry ≡ state_at m first.state → result ≡ entered first.place entry o
-    → is_picked ≡ picked result → is_picked ≡ None → last ≡ Some b → IsSet t u 0 first KnownNothing → IsScanned s u counted start b
-last-found s m states transitions t u counted start last first o result entry is_picked b w reads e is picks none some set =
-    walked-last s t u counted start last first o b w some
-    (no-pick s t counted start last first o w (ap picked (entered-read s m states transitions first o result entry reads e is) ∙ sym picks ∙ none)) set
+    → IsWalked r.subject t counted start last first o → IsReadBy r m states transitions → entry ≡ state_at m first.state → result ≡ entered first.place entry o
+    → is_picked ≡ picked result → is_picked ≡ None → last ≡ Some b → IsSet t u 0 first KnownNothing → IsScanned r.subject u counted start b
+last-found r m states transitions t u counted start last first o result entry is_picked b w reads e is picks none some set =
+    walked-last r.subject t u counted start last first o b w some
+    (no-pick r.subject t counted start last first o w (ap picked (entered-read reads first o result entry e is) ∙ sym picks ∙ none)) set
 
-pub last-some : (s : Subject) (m : Machine) (states : ℕ) (transitions : List ℕ) (t : Table) (counted start : ℕ) (last : Option Boundary) (first : Configuration) (o result : Outcome) (entry : Acceptance × Option ℕ)
+pub last-some : (r : Source) (m : Machine) (states : ℕ) (transitions : List ℕ) (t : Table) (counted start : ℕ) (last : Option Boundary) (first : Configuration) (o result : Outcome) (entry : Acceptance × Option ℕ)
     (is_picked : Option Boundary)
-    → IsWalked s t counted start last first o → IsReadBy s m states transitions → entry ≡ state_at m first.state → result ≡ entered first.place entry o
+    → IsWalked r.subject t counted start last first o → IsReadBy r m states transitions → entry ≡ state_at m first.state → result ≡ entered first.place entry o
     → is_picked ≡ picked result → is_picked ≡ None → last ≡ None → ⊥
-last-some s m states transitions t counted start last first o result entry is_picked w reads e is picks none nothing =
-    let free = no-pick s t counted start last first o w (ap picked (entered-read s m states transitions first o result entry reads e is) ∙ sym picks ∙ none) in
-    w.comes.picks (start-is s t counted start last first o Nothing w free ∙ ap (λ (x : Option Boundary). later x Nothing) nothing)
+last-some r m states transitions t counted start last first o result entry is_picked w reads e is picks none nothing =
+    let free = no-pick r.subject t counted start last first o w (ap picked (entered-read reads first o result entry e is) ∙ sym picks ∙ none) in
+    w.comes.picks (start-is r.subject t counted start last first o Nothing w free ∙ ap (λ (x : Option Boundary). later x Nothing) nothing)

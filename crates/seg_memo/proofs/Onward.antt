@@ -1,9 +1,7 @@
 -- The turns of a scan while no lookahead is named.
-use Rattle.std.proofs.Common.{◌≡◌, ◌≢◌, ℕ, suc, ◌+◌, ◌<◌, ◌≤◌, Bool, true, false, Option, Some, None, List, [], ◌∷◌, ◌++◌, length, min, refl, sym, ap, ◌∙◌, subst, arith, inl, inr}
-use Rattle.seg_text.specs.Items.{Item}
+use Rattle.std.proofs.Common.{◌≡◌, ◌≢◌, ℕ, suc, ◌+◌, ◌<◌, ◌≤◌, Option, Some, None, List, [], ◌∷◌, ◌++◌, length, min, refl, sym, ap, ◌∙◌, subst, arith, inl, inr}
 use Rattle.seg_text.specs.declared.boundary.Boundary.{Boundary}
 use Rattle.seg_text.specs.Boundaries.{boundary}
-use Rattle.seg_machine.specs.declared.provider.Acceptance.{Acceptance}
 use Rattle.seg_machine.specs.declared.provider.Acceptance.TheVariants.{Accept}
 use Rattle.seg_machine.specs.Machine.{Machine, state_at}
 use Rattle.seg_memo.specs.declared.configuration.Configuration.{Configuration}
@@ -13,14 +11,13 @@ use Rattle.seg_memo.specs.declared.configuration.LookUp.TheVariants.{Ends, Leads
 use Rattle.seg_memo.specs.declared.configuration.Cell.TheVariants.{Unknown, KnownNothing}
 use Rattle.seg_memo.specs.declared.table.Table.{Table}
 use Rattle.seg_memo.specs.Configurations.{Subject, start_at, different, floor, following, later, look_ups, all_look_ups, AreStarts, outcome_at, look_up, picked}
-use Rattle.seg_memo.specs.Grids.{Before, HasCell, IsAt, IsFit, IsLeft, IsMemo, IsNamed, IsOn, IsReadBy, IsScanned, IsConfigurationOf, IsSet, TellFrom, Tells, cell, known, onto}
-use Rattle.seg_memo.proofs.Following.{ends, fewer, leads, look-ups-leads, look-ups-on, outcome-leads}
-use Rattle.seg_memo.proofs.Lists.{AreWithin, different-new, different-same, on-append, on-right}
-use Rattle.seg_memo.proofs.Plain.{Accepts, all-accept, all-picked, known-nothing, never-kept, outcome-accepts, outcome-passes, plain-ends}
-use Rattle.seg_memo.proofs.Reading.{state-read}
+use Rattle.seg_memo.specs.Grids.{Before, HasCell, IsFit, IsLeft, IsMemo, IsNamed, IsOn, IsReadBy, IsScanned, IsConfigurationOf, IsSet, Source, TellFrom, Tells, cell, known, onto}
+use Rattle.seg_memo.proofs.Following.{ends, fewer, leads, look-ups-leads, outcome-leads}
+use Rattle.seg_memo.proofs.Lists.{AreWithin, different-new, different-same, on-append}
+use Rattle.seg_memo.proofs.Plain.{all-accept, all-picked, known-nothing, never-kept, outcome-accepts, outcome-passes, plain-ends}
 use Rattle.seg_memo.proofs.Scanning.{all-part, start-within, visited, visited-within}
-use Rattle.seg_memo.proofs.Segments.{memo-more, some-left, start-picks}
-use Rattle.seg_memo.proofs.Tells.{count-room, fit-later, fit-left, fit-set, left-still, set-still, tell-fill, tell-left, tell-less, tell-more, tell-same, tell-set, tells-none}
+use Rattle.seg_memo.proofs.Segments.{memo-more, start-picks}
+use Rattle.seg_memo.proofs.Tells.{count-room, fit-later, fit-left, fit-set, left-still, tell-fill, tell-left, tell-less, tell-more, tell-same, tell-set, tells-none}
 
 -- the scan from a place is to look up this configuration: it is counted already. The cells from the last acceptance on tell, but for those of
 -- its scan; and where nothing comes of it, those of its scan too
@@ -324,12 +321,10 @@ turn-names s t start here next last counted count w leads inside kept counts =
 pub turn-last : (s : Subject) (t : Table) (start : ℕ) (here : Configuration) (last : Option Boundary) (counted : ℕ) (b : Option Boundary) → Turn s t start here last counted → last ≡ b → Turn s t start here b counted
 turn-last s t start here last counted b w is = subst (λ (x : Option Boundary). Turn s t start here x counted) is w
 
-pub turn-begins : (s : Subject) (m : Machine) (states : ℕ) (transitions : List ℕ) (t : Table) (start counted : ℕ) (first : Configuration) (items : List Item)
-    → IsMemo s t counted start → IsReadBy s m states transitions → IsAt s m start items → items ≢ [] → first ≡ start_at start → Turn s t start first None (counted + 1)
-turn-begins s m states transitions t start counted first items memo read here some is =
-    subst (λ (c : Configuration). Turn s t start c None (counted + 1)) (sym is)
-    (turn-start s t start counted memo (some-left s m states transitions start items read here some)
-    (λ nothing. start-picks s m states transitions start items memo.fit.sound memo.within read here some (ap picked nothing)))
+pub turn-begins : (r : Source) (m : Machine) (states : ℕ) (transitions : List ℕ) (t : Table) (start counted : ℕ) → IsMemo r.subject t counted start → IsReadBy r m states transitions → start < length r.subject.symbols
+    → Turn r.subject t start (start_at start) None (counted + 1)
+turn-begins r m states transitions t start counted memo read some =
+    turn-start r.subject t start counted memo some (λ nothing. start-picks r m states transitions start memo.fit.sound some read (ap picked nothing))
 
 pub turn-room : (s : Subject) (t : Table) (start : ℕ) (here : Configuration) (last : Option Boundary) (counted : ℕ) → Turn s t start here last (counted + 1) → counted < 18446744073709551615
 turn-room s t start here last counted w = count-room s t (floor (suc start) last) counted ((here ∷ w.path) ++ all_look_ups s w.starts) w.fit (turn-within s t start here last (counted + 1) w) w.count
@@ -343,13 +338,3 @@ turn-held s t start here next last counted b w is leads inside =
     let low = n.low in
     let most = inside.place in
     (n.has, (w.fit.has (start_at b.offset) (start-within s b.offset w.fit.sound (omega (arith, low, at, most))) (omega (arith, at)), omega (arith, low, at)))
-
-pub entry-accepts : (s : Subject) (m : Machine) (states : ℕ) (transitions : List ℕ) (state status : ℕ) (entry : Acceptance × Option ℕ) → IsReadBy s m states transitions → entry ≡ state_at m state
-    → entry.0 ≡ Accept status → state_at s.machine state ≡ (Accept status, entry.1)
-entry-accepts s m states transitions state status entry read is accepts =
-    state-read s m states transitions state read ∙ sym is ∙ ap (λ (a : Acceptance). (a, entry.1)) accepts
-
-pub entry-not : (s : Subject) (m : Machine) (states : ℕ) (transitions : List ℕ) (state : ℕ) (entry : Acceptance × Option ℕ) → IsReadBy s m states transitions → entry ≡ state_at m state
-    → ((status : ℕ) → entry.0 ≡ Accept status → ⊥) → (status : ℕ) → (state_at s.machine state).0 ≡ Accept status → ⊥
-entry-not s m states transitions state entry read is not status accepts =
-    not status (ap (λ (x : Acceptance × Option ℕ). x.0) (is ∙ sym (state-read s m states transitions state read)) ∙ accepts)

@@ -11,9 +11,9 @@ use Rattle.seg_memo.specs.declared.configuration.Outcome.{Outcome}
 use Rattle.seg_memo.specs.declared.configuration.Outcome.TheVariants.{Nothing, Picked, Kept}
 use Rattle.seg_memo.specs.declared.configuration.LookUp.TheVariants.{Ends, Leads}
 use Rattle.seg_memo.specs.declared.configuration.Cell.{Cell}
-use Rattle.seg_memo.specs.declared.configuration.Cell.TheVariants.{Unknown, First, Way, KnownNothing, KnownKept}
+use Rattle.seg_memo.specs.declared.configuration.Cell.TheVariants.{First, Way, KnownNothing, KnownKept}
 use Rattle.seg_memo.specs.declared.table.Table.{Table}
-use Rattle.seg_memo.specs.Configurations.{Subject, following, look_ups, all_look_ups, entered, floor, outcome_at, look_up, start_at}
+use Rattle.seg_memo.specs.Configurations.{Subject, following, look_ups, all_look_ups, entered, floor, outcome_at, look_up}
 use Rattle.seg_memo.specs.Grids.{Comes, HasCell, IsConfigurationOf, IsFit, IsNamed, IsOn, IsSet, IsSound, IsUnderWay, IsWalked, IsWay, Keeps, OnWay, Tells, Went, cell, holding, known, onto, came_from, way_from}
 use Rattle.seg_memo.proofs.Numbers.{same}
 use Rattle.seg_memo.proofs.Following.{ends, few, fewer, leads, leads-within, look-ups-leads, look-ups-on, outcome-leads}

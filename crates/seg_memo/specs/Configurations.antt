@@ -29,17 +29,6 @@ pub record Subject : Type 0 where
 abbrev pub subject : Machine → List ℕ → Subject
 subject m symbols = record { machine = m; symbols = symbols }
 
--- a scan of it, from a place on
-pub record Scan : Type 0 where
-  pub subject : Subject
-  pub start : ℕ
-
--- a scan that names a lookahead, and the last acceptance before that
-pub record Named : Type 0 where
-  pub subject : Subject
-  pub start : ℕ
-  pub last : Option Boundary
-
 -- the place up to which a segment's end is known: that of the last acceptance, or else the first
 abbrev pub floor : ℕ → Option Boundary → ℕ
 floor first None = first

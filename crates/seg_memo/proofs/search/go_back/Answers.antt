@@ -1,4 +1,4 @@
-use Rattle.std.proofs.Common.{◌∙◌, ap, length, subst, sym, ◌<◌, List}
+use Rattle.std.proofs.Common.{◌∙◌, sym}
 use Rattle.seg_memo.proofs.Held.{back-turn}
 use Rattle.seg_memo.proofs.Ways.{back-cell, back-end, back-fewer, back-first, back-on, back-room}
 use Rattle.seg_memo.proofs.search.go_back.Goals as goal

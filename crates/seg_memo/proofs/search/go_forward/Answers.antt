@@ -1,7 +1,7 @@
 use Rattle.std.proofs.Common.{◌∙◌, ap, sym}
 use Rattle.seg_memo.specs.Grids.{known}
 use Rattle.seg_memo.proofs.Following.{fewer}
-use Rattle.seg_memo.proofs.Held.{entered-read}
+use Rattle.seg_memo.proofs.Reading.{entered-read}
 use Rattle.seg_memo.proofs.Ways.{first-cell, next-cell, walk-ends, walk-known, walk-next, walk-room, walk-start}
 use Rattle.seg_memo.proofs.search.go_forward.Goals as goal
 
@@ -22,7 +22,7 @@ cell-requires g c = next-cell _ _ _ _ _ _ _ _ c.scan.invariant.walking c.scan.in
 
 pub returns-in-Some-clause-went : goal.returns-in-Some-clause-went
 returns-in-Some-clause-went g c =
-    rw (← entered-read _ _ _ _ c.scan.next _ _ _ c.scan.invariant.read c.entry-entry.ensures c.entered.ensures)
+    rw (← entered-read c.scan.invariant.read c.scan.next _ _ _ c.entry-entry.ensures c.entered.ensures)
     (walk-known _ _ _ _ _ _ _ _ _ c.scan.invariant.walking c.scan.invariant.leads (sym (c.known.ensures ∙ ap known c.cell.ensures) ∙ c.in-Some.is))
 
 pub write-requires-in-scan : goal.write-requires-in-scan

@@ -3,7 +3,7 @@ use Rattle.seg_text.specs.Boundaries.{offsets}
 use Rattle.seg_machine.specs.Tailored.{parts_of}
 use Rattle.seg_machine.proofs.Engine.{not_at_end}
 use Rattle.seg_memo.specs.Configurations.{reading}
-use Rattle.seg_memo.proofs.Memoised.{end-none, memo-next, rest-at}
+use Rattle.seg_memo.proofs.Memoised.{end-none, memo-next, some-left}
 use Rattle.seg_memo.proofs.memo.MemoBreakIterator.next_boundary.Goals as goal
 
 pub returns-then-is_at_end-clause-steps : goal.returns-then-is_at_end-clause-steps
@@ -21,8 +21,8 @@ next_segment-found-requires g c = λ κs lives. (
       (
         c.self.invariant.3,
         (
-          rest-at (parts_of c.self.inside.scanned.machine) _ (g.R.ReadTransitions.transitions c.self.inside.reader) (g.I.Cursor.text c.self.inside.scanned.text) _ _ c.self.invariant.1 c.self.invariant.2,
-          (not_at_end _ (sym c.is_at_end.ensures ∙ c.if-is_at_end.false), c.self.invariant.4),
+          c.self.invariant.2,
+          (some-left _ (g.I.Cursor.text c.self.inside.scanned.text) _ c.self.inside.place c.self.invariant.2 (not_at_end _ (sym c.is_at_end.ensures ∙ c.if-is_at_end.false)), c.self.invariant.4),
         ),
       ),
     ),
@@ -35,7 +35,7 @@ returns-clause-steps g c =
     ((memo-next (reading (parts_of c.self.inside.scanned.machine) (g.R.ReadTransitions.transitions c.self.inside.reader)) _ (g.I.Cursor.text c.self.inside.scanned.text) (g.I.Cursor.text c.self.inside.rest)
     (g.I.Cursor.text c.next_segment-found.new.rest) c.self.inside.place (g.R.ReadTransitions.counted c.self.inside.reader) (g.R.ReadTransitions.counted c.next_segment-found.new.reader) _ _ c.self.inside.status
     c.next_segment-found.result (sym c.next_segment-found.ensures.read.machine) c.if-not-self.false c.self.invariant.2 (not_at_end _ (sym c.is_at_end.ensures ∙ c.if-is_at_end.false))
-    c.next_segment-found.ensures.segment c.place-2.ensures).steps)
+    c.next_segment-found.ensures.segment c.next_segment-found.ensures.rest c.place-2.ensures).steps)
 
 pub returns-clause-goes : goal.returns-clause-goes
 returns-clause-goes g c =
@@ -43,4 +43,4 @@ returns-clause-goes g c =
     ((memo-next (reading (parts_of c.self.inside.scanned.machine) (g.R.ReadTransitions.transitions c.self.inside.reader)) _ (g.I.Cursor.text c.self.inside.scanned.text) (g.I.Cursor.text c.self.inside.rest)
     (g.I.Cursor.text c.next_segment-found.new.rest) c.self.inside.place (g.R.ReadTransitions.counted c.self.inside.reader) (g.R.ReadTransitions.counted c.next_segment-found.new.reader) _ _ c.self.inside.status
     c.next_segment-found.result (sym c.next_segment-found.ensures.read.machine) c.if-not-self.false c.self.invariant.2 (not_at_end _ (sym c.is_at_end.ensures ∙ c.if-is_at_end.false))
-    c.next_segment-found.ensures.segment c.place-2.ensures).goes)
+    c.next_segment-found.ensures.segment c.next_segment-found.ensures.rest c.place-2.ensures).goes)
