@@ -48,7 +48,7 @@ fresh-memo s t counted sound has unknown none = record {
   are = refl;
   within = omega arith;
   fit = record { sound = sound; has = λ c within past. has c within };
-  cells = λ c within past off. inl (unknown c within past, λ on. subst (IsOn c) (all-nil s) on);
+  cells = record { at = λ c within past off. inl (unknown c within past, λ on. subst (IsOn c) (all-nil s) on) };
   count = none ∙ sym (none-different s);
 }
 
@@ -80,7 +80,7 @@ made-memo m parts transitions text t states sets room counted parts_are checked 
 -- another reader, before the first scan
 
 first-unknown : (s : Subject) (t : Table) (counted : ℕ) (memo : IsMemo s t counted 0) (c : Configuration) → IsConfigurationOf s c → 0 < c.place → cell t c ≡ Unknown
-first-unknown s t counted memo c within past = on memo.starts memo.are (memo.cells c within past (λ on. on))
+first-unknown s t counted memo c within past = on memo.starts memo.are (memo.cells.at c within past (λ on. on))
   where
     on : (starts : List ℕ) → AreStarts s starts 0 → Tells s (all_look_ups s starts) c (cell t c) → cell t c ≡ Unknown
     on [] are tells = elim tells [ inl new ↦ new.0 | inr old ↦ absurd (subst (IsOn c) (all-nil s) old.1) ]

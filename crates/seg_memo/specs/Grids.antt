@@ -95,8 +95,8 @@ pub record HasCell (t : Table) (c : Configuration) : Type 0 where
   pub fits : number t.states t.sets c < 2 ^ 64
 
 -- the cells of a place and of those after it stay
-abbrev pub IsLeft : Table → Table → ℕ → Type 0
-IsLeft old new from = (c : Configuration) → from ≤ c.place → HasCell old c → HasCell new c × (cell new c ≡ cell old c)
+pub record IsLeft (old new : Table) (from : ℕ) : Type 0 where
+  pub at : (c : Configuration) → from ≤ c.place → HasCell old c → HasCell new c × (cell new c ≡ cell old c)
 
 -- so do they but for one, which is this
 pub record IsSet (old new : Table) (from : ℕ) (here : Configuration) (x : Cell) : Type 0 where
@@ -119,8 +119,8 @@ abbrev pub Tells : Subject → List Configuration → Configuration → Cell →
 Tells s found c x = ((x ≡ Unknown) × (IsOn c found → ⊥)) ⊎ ((known x ≡ Some (outcome_at s c)) × IsOn c found)
 
 -- so does each from a place on, but for those on another list
-abbrev pub TellFrom : Subject → Table → ℕ → List Configuration → List Configuration → Type 0
-TellFrom s t from found but = (c : Configuration) → IsConfigurationOf s c → from ≤ c.place → (IsOn c but → ⊥) → Tells s found c (cell t c)
+pub record TellFrom (s : Subject) (t : Table) (from : ℕ) (found but : List Configuration) : Type 0 where
+  pub at : (c : Configuration) → IsConfigurationOf s c → from ≤ c.place → (IsOn c but → ⊥) → Tells s found c (cell t c)
 
 -- the configurations of a text have cells from a place on
 pub record IsFit (s : Subject) (t : Table) (from : ℕ) : Type 0 where

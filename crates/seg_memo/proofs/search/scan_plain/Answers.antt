@@ -16,14 +16,14 @@ pub read-next-requires-clause-symbol : goal.read-next-requires-clause-symbol
 read-next-requires-clause-symbol g c = symbol-fits c.scan.invariant.read _ _ c.scan.invariant.turn.fit.sound c.scan.invariant.ahead.symbol_is
 
 pub read-next-requires-clause-room : goal.read-next-requires-clause-room
-read-next-requires-clause-room g c = turn-room _ _ _ _ _ _ c.scan.invariant.turn
+read-next-requires-clause-room g c = turn-room c.scan.invariant.turn
 
 pub unreachable-requires : goal.unreachable-requires
-unreachable-requires g c = turn-some _ _ _ _ _ _ _ c.scan.invariant.turn (stops c.scan.invariant _ c.read-next.ensures.value c.if-next.true) c.in_default.is
+unreachable-requires g c = turn-some c.scan.invariant.turn (stops c.scan.invariant _ c.read-next.ensures.value c.if-next.true) c.in_default.is
 
 pub returns-then-next-clause-scanned : goal.returns-then-next-clause-scanned
 returns-then-next-clause-scanned g c =
-    turn-ends _ _ _ _ _ _ _ _ (turn-last _ _ _ _ _ _ _ c.scan.invariant.turn c.in-Some.is) (stops c.scan.invariant _ c.read-next.ensures.value c.if-next.true) c.read-next.ensures.counted
+    turn-ends (turn-last c.scan.invariant.turn c.in-Some.is) (stops c.scan.invariant _ c.read-next.ensures.value c.if-next.true) c.read-next.ensures.counted
 
 pub entry-entry-requires : goal.entry-entry-requires
 entry-entry-requires g c = next-state c.scan.invariant _ c.read-next.ensures.value c.if-next.false
@@ -45,7 +45,7 @@ scan_kept-stood-requires g c κs within =
           (
             refl,
             (
-              turn-names _ _ _ _ _ _ _ _ c.scan.invariant.turn k.0.leads k.0.within k.1 c.read-next.ensures.counted,
+              turn-names c.scan.invariant.turn k.0.leads k.0.within k.1 c.read-next.ensures.counted,
               scans-left c.scan.invariant _ _ c.naming-here.ensures,
             ),
           ),
@@ -62,7 +62,7 @@ returns-in-Some-name_of-clause-ahead g c = scans-next c.next_symbol.ensures.symb
 pub mark-requires : goal.mark-requires
 mark-requires g c =
     let k = (comes-free c.scan.invariant _ _ c.read-next.ensures.value c.if-next.false c.entry-entry.ensures (sym c.name_of.ensures ∙ c.in_default-name_of.is)) in
-    let held = turn-held _ _ _ _ _ _ _ _ c.scan.invariant.turn c.in-Some-last.is k.leads k.within in
+    let held = turn-held c.scan.invariant.turn c.in-Some-last.is k.leads k.within in
     record { here = held.0; from = held.1 }
 
 pub returns-then-mark : goal.returns-then-mark
@@ -70,7 +70,7 @@ returns-then-mark g c =
     let k = (comes-free c.scan.invariant _ _ c.read-next.ensures.value c.if-next.false c.entry-entry.ensures (sym c.name_of.ensures ∙ c.in_default-name_of.is)) in
     record {
       read = still-read _ _ _ _ _ _ c.scan.invariant.read c.read-next.ensures.states c.read-next.ensures.transitions;
-      scanned = turn-known _ _ _ _ _ _ _ _ _ refl (turn-last _ _ _ _ _ _ _ c.scan.invariant.turn c.in-Some-last.is) k.leads k.within (entry-not c.scan.invariant _ _ c.entry-entry.ensures c.in_default-0₀.not-Accept) (c.mark.ensures.known c.if-mark.true) c.read-next.ensures.counted;
+      scanned = turn-known (turn-last c.scan.invariant.turn c.in-Some-last.is) c.read-next.ensures.counted refl k.leads k.within (entry-not c.scan.invariant _ _ c.entry-entry.ensures c.in_default-0₀.not-Accept) (c.mark.ensures.known c.if-mark.true);
       stands = scans-stand c.scan.invariant _ c.in-Some-last.is;
       ahead = c.scan.invariant.ahead;
     }
@@ -88,15 +88,14 @@ scan-preserved g c =
     elim c.match-entry.branch [
       | in-Accept w ↦
           scans-on _ _ _ _ _ _ _ _ _ _ _ _ _ _ _ read
-          (turn-accepts _ _ _ _ _ _ _ _ _ _ refl c.scan.invariant.turn k.leads k.within (entry-accepts c.scan.invariant _ _ _ c.entry-entry.ensures w.in-Accept.is) c.read-next.ensures.counted)
+          (turn-accepts c.scan.invariant.turn refl k.leads k.within (entry-accepts c.scan.invariant _ _ _ c.entry-entry.ensures w.in-Accept.is) c.read-next.ensures.counted)
           w.table-is w.last-is ahead c.next_symbol-in-scan.ensures.place (w.stood-is ∙ w.place-stood-in-Accept.ensures ∙ ap start_of (scans-text c.scan.invariant))
       | in_default-0₀+in-Some-last+else-mark w ↦
           scans-on _ _ _ _ _ _ _ _ _ _ _ _ _ _ _ read
-          (turn-marks _ _ _ _ _ _ _ _ _ refl (turn-last _ _ _ _ _ _ _ c.scan.invariant.turn w.in-Some-last.is) k.leads k.within (entry-not c.scan.invariant _ _ c.entry-entry.ensures w.in_default-0₀.not-Accept) (w.mark.ensures.new w.if-mark.false)
-          c.read-next.ensures.counted)
+          (turn-marks (turn-last c.scan.invariant.turn w.in-Some-last.is) c.read-next.ensures.counted refl k.leads k.within (entry-not c.scan.invariant _ _ c.entry-entry.ensures w.in_default-0₀.not-Accept) (w.mark.ensures.new w.if-mark.false))
           w.table-is w.last-is ahead c.next_symbol-in-scan.ensures.place (w.stood-is ∙ scans-stand c.scan.invariant _ w.in-Some-last.is)
       | in_default-0₀+in_default-last w ↦
           scans-on _ _ _ _ _ _ _ _ _ _ _ _ _ _ _ read
-          (turn-first _ _ _ _ _ _ _ refl (turn-last _ _ _ _ _ _ _ c.scan.invariant.turn w.in_default-last.is) k.leads k.within (entry-not c.scan.invariant _ _ c.entry-entry.ensures w.in_default-0₀.not-Accept) c.read-next.ensures.counted)
+          (turn-first refl (turn-last c.scan.invariant.turn w.in_default-last.is) k.leads k.within (entry-not c.scan.invariant _ _ c.entry-entry.ensures w.in_default-0₀.not-Accept) c.read-next.ensures.counted)
           w.table-is (w.last-is ∙ w.in_default-last.is) ahead c.next_symbol-in-scan.ensures.place (w.stood-is ∙ scans-stand c.scan.invariant _ w.in_default-last.is)
     ]
