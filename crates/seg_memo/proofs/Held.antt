@@ -4,7 +4,6 @@ use Rattle.std.proofs.lemmas.Bool.{cases_eq, cases_lt, ne_eqb}
 use Rattle.seg_text.specs.declared.boundary.Boundary.{Boundary}
 use Rattle.seg_text.specs.Boundaries.{boundary}
 use Rattle.seg_machine.specs.declared.provider.Acceptance.{Acceptance}
-use Rattle.seg_machine.specs.declared.provider.Acceptance.TheVariants.{Accept, Conditional, Continue}
 use Rattle.seg_machine.specs.Machine.{Machine, state_at}
 use Rattle.seg_memo.specs.declared.configuration.Configuration.{Configuration}
 use Rattle.seg_memo.specs.declared.configuration.Outcome.{Outcome}
@@ -14,7 +13,7 @@ use Rattle.seg_memo.specs.declared.configuration.Cell.TheVariants.{KnownNothing,
 use Rattle.seg_memo.specs.declared.table.Table.{Table}
 use Rattle.seg_memo.specs.Configurations.{Subject, entered, floor, later, outcome_at, picked, start_at}
 use Rattle.seg_memo.specs.Grids.{HasCell, IsConfigurationOf, IsFit, IsLeft, IsNamed, IsOn, IsReadBy, IsScanned, IsSet, IsWalked, Source, Went, cell, came_from, holding, known}
-use Rattle.seg_memo.proofs.Following.{look-ups-on, picked-past, same-picked}
+use Rattle.seg_memo.proofs.Following.{entered-cases, look-ups-on, picked-past, same-picked}
 use Rattle.seg_memo.proofs.Lists.{on-append}
 use Rattle.seg_memo.proofs.Plain.{never-kept}
 use Rattle.seg_memo.proofs.Reading.{entered-read}
@@ -59,23 +58,14 @@ back-turn {s = s} {here = here} {o = o} {result = result} m w holds some read wa
 
 entered-past : (s : Subject) (first : Configuration) (entry : Acceptance × Option ℕ) (o : Outcome) (found : Boundary) → o ≡ outcome_at s first → IsConfigurationOf s first → entered first.place entry o ≡ Picked found
     → first.place ≤ found.offset
-entered-past s first (Accept status, name) Nothing found is within picks = let same : boundary first.place status ≡ found = cc in let at : first.place ≡ found.offset = ap (λ (b : Boundary). b.offset) same in omega (arith, at)
-entered-past s first (Continue, name) Nothing found is within picks = cc
-entered-past s first (Conditional lookahead status, name) Nothing found is within picks = cc
-entered-past s first (acceptance, name) (Picked f) found is within picks =
-    elim (cases_lt found.offset (length s.symbols)) [
-      | inl less ↦ let past = picked-past s first found less (sym is ∙ picks) in omega (arith, past)
-      | inr past ↦ omega (arith, past, within.place)
-    ]
-entered-past s first (acceptance, None) (Kept lookahead status) found is within picks = cc
-entered-past s first (acceptance, Some name) (Kept lookahead status) found is within picks =
-    elim (cases_eq name lookahead) [
-      | inl same ↦
-          let here : Picked (boundary first.place status) ≡ Picked found = rw (eq-eqb name lookahead same) at picks in
-          let at : first.place ≡ found.offset = ap (λ (b : Boundary). b.offset) (same-picked (boundary first.place status) found here) in
-          omega (arith, at)
-      | inr other ↦
-          let never : Kept lookahead status ≡ Picked found = rw (ne_eqb name lookahead other) at picks in cc
+entered-past s first entry o found is within picks =
+    elim (entered-cases first.place entry o found picks) [
+      | inl here ↦ omega (arith, here)
+      | inr later ↦
+          elim (cases_lt found.offset (length s.symbols)) [
+            | inl less ↦ let past = picked-past s first found less (sym is ∙ later) in omega (arith, past)
+            | inr past ↦ omega (arith, past, within.place)
+          ]
     ]
 
 later-picked : (last : Option Boundary) (found : Boundary) → later last (Picked found) ≡ Picked found
