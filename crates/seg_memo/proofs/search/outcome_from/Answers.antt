@@ -27,19 +27,10 @@ leave-requires g c =
 
 pub go_forward-outcome-requires : goal.go_forward-outcome-requires
 go_forward-outcome-requires g c κs within =
-    let left = named-left c.requires.1.1.1.0 c.requires.1.1.1.1.1 c.leave.ensures in (
-      within.0,
-      (
-        within.1,
-        (
-          c.look_up.ensures.read,
-          (
-            (_, c.look_up.ensures.count, left.0, left.1 ∙ named-unknown c.requires.1.1.1.0 (sym (c.known.ensures ∙ ap known c.cell.ensures) ∙ c.in_default.is)),
-            ((sym c.look_up.ensures.value ∙ c.in-Leads.is, c.in-Leads.ensures.within), c.in-Leads.ensures.rest),
-          ),
-        ),
-      ),
-    )
+    let left = named-left c.requires.1.1.1.0 c.requires.1.1.1.1.1 c.leave.ensures in
+    let unknown = left.1 ∙ named-unknown c.requires.1.1.1.0 (sym (c.known.ensures ∙ ap known c.cell.ensures) ∙ c.in_default.is) in
+    let leads = sym c.look_up.ensures.value ∙ c.in-Leads.is in
+    (within.0, (within.1, (c.look_up.ensures.read, ((_, c.look_up.ensures.count, left.0, unknown), ((leads, c.in-Leads.ensures.within), c.in-Leads.ensures.rest)))))
 
 pub go_back-requires : goal.go_back-requires
 go_back-requires g c = (ap (λ (m : Machine). m.states) c.go_forward-outcome.ensures.read.machine, (_, c.go_forward-outcome.ensures.went))

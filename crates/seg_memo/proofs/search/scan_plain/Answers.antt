@@ -36,22 +36,10 @@ naming-here-requires g c = entry-few c.scan.invariant.read _ _ c.scan.invariant.
 
 pub scan_kept-stood-requires : goal.scan_kept-stood-requires
 scan_kept-stood-requires g c κs within =
-    let k = comes-kept _ _ _ _ _ _ _ (comes c.scan.invariant _ _ c.read-next.ensures.value c.if-next.false c.entry-entry.ensures) c.naming-here.ensures (sym c.name_of.ensures ∙ c.in-Some-name_of.is) in (
-      within.0,
-      (
-        within.1,
-        (
-          still-read _ _ _ _ _ _ c.scan.invariant.read c.read-next.ensures.states c.read-next.ensures.transitions,
-          (
-            refl,
-            (
-              turn-names c.scan.invariant.turn k.0.leads k.0.within k.1 c.read-next.ensures.counted,
-              scans-left c.scan.invariant _ _ c.naming-here.ensures,
-            ),
-          ),
-        ),
-      ),
-    )
+    let k = comes-kept _ _ _ _ _ _ _ (comes c.scan.invariant _ _ c.read-next.ensures.value c.if-next.false c.entry-entry.ensures) c.naming-here.ensures (sym c.name_of.ensures ∙ c.in-Some-name_of.is) in
+    let read = still-read _ _ _ _ _ _ c.scan.invariant.read c.read-next.ensures.states c.read-next.ensures.transitions in
+    let named = turn-names c.scan.invariant.turn k.0.leads k.0.within k.1 c.read-next.ensures.counted in
+    (within.0, (within.1, (read, (refl, (named, scans-left c.scan.invariant _ _ c.naming-here.ensures)))))
 
 pub returns-in-Some-name_of-clause-stands : goal.returns-in-Some-name_of-clause-stands
 returns-in-Some-name_of-clause-stands g c = c.scan_kept-stood.ensures.stands c.scan.invariant.stands
