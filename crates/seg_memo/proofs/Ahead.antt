@@ -2,18 +2,11 @@
 use Rattle.std.proofs.Common.{◌≡◌, ℕ, suc, ◌+◌, ◌*◌, ◌<◌, Option, Some, None, List, length, min, refl, sym, ap, ◌∙◌, subst, arith, inl}
 use Rattle.std.specs.Prelude.{slice_index, slice_index_or}
 use Rattle.seg_text.specs.Items.{Text, rest_after, start_of}
-use Rattle.seg_text.specs.declared.boundary.Boundary.{Boundary}
-use Rattle.seg_machine.specs.declared.provider.Acceptance.{Acceptance}
-use Rattle.seg_machine.specs.declared.provider.Acceptance.TheVariants.{Accept}
+use Rattle.seg_memo.specs.Configurations.{Boundary, Acceptance, Accept, Configuration, Leads, Ends, Nothing, configuration, floor, reading, subject, look_up}
 use Rattle.seg_machine.specs.Machine.{Machine, state_at, symbol_and_script, symbols_of}
 use Rattle.seg_machine.specs.MachineFaults.{NamesPast}
 use Rattle.seg_machine.specs.Search.{keep}
-use Rattle.seg_memo.specs.declared.configuration.Configuration.{Configuration}
-use Rattle.seg_memo.specs.declared.configuration.LookUp.TheVariants.{Leads, Ends}
-use Rattle.seg_memo.specs.declared.configuration.Outcome.TheVariants.{Nothing}
-use Rattle.seg_memo.specs.declared.table.Table.{Table}
-use Rattle.seg_memo.specs.Configurations.{configuration, floor, reading, subject, look_up}
-use Rattle.seg_memo.specs.Grids.{IsKeptSymbol, IsMemo, IsReadBy, IsConfigurationOf, Source}
+use Rattle.seg_memo.specs.Grids.{Table, IsKeptSymbol, IsMemo, IsReadBy, IsConfigurationOf, Source}
 use Rattle.seg_memo.proofs.Following.{leads-within}
 use Rattle.seg_memo.proofs.Onward.{Turn, turn-begins}
 use Rattle.seg_memo.proofs.Plain.{free-held}

@@ -4,12 +4,8 @@ use Rattle.std.specs.Prelude.{vec_capacity}
 use Rattle.std.proofs.lemmas.Bool.{cases_lt}
 use Rattle.std.proofs.lemmas.Nat.{mul-le}
 use Rattle.std.proofs.lemmas.List.{get_or-set_same, get_or-set_other, get_or-take, get_or_past, get_or_read, length-take}
-use Rattle.seg_memo.specs.declared.configuration.Configuration.{Configuration}
-use Rattle.seg_memo.specs.declared.configuration.Cell.{Cell}
-use Rattle.seg_memo.specs.declared.configuration.Cell.TheVariants.{Unknown}
-use Rattle.seg_memo.specs.declared.table.Table.{Table}
-use Rattle.seg_memo.specs.Configurations.{start_at}
-use Rattle.seg_memo.specs.Grids.{HasCell, IsLeft, IsSet, cell, number}
+use Rattle.seg_memo.specs.Configurations.{Configuration, start_at}
+use Rattle.seg_memo.specs.Grids.{Cell, Unknown, Table, HasCell, IsLeft, IsSet, cell, number}
 use Rattle.seg_memo.proofs.Numbers.{number-least, number-same}
 
 -- the number of a configuration, as the code makes it

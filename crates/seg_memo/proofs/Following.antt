@@ -5,20 +5,12 @@ use Rattle.std.specs.Option.{option_map_or}
 use Rattle.std.proofs.lemmas.Bool.{cases_lt, cases_eq, ne_eqb, eq-eqb}
 use Rattle.std.proofs.lemmas.List.{get_or_past, drop_all, length-drop, length-replicate}
 use Rattle.std.proofs.lemmas.Nat.{or_lt, pow_below}
-use Rattle.seg_text.specs.declared.boundary.Boundary.{Boundary}
+use Rattle.seg_memo.specs.Configurations.{Boundary, Acceptance, Continue, Accept, Conditional, Configuration, Outcome, Nothing, Picked, Kept, LookUp, Ends, Leads, Subject, configuration, following, condition_held, entering, look_ups_on, look_ups, entered, at, outcome, outcome_at, arrival, look_up}
 use Rattle.seg_text.specs.Boundaries.{boundary}
-use Rattle.seg_machine.specs.declared.provider.Acceptance.{Acceptance}
-use Rattle.seg_machine.specs.declared.provider.Acceptance.TheVariants.{Continue, Accept, Conditional}
 use Rattle.seg_machine.specs.Machine.{Machine, step, run, state_at}
 use Rattle.seg_machine.specs.MachineFaults.{NamesPast, IsChecked}
 use Rattle.seg_machine.specs.Search.{keep}
 use Rattle.seg_machine.proofs.Scanned.{run-more}
-use Rattle.seg_memo.specs.declared.configuration.Configuration.{Configuration}
-use Rattle.seg_memo.specs.declared.configuration.Outcome.{Outcome}
-use Rattle.seg_memo.specs.declared.configuration.Outcome.TheVariants.{Nothing, Picked, Kept}
-use Rattle.seg_memo.specs.declared.configuration.LookUp.{LookUp}
-use Rattle.seg_memo.specs.declared.configuration.LookUp.TheVariants.{Ends, Leads}
-use Rattle.seg_memo.specs.Configurations.{Subject, configuration, following, condition_held, entering, look_ups_on, look_ups, entered, at, outcome, outcome_at, arrival, look_up}
 use Rattle.seg_memo.specs.Grids.{IsSound, IsConfigurationOf, IsOn}
 
 -- a configuration comes after another

@@ -5,14 +5,10 @@ use Rattle.std.proofs.lemmas.List.{get_or_past, get_or-map, length-map}
 use Rattle.std.proofs.lemmas.Nat.{mul-le, pow_below}
 use Rattle.seg_text.specs.Items.{IsRising, Item, Text, code_points, start_of}
 use Rattle.seg_text.proofs.Hints.{items-few}
-use Rattle.seg_machine.specs.declared.provider.Acceptance.{Acceptance}
+use Rattle.seg_memo.specs.Configurations.{Acceptance, Configuration, AreLookedUp, AreStarts, Subject, all_look_ups, configurations, different, reading, subject}
 use Rattle.seg_machine.specs.MachineFaults.{IsChecked}
 use Rattle.seg_machine.specs.Machine.{Machine, symbol_and_script, symbol_count, symbols_of, without_transitions}
-use Rattle.seg_memo.specs.declared.configuration.Configuration.{Configuration}
-use Rattle.seg_memo.specs.declared.configuration.Cell.TheVariants.{Unknown}
-use Rattle.seg_memo.specs.declared.table.Table.{Table}
-use Rattle.seg_memo.specs.Configurations.{AreLookedUp, AreStarts, Subject, all_look_ups, configurations, different, reading, subject}
-use Rattle.seg_memo.specs.Grids.{HasCell, IsConfigurationOf, IsMemo, IsOn, IsSound, Tells, cell, number}
+use Rattle.seg_memo.specs.Grids.{Unknown, Table, HasCell, IsConfigurationOf, IsMemo, IsOn, IsSound, Tells, cell, number}
 use Rattle.seg_memo.proofs.Lists.{different-bound}
 use Rattle.seg_memo.proofs.Reading.{symbols-length}
 use Rattle.seg_memo.proofs.Numbers.{items-fit, number-below}

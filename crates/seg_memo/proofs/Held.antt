@@ -1,18 +1,10 @@
 -- The outcome of a scan that keeps a lookahead, and its end.
 use Rattle.std.proofs.Common.{◌≡◌, ℕ, suc, ◌+◌, ◌-◌, ◌≤◌, Bool, Option, Some, None, List, ◌∷◌, ◌++◌, length, refl, sym, ap, ◌∙◌, subst, arith, inl, inr, eq-eqb}
 use Rattle.std.proofs.lemmas.Bool.{cases_eq, cases_lt, ne_eqb}
-use Rattle.seg_text.specs.declared.boundary.Boundary.{Boundary}
+use Rattle.seg_memo.specs.Configurations.{Boundary, Acceptance, Configuration, Outcome, Kept, Nothing, Picked, Subject, entered, floor, later, outcome_at, picked, start_at}
 use Rattle.seg_text.specs.Boundaries.{boundary}
-use Rattle.seg_machine.specs.declared.provider.Acceptance.{Acceptance}
 use Rattle.seg_machine.specs.Machine.{Machine, state_at}
-use Rattle.seg_memo.specs.declared.configuration.Configuration.{Configuration}
-use Rattle.seg_memo.specs.declared.configuration.Outcome.{Outcome}
-use Rattle.seg_memo.specs.declared.configuration.Outcome.TheVariants.{Kept, Nothing, Picked}
-use Rattle.seg_memo.specs.declared.configuration.Cell.{Cell}
-use Rattle.seg_memo.specs.declared.configuration.Cell.TheVariants.{KnownNothing, Unknown, Way}
-use Rattle.seg_memo.specs.declared.table.Table.{Table}
-use Rattle.seg_memo.specs.Configurations.{Subject, entered, floor, later, outcome_at, picked, start_at}
-use Rattle.seg_memo.specs.Grids.{HasCell, IsConfigurationOf, IsFit, IsLeft, IsNamed, IsOn, IsReadBy, IsScanned, IsSet, IsWalked, Source, Went, cell, came_from, holding, known}
+use Rattle.seg_memo.specs.Grids.{Cell, KnownNothing, Unknown, Way, Table, HasCell, IsConfigurationOf, IsFit, IsLeft, IsNamed, IsOn, IsReadBy, IsScanned, IsSet, IsWalked, Source, Went, cell, came_from, holding, known}
 use Rattle.seg_memo.proofs.Following.{entered-cases, look-ups-on, picked-past, same-picked}
 use Rattle.seg_memo.proofs.Lists.{on-append}
 use Rattle.seg_memo.proofs.Plain.{never-kept}

@@ -1,30 +1,19 @@
 -- The iterator, of what its code has in hand.
-use Rattle.std.proofs.Common.{◌≡◌, ◌≢◌, ℕ, ◌+◌, ◌^◌, ◌<◌, ◌==◌, Bool, true, Some, List, [], ◌∷◌, length, drop, get_or, min, refl, sym, ap, ◌∙◌, subst, arith, inl, inr}
-use Rattle.std.proofs.lemmas.List.{drop_all}
-use Rattle.std.proofs.lemmas.Bool.{cases_lt}
+use Rattle.std.proofs.Common.{◌≡◌, ◌≢◌, ℕ, ◌+◌, ◌^◌, ◌<◌, ◌==◌, Bool, true, Some, List, [], ◌∷◌, length, drop, get_or, min, refl, sym, ap, ◌∙◌, subst, arith}
 use Rattle.std.proofs.lemmas.Bool.Decides.{nat_tests}
 use Rattle.std.specs.Prelude.{⊤}
 use Rattle.std.specs.Iterator.{MakesProgress, item_count}
 use Rattle.seg_text.specs.Items.{Text, code_points, rest_after, start_of}
-use Rattle.seg_text.specs.declared.boundary.Boundary.{Boundary}
+use Rattle.seg_memo.specs.Configurations.{Boundary, reading, subject}
 use Rattle.seg_text.specs.Boundaries.{boundary, shift, remainder}
 use Rattle.seg_text.proofs.Cursors.{fewer-left}
 use Rattle.seg_machine.specs.Machine.{Machine, symbol_and_script, symbols_of}
 use Rattle.seg_machine.specs.Pick.{pick, machine_stretch}
 use Rattle.seg_machine.proofs.Engine.{end-left, gives-next}
 use Rattle.seg_machine.proofs.Scanned.{after-after}
-use Rattle.seg_memo.specs.Configurations.{reading, subject}
 use Rattle.seg_memo.specs.Grids.{IsKeptSymbol, IsReadBy}
 use Rattle.seg_memo.specs.Memos.{Memo, memo, memo_places}
-use Rattle.seg_memo.proofs.Reading.{symbols-drop, symbols-length}
-
--- something is left of the text
-pub some-left : (m : Machine) (text left : Text) (place : ℕ) → left ≡ rest_after place text → left.items ≢ [] → place < length (symbols_of m (code_points text.items))
-some-left m text left place is some =
-    elim (cases_lt place (length text.items)) [
-      | inl less ↦ rw (symbols-length m text.items) less
-      | inr past ↦ absurd (some (ap (λ (x : Text). x.items) is ∙ drop_all place text.items past))
-    ]
+use Rattle.seg_memo.proofs.Reading.{symbols-drop}
 
 -- at the end nothing is left
 pub end-none : (m : Machine) (text left : Text) (given : ℕ) (started : Bool) (status : ℕ) → started ≡ true → left ≡ rest_after given text → (length left.items == 0) ≡ true

@@ -1,17 +1,9 @@
 -- The turns of a scan while no lookahead is named.
 use Rattle.std.proofs.Common.{◌≡◌, ◌≢◌, ℕ, suc, ◌+◌, ◌<◌, ◌≤◌, Option, Some, None, List, [], ◌∷◌, ◌++◌, length, min, refl, sym, ap, ◌∙◌, subst, arith, inl, inr}
-use Rattle.seg_text.specs.declared.boundary.Boundary.{Boundary}
+use Rattle.seg_memo.specs.Configurations.{Boundary, Accept, Configuration, Outcome, Nothing, Picked, Kept, Ends, Leads, Subject, start_at, different, floor, following, later, look_ups, all_look_ups, AreStarts, outcome_at, look_up, picked}
 use Rattle.seg_text.specs.Boundaries.{boundary}
-use Rattle.seg_machine.specs.declared.provider.Acceptance.TheVariants.{Accept}
 use Rattle.seg_machine.specs.Machine.{Machine, state_at}
-use Rattle.seg_memo.specs.declared.configuration.Configuration.{Configuration}
-use Rattle.seg_memo.specs.declared.configuration.Outcome.{Outcome}
-use Rattle.seg_memo.specs.declared.configuration.Outcome.TheVariants.{Nothing, Picked, Kept}
-use Rattle.seg_memo.specs.declared.configuration.LookUp.TheVariants.{Ends, Leads}
-use Rattle.seg_memo.specs.declared.configuration.Cell.TheVariants.{Unknown, KnownNothing}
-use Rattle.seg_memo.specs.declared.table.Table.{Table}
-use Rattle.seg_memo.specs.Configurations.{Subject, start_at, different, floor, following, later, look_ups, all_look_ups, AreStarts, outcome_at, look_up, picked}
-use Rattle.seg_memo.specs.Grids.{Before, HasCell, IsFit, IsLeft, IsMemo, IsNamed, IsOn, IsReadBy, IsScanned, IsConfigurationOf, IsSet, Source, TellFrom, Tells, cell, known, onto}
+use Rattle.seg_memo.specs.Grids.{Unknown, KnownNothing, Table, Before, HasCell, IsFit, IsLeft, IsMemo, IsNamed, IsOn, IsReadBy, IsScanned, IsConfigurationOf, IsSet, Source, TellFrom, Tells, cell, known, onto}
 use Rattle.seg_memo.proofs.Following.{ends, fewer, leads, look-ups-leads, outcome-leads}
 use Rattle.seg_memo.proofs.Lists.{AreWithin, different-new, different-same, on-append}
 use Rattle.seg_memo.proofs.Plain.{all-accept, all-picked, known-nothing, never-kept, outcome-accepts, outcome-passes, plain-ends}

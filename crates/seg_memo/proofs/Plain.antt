@@ -2,21 +2,12 @@
 use Rattle.std.proofs.Common.{◌≡◌, ℕ, suc, ◌+◌, ◌<◌, ◌≤◌, ◌⊎◌, Option, Some, None, List, [], ◌∷◌, length, map, min, refl, sym, ap, ◌∙◌, subst, arith, inl, inr}
 use Rattle.std.specs.Option.{option_map}
 use Rattle.std.proofs.lemmas.Bool.{cases_lt, cond-false, false≢true}
-use Rattle.seg_text.specs.declared.boundary.Boundary.{Boundary}
+use Rattle.seg_memo.specs.Configurations.{Boundary, Acceptance, Continue, Accept, Conditional, Configuration, Outcome, Nothing, Picked, Kept, Ends, Leads, Subject, condition_held, start_at, following, look_ups, all_look_ups, AreStarts, at, entered, later, outcome, outcome_at, look_up, picked}
 use Rattle.seg_text.specs.Boundaries.{boundary, shift}
-use Rattle.seg_machine.specs.declared.provider.Acceptance.{Acceptance}
-use Rattle.seg_machine.specs.declared.provider.Acceptance.TheVariants.{Continue, Accept, Conditional}
 use Rattle.seg_machine.specs.Machine.{state_at}
 use Rattle.seg_machine.specs.Search.{has}
 use Rattle.seg_machine.proofs.Sets.{has-none}
-use Rattle.seg_memo.specs.declared.configuration.Configuration.{Configuration}
-use Rattle.seg_memo.specs.declared.configuration.Outcome.{Outcome}
-use Rattle.seg_memo.specs.declared.configuration.Outcome.TheVariants.{Nothing, Picked, Kept}
-use Rattle.seg_memo.specs.declared.configuration.LookUp.TheVariants.{Ends, Leads}
-use Rattle.seg_memo.specs.declared.configuration.Cell.{Cell}
-use Rattle.seg_memo.specs.declared.configuration.Cell.TheVariants.{Unknown, First, Way, KnownNothing, KnownKept}
-use Rattle.seg_memo.specs.Configurations.{Subject, condition_held, start_at, following, look_ups, all_look_ups, AreStarts, at, entered, later, outcome, outcome_at, look_up, picked}
-use Rattle.seg_memo.specs.Grids.{IsOn, IsSound, IsConfigurationOf, known}
+use Rattle.seg_memo.specs.Grids.{Cell, Unknown, First, Way, KnownNothing, KnownKept, IsOn, IsSound, IsConfigurationOf, known}
 use Rattle.seg_memo.proofs.Following.{ends, leads-within, look-ups-leads, looks, outcome-at, outcome-leads, picked-past}
 use Rattle.seg_memo.proofs.Lists.{on-append}
 use Rattle.seg_memo.proofs.Scanning.{all-cons, all-nil, along, start-within}

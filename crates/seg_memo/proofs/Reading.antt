@@ -4,16 +4,10 @@ use Rattle.std.specs.Prelude.{slice_index}
 use Rattle.std.proofs.lemmas.Bool.{cond-true, cond-false, ne_eqb}
 use Rattle.std.proofs.lemmas.List.{drop-map, get_or_past, length-drop, length-map}
 use Rattle.seg_text.specs.Items.{Item, Text, code_points, rest_after}
-use Rattle.seg_machine.specs.declared.provider.Acceptance.{Acceptance}
+use Rattle.seg_memo.specs.Configurations.{Acceptance, Configuration, Outcome, Nothing, LookUp, Ends, Leads, Subject, entered, reading, arrival, look_up, IfLeads}
 use Rattle.seg_machine.specs.Machine.{Machine, symbol_and_script, symbols_of, symbol_count, step, state_at}
 use Rattle.seg_machine.specs.MachineFaults.{NamesPast}
 use Rattle.seg_machine.proofs.Scanned.{after-after, one-less}
-use Rattle.seg_memo.specs.declared.configuration.Configuration.{Configuration}
-use Rattle.seg_memo.specs.declared.configuration.Outcome.{Outcome}
-use Rattle.seg_memo.specs.declared.configuration.Outcome.TheVariants.{Nothing}
-use Rattle.seg_memo.specs.declared.configuration.LookUp.{LookUp}
-use Rattle.seg_memo.specs.declared.configuration.LookUp.TheVariants.{Ends, Leads}
-use Rattle.seg_memo.specs.Configurations.{Subject, entered, reading, arrival, look_up, IfLeads}
 use Rattle.seg_memo.specs.Grids.{IsReadBy, IsSound, IsConfigurationOf, Source}
 use Rattle.seg_memo.proofs.Following.{leads-within, look-up-none, look-up-some, names-few, step-within}
 

@@ -3,16 +3,13 @@ use Rattle.std.proofs.Common.{◌≡◌, ◌≢◌, ℕ, suc, ◌+◌, ◌-◌, 
 use Rattle.std.specs.Option.{option_map}
 use Rattle.std.proofs.lemmas.List.{length-drop}
 use Rattle.seg_text.specs.Items.{code_points}
-use Rattle.seg_text.specs.declared.boundary.Boundary.{Boundary}
+use Rattle.seg_memo.specs.Configurations.{Boundary, Picked, Subject, AreStarts, different, reading, start_at, all_look_ups, outcome_at, picked}
 use Rattle.seg_text.specs.Boundaries.{shift}
 use Rattle.seg_machine.specs.Machine.{Machine, symbol_and_script, symbols_of}
 use Rattle.seg_machine.specs.Pick.{pick}
 use Rattle.seg_machine.proofs.Picks.{pick-bounds}
 use Rattle.seg_machine.proofs.Scanned.{pick-some}
-use Rattle.seg_memo.specs.declared.configuration.Outcome.TheVariants.{Picked}
-use Rattle.seg_memo.specs.declared.table.Table.{Table}
-use Rattle.seg_memo.specs.Configurations.{Subject, AreStarts, different, reading, start_at, all_look_ups, outcome_at, picked}
-use Rattle.seg_memo.specs.Grids.{IsFit, IsReadBy, IsScanned, IsSound, Source, TellFrom}
+use Rattle.seg_memo.specs.Grids.{Table, IsFit, IsReadBy, IsScanned, IsSound, Source, TellFrom}
 use Rattle.seg_memo.proofs.Picking.{picked-start}
 use Rattle.seg_memo.proofs.Reading.{symbols-drop, symbols-length}
 

@@ -1,12 +1,7 @@
 -- What cells tell of scans, before and after a write.
 use Rattle.std.proofs.Common.{◌≡◌, ℕ, suc, ◌+◌, ◌<◌, ◌≤◌, Option, Some, None, List, ◌∷◌, refl, sym, ap, ◌∙◌, subst, arith, inl, inr}
-use Rattle.seg_text.specs.declared.boundary.Boundary.{Boundary}
-use Rattle.seg_memo.specs.declared.configuration.Configuration.{Configuration}
-use Rattle.seg_memo.specs.declared.configuration.Outcome.{Outcome}
-use Rattle.seg_memo.specs.declared.configuration.Cell.{Cell}
-use Rattle.seg_memo.specs.declared.table.Table.{Table}
-use Rattle.seg_memo.specs.Configurations.{Subject, different, floor, outcome_at}
-use Rattle.seg_memo.specs.Grids.{HasCell, IsConfigurationOf, IsFit, IsLeft, IsOn, IsSet, Keeps, TellFrom, Tells, cell, known}
+use Rattle.seg_memo.specs.Configurations.{Boundary, Configuration, Outcome, Subject, different, floor, outcome_at}
+use Rattle.seg_memo.specs.Grids.{Cell, Table, HasCell, IsConfigurationOf, IsFit, IsLeft, IsOn, IsSet, Keeps, TellFrom, Tells, cell, known}
 use Rattle.seg_memo.proofs.Lists.{AreWithin, Same, different-bound, different-new, different-same, which}
 
 -- a cell

@@ -2,19 +2,11 @@
 use Rattle.std.proofs.Common.{◌≡◌, ℕ, suc, ◌+◌, ◌-◌, ◌^◌, ◌<◌, ◌≤◌, ◌==◌, Bool, true, false, Option, Some, None, List, [], ◌∷◌, ◌++◌, if◌then◌else◌, length, min, refl, sym, ap, ◌∙◌, subst, arith, inl, inr, eq-eqb}
 use Rattle.std.specs.Prelude.{bit_or}
 use Rattle.std.proofs.lemmas.Bool.{cases_eq, eqb-true, eqb-false, false≢true}
-use Rattle.seg_text.specs.declared.boundary.Boundary.{Boundary}
+use Rattle.seg_memo.specs.Configurations.{Boundary, Configuration, Outcome, Nothing, Picked, Kept, Ends, Leads, Subject, following, look_ups, all_look_ups, entered, outcome_at, look_up}
 use Rattle.seg_machine.specs.Machine.{state_at}
 use Rattle.seg_machine.specs.Search.{has, keep}
 use Rattle.seg_machine.proofs.Sets.{has-keep, has-none}
-use Rattle.seg_memo.specs.declared.configuration.Configuration.{Configuration}
-use Rattle.seg_memo.specs.declared.configuration.Outcome.{Outcome}
-use Rattle.seg_memo.specs.declared.configuration.Outcome.TheVariants.{Nothing, Picked, Kept}
-use Rattle.seg_memo.specs.declared.configuration.LookUp.TheVariants.{Ends, Leads}
-use Rattle.seg_memo.specs.declared.configuration.Cell.{Cell}
-use Rattle.seg_memo.specs.declared.configuration.Cell.TheVariants.{First, Way, KnownNothing, KnownKept}
-use Rattle.seg_memo.specs.declared.table.Table.{Table}
-use Rattle.seg_memo.specs.Configurations.{Subject, following, look_ups, all_look_ups, entered, outcome_at, look_up}
-use Rattle.seg_memo.specs.Grids.{Comes, HasCell, IsConfigurationOf, IsFit, IsNamed, IsOn, IsSet, IsSound, IsUnderWay, IsWalked, IsWay, Keeps, OnWay, Tells, Went, cell, holding, known, onto, came_from, way_from}
+use Rattle.seg_memo.specs.Grids.{Cell, First, Way, KnownNothing, KnownKept, Table, Comes, HasCell, IsConfigurationOf, IsFit, IsNamed, IsOn, IsSet, IsSound, IsUnderWay, IsWalked, IsWay, Keeps, OnWay, Tells, Went, cell, holding, known, onto, came_from, way_from}
 use Rattle.seg_memo.proofs.Numbers.{same}
 use Rattle.seg_memo.proofs.Following.{ends, few, fewer, leads, leads-within, look-ups-leads, look-ups-on, outcome-leads}
 use Rattle.seg_memo.proofs.Lists.{AreWithin, on-append, on-onto, onto-append, or-right}

@@ -1,17 +1,12 @@
 -- The table of configurations: a map from configurations to cells, and what it tells of the scans.
 use Rattle.std.specs.Prelude.{◌≡◌, ℕ, suc, ◌+◌, ◌-◌, ◌*◌, ◌^◌, ◌<◌, ◌≤◌, ◌⊎◌, ◌==◌, Bool, if◌then◌else◌, Option, Some, None, List, [], ◌∷◌, ◌++◌, length, min, slice_index_or, vec_capacity}
-use Rattle.seg_text.specs.declared.boundary.Boundary.{Boundary}
+use Rattle.seg_memo.specs.Configurations.{Boundary, Configuration, Outcome, Nothing, Picked, Kept, Leads, Subject, configuration, configurations, reading, following, look_ups, all_look_ups, start_at, AreStarts, different, entered, floor, later, outcome_at, look_up}
 use Rattle.seg_text.specs.Items.{Text, code_points, rest_after}
 use Rattle.seg_machine.specs.Machine.{Machine, state_at, symbol_count, symbols_of}
 use Rattle.seg_machine.specs.MachineFaults.{IsChecked}
-use Rattle.seg_memo.specs.declared.configuration.Configuration.{Configuration}
-use Rattle.seg_memo.specs.declared.configuration.Outcome.{Outcome}
-use Rattle.seg_memo.specs.declared.configuration.Outcome.TheVariants.{Nothing, Picked, Kept}
-use Rattle.seg_memo.specs.declared.configuration.LookUp.TheVariants.{Leads}
-use Rattle.seg_memo.specs.declared.configuration.Cell.{Cell}
-use Rattle.seg_memo.specs.declared.configuration.Cell.TheVariants.{Unknown, First, Way, KnownNothing, KnownKept}
-use Rattle.seg_memo.specs.Configurations.{Subject, configuration, configurations, reading, following, look_ups, all_look_ups, start_at, AreStarts, different, entered, floor, later, outcome_at, look_up}
-use Rattle.seg_memo.specs.declared.table.Table.{Table}
+pub use Rattle.seg_memo.specs.declared.configuration.Cell.{Cell}
+pub use Rattle.seg_memo.specs.declared.configuration.Cell.TheVariants.{Unknown, First, Way, KnownNothing, KnownKept}
+pub use Rattle.seg_memo.specs.declared.table.Table.{Table}
 
 -- Cells.
 

@@ -1,8 +1,7 @@
 use Rattle.std.proofs.Common.{◌≡◌, length}
 use Rattle.seg_text.specs.Items.{rest_after}
 use Rattle.seg_machine.specs.Tailored.{parts_of}
-use Rattle.seg_memo.specs.declared.configuration.LookUp.TheVariants.{Leads}
-use Rattle.seg_memo.specs.Configurations.{following, look_up}
+use Rattle.seg_memo.specs.Configurations.{Leads, following, look_up}
 use Rattle.seg_memo.specs.Grids.{IsConfigurationOf, IsReadBy, IsUnderWay}
 use Rattle.seg_memo.proofs.search.go_forward.Given as goal
 

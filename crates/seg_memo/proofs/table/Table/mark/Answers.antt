@@ -1,7 +1,6 @@
 use Rattle.std.proofs.Common.{◌∙◌, arith, refl, sym}
 use Rattle.std.proofs.lemmas.Bool.{false≢true}
-use Rattle.seg_memo.specs.declared.configuration.Cell.TheVariants.{KnownNothing}
-use Rattle.seg_memo.specs.declared.table.Table.{Table}
+use Rattle.seg_memo.specs.Grids.{KnownNothing, Table}
 use Rattle.std.specs.Vec.{with_item}
 use Rattle.seg_memo.proofs.Cells.{cell-read, left-set, set-there}
 use Rattle.seg_memo.proofs.table.Table.mark.Goals as goal
