@@ -1,15 +1,11 @@
 -- What is done to the cells of a table, by their numbers.
-use Rattle.std.proofs.Common.{◌≡◌, ◌≢◌, ℕ, ◌+◌, ◌-◌, ◌*◌, ◌^◌, ◌<◌, ◌≤◌, List, [], length, get_or, set, take, refl, sym, ap, ◌∙◌, arith, inl, inr}
+use Rattle.std.proofs.Common.{◌≡◌, ℕ, ◌+◌, ◌-◌, ◌*◌, ◌^◌, ◌<◌, ◌≤◌, List, [], length, get_or, set, take, refl, sym, ap, ◌∙◌, arith, inl, inr}
 use Rattle.std.specs.Prelude.{vec_capacity}
 use Rattle.std.proofs.lemmas.Bool.{cases_lt}
 use Rattle.std.proofs.lemmas.Nat.{mul-le}
 use Rattle.std.proofs.lemmas.List.{get_or-set_same, get_or-set_other, get_or-take, get_or_past, get_or_read, length-take}
-use Rattle.seg_memo.specs.declared.configuration.Configuration.{Configuration}
-use Rattle.seg_memo.specs.declared.configuration.Cell.{Cell}
-use Rattle.seg_memo.specs.declared.configuration.Cell.TheVariants.{Unknown}
-use Rattle.seg_memo.specs.declared.table.Table.{Table}
-use Rattle.seg_memo.specs.Configurations.{start_at}
-use Rattle.seg_memo.specs.Grids.{HasCell, IsLeft, IsSet, cell, number}
+use Rattle.seg_memo.specs.Configurations.{Configuration, start_at}
+use Rattle.seg_memo.specs.Grids.{Cell, Unknown, Table, HasCell, IsLeft, IsSet, cell, number}
 use Rattle.seg_memo.proofs.Numbers.{number-least, number-same}
 
 -- the number of a configuration, as the code makes it
@@ -76,11 +72,13 @@ set-there t u items c x index has is states sets first capacity inside made kept
 pub left-there : (t u : Table) (gone from : ℕ) → u.states ≡ t.states → u.sets ≡ t.sets → u.first ≡ t.first + gone
     → ((c : Configuration) → from ≤ c.place → HasCell t c → u.first ≤ number t.states t.sets c) → vec_capacity t.cells ≤ vec_capacity u.cells
     → ((i : ℕ) → get_or u.cells.items i Unknown ≡ get_or t.cells.items (gone + i) Unknown) → IsLeft t u from
-left-there t u gone from states sets first past capacity same c here has =
-    let before = past c here has in
-    let k : ℕ = number t.states t.sets c - u.first in
-    let at : u.first + k ≡ number t.states t.sets c = omega (arith, before) in
-    (has-on t u c states sets capacity has before, cell-is u c k (rw (states, sets) at) ∙ same k ∙ sym (cell-is t c (gone + k) (omega (arith, at, first))))
+left-there t u gone from states sets first past capacity same = record {
+  at = λ c here has.
+      let before = past c here has in
+      let k : ℕ = number t.states t.sets c - u.first in
+      let at : u.first + k ≡ number t.states t.sets c = omega (arith, before) in
+      (has-on t u c states sets capacity has before, cell-is u c k (rw (states, sets) at) ∙ same k ∙ sym (cell-is t c (gone + k) (omega (arith, at, first))));
+}
 
 pub left-from : (t u : Table) (gone from : ℕ) → u.states ≡ t.states → u.sets ≡ t.sets → t.first + gone ≡ number t.states t.sets (start_at from) → u.first ≡ t.first + gone
     → vec_capacity t.cells ≤ vec_capacity u.cells → ((i : ℕ) → get_or u.cells.items i Unknown ≡ get_or t.cells.items (gone + i) Unknown) → IsLeft t u from
@@ -97,20 +95,23 @@ left-more t u from states sets first capacity same =
 pub none-after : (new old : List Cell) (gone i : ℕ) → new ≡ [] → length old ≤ gone → get_or new i Unknown ≡ get_or old (gone + i) Unknown
 none-after new old gone i none past = ap (λ (xs : List Cell). get_or xs i Unknown) none ∙ sym (get_or_past old (gone + i) Unknown (omega (arith, past)))
 
-pub left-on : (t u v : Table) (from : ℕ) → IsLeft t u from → IsLeft u v from → IsLeft t v from
-left-on t u v from one more c past has =
-    let first = one c past has in
-    let then = more c past first.0 in
-    (then.0, then.1 ∙ first.1)
+module _ {t u v : Table} {from : ℕ} (one : IsLeft t u from) where
+  pub left-on : IsLeft u v from → IsLeft t v from
+  left-on more = record {
+    at = λ c past has.
+        let first = one.at c past has in
+        let then = more.at c past first.0 in
+        (then.0, then.1 ∙ first.1);
+  }
 
-pub left-set : (t u v : Table) (from : ℕ) (here : Configuration) (x : Cell) → IsLeft t u from → IsSet u v 0 here x → IsSet t v from here x
-left-set t u v from here x one more = record {
-  own = more.own;
-  others = λ c past has.
-      let first = one c past has in
-      let then = more.others c (omega arith) first.0 in
-      (then.0, λ other. then.1 other ∙ first.1);
-}
+  pub left-set : {here : Configuration} {x : Cell} → IsSet u v 0 here x → IsSet t v from here x
+  left-set more = record {
+    own = more.own;
+    others = λ c past has.
+        let first = one.at c past has in
+        let then = more.others c (omega arith) first.0 in
+        (then.0, λ other. then.1 other ∙ first.1);
+  }
 
 -- a table without cells
 

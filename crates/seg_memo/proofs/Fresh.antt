@@ -5,16 +5,12 @@ use Rattle.std.proofs.lemmas.List.{get_or_past, get_or-map, length-map}
 use Rattle.std.proofs.lemmas.Nat.{mul-le, pow_below}
 use Rattle.seg_text.specs.Items.{IsRising, Item, Text, code_points, start_of}
 use Rattle.seg_text.proofs.Hints.{items-few}
-use Rattle.seg_machine.specs.declared.provider.Acceptance.{Acceptance}
+use Rattle.seg_memo.specs.Configurations.{Acceptance, Configuration, AreLookedUp, AreStarts, Subject, all_look_ups, configurations, different, reading, subject}
 use Rattle.seg_machine.specs.MachineFaults.{IsChecked}
 use Rattle.seg_machine.specs.Machine.{Machine, symbol_and_script, symbol_count, symbols_of, without_transitions}
-use Rattle.seg_memo.specs.declared.configuration.Configuration.{Configuration}
-use Rattle.seg_memo.specs.declared.configuration.Cell.TheVariants.{Unknown}
-use Rattle.seg_memo.specs.declared.table.Table.{Table}
-use Rattle.seg_memo.specs.Configurations.{AreLookedUp, AreStarts, Subject, all_look_ups, configurations, different, reading, subject}
-use Rattle.seg_memo.specs.Grids.{HasCell, IsConfigurationOf, IsMemo, IsOn, IsSound, Tells, cell, number}
+use Rattle.seg_memo.specs.Grids.{Unknown, Table, HasCell, IsConfigurationOf, IsMemo, IsOn, IsSound, Tells, cell, number}
 use Rattle.seg_memo.proofs.Lists.{different-bound}
-use Rattle.seg_memo.proofs.Memoised.{symbols-length}
+use Rattle.seg_memo.proofs.Reading.{symbols-length}
 use Rattle.seg_memo.proofs.Numbers.{items-fit, number-below}
 use Rattle.seg_memo.proofs.Scanning.{all-nil, all-within}
 
@@ -48,7 +44,7 @@ fresh-memo s t counted sound has unknown none = record {
   are = refl;
   within = omega arith;
   fit = record { sound = sound; has = λ c within past. has c within };
-  cells = λ c within past off. inl (unknown c within past, λ on. subst (IsOn c) (all-nil s) on);
+  cells = record { at = λ c within past off. inl (unknown c within past, λ on. subst (IsOn c) (all-nil s) on) };
   count = none ∙ sym (none-different s);
 }
 
@@ -80,7 +76,7 @@ made-memo m parts transitions text t states sets room counted parts_are checked 
 -- another reader, before the first scan
 
 first-unknown : (s : Subject) (t : Table) (counted : ℕ) (memo : IsMemo s t counted 0) (c : Configuration) → IsConfigurationOf s c → 0 < c.place → cell t c ≡ Unknown
-first-unknown s t counted memo c within past = on memo.starts memo.are (memo.cells c within past (λ on. on))
+first-unknown s t counted memo c within past = on memo.starts memo.are (memo.cells.at c within past (λ on. on))
   where
     on : (starts : List ℕ) → AreStarts s starts 0 → Tells s (all_look_ups s starts) c (cell t c) → cell t c ≡ Unknown
     on [] are tells = elim tells [ inl new ↦ new.0 | inr old ↦ absurd (subst (IsOn c) (all-nil s) old.1) ]

@@ -6,8 +6,7 @@ use Rattle.std.proofs.lemmas.Map.Made.{length-le_from_is_member}
 use Rattle.std.proofs.lemmas.Map.Steps.{length-le_from_distinct_below}
 use Rattle.std.specs.List.{AllByRecursion, IsDistinct}
 use Rattle.std.specs.Set.{is_member}
-use Rattle.seg_memo.specs.declared.configuration.Configuration.{Configuration}
-use Rattle.seg_memo.specs.Configurations.{Subject, configurations, different, is_in, is_same}
+use Rattle.seg_memo.specs.Configurations.{Configuration, Subject, configurations, different, is_in, is_same}
 use Rattle.seg_memo.specs.Grids.{IsConfigurationOf, IsOn, number, onto}
 use Rattle.seg_memo.proofs.Numbers.{number-below, number-same, same}
 

@@ -1,8 +1,7 @@
 -- The numbers of configurations.
 use Rattle.std.proofs.Common.{◌≡◌, ℕ, suc, ◌+◌, ◌*◌, ◌^◌, ◌<◌, ◌≤◌, length, ap, ◌∙◌, arith}
 use Rattle.std.proofs.lemmas.Nat.{mul-add-lt, same_from_place, mul-le, pow_pos}
-use Rattle.seg_memo.specs.declared.configuration.Configuration.{Configuration}
-use Rattle.seg_memo.specs.Configurations.{Subject, configuration, configurations, start_at}
+use Rattle.seg_memo.specs.Configurations.{Configuration, Subject, configuration, configurations, start_at}
 use Rattle.seg_memo.specs.Grids.{IsConfigurationOf, IsSound, number}
 
 -- there are no more than configurations

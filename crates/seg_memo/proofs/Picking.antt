@@ -4,19 +4,14 @@ use Rattle.std.specs.Prelude.{is_some}
 use Rattle.std.specs.Option.{option_map, option_map_or, option_or}
 use Rattle.std.proofs.lemmas.Bool.{cases_eq, cases_Bool, cond-true, cond-false, ne_eqb, eq-eqb}
 use Rattle.std.proofs.lemmas.List.{length-drop}
-use Rattle.seg_text.specs.declared.boundary.Boundary.{Boundary}
+use Rattle.seg_memo.specs.Configurations.{Boundary, Acceptance, Continue, Accept, Conditional, Outcome, Nothing, Picked, Kept, Subject, condition_held, following, start_at, entered, at, outcome, outcome_at, picked}
 use Rattle.seg_text.specs.Boundaries.{boundary, shift}
-use Rattle.seg_machine.specs.declared.provider.Acceptance.{Acceptance}
-use Rattle.seg_machine.specs.declared.provider.Acceptance.TheVariants.{Continue, Accept, Conditional}
 use Rattle.seg_machine.specs.Machine.{Machine, scan, state_at}
 use Rattle.seg_machine.specs.Pick.{later, last_step, acceptance_status, naming, condition, first_condition, picked_step, pick}
 use Rattle.seg_machine.specs.Search.{has, keep}
 use Rattle.seg_machine.proofs.Settled.{Agrees, agrees-more, last-none}
 use Rattle.seg_machine.proofs.Sets.{has-none, has-keep}
 use Rattle.seg_machine.proofs.Steps.{at_step, last_step-push}
-use Rattle.seg_memo.specs.declared.configuration.Outcome.{Outcome}
-use Rattle.seg_memo.specs.declared.configuration.Outcome.TheVariants.{Nothing, Picked, Kept}
-use Rattle.seg_memo.specs.Configurations.{Subject, condition_held, following, start_at, entered, at, outcome, outcome_at, picked}
 
 -- a lookahead that an outcome names is in the set
 abbrev pub IsKept : ℕ → Outcome → Type 0

@@ -2,51 +2,29 @@
 use Rattle.std.proofs.Common.{◌≡◌, ℕ, suc, ◌+◌, ◌<◌, ◌≤◌, ◌⊎◌, Option, Some, None, List, [], ◌∷◌, length, map, min, refl, sym, ap, ◌∙◌, subst, arith, inl, inr}
 use Rattle.std.specs.Option.{option_map}
 use Rattle.std.proofs.lemmas.Bool.{cases_lt, cond-false, false≢true}
-use Rattle.seg_text.specs.declared.boundary.Boundary.{Boundary}
+use Rattle.seg_memo.specs.Configurations.{Boundary, Acceptance, Continue, Accept, Conditional, Configuration, Outcome, Nothing, Picked, Kept, Ends, Leads, Subject, condition_held, start_at, following, look_ups, all_look_ups, AreStarts, at, entered, later, outcome, outcome_at, look_up, picked}
 use Rattle.seg_text.specs.Boundaries.{boundary, shift}
-use Rattle.seg_machine.specs.declared.provider.Acceptance.{Acceptance}
-use Rattle.seg_machine.specs.declared.provider.Acceptance.TheVariants.{Continue, Accept, Conditional}
-use Rattle.seg_machine.specs.Machine.{Machine, step, state_at}
-use Rattle.seg_machine.specs.Search.{has, keep}
+use Rattle.seg_machine.specs.Machine.{state_at}
+use Rattle.seg_machine.specs.Search.{has}
 use Rattle.seg_machine.proofs.Sets.{has-none}
-use Rattle.std.specs.Prelude.{slice_index_or}
-use Rattle.seg_memo.specs.declared.configuration.Configuration.{Configuration}
-use Rattle.seg_memo.specs.declared.configuration.Outcome.{Outcome}
-use Rattle.seg_memo.specs.declared.configuration.Outcome.TheVariants.{Nothing, Picked, Kept}
-use Rattle.seg_memo.specs.declared.configuration.LookUp.TheVariants.{Ends, Leads}
-use Rattle.seg_memo.specs.declared.configuration.Cell.{Cell}
-use Rattle.seg_memo.specs.declared.configuration.Cell.TheVariants.{Unknown, First, Way, KnownNothing, KnownKept}
-use Rattle.seg_memo.specs.Configurations.{Subject, configuration, condition_held, start_at, following, look_ups, all_look_ups, AreStarts, at, entered, later, outcome, outcome_at, look_up, picked}
-use Rattle.seg_memo.specs.Grids.{IsOn, IsSound, IsConfigurationOf, known}
-use Rattle.seg_memo.proofs.Following.{ends, leads-within, look-ups-leads, look-up-leads, look-up-none, outcome-at, outcome-leads, picked-past}
-use Rattle.seg_memo.proofs.Reading.{Read, value-some}
+use Rattle.seg_memo.specs.Grids.{Cell, Unknown, First, Way, KnownNothing, KnownKept, IsOn, IsSound, IsConfigurationOf, known}
+use Rattle.seg_memo.proofs.Following.{ends, leads-within, look-ups-leads, looks, outcome-at, outcome-leads, picked-past}
 use Rattle.seg_memo.proofs.Lists.{on-append}
 use Rattle.seg_memo.proofs.Scanning.{all-cons, all-nil, along, start-within}
 use Rattle.seg_memo.proofs.Picking.{IsKept, kept-outcome, picked-start}
 
 -- no condition holds
 
-free-held : (kept : ℕ) (entry : Acceptance × Option ℕ) → kept ≡ 0 → condition_held kept entry ≡ None
+pub free-held : (kept : ℕ) (entry : Acceptance × Option ℕ) → kept ≡ 0 → condition_held kept entry ≡ None
 free-held kept (Continue, name) none = refl
 free-held kept (Accept status, name) none = refl
 free-held kept (Conditional lookahead status, name) none =
     cond-false {A = Option (ℕ × ℕ)} (has kept lookahead) (Some (lookahead, status)) None (ap (λ (k : ℕ). has k lookahead) none ∙ has-none lookahead)
 
--- what is looked up then
-pub plain-value : (s : Subject) (m : Machine) (c : Configuration) (states : ℕ) (transitions : List ℕ) (symbol next place : ℕ) (entry : Acceptance × Option ℕ) → c.kept ≡ 0
-    → Read s m c states transitions symbol next → (next ≡ 255 → ⊥) → entry ≡ state_at m next → place ≡ min (suc c.place) (length s.symbols)
-    → Leads (configuration next place (keep c.kept entry.1)) ≡ look_up s c
-plain-value s m c states transitions symbol next place entry none r some e p =
-    value-some s m c states transitions symbol next place entry (Leads (configuration next place (keep c.kept entry.1))) r some e p
-    (rw (free-held c.kept entry none) refl)
-
 -- so a scan ends with nothing
 pub plain-ends : (s : Subject) (c : Configuration) (o : Outcome) → c.kept ≡ 0 → look_up s c ≡ Ends o → o ≡ Nothing
-plain-ends s c o free is = on (step s.machine c.state (slice_index_or s.symbols c.place 0)) refl
-  where
-    on : (found : Option ℕ) → step s.machine c.state (slice_index_or s.symbols c.place 0) ≡ found → o ≡ Nothing
-    on None none = let same : Ends Nothing ≡ Ends o = sym (look-up-none s c none) ∙ is in cc
-    on (Some next) some = let never = sym (look-up-leads s c next some (free-held c.kept (state_at s.machine next) free)) ∙ is in cc
+plain-ends s c o free =
+    looks s c (λ found. found ≡ Ends o → o ≡ Nothing) (λ none is. cc) (λ next f some holds is. let never = sym holds ∙ free-held c.kept (state_at s.machine next) free in cc) (λ next some none is. cc)
 
 -- and no outcome is kept
 pub never-kept : (s : Subject) (c : Configuration) (lookahead status : ℕ) → c.kept ≡ 0 → outcome_at s c ≡ Kept lookahead status → ⊥

@@ -1,13 +1,9 @@
 -- What a scan looks up: all of it is of the text, and of each look-up what comes after it.
-use Rattle.std.proofs.Common.{◌≡◌, ℕ, ◌≤◌, List, [], ◌∷◌, ◌++◌, length, refl, sym, ap, ◌∙◌, subst, arith, inl, inr}
+use Rattle.std.proofs.Common.{◌≡◌, ℕ, ◌≤◌, List, [], ◌∷◌, ◌++◌, length, refl, sym, ◌∙◌, subst, arith, inl, inr}
 use Rattle.std.proofs.lemmas.Nat.{pow_pos}
-use Rattle.seg_memo.specs.declared.configuration.Configuration.{Configuration}
-use Rattle.seg_memo.specs.declared.configuration.Outcome.{Outcome}
-use Rattle.seg_memo.specs.declared.configuration.LookUp.{LookUp}
-use Rattle.seg_memo.specs.declared.configuration.LookUp.TheVariants.{Ends, Leads}
-use Rattle.seg_memo.specs.Configurations.{Subject, start_at, following, look_ups, all_look_ups, AreStarts, look_up}
+use Rattle.seg_memo.specs.Configurations.{Configuration, Outcome, LookUp, Ends, Leads, Subject, start_at, following, look_ups, all_look_ups, AreStarts, look_up}
 use Rattle.seg_memo.specs.Grids.{IsSound, IsConfigurationOf, IsOn, onto}
-use Rattle.seg_memo.proofs.Following.{ends, look-ups-leads, look-ups-on, states-lead, leads-within}
+use Rattle.seg_memo.proofs.Following.{ends, look-ups-leads, states-lead, leads-within}
 use Rattle.seg_memo.proofs.Lists.{AreWithin, Same, on-append, on-left, on-onto, on-right, onto-on}
 
 -- induction over a scan

@@ -2,9 +2,8 @@
 use Rattle.std.proofs.Common.{◌≡◌, ℕ, zero, suc, ◌+◌, ◌<◌, ◌≤◌, Some, List, [], ◌∷◌, length, drop, refl, sym, ap, ◌∙◌, subst, arith, inl, inr}
 use Rattle.std.proofs.lemmas.Bool.{cases_lt, cases_eq}
 use Rattle.std.proofs.lemmas.Option.{same_Some}
-use Rattle.seg_text.specs.declared.boundary.Boundary.{Boundary}
+use Rattle.seg_memo.specs.Configurations.{Boundary, AreLookedUp, AreStarts, Subject, all_look_ups, different}
 use Rattle.seg_machine.specs.Pick.{pick}
-use Rattle.seg_memo.specs.Configurations.{AreLookedUp, AreStarts, Subject, all_look_ups, different}
 
 abbrev Picks : Subject → ℕ → Boundary → Type 0
 Picks s start p = pick s.machine (drop start s.symbols) ≡ Some p

@@ -1,17 +1,12 @@
 -- The table of configurations: a map from configurations to cells, and what it tells of the scans.
-use Rattle.std.specs.Prelude.{◌≡◌, ℕ, suc, ◌+◌, ◌-◌, ◌*◌, ◌^◌, ◌<◌, ◌≤◌, ◌⊎◌, ◌==◌, Bool, if◌then◌else◌, Option, Some, None, List, [], ◌∷◌, ◌++◌, drop, length, min, slice_index_or, vec_capacity}
-use Rattle.seg_text.specs.declared.boundary.Boundary.{Boundary}
-use Rattle.seg_text.specs.Items.{Item, Text, code_points, rest_after, start_of}
+use Rattle.std.specs.Prelude.{◌≡◌, ℕ, suc, ◌+◌, ◌-◌, ◌*◌, ◌^◌, ◌<◌, ◌≤◌, ◌⊎◌, ◌==◌, Bool, if◌then◌else◌, Option, Some, None, List, [], ◌∷◌, ◌++◌, length, min, slice_index_or, vec_capacity}
+use Rattle.seg_memo.specs.Configurations.{Boundary, Configuration, Outcome, Nothing, Picked, Kept, Leads, Subject, configuration, configurations, reading, following, look_ups, all_look_ups, start_at, AreStarts, different, entered, floor, later, outcome_at, look_up}
+use Rattle.seg_text.specs.Items.{Text, code_points, rest_after}
 use Rattle.seg_machine.specs.Machine.{Machine, state_at, symbol_count, symbols_of}
 use Rattle.seg_machine.specs.MachineFaults.{IsChecked}
-use Rattle.seg_memo.specs.declared.configuration.Configuration.{Configuration}
-use Rattle.seg_memo.specs.declared.configuration.Outcome.{Outcome}
-use Rattle.seg_memo.specs.declared.configuration.Outcome.TheVariants.{Nothing, Picked, Kept}
-use Rattle.seg_memo.specs.declared.configuration.LookUp.TheVariants.{Leads}
-use Rattle.seg_memo.specs.declared.configuration.Cell.{Cell}
-use Rattle.seg_memo.specs.declared.configuration.Cell.TheVariants.{Unknown, First, Way, KnownNothing, KnownKept}
-use Rattle.seg_memo.specs.Configurations.{Subject, configuration, configurations, reading, following, look_ups, all_look_ups, start_at, AreStarts, different, entered, floor, later, outcome_at, look_up}
-use Rattle.seg_memo.specs.declared.table.Table.{Table}
+pub use Rattle.seg_memo.specs.declared.configuration.Cell.{Cell}
+pub use Rattle.seg_memo.specs.declared.configuration.Cell.TheVariants.{Unknown, First, Way, KnownNothing, KnownKept}
+pub use Rattle.seg_memo.specs.declared.table.Table.{Table}
 
 -- Cells.
 
@@ -49,28 +44,32 @@ pub record IsSound (s : Subject) : Type 0 where
   pub own : (place : ℕ) → slice_index_or s.symbols place 0 < symbol_count s.machine
   pub room : configurations s.machine (length s.symbols) < 2 ^ 64
 
--- a reader has so many states and these transitions: the machine is read by it
-pub record IsReadBy (s : Subject) (m : Machine) (states : ℕ) (transitions : List ℕ) : Type 0 where
-  pub machine : s.machine ≡ reading m transitions
+-- a machine with the symbols of a text, and that text
+pub record Source : Type 0 where
+  pub subject : Subject
+  pub whole : Text
+
+-- a scan of it, from a place on
+pub record Scan : Type 0 where
+  pub source : Source
+  pub start : ℕ
+
+-- one that names a lookahead, and the last acceptance before that
+pub record Named : Type 0 where
+  pub source : Source
+  pub start : ℕ
+  pub last : Option Boundary
+
+-- a reader has so many states and these transitions: the machine is read by it, and the symbols are those of the text
+pub record IsReadBy (r : Source) (m : Machine) (states : ℕ) (transitions : List ℕ) : Type 0 where
+  pub machine : r.subject.machine ≡ reading m transitions
+  pub symbols : r.subject.symbols ≡ symbols_of m (code_points r.whole.items)
   pub states_are : states ≡ length m.states
 
--- what is left of the text begins at this place
-abbrev pub IsAt : Subject → Machine → ℕ → List Item → Type 0
-IsAt s m place items = symbols_of m (code_points items) ≡ drop place s.symbols
-
--- a cursor went on from a place over as many items of its text as its place did
-abbrev pub GoesOverItems : Text → ℕ → Text → ℕ → Type 0
-GoesOverItems before place after next = (count : ℕ) × (after ≡ rest_after count before) × (next ≡ place + count)
-
--- where a cursor stands that went on to a place from one where this was left of the text
-abbrev pub CursorStandsAt : Text → ℕ → ℕ → ℕ → Type 0
-CursorStandsAt text place next offset = (after : Text) × GoesOverItems text place after next × (offset ≡ start_of after)
-
--- the symbol at a place of the text, or that of the end, is read, and this is left after it, of what was left from some place on
-pub record IsKeptSymbol (s : Subject) (m : Machine) (text : Text) (from place symbol : ℕ) (after : Text) : Type 0 where
-  pub symbol_is : symbol ≡ slice_index_or s.symbols place 0
-  pub goes : GoesOverItems text from after (min (suc place) (length s.symbols))
-  pub rest : IsAt s m (min (suc place) (length s.symbols)) after.items
+-- the symbol at a place of the text, or that of the end, is read, and this is left after it
+pub record IsKeptSymbol (r : Source) (place symbol : ℕ) (after : Text) : Type 0 where
+  pub symbol_is : symbol ≡ slice_index_or r.subject.symbols place 0
+  pub rest : after ≡ rest_after (min (suc place) (length r.subject.symbols)) r.whole
 
 -- The table as a map.
 
@@ -91,8 +90,8 @@ pub record HasCell (t : Table) (c : Configuration) : Type 0 where
   pub fits : number t.states t.sets c < 2 ^ 64
 
 -- the cells of a place and of those after it stay
-abbrev pub IsLeft : Table → Table → ℕ → Type 0
-IsLeft old new from = (c : Configuration) → from ≤ c.place → HasCell old c → HasCell new c × (cell new c ≡ cell old c)
+pub record IsLeft (old new : Table) (from : ℕ) : Type 0 where
+  pub at : (c : Configuration) → from ≤ c.place → HasCell old c → HasCell new c × (cell new c ≡ cell old c)
 
 -- so do they but for one, which is this
 pub record IsSet (old new : Table) (from : ℕ) (here : Configuration) (x : Cell) : Type 0 where
@@ -115,8 +114,8 @@ abbrev pub Tells : Subject → List Configuration → Configuration → Cell →
 Tells s found c x = ((x ≡ Unknown) × (IsOn c found → ⊥)) ⊎ ((known x ≡ Some (outcome_at s c)) × IsOn c found)
 
 -- so does each from a place on, but for those on another list
-abbrev pub TellFrom : Subject → Table → ℕ → List Configuration → List Configuration → Type 0
-TellFrom s t from found but = (c : Configuration) → IsConfigurationOf s c → from ≤ c.place → (IsOn c but → ⊥) → Tells s found c (cell t c)
+pub record TellFrom (s : Subject) (t : Table) (from : ℕ) (found but : List Configuration) : Type 0 where
+  pub at : (c : Configuration) → IsConfigurationOf s c → from ≤ c.place → (IsOn c but → ⊥) → Tells s found c (cell t c)
 
 -- the configurations of a text have cells from a place on
 pub record IsFit (s : Subject) (t : Table) (from : ℕ) : Type 0 where

@@ -6,19 +6,19 @@ use Rattle.seg_memo.proofs.Ways.{first-cell, first-ends, first-known, first-room
 use Rattle.seg_memo.proofs.search.outcome_from.Goals as goal
 
 pub cell-requires : goal.cell-requires
-cell-requires g c = first-cell _ _ _ _ _ _ c.requires.1.1.1.0
+cell-requires g c = first-cell c.requires.1.1.1.0
 
 pub returns-in-Some-clause-walked : goal.returns-in-Some-clause-walked
-returns-in-Some-clause-walked g c = first-known _ _ _ _ _ _ _ c.requires.1.1.1.0 (sym (c.known.ensures ∙ ap known c.cell.ensures) ∙ c.in-Some.is)
+returns-in-Some-clause-walked g c = first-known c.requires.1.1.1.0 (sym (c.known.ensures ∙ ap known c.cell.ensures) ∙ c.in-Some.is)
 
 pub look_up-requires : goal.look_up-requires
 look_up-requires g c = λ κs lives.
     let w = c.requires.1.1.1.0 in
-    (lives.0, (lives.1, (w.keeps.fit.sound, (c.requires.1.1.0, (first-room _ _ _ _ _ _ w (sym (c.known.ensures ∙ ap known c.cell.ensures) ∙ c.in_default.is), (w.comes.within, search rules))))))
+    (lives.0, (lives.1, (w.keeps.fit.sound, (c.requires.1.1.0, (first-room w (sym (c.known.ensures ∙ ap known c.cell.ensures) ∙ c.in_default.is), (w.comes.within, search rules))))))
 
 pub returns-in-Ends-clause-walked : goal.returns-in-Ends-clause-walked
 returns-in-Ends-clause-walked g c =
-    first-ends _ _ _ _ _ _ _ _ c.requires.1.1.1.0 (sym (c.known.ensures ∙ ap known c.cell.ensures) ∙ c.in_default.is) (sym c.look_up.ensures.value ∙ c.in-Ends.is) c.look_up.ensures.count
+    first-ends c.requires.1.1.1.0 (sym (c.known.ensures ∙ ap known c.cell.ensures) ∙ c.in_default.is) (sym c.look_up.ensures.value ∙ c.in-Ends.is) c.look_up.ensures.count
 
 pub leave-requires : goal.leave-requires
 leave-requires g c =
@@ -27,19 +27,10 @@ leave-requires g c =
 
 pub go_forward-outcome-requires : goal.go_forward-outcome-requires
 go_forward-outcome-requires g c κs within =
-    let left = named-left _ _ _ _ _ _ _ _ c.requires.1.1.1.0 c.requires.1.1.1.1.1 c.leave.ensures in (
-      within.0,
-      (
-        within.1,
-        (
-          c.look_up.ensures.read,
-          (
-            (_, c.look_up.ensures.count, left.0, left.1 ∙ named-unknown _ _ _ _ _ _ c.requires.1.1.1.0 (sym (c.known.ensures ∙ ap known c.cell.ensures) ∙ c.in_default.is)),
-            ((sym c.look_up.ensures.value ∙ c.in-Leads.is, c.in-Leads.ensures.within), c.in-Leads.ensures.rest),
-          ),
-        ),
-      ),
-    )
+    let left = named-left c.requires.1.1.1.0 c.requires.1.1.1.1.1 c.leave.ensures in
+    let unknown = left.1 ∙ named-unknown c.requires.1.1.1.0 (sym (c.known.ensures ∙ ap known c.cell.ensures) ∙ c.in_default.is) in
+    let leads = sym c.look_up.ensures.value ∙ c.in-Leads.is in
+    (within.0, (within.1, (c.look_up.ensures.read, ((_, c.look_up.ensures.count, left.0, unknown), ((leads, c.in-Leads.ensures.within), c.in-Leads.ensures.rest)))))
 
 pub go_back-requires : goal.go_back-requires
 go_back-requires g c = (ap (λ (m : Machine). m.states) c.go_forward-outcome.ensures.read.machine, (_, c.go_forward-outcome.ensures.went))

@@ -1,5 +1,5 @@
 use Rattle.seg_memo.proofs.Fresh.{looked-up, memo-bound}
-use Rattle.seg_memo.proofs.Memoised.{symbols-length}
+use Rattle.seg_memo.proofs.Reading.{symbols-length}
 use Rattle.seg_memo.proofs.memo.MemoBreakIterator.lookups.Goals as goal
 
 pub returns-clause-different : goal.returns-clause-different

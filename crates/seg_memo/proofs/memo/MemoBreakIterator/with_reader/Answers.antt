@@ -16,7 +16,7 @@ invariant_of-result g c =
     let checked : IsChecked (reading (parts_of c.self.inside.scanned.machine) (g.Other.ReadTransitions.transitions c.args.reader)) =
     subst (λ (v : Memo). IsChecked (reading v.machine (g.Other.ReadTransitions.transitions c.args.reader))) (sym c.self.view_is) c.requires.checked in (
       λ off. (refl, refl),
-      read-by (parts_of c.self.inside.scanned.machine) _ _ _ (c.requires.states ∙ ap (λ (v : Memo). length v.machine.states) (sym c.self.view_is)),
+      read-by (parts_of c.self.inside.scanned.machine) _ _ (g.I.Cursor.text c.self.inside.scanned.text) (c.requires.states ∙ ap (λ (v : Memo). length v.machine.states) (sym c.self.view_is)),
       c.self.invariant.2 ∙ ap (λ (n : ℕ). rest_after n (g.I.Cursor.text c.self.inside.scanned.text)) none,
       other-memo (parts_of c.self.inside.scanned.machine) (g.R.ReadTransitions.transitions c.self.inside.reader) (g.Other.ReadTransitions.transitions c.args.reader) _ _ _ _ _ c.self.invariant.3 none checked c.requires.count,
       other-ahead (parts_of c.self.inside.scanned.machine) (g.R.ReadTransitions.transitions c.self.inside.reader) (g.Other.ReadTransitions.transitions c.args.reader) _ _ _ _ _ c.self.invariant.4 none,

@@ -3,5 +3,5 @@ use Rattle.seg_memo.proofs.table.Table.make_room.Goals as goal
 
 pub returns-clause-left : goal.returns-clause-left
 returns-clause-left c =
-    left-on c.args.self.now c.leave.new.self c.reach.new.self c.args.from c.leave.ensures
+    left-on c.leave.ensures
     (left-more c.leave.new.self c.reach.new.self c.args.from c.reach.ensures.states c.reach.ensures.sets c.reach.ensures.first c.reach.ensures.capacity c.reach.ensures.held)

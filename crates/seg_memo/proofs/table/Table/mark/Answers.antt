@@ -1,7 +1,6 @@
 use Rattle.std.proofs.Common.{◌∙◌, arith, refl, sym}
 use Rattle.std.proofs.lemmas.Bool.{false≢true}
-use Rattle.seg_memo.specs.declared.configuration.Cell.TheVariants.{KnownNothing}
-use Rattle.seg_memo.specs.declared.table.Table.{Table}
+use Rattle.seg_memo.specs.Grids.{KnownNothing, Table}
 use Rattle.std.specs.Vec.{with_item}
 use Rattle.seg_memo.proofs.Cells.{cell-read, left-set, set-there}
 use Rattle.seg_memo.proofs.table.Table.mark.Goals as goal
@@ -10,11 +9,11 @@ pub returns-in-Unknown : goal.returns-in-Unknown
 returns-in-Unknown c =
     let new : Table = record { states = c.hold.new.self.states; sets = c.hold.new.self.sets; first = c.hold.new.self.first; cells = with_item c.hold.new.self.cells c.index-index.result KnownNothing } in
     let held = c.hold.ensures.held in
-    let here = c.hold.ensures.left c.args.here c.requires.from.1 c.requires.here in
+    let here = c.hold.ensures.left.at c.args.here c.requires.from.1 c.requires.here in
     record {
       new = λ is. (
         sym here.1 ∙ sym (cell-read c.hold.new.self c.args.here c.index-index.result c.index.result.now c.index-index.ensures.number (omega (arith, held, c.index-index.ensures.number)) c.index.ensures) ∙ c.in-Unknown.is,
-        left-set c.args.self.now c.hold.new.self new c.args.from c.args.here KnownNothing c.hold.ensures.left
+        left-set {v = new} c.hold.ensures.left
             (set-there c.hold.new.self new c.hold.new.self.cells.items c.args.here KnownNothing c.index-index.result here.0 c.index-index.ensures.number refl refl refl (omega arith)
             (omega (arith, held, c.index-index.ensures.number)) refl (λ i. refl)),
       );
@@ -24,7 +23,7 @@ returns-in-Unknown c =
 pub returns : goal.returns
 returns c =
     let held = c.hold.ensures.held in
-    let here = c.hold.ensures.left c.args.here c.requires.from.1 c.requires.here in
+    let here = c.hold.ensures.left.at c.args.here c.requires.from.1 c.requires.here in
     record {
       new = λ is. absurd (false≢true (sym is));
       known = λ is. (
