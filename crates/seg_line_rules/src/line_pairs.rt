@@ -179,7 +179,6 @@ fn has_complex_below_0100(engine: LineEngine, table: &RuleBreakData) -> bool
 }
 
 /// A class as the options read it.
-#[inline(always)]
 fn class_read(engine: LineEngine, style: LineStyle, complex: u8, class: u8) -> u8
     ensures { result ≡ class_read engine style complex class }
 {
@@ -204,7 +203,6 @@ fn strict_read(engine: LineEngine, style: LineStyle, complex: u8, class: u8) -> 
 }
 
 /// Whether the options read a class as ID.
-#[inline(always)]
 fn is_read_as_id(engine: LineEngine, style: LineStyle, complex: u8, class: u8) -> bool
     ensures { result ≡ is_read_as_id engine style complex class }
 {

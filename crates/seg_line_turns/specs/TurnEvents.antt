@@ -1,8 +1,8 @@
 -- A text whose lines are found turn by turn: what is read ahead, what comes next, and what is left.
-use Rattle.std.specs.Prelude.{◌≡◌, ◌&&◌, ℕ, Bool, true, false, if◌then◌else◌, List, [], ◌∷◌, ◌||◌, not}
-use Rattle.seg_text.specs.Items.{Text, rest_after}
+use Rattle.std.specs.Prelude.{◌&&◌, ℕ, Bool, true, false, if◌then◌else◌, List, [], ◌∷◌, ◌||◌, not}
+use Rattle.seg_text.specs.Items.{Text}
 use Rattle.seg_text.specs.declared.boundary.Boundary.{Boundary}
-use Rattle.seg_text.specs.Boundaries.{boundary, boundaries_in, Cuts}
+use Rattle.seg_text.specs.Boundaries.{boundaries_in, Cuts}
 use Rattle.seg_pairs.specs.declared.provider.pairs.BreakState.{BreakState}
 use Rattle.seg_pairs.specs.declared.provider.pairs.BreakState.TheVariants as entries
 use Rattle.seg_pairs.specs.PairTable.{PairTable, entry_of}
