@@ -102,7 +102,10 @@ pub(crate) const ZWJ: ClassNumber = ClassNumber(54, 68);
 pub fn is_mark(engine: LineEngine, class: u8) -> bool
     ensures { result ≡ is_mark engine class }
 {
-    class == CM.by(engine) || class == CM_EASTASIAN.by(engine) || class == ZWJ.by(engine)
+    // No class is compared twice, which costs an instruction a character.
+    class == CM.by(engine)
+        || class == ZWJ.by(engine)
+        || (engine == LineEngine::Seventeen && class == CM_EASTASIAN.by(engine))
 }
 
 /// Whether a mark after a base of this class stands alone.
@@ -121,7 +124,7 @@ pub fn bears_none(engine: LineEngine, class: u8) -> bool
 
 /// Whether an item of this class is glued to a unit whose base has that class.
 #[inline(always)]
-pub fn is_glued(engine: LineEngine, base: u8, class: u8) -> bool
+pub(crate) fn is_glued(engine: LineEngine, base: u8, class: u8) -> bool
     ensures { result ≡ is_glued engine base class }
 {
     is_mark(engine, class) && !bears_none(engine, base)
@@ -166,7 +169,7 @@ pub(crate) fn is_kept(engine: LineEngine, class: u8) -> bool
 
 /// Whether the class is complex: the one that the table names, of the engine 17 SA and SA_MC_MN.
 #[inline(always)]
-pub fn is_complex(engine: LineEngine, table: &RuleBreakData, class: u8) -> bool
+pub(crate) fn is_complex(engine: LineEngine, table: &RuleBreakData, class: u8) -> bool
     ensures { result ≡ is_complex_by engine table.now class }
 {
     match engine {

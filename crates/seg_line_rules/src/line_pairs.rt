@@ -134,7 +134,6 @@ impl<'data, E: PairEngine> LinePairs<'data, E> {
     }
 
     /// The class of a code point, as the options read it.
-    #[inline(always)]
     pub fn class(self, code_point: u32) -> u8
         ensures value { result ≡ line_class (rules_by self.entry) code_point }
         ensures below { result < (rules_by self.entry).table.property_count }
