@@ -1,6 +1,5 @@
 -- The iterator, of what its code has in hand.
-use Rattle.std.proofs.Common.{◌≡◌, ◌≢◌, ℕ, ◌+◌, ◌^◌, ◌<◌, ◌==◌, Bool, true, Some, List, [], ◌∷◌, length, drop, get_or, min, refl, sym, ap, ◌∙◌, subst, arith}
-use Rattle.std.proofs.lemmas.Bool.Decides.{nat_tests}
+use Rattle.std.proofs.Common.{◌≡◌, ◌≢◌, ℕ, ◌==◌, Bool, true, Some, List, [], ◌∷◌, length, drop, get_or, min, refl, sym, ap, ◌∙◌, subst}
 use Rattle.std.specs.Prelude.{⊤}
 use Rattle.std.specs.Iterator.{MakesProgress, item_count}
 use Rattle.seg_text.specs.Items.{Text, code_points, rest_after, start_of}
@@ -34,9 +33,6 @@ memo-next m after_reading text left rest given lookups lookups_after place start
     let gives = gives-next m (rest_after given text) (rest_after b.offset text) started status b.status place on (subst (λ (x : Text). x.items ≢ []) is some)
     (p, ap (pick m) (symbols-drop m given text.items) ∙ picks, ap (λ (x : Boundary). x.status) moved, ends) (begins ∙ ap start_of after) in
     rw same (record { steps = gives.steps; goes = fewer-left memo_places _ _ place gives.steps.0 })
-
-pub counted-all : (items left all : ℕ) → items + left ≡ all → (left == 0) ≡ true → items < 2 ^ 64 → (all < 2 ^ 64) × (items ≡ all)
-counted-all items left all is none fits = let zero : left ≡ 0 = grind (arith, nat_tests) in (omega (arith, is, zero, fits), omega (arith, is, zero))
 
 -- a machine is read by a reader of its states and of transitions in the place of its own
 pub read-by : (m : Machine) (transitions : List ℕ) (states : ℕ) (whole : Text) → states ≡ length m.states

@@ -39,13 +39,12 @@ on-next s first here next sound way is =
 
 -- the way
 
-way-on : (s : Subject) (t : Table) (first here : Configuration) (path : List Configuration) → IsWay s t first here path → OnWay s first here
-way-on s t first here [] way = way.1
-way-on s t first here (before ∷ path) way = way.1
-
 way-all : (s : Subject) (t : Table) (first here : Configuration) (path : List Configuration) → IsWay s t first here path → (d : Configuration) → IsOn d (here ∷ path) → OnWay s first d
 way-all s t first here [] way d on = elim on [ inl is ↦ subst (OnWay s first) (sym is) way.1 | inr none ↦ absurd none ]
 way-all s t first here (before ∷ path) way d on = elim on [ inl is ↦ subst (OnWay s first) (sym is) way.1 | inr rest ↦ way-all s t first before path way.3 d rest ]
+
+way-on : (s : Subject) (t : Table) (first here : Configuration) (path : List Configuration) → IsWay s t first here path → OnWay s first here
+way-on s t first here path way = way-all s t first here path way here (inl refl)
 
 -- a segment's end is the same from each of them
 way-picked : (s : Subject) (t : Table) (first here c : Configuration) (path : List Configuration) (found : Boundary) → IsSound s → IsWay s t first here path → outcome_at s here ≡ Picked found

@@ -30,4 +30,3 @@ go_forward-outcome-requires g c κs within =
     let unknown = left.1 ∙ named-unknown c.requires.1.1.1.0 (sym (c.known.ensures ∙ ap known c.cell.ensures) ∙ c.in_default.is) in
     let leads = sym c.look_up.ensures.value ∙ c.in-Leads.is in
     (within.0, (within.1, (c.look_up.ensures.read, ((_, c.look_up.ensures.count, left.0, unknown), ((leads, c.in-Leads.ensures.within), c.in-Leads.ensures.rest)))))
-
