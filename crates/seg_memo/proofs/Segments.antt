@@ -38,7 +38,7 @@ start-picks r m states transitions place sound some read none =
     on None there e = cc
     on (Some p) there e = cc
 
-pub found-segment : (s : Subject) (place : ℕ) (b : Boundary) → place ≤ length s.symbols → outcome_at s (start_at place) ≡ Picked b → (p : Boundary) × (pick s.machine (drop place s.symbols) ≡ Some p) × (b ≡ shift place p)
+found-segment : (s : Subject) (place : ℕ) (b : Boundary) → place ≤ length s.symbols → outcome_at s (start_at place) ≡ Picked b → (p : Boundary) × (pick s.machine (drop place s.symbols) ≡ Some p) × (b ≡ shift place p)
 found-segment s place b within is = on (pick s.machine (drop place s.symbols)) refl (sym (ap picked is) ∙ picked-start s place within)
   where
     on : (f : Option Boundary) → pick s.machine (drop place s.symbols) ≡ f → Some b ≡ option_map (shift place) f → (p : Boundary) × (pick s.machine (drop place s.symbols) ≡ Some p) × (b ≡ shift place p)
@@ -62,15 +62,6 @@ memo-more s t counted start starts b are some is fit cells count =
         cells = cells;
         count = count;
       };
-      is = is;
+      past = omega (arith, offset);
+      segment = segment;
     }
-
-pub scanned-segment : (s : Subject) (t : Table) (counted start : ℕ) (b : Boundary) → IsScanned s t counted start b → start < length s.symbols
-    → (p : Boundary) × (pick s.machine (drop start s.symbols) ≡ Some p) × (b ≡ shift start p)
-scanned-segment s t counted start b scanned some = found-segment s start b (omega (arith, some)) scanned.is
-
-pub scanned-past : (s : Subject) (t : Table) (counted start : ℕ) (b : Boundary) → IsScanned s t counted start b → start < length s.symbols → start ≤ b.offset
-scanned-past s t counted start b scanned some =
-    let segment = scanned-segment s t counted start b scanned some in
-    let offset : b.offset ≡ start + segment.0.offset = ap (λ (x : Boundary). x.offset) segment.2 in
-    omega (arith, offset)
