@@ -8,31 +8,9 @@ use Rattle.seg_memo.specs.Configurations.{Configuration, start_at}
 use Rattle.seg_memo.specs.Grids.{Cell, Unknown, Table, HasCell, IsLeft, IsSet, cell, number}
 use Rattle.seg_memo.proofs.Numbers.{number-least, number-same}
 
--- the number of a configuration, as the code makes it
-pub record Reached (t : Table) (c : Configuration) : Type 0 where
-  pub sets : c.place * t.sets < 2 ^ 64
-  pub kept : c.place * t.sets + c.kept < 2 ^ 64
-  pub product : (c.place * t.sets + c.kept) * t.states < 2 ^ 64
-  pub sum : (c.place * t.sets + c.kept) * t.states + c.state < 2 ^ 64
-  pub past : t.first ≤ (c.place * t.sets + c.kept) * t.states + c.state
-  pub number_is : t.first + ((c.place * t.sets + c.kept) * t.states + c.state - t.first) ≡ number t.states t.sets c
-  pub room : (c.place * t.sets + c.kept) * t.states + c.state - t.first < vec_capacity t.cells
-  pub fits : t.first + ((c.place * t.sets + c.kept) * t.states + c.state - t.first) < 2 ^ 64
-
-pub reached : (t : Table) (c : Configuration) → HasCell t c → Reached t c
-unfolding number
-reached t c has =
-    let all : (c.place * t.sets + c.kept) * 1 ≤ (c.place * t.sets + c.kept) * t.states = mul-le (c.place * t.sets + c.kept) 1 (c.place * t.sets + c.kept) t.states (omega arith) (omega (arith, has.state)) in
-    record {
-      sets = omega (arith, all, has.fits);
-      kept = omega (arith, all, has.fits);
-      product = omega (arith, has.fits);
-      sum = has.fits;
-      past = has.first;
-      number_is = omega (arith, has.first);
-      room = omega (arith, has.room);
-      fits = omega (arith, has.first, has.fits);
-    }
+-- what the code makes of it on the way to its number
+pub part-less : (t : Table) (c : Configuration) → HasCell t c → c.place * t.sets + c.kept ≤ (c.place * t.sets + c.kept) * t.states
+part-less t c has = omega (arith, mul-le (c.place * t.sets + c.kept) 1 (c.place * t.sets + c.kept) t.states (omega arith) (omega (arith, has.state)))
 
 -- a cell by its index
 pub cell-is : (t : Table) (c : Configuration) (index : ℕ) → t.first + index ≡ number t.states t.sets c → cell t c ≡ get_or t.cells.items index Unknown
