@@ -15,5 +15,4 @@ pub mod Moves
 pub mod Memoised
 pub mod Fresh
 pub mod Starts
-pub mod Rows
 pub mod Ahead

@@ -18,16 +18,6 @@ invariant_of-result g c = (
 )
 
 pub next_symbol-first-requires : goal.next_symbol-first-requires
-next_symbol-first-requires g c κs within = (
-  within,
-  (
-    refl,
-    (
-      refl,
-      (
-        omega arith,
-        parts-fit (machine_of c.args.machine) (parts_of c.parts-parts.result) (g.I.Cursor.text c.fork-ahead.result).items c.facts.ensures (rw c.fork-ahead.ensures c.in-Some.ensures.fits),
-      ),
-    ),
-  ),
-)
+next_symbol-first-requires g c κs within =
+    let fits = parts-fit (machine_of c.args.machine) (parts_of c.parts-parts.result) (g.I.Cursor.text c.fork-ahead.result).items c.facts.ensures (rw c.fork-ahead.ensures c.in-Some.ensures.fits) in
+    (within, (refl, (refl, (omega arith, fits))))
