@@ -11,7 +11,7 @@ use Rattle.seg_machine.specs.Machine.{Machine, symbol_and_script, symbol_count, 
 use Rattle.seg_memo.specs.Grids.{Unknown, Table, HasCell, IsConfigurationOf, IsMemo, IsOn, IsSound, Tells, cell, number}
 use Rattle.seg_memo.proofs.Lists.{different-bound}
 use Rattle.seg_memo.proofs.Reading.{symbols-length}
-use Rattle.seg_memo.proofs.Numbers.{items-fit, number-below}
+use Rattle.seg_memo.proofs.Cells.{items-fit, number-below}
 use Rattle.seg_memo.proofs.Scanning.{all-nil, all-within}
 
 -- the symbols of a text are the machine's

@@ -1,4 +1,3 @@
-pub mod Numbers
 pub mod Cells
 pub mod Lists
 pub mod Following
@@ -11,8 +10,6 @@ pub mod Tells
 pub mod Onward
 pub mod Ways
 pub mod Held
-pub mod Moves
 pub mod Memoised
 pub mod Fresh
-pub mod Starts
 pub mod Ahead

@@ -7,7 +7,7 @@ use Rattle.seg_machine.specs.Machine.{state_at}
 use Rattle.seg_machine.specs.Search.{has, keep}
 use Rattle.seg_machine.proofs.Sets.{has-keep, has-none}
 use Rattle.seg_memo.specs.Grids.{Cell, First, Way, KnownNothing, KnownKept, Table, Comes, HasCell, IsConfigurationOf, IsFit, IsNamed, IsOn, IsSet, IsSound, IsUnderWay, IsWalked, IsWay, Keeps, OnWay, Tells, Went, cell, holding, known, onto, came_from, way_from}
-use Rattle.seg_memo.proofs.Numbers.{same}
+use Rattle.seg_memo.proofs.Cells.{same}
 use Rattle.seg_memo.proofs.Following.{ends, few, fewer, leads, leads-within, look-ups-leads, look-ups-on, outcome-leads}
 use Rattle.seg_memo.proofs.Lists.{AreWithin, on-append, on-onto, onto-append, or-right}
 use Rattle.seg_memo.proofs.Scanning.{all-part, on-scan, visited, visited-within}

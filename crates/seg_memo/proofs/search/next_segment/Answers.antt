@@ -1,8 +1,8 @@
 use Rattle.std.proofs.Common.{ℕ, ap, subst, sym, ◌∙◌}
 use Rattle.seg_text.specs.Items.{start_of}
 use Rattle.seg_memo.specs.Grids.{IsKeptSymbol}
-use Rattle.seg_memo.proofs.Moves.{seeks, sought}
-use Rattle.seg_memo.proofs.Numbers.{items-fit}
+use Rattle.seg_memo.proofs.Reading.{seeks, sought}
+use Rattle.seg_memo.proofs.Cells.{items-fit}
 use Rattle.seg_memo.proofs.search.next_segment.Goals as goal
 
 pub seek-requires : goal.seek-requires
