@@ -5,11 +5,9 @@ pub mod Reading
 pub mod Scanning
 pub mod Picking
 pub mod Plain
-pub mod Segments
 pub mod Tells
 pub mod Onward
 pub mod Ways
 pub mod Held
 pub mod Memoised
-pub mod Fresh
 pub mod Ahead

@@ -1,8 +1,7 @@
 use Rattle.std.proofs.Common.{◌∙◌, ap, arith, length, refl, sym}
-use Rattle.seg_memo.proofs.Fresh.{made-memo, parts-fit, sets-made, states-made}
+use Rattle.seg_memo.proofs.Memoised.{made-memo, parts-fit, sets-made, states-made, made-ahead, read-by}
 use Rattle.seg_machine.specs.Machine.{Machine}
 use Rattle.seg_machine.specs.Tailored.{machine_of, parts_of}
-use Rattle.seg_memo.proofs.Memoised.{made-ahead, read-by}
 use Rattle.seg_memo.proofs.memo.«MemoBreakIterator+I+CountedTransitions».try_new.Goals as goal
 
 pub invariant_of-result : goal.invariant_of-result
