@@ -22,7 +22,7 @@ pub record Scans (r : Source) (m : Machine) (states : ℕ) (transitions : List �
   pub stands : stood ≡ start_of (rest_after (floor start last) r.whole)
 
 -- the configuration that comes
-pub record Comes (r : Source) (here next : Configuration) : Type 0 where
+pub record LeadsOn (r : Source) (here next : Configuration) : Type 0 where
   pub leads : look_up r.subject here ≡ Leads next
   pub within : IsConfigurationOf r.subject next
 
@@ -42,7 +42,7 @@ module _ {r : Source} {m : Machine} {states : ℕ} {transitions : List ℕ} {cou
   pub next-state : (next : ℕ) → next ≡ slice_index transitions (here.state + symbol * states) → (next ≡ 255 → ⊥) → next < length m.states
   next-state next is some = next-within (in-hand next is) some
 
-  pub comes : (next : ℕ) (entry : Acceptance × Option ℕ) → next ≡ slice_index transitions (here.state + symbol * states) → (next ≡ 255 → ⊥) → entry ≡ state_at m next → Comes r here (configuration next after (keep 0 entry.1))
+  pub comes : (next : ℕ) (entry : Acceptance × Option ℕ) → next ≡ slice_index transitions (here.state + symbol * states) → (next ≡ 255 → ⊥) → entry ≡ state_at m next → LeadsOn r here (configuration next after (keep 0 entry.1))
   comes next entry is some e =
       let free : here.kept ≡ 0 = (w.turn.before here (inl refl)).free in
       let leads = sym (value-some (in-hand next is) after entry (Leads (configuration next after (keep 0 entry.1))) some e w.after_is (rw (free, free-held 0 entry refl) refl)) in
@@ -50,8 +50,8 @@ module _ {r : Source} {m : Machine} {states : ℕ} {transitions : List ℕ} {cou
 
   -- where no lookahead is named
   pub comes-free : (next : ℕ) (entry : Acceptance × Option ℕ) → next ≡ slice_index transitions (here.state + symbol * states) → (next ≡ 255 → ⊥) → entry ≡ state_at m next → entry.1 ≡ None
-      → Comes r here (configuration next after 0)
-  comes-free next entry is some e none = subst (λ (x : Option ℕ). Comes r here (configuration next after (keep 0 x))) none (comes next entry is some e)
+      → LeadsOn r here (configuration next after 0)
+  comes-free next entry is some e none = subst (λ (x : Option ℕ). LeadsOn r here (configuration next after (keep 0 x))) none (comes next entry is some e)
 
   pub names-none : (state : ℕ) (entry : Acceptance × Option ℕ) → entry ≡ state_at m state → r.subject.machine.num_lookaheads ≡ 0 → entry.1 ≡ None
   names-none state entry is none =
@@ -89,8 +89,8 @@ scans-begin r m states transitions counted t start place symbol left stood read 
     rw is (record { read = read; turn = turn-begins r m states transitions t start counted memo read some; ahead = ahead; after_is = omega (arith, some); stands = stands })
 
 -- and where one is
-pub comes-kept : (r : Source) (here first : Configuration) (next after lookahead : ℕ) (name : Option ℕ) → Comes r here (configuration next after (keep 0 name)) → first ≡ configuration next after (keep 0 name)
-    → name ≡ Some lookahead → Comes r here first × (0 < first.kept)
+pub comes-kept : (r : Source) (here first : Configuration) (next after lookahead : ℕ) (name : Option ℕ) → LeadsOn r here (configuration next after (keep 0 name)) → first ≡ configuration next after (keep 0 name)
+    → name ≡ Some lookahead → LeadsOn r here first × (0 < first.kept)
 comes-kept r here first next after lookahead name k is some = rw is (k, subst (λ (x : Option ℕ). 0 < keep 0 x) (sym some) (keep-some 0 lookahead))
 
 pub still-read : (r : Source) (m : Machine) (states after : ℕ) (transitions later : List ℕ) → IsReadBy r m states transitions → after ≡ states → later ≡ transitions → IsReadBy r m after later

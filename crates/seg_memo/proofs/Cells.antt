@@ -1,38 +1,53 @@
--- What is done to the cells of a table, by their numbers.
-use Rattle.std.proofs.Common.{◌≡◌, ℕ, ◌+◌, ◌-◌, ◌*◌, ◌^◌, ◌<◌, ◌≤◌, List, [], length, get_or, set, take, refl, sym, ap, ◌∙◌, arith, inl, inr}
+-- The cells of a table, by the numbers of configurations.
+use Rattle.std.proofs.Common.{◌≡◌, ℕ, ◌+◌, ◌-◌, ◌*◌, ◌^◌, ◌<◌, ◌≤◌, List, [], length, get_or, set, take, refl, sym, ap, ◌∙◌, arith, inl, inr, suc}
 use Rattle.std.specs.Prelude.{vec_capacity}
 use Rattle.std.proofs.lemmas.Bool.{cases_lt}
-use Rattle.std.proofs.lemmas.Nat.{mul-le}
+use Rattle.std.proofs.lemmas.Nat.{mul-le, mul-add-lt, same_from_place, pow_pos}
 use Rattle.std.proofs.lemmas.List.{get_or-set_same, get_or-set_other, get_or-take, get_or_past, get_or_read, length-take}
-use Rattle.seg_memo.specs.Configurations.{Configuration, start_at}
-use Rattle.seg_memo.specs.Grids.{Cell, Unknown, Table, HasCell, IsLeft, IsSet, cell, number}
-use Rattle.seg_memo.proofs.Numbers.{number-least, number-same}
+use Rattle.seg_memo.specs.Configurations.{Configuration, start_at, Subject, configuration, configurations}
+use Rattle.seg_memo.specs.Grids.{Cell, Unknown, Table, HasCell, IsLeft, IsSet, cell, number, IsConfigurationOf, IsSound}
 
--- the number of a configuration, as the code makes it
-pub record Reached (t : Table) (c : Configuration) : Type 0 where
-  pub sets : c.place * t.sets < 2 ^ 64
-  pub kept : c.place * t.sets + c.kept < 2 ^ 64
-  pub product : (c.place * t.sets + c.kept) * t.states < 2 ^ 64
-  pub sum : (c.place * t.sets + c.kept) * t.states + c.state < 2 ^ 64
-  pub past : t.first ≤ (c.place * t.sets + c.kept) * t.states + c.state
-  pub number_is : t.first + ((c.place * t.sets + c.kept) * t.states + c.state - t.first) ≡ number t.states t.sets c
-  pub room : (c.place * t.sets + c.kept) * t.states + c.state - t.first < vec_capacity t.cells
-  pub fits : t.first + ((c.place * t.sets + c.kept) * t.states + c.state - t.first) < 2 ^ 64
-
-pub reached : (t : Table) (c : Configuration) → HasCell t c → Reached t c
+-- there are no more than configurations
+pub number-below : (s : Subject) (c : Configuration) → IsConfigurationOf s c → number (length s.machine.states) (2 ^ s.machine.num_lookaheads) c < configurations s.machine (length s.symbols)
 unfolding number
-reached t c has =
-    let all : (c.place * t.sets + c.kept) * 1 ≤ (c.place * t.sets + c.kept) * t.states = mul-le (c.place * t.sets + c.kept) 1 (c.place * t.sets + c.kept) t.states (omega arith) (omega (arith, has.state)) in
-    record {
-      sets = omega (arith, all, has.fits);
-      kept = omega (arith, all, has.fits);
-      product = omega (arith, has.fits);
-      sum = has.fits;
-      past = has.first;
-      number_is = omega (arith, has.first);
-      room = omega (arith, has.room);
-      fits = omega (arith, has.first, has.fits);
-    }
+number-below s c within =
+    let m = s.machine in
+    let sets : c.place * 2 ^ m.num_lookaheads + c.kept < 2 ^ m.num_lookaheads * (length s.symbols + 1) = mul-add-lt c.place (2 ^ m.num_lookaheads) c.kept (length s.symbols + 1) (omega (arith, within.place)) within.kept in
+    let states : (c.place * 2 ^ m.num_lookaheads + c.kept) * length m.states + c.state < length m.states * (2 ^ m.num_lookaheads * (length s.symbols + 1)) = mul-add-lt _ (length m.states) c.state _ sets within.state in
+    omega (arith, states)
+
+pub same : (c d : Configuration) → c.state ≡ d.state → c.place ≡ d.place → c.kept ≡ d.kept → c ≡ d
+same c d s p k =
+    ap (λ (x : ℕ). configuration x c.place c.kept) s ∙ ap (λ (x : ℕ). configuration d.state x c.kept) p ∙ ap (λ (x : ℕ). configuration d.state d.place x) k
+
+-- each has its own
+pub number-same : (states sets : ℕ) (c d : Configuration) → c.state < states → c.kept < sets → d.state < states → d.kept < sets → number states sets c ≡ number states sets d → c ≡ d
+unfolding number
+number-same states sets c d c_state c_kept d_state d_kept is =
+    let sums = same_from_place _ c.state _ d.state states c_state d_state is in
+    let places = same_from_place c.place c.kept d.place d.kept sets c_kept d_kept sums.0 in
+    same c d sums.1 places.0 places.1
+
+-- the first configuration of a place has the least number of those from there on
+pub number-least : (states sets place : ℕ) (c : Configuration) → place ≤ c.place → number states sets (start_at place) ≤ number states sets c
+unfolding number
+number-least states sets place c past =
+    let at : place * sets ≤ c.place * sets = mul-le place sets c.place sets past (omega arith) in
+    let all : (place * sets + 0) * states ≤ (c.place * sets + c.kept) * states = mul-le (place * sets + 0) states (c.place * sets + c.kept) states (omega (arith, at)) (omega arith) in
+    omega (arith, all)
+
+-- one place more than there are fits a word
+pub items-fit : (s : Subject) → IsSound s → suc (length s.symbols) < 2 ^ 64
+items-fit s sound =
+    let states = length s.machine.states in
+    let sets = 2 ^ s.machine.num_lookaheads in
+    let some : 1 * 1 ≤ states * sets = mul-le 1 1 states sets (omega (arith, sound.checked.some_state)) (pow_pos s.machine.num_lookaheads) in
+    let one : 1 * (length s.symbols + 1) ≤ states * sets * (length s.symbols + 1) = mul-le 1 (length s.symbols + 1) (states * sets) (length s.symbols + 1) (omega (arith, some)) (omega arith) in
+    omega (arith, sound.room, one)
+
+-- what the code makes of it on the way to its number
+pub part-less : (t : Table) (c : Configuration) → HasCell t c → c.place * t.sets + c.kept ≤ (c.place * t.sets + c.kept) * t.states
+part-less t c has = omega (arith, mul-le (c.place * t.sets + c.kept) 1 (c.place * t.sets + c.kept) t.states (omega arith) (omega (arith, has.state)))
 
 -- a cell by its index
 pub cell-is : (t : Table) (c : Configuration) (index : ℕ) → t.first + index ≡ number t.states t.sets c → cell t c ≡ get_or t.cells.items index Unknown

@@ -10,7 +10,7 @@ use Rattle.seg_memo.proofs.Lists.{on-append}
 use Rattle.seg_memo.proofs.Plain.{never-kept}
 use Rattle.seg_memo.proofs.Reading.{entered-read}
 use Rattle.seg_memo.proofs.Scanning.{start-within}
-use Rattle.seg_memo.proofs.Segments.{memo-more}
+use Rattle.seg_memo.proofs.Picking.{memo-more}
 use Rattle.seg_memo.proofs.Tells.{fit-later, keeps-fill, keeps-left}
 use Rattle.seg_memo.proofs.Ways.{back-next, first-cell, first-on, first-tells}
 

@@ -1,4 +1,3 @@
-pub mod Numbers
 pub mod Cells
 pub mod Lists
 pub mod Following
@@ -6,14 +5,9 @@ pub mod Reading
 pub mod Scanning
 pub mod Picking
 pub mod Plain
-pub mod Segments
 pub mod Tells
 pub mod Onward
 pub mod Ways
 pub mod Held
-pub mod Moves
 pub mod Memoised
-pub mod Fresh
-pub mod Starts
-pub mod Rows
 pub mod Ahead

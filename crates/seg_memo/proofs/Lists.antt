@@ -8,7 +8,7 @@ use Rattle.std.specs.List.{AllByRecursion, IsDistinct}
 use Rattle.std.specs.Set.{is_member}
 use Rattle.seg_memo.specs.Configurations.{Configuration, Subject, configurations, different, is_in, is_same}
 use Rattle.seg_memo.specs.Grids.{IsConfigurationOf, IsOn, number, onto}
-use Rattle.seg_memo.proofs.Numbers.{number-below, number-same, same}
+use Rattle.seg_memo.proofs.Cells.{number-below, number-same, same}
 
 -- what is on them
 

@@ -8,7 +8,7 @@ use Rattle.seg_memo.proofs.Following.{ends, fewer, leads, look-ups-leads, outcom
 use Rattle.seg_memo.proofs.Lists.{AreWithin, different-new, different-same, on-append}
 use Rattle.seg_memo.proofs.Plain.{all-accept, all-picked, known-nothing, never-kept, outcome-accepts, outcome-passes, plain-ends}
 use Rattle.seg_memo.proofs.Scanning.{all-part, start-within, visited, visited-within}
-use Rattle.seg_memo.proofs.Segments.{memo-more, start-picks}
+use Rattle.seg_memo.proofs.Picking.{memo-more, start-picks}
 use Rattle.seg_memo.proofs.Tells.{count-room, fit-later, fit-left, fit-set, left-still, tell-fill, tell-left, tell-less, tell-more, tell-same, tell-set, tells-none}
 
 -- the scan from a place is to look up this configuration: it is counted already. The cells from the last acceptance on tell, but for those of

@@ -1,9 +1,9 @@
--- One look-up, of what the code has in hand.
+-- What a cursor and a reader read, of what the code has in hand.
 use Rattle.std.proofs.Common.{◌≡◌, ℕ, suc, ◌+◌, ◌-◌, ◌*◌, ◌/◌, ◌<◌, ◌≤◌, ◌==◌, Option, Some, None, List, [], ◌∷◌, length, drop, get_or, min, refl, sym, ap, ◌∙◌, subst, arith, drop-cons, eq-eqb}
 use Rattle.std.specs.Prelude.{slice_index}
 use Rattle.std.proofs.lemmas.Bool.{cond-true, cond-false, ne_eqb}
 use Rattle.std.proofs.lemmas.List.{drop-map, get_or_past, length-drop, length-map}
-use Rattle.seg_text.specs.Items.{Item, Text, code_points, rest_after}
+use Rattle.seg_text.specs.Items.{Item, Text, code_points, rest_after, start_of}
 use Rattle.seg_memo.specs.Configurations.{Acceptance, Configuration, Outcome, Nothing, LookUp, Ends, Leads, Subject, entered, reading, arrival, look_up, IfLeads}
 use Rattle.seg_machine.specs.Machine.{Machine, symbol_and_script, symbols_of, symbol_count, step, state_at}
 use Rattle.seg_machine.specs.MachineFaults.{NamesPast}
@@ -117,3 +117,17 @@ module _ {r : Source} {m : Machine} {c : Configuration} {states : ℕ} {transiti
 pub result-within : (s : Subject) (c : Configuration) (result : LookUp) → IsSound s → IsConfigurationOf s c → result ≡ look_up s c → IfLeads result (IsConfigurationOf s)
 result-within s c (Ends o) sound within is = tt
 result-within s c (Leads d) sound within is = leads-within s c d sound within (sym is)
+
+-- by an item
+pub goes-more : (whole left after : Text) (place : ℕ) → left ≡ rest_after place whole → after ≡ rest_after 1 left → after ≡ rest_after (place + 1) whole
+goes-more whole left after place is one = one ∙ ap (rest_after 1) is ∙ after-after 1 place whole
+
+-- to a place
+pub sought : (whole text : Text) (start offset : ℕ) → text ≡ rest_after start whole → start ≤ offset → rest_after (offset - start) text ≡ rest_after offset whole
+sought whole text start offset is past = ap (rest_after (offset - start)) is ∙ after-after (offset - start) start whole ∙ ap (λ (n : ℕ). rest_after n whole) (omega (arith, past))
+
+pub seeks : (whole text new : Text) (start offset stood : ℕ) → text ≡ rest_after start whole → start ≤ offset → stood ≡ start_of (rest_after offset whole) → ((k : ℕ) → stood ≡ start_of (rest_after k text) → new ≡ rest_after k text)
+    → new ≡ rest_after offset whole
+seeks whole text new start offset stood is past stands to =
+    let same = sought whole text start offset is past in
+    to (offset - start) (stands ∙ ap start_of (sym same)) ∙ same

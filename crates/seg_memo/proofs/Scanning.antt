@@ -1,10 +1,13 @@
--- What a scan looks up: all of it is of the text, and of each look-up what comes after it.
-use Rattle.std.proofs.Common.{◌≡◌, ℕ, ◌≤◌, List, [], ◌∷◌, ◌++◌, length, refl, sym, ◌∙◌, subst, arith, inl, inr}
+-- What scans look up: all of it is of the text, and of each look-up what comes after it. They begin at one list of places.
+use Rattle.std.proofs.Common.{◌≡◌, ℕ, ◌≤◌, List, [], ◌∷◌, ◌++◌, length, refl, sym, ◌∙◌, subst, arith, inl, inr, zero, suc, ◌+◌, ◌<◌, Some, drop, ap}
 use Rattle.std.proofs.lemmas.Nat.{pow_pos}
-use Rattle.seg_memo.specs.Configurations.{Configuration, Outcome, LookUp, Ends, Leads, Subject, start_at, following, look_ups, all_look_ups, AreStarts, look_up}
+use Rattle.seg_memo.specs.Configurations.{Configuration, Outcome, LookUp, Ends, Leads, Subject, start_at, following, look_ups, all_look_ups, AreStarts, look_up, Boundary, AreLookedUp, different}
 use Rattle.seg_memo.specs.Grids.{IsSound, IsConfigurationOf, IsOn, onto}
 use Rattle.seg_memo.proofs.Following.{ends, look-ups-leads, states-lead, leads-within}
 use Rattle.seg_memo.proofs.Lists.{AreWithin, Same, on-append, on-left, on-onto, on-right, onto-on}
+use Rattle.std.proofs.lemmas.Bool.{cases_lt, cases_eq}
+use Rattle.std.proofs.lemmas.Option.{same_Some}
+use Rattle.seg_machine.specs.Pick.{pick}
 
 -- induction over a scan
 pub along : (s : Subject) (P : Configuration → Type 0) → IsSound s
@@ -120,3 +123,49 @@ visited s starts start path rest is part c = (
         | inr before ↦ on-right c path (all_look_ups s starts) before
       ],
 )
+
+abbrev Picks : Subject → ℕ → Boundary → Type 0
+Picks s start p = pick s.machine (drop start s.symbols) ≡ Some p
+
+one-pick : (s : Subject) (a b : ℕ) (p q : Boundary) → a ≡ b → Picks s a p → Picks s b q → p.offset ≡ q.offset
+one-pick s a b p q is first second =
+    ap (λ (x : Boundary). x.offset) (same_Some p q (sym first ∙ ap (λ (n : ℕ). pick s.machine (drop n s.symbols)) is ∙ second))
+
+-- a place that a segment ends at isn't within another
+ahead : (s : Subject) (n : ℕ) (xs ys : List ℕ) (a b : ℕ) (p : Boundary) → length xs + length ys ≤ n → AreStarts s xs a → AreStarts s ys b → a < b → Picks s a p → a + p.offset ≤ b
+ahead s n xs [] a b p most one other less picks = absurd (omega (arith, other, less))
+ahead s zero xs (y ∷ ys) a b p most one other less picks = absurd (omega (arith, most))
+ahead s (suc n) xs (y ∷ ys) a b p most one other less picks =
+    elim (cases_lt a y) [
+      | inl before ↦ let more = ahead s n xs ys a y p (omega (arith, most)) one other.2 before picks in omega (arith, more, other.1)
+      | inr past ↦
+          elim (cases_eq a y) [
+            | inl same ↦ let equal = one-pick s a y p other.0.0 same picks other.0.1 in omega (arith, equal, same, other.0.2)
+            | inr differs ↦
+                let more = ahead s n ys xs y a other.0.0 (omega (arith, most)) other.2 one (omega (arith, past, differs)) other.0.1 in
+                absurd (omega (arith, more, other.0.2, less))
+          ]
+    ]
+
+pub one-start : (s : Subject) (xs ys : List ℕ) (place : ℕ) → AreStarts s xs place → AreStarts s ys place → xs ≡ ys
+one-start s [] [] place one other = refl
+one-start s [] (y ∷ ys) place one other = absurd (omega (arith, one, other.1))
+one-start s (x ∷ xs) [] place one other = absurd (omega (arith, other, one.1))
+one-start s (x ∷ xs) (y ∷ ys) place one other =
+    let same : x ≡ y =
+    elim (cases_eq x y) [
+      | inl equal ↦ equal
+      | inr differs ↦
+          elim (cases_lt x y) [
+            | inl less ↦
+                let more = ahead s (length xs + length ys) xs ys x y one.0.0 (omega arith) one.2 other.2 less one.0.1 in
+                absurd (omega (arith, more, one.0.2, other.1))
+            | inr past ↦
+                let more = ahead s (length xs + length ys) ys xs y x other.0.0 (omega arith) other.2 one.2 (omega (arith, past, differs)) other.0.1 in
+                absurd (omega (arith, more, other.0.2, one.1))
+          ]
+    ] in
+    ap (λ (start : ℕ). start ∷ xs) same ∙ ap (λ (starts : List ℕ). y ∷ starts) (one-start s xs ys y (subst (AreStarts s xs) same one.2) other.2)
+
+pub one-count : (s : Subject) (place a b : ℕ) → AreLookedUp s place a → AreLookedUp s place b → a ≡ b
+one-count s place a b (xs, one, is) (ys, other, same) = is ∙ ap (λ (starts : List ℕ). different (all_look_ups s starts)) (one-start s xs ys place one other) ∙ sym same

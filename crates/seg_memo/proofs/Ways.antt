@@ -7,7 +7,7 @@ use Rattle.seg_machine.specs.Machine.{state_at}
 use Rattle.seg_machine.specs.Search.{has, keep}
 use Rattle.seg_machine.proofs.Sets.{has-keep, has-none}
 use Rattle.seg_memo.specs.Grids.{Cell, First, Way, KnownNothing, KnownKept, Table, Comes, HasCell, IsConfigurationOf, IsFit, IsNamed, IsOn, IsSet, IsSound, IsUnderWay, IsWalked, IsWay, Keeps, OnWay, Tells, Went, cell, holding, known, onto, came_from, way_from}
-use Rattle.seg_memo.proofs.Numbers.{same}
+use Rattle.seg_memo.proofs.Cells.{same}
 use Rattle.seg_memo.proofs.Following.{ends, few, fewer, leads, leads-within, look-ups-leads, look-ups-on, outcome-leads}
 use Rattle.seg_memo.proofs.Lists.{AreWithin, on-append, on-onto, onto-append, or-right}
 use Rattle.seg_memo.proofs.Scanning.{all-part, on-scan, visited, visited-within}
@@ -39,13 +39,12 @@ on-next s first here next sound way is =
 
 -- the way
 
-way-on : (s : Subject) (t : Table) (first here : Configuration) (path : List Configuration) → IsWay s t first here path → OnWay s first here
-way-on s t first here [] way = way.1
-way-on s t first here (before ∷ path) way = way.1
-
 way-all : (s : Subject) (t : Table) (first here : Configuration) (path : List Configuration) → IsWay s t first here path → (d : Configuration) → IsOn d (here ∷ path) → OnWay s first d
 way-all s t first here [] way d on = elim on [ inl is ↦ subst (OnWay s first) (sym is) way.1 | inr none ↦ absurd none ]
 way-all s t first here (before ∷ path) way d on = elim on [ inl is ↦ subst (OnWay s first) (sym is) way.1 | inr rest ↦ way-all s t first before path way.3 d rest ]
+
+way-on : (s : Subject) (t : Table) (first here : Configuration) (path : List Configuration) → IsWay s t first here path → OnWay s first here
+way-on s t first here path way = way-all s t first here path way here (inl refl)
 
 -- a segment's end is the same from each of them
 way-picked : (s : Subject) (t : Table) (first here c : Configuration) (path : List Configuration) (found : Boundary) → IsSound s → IsWay s t first here path → outcome_at s here ≡ Picked found

@@ -1,9 +1,11 @@
 -- The table of configurations: a map from configurations to cells, and what it tells of the scans.
-use Rattle.std.specs.Prelude.{◌≡◌, ℕ, suc, ◌+◌, ◌-◌, ◌*◌, ◌^◌, ◌<◌, ◌≤◌, ◌⊎◌, ◌==◌, Bool, if◌then◌else◌, Option, Some, None, List, [], ◌∷◌, ◌++◌, length, min, slice_index_or, vec_capacity}
+use Rattle.std.specs.Prelude.{◌≡◌, ℕ, suc, ◌+◌, ◌-◌, ◌*◌, ◌^◌, ◌<◌, ◌≤◌, ◌⊎◌, ◌==◌, Bool, if◌then◌else◌, Option, Some, None, List, [], ◌∷◌, ◌++◌, drop, length, min, slice_index_or, vec_capacity}
 use Rattle.seg_memo.specs.Configurations.{Boundary, Configuration, Outcome, Nothing, Picked, Kept, Leads, Subject, configuration, configurations, reading, following, look_ups, all_look_ups, start_at, AreStarts, different, entered, floor, later, outcome_at, look_up}
 use Rattle.seg_text.specs.Items.{Text, code_points, rest_after}
 use Rattle.seg_machine.specs.Machine.{Machine, state_at, symbol_count, symbols_of}
 use Rattle.seg_machine.specs.MachineFaults.{IsChecked}
+use Rattle.seg_machine.specs.Pick.{pick}
+use Rattle.seg_text.specs.Boundaries.{shift}
 pub use Rattle.seg_memo.specs.declared.configuration.Cell.{Cell}
 pub use Rattle.seg_memo.specs.declared.configuration.Cell.TheVariants.{Unknown, First, Way, KnownNothing, KnownKept}
 pub use Rattle.seg_memo.specs.declared.table.Table.{Table}
@@ -131,10 +133,11 @@ pub record IsMemo (s : Subject) (t : Table) (counted place : ℕ) : Type 0 where
   pub cells : TellFrom s t (suc place) (all_look_ups s starts) []
   pub count : counted ≡ different (all_look_ups s starts)
 
--- so was the scan from a place, whose segment ends here
+-- so was the scan from a place, whose segment ends here: with the pick of what is left of the text there
 pub record IsScanned (s : Subject) (t : Table) (counted start : ℕ) (found : Boundary) : Type 0 where
   pub memo : IsMemo s t counted found.offset
-  pub is : outcome_at s (start_at start) ≡ Picked found
+  pub past : start ≤ found.offset
+  pub segment : (p : Boundary) × (pick s.machine (drop start s.symbols) ≡ Some p) × (found ≡ shift start p)
 
 -- a configuration that a scan looked up before another, where no lookahead was named
 pub record Before (s : Subject) (here d : Configuration) : Type 0 where

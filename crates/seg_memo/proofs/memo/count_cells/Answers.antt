@@ -1,7 +1,7 @@
 use Rattle.std.proofs.Common.{◌-◌, ◌∙◌, arith}
 use Rattle.seg_machine.specs.Tailored.{machine_of}
 use Rattle.seg_text.proofs.Hints.{items-few}
-use Rattle.seg_memo.proofs.Fresh.{sets-made, states-made, units-fit}
+use Rattle.seg_memo.proofs.Memoised.{sets-made, states-made, units-fit}
 use Rattle.seg_memo.proofs.memo.count_cells.Goals as goal
 
 pub overflow_sub-units : goal.overflow_sub-units

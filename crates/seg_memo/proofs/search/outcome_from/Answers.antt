@@ -1,5 +1,4 @@
 use Rattle.std.proofs.Common.{◌∙◌, ap, rules, sym}
-use Rattle.seg_machine.specs.Machine.{Machine}
 use Rattle.seg_memo.specs.Grids.{known}
 use Rattle.seg_memo.proofs.Held.{from-cell, named-left, named-unknown}
 use Rattle.seg_memo.proofs.Ways.{first-cell, first-ends, first-known, first-room}
@@ -31,9 +30,3 @@ go_forward-outcome-requires g c κs within =
     let unknown = left.1 ∙ named-unknown c.requires.1.1.1.0 (sym (c.known.ensures ∙ ap known c.cell.ensures) ∙ c.in_default.is) in
     let leads = sym c.look_up.ensures.value ∙ c.in-Leads.is in
     (within.0, (within.1, (c.look_up.ensures.read, ((_, c.look_up.ensures.count, left.0, unknown), ((leads, c.in-Leads.ensures.within), c.in-Leads.ensures.rest)))))
-
-pub go_back-requires : goal.go_back-requires
-go_back-requires g c = (ap (λ (m : Machine). m.states) c.go_forward-outcome.ensures.read.machine, (_, c.go_forward-outcome.ensures.went))
-
-pub returns-clause-walked : goal.returns-clause-walked
-returns-clause-walked g c = c.go_back.ensures.walked _ c.go_forward-outcome.ensures.went

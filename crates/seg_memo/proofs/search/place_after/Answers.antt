@@ -1,4 +1,4 @@
-use Rattle.seg_memo.proofs.Moves.{goes-more}
+use Rattle.seg_memo.proofs.Reading.{goes-more}
 use Rattle.seg_memo.proofs.search.place_after.Goals as goal
 
 pub loop-item-preserved : goal.loop-item-preserved

@@ -8,9 +8,6 @@ place_after-requires g c κs within =
     let past = (picked-found c.outcome_from-outcome.ensures.walked c.outcome_from-outcome.ensures.read c.entry.ensures c.entered-outcome.ensures c.picked.ensures c.in-Some.is).0 in
     (within, (past, c.requires.1.1.1.1.1))
 
-pub returns-in-Some-clause-stands : goal.returns-in-Some-clause-stands
-returns-in-Some-clause-stands g c = λ stands. c.place_after.ensures
-
 pub returns-in-Some-clause-scanned : goal.returns-in-Some-clause-scanned
 returns-in-Some-clause-scanned g c =
     (picked-found c.outcome_from-outcome.ensures.walked c.outcome_from-outcome.ensures.read c.entry.ensures c.entered-outcome.ensures c.picked.ensures c.in-Some.is).1

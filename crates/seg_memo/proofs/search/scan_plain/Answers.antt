@@ -41,12 +41,6 @@ scan_kept-stood-requires g c κs within =
     let named = turn-names c.scan.invariant.turn k.0.leads k.0.within k.1 c.read-next.ensures.counted in
     (within.0, (within.1, (read, (refl, (named, scans-left c.scan.invariant _ _ c.naming-here.ensures)))))
 
-pub returns-in-Some-name_of-clause-stands : goal.returns-in-Some-name_of-clause-stands
-returns-in-Some-name_of-clause-stands g c = c.scan_kept-stood.ensures.stands c.scan.invariant.stands
-
-pub returns-in-Some-name_of-clause-ahead : goal.returns-in-Some-name_of-clause-ahead
-returns-in-Some-name_of-clause-ahead g c = scans-next c.next_symbol.ensures.symbol c.next_symbol.ensures.place c.next_symbol.ensures.rest
-
 pub mark-requires : goal.mark-requires
 mark-requires g c =
     let k = (comes-free c.scan.invariant _ _ c.read-next.ensures.value c.if-next.false c.entry-entry.ensures (sym c.name_of.ensures ∙ c.in_default-name_of.is)) in

@@ -1,8 +1,7 @@
 use Rattle.std.proofs.Common.{◌∙◌, ap, arith, length, refl, sym}
-use Rattle.seg_memo.proofs.Fresh.{made-memo, parts-fit, sets-made, states-made}
+use Rattle.seg_memo.proofs.Memoised.{made-memo, parts-fit, sets-made, states-made, made-ahead, read-by}
 use Rattle.seg_machine.specs.Machine.{Machine}
 use Rattle.seg_machine.specs.Tailored.{machine_of, parts_of}
-use Rattle.seg_memo.proofs.Memoised.{made-ahead, read-by}
 use Rattle.seg_memo.proofs.memo.«MemoBreakIterator+I+CountedTransitions».try_new.Goals as goal
 
 pub invariant_of-result : goal.invariant_of-result
@@ -18,16 +17,6 @@ invariant_of-result g c = (
 )
 
 pub next_symbol-first-requires : goal.next_symbol-first-requires
-next_symbol-first-requires g c κs within = (
-  within,
-  (
-    refl,
-    (
-      refl,
-      (
-        omega arith,
-        parts-fit (machine_of c.args.machine) (parts_of c.parts-parts.result) (g.I.Cursor.text c.fork-ahead.result).items c.facts.ensures (rw c.fork-ahead.ensures c.in-Some.ensures.fits),
-      ),
-    ),
-  ),
-)
+next_symbol-first-requires g c κs within =
+    let fits = parts-fit (machine_of c.args.machine) (parts_of c.parts-parts.result) (g.I.Cursor.text c.fork-ahead.result).items c.facts.ensures (rw c.fork-ahead.ensures c.in-Some.ensures.fits) in
+    (within, (refl, (refl, (omega arith, fits))))

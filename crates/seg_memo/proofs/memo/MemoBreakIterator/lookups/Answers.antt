@@ -1,4 +1,4 @@
-use Rattle.seg_memo.proofs.Fresh.{looked-up, memo-bound}
+use Rattle.seg_memo.proofs.Memoised.{looked-up, memo-bound}
 use Rattle.seg_memo.proofs.Reading.{symbols-length}
 use Rattle.seg_memo.proofs.memo.MemoBreakIterator.lookups.Goals as goal
 

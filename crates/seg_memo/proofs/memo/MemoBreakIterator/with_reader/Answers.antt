@@ -5,8 +5,7 @@ use Rattle.seg_machine.specs.Tailored.{parts_of}
 use Rattle.seg_memo.specs.Configurations.{reading}
 use Rattle.seg_memo.specs.Memos.{Memo}
 use Rattle.seg_memo.proofs.Ahead.{other-ahead}
-use Rattle.seg_memo.proofs.Fresh.{other-memo}
-use Rattle.seg_memo.proofs.Memoised.{read-by}
+use Rattle.seg_memo.proofs.Memoised.{other-memo, read-by}
 use Rattle.seg_memo.proofs.memo.MemoBreakIterator.with_reader.Goals as goal
 
 pub invariant_of-result : goal.invariant_of-result
