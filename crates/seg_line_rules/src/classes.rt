@@ -98,19 +98,14 @@ pub(crate) const ZWJ: ClassNumber = ClassNumber(54, 68);
 
 /// Whether the class is one of marks.
 #[tactic(auto, unfolding(crate::specs::LineUnits::is_mark))]
-#[inline(always)]
 pub fn is_mark(engine: LineEngine, class: u8) -> bool
     ensures { result ≡ is_mark engine class }
 {
-    // No class is compared twice, which costs an instruction a character.
-    class == CM.by(engine)
-        || class == ZWJ.by(engine)
-        || (engine == LineEngine::Seventeen && class == CM_EASTASIAN.by(engine))
+    class == CM.by(engine) || class == CM_EASTASIAN.by(engine) || class == ZWJ.by(engine)
 }
 
 /// Whether a mark after a base of this class stands alone.
 #[tactic(auto, unfolding(crate::specs::LineUnits::bears_none))]
-#[inline(always)]
 pub fn bears_none(engine: LineEngine, class: u8) -> bool
     ensures { result ≡ bears_none engine class }
 {
@@ -123,7 +118,6 @@ pub fn bears_none(engine: LineEngine, class: u8) -> bool
 }
 
 /// Whether an item of this class is glued to a unit whose base has that class.
-#[inline(always)]
 pub(crate) fn is_glued(engine: LineEngine, base: u8, class: u8) -> bool
     ensures { result ≡ is_glued engine base class }
 {
@@ -131,7 +125,6 @@ pub(crate) fn is_glued(engine: LineEngine, base: u8, class: u8) -> bool
 }
 
 /// Whether the class is that of ZWJ.
-#[inline(always)]
 pub fn is_joiner(engine: LineEngine, class: u8) -> bool
     ensures { result ≡ is_joiner engine class }
 {

@@ -3,7 +3,7 @@ ghost use Rattle.std.specs.Prelude.{◌≡◌};
 ghost use Rattle.seg_line_rules.specs.declared.engines.LineEngine.TheVariants.{Classic};
 ghost use Rattle.seg_line_rules.specs.ClassicPairs.{is_plain, plain_pair};
 
-use crate::classes::{is_joiner, is_mark};
+use crate::classes::is_joiner;
 use crate::engines::{LineEngine, PairEngine, PlainPair};
 use seg_pairs::provider::{BreakState, RuleBreakData};
 use seg_pairs::walk::entry_after;
@@ -39,10 +39,12 @@ impl PairEngine for ClassicEngine {
 }
 
 /// Whether the table alone decides between two classes, of which the left is that of an item with no marks: the right one is none of marks,
-/// and no run begins.
+/// and no run begins. It asks for two marks only: `is_mark` takes an instruction a character more.
+#[tactic(auto, unfolding(crate::specs::LineUnits::is_mark))]
 #[inline(always)]
 fn is_plain(complex: u8, left: u8, right: u8) -> bool
     ensures { result ≡ is_plain complex left right }
 {
-    !is_mark(LineEngine::Classic, right) && !(left == complex && right == complex)
+    !(right == RuleBreakData::LINE_PROPERTY_CM || right == RuleBreakData::LINE_PROPERTY_ZWJ)
+        && !(left == complex && right == complex)
 }
