@@ -90,8 +90,8 @@ impl<'data, E: PairEngine> LinePairs<'data, E> {
 
     /// A pair table of lines, with what options say, and checked with the pair table of clusters: `ClassOutOfRange` where the
     /// table has no class ID, and `StartRowKeeps` and `ComplexItems` by the clusters; `ComplexBelow0100` where a code
-    /// point below U+0100 is complex, and `ComplexClassNamed` where the complex class is one that has a name, for the engine 17 where it isn't SA. Of
-    /// several faults it is the lowest.
+    /// point below U+0100 is complex, and `ComplexClassNamed` where the complex class is one that has a name, for the engine 17
+    /// where it isn't SA. Of several faults it is the lowest.
     pub fn try_new(
         table: &'data RuleBreakData,
         clusters: &RuleBreakData,
