@@ -6,7 +6,7 @@ use Rattle.seg_data.specs.Faults.{IsFaultless, IsLowestFault}
 use Rattle.seg_pairs.specs.PairData.{HasPairFault}
 use Rattle.seg_pairs.specs.PairTable.{PairTable}
 use Rattle.icu_segmenter.specs.LineClasses.{class_number}
-use Rattle.icu_segmenter.specs.LineClasses.LineEngine.{Classic}
+use Rattle.icu_segmenter.specs.LineEngine.TheVariants.{Classic}
 use Rattle.icu_segmenter.specs.LineClasses.LineClass.{BA, BK, CJ, CR, EX, HY, ID, IN, LF, NL, NS, SP, ZW}
 use Rattle.icu_segmenter.specs.LineRules.{HasLineTableFault, is_one_of}
 use Rattle.bench.specs.LineTables.{line_entry, line_table}
@@ -32,7 +32,7 @@ lines-pass = record { some = refl; square = rows-length line_entry 57 57; classe
 pub lines-never-rejected : (parts : PairTable) → parts ≡ line_table → (fault : DataError) → IsLowestFault (HasPairFault parts) fault → ⊥
 lines-never-rejected parts is fault lowest = faultless line_table lines-pass fault (rw is at lowest.is_there)
 
-pub lines-sound : IsFaultless (HasLineTableFault line_table cluster_table)
+pub lines-sound : IsFaultless (HasLineTableFault Classic line_table cluster_table)
 lines-sound fault (inr has) = clusters-sound fault has
 lines-sound ClassOutOfRange (inl has) = absurd (omega (arith, has))
 lines-sound ComplexBelow0100 (inl has) = line_table-not_complex has

@@ -9,8 +9,9 @@ use Rattle.seg_machine.specs.Machine.{Machine, replaced, symbol_and_script}
 use Rattle.seg_machine.specs.MachineFaults.{HasComplexBelow0100}
 use Rattle.seg_pairs.specs.PairData.{HasComplexClassBelow0100}
 use Rattle.seg_pairs.specs.PairTable.{PairTable, class_of}
-use Rattle.icu_segmenter.specs.LineRules.{is_complex_context}
-use Rattle.icu_segmenter.specs.TurnRules.{HasOwnTurnFault}
+use Rattle.icu_segmenter.specs.LineEngine.{LineEngine}
+use Rattle.icu_segmenter.specs.LineEngine.TheVariants.{Classic, Seventeen}
+use Rattle.icu_segmenter.specs.LineRules.{HasOwnLineFault, is_complex_by, is_complex_context}
 use Rattle.bench.specs.Lines.{line_machine}
 use Rattle.bench.specs.LineTables.{line_table}
 use Rattle.bench.specs.PairTables.{word_table}
@@ -52,19 +53,20 @@ unfolding all_below is_not_complex class_of value_of
 word_table-not_complex (code_point, below, complex) =
     no-complex word_table code_point (all_below-at (is_not_complex word_table) 0x100 code_point refl below) complex
 
-pub line_table-not_complex : HasComplexClassBelow0100 line_table None → ⊥
-unfolding all_below is_not_complex class_of value_of
-line_table-not_complex (code_point, below, complex) =
-    no-complex line_table code_point (all_below-at (is_not_complex line_table) 0x100 code_point refl below) complex
+is_simple : LineEngine → PairTable → ℕ → Bool
+is_simple engine t code_point = not (is_complex_by engine t (class_of t None code_point))
 
-is_simple : ℕ → Bool
-is_simple code_point = not (is_complex_context (class_of turn_table None code_point))
-
-simple : (code_point : ℕ) → is_simple code_point ≡ true → is_complex_context (class_of turn_table None code_point) ≡ true → ⊥
+simple : (engine : LineEngine) (t : PairTable) (code_point : ℕ) → is_simple engine t code_point ≡ true
+    → is_complex_by engine t (class_of t None code_point) ≡ true → ⊥
 unfolding is_simple
-simple code_point passed complex = false≢true (ap not (sym complex) ∙ passed)
+simple engine t code_point passed complex = false≢true (ap not (sym complex) ∙ passed)
 
-pub turn_table-not_complex : HasOwnTurnFault turn_table ComplexBelow0100 → ⊥
+pub line_table-not_complex : HasOwnLineFault Classic line_table ComplexBelow0100 → ⊥
+unfolding all_below is_simple class_of value_of
+line_table-not_complex (code_point, below, complex) =
+    simple Classic line_table code_point (all_below-at (is_simple Classic line_table) 0x100 code_point refl below) complex
+
+pub turn_table-not_complex : HasOwnLineFault Seventeen turn_table ComplexBelow0100 → ⊥
 unfolding all_below is_simple is_complex_context class_of value_of
 turn_table-not_complex (code_point, below, complex) =
-    simple code_point (all_below-at is_simple 0x100 code_point refl below) complex
+    simple Seventeen turn_table code_point (all_below-at (is_simple Seventeen turn_table) 0x100 code_point refl below) complex

@@ -5,11 +5,10 @@ use Rattle.seg_data.specs.declared.provider.DataError.TheVariants.{Memory, Range
 use Rattle.seg_data.specs.Faults.{IsFaultless, IsLowestFault}
 use Rattle.seg_pairs.specs.PairData.{HasPairFault}
 use Rattle.seg_pairs.specs.PairTable.{PairTable}
-use Rattle.icu_segmenter.specs.LineRules.{is_one_of}
+use Rattle.icu_segmenter.specs.LineRules.{HasLineTableFault, is_one_of}
 use Rattle.icu_segmenter.specs.LineClasses.{class_number}
-use Rattle.icu_segmenter.specs.LineClasses.LineEngine.{Seventeen}
+use Rattle.icu_segmenter.specs.LineEngine.TheVariants.{Seventeen}
 use Rattle.icu_segmenter.specs.LineClasses.LineClass.{BA, BA_EASTASIAN, BK, CJ, CR, EX, EX_EASTASIAN, HY, ID, ID_EASTASIAN, IN, IN_EASTASIAN, LF, NL, NS, NS_EASTASIAN, SP, ZW}
-use Rattle.icu_segmenter.specs.TurnRules.{HasTurnTableFault}
 use Rattle.bench.specs.TurnTables.{turn_entry, turn_table}
 use Rattle.bench.specs.PairTables.{cluster_table}
 use Rattle.bench.proofs.PairFaults.{Passes, clusters-sound, faultless, names_below}
@@ -33,11 +32,11 @@ turns-pass = record { some = refl; square = rows-length turn_entry 71 71; classe
 pub turns-never-rejected : (parts : PairTable) → parts ≡ turn_table → (fault : DataError) → IsLowestFault (HasPairFault parts) fault → ⊥
 turns-never-rejected parts is fault lowest = faultless turn_table turns-pass fault (rw is at lowest.is_there)
 
-pub turns-sound : IsFaultless (HasTurnTableFault turn_table cluster_table)
+pub turns-sound : IsFaultless (HasLineTableFault Seventeen turn_table cluster_table)
 turns-sound fault (inr has) = clusters-sound fault has
 turns-sound ClassOutOfRange (inl has) = absurd (omega (arith, has))
 turns-sound ComplexBelow0100 (inl has) = turn_table-not_complex has
-turns-sound ComplexClassNamed (inl has) = has refl
+turns-sound ComplexClassNamed (inl has) = cc
 turns-sound Memory (inl has) = has
 turns-sound RangeOrder (inl has) = has
 turns-sound RangePast10FFFF (inl has) = has

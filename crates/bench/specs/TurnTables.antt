@@ -6,7 +6,7 @@ use Rattle.icu_segmenter.specs.LineRules.{is_one_of}
 use Rattle.icu_segmenter.specs.PairTable.{PairTable, pair_table}
 use Rattle.icu_segmenter.specs.Table.{Table}
 use Rattle.icu_segmenter.specs.LineClasses.{class_number}
-use Rattle.icu_segmenter.specs.LineClasses.LineEngine.{Seventeen}
+use Rattle.icu_segmenter.specs.LineEngine.TheVariants.{Seventeen}
 use Rattle.icu_segmenter.specs.LineClasses.LineClass.{BA, BA_EASTASIAN, BK, CJ, CR, EX, EX_EASTASIAN, HY, ID, ID_EASTASIAN, IN, IN_EASTASIAN, LF, NL, NS, NS_EASTASIAN, SP, ZW}
 use Rattle.bench.specs.Rows.{rows}
 

@@ -3,7 +3,7 @@
 ghost use Rattle.std.specs.Prelude.{◌≡◌, if◌then◌else◌, [], ◌∷◌, ◌++◌, IfOk, OnOk};
 ghost use Rattle.seg_pairs.specs.declared.provider.pairs.BreakState.TheVariants.{Break, Keep};
 ghost use Rattle.icu_segmenter.specs.Faults.{IsFaultless};
-ghost use Rattle.icu_segmenter.specs.LineClasses.LineEngine.{Classic};
+ghost use Rattle.icu_segmenter.specs.LineEngine.TheVariants.{Classic};
 ghost use Rattle.icu_segmenter.specs.LineClasses.LineClass.{BA, BK, CJ, CR, EX, HY, IN, LF, NL, NS, SP, ZW};
 ghost use Rattle.icu_segmenter.specs.LineRules.{HasLineTableFault, is_one_of};
 ghost use Rattle.bench.specs.LineTables.{line_entry, line_table};
@@ -48,7 +48,7 @@ const CLASSES: [(u32, u32, u8); 20] = [
 /// Fails only when out of memory.
 pub fn line_table(alloc: Global) -> Result<RuleBreakData, AllocError>
     ensures value { IfOk result (λ table. table ≡ line_table) }
-    ensures sound { IfOk result (λ table. IsFaultless (HasLineTableFault table cluster_table)) }
+    ensures sound { IfOk result (λ table. IsFaultless (HasLineTableFault Classic table cluster_table)) }
 {
     let Ok(classes) = ClassTable::try_from_ranges(Vec::from_slice(alloc, &CLASSES)?, OTHER) else {
         unreachable!()

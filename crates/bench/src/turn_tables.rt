@@ -2,10 +2,9 @@
 
 ghost use Rattle.std.specs.Prelude.{◌≡◌, [], ◌∷◌, ◌++◌, IfOk, OnOk};
 ghost use Rattle.icu_segmenter.specs.Faults.{IsFaultless};
-ghost use Rattle.icu_segmenter.specs.LineRules.{is_one_of};
-ghost use Rattle.icu_segmenter.specs.LineClasses.LineEngine.{Seventeen};
+ghost use Rattle.icu_segmenter.specs.LineRules.{HasLineTableFault, is_one_of};
+ghost use Rattle.icu_segmenter.specs.LineEngine.TheVariants.{Seventeen};
 ghost use Rattle.icu_segmenter.specs.LineClasses.LineClass.{BA, BA_EASTASIAN, BK, CJ, CR, EX, EX_EASTASIAN, HY, ID, ID_EASTASIAN, IN, IN_EASTASIAN, LF, NL, NS, NS_EASTASIAN, SP, ZW};
-ghost use Rattle.icu_segmenter.specs.TurnRules.{HasTurnTableFault};
 ghost use Rattle.bench.specs.PairTables.{cluster_table};
 ghost use Rattle.bench.specs.Rows.{row, rows};
 ghost use Rattle.bench.specs.TurnTables.{turn_entry, turn_table};
@@ -48,7 +47,7 @@ const CLASSES: [(u32, u32, u8); 20] = [
 /// is a part of, and the rules of the engine come before them. Fails only when out of memory.
 pub fn turn_table(alloc: Global) -> Result<RuleBreakData, AllocError>
     ensures value { IfOk result (λ table. table ≡ turn_table) }
-    ensures sound { IfOk result (λ table. IsFaultless (HasTurnTableFault table cluster_table)) }
+    ensures sound { IfOk result (λ table. IsFaultless (HasLineTableFault Seventeen table cluster_table)) }
 {
     let Ok(classes) = ClassTable::try_from_ranges(Vec::from_slice(alloc, &CLASSES)?, OTHER) else {
         unreachable!()

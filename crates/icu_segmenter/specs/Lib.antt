@@ -19,6 +19,7 @@ pub use Rattle.seg_pairs.specs.Verdict
 pub use Rattle.seg_pairs.specs.Breaks
 pub use Rattle.seg_clusters.specs.Rules
 pub use Rattle.seg_clusters.specs.Clusters
+pub use Rattle.seg_line_rules.specs.declared.engines.LineEngine
 pub use Rattle.seg_line_rules.specs.LineClasses
 pub use Rattle.seg_line_rules.specs.LineRules
 pub use Rattle.seg_line_rules.specs.LineUnits

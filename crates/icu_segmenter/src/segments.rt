@@ -223,6 +223,7 @@ impl<B: BreakIterator> Iterator for MarkedSegments<B> {
 
     ghost remaining = { item_count (λ s. s) };
 
+    #[inline(always)]
     fn next(&mut self) -> Option<(usize, B::Units, B::Mark)> {
         let (to, mark) = self.breaks.next_break()?;
         let from = self.from;
@@ -261,6 +262,7 @@ impl<B: BreakIterator> Iterator for Segments<B> {
 
     ghost remaining = { item_count segments_left };
 
+    #[inline(always)]
     fn next(&mut self) -> Option<B::Units> {
         let (_, segment, _) = self.segments.next()?;
         Some(segment)
@@ -295,6 +297,7 @@ impl<B: BreakIterator> Iterator for SegmentIndices<B> {
 
     ghost remaining = { item_count indices_left };
 
+    #[inline(always)]
     fn next(&mut self) -> Option<(usize, B::Units)> {
         let (offset, segment, _) = self.segments.next()?;
         Some((offset, segment))
@@ -329,6 +332,7 @@ impl<B: BreakIterator<Mark = WordType>> Iterator for Words<B> {
 
     ghost remaining = { item_count words_left };
 
+    #[inline(always)]
     fn next(&mut self) -> Option<(usize, B::Units, WordType)> {
         'segments: while let Some((offset, word, word_type)) = self.segments.next() {
             if word_type.is_word_like() {

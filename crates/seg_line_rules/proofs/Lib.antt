@@ -12,4 +12,5 @@ pub mod LineChains
 pub mod LineEvents
 pub mod RunEnds
 pub mod LinesLeft
+pub mod PassedPairs
 pub mod PlainPairs

@@ -8,7 +8,7 @@ use Rattle.seg_pairs.specs.Verdict.{Verdict, go_on, chain, TakesOf, IsForward}
 use Rattle.seg_pairs.specs.Verdict.Verdict.{BreakAfter, GoAfter, RunBegins}
 use Rattle.seg_pairs.proofs.Chained.{chain-map}
 use Rattle.seg_pairs.proofs.Chains.{left-after, chain-go, chain-break, chain-run}
-use Rattle.seg_line_rules.specs.LineClasses.LineEngine.{Classic}
+use Rattle.seg_line_rules.specs.declared.engines.LineEngine.TheVariants.{Classic}
 use Rattle.seg_line_rules.specs.LineRules.{TableRules, line_class}
 use Rattle.seg_line_rules.specs.LineUnits.{LineUnit, CountedUnit, is_glued, units_from, counted_units, units_of, extent_of, unit_seen, units_seen, base_of, marked_element, elements_from, line_elements}
 use Rattle.seg_line_rules.specs.LineVerdict.{unit_verdict}

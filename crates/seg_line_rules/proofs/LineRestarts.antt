@@ -8,7 +8,7 @@ use Rattle.seg_text.proofs.Restarts.{restarts}
 use Rattle.seg_pairs.specs.Verdict.{Verdict}
 use Rattle.seg_pairs.specs.Verdict.Verdict.{BreakAfter, GoAfter, RunBegins}
 use Rattle.seg_pairs.proofs.ComplexStretches.{later-same}
-use Rattle.seg_line_rules.specs.LineClasses.LineEngine.{Classic}
+use Rattle.seg_line_rules.specs.declared.engines.LineEngine.TheVariants.{Classic}
 use Rattle.seg_line_rules.specs.LineRules.{TableRules}
 use Rattle.seg_line_rules.specs.LineBoundaries.{HasComplexCodePoint, line_verdict, line_stretch_of, line_stretch, line_boundaries}
 use Rattle.seg_line_rules.proofs.LineStretches.{line-going, line-run}

@@ -6,7 +6,7 @@ use Rattle.std.proofs.lemmas.List.Sums.{prefix_len-le-length}
 use Rattle.seg_text.specs.Boundaries.{RisesTo, Cuts, with_status, HasProgress, IsWithin}
 use Rattle.seg_pairs.specs.Verdict.{Verdict, TakesOf, IsForward}
 use Rattle.seg_pairs.specs.Verdict.Verdict.{BreakAfter, GoAfter, RunBegins}
-use Rattle.seg_line_rules.specs.LineClasses.{LineEngine}
+use Rattle.seg_line_rules.specs.declared.engines.LineEngine.{LineEngine}
 use Rattle.seg_line_rules.specs.LineRules.{TableRules, line_class, is_complex_point, is_complex_class}
 use Rattle.seg_line_rules.specs.LineUnits.{LineUnit, CountedUnit, units_of}
 use Rattle.seg_line_rules.specs.LineVerdict.{unit_verdict}

@@ -9,7 +9,7 @@ use Rattle.seg_text.specs.Boundaries.{IsCover, boundary, boundaries_in, offsets,
 use Rattle.seg_text.proofs.Covers.{covers, place-between}
 use Rattle.seg_text.proofs.Stretches.{later-nil, text-later-nil}
 use Rattle.seg_clusters.specs.Scripts.{PieceCuts, piece_stretch, run_cuts}
-use Rattle.seg_line_rules.specs.LineClasses.LineEngine.{Classic}
+use Rattle.seg_line_rules.specs.declared.engines.LineEngine.TheVariants.{Classic}
 use Rattle.seg_line_rules.specs.declared.events.LineEvent.TheVariants.{Run}
 use Rattle.seg_line_rules.specs.LineBoundaries.{CutsCover, inside, line_stretch}
 use Rattle.seg_line_rules.specs.LineEvents.{UnreadText, UnreadLines, LeadsToEvent, later_of, unread_lines, places_before}

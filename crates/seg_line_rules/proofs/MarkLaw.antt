@@ -7,7 +7,7 @@ use Rattle.seg_text.specs.Boundaries.{shift_all, Cuts, later_boundaries}
 use Rattle.seg_text.proofs.Stretches.{later-nil, later-next}
 use Rattle.seg_pairs.specs.Verdict.{Verdict, TakesOf}
 use Rattle.seg_pairs.specs.Verdict.Verdict.{BreakAfter, GoAfter, RunBegins}
-use Rattle.seg_line_rules.specs.LineClasses.LineEngine.{Classic}
+use Rattle.seg_line_rules.specs.declared.engines.LineEngine.TheVariants.{Classic}
 use Rattle.seg_line_rules.specs.LineRules.{TableRules, is_complex_point, is_complex_class}
 use Rattle.seg_line_rules.specs.LineUnits.{CountedUnit, is_mark, units_of, extent_of}
 use Rattle.seg_line_rules.specs.LineVerdict.{unit_verdict}

@@ -6,7 +6,7 @@ use Rattle.std.proofs.lemmas.List.Sums.{prefix_len_passes}
 use Rattle.std.proofs.lemmas.Option.{get_or_from_slice_get}
 use Rattle.seg_text.specs.declared.boundary.Boundary.{Boundary}
 use Rattle.seg_text.specs.Boundaries.{RisesTo, shift_all, Cuts, with_status}
-use Rattle.seg_line_rules.specs.LineClasses.{LineEngine}
+use Rattle.seg_line_rules.specs.declared.engines.LineEngine.{LineEngine}
 use Rattle.seg_line_rules.specs.LineRules.{TableRules, line_class, is_complex_point, is_complex_class}
 use Rattle.seg_line_rules.specs.LineUnits.{is_mark}
 use Rattle.seg_line_rules.specs.LineBoundaries.{complex_length, KeepsMarks}

@@ -1,18 +1,19 @@
 -- Which classes are marks, and which bear them.
 use Rattle.std.proofs.Common.{◌≡◌, ℕ, ◌==◌, ◌||◌, ◌&&◌, not, Bool, true, false, List, [], ◌∷◌, refl, sym, ap, ◌∙◌, map}
 use Rattle.std.proofs.lemmas.Bool.{eqb-true}
-use Rattle.seg_line_rules.specs.LineClasses.{LineEngine, class_number}
+use Rattle.seg_line_rules.specs.declared.engines.LineEngine.{LineEngine}
+use Rattle.seg_line_rules.specs.LineClasses.{class_number}
 use Rattle.seg_line_rules.specs.LineClasses.LineClass.{BK, CM, CM_EASTASIAN, CR, LF, NL, SP, ZW, ZWJ}
-use Rattle.seg_line_rules.specs.LineClasses.LineEngine.{Classic, Seventeen}
+use Rattle.seg_line_rules.specs.declared.engines.LineEngine.TheVariants.{Classic, Seventeen}
 use Rattle.seg_line_rules.specs.LineRules.{is_among, is_named_class, is_one_of}
 use Rattle.seg_line_rules.specs.LineUnits.{is_mark, bears_none, is_glued}
 
-abbrev Fails : (ℕ → Bool) → List ℕ → Type 0
+abbrev pub Fails : (ℕ → Bool) → List ℕ → Type 0
 Fails test [] = Unit {0}
 Fails test (one ∷ others) = (test one ≡ false) × Fails test others
 
 -- a test that no number of a list passes is passed by none among them
-none-among : (test : ℕ → Bool) (ones : List ℕ) (class : ℕ) → Fails test ones → is_among ones class ≡ true → test class ≡ false
+pub none-among : (test : ℕ → Bool) (ones : List ℕ) (class : ℕ) → Fails test ones → is_among ones class ≡ true → test class ≡ false
 none-among test [] class fails among = cc
 none-among test (one ∷ others) class fails among = on (class == one) refl (λ among. none-among test others class fails.1 among) among
   where

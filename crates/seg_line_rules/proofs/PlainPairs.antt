@@ -1,23 +1,24 @@
 -- Pairs of units of one item each, between which the table alone decides.
-use Rattle.std.proofs.Common.{◌≡◌, ℕ, suc, ◌+◌, ◌&&◌, ◌||◌, ◌==◌, not, Bool, true, false, cond, None, List, [], ◌∷◌, drop, refl, sym, ap, ◌∙◌}
-use Rattle.std.proofs.lemmas.List.{drop-drop}
-use Rattle.seg_text.specs.Items.{Item, Text, start_of, rest_after, code_points}
+use Rattle.std.proofs.Common.{◌≡◌, ℕ, suc, ◌&&◌, ◌||◌, ◌==◌, not, Bool, true, false, cond, None, List, [], ◌∷◌, drop, refl, sym, ap, ◌∙◌}
+use Rattle.seg_text.specs.Items.{Text, code_points}
 use Rattle.seg_text.specs.Boundaries.{boundary, Cuts, Stretch}
+use Rattle.seg_text.specs.declared.boundary.Boundary.{Boundary}
 use Rattle.seg_pairs.specs.declared.provider.pairs.BreakState.{BreakState}
 use Rattle.seg_pairs.specs.declared.provider.pairs.BreakState.TheVariants as entries
 use Rattle.seg_pairs.specs.PairTable.{entry_of}
 use Rattle.seg_pairs.specs.Verdict.{Verdict}
 use Rattle.seg_pairs.specs.Verdict.Verdict.{BreakAfter, GoAfter}
-use Rattle.seg_line_rules.specs.LineClasses.{LineEngine}
-use Rattle.seg_line_rules.specs.LineClasses.LineEngine.{Classic}
+use Rattle.seg_line_rules.specs.declared.engines.LineEngine.{LineEngine}
+use Rattle.seg_line_rules.specs.declared.engines.LineEngine.TheVariants.{Classic}
 use Rattle.seg_line_rules.specs.declared.options.LineBreakStrictness.{LineBreakStrictness}
 use Rattle.seg_line_rules.specs.declared.options.LineBreakStrictness.TheVariants as strictness
 use Rattle.seg_line_rules.specs.declared.options.LineStyle.{LineStyle}
 use Rattle.seg_line_rules.specs.declared.plain_pairs.ClassedItem.{ClassedItem}
-use Rattle.seg_line_rules.specs.declared.plain_pairs.PlainPair.{PlainPair}
-use Rattle.seg_line_rules.specs.declared.plain_pairs.PlainPair.TheVariants as plain
+use Rattle.seg_line_rules.specs.declared.engines.PlainPair.{PlainPair}
+use Rattle.seg_line_rules.specs.declared.engines.PlainPair.TheVariants as plain
 use Rattle.seg_line_rules.specs.declared.verdicts.Case.TheVariants.{Table}
-use Rattle.seg_line_rules.specs.LineEvents.{HasClass, text_from, unread_lines, IsPassed, asks_more, entry_pair, is_plain, passed_lines, plain_pair, unread_from}
+use Rattle.seg_line_rules.specs.LineEvents.{FollowsPairs, HasClass, text_from, unread_lines, asks_more}
+use Rattle.seg_line_rules.specs.ClassicPairs.{entry_pair, is_plain, plain_pair}
 use Rattle.seg_line_rules.specs.LineBoundaries.{in_code_points, line_stretch_of, line_stretch, line_verdict}
 use Rattle.seg_line_rules.specs.LineLists.{LooseRow, keeps, listed, listed_by, loose_rows}
 use Rattle.seg_line_rules.specs.LineRules.{TableRules, line_class, is_keep_all, is_loose_or_normal}
@@ -188,64 +189,38 @@ module _ (rules : TableRules Classic) (left right : ℕ) (after : List ℕ) wher
       let said = said-break (is_plain rules.table.complex_property unit.class class) _ is in
       break-by few said.0 unit.is_joined refl (entry_of rules.table unit.class class) refl said.1
 
--- one item more
-module _ (rules : TableRules Classic) (left right : ClassedItem) (rest after : Text) (few : asks_more rules.style ≡ false)
-    (left_class : HasClass rules left) (right_class : HasClass rules right)
-    (items : rest.items ≡ (right.place, right.code_point) ∷ after.items) (end : after.end ≡ rest.end) where
-  rest-is : rest ≡ text_from right after
-  rest-is =
-      ap (λ (items : List Item). record { items = items; end = rest.end }) items
-      ∙ ap (λ (end : ℕ). record { items = (right.place, right.code_point) ∷ after.items; end = end }) (sym end)
+-- what is found in a text follows from its pairs
+module _ (rules : TableRules Classic) (few : asks_more rules.style ≡ false) (cuts : Cuts) where
+  abbrev found : Text → List Boundary
+  found text = unread_lines cuts (record { rules = rules; text = text })
 
-  same-said : (said : PlainPair) → said ≡ plain_pair rules.table left.class right.class
-      → plain_pair rules.table (line_class rules left.code_point) (line_class rules right.code_point) ≡ said
-  same-said said is =
-      ap (λ class. plain_pair rules.table class (line_class rules right.code_point)) (sym left_class.is)
-      ∙ ap (plain_pair rules.table left.class) (sym right_class.is) ∙ sym is
+  module _ (left right : ClassedItem) (after : Text) (left_class : HasClass rules left) (right_class : HasClass rules right) where
+    abbrev rest : Text
+    rest = text_from right after
 
-  first-stretch-is : (cuts : Cuts) (v : Verdict) (s : Stretch) → line_verdict rules (left.code_point ∷ right.code_point ∷ code_points after.items) ≡ v
-      → line_stretch_of cuts rules (code_points (text_from left rest).items) v ≡ s
-      → line_stretch cuts rules (code_points (text_from left rest).items) ≡ s
-  first-stretch-is cuts v s is stretch =
-      ap (line_stretch_of cuts rules (code_points (text_from left rest).items))
-      (ap (λ (items : List Item). line_verdict rules (left.code_point ∷ code_points items)) items ∙ is)
-      ∙ stretch
+    same-said : (said : PlainPair) → plain_pair rules.table left.class right.class ≡ said
+        → plain_pair rules.table (line_class rules left.code_point) (line_class rules right.code_point) ≡ said
+    same-said said is =
+        ap (λ class. plain_pair rules.table class (line_class rules right.code_point)) (sym left_class.is)
+        ∙ ap (plain_pair rules.table left.class) (sym right_class.is) ∙ is
 
-  go-on : plain.Go ≡ plain_pair rules.table left.class right.class → (cuts : Cuts)
-      → unread_lines cuts (unread_from rules left rest) ≡ passed_lines cuts rules false right after
-  go-on said cuts =
-      first-stretch rules cuts (text_from left rest).items rest.end left.code_point (code_points rest.items) (record { extent = 1; boundaries = [] }) refl
-      (first-stretch-is cuts (GoAfter 1) _
-      (go-verdict rules left.code_point right.code_point (code_points after.items) few (same-said plain.Go said)) refl)
-      ∙ ap (λ (text : Text). unread_lines cuts (record { rules = rules; text = text })) rest-is
+    first-stretch-is : (v : Verdict) (s : Stretch) → line_verdict rules (left.code_point ∷ right.code_point ∷ code_points after.items) ≡ v
+        → line_stretch_of cuts rules (code_points (text_from left rest).items) v ≡ s
+        → line_stretch cuts rules (code_points (text_from left rest).items) ≡ s
+    first-stretch-is v s is stretch = ap (line_stretch_of cuts rules (code_points (text_from left rest).items)) is ∙ stretch
 
-  break-on : plain.Break ≡ plain_pair rules.table left.class right.class → (cuts : Cuts)
-      → unread_lines cuts (unread_from rules left rest) ≡ passed_lines cuts rules true right after
-  break-on said cuts =
-      first-stretch rules cuts (text_from left rest).items rest.end left.code_point (code_points rest.items)
-      (record { extent = 1; boundaries = boundary 1 0 ∷ [] }) refl
-      (first-stretch-is cuts (BreakAfter 1 0) _
-      (break-verdict rules left.code_point right.code_point (code_points after.items) few (same-said plain.Break said)) refl)
-      ∙ ap (λ (text : Text). boundary (start_of text) 0 ∷ unread_lines cuts (record { rules = rules; text = text })) rest-is
+    go-on : plain_pair rules.table left.class right.class ≡ plain.Go → found (text_from left rest) ≡ found rest
+    go-on said =
+        first-stretch rules cuts (text_from left rest).items rest.end left.code_point (code_points rest.items) (record { extent = 1; boundaries = [] }) refl
+        (first-stretch-is (GoAfter 1) _
+        (go-verdict rules left.code_point right.code_point (code_points after.items) few (same-said plain.Go said)) refl)
 
-  module _ (first : ClassedItem) (start : Text) (passed : IsPassed rules first start left rest false) where
-    text-on : text_from right after ≡ rest_after (passed.taken + 1) (text_from first start)
-    text-on =
-        sym rest-is ∙ ap (rest_after 1) passed.text_is
-        ∙ ap (λ (items : List Item). record { items = items; end = start.end }) (drop-drop 1 passed.taken (text_from first start).items)
+    break-on : plain_pair rules.table left.class right.class ≡ plain.Break → found (text_from left rest) ≡ boundary right.place 0 ∷ found rest
+    break-on said =
+        first-stretch rules cuts (text_from left rest).items rest.end left.code_point (code_points rest.items)
+        (record { extent = 1; boundaries = boundary 1 0 ∷ [] }) refl
+        (first-stretch-is (BreakAfter 1 0) _
+        (break-verdict rules left.code_point right.code_point (code_points after.items) few (same-said plain.Break said)) refl)
 
-    pub passed-go : plain.Go ≡ plain_pair rules.table left.class right.class → IsPassed rules first start right after false
-    passed-go said = record {
-      taken = passed.taken + 1;
-      text_is = text-on;
-      class = right_class;
-      leads = λ cuts. passed.leads cuts ∙ go-on said cuts;
-    }
-
-    pub passed-break : plain.Break ≡ plain_pair rules.table left.class right.class → IsPassed rules first start right after true
-    passed-break said = record {
-      taken = passed.taken + 1;
-      text_is = text-on;
-      class = right_class;
-      leads = λ cuts. passed.leads cuts ∙ break-on said cuts;
-    }
+  pub lines-follow : FollowsPairs rules (plain_pair rules.table) found found
+  lines-follow = record { goes = go-on; breaks = break-on }

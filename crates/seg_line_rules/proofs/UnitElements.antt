@@ -5,7 +5,7 @@ use Rattle.seg_text.specs.Items.{Item}
 use Rattle.seg_pairs.specs.declared.elements.Element.{Element}
 use Rattle.seg_pairs.specs.Elements.{place_at}
 use Rattle.seg_pairs.specs.Verdict.{Verdict, TakesOf, IsForward}
-use Rattle.seg_line_rules.specs.LineClasses.LineEngine.{Classic}
+use Rattle.seg_line_rules.specs.declared.engines.LineEngine.TheVariants.{Classic}
 use Rattle.seg_line_rules.specs.LineRules.{TableRules, line_class}
 use Rattle.seg_line_rules.specs.LineUnits.{LineUnit, is_glued, unit_seen, units_seen, base_element, base_of, marked_element, elements_from}
 

@@ -12,7 +12,7 @@ use Rattle.seg_pairs.specs.Verdict.{Lands, LandsOrWalks, IsStepBelow, IsStop, cl
 use Rattle.seg_pairs.specs.Verdict.Verdict.{BreakAfter, GoAfter}
 use Rattle.seg_pairs.specs.Walk.{Walk, is_class}
 use Rattle.seg_pairs.proofs.Landings.{rest-at, saved-at}
-use Rattle.seg_line_rules.specs.LineClasses.LineEngine.{Classic}
+use Rattle.seg_line_rules.specs.declared.engines.LineEngine.TheVariants.{Classic}
 use Rattle.seg_line_rules.specs.declared.verdicts.Case.{Case}
 use Rattle.seg_line_rules.specs.declared.verdicts.Case.TheVariants.{Table}
 use Rattle.seg_line_rules.specs.LineRules.{TableRules}

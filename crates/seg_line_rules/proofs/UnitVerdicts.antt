@@ -8,7 +8,7 @@ use Rattle.seg_pairs.specs.Walk.{Walk, walk}
 use Rattle.seg_pairs.specs.Verdict.Verdict.{RunBegins}
 use Rattle.seg_pairs.specs.Verdict.{TakesOf, IsForward}
 use Rattle.seg_pairs.proofs.Forward.{Within, walk-within}
-use Rattle.seg_line_rules.specs.LineClasses.{LineEngine}
+use Rattle.seg_line_rules.specs.declared.engines.LineEngine.{LineEngine}
 use Rattle.seg_line_rules.specs.declared.verdicts.Case.{Case}
 use Rattle.seg_line_rules.specs.declared.verdicts.Case.TheVariants.{Run, Together, Apart, Table}
 use Rattle.seg_line_rules.specs.LineLists.{keeps, listed}

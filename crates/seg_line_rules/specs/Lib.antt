@@ -4,4 +4,5 @@ pub mod LineUnits
 pub mod LineLists
 pub mod LineVerdict
 pub mod LineBoundaries
+pub mod ClassicPairs
 pub mod LineEvents

@@ -6,20 +6,21 @@ use Rattle.seg_text.specs.Items.{Text}
 use Rattle.seg_text.specs.Boundaries.{boundary, boundaries_in, RisesTo, Cuts, with_status, Stretch, list_boundaries, offsets}
 use Rattle.seg_pairs.specs.Verdict.{Verdict}
 use Rattle.seg_pairs.specs.Verdict.Verdict.{BreakAfter, GoAfter, RunBegins}
+use Rattle.seg_line_rules.specs.declared.engines.PairEngine.{Ghosts}
 use Rattle.seg_line_rules.specs.declared.line_pairs.LinePairs.{LinePairs}
 use Rattle.seg_line_rules.specs.declared.line_pairs.OwnedLinePairs.{OwnedLinePairs}
-use Rattle.seg_line_rules.specs.LineClasses.{LineEngine}
-use Rattle.seg_line_rules.specs.LineClasses.LineEngine.{Classic}
+use Rattle.seg_line_rules.specs.declared.engines.LineEngine.{LineEngine}
+use Rattle.seg_line_rules.specs.declared.engines.LineEngine.TheVariants.{Classic}
 use Rattle.seg_line_rules.specs.LineRules.{TableRules, line_class, is_complex_point}
 use Rattle.seg_line_rules.specs.LineUnits.{CountedUnit, counted_units, units_of, extent_of, is_mark, bears_none}
 use Rattle.seg_line_rules.specs.LineVerdict.{unit_verdict}
 
 -- What is seen of the data of lines.
 
-abbrev pub rules_by : LinePairs → TableRules Classic
+abbrev pub rules_by : {E : Type 0} {engine : Ghosts E} → LinePairs E engine → TableRules engine.ENGINE
 rules_by pairs = record { table = pairs.table.now; style = pairs.style }
 
-abbrev pub owned_rules_by : OwnedLinePairs → TableRules Classic
+abbrev pub owned_rules_by : {E : Type 0} {engine : Ghosts E} → OwnedLinePairs E engine → TableRules engine.ENGINE
 owned_rules_by pairs = record { table = pairs.table; style = pairs.style }
 
 -- The boundaries of lines in a list of code points: verdict by verdict on the units of what is left.

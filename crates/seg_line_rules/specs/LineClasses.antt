@@ -1,6 +1,8 @@
 -- The classes of lines that rules name, as UAX #14 has them. The engine 17 tells some apart: the wide characters of a class, the marks of SA,
 -- pictographs without a class, and the dotted circle.
 use Rattle.std.specs.Prelude.{ℕ}
+use Rattle.seg_line_rules.specs.declared.engines.LineEngine.{LineEngine}
+use Rattle.seg_line_rules.specs.declared.engines.LineEngine.TheVariants.{Classic, Seventeen}
 
 pub data LineClass : Type 0 where
   AI : LineClass
@@ -60,122 +62,66 @@ pub data LineClass : Type 0 where
   ZW : LineClass
   ZWJ : LineClass
 
--- the two engines of lines by a pair table
-pub data LineEngine : Type 0 where
-  Classic : LineEngine
-  Seventeen : LineEngine
+-- the number of the one engine or of the other
+abbrev pub number_by : LineEngine → ℕ → ℕ → ℕ
+number_by Classic classic seventeen = classic
+number_by Seventeen classic seventeen = seventeen
 
--- the numbers of classes in their pair tables. Of what the classic engine doesn't tell apart it is that of the whole
+-- the numbers of classes in the pair tables of both. Of what the classic engine doesn't tell apart it is that of the whole
 abbrev pub class_number : LineEngine → LineClass → ℕ
-class_number Classic AI = 1
-class_number Classic AI_EASTASIAN = 1
-class_number Classic AL = 3
-class_number Classic AL_DOTTED_CIRCLE = 4
-class_number Classic AL_EASTASIAN = 3
-class_number Classic BA = 8
-class_number Classic BA_EASTASIAN = 8
-class_number Classic BK = 10
-class_number Classic CB = 11
-class_number Classic CJ = 12
-class_number Classic CL = 13
-class_number Classic CL_EASTASIAN = 13
-class_number Classic CM = 14
-class_number Classic CM_EASTASIAN = 14
-class_number Classic CP = 15
-class_number Classic CR = 16
-class_number Classic EX = 19
-class_number Classic EX_EASTASIAN = 19
-class_number Classic GL = 20
-class_number Classic GL_EASTASIAN = 20
-class_number Classic H2 = 21
-class_number Classic H3 = 22
-class_number Classic HH = 8
-class_number Classic HL = 23
-class_number Classic HY = 24
-class_number Classic ID = 25
-class_number Classic ID_EASTASIAN = 25
-class_number Classic IN = 27
-class_number Classic IN_EASTASIAN = 27
-class_number Classic IS = 28
-class_number Classic JL = 29
-class_number Classic JT = 30
-class_number Classic JV = 31
-class_number Classic LF = 32
-class_number Classic NL = 33
-class_number Classic NS = 34
-class_number Classic NS_EASTASIAN = 34
-class_number Classic NU = 35
-class_number Classic OP = 37
-class_number Classic OP_EASTASIAN = 36
-class_number Classic PO = 38
-class_number Classic PO_EASTASIAN = 39
-class_number Classic PR = 40
-class_number Classic PR_EASTASIAN = 41
-class_number Classic QU = 42
-class_number Classic QU_PF = 43
-class_number Classic QU_PI = 44
-class_number Classic SA = 46
-class_number Classic SA_MC_MN = 46
-class_number Classic SP = 47
-class_number Classic SY = 48
-class_number Classic WJ = 51
-class_number Classic XX = 52
-class_number Classic XX_EXTPICT = 52
-class_number Classic ZW = 53
-class_number Classic ZWJ = 54
-class_number Seventeen AI = 1
-class_number Seventeen AI_EASTASIAN = 2
-class_number Seventeen AL = 4
-class_number Seventeen AL_DOTTED_CIRCLE = 5
-class_number Seventeen AL_EASTASIAN = 6
-class_number Seventeen BA = 10
-class_number Seventeen BA_EASTASIAN = 11
-class_number Seventeen BK = 13
-class_number Seventeen CB = 14
-class_number Seventeen CJ = 15
-class_number Seventeen CL = 16
-class_number Seventeen CL_EASTASIAN = 17
-class_number Seventeen CM = 18
-class_number Seventeen CM_EASTASIAN = 19
-class_number Seventeen CP = 20
-class_number Seventeen CR = 21
-class_number Seventeen EX = 25
-class_number Seventeen EX_EASTASIAN = 26
-class_number Seventeen GL = 27
-class_number Seventeen GL_EASTASIAN = 28
-class_number Seventeen H2 = 29
-class_number Seventeen H3 = 30
-class_number Seventeen HH = 31
-class_number Seventeen HL = 32
-class_number Seventeen HY = 33
-class_number Seventeen ID = 34
-class_number Seventeen ID_EASTASIAN = 36
-class_number Seventeen IN = 37
-class_number Seventeen IN_EASTASIAN = 38
-class_number Seventeen IS = 39
-class_number Seventeen JL = 40
-class_number Seventeen JT = 41
-class_number Seventeen JV = 42
-class_number Seventeen LF = 43
-class_number Seventeen NL = 44
-class_number Seventeen NS = 45
-class_number Seventeen NS_EASTASIAN = 46
-class_number Seventeen NU = 47
-class_number Seventeen OP = 48
-class_number Seventeen OP_EASTASIAN = 49
-class_number Seventeen PO = 50
-class_number Seventeen PO_EASTASIAN = 51
-class_number Seventeen PR = 52
-class_number Seventeen PR_EASTASIAN = 53
-class_number Seventeen QU = 54
-class_number Seventeen QU_PF = 55
-class_number Seventeen QU_PI = 56
-class_number Seventeen SA = 58
-class_number Seventeen SA_MC_MN = 59
-class_number Seventeen SP = 60
-class_number Seventeen SY = 61
-class_number Seventeen WJ = 64
-class_number Seventeen XX = 65
-class_number Seventeen XX_EXTPICT = 66
-class_number Seventeen ZW = 67
-class_number Seventeen ZWJ = 68
+class_number engine AI = number_by engine 1 1
+class_number engine AI_EASTASIAN = number_by engine 1 2
+class_number engine AL = number_by engine 3 4
+class_number engine AL_DOTTED_CIRCLE = number_by engine 4 5
+class_number engine AL_EASTASIAN = number_by engine 3 6
+class_number engine BA = number_by engine 8 10
+class_number engine BA_EASTASIAN = number_by engine 8 11
+class_number engine BK = number_by engine 10 13
+class_number engine CB = number_by engine 11 14
+class_number engine CJ = number_by engine 12 15
+class_number engine CL = number_by engine 13 16
+class_number engine CL_EASTASIAN = number_by engine 13 17
+class_number engine CM = number_by engine 14 18
+class_number engine CM_EASTASIAN = number_by engine 14 19
+class_number engine CP = number_by engine 15 20
+class_number engine CR = number_by engine 16 21
+class_number engine EX = number_by engine 19 25
+class_number engine EX_EASTASIAN = number_by engine 19 26
+class_number engine GL = number_by engine 20 27
+class_number engine GL_EASTASIAN = number_by engine 20 28
+class_number engine H2 = number_by engine 21 29
+class_number engine H3 = number_by engine 22 30
+class_number engine HH = number_by engine 8 31
+class_number engine HL = number_by engine 23 32
+class_number engine HY = number_by engine 24 33
+class_number engine ID = number_by engine 25 34
+class_number engine ID_EASTASIAN = number_by engine 25 36
+class_number engine IN = number_by engine 27 37
+class_number engine IN_EASTASIAN = number_by engine 27 38
+class_number engine IS = number_by engine 28 39
+class_number engine JL = number_by engine 29 40
+class_number engine JT = number_by engine 30 41
+class_number engine JV = number_by engine 31 42
+class_number engine LF = number_by engine 32 43
+class_number engine NL = number_by engine 33 44
+class_number engine NS = number_by engine 34 45
+class_number engine NS_EASTASIAN = number_by engine 34 46
+class_number engine NU = number_by engine 35 47
+class_number engine OP = number_by engine 37 48
+class_number engine OP_EASTASIAN = number_by engine 36 49
+class_number engine PO = number_by engine 38 50
+class_number engine PO_EASTASIAN = number_by engine 39 51
+class_number engine PR = number_by engine 40 52
+class_number engine PR_EASTASIAN = number_by engine 41 53
+class_number engine QU = number_by engine 42 54
+class_number engine QU_PF = number_by engine 43 55
+class_number engine QU_PI = number_by engine 44 56
+class_number engine SA = number_by engine 46 58
+class_number engine SA_MC_MN = number_by engine 46 59
+class_number engine SP = number_by engine 47 60
+class_number engine SY = number_by engine 48 61
+class_number engine WJ = number_by engine 51 64
+class_number engine XX = number_by engine 52 65
+class_number engine XX_EXTPICT = number_by engine 52 66
+class_number engine ZW = number_by engine 53 67
+class_number engine ZWJ = number_by engine 54 68

@@ -1,24 +1,22 @@
 -- A text whose lines are found one after another: what is read ahead, what comes next, and what is left.
-use Rattle.std.specs.Prelude.{◌≡◌, ◌<◌, ℕ, Option, Some, None, [], ◌∷◌, ◌≢◌, ◌≤◌, List, ◌++◌, length, IfSome, ◌==◌, ◌&&◌, ◌||◌, not, Bool, true, false, if◌then◌else◌, nat_lt, filter}
+use Rattle.std.specs.Prelude.{◌≡◌, ◌<◌, ℕ, Option, Some, None, [], ◌∷◌, ◌≢◌, ◌≤◌, List, ◌++◌, length, IfSome, ◌||◌, Bool, true, false, if◌then◌else◌, nat_lt, filter}
 use Rattle.seg_text.specs.Items.{Text, code_points, rest_after, start_of}
 use Rattle.seg_text.specs.declared.boundary.Boundary.{Boundary}
 use Rattle.seg_text.specs.Boundaries.{boundary, boundaries_in, Cuts, AreCutsOf, with_status, cut_places, later_boundaries, Remainder}
-use Rattle.seg_pairs.specs.PairTable.{PairTable, entry_of}
-use Rattle.seg_pairs.specs.declared.provider.pairs.BreakState.{BreakState}
-use Rattle.seg_pairs.specs.declared.provider.pairs.BreakState.TheVariants as entries
+use Rattle.seg_pairs.specs.PairTable.{PairTable}
 use Rattle.seg_pairs.specs.declared.elements.Element.{Element}
 use Rattle.seg_pairs.specs.Elements.{onto}
 use Rattle.seg_line_rules.specs.declared.plain_pairs.ClassedItem.{ClassedItem}
-use Rattle.seg_line_rules.specs.LineClasses.{LineEngine}
-use Rattle.seg_line_rules.specs.LineClasses.LineEngine.{Classic}
+use Rattle.seg_line_rules.specs.declared.engines.LineEngine.{LineEngine}
+use Rattle.seg_line_rules.specs.declared.engines.LineEngine.TheVariants.{Classic}
 use Rattle.seg_line_rules.specs.LineRules.{TableRules, line_class, is_keep_all, is_loose_or_normal}
 use Rattle.seg_line_rules.specs.declared.events.LineEvent.{LineEvent}
 use Rattle.seg_line_rules.specs.declared.events.LineEvent.TheVariants.{End, Go, Break, Run}
 use Rattle.seg_line_rules.specs.LineBoundaries.{line_stretch}
-use Rattle.seg_line_rules.specs.LineUnits.{UnitsLeft, line_elements, is_joiner, is_mark}
+use Rattle.seg_line_rules.specs.LineUnits.{UnitsLeft, line_elements}
 use Rattle.seg_line_rules.specs.declared.options.LineStyle.{LineStyle}
-use Rattle.seg_line_rules.specs.declared.plain_pairs.PlainPair.{PlainPair}
-use Rattle.seg_line_rules.specs.declared.plain_pairs.PlainPair.TheVariants as plain
+use Rattle.seg_line_rules.specs.declared.engines.PlainPair.{PlainPair}
+use Rattle.seg_line_rules.specs.declared.engines.PlainPair.TheVariants as plain
 
 -- An item that is read ahead of a text, with its class.
 
@@ -107,38 +105,30 @@ pub record AreUnitsAhead (rules : TableRules Classic) (text : Text) (next : Opti
   pub same_table : rest.rules.table ≡ rules.table
   pub below : IfSome next (λ next. next.class < rules.table.property_count)
 
--- Pairs of classes between which the table alone decides, and what they lead to.
+-- What pairs of classes lead to, between which the table alone decides.
 
 -- the options ask for more than the classes and the table
 abbrev pub asks_more : LineStyle → Bool
 asks_more style = is_keep_all style.word_option || is_loose_or_normal style.strictness
 
--- the table alone decides between an item with no marks and the next: that is no mark, and no run begins
-abbrev pub is_plain : ℕ → ℕ → ℕ → Bool
-is_plain complex left right = not (is_mark Classic right) && not (left == complex && right == complex)
+-- what is found in a text by two functions of it, where pairs of classes say this: Go, that no boundary stands before the second item; Break, that
+-- one does, and what comes then is found by the other function
+pub record FollowsPairs {engine : LineEngine} (rules : TableRules engine) (said : ℕ → ℕ → PlainPair) (found later : Text → List Boundary) : Type 0 where
+  pub goes : (left right : ClassedItem) (after : Text) → HasClass rules left → HasClass rules right → said left.class right.class ≡ plain.Go
+      → found (text_from left (text_from right after)) ≡ found (text_from right after)
+  pub breaks : (left right : ClassedItem) (after : Text) → HasClass rules left → HasClass rules right → said left.class right.class ≡ plain.Break
+      → found (text_from left (text_from right after)) ≡ boundary right.place 0 ∷ later (text_from right after)
 
-abbrev pub entry_pair : Bool → BreakState → PlainPair
-entry_pair joined entries.Keep = plain.Go
-entry_pair joined entries.Break = if joined then plain.Other else plain.Break
-entry_pair joined entries.NoMatch = if joined then plain.Other else plain.Break
-entry_pair joined (entries.Index state) = plain.Other
-entry_pair joined (entries.Intermediate state) = plain.Other
+-- what is found from this item on, and a boundary before it or not
+abbrev pub found_passed : (found later : Text → List Boundary) → (is_break : Bool) → ClassedItem → Text → List Boundary
+found_passed found later true next rest = boundary next.place 0 ∷ later (text_from next rest)
+found_passed found later false next rest = found (text_from next rest)
 
-abbrev pub plain_pair : PairTable → ℕ → ℕ → PlainPair
-plain_pair t left right = if is_plain t.complex_property left right then entry_pair (is_joiner Classic left) (entry_of t left right) else plain.Other
-
--- a text that is being read
-abbrev pub unread_from : TableRules Classic → ClassedItem → Text → UnreadLines
-unread_from rules next rest = record { rules = rules; text = text_from next rest }
-
--- the boundaries from this item on, and one before it or not
-abbrev pub passed_lines : Cuts → TableRules Classic → (is_break : Bool) → ClassedItem → Text → List Boundary
-passed_lines cuts rules true next rest = boundary next.place 0 ∷ unread_lines cuts (unread_from rules next rest)
-passed_lines cuts rules false next rest = unread_lines cuts (unread_from rules next rest)
-
--- plain pairs lead from one item, with those after it, to another
-pub record IsPassed (rules : TableRules Classic) (first : ClassedItem) (start : Text) (next : ClassedItem) (rest : Text) (is_break : Bool) : Type 0 where
+-- pairs that say this lead from one item, with those after it, to another
+pub record IsPassed {engine : LineEngine} (rules : TableRules engine) (said : ℕ → ℕ → PlainPair)
+    (first : ClassedItem) (start : Text) (next : ClassedItem) (rest : Text) (is_break : Bool) : Type 0 where
   pub taken : ℕ
   pub text_is : text_from next rest ≡ rest_after taken (text_from first start)
   pub class : HasClass rules next
-  pub leads : (cuts : Cuts) → unread_lines cuts (unread_from rules first start) ≡ passed_lines cuts rules is_break next rest
+  pub leads : (found later : Text → List Boundary) → FollowsPairs rules said found later
+      → found (text_from first start) ≡ found_passed found later is_break next rest

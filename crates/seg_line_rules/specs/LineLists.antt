@@ -4,9 +4,10 @@ use Rattle.std.specs.Option.{option_map, option_map_or}
 use Rattle.seg_line_rules.specs.declared.options.LineBreakStrictness.{LineBreakStrictness}
 use Rattle.seg_line_rules.specs.declared.options.LineBreakStrictness.TheVariants as strictness
 use Rattle.seg_line_rules.specs.declared.options.LineStyle.{LineStyle}
-use Rattle.seg_line_rules.specs.LineClasses.{LineClass, LineEngine, class_number}
+use Rattle.seg_line_rules.specs.declared.engines.LineEngine.{LineEngine}
+use Rattle.seg_line_rules.specs.LineClasses.{LineClass, class_number}
 use Rattle.seg_line_rules.specs.LineClasses.LineClass.{AI, AI_EASTASIAN, BA, CJ, EX, EX_EASTASIAN, H2, H3, HY, ID, ID_EASTASIAN, IN, IN_EASTASIAN, JL, JT, JV, NS, NS_EASTASIAN, NU, PO, PO_EASTASIAN, PR, PR_EASTASIAN}
-use Rattle.seg_line_rules.specs.LineClasses.LineEngine.{Classic, Seventeen}
+use Rattle.seg_line_rules.specs.declared.engines.LineEngine.TheVariants.{Classic, Seventeen}
 use Rattle.seg_line_rules.specs.LineRules.{is_among, is_keep_all, is_one_of, alphabetic}
 
 -- under KeepAll no boundary stands between two of these

@@ -1,20 +1,21 @@
 -- What the boundaries of lines are found by: options, classes as they are read, and the faults of data.
-use Rattle.std.specs.Prelude.{ℕ, Bool, true, false, ◌||◌, List, codes, ◌==◌, ◌&&◌, if◌then◌else◌, None, [], ◌∷◌, ◌≡◌, nat_le, ◌≤◌, ◌⊎◌, map}
+use Rattle.std.specs.Prelude.{ℕ, Bool, true, false, ◌||◌, List, codes, ◌==◌, ◌&&◌, if◌then◌else◌, None, [], ◌∷◌, ◌≡◌, nat_le, not, ◌<◌, ◌≤◌, ◌⊎◌, map}
 use Rattle.std.specs.Option.{option_map_or, unwrap_or}
 use Rattle.std.specs.Str.{bytes_eq}
 use Rattle.seg_data.specs.declared.provider.DataError.{DataError}
 use Rattle.seg_data.specs.declared.provider.DataError.TheVariants.{ClassOutOfRange, ComplexBelow0100, ComplexClassNamed}
 use Rattle.seg_pairs.specs.PairTable.{PairTable, class_of}
-use Rattle.seg_pairs.specs.PairData.{HasPairDataFault, HasComplexClassBelow0100}
+use Rattle.seg_pairs.specs.PairData.{HasPairDataFault}
 use Rattle.seg_line_rules.specs.declared.options.LineBreakOptions.{LineBreakOptions}
 use Rattle.seg_line_rules.specs.declared.options.LineBreakStrictness.{LineBreakStrictness}
 use Rattle.seg_line_rules.specs.declared.options.LineBreakStrictness.TheVariants as strictness
 use Rattle.seg_line_rules.specs.declared.options.LineBreakWordOption.{LineBreakWordOption}
 use Rattle.seg_line_rules.specs.declared.options.LineBreakWordOption.TheVariants as word_option
 use Rattle.seg_line_rules.specs.declared.options.LineStyle.{LineStyle}
-use Rattle.seg_line_rules.specs.LineClasses.{LineClass, LineEngine, class_number}
+use Rattle.seg_line_rules.specs.declared.engines.LineEngine.{LineEngine}
+use Rattle.seg_line_rules.specs.LineClasses.{LineClass, class_number}
 use Rattle.seg_line_rules.specs.LineClasses.LineClass.{AL, AL_DOTTED_CIRCLE, AL_EASTASIAN, CJ, ID, NU, SA, SA_MC_MN}
-use Rattle.seg_line_rules.specs.LineClasses.LineEngine.{Classic, Seventeen}
+use Rattle.seg_line_rules.specs.declared.engines.LineEngine.TheVariants.{Classic, Seventeen}
 
 -- What options say of lines, where those that aren't given have their defaults.
 
@@ -104,18 +105,23 @@ is_complex_point rules code_point = is_complex_class rules (line_class rules cod
 
 -- The faults of the data of lines.
 
--- the number of a class that has a name: all from AI to ZWJ but 46
+-- the number of a class of the classic engine that has a name: all from AI to ZWJ but 46
 abbrev pub is_named_class : ℕ → Bool
 is_named_class class = (nat_le 1 class && nat_le class 45) || (nat_le 47 class && nat_le class 54)
 
--- the faults of a pair table of lines: it has no class ID, a code point below U+0100 is complex, before the options read its
--- class, or the complex class is one that has a name
-abbrev pub HasOwnLineFault : PairTable → DataError → Type 0
-HasOwnLineFault t ClassOutOfRange = t.property_count ≤ class_number Classic ID
-HasOwnLineFault t ComplexBelow0100 = HasComplexClassBelow0100 t None
-HasOwnLineFault t ComplexClassNamed = is_named_class t.complex_property ≡ true
-HasOwnLineFault t _ = ⊥
+-- a table can't name this class as its complex one: one that has a name, of the engine 17 any but SA
+abbrev pub is_never_complex : LineEngine → ℕ → Bool
+is_never_complex Classic class = is_named_class class
+is_never_complex Seventeen class = not (class == class_number Seventeen SA)
+
+-- the faults of a pair table of lines: it has no class ID, a code point below U+0100, which Latin-1 has too, is complex, before the options read
+-- its class, or its complex class is one that it can't be
+abbrev pub HasOwnLineFault : LineEngine → PairTable → DataError → Type 0
+HasOwnLineFault engine t ClassOutOfRange = t.property_count ≤ class_number engine ID
+HasOwnLineFault engine t ComplexBelow0100 = (code_point : ℕ) × (code_point < 0x100) × (is_complex_by engine t (class_of t None code_point) ≡ true)
+HasOwnLineFault engine t ComplexClassNamed = is_never_complex engine t.complex_property ≡ true
+HasOwnLineFault engine t _ = ⊥
 
 -- .. and those of the pair table of clusters
-abbrev pub HasLineTableFault : PairTable → PairTable → DataError → Type 0
-HasLineTableFault t clusters fault = HasOwnLineFault t fault ⊎ HasPairDataFault clusters None fault
+abbrev pub HasLineTableFault : LineEngine → PairTable → PairTable → DataError → Type 0
+HasLineTableFault engine t clusters fault = HasOwnLineFault engine t fault ⊎ HasPairDataFault clusters None fault

@@ -2,9 +2,10 @@
 use Rattle.std.specs.Prelude.{ℕ, zero, suc, ◌+◌, ◌==◌, ◌&&◌, not, Bool, true, false, if◌then◌else◌, List, [], ◌∷◌, map, ◌≡◌, ◌<◌, Option, Some, None, IfSome}
 use Rattle.seg_text.specs.Items.{Item}
 use Rattle.seg_pairs.specs.declared.elements.Element.{Element}
-use Rattle.seg_line_rules.specs.LineClasses.{LineEngine, class_number}
+use Rattle.seg_line_rules.specs.declared.engines.LineEngine.{LineEngine}
+use Rattle.seg_line_rules.specs.LineClasses.{class_number}
 use Rattle.seg_line_rules.specs.LineClasses.LineClass.{BK, CM, CM_EASTASIAN, CR, LF, NL, SP, ZW, ZWJ}
-use Rattle.seg_line_rules.specs.LineClasses.LineEngine.{Classic, Seventeen}
+use Rattle.seg_line_rules.specs.declared.engines.LineEngine.TheVariants.{Classic, Seventeen}
 use Rattle.seg_line_rules.specs.LineRules.{TableRules, line_class, is_one_of}
 
 -- a code point that isn't glued, which is its base, and the marks after it: the class of the base and its code point, that which lists

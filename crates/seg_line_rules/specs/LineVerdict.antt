@@ -11,7 +11,7 @@ use Rattle.seg_pairs.specs.declared.verdicts.Step.{Step}
 use Rattle.seg_pairs.specs.declared.verdicts.Step.TheVariants as steps
 use Rattle.seg_line_rules.specs.declared.verdicts.Case.{Case}
 use Rattle.seg_line_rules.specs.declared.verdicts.Case.TheVariants.{Run, Together, Apart, Table}
-use Rattle.seg_line_rules.specs.LineClasses.{LineEngine}
+use Rattle.seg_line_rules.specs.declared.engines.LineEngine.{LineEngine}
 use Rattle.seg_line_rules.specs.LineRules.{TableRules, is_complex_class}
 use Rattle.seg_line_rules.specs.LineLists.{keeps, listed}
 use Rattle.seg_line_rules.specs.LineUnits.{LineUnit}

@@ -8,6 +8,7 @@ ghost use Rattle.seg_text.specs.Boundaries.{GivesNext, IsCover, boundary, offset
 ghost use Rattle.seg_clusters.specs.Payloads.{payloads_of, run_cuts_by};
 ghost use Rattle.seg_line_rules.specs.LineBoundaries.{inside, table_line_boundaries_of, rules_by};
 
+use crate::classic::ClassicEngine;
 use crate::events::{LineEvent, LineEvents, LineSource};
 use crate::inside_cuts::InsideCuts;
 use crate::line_pairs::LinePairs;
@@ -107,7 +108,7 @@ impl<'data, S: LineSource> Iterator for TableLines<'data, S> {
 
 /// The boundaries of lines in what is left of a text by the classic engine. Takes no memory.
 pub fn classic_lines<'data, I: Cursor>(
-    pairs: LinePairs<'data>,
+    pairs: LinePairs<'data, ClassicEngine>,
     payloads: ComplexPayloadsBorrowed<'data>,
     text: I,
 ) -> TableLines<'data, LineEvents<'data, I>>

@@ -9,6 +9,9 @@ ghost use Rattle.seg_line_rules.specs.LineEvents.{HasClass, IsItemAhead, text_fr
 ghost use Rattle.seg_line_rules.specs.LineBoundaries.{rules_by};
 ghost use Rattle.seg_line_rules.specs.LineRules.{is_complex_point};
 
+use crate::classes::is_complex;
+use crate::classic::ClassicEngine;
+use crate::engines::PairEngine;
 use crate::line_pairs::LinePairs;
 use crate::plain_pairs::{ClassedItem, asks_more, plain_pairs};
 use crate::units::Units;
@@ -72,7 +75,7 @@ pub trait LineSource: Drop {
 /// A text whose lines are found event by event.
 #[derive(Debug, Drop)]
 pub struct LineEvents<'data, I: Cursor> {
-    pairs: LinePairs<'data>,
+    pairs: LinePairs<'data, ClassicEngine>,
     // What isn't read yet: as items, ..
     here: I,
     // .. and as the first of them, whose class is read already, ..
@@ -94,7 +97,7 @@ impl<'data, I: Cursor> Model for LineEvents<'data, I> {
 
 impl<'data, I: Cursor> LineEvents<'data, I> {
     /// The events of what is left of a text. Takes no memory.
-    pub fn new(pairs: LinePairs<'data>, text: I) -> Self
+    pub fn new(pairs: LinePairs<'data, ClassicEngine>, text: I) -> Self
         ensures { result ≡ record { rules = rules_by pairs.entry; text = I.text text } }
     {
         let mut rest = text.fork();
@@ -180,7 +183,7 @@ impl<'data, I: Cursor> LineSource for LineEvents<'data, I> {
 
 /// The first unit of a text whose first item is read already, and the units after it. `rest` has the items after that item.
 fn first_units<'data, I: Cursor>(
-    pairs: LinePairs<'data>,
+    pairs: LinePairs<'data, ClassicEngine>,
     first: ClassedItem,
     rest: I,
 ) -> (Element, Units<'data, I>)
@@ -195,7 +198,10 @@ fn first_units<'data, I: Cursor>(
 }
 
 /// The next item, with its class.
-fn next_classed<I: Cursor>(pairs: LinePairs<'_>, rest: &mut I) -> Option<ClassedItem>
+pub fn next_classed<E: PairEngine, I: Cursor>(
+    pairs: LinePairs<'_, E>,
+    rest: &mut I,
+) -> Option<ClassedItem>
     ensures { IsItemAhead (rules_by pairs.entry) (I.text rest.old) result (I.text rest.new) }
 {
     let Some((place, code_point)) = rest.next_item() else {
@@ -219,25 +225,25 @@ fn place_before<E: Elements>(next: Option<Element>, rest: &E) -> usize
 }
 
 /// Which code points are complex, as the options read their classes.
-#[derive(Clone, Copy, Debug)]
-struct ComplexPoints<'data> {
-    pairs: LinePairs<'data>,
+#[derive(Debug, Drop)]
+struct ComplexPoints<'data, E: PairEngine> {
+    pairs: LinePairs<'data, E>,
 }
 
-impl<'data> CodePointTest for ComplexPoints<'data> {
+impl<'data, E: PairEngine> CodePointTest for ComplexPoints<'data, E> {
     ghost use Rattle.seg_line_rules.specs.LineBoundaries.{rules_by};
     ghost use Rattle.seg_line_rules.specs.LineRules.{is_complex_point};
 
     ghost passes = { λ test code_point. is_complex_point (rules_by test.pairs) code_point };
 
     fn accepts(&self, code_point: u32) -> bool {
-        is_complex(self.pairs, code_point)
+        is_complex(E::ENGINE, self.pairs.table(), self.pairs.class(code_point))
     }
 }
 
 /// The run of complex items that a text begins with. `rest` goes on at the last of them. Apart, so that its loop has the registers.
 #[inline(never)]
-fn complex_run<I: Cursor>(pairs: LinePairs<'_>, rest: &mut I) -> (I, usize)
+pub fn complex_run<E: PairEngine, I: Cursor>(pairs: LinePairs<'_, E>, rest: &mut I) -> (I, usize)
     ensures run { I.text result.0 ≡ text_before (prefix_length (is_complex_point (rules_by pairs.entry)) (I.text rest.old)) (I.text rest.old) }
     ensures end { result.1 ≡ (I.text result.0).end }
     ensures rest { I.text rest.new ≡ rest_after (prefix_length (is_complex_point (rules_by pairs.entry)) (I.text rest.old) - 1) (I.text rest.old) }
@@ -247,7 +253,7 @@ fn complex_run<I: Cursor>(pairs: LinePairs<'_>, rest: &mut I) -> (I, usize)
 
 /// The longest beginning of a text whose code points pass a test, as a text that ends there, and the place of its end: its places stay.
 /// `rest` goes on at the last of them. Takes no memory.
-pub fn take_run<I: Cursor, T: CodePointTest>(rest: &mut I, test: &T) -> (I, usize)
+fn take_run<I: Cursor, T: CodePointTest>(rest: &mut I, test: &T) -> (I, usize)
     ensures run { I.text result.0 ≡ text_before (prefix_length (T.passes test.now) (I.text rest.old)) (I.text rest.old) }
     ensures end { result.1 ≡ (I.text result.0).end }
     ensures rest { I.text rest.new ≡ rest_after (prefix_length (T.passes test.now) (I.text rest.old) - 1) (I.text rest.old) }
@@ -277,11 +283,4 @@ fn run_ends<I: Cursor, T: CodePointTest>(rest: &I, test: &T) -> (usize, usize)
             None => return (last, place),
         }
     }
-}
-
-/// Whether a code point is complex, as the options read its class.
-fn is_complex(pairs: LinePairs<'_>, code_point: u32) -> bool
-    ensures { result ≡ is_complex_point (rules_by pairs.entry) code_point }
-{
-    pairs.class(code_point) == pairs.table().complex_property()
 }

@@ -1,20 +1,21 @@
 //! What stands between two units of lines, whatever the table says.
 ghost use Rattle.std.specs.Prelude.{◌≡◌, [], ◌∷◌, Bool, ◌&&◌, not, true, Some, None, if◌then◌else◌};
 ghost use Rattle.std.specs.Option.{option_map};
-ghost use Rattle.seg_line_rules.specs.LineClasses.LineEngine.{Classic};
-ghost use Rattle.seg_line_rules.specs.LineLists.{fits, is_kept, is_normal_listed, keeps, listed, loose_list, loose_rows, hyphen_row, wave_row, iteration_row, middle_dot_row, leader_row, exclamation_row, wide_postfix_row, wide_prefix_row};
-ghost use Rattle.seg_line_rules.specs.LineRules.{is_among};
+ghost use Rattle.seg_line_rules.specs.declared.engines.LineEngine.TheVariants.{Seventeen};
+ghost use Rattle.seg_line_rules.specs.LineClasses.LineClass.{IN, IN_EASTASIAN, NS, NS_EASTASIAN};
+ghost use Rattle.seg_line_rules.specs.LineLists.{fits, is_normal_listed, keeps, listed, loose_list, loose_rows, hyphen_row, wave_row, iteration_row, middle_dot_row, leader_row, exclamation_row, wide_postfix_row, postfix_row, wide_prefix_row, prefix_row};
+ghost use Rattle.seg_line_rules.specs.LineRules.{is_among, is_one_of};
 
+use crate::classes::{self, is_kept};
+use crate::engines::LineEngine;
 use crate::options::{LineBreakStrictness, LineStyle};
-use seg_pairs::elements::Element;
-use seg_pairs::provider::RuleBreakData;
 
-/// Two units side by side: the class of the left one and its code point, and those of the right one.
+/// Two units side by side: the class of the left one and the code point that lists look at, and the class and the code point of the right one.
 #[derive(Clone, Copy, Debug)]
 pub struct Neighbours {
     /// The class of the left unit.
     pub left: u8,
-    /// The code point of the left unit.
+    /// The code point of the left unit: its base, for the engine 17 its last.
     pub left_code_point: u32,
     /// The class of the right unit.
     pub right: u8,
@@ -22,52 +23,37 @@ pub struct Neighbours {
     pub right_code_point: u32,
 }
 
-/// Whether no boundary stands between two units under `KeepAll`.
+/// Whether no boundary stands between two classes under `KeepAll`.
 #[tactic(auto, unfolding(crate::specs::LineLists::keeps))]
-pub(crate) fn keeps(style: LineStyle, left: Element, right: Element) -> bool
-    ensures { result ≡ keeps Classic style left.class right.class }
+#[inline(always)]
+pub fn keeps(engine: LineEngine, style: LineStyle, left: u8, right: u8) -> bool
+    ensures { result ≡ keeps engine style left right }
 {
-    style.word_option.is_keep_all() && is_kept(left.class) && is_kept(right.class)
+    style.keeps_all() && is_kept(engine, left) && is_kept(engine, right)
 }
 
-/// Whether the class is one that `KeepAll` keeps together.
-#[tactic(auto, unfolding(crate::specs::LineLists::is_kept))]
-fn is_kept(class: u8) -> bool
-    ensures { result ≡ is_kept Classic class }
-{
-    class == RuleBreakData::LINE_PROPERTY_AI
-        || class == RuleBreakData::LINE_PROPERTY_AL
-        || class == RuleBreakData::LINE_PROPERTY_ID
-        || class == RuleBreakData::LINE_PROPERTY_NU
-        || class == RuleBreakData::LINE_PROPERTY_HY
-        || class == RuleBreakData::LINE_PROPERTY_H2
-        || class == RuleBreakData::LINE_PROPERTY_H3
-        || class == RuleBreakData::LINE_PROPERTY_JL
-        || class == RuleBreakData::LINE_PROPERTY_JV
-        || class == RuleBreakData::LINE_PROPERTY_JT
-        || class == RuleBreakData::LINE_PROPERTY_CJ
-}
-
-/// Whether a boundary stands between two units by the list of the strictness, where it decides.
+/// Whether a boundary stands between two units by the list of the strictness, where it decides. `is_joined`: the left unit ends with ZWJ.
 #[tactic(auto, unfolding(crate::specs::LineLists::listed))]
-pub(crate) fn listed(style: LineStyle, left: Element, right: Element) -> Option<bool>
-    ensures { result ≡ listed Classic style left.is_joined left.class left.code_point right.class right.code_point }
+#[inline(always)]
+pub fn listed(
+    engine: LineEngine,
+    style: LineStyle,
+    is_joined: bool,
+    pair: Neighbours,
+) -> Option<bool>
+    ensures { result ≡ listed engine style is_joined pair.left pair.left_code_point pair.right pair.right_code_point }
 {
-    let pair = Neighbours {
-        left: left.class,
-        left_code_point: left.code_point,
-        right: right.class,
-        right_code_point: right.code_point,
-    };
     match style.strictness {
-        LineBreakStrictness::Normal => by_normal_list(style, left.is_joined, right.code_point),
-        LineBreakStrictness::Loose => unless_joined(left.is_joined, loose(style.is_ja_or_zh, pair)),
+        LineBreakStrictness::Normal => by_normal_list(style, is_joined, pair.right_code_point),
+        LineBreakStrictness::Loose => {
+            unless_joined(is_joined, loose(engine, style.is_ja_or_zh, pair))
+        }
         _ => None,
     }
 }
 
 /// Whether a boundary stands before a code point by the Normal list, where it decides. `is_joined`: ZWJ stands before it.
-pub fn by_normal_list(style: LineStyle, is_joined: bool, code_point: u32) -> Option<bool>
+fn by_normal_list(style: LineStyle, is_joined: bool, code_point: u32) -> Option<bool>
     ensures { result ≡ (if is_normal_listed style code_point && not is_joined then Some true else None) }
 {
     if style.is_ja_or_zh && is_wave(code_point) && !is_joined {
@@ -78,7 +64,7 @@ pub fn by_normal_list(style: LineStyle, is_joined: bool, code_point: u32) -> Opt
 }
 
 /// What a list says, but no boundary after ZWJ.
-pub fn unless_joined(is_joined: bool, breaks: Option<bool>) -> Option<bool>
+fn unless_joined(is_joined: bool, breaks: Option<bool>) -> Option<bool>
     ensures { result ≡ option_map (λ (said : Bool). said && not is_joined) breaks }
 {
     match breaks {
@@ -89,100 +75,163 @@ pub fn unless_joined(is_joined: bool, breaks: Option<bool>) -> Option<bool>
 
 /// What the first row of the loose list says that fits, if one fits.
 #[tactic(auto, unfolding(crate::specs::LineLists::loose_list, crate::specs::LineLists::loose_rows))]
-fn loose(is_ja_or_zh: bool, pair: Neighbours) -> Option<bool>
-    ensures { result ≡ loose_list (loose_rows Classic) is_ja_or_zh pair.left pair.left_code_point pair.right pair.right_code_point }
+fn loose(engine: LineEngine, is_ja_or_zh: bool, pair: Neighbours) -> Option<bool>
+    ensures { result ≡ loose_list (loose_rows engine) is_ja_or_zh pair.left pair.left_code_point pair.right pair.right_code_point }
 {
+    let from_signs = match engine {
+        LineEngine::Classic => by_wide_signs(engine, is_ja_or_zh, pair),
+        LineEngine::Seventeen => by_signs(is_ja_or_zh, pair),
+    };
+    let from_exclamation = by_row(fits_exclamation(engine, pair), is_ja_or_zh, from_signs);
+    let from_leader = by_row(fits_leader(engine, pair), true, from_exclamation);
+    let from_middle_dot = by_row(fits_middle_dot(engine, pair), is_ja_or_zh, from_leader);
+    let from_iteration = by_row(fits_iteration(engine, pair), true, from_middle_dot);
+    let from_wave = by_row(fits_wave(engine, pair), is_ja_or_zh, from_iteration);
+    by_row(fits_hyphen(engine, pair), true, from_wave)
+}
+
+/// What the rows of wide signs say.
+#[tactic(auto, unfolding(crate::specs::LineLists::loose_list))]
+fn by_wide_signs(engine: LineEngine, is_ja_or_zh: bool, pair: Neighbours) -> Option<bool>
+    ensures { result ≡ loose_list (wide_postfix_row engine ∷ wide_prefix_row engine ∷ []) is_ja_or_zh pair.left pair.left_code_point pair.right pair.right_code_point }
+{
+    let from_prefix = by_row(fits_wide_prefix(engine, pair), is_ja_or_zh, None);
+    by_row(fits_wide_postfix(engine, pair), is_ja_or_zh, from_prefix)
+}
+
+/// What the rows of signs say, by the engine 17.
+#[tactic(auto, unfolding(crate::specs::LineLists::loose_list))]
+fn by_signs(is_ja_or_zh: bool, pair: Neighbours) -> Option<bool>
+    ensures { result ≡ loose_list (wide_postfix_row Seventeen ∷ postfix_row ∷ wide_prefix_row Seventeen ∷ prefix_row ∷ []) is_ja_or_zh pair.left pair.left_code_point pair.right pair.right_code_point }
+{
+    let engine = LineEngine::Seventeen;
     let from_prefix = by_row(fits_prefix(pair), is_ja_or_zh, None);
-    let from_postfix = by_row(fits_postfix(pair), is_ja_or_zh, from_prefix);
-    let from_exclamation = by_row(fits_exclamation(pair), is_ja_or_zh, from_postfix);
-    let from_leader = by_row(fits_leader(pair), true, from_exclamation);
-    let from_middle_dot = by_row(fits_middle_dot(pair), is_ja_or_zh, from_leader);
-    let from_iteration = by_row(fits_iteration(pair), true, from_middle_dot);
-    let from_wave = by_row(fits_wave(pair), is_ja_or_zh, from_iteration);
-    by_row(fits_hyphen(pair), true, from_wave)
+    let from_wide_prefix = by_row(fits_wide_prefix(engine, pair), is_ja_or_zh, from_prefix);
+    let from_postfix = by_row(fits_postfix(pair), is_ja_or_zh, from_wide_prefix);
+    by_row(fits_wide_postfix(engine, pair), is_ja_or_zh, from_postfix)
 }
 
 /// What a row says where it fits, or else what the rows after it say.
-pub fn by_row(fits: bool, breaks: bool, otherwise: Option<bool>) -> Option<bool>
+fn by_row(fits: bool, breaks: bool, otherwise: Option<bool>) -> Option<bool>
     ensures { result ≡ (if fits then Some breaks else otherwise) }
 {
     if fits { Some(breaks) } else { otherwise }
 }
 
 /// Whether the row of hyphens fits.
-fn fits_hyphen(pair: Neighbours) -> bool
-    ensures { result ≡ fits pair.left pair.left_code_point pair.right pair.right_code_point (hyphen_row Classic) }
+fn fits_hyphen(engine: LineEngine, pair: Neighbours) -> bool
+    ensures { result ≡ fits pair.left pair.left_code_point pair.right pair.right_code_point (hyphen_row engine) }
 {
-    pair.right == RuleBreakData::LINE_PROPERTY_BA
+    (engine == LineEngine::Seventeen || pair.right == classes::BA.by(engine))
         && is_hyphen(pair.right_code_point)
-        && pair.left == RuleBreakData::LINE_PROPERTY_ID
+        && (pair.left == classes::ID.by(engine) || pair.left == classes::ID_EASTASIAN.by(engine))
 }
 
 /// Whether the row of wave dashes fits.
-fn fits_wave(pair: Neighbours) -> bool
-    ensures { result ≡ fits pair.left pair.left_code_point pair.right pair.right_code_point (wave_row Classic) }
+fn fits_wave(engine: LineEngine, pair: Neighbours) -> bool
+    ensures { result ≡ fits pair.left pair.left_code_point pair.right pair.right_code_point (wave_row engine) }
 {
-    pair.right == RuleBreakData::LINE_PROPERTY_NS && is_wave(pair.right_code_point)
+    is_nonstarter(engine, pair.right) && is_wave(pair.right_code_point)
 }
 
 /// Whether the row of iteration marks fits.
-fn fits_iteration(pair: Neighbours) -> bool
-    ensures { result ≡ fits pair.left pair.left_code_point pair.right pair.right_code_point (iteration_row Classic) }
+fn fits_iteration(engine: LineEngine, pair: Neighbours) -> bool
+    ensures { result ≡ fits pair.left pair.left_code_point pair.right pair.right_code_point (iteration_row engine) }
 {
-    pair.right == RuleBreakData::LINE_PROPERTY_NS && is_iteration(pair.right_code_point)
+    is_nonstarter(engine, pair.right) && is_iteration(pair.right_code_point)
 }
 
 /// Whether the row of middle dots, colons and doubled signs fits.
-fn fits_middle_dot(pair: Neighbours) -> bool
-    ensures { result ≡ fits pair.left pair.left_code_point pair.right pair.right_code_point (middle_dot_row Classic) }
+fn fits_middle_dot(engine: LineEngine, pair: Neighbours) -> bool
+    ensures { result ≡ fits pair.left pair.left_code_point pair.right pair.right_code_point (middle_dot_row engine) }
 {
-    pair.right == RuleBreakData::LINE_PROPERTY_NS && is_middle_dot(pair.right_code_point)
+    is_nonstarter(engine, pair.right) && is_middle_dot(pair.right_code_point)
 }
 
 /// Whether the row of leaders fits.
-fn fits_leader(pair: Neighbours) -> bool
-    ensures { result ≡ fits pair.left pair.left_code_point pair.right pair.right_code_point (leader_row Classic) }
+fn fits_leader(engine: LineEngine, pair: Neighbours) -> bool
+    ensures { result ≡ fits pair.left pair.left_code_point pair.right pair.right_code_point (leader_row engine) }
 {
-    pair.right == RuleBreakData::LINE_PROPERTY_IN && pair.left == RuleBreakData::LINE_PROPERTY_IN
+    is_leader(engine, pair.right) && is_leader(engine, pair.left)
 }
 
 /// Whether the row of exclamation and question marks fits.
-fn fits_exclamation(pair: Neighbours) -> bool
-    ensures { result ≡ fits pair.left pair.left_code_point pair.right pair.right_code_point (exclamation_row Classic) }
+fn fits_exclamation(engine: LineEngine, pair: Neighbours) -> bool
+    ensures { result ≡ fits pair.left pair.left_code_point pair.right pair.right_code_point (exclamation_row engine) }
 {
-    pair.right == RuleBreakData::LINE_PROPERTY_EX && is_exclamation(pair.right_code_point)
+    (pair.right == classes::EX.by(engine) || pair.right == classes::EX_EASTASIAN.by(engine))
+        && is_exclamation(pair.right_code_point)
 }
 
 /// Whether the row of wide signs after numbers fits.
-fn fits_postfix(pair: Neighbours) -> bool
-    ensures { result ≡ fits pair.left pair.left_code_point pair.right pair.right_code_point (wide_postfix_row Classic) }
+fn fits_wide_postfix(engine: LineEngine, pair: Neighbours) -> bool
+    ensures { result ≡ fits pair.left pair.left_code_point pair.right pair.right_code_point (wide_postfix_row engine) }
 {
-    pair.right == RuleBreakData::LINE_PROPERTY_PO_EAW
+    pair.right == classes::PO_EASTASIAN.by(engine)
+}
+
+/// Whether the row of signs after numbers fits.
+fn fits_postfix(pair: Neighbours) -> bool
+    ensures { result ≡ fits pair.left pair.left_code_point pair.right pair.right_code_point postfix_row }
+{
+    pair.right == classes::PO.by(LineEngine::Seventeen)
+        && (pair.right_code_point == 0x00B0
+            || pair.right_code_point == 0x2030
+            || pair.right_code_point == 0x2032
+            || pair.right_code_point == 0x2033
+            || pair.right_code_point == 0x2035
+            || pair.right_code_point == 0x2103
+            || pair.right_code_point == 0x2109)
 }
 
 /// Whether the row of wide signs before numbers fits.
-fn fits_prefix(pair: Neighbours) -> bool
-    ensures { result ≡ fits pair.left pair.left_code_point pair.right pair.right_code_point (wide_prefix_row Classic) }
+fn fits_wide_prefix(engine: LineEngine, pair: Neighbours) -> bool
+    ensures { result ≡ fits pair.left pair.left_code_point pair.right pair.right_code_point (wide_prefix_row engine) }
 {
-    pair.left == RuleBreakData::LINE_PROPERTY_PR_EAW
+    pair.left == classes::PR_EASTASIAN.by(engine)
+}
+
+/// Whether the row of signs before numbers fits.
+fn fits_prefix(pair: Neighbours) -> bool
+    ensures { result ≡ fits pair.left pair.left_code_point pair.right pair.right_code_point prefix_row }
+{
+    pair.left == classes::PR.by(LineEngine::Seventeen)
+        && (pair.left_code_point == 0x00A4
+            || pair.left_code_point == 0x00B1
+            || pair.left_code_point == 0x20AC
+            || pair.left_code_point == 0x2116)
+}
+
+/// Whether the class is one of those that don't begin a line.
+fn is_nonstarter(engine: LineEngine, class: u8) -> bool
+    ensures { result ≡ is_one_of engine (NS ∷ NS_EASTASIAN ∷ []) class }
+{
+    class == classes::NS.by(engine) || class == classes::NS_EASTASIAN.by(engine)
+}
+
+/// Whether the class is one of leaders.
+fn is_leader(engine: LineEngine, class: u8) -> bool
+    ensures { result ≡ is_one_of engine (IN ∷ IN_EASTASIAN ∷ []) class }
+{
+    class == classes::IN.by(engine) || class == classes::IN_EASTASIAN.by(engine)
 }
 
 /// Whether the code point is a hyphen or an en dash.
-pub fn is_hyphen(code_point: u32) -> bool
+fn is_hyphen(code_point: u32) -> bool
     ensures { result ≡ is_among (0x2010 ∷ 0x2013 ∷ []) code_point }
 {
     code_point == 0x2010 || code_point == 0x2013
 }
 
 /// Whether the code point is a wave dash, or the double hyphen of katakana.
-pub fn is_wave(code_point: u32) -> bool
+fn is_wave(code_point: u32) -> bool
     ensures { result ≡ is_among (0x301C ∷ 0x30A0 ∷ []) code_point }
 {
     code_point == 0x301C || code_point == 0x30A0
 }
 
 /// Whether the code point is an iteration mark.
-pub fn is_iteration(code_point: u32) -> bool
+fn is_iteration(code_point: u32) -> bool
     ensures { result ≡ is_among (0x3005 ∷ 0x303B ∷ 0x309D ∷ 0x309E ∷ 0x30FD ∷ 0x30FE ∷ []) code_point }
 {
     code_point == 0x3005
@@ -194,7 +243,7 @@ pub fn is_iteration(code_point: u32) -> bool
 }
 
 /// Whether the code point is a middle dot, a wide colon or semicolon, or a doubled sign.
-pub fn is_middle_dot(code_point: u32) -> bool
+fn is_middle_dot(code_point: u32) -> bool
     ensures { result ≡ is_among (0x30FB ∷ 0xFF1A ∷ 0xFF1B ∷ 0xFF65 ∷ 0x203C ∷ 0x2047 ∷ 0x2048 ∷ 0x2049 ∷ []) code_point }
 {
     code_point == 0x30FB
@@ -208,7 +257,7 @@ pub fn is_middle_dot(code_point: u32) -> bool
 }
 
 /// Whether the code point is a wide exclamation or question mark.
-pub fn is_exclamation(code_point: u32) -> bool
+fn is_exclamation(code_point: u32) -> bool
     ensures { result ≡ is_among (0xFF01 ∷ 0xFF1F ∷ []) code_point }
 {
     code_point == 0xFF01 || code_point == 0xFF1F

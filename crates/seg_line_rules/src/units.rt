@@ -1,22 +1,23 @@
 //! The units of a text of lines, each read once.
 
 ghost use Rattle.std.specs.Prelude.{◌≡◌, ◌<◌, ◌∷◌, [], None, IfSome};
-ghost use Rattle.seg_line_rules.specs.LineClasses.LineEngine.{Classic};
 ghost use Rattle.seg_line_rules.specs.LineEvents.{HasClass, text_from};
 ghost use Rattle.seg_line_rules.specs.LineBoundaries.{rules_by};
-ghost use Rattle.seg_line_rules.specs.LineUnits.{bears_none, is_glued, is_mark, base_element, base_of, elements_after, elements_from, line_elements, marked_element};
+ghost use Rattle.seg_line_rules.specs.LineUnits.{base_element, base_of, elements_after, elements_from, line_elements, marked_element};
 
+use crate::classes::{is_glued, is_joiner};
+use crate::classic::ClassicEngine;
+use crate::engines::LineEngine;
 use crate::line_pairs::LinePairs;
 use crate::plain_pairs::ClassedItem;
 use seg_pairs::elements::{Element, Elements};
-use seg_pairs::provider::RuleBreakData;
 use seg_text::cursor::Cursor;
 use std::marker::Model;
 
 /// The units of a text as elements: a code point that isn't glued, with the marks after it.
 #[derive(Debug, Drop)]
 pub struct Units<'data, I: Cursor> {
-    pairs: LinePairs<'data>,
+    pairs: LinePairs<'data, ClassicEngine>,
     // The first item of the next unit, which is read already.
     first: Option<Element>,
     // The items after it.
@@ -36,7 +37,7 @@ impl<'data, I: Cursor> Model for Units<'data, I> {
 
 impl<'data, I: Cursor> Units<'data, I> {
     /// The units of what is left of a text. Takes no memory.
-    pub fn new(pairs: LinePairs<'data>, text: I) -> Self
+    pub fn new(pairs: LinePairs<'data, ClassicEngine>, text: I) -> Self
         ensures { result ≡ record { rules = rules_by pairs.entry; left = line_elements (rules_by pairs.entry) (I.text text).items; end = (I.text text).end } }
     {
         let mut rest = text;
@@ -48,7 +49,11 @@ impl<'data, I: Cursor> Units<'data, I> {
     }
 
     /// The units of a text whose first item is read already. `rest` has the items after it. Takes no memory.
-    pub(crate) fn from_item(pairs: LinePairs<'data>, first: ClassedItem, rest: I) -> Self
+    pub(crate) fn from_item(
+        pairs: LinePairs<'data, ClassicEngine>,
+        first: ClassedItem,
+        rest: I,
+    ) -> Self
         requires { HasClass (rules_by pairs) first }
         ensures { result ≡ record { rules = rules_by pairs.entry; left = line_elements (rules_by pairs.entry) (text_from first (I.text rest)).items; end = (I.text rest).end } }
     {
@@ -78,7 +83,7 @@ impl<'data, I: Cursor> Elements for Units<'data, I> {
             return Some(base);
         };
         let class = self.pairs.class(code_point);
-        if !is_glued(base.class, class) {
+        if !is_glued(LineEngine::Classic, base.class, class) {
             self.first = Some(base_element(place, code_point, class));
             return Some(base);
         }
@@ -106,7 +111,7 @@ impl<'data, I: Cursor> Elements for Units<'data, I> {
 /// The unit that begins with this base, and the base after it. `rest` has the items after the one, and then those after the other.
 #[inline(never)]
 fn read_unit<I: Cursor>(
-    pairs: LinePairs<'_>,
+    pairs: LinePairs<'_, ClassicEngine>,
     base: Element,
     rest: &mut I,
 ) -> (Element, Option<Element>)
@@ -122,7 +127,7 @@ fn read_unit<I: Cursor>(
             return (unit, None);
         };
         let class = pairs.class(code_point);
-        if !is_glued(unit.class, class) {
+        if !is_glued(LineEngine::Classic, unit.class, class) {
             return (unit, Some(base_element(place, code_point, class)));
         }
         unit = marked_element(unit, class);
@@ -130,7 +135,7 @@ fn read_unit<I: Cursor>(
 }
 
 /// An item as a unit of its own.
-fn base(pairs: LinePairs<'_>, place: usize, code_point: u32) -> Element
+fn base(pairs: LinePairs<'_, ClassicEngine>, place: usize, code_point: u32) -> Element
     ensures element { result ≡ base_of (rules_by pairs.entry) (place, code_point) }
     ensures below { result.class < (rules_by pairs.entry).table.property_count }
 {
@@ -145,7 +150,7 @@ fn base_element(place: usize, code_point: u32, class: u8) -> Element
         class,
         place,
         code_point,
-        is_joined: class == RuleBreakData::LINE_PROPERTY_ZWJ,
+        is_joined: is_joiner(LineEngine::Classic, class),
         is_single: true,
     }
 }
@@ -158,35 +163,7 @@ fn marked_element(unit: Element, class: u8) -> Element
         class: unit.class,
         place: unit.place,
         code_point: unit.code_point,
-        is_joined: class == RuleBreakData::LINE_PROPERTY_ZWJ,
+        is_joined: is_joiner(LineEngine::Classic, class),
         is_single: false,
     }
-}
-
-/// Whether an item of this class is glued to a unit whose base has that class.
-fn is_glued(base: u8, class: u8) -> bool
-    ensures { result ≡ is_glued Classic base class }
-{
-    is_mark(class) && !bears_none(base)
-}
-
-/// Whether the class is one of marks.
-#[tactic(auto, unfolding(crate::specs::LineUnits::is_mark))]
-pub(crate) fn is_mark(class: u8) -> bool
-    ensures { result ≡ is_mark Classic class }
-{
-    class == RuleBreakData::LINE_PROPERTY_CM || class == RuleBreakData::LINE_PROPERTY_ZWJ
-}
-
-/// Whether a mark after a base of this class stands alone.
-#[tactic(auto, unfolding(crate::specs::LineUnits::bears_none))]
-fn bears_none(class: u8) -> bool
-    ensures { result ≡ bears_none Classic class }
-{
-    class == RuleBreakData::LINE_PROPERTY_BK
-        || class == RuleBreakData::LINE_PROPERTY_CR
-        || class == RuleBreakData::LINE_PROPERTY_LF
-        || class == RuleBreakData::LINE_PROPERTY_NL
-        || class == RuleBreakData::LINE_PROPERTY_SP
-        || class == RuleBreakData::LINE_PROPERTY_ZW
 }

@@ -7,8 +7,10 @@ ghost use Rattle.seg_line_rules.specs.LineBoundaries.{rules_by};
 ghost use Rattle.seg_line_rules.specs.LineVerdict.{step_unless, begins_run, case_of, unit_first_verdict, unit_named_verdict, unit_verdict};
 ghost use Rattle.seg_line_rules.specs.LineUnits.{unit_seen, units_seen};
 
+use crate::classic::ClassicEngine;
+use crate::engines::LineEngine;
 use crate::line_pairs::LinePairs;
-use crate::lists::{keeps, listed};
+use crate::lists::{Neighbours, keeps, listed};
 use seg_pairs::elements::{Element, Elements};
 use seg_pairs::provider::{BreakState, RuleBreakData};
 use seg_pairs::verdicts::{Step, Verdicts};
@@ -28,16 +30,23 @@ pub enum Case {
 }
 
 /// What decides between two units: the first case that applies.
-pub fn case_of(pairs: LinePairs<'_>, left: Element, right: Element) -> Case
+pub fn case_of(pairs: LinePairs<'_, ClassicEngine>, left: Element, right: Element) -> Case
     ensures { result ≡ case_of (rules_by pairs.entry) (unit_seen left) (unit_seen right) }
 {
     if begins_run(pairs, left, right) {
         return Case::Run;
     }
-    if keeps(pairs.style(), left, right) {
+    let engine = LineEngine::Classic;
+    if keeps(engine, pairs.style(), left.class, right.class) {
         return Case::Together;
     }
-    match listed(pairs.style(), left, right) {
+    let pair = Neighbours {
+        left: left.class,
+        left_code_point: left.code_point,
+        right: right.class,
+        right_code_point: right.code_point,
+    };
+    match listed(engine, pairs.style(), left.is_joined, pair) {
         Some(true) => Case::Apart,
         Some(false) => Case::Together,
         None => Case::Table,
@@ -45,7 +54,7 @@ pub fn case_of(pairs: LinePairs<'_>, left: Element, right: Element) -> Case
 }
 
 /// Whether a run of complex code points begins with the left unit.
-fn begins_run(pairs: LinePairs<'_>, left: Element, right: Element) -> bool
+fn begins_run(pairs: LinePairs<'_, ClassicEngine>, left: Element, right: Element) -> bool
     ensures { result ≡ begins_run (rules_by pairs.entry) (unit_seen left) (unit_seen right) }
 {
     let complex = pairs.table().complex_property();
@@ -56,7 +65,7 @@ fn begins_run(pairs: LinePairs<'_>, left: Element, right: Element) -> bool
 #[derive(Clone, Copy, Debug)]
 pub struct LineVerdicts<'data> {
     /// The pair table, and what options say.
-    pub pairs: LinePairs<'data>,
+    pub pairs: LinePairs<'data, ClassicEngine>,
 }
 
 impl<'data> Verdicts for LineVerdicts<'data> {

@@ -3,29 +3,28 @@ use Rattle.std.proofs.Common.{◌≡◌, ℕ, suc, ◌&&◌, ◌||◌, not, Bool
 use Rattle.std.proofs.lemmas.Bool.{eqb-true}
 use Rattle.seg_text.specs.declared.boundary.Boundary.{Boundary}
 use Rattle.seg_text.specs.Boundaries.{boundary, boundary_in, boundaries_in, Cuts}
-use Rattle.seg_text.specs.Items.{Item, Text, start_of, rest_after, code_points}
+use Rattle.seg_text.specs.Items.{Text, rest_after, code_points}
 use Rattle.seg_pairs.specs.declared.provider.pairs.BreakState.{BreakState}
 use Rattle.seg_pairs.specs.declared.provider.pairs.BreakState.TheVariants as entries
 use Rattle.seg_pairs.specs.PairTable.{entry_of}
 use Rattle.seg_line_rules.specs.LineRules.{TableRules, is_one_of, is_complex_context, line_class}
-use Rattle.seg_line_rules.specs.LineEvents.{asks_more, text_from, HasClass}
-use Rattle.seg_line_rules.specs.declared.plain_pairs.PlainPair.{PlainPair}
-use Rattle.seg_line_rules.specs.declared.plain_pairs.PlainPair.TheVariants as plain
+use Rattle.seg_line_rules.specs.LineEvents.{FollowsPairs, asks_more, text_from, HasClass}
+use Rattle.seg_line_rules.specs.declared.engines.PlainPair.{PlainPair}
+use Rattle.seg_line_rules.specs.declared.engines.PlainPair.TheVariants as plain
 use Rattle.seg_line_rules.specs.declared.plain_pairs.ClassedItem.{ClassedItem}
 use Rattle.seg_line_rules.specs.LineClasses.{class_number}
 use Rattle.seg_line_rules.specs.LineClasses.LineClass.{CM, CM_EASTASIAN, HH, HY, IS, QU_PF, SA, SA_MC_MN, SP, ZWJ}
-use Rattle.seg_line_rules.specs.LineClasses.LineEngine.{Seventeen}
+use Rattle.seg_line_rules.specs.declared.engines.LineEngine.TheVariants.{Seventeen}
+use Rattle.seg_line_rules.proofs.Marks.{none-among}
 use Rattle.seg_line_rules.proofs.PlainPairs.{and-first, and-last, and-off, if-off, keeps-off, listed-off, not-true, said-break, said-go}
-use Rattle.seg_line_turns.specs.TurnEvents.{IsPassedByTurns, entry_turn, going_text, is_asked, is_plain_turn, is_unanswered, passed_turns, plain_turn, unread_turns}
+use Rattle.seg_line_turns.specs.TurnEvents.{entry_turn, going_text, is_asked, is_plain_turn, is_unanswered, plain_turn, unread_turns}
 use Rattle.seg_line_turns.specs.TurnBoundaries.{later_turns, turn_stretch_of}
 use Rattle.seg_line_turns.specs.TurnClasses.{is_before_hyphen, is_before_quote, is_glue, is_hyphen, is_infix, is_opening, is_quote, is_space}
 use Rattle.seg_line_turns.specs.TurnRules.{LeftUnit, is_joined, left_unit}
 use Rattle.seg_line_turns.specs.Turns.{Turn, class_turn, list_turn, right_turn, table_turn, turn}
 use Rattle.seg_line_turns.specs.Turns.Turn.{BreakAt, GoTo}
 use Rattle.seg_line_turns.proofs.TurnEvents.{turn-next}
-use Rattle.seg_line_turns.proofs.TurnPlaces.{next-of}
 use Rattle.seg_line_turns.proofs.TurnReads.{turn-cons}
-use Rattle.seg_line_turns.proofs.TurnSets.{none-among}
 
 and-off-last : (a b : Bool) → b ≡ false → (a && b) ≡ false
 and-off-last true b off = off
@@ -214,65 +213,38 @@ module _ (rules : TableRules Seventeen) (opened : Bool) (left right : ℕ) (afte
       let both = entry-break _ _ said.1 in
       turn-plain few said.0 ∙ ap (table_turn rules opened unit class after) both.1 ∙ if-off _ _ _ both.0
 
--- one item more
-module _ (rules : TableRules Seventeen) (left right : ClassedItem) (rest after : Text) (few : asks_more rules.style ≡ false)
-    (left_class : HasClass rules left) (right_class : HasClass rules right)
-    (items : rest.items ≡ (right.place, right.code_point) ∷ after.items) (end : after.end ≡ rest.end) where
-  rest-is : rest ≡ text_from right after
-  rest-is =
-      ap (λ (items : List Item). record { items = items; end = rest.end }) items
-      ∙ ap (λ (end : ℕ). record { items = (right.place, right.code_point) ∷ after.items; end = end }) (sym end)
+-- what is found in a text follows from its pairs
+module _ (rules : TableRules Seventeen) (few : asks_more rules.style ≡ false) (cuts : Cuts) where
+  abbrev found : Bool → Text → List Boundary
+  found opened text = unread_turns cuts (going_text rules opened text)
 
-  same-said : (said : PlainPair) → said ≡ plain_turn rules.table left.class right.class
-      → plain_turn rules.table (line_class rules left.code_point) (line_class rules right.code_point) ≡ said
-  same-said said is =
-      ap (λ class. plain_turn rules.table class (line_class rules right.code_point)) (sym left_class.is)
-      ∙ ap (plain_turn rules.table left.class) (sym right_class.is) ∙ sym is
+  module _ (opened : Bool) (left right : ClassedItem) (after : Text) (left_class : HasClass rules left) (right_class : HasClass rules right) where
+    abbrev rest : Text
+    rest = text_from right after
 
-  points : code_points rest.items ≡ right.code_point ∷ code_points after.items
-  points = ap code_points items
+    same-said : (said : PlainPair) → plain_turn rules.table left.class right.class ≡ said
+        → plain_turn rules.table (line_class rules left.code_point) (line_class rules right.code_point) ≡ said
+    same-said said is =
+        ap (λ class. plain_turn rules.table class (line_class rules right.code_point)) (sym left_class.is)
+        ∙ ap (plain_turn rules.table left.class) (sym right_class.is) ∙ is
 
-  abbrev by_turn : Cuts → Turn → List Boundary
-  by_turn cuts found =
-      let here : Text = text_from left rest in
-      let s = turn_stretch_of cuts rules (code_points here.items) found in
-      map (boundary_in here) s.boundaries ++ boundaries_in (later_turns cuts rules false s.opened) (rest_after s.extent here)
+    abbrev by_turn : Turn → List Boundary
+    by_turn turned =
+        let here : Text = text_from left rest in
+        let s = turn_stretch_of cuts rules (code_points here.items) turned in
+        map (boundary_in here) s.boundaries ++ boundaries_in (later_turns cuts rules false s.opened) (rest_after s.extent here)
 
-  first-turn : (opened : Bool) (cuts : Cuts) (found : Turn)
-      → turn rules opened (left_unit rules left.code_point) (right.code_point ∷ code_points after.items) ≡ found
-      → unread_turns cuts (going_text rules opened (text_from left rest)) ≡ by_turn cuts found
-  first-turn opened cuts found is =
-      (turn-next rules false opened (text_from left rest) rest (left.place, left.code_point) refl).leads cuts
-      ∙ ap (by_turn cuts) (ap (turn rules opened (left_unit rules left.code_point)) points ∙ is)
+    first-turn : (turned : Turn) → turn rules opened (left_unit rules left.code_point) (right.code_point ∷ code_points after.items) ≡ turned
+        → found opened (text_from left rest) ≡ by_turn turned
+    first-turn turned is = (turn-next rules false opened (text_from left rest) rest (left.place, left.code_point) refl).leads cuts ∙ ap by_turn is
 
-  go-on : plain.Go ≡ plain_turn rules.table left.class right.class → (opened : Bool) (cuts : Cuts)
-      → unread_turns cuts (going_text rules opened (text_from left rest)) ≡ passed_turns cuts rules opened false right after
-  go-on said opened cuts =
-      first-turn opened cuts (GoTo 1 opened) (go-plain rules opened left.code_point right.code_point (code_points after.items) few (same-said plain.Go said))
-      ∙ ap (λ (text : Text). unread_turns cuts (going_text rules opened text)) rest-is
+    go-on : plain_turn rules.table left.class right.class ≡ plain.Go → found opened (text_from left rest) ≡ found opened rest
+    go-on said =
+        first-turn (GoTo 1 opened) (go-plain rules opened left.code_point right.code_point (code_points after.items) few (same-said plain.Go said))
 
-  break-on : plain.Break ≡ plain_turn rules.table left.class right.class → (opened : Bool) (cuts : Cuts)
-      → unread_turns cuts (going_text rules opened (text_from left rest)) ≡ passed_turns cuts rules opened true right after
-  break-on said opened cuts =
-      first-turn opened cuts (BreakAt 1 1) (break-plain rules opened left.code_point right.code_point (code_points after.items) few (same-said plain.Break said))
-      ∙ ap (λ (text : Text). boundary (start_of text) 0 ∷ unread_turns cuts (going_text rules false text)) rest-is
+    break-on : plain_turn rules.table left.class right.class ≡ plain.Break → found opened (text_from left rest) ≡ boundary right.place 0 ∷ found false rest
+    break-on said =
+        first-turn (BreakAt 1 1) (break-plain rules opened left.code_point right.code_point (code_points after.items) few (same-said plain.Break said))
 
-  module _ (first : ClassedItem) (start : Text) (passed : IsPassedByTurns rules first start left rest false) where
-    text-on : text_from right after ≡ rest_after (suc passed.taken) (text_from first start)
-    text-on = sym rest-is ∙ (next-of (text_from first start) (text_from left rest) rest passed.taken (left.place, left.code_point) passed.text_is refl refl).after_is
-
-    pub passed-go : plain.Go ≡ plain_turn rules.table left.class right.class → IsPassedByTurns rules first start right after false
-    passed-go said = record {
-      taken = suc passed.taken;
-      text_is = text-on;
-      class = right_class;
-      leads = λ opened cuts. passed.leads opened cuts ∙ go-on said opened cuts;
-    }
-
-    pub passed-break : plain.Break ≡ plain_turn rules.table left.class right.class → IsPassedByTurns rules first start right after true
-    passed-break said = record {
-      taken = suc passed.taken;
-      text_is = text-on;
-      class = right_class;
-      leads = λ opened cuts. passed.leads opened cuts ∙ break-on said opened cuts;
-    }
+  pub turns-follow : (opened : Bool) → FollowsPairs rules (plain_turn rules.table) (found opened) (found false)
+  turns-follow opened = record { goes = go-on opened; breaks = break-on opened }

@@ -10,7 +10,7 @@ use Rattle.seg_pairs.specs.Walk.{is_class}
 use Rattle.seg_pairs.specs.Verdict.{Verdict}
 use Rattle.seg_pairs.specs.Verdict.Verdict.{BreakAfter, GoAfter, RunBegins}
 use Rattle.seg_line_rules.specs.declared.verdicts.Case.TheVariants.{Together}
-use Rattle.seg_line_rules.specs.LineClasses.LineEngine.{Seventeen}
+use Rattle.seg_line_rules.specs.declared.engines.LineEngine.TheVariants.{Seventeen}
 use Rattle.seg_line_rules.specs.LineRules.{TableRules, line_class, is_complex_context, class_read}
 use Rattle.seg_line_rules.specs.LineUnits.{LineUnit, CountedUnit, counted_units, units_from, units_of, extent_of, is_mark, is_glued, bears_none}
 use Rattle.seg_line_rules.specs.LineLists.{keeps, listed}

@@ -11,7 +11,7 @@ use Rattle.seg_line_rules.specs.LineRules.{TableRules, is_complex_point}
 use Rattle.seg_line_rules.specs.declared.plain_pairs.ClassedItem.{ClassedItem}
 use Rattle.seg_line_rules.specs.LineEvents.{LeavesLess, text_from, HasClass, IsItemAhead}
 use Rattle.seg_line_rules.specs.LineBoundaries.{complex_length}
-use Rattle.seg_line_rules.specs.LineClasses.LineEngine.{Seventeen}
+use Rattle.seg_line_rules.specs.declared.engines.LineEngine.TheVariants.{Seventeen}
 use Rattle.seg_line_turns.specs.declared.turn_units.Left.{Left}
 use Rattle.seg_line_turns.specs.declared.turn_units.TurnOutcome.{TurnOutcome}
 use Rattle.seg_line_turns.specs.declared.turn_units.TurnOutcome.TheVariants.{Break, Go, Run}

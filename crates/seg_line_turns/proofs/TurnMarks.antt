@@ -16,7 +16,7 @@ use Rattle.seg_line_rules.specs.LineClasses.LineClass.{ID}
 use Rattle.seg_line_rules.specs.LineBoundaries.{KeepsMarks}
 use Rattle.seg_line_rules.specs.LineUnits.{is_mark, is_glued, bears_none, is_joiner}
 use Rattle.seg_line_rules.specs.LineLists.{keeps, listed}
-use Rattle.seg_line_rules.specs.LineClasses.LineEngine.{Seventeen}
+use Rattle.seg_line_rules.specs.declared.engines.LineEngine.TheVariants.{Seventeen}
 use Rattle.seg_line_rules.proofs.LineStretches.{StandInside}
 use Rattle.seg_line_rules.proofs.MarkParts.{get-drop, Parts, AllPart, all-later, all-append, run-part, keeps-later}
 use Rattle.seg_line_rules.proofs.Marks.{mark-bears}

@@ -1,25 +1,12 @@
 -- What the sets of classes have to do with one another.
-use Rattle.std.proofs.Common.{◌≡◌, ℕ, ◌==◌, ◌||◌, Bool, true, false, List, [], ◌∷◌, refl, sym, ◌∙◌, map}
-use Rattle.std.proofs.lemmas.Bool.{eqb-true}
-use Rattle.seg_line_rules.specs.LineRules.{is_among, is_one_of, is_complex_context}
+use Rattle.std.proofs.Common.{◌≡◌, ℕ, ◌==◌, ◌||◌, Bool, true, false, [], ◌∷◌, refl, sym, ◌∙◌, map}
+use Rattle.seg_line_rules.specs.LineRules.{is_one_of, is_complex_context}
 use Rattle.seg_line_rules.specs.LineClasses.{class_number}
 use Rattle.seg_line_rules.specs.LineClasses.LineClass.{BK, CM, CM_EASTASIAN, CR, HH, HY, LF, NL, QU, QU_PF, QU_PI, SA, SA_MC_MN, SP, ZW, ZWJ}
 use Rattle.seg_line_rules.specs.LineUnits.{is_mark, bears_none}
-use Rattle.seg_line_rules.specs.LineClasses.LineEngine.{Seventeen}
+use Rattle.seg_line_rules.specs.declared.engines.LineEngine.TheVariants.{Seventeen}
+use Rattle.seg_line_rules.proofs.Marks.{none-among}
 use Rattle.seg_line_turns.specs.TurnClasses.{is_glue, is_complex_mark, is_start}
-
-abbrev pub Each : (ℕ → Bool) → List ℕ → Type 0
-Each test [] = Unit {0}
-Each test (one ∷ others) = (test one ≡ false) × Each test others
-
--- a test that no number of a list passes is passed by none among them
-pub none-among : (test : ℕ → Bool) (ones : List ℕ) (class : ℕ) → Each test ones → is_among ones class ≡ true → test class ≡ false
-none-among test [] class each among = cc
-none-among test (one ∷ others) class each among = on (class == one) refl (λ among. none-among test others class each.1 among) among
-  where
-    on : (b : Bool) → (class == one) ≡ b → (is_among others class ≡ true → test class ≡ false) → (b || is_among others class) ≡ true → test class ≡ false
-    on true is later among = let same : class ≡ one = eqb-true class one is in rw same each.0
-    on false is later among = later among
 
 bears : ℕ → Bool
 bears class = is_one_of Seventeen (BK ∷ CR ∷ LF ∷ NL ∷ SP ∷ ZW ∷ []) class

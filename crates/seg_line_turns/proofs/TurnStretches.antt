@@ -9,7 +9,7 @@ use Rattle.seg_text.proofs.Places.{shifted-none, shifted-twice, shifted-append}
 use Rattle.seg_text.proofs.Covers.{rises-le}
 use Rattle.seg_line_rules.specs.LineRules.{TableRules, is_complex_point}
 use Rattle.seg_line_rules.specs.LineBoundaries.{complex_length}
-use Rattle.seg_line_rules.specs.LineClasses.LineEngine.{Seventeen}
+use Rattle.seg_line_rules.specs.declared.engines.LineEngine.TheVariants.{Seventeen}
 use Rattle.seg_line_rules.proofs.LineStretches.{StandInside}
 use Rattle.seg_line_turns.specs.TurnBoundaries.{TurnStretch, run_of, turn_stretch_of, turn_stretch, AreTurns, turns_within, later_turns, turn_boundaries, HasOneTurnList}
 use Rattle.seg_line_turns.specs.Turns.{Turn, turn, first_unit}

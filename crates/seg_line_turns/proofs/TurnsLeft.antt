@@ -5,7 +5,7 @@ use Rattle.seg_text.specs.declared.boundary.Boundary.{Boundary}
 use Rattle.seg_text.specs.Items.{Item, Text, start_of, code_points, IsRising}
 use Rattle.seg_text.specs.Boundaries.{IsCover, boundary, boundary_in, boundaries_in, Cuts}
 use Rattle.seg_text.proofs.Covers.{covers-in}
-use Rattle.seg_line_rules.specs.LineClasses.LineEngine.{Seventeen}
+use Rattle.seg_line_rules.specs.declared.engines.LineEngine.TheVariants.{Seventeen}
 use Rattle.seg_line_rules.specs.LineBoundaries.{CutsCover, inside}
 use Rattle.seg_line_rules.specs.LineRules.{TableRules}
 use Rattle.seg_line_rules.proofs.Inside.{inside-stand}

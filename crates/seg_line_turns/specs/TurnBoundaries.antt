@@ -8,19 +8,9 @@ use Rattle.seg_pairs.specs.PairTable.{PairTable, entry_of}
 use Rattle.seg_line_rules.specs.LineRules.{TableRules}
 use Rattle.seg_line_rules.specs.LineBoundaries.{inside, complex_length}
 use Rattle.seg_line_rules.specs.LineUnits.{bears_none}
-use Rattle.seg_line_rules.specs.LineClasses.LineEngine.{Seventeen}
-use Rattle.seg_line_turns.specs.declared.turn_pairs.TurnPairs.{TurnPairs}
-use Rattle.seg_line_turns.specs.declared.turn_pairs.OwnedTurnPairs.{OwnedTurnPairs}
+use Rattle.seg_line_rules.specs.declared.engines.LineEngine.TheVariants.{Seventeen}
 use Rattle.seg_line_turns.specs.Turns.{Turn, turn, first_unit}
 use Rattle.seg_line_turns.specs.Turns.Turn.{BreakAt, GoTo, RunAt}
-
--- What is seen of the data of lines of the engine 17.
-
-abbrev pub turn_rules_by : TurnPairs → TableRules Seventeen
-turn_rules_by pairs = record { table = pairs.table.now; style = pairs.style }
-
-abbrev pub owned_turn_rules_by : OwnedTurnPairs → TableRules Seventeen
-owned_turn_rules_by pairs = record { table = pairs.table; style = pairs.style }
 
 -- The boundaries of lines by the engine 17 in a list of code points, turn by turn.
 

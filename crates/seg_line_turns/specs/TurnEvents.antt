@@ -1,19 +1,18 @@
 -- A text whose lines are found turn by turn: what is read ahead, what comes next, and what is left.
-use Rattle.std.specs.Prelude.{◌≡◌, ◌&&◌, ℕ, Bool, true, false, if◌then◌else◌, List, [], ◌∷◌, ◌||◌, not}
-use Rattle.seg_text.specs.Items.{Text, rest_after}
+use Rattle.std.specs.Prelude.{◌&&◌, ℕ, Bool, true, false, if◌then◌else◌, List, [], ◌∷◌, ◌||◌, not}
+use Rattle.seg_text.specs.Items.{Text}
 use Rattle.seg_text.specs.declared.boundary.Boundary.{Boundary}
-use Rattle.seg_text.specs.Boundaries.{boundary, boundaries_in, Cuts}
+use Rattle.seg_text.specs.Boundaries.{boundaries_in, Cuts}
 use Rattle.seg_pairs.specs.declared.provider.pairs.BreakState.{BreakState}
 use Rattle.seg_pairs.specs.declared.provider.pairs.BreakState.TheVariants as entries
 use Rattle.seg_pairs.specs.PairTable.{PairTable, entry_of}
-use Rattle.seg_line_rules.specs.declared.plain_pairs.ClassedItem.{ClassedItem}
-use Rattle.seg_line_rules.specs.LineEvents.{text_from, HasClass, UnreadText}
+use Rattle.seg_line_rules.specs.LineEvents.{UnreadText}
 use Rattle.seg_line_rules.specs.LineRules.{TableRules, is_one_of, is_complex_context}
-use Rattle.seg_line_rules.specs.declared.plain_pairs.PlainPair.{PlainPair}
-use Rattle.seg_line_rules.specs.declared.plain_pairs.PlainPair.TheVariants as plain
+use Rattle.seg_line_rules.specs.declared.engines.PlainPair.{PlainPair}
+use Rattle.seg_line_rules.specs.declared.engines.PlainPair.TheVariants as plain
 use Rattle.seg_line_rules.specs.LineClasses.LineClass.{CM, CM_EASTASIAN, HH, HY, IS, QU_PF, SA, SA_MC_MN, SP, ZWJ}
 use Rattle.seg_line_rules.specs.LineUnits.{is_joiner}
-use Rattle.seg_line_rules.specs.LineClasses.LineEngine.{Seventeen}
+use Rattle.seg_line_rules.specs.declared.engines.LineEngine.TheVariants.{Seventeen}
 use Rattle.seg_line_turns.specs.TurnBoundaries.{later_turns, has_none}
 use Rattle.seg_line_turns.specs.TurnClasses.{is_before_hyphen, is_before_quote, is_glue, is_hyphen, is_infix, is_opening, is_quote, is_space}
 
@@ -78,16 +77,3 @@ plain_turn t left right = if is_plain_turn left right then entry_turn (is_joiner
 -- a text that is being read, not from its start
 abbrev pub going_text : TableRules Seventeen → Bool → Text → UnreadTurns
 going_text rules opened text = record { rules = rules; starts = false; opened = opened; text = text }
-
--- the boundaries from this item on, and one before it or not
-abbrev pub passed_turns : Cuts → TableRules Seventeen → (opened is_break : Bool) → ClassedItem → Text → List Boundary
-passed_turns cuts rules opened true next rest = boundary next.place 0 ∷ unread_turns cuts (going_text rules false (text_from next rest))
-passed_turns cuts rules opened false next rest = unread_turns cuts (going_text rules opened (text_from next rest))
-
--- plain turns lead from one item, with those after it, to another
-pub record IsPassedByTurns (rules : TableRules Seventeen) (first : ClassedItem) (start : Text) (next : ClassedItem) (rest : Text) (is_break : Bool) : Type 0 where
-  pub taken : ℕ
-  pub text_is : text_from next rest ≡ rest_after taken (text_from first start)
-  pub class : HasClass rules next
-  pub leads : (opened : Bool) (cuts : Cuts)
-      → unread_turns cuts (going_text rules opened (text_from first start)) ≡ passed_turns cuts rules opened is_break next rest

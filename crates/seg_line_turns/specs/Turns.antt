@@ -10,7 +10,7 @@ use Rattle.seg_line_rules.specs.LineClasses.{class_number}
 use Rattle.seg_line_rules.specs.LineClasses.LineClass.{AL}
 use Rattle.seg_line_rules.specs.LineUnits.{is_mark, bears_none, is_joiner}
 use Rattle.seg_line_rules.specs.LineLists.{keeps, listed}
-use Rattle.seg_line_rules.specs.LineClasses.LineEngine.{Seventeen}
+use Rattle.seg_line_rules.specs.declared.engines.LineEngine.TheVariants.{Seventeen}
 use Rattle.seg_line_turns.specs.TurnClasses.{is_glue, is_complex_mark, is_letter, is_hyphen, is_opening, is_start, is_before_quote, is_after_quote, is_before_hyphen, is_space, is_zero_space, is_infix, is_digit, is_quote, is_contingent}
 use Rattle.seg_line_turns.specs.TurnRules.{LeftUnit, left_unit, with_item, is_joined}
 

@@ -3,21 +3,23 @@ ghost use Rattle.std.specs.Prelude.{◌≡◌};
 ghost use Rattle.seg_text.specs.Items.{start_of};
 ghost use Rattle.seg_text.specs.Boundaries.{IsCover};
 ghost use Rattle.seg_clusters.specs.Payloads.{payloads_of, run_cuts_by};
-ghost use Rattle.seg_line_turns.specs.TurnBoundaries.{turn_boundaries_of, turn_rules_by};
+ghost use Rattle.seg_line_turns.specs.TurnBoundaries.{turn_boundaries_of};
+ghost use Rattle.seg_line_rules.specs.LineBoundaries.{rules_by};
 
+use crate::engine_17::Engine17;
 use crate::turn_events::TurnEvents;
-use crate::turn_pairs::TurnPairs;
 use seg_clusters::complex::ComplexPayloadsBorrowed;
 use seg_line_rules::boundaries::TableLines;
+use seg_line_rules::line_pairs::LinePairs;
 use seg_text::cursor::Cursor;
 
 /// The boundaries of lines in what is left of a text by the engine 17. Takes no memory.
 pub fn turn_lines<'data, I: Cursor>(
-    pairs: TurnPairs<'data>,
+    pairs: LinePairs<'data, Engine17>,
     payloads: ComplexPayloadsBorrowed<'data>,
     text: I,
 ) -> TableLines<'data, TurnEvents<'data, I>>
-    ensures boundaries { result.left ≡ turn_boundaries_of (run_cuts_by (payloads_of payloads.entry)) (turn_rules_by pairs.entry) (I.text text) }
+    ensures boundaries { result.left ≡ turn_boundaries_of (run_cuts_by (payloads_of payloads.entry)) (rules_by pairs.entry) (I.text text) }
     ensures cover { IsCover (start_of (I.text text)) (I.text text).end result.left }
     ensures status { result.status ≡ 0 }
 {

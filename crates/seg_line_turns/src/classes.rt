@@ -1,21 +1,8 @@
 //! The sets of classes that the rules of the engine 17 speak of.
 ghost use Rattle.std.specs.Prelude.{◌≡◌};
-ghost use Rattle.seg_line_rules.specs.LineClasses.LineEngine.{Seventeen};
-ghost use Rattle.seg_line_rules.specs.LineRules.{is_complex_context};
-ghost use Rattle.seg_line_rules.specs.LineUnits.{bears_none, is_mark};
 ghost use Rattle.seg_line_turns.specs.TurnClasses.{is_after_quote, is_before_hyphen, is_before_quote, is_glue, is_hyphen, is_letter, is_opening, is_start};
 
 use seg_pairs::provider::RuleBreakData;
-
-/// Whether the class is one of marks.
-#[tactic(auto, unfolding(seg_line_rules::specs::LineUnits::is_mark))]
-pub(crate) fn is_mark(class: u8) -> bool
-    ensures { result ≡ is_mark Seventeen class }
-{
-    class == RuleBreakData::LINE_V3_PROPERTY_CM
-        || class == RuleBreakData::LINE_V3_PROPERTY_CM_EASTASIAN
-        || class == RuleBreakData::LINE_V3_PROPERTY_ZWJ
-}
 
 /// Whether the class is one of marks, or of marks that are complex.
 #[tactic(auto, unfolding(crate::specs::TurnClasses::is_glue))]
@@ -26,27 +13,6 @@ pub(crate) fn is_glue(class: u8) -> bool
         || class == RuleBreakData::LINE_V3_PROPERTY_CM_EASTASIAN
         || class == RuleBreakData::LINE_V3_PROPERTY_SA_MC_MN
         || class == RuleBreakData::LINE_V3_PROPERTY_ZWJ
-}
-
-/// Whether a mark after a base of this class stands alone.
-#[tactic(auto, unfolding(seg_line_rules::specs::LineUnits::bears_none))]
-pub(crate) fn bears_none(class: u8) -> bool
-    ensures { result ≡ bears_none Seventeen class }
-{
-    class == RuleBreakData::LINE_V3_PROPERTY_BK
-        || class == RuleBreakData::LINE_V3_PROPERTY_CR
-        || class == RuleBreakData::LINE_V3_PROPERTY_LF
-        || class == RuleBreakData::LINE_V3_PROPERTY_NL
-        || class == RuleBreakData::LINE_V3_PROPERTY_SP
-        || class == RuleBreakData::LINE_V3_PROPERTY_ZW
-}
-
-/// Whether the class is one of complex code points.
-#[tactic(auto, unfolding(seg_line_rules::specs::LineRules::is_complex_context))]
-pub(crate) fn is_complex(class: u8) -> bool
-    ensures { result ≡ is_complex_context class }
-{
-    class == RuleBreakData::LINE_V3_PROPERTY_SA || class == RuleBreakData::LINE_V3_PROPERTY_SA_MC_MN
 }
 
 /// Whether the class is one of letters, after which a hyphen may begin a word.

@@ -3,14 +3,15 @@
 //! opening are seen from afar, as by the sample data in a space, a hyphen and a letter.
 ghost use Rattle.std.specs.Prelude.{◌≡◌, ℕ, List, length};
 ghost use Rattle.seg_text.specs.Boundaries.{HasEqualOrdinals, IsCover, Cuts};
-ghost use Rattle.seg_line_rules.specs.LineBoundaries.{CutsCover, KeepsMarks, inside, line_boundaries};
+ghost use Rattle.seg_line_rules.specs.LineBoundaries.{CutsCover, KeepsMarks, inside, line_boundaries, rules_by};
 ghost use Rattle.seg_line_rules.specs.LineUnits.{counted_units, units_of};
-ghost use Rattle.seg_line_rules.specs.LineClasses.LineEngine.{Seventeen};
+ghost use Rattle.seg_line_rules.specs.declared.engines.LineEngine.TheVariants.{Seventeen};
 ghost use Rattle.seg_line_rules.specs.LineRules.{TableRules};
 ghost use Rattle.seg_line_turns.specs.PlainTexts.{ArePlain, HasNoOpening};
-ghost use Rattle.seg_line_turns.specs.TurnBoundaries.{HasOneTurnList, turn_boundaries, StartsBear, turn_rules_by};
+ghost use Rattle.seg_line_turns.specs.TurnBoundaries.{HasOneTurnList, turn_boundaries, StartsBear};
 
-use crate::turn_pairs::TurnPairs;
+use crate::engine_17::Engine17;
+use seg_line_rules::line_pairs::LinePairs;
 
 /// Law: a list of code points has exactly one list of boundaries: the first is at its start, and the others come from the first turn of what
 /// is left, again and again.
@@ -32,9 +33,9 @@ pub fn equal_code_points()
 
 /// Law: no boundary but that at 0 stands before a code point of class CM, CM_EASTASIAN or ZWJ, except after one of class BK, CR, LF, NL, SP or
 /// ZW, provided that the table reads no class at the start of a text as one of these six.
-pub fn mark_law(pairs: TurnPairs<'_>)
-    ensures { (cuts : Cuts) → CutsCover cuts → StartsBear (turn_rules_by pairs.entry).table → (code_points : List ℕ)
-        → KeepsMarks (turn_rules_by pairs.entry) code_points (turn_boundaries (inside cuts) (turn_rules_by pairs.entry) code_points) }
+pub fn mark_law(pairs: LinePairs<'_, Engine17>)
+    ensures { (cuts : Cuts) → CutsCover cuts → StartsBear (rules_by pairs.entry).table → (code_points : List ℕ)
+        → KeepsMarks (rules_by pairs.entry) code_points (turn_boundaries (inside cuts) (rules_by pairs.entry) code_points) }
 {
     pairs.table().facts();
 }

@@ -4,11 +4,9 @@
 mod bases;
 pub mod boundaries;
 mod classes;
+pub mod engine_17;
 pub mod laws;
-mod plain_turns;
 pub mod turn_events;
-mod turn_lists;
-pub mod turn_pairs;
 pub mod turn_units;
 pub mod turn_walk;
 mod turns;

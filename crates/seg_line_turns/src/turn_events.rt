@@ -1,44 +1,23 @@
 //! The boundaries of lines of a text, as far as turns find them: runs of complex code points are given as texts of their own, to be cut in some
 //! other way.
-ghost use Rattle.std.specs.Prelude.{◌≡◌, ◌-◌, false, []};
-ghost use Rattle.seg_text.specs.Items.{prefix_length, rest_after, start_of, text_before};
-ghost use Rattle.seg_line_rules.specs.LineEvents.{HasClass, IsItemAhead};
-ghost use Rattle.seg_line_rules.specs.LineRules.{is_complex_point};
+ghost use Rattle.std.specs.Prelude.{◌≡◌, []};
+ghost use Rattle.seg_text.specs.Items.{start_of};
 ghost use Rattle.seg_line_turns.specs.TurnEvents.{whole_text};
-ghost use Rattle.seg_line_turns.specs.TurnBoundaries.{turn_rules_by};
+ghost use Rattle.seg_line_rules.specs.LineBoundaries.{rules_by};
 
-use crate::classes::is_complex;
-use crate::plain_turns::plain_turns;
-use crate::turn_pairs::TurnPairs;
+use crate::engine_17::Engine17;
 use crate::turn_units::TurnOutcome;
 use crate::turns::{first_unit, turn};
-use seg_line_rules::events::{LineEvent, LineSource, take_run};
-use seg_line_rules::plain_pairs::{ClassedItem, asks_more};
+use seg_line_rules::events::{LineEvent, LineSource, complex_run, next_classed};
+use seg_line_rules::line_pairs::LinePairs;
+use seg_line_rules::plain_pairs::{ClassedItem, asks_more, plain_pairs};
 use seg_text::cursor::Cursor;
-use seg_text::prefixes::CodePointTest;
 use std::marker::Model;
-
-/// Which code points are complex.
-#[derive(Clone, Copy, Debug)]
-struct ComplexPoints<'data> {
-    pairs: TurnPairs<'data>,
-}
-
-impl<'data> CodePointTest for ComplexPoints<'data> {
-    ghost use Rattle.seg_line_rules.specs.LineRules.{is_complex_point};
-    ghost use Rattle.seg_line_turns.specs.TurnBoundaries.{turn_rules_by};
-
-    ghost passes = { λ test code_point. is_complex_point (turn_rules_by test.pairs) code_point };
-
-    fn accepts(&self, code_point: u32) -> bool {
-        is_complex(self.pairs.class(code_point))
-    }
-}
 
 /// A text whose lines are found turn by turn.
 #[derive(Debug, Drop)]
 pub struct TurnEvents<'data, I: Cursor> {
-    pairs: TurnPairs<'data>,
+    pairs: LinePairs<'data, Engine17>,
     // What isn't turned yet: as items, ..
     here: I,
     // .. and as the first of them, which is read already, ..
@@ -54,19 +33,19 @@ pub struct TurnEvents<'data, I: Cursor> {
 impl<'data, I: Cursor> Model for TurnEvents<'data, I> {
     ghost use Rattle.seg_line_rules.specs.LineEvents.{IsItemAhead};
     ghost use Rattle.seg_line_turns.specs.TurnEvents.{UnreadTurns};
-    ghost use Rattle.seg_line_turns.specs.TurnBoundaries.{turn_rules_by};
+    ghost use Rattle.seg_line_rules.specs.LineBoundaries.{rules_by};
 
     ghost Value = { UnreadTurns };
 
-    ghost view = { λ s. record { rules = turn_rules_by s.pairs; starts = s.starts; opened = s.opened; text = I.text s.here } };
+    ghost view = { λ s. record { rules = rules_by s.pairs; starts = s.starts; opened = s.opened; text = I.text s.here } };
 
-    ghost invariant = { λ s. IsItemAhead (turn_rules_by s.pairs) (I.text s.here) s.next (I.text s.rest) };
+    ghost invariant = { λ s. IsItemAhead (rules_by s.pairs) (I.text s.here) s.next (I.text s.rest) };
 }
 
 impl<'data, I: Cursor> TurnEvents<'data, I> {
     /// The events of a text. Takes no memory.
-    pub fn new(pairs: TurnPairs<'data>, text: I) -> Self
-        ensures { result ≡ whole_text (turn_rules_by pairs.entry) (I.text text) }
+    pub fn new(pairs: LinePairs<'data, Engine17>, text: I) -> Self
+        ensures { result ≡ whole_text (rules_by pairs.entry) (I.text text) }
     {
         let mut rest = text.fork();
         let next = next_classed(pairs, &mut rest);
@@ -111,7 +90,7 @@ impl<'data, I: Cursor> LineSource for TurnEvents<'data, I> {
         if asks_more(self.pairs.style()) {
             return None;
         }
-        let passed = plain_turns(self.pairs, next, self.rest.fork());
+        let passed = plain_pairs(self.pairs, next, self.rest.fork());
         self.here.seek(passed.next.place);
         self.next = Some(passed.next);
         self.rest = passed.rest;
@@ -165,28 +144,4 @@ impl<'data, I: Cursor> LineSource for TurnEvents<'data, I> {
             opened: self.opened,
         }
     }
-}
-
-/// The run of complex items that a text begins with. `rest` goes on at the last of them. Apart, so that its loop has the registers.
-#[inline(never)]
-fn complex_run<I: Cursor>(pairs: TurnPairs<'_>, rest: &mut I) -> (I, usize)
-    ensures run { I.text result.0 ≡ text_before (prefix_length (is_complex_point (turn_rules_by pairs.entry)) (I.text rest.old)) (I.text rest.old) }
-    ensures end { result.1 ≡ (I.text result.0).end }
-    ensures rest { I.text rest.new ≡ rest_after (prefix_length (is_complex_point (turn_rules_by pairs.entry)) (I.text rest.old) - 1) (I.text rest.old) }
-{
-    take_run(rest, &ComplexPoints { pairs })
-}
-
-/// The next item, with its class.
-fn next_classed<I: Cursor>(pairs: TurnPairs<'_>, rest: &mut I) -> Option<ClassedItem>
-    ensures { IsItemAhead (turn_rules_by pairs.entry) (I.text rest.old) result (I.text rest.new) }
-{
-    let Some((place, code_point)) = rest.next_item() else {
-        return None;
-    };
-    Some(ClassedItem {
-        class: pairs.class(code_point),
-        code_point,
-        place,
-    })
 }

@@ -1,10 +1,6 @@
 //! The left unit of a turn, and what a turn finds.
 ghost use Rattle.std.specs.Prelude.{◌≡◌};
-ghost use Rattle.seg_line_rules.specs.LineClasses.LineEngine.{Seventeen};
-ghost use Rattle.seg_line_rules.specs.LineUnits.{is_joiner};
 ghost use Rattle.seg_line_turns.specs.TurnPlaces.{outcome_unless};
-
-use seg_pairs::provider::RuleBreakData;
 
 /// An item with the marks that are glued to it.
 #[derive(Clone, Copy, Debug)]
@@ -40,11 +36,4 @@ pub(crate) fn unless(joined: bool, opened: bool, place: usize) -> TurnOutcome
     } else {
         TurnOutcome::Break(place, place)
     }
-}
-
-/// Whether the class is that of ZWJ.
-pub(crate) fn is_joiner(class: u8) -> bool
-    ensures { result ≡ is_joiner Seventeen class }
-{
-    class == RuleBreakData::LINE_V3_PROPERTY_ZWJ
 }

@@ -2,14 +2,17 @@
 ghost use Rattle.std.specs.Prelude.{◌≡◌, ◌<◌, ℕ, suc};
 ghost use Rattle.seg_text.specs.Items.{Text, code_points};
 ghost use Rattle.seg_pairs.specs.PairTable.{entry_of};
-ghost use Rattle.seg_line_turns.specs.TurnBoundaries.{turn_rules_by};
+ghost use Rattle.seg_line_rules.specs.LineBoundaries.{rules_by};
 ghost use Rattle.seg_line_turns.specs.TurnPlaces.{IsWalkAt, item_place, placed, step_at, walker_seen, IsBelowState};
 ghost use Rattle.seg_line_turns.specs.Turns.{space_step, sticks, walk_back_turn, walk_end_turn, walk_entry_step, walk_step, walk_stop_turn, walk_turn};
 
 use crate::bases::{go_to_base, letter_comes};
-use crate::classes::{bears_none, is_glue, is_hyphen};
-use crate::turn_pairs::TurnPairs;
-use crate::turn_units::{TurnOutcome, is_joiner, unless};
+use crate::classes::{is_glue, is_hyphen};
+use crate::engine_17::Engine17;
+use crate::turn_units::{TurnOutcome, unless};
+use seg_line_rules::classes::{bears_none, is_joiner};
+use seg_line_rules::engines::LineEngine;
+use seg_line_rules::line_pairs::LinePairs;
 use seg_pairs::provider::{BreakState, RuleBreakData};
 use seg_pairs::walk::{entry_after, entry_at_end, is_class, saves, state_named};
 use seg_text::cursor::Cursor;
@@ -41,10 +44,10 @@ pub enum WalkOutcome {
 }
 
 /// The turn that a walk finds, before these items.
-pub(crate) fn walk<I: Cursor>(pairs: TurnPairs<'_>, begin: Walker, rest: I) -> TurnOutcome
-    requires { begin.state < (turn_rules_by pairs).table.property_count }
+pub(crate) fn walk<I: Cursor>(pairs: LinePairs<'_, Engine17>, begin: Walker, rest: I) -> TurnOutcome
+    requires { begin.state < (rules_by pairs).table.property_count }
     ensures { (whole : Text) (number saved : ℕ) → IsWalkAt whole number saved begin (I.text rest)
-        → result ≡ placed whole (walk_turn (turn_rules_by pairs.entry) (walker_seen saved begin) number (code_points (I.text rest).items)) }
+        → result ≡ placed whole (walk_turn (rules_by pairs.entry) (walker_seen saved begin) number (code_points (I.text rest).items)) }
 {
     let mut walker = begin;
     let mut rest = rest;
@@ -73,19 +76,19 @@ fn walk_end(table: &RuleBreakData, walker: Walker, end: usize) -> TurnOutcome
 
 /// What the item at a place does to a walk; `rest` has those after it.
 fn walk_step<I: Cursor>(
-    pairs: TurnPairs<'_>,
+    pairs: LinePairs<'_, Engine17>,
     walker: Walker,
     place: usize,
     class: u8,
     rest: &I,
 ) -> WalkOutcome
-    requires state { walker.state < (turn_rules_by pairs).table.property_count }
-    requires class { class < (turn_rules_by pairs).table.property_count }
+    requires state { walker.state < (rules_by pairs).table.property_count }
+    requires class { class < (rules_by pairs).table.property_count }
     ensures value { (whole : Text) (number saved : ℕ) → place ≡ item_place number whole → IsWalkAt whole (suc number) saved walker (I.text rest.now)
-        → result ≡ step_at whole (walk_step (turn_rules_by pairs.entry) (walker_seen saved walker) number class (code_points (I.text rest.now).items)) }
-    ensures state { IsBelowState (turn_rules_by pairs.entry).table.property_count result }
+        → result ≡ step_at whole (walk_step (rules_by pairs.entry) (walker_seen saved walker) number class (code_points (I.text rest.now).items)) }
+    ensures state { IsBelowState (rules_by pairs.entry).table.property_count result }
 {
-    if is_glue(class) && !bears_none(walker.before) {
+    if is_glue(class) && !bears_none(LineEngine::Seventeen, walker.before) {
         return WalkOutcome::GoesOn(Walker {
             before: class,
             ..walker
@@ -101,17 +104,17 @@ fn walk_step<I: Cursor>(
 
 /// What an item that isn't glued does to a walk: after a space some classes decide, and else the table.
 fn space_step<I: Cursor>(
-    pairs: TurnPairs<'_>,
+    pairs: LinePairs<'_, Engine17>,
     walker: Walker,
     place: usize,
     class: u8,
     rest: &I,
 ) -> WalkOutcome
-    requires state { walker.state < (turn_rules_by pairs).table.property_count }
-    requires class { class < (turn_rules_by pairs).table.property_count }
+    requires state { walker.state < (rules_by pairs).table.property_count }
+    requires class { class < (rules_by pairs).table.property_count }
     ensures value { (whole : Text) (number saved : ℕ) → place ≡ item_place number whole → IsWalkAt whole (suc number) saved walker (I.text rest.now)
-        → result ≡ step_at whole (space_step (turn_rules_by pairs.entry) (walker_seen saved walker) number class (code_points (I.text rest.now).items)) }
-    ensures state { IsBelowState (turn_rules_by pairs.entry).table.property_count result }
+        → result ≡ step_at whole (space_step (rules_by pairs.entry) (walker_seen saved walker) number class (code_points (I.text rest.now).items)) }
+    ensures state { IsBelowState (rules_by pairs.entry).table.property_count result }
 {
     let after_space = walker.before == RuleBreakData::LINE_V3_PROPERTY_SP;
     let table = pairs.table();
@@ -143,16 +146,21 @@ fn space_step<I: Cursor>(
 }
 
 /// What the entry of the state and the class of an item says of a walk.
-fn entry_step(pairs: TurnPairs<'_>, walker: Walker, place: usize, class: u8) -> WalkOutcome
-    requires state { walker.state < (turn_rules_by pairs).table.property_count }
-    requires class { class < (turn_rules_by pairs).table.property_count }
+fn entry_step(
+    pairs: LinePairs<'_, Engine17>,
+    walker: Walker,
+    place: usize,
+    class: u8,
+) -> WalkOutcome
+    requires state { walker.state < (rules_by pairs).table.property_count }
+    requires class { class < (rules_by pairs).table.property_count }
     ensures value { (whole : Text) (number saved : ℕ) → place ≡ item_place number whole → walker.saved ≡ item_place saved whole
-        → result ≡ step_at whole (walk_entry_step (turn_rules_by pairs.entry) (walker_seen saved walker) number class (entry_of (turn_rules_by pairs.entry).table walker.state class)) }
-    ensures state { IsBelowState (turn_rules_by pairs.entry).table.property_count result }
+        → result ≡ step_at whole (walk_entry_step (rules_by pairs.entry) (walker_seen saved walker) number class (entry_of (rules_by pairs.entry).table walker.state class)) }
+    ensures state { IsBelowState (rules_by pairs.entry).table.property_count result }
 {
     let table = pairs.table();
     let entry = entry_after(table, walker.state, class);
-    let joined = is_joiner(walker.before);
+    let joined = is_joiner(LineEngine::Seventeen, walker.before);
     let Some(next) = state_named(entry) else {
         return WalkOutcome::Stops(walk_stop(walker, joined, place, entry));
     };

@@ -4,22 +4,21 @@ ghost use Rattle.seg_text.specs.Items.{Text, code_points, rest_after};
 ghost use Rattle.seg_pairs.specs.PairTable.{entry_of};
 ghost use Rattle.seg_line_rules.specs.LineEvents.{HasClass};
 ghost use Rattle.seg_line_rules.specs.LineRules.{line_class};
-ghost use Rattle.seg_line_turns.specs.TurnBoundaries.{turn_rules_by};
+ghost use Rattle.seg_line_rules.specs.LineBoundaries.{rules_by};
 ghost use Rattle.seg_line_turns.specs.TurnPlaces.{FindsBetween, FindsFrom, class_at_start, hyphen_outcome, item_place, left_seen, placed};
 ghost use Rattle.seg_line_turns.specs.Turns.{class_turn, first_unit, is_taken, opens, quote_turn, right_turn, table_turn, turn};
 
 use crate::bases::{
     begins_marked, break_to_base, digit_comes, hyphen_comes, letter_comes, quoted_comes,
 };
-use crate::classes::{
-    bears_none, is_before_hyphen, is_before_quote, is_complex, is_glue, is_hyphen, is_opening,
-    is_start,
-};
-use crate::turn_lists::{keeps, listed};
-use crate::turn_pairs::TurnPairs;
-use crate::turn_units::{Left, TurnOutcome, is_joiner, unless};
+use crate::classes::{is_before_hyphen, is_before_quote, is_glue, is_hyphen, is_opening, is_start};
+use crate::engine_17::Engine17;
+use crate::turn_units::{Left, TurnOutcome, unless};
 use crate::turn_walk::{Walker, walk};
-use seg_line_rules::lists::Neighbours;
+use seg_line_rules::classes::{bears_none, is_complex_context, is_joiner};
+use seg_line_rules::engines::LineEngine;
+use seg_line_rules::line_pairs::LinePairs;
+use seg_line_rules::lists::{Neighbours, keeps, listed};
 use seg_line_rules::plain_pairs::ClassedItem;
 use seg_pairs::provider::{BreakState, RuleBreakData};
 use seg_pairs::walk::{entry_after, entry_at_start, is_class, state_named};
@@ -27,13 +26,13 @@ use seg_text::cursor::Cursor;
 
 /// The turn from a left unit, of which `rest` has the items after it.
 pub(crate) fn turn<I: Cursor>(
-    pairs: TurnPairs<'_>,
+    pairs: LinePairs<'_, Engine17>,
     opened: bool,
     first: Left,
     rest: I,
 ) -> TurnOutcome
-    requires { first.class < (turn_rules_by pairs).table.property_count }
-    ensures { FindsFrom first (I.text rest) result (λ unit. turn (turn_rules_by pairs.entry) opened unit (code_points (I.text rest).items)) }
+    requires { first.class < (rules_by pairs).table.property_count }
+    ensures { FindsFrom first (I.text rest) result (λ unit. turn (rules_by pairs.entry) opened unit (code_points (I.text rest).items)) }
 {
     let mut left = first;
     let mut rest = rest;
@@ -61,11 +60,11 @@ pub(crate) fn turn<I: Cursor>(
 }
 
 /// The left unit that a turn begins with, which is this item, the first of the text or not.
-pub(crate) fn first_unit(pairs: TurnPairs<'_>, starts: bool, item: ClassedItem) -> Left
-    requires { HasClass (turn_rules_by pairs) item }
-    ensures unit { left_seen 0 result ≡ first_unit (turn_rules_by pairs.entry) starts item.code_point }
+pub(crate) fn first_unit(pairs: LinePairs<'_, Engine17>, starts: bool, item: ClassedItem) -> Left
+    requires { HasClass (rules_by pairs) item }
+    ensures unit { left_seen 0 result ≡ first_unit (rules_by pairs.entry) starts item.code_point }
     ensures place { result.last_place ≡ item.place }
-    ensures class { result.class < (turn_rules_by pairs.entry).table.property_count }
+    ensures class { result.class < (rules_by pairs.entry).table.property_count }
 {
     Left {
         class: if starts && is_start(item.class) {
@@ -96,8 +95,8 @@ fn is_taken(left: Left, class: u8) -> bool
     ensures { (last : ℕ) → result ≡ is_taken (left_seen last left) class }
 {
     is_glue(class)
-        && !bears_none(left.class)
-        && !(is_complex(left.class) && class == RuleBreakData::LINE_V3_PROPERTY_SA_MC_MN)
+        && !bears_none(LineEngine::Seventeen, left.class)
+        && !(is_complex_context(left.class) && class == RuleBreakData::LINE_V3_PROPERTY_SA_MC_MN)
 }
 
 /// Whether a space comes after an opening.
@@ -109,19 +108,20 @@ fn opens(left: Left, class: u8) -> bool
 
 /// The turn where the right item isn't glued.
 fn right_turn<I: Cursor>(
-    pairs: TurnPairs<'_>,
+    pairs: LinePairs<'_, Engine17>,
     opened: bool,
     left: Left,
     right: ClassedItem,
     rest: I,
 ) -> TurnOutcome
-    requires left { left.class < (turn_rules_by pairs).table.property_count }
-    requires right { right.class < (turn_rules_by pairs).table.property_count }
-    requires class { right.class ≡ line_class (turn_rules_by pairs) right.code_point }
-    ensures { FindsBetween left right.place (I.text rest) result (λ unit. right_turn (turn_rules_by pairs.entry) opened unit right.code_point (code_points (I.text rest).items)) }
+    requires left { left.class < (rules_by pairs).table.property_count }
+    requires right { right.class < (rules_by pairs).table.property_count }
+    requires class { right.class ≡ line_class (rules_by pairs) right.code_point }
+    ensures { FindsBetween left right.place (I.text rest) result (λ unit. right_turn (rules_by pairs.entry) opened unit right.code_point (code_points (I.text rest).items)) }
 {
+    let engine = LineEngine::Seventeen;
     let style = pairs.style();
-    if keeps(style, left.class, right.class) {
+    if keeps(engine, style, left.class, right.class) {
         return TurnOutcome::Go(right.place, opened);
     }
     let pair = Neighbours {
@@ -130,7 +130,7 @@ fn right_turn<I: Cursor>(
         right: right.class,
         right_code_point: right.code_point,
     };
-    match listed(style, is_joiner(left.last_class), pair) {
+    match listed(engine, style, is_joiner(engine, left.last_class), pair) {
         Some(true) => TurnOutcome::Break(right.place, right.place),
         Some(false) => TurnOutcome::Go(right.place, opened),
         None => class_turn(pairs, opened, left, right, rest),
@@ -139,18 +139,18 @@ fn right_turn<I: Cursor>(
 
 /// The turn where no list decides: by the classes, and else by the table.
 fn class_turn<I: Cursor>(
-    pairs: TurnPairs<'_>,
+    pairs: LinePairs<'_, Engine17>,
     opened: bool,
     left: Left,
     right: ClassedItem,
     rest: I,
 ) -> TurnOutcome
-    requires left { left.class < (turn_rules_by pairs).table.property_count }
-    requires right { right.class < (turn_rules_by pairs).table.property_count }
-    ensures { FindsBetween left right.place (I.text rest) result (λ unit. class_turn (turn_rules_by pairs.entry) opened unit right.class (code_points (I.text rest).items)) }
+    requires left { left.class < (rules_by pairs).table.property_count }
+    requires right { right.class < (rules_by pairs).table.property_count }
+    ensures { FindsBetween left right.place (I.text rest) result (λ unit. class_turn (rules_by pairs.entry) opened unit right.class (code_points (I.text rest).items)) }
 {
     let place = right.place;
-    if is_complex(left.last_class) && is_complex(right.class) {
+    if is_complex_context(left.last_class) && is_complex_context(right.class) {
         return TurnOutcome::Run(left.last_place, opened);
     }
     let after_space = left.class == RuleBreakData::LINE_V3_PROPERTY_SP;
@@ -183,7 +183,9 @@ fn class_turn<I: Cursor>(
 fn hyphen_turn(left: Left, opened: bool, place: usize, next: usize) -> TurnOutcome
     ensures { result ≡ hyphen_outcome left opened place next }
 {
-    if left.class == RuleBreakData::LINE_V3_PROPERTY_CB && is_joiner(left.last_class) {
+    if left.class == RuleBreakData::LINE_V3_PROPERTY_CB
+        && is_joiner(LineEngine::Seventeen, left.last_class)
+    {
         TurnOutcome::Go(next, opened)
     } else {
         TurnOutcome::Break(place, next)
@@ -191,9 +193,9 @@ fn hyphen_turn(left: Left, opened: bool, place: usize, next: usize) -> TurnOutco
 }
 
 /// The turn at a closing quote after the end of a line, or after ZW.
-fn quote_turn<I: Cursor>(pairs: TurnPairs<'_>, place: usize, rest: &I) -> TurnOutcome
+fn quote_turn<I: Cursor>(pairs: LinePairs<'_, Engine17>, place: usize, rest: &I) -> TurnOutcome
     ensures { (whole : Text) (number : ℕ) → place ≡ item_place number whole → I.text rest.now ≡ rest_after (suc number) whole
-        → result ≡ placed whole (quote_turn (turn_rules_by pairs.entry) number (code_points (I.text rest.now).items)) }
+        → result ≡ placed whole (quote_turn (rules_by pairs.entry) number (code_points (I.text rest.now).items)) }
 {
     if hyphen_comes(pairs, rest) {
         return TurnOutcome::Break(place, place);
@@ -206,20 +208,20 @@ fn quote_turn<I: Cursor>(pairs: TurnPairs<'_>, place: usize, rest: &I) -> TurnOu
 
 /// The turn by the table.
 fn table_turn<I: Cursor>(
-    pairs: TurnPairs<'_>,
+    pairs: LinePairs<'_, Engine17>,
     opened: bool,
     left: Left,
     right: ClassedItem,
     rest: I,
 ) -> TurnOutcome
-    requires left { left.class < (turn_rules_by pairs).table.property_count }
-    requires right { right.class < (turn_rules_by pairs).table.property_count }
-    ensures { FindsBetween left right.place (I.text rest) result (λ unit. table_turn (turn_rules_by pairs.entry) opened unit right.class (code_points (I.text rest).items)
-        (entry_of (turn_rules_by pairs.entry).table left.class right.class)) }
+    requires left { left.class < (rules_by pairs).table.property_count }
+    requires right { right.class < (rules_by pairs).table.property_count }
+    ensures { FindsBetween left right.place (I.text rest) result (λ unit. table_turn (rules_by pairs.entry) opened unit right.class (code_points (I.text rest).items)
+        (entry_of (rules_by pairs.entry).table left.class right.class)) }
 {
     let table = pairs.table();
     let entry = entry_after(table, left.class, right.class);
-    let joined = is_joiner(left.last_class);
+    let joined = is_joiner(LineEngine::Seventeen, left.last_class);
     if let BreakState::Keep = entry {
         return TurnOutcome::Go(right.place, opened);
     }

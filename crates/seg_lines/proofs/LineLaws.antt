@@ -22,11 +22,10 @@ use Rattle.seg_clusters.proofs.UnwordedSpans.{inner-none}
 use Rattle.seg_line_rules.specs.declared.line_pairs.LinePairs.{LinePairs}
 use Rattle.seg_line_rules.specs.LineBoundaries.{inside, line_boundaries, line_stretch, rules_by, KeepsMarks}
 use Rattle.seg_line_rules.specs.LineRules.{TableRules}
-use Rattle.seg_line_rules.specs.LineClasses.LineEngine.{Seventeen, Classic}
+use Rattle.seg_line_rules.specs.declared.engines.LineEngine.TheVariants.{Seventeen, Classic}
 use Rattle.seg_line_rules.proofs.LineRestarts.{line-restarts}
 use Rattle.seg_line_rules.proofs.LineStretches.{line-going}
-use Rattle.seg_line_turns.specs.declared.turn_pairs.TurnPairs.{TurnPairs}
-use Rattle.seg_line_turns.specs.TurnBoundaries.{turn_boundaries, StartsBear, turn_rules_by}
+use Rattle.seg_line_turns.specs.TurnBoundaries.{turn_boundaries, StartsBear}
 use Rattle.seg_line_turns.proofs.TurnStretches.{one-list}
 use Rattle.seg_lines.specs.LineBreaks.{joined, AreBoundariesWith, HasOneList, LineFinder, LineRules, MayRestart, boundaries_with, line_boundaries_by, lines_with_words}
 use Rattle.seg_lines.specs.LineBreaks.LineFinder.{ByClusters, ByPlaces, ByTable, ByTurns, ByMachine}
@@ -93,7 +92,7 @@ pub one-by : (finder : Finder) (payloads : Payloads) → ((machine : TailoredMac
 one-by Clusters payloads none = one-by-clusters payloads
 one-by Places payloads none = one-by-places payloads
 one-by (Table pairs) payloads none = one-by-table (rules_by pairs) payloads
-one-by (Turns pairs) payloads none = one-by-turns (turn_rules_by pairs) payloads
+one-by (Turns pairs) payloads none = one-by-turns (rules_by pairs) payloads
 one-by (Machine machine) payloads none = absurd (none machine refl)
 
 -- without words of any script nothing is joined
@@ -153,7 +152,7 @@ unfolding table-in
 marks-by-table own rules payloads code_points is keeps =
     subst (λ (rules : TableRules Classic). KeepsMarks rules code_points (boundaries_with (ByTable own) payloads code_points)) (ap (λ (finder : LineFinder). table-in finder own) is) keeps
 
-pub no-table : (finder : Finder) (rules : TableRules Classic) → ((pairs : LinePairs) → finder ≡ Table pairs → ⊥) → finder_of finder ≡ ByTable rules → ⊥
+pub no-table : (finder : Finder) (rules : TableRules Classic) → ((pairs : LinePairs _ _) → finder ≡ Table pairs → ⊥) → finder_of finder ≡ ByTable rules → ⊥
 no-table Clusters rules none is = absurd cc
 no-table Places rules none is = absurd cc
 no-table (Turns pairs) rules none is = absurd cc
@@ -168,7 +167,7 @@ marks-by-turns own rules payloads code_points is keeps =
     subst (λ (rules : TableRules Seventeen). StartsBear rules.table → KeepsMarks rules code_points (boundaries_with (ByTurns own) payloads code_points))
     (ap (λ (finder : LineFinder). turns-in finder own) is) keeps
 
-pub no-turns : (finder : Finder) (rules : TableRules Seventeen) → ((pairs : TurnPairs) → finder ≡ Turns pairs → ⊥) → finder_of finder ≡ ByTurns rules → ⊥
+pub no-turns : (finder : Finder) (rules : TableRules Seventeen) → ((pairs : LinePairs _ _) → finder ≡ Turns pairs → ⊥) → finder_of finder ≡ ByTurns rules → ⊥
 no-turns Clusters rules none is = absurd cc
 no-turns Places rules none is = absurd cc
 no-turns (Table pairs) rules none is = absurd cc

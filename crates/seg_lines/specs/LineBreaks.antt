@@ -16,7 +16,7 @@ use Rattle.seg_line_rules.specs.declared.options.LineBreakStrictness.{LineBreakS
 use Rattle.seg_line_rules.specs.declared.options.LineBreakStrictness.TheVariants as strictness
 use Rattle.seg_line_rules.specs.LineBoundaries.{HasComplexCodePoint, inside, line_boundaries, line_stretch}
 use Rattle.seg_line_rules.specs.LineRules.{TableRules}
-use Rattle.seg_line_rules.specs.LineClasses.LineEngine.{Seventeen, Classic}
+use Rattle.seg_line_rules.specs.declared.engines.LineEngine.TheVariants.{Seventeen, Classic}
 use Rattle.seg_line_turns.specs.TurnBoundaries.{AreTurnBoundaries, turn_boundaries}
 use Rattle.seg_lines.specs.declared.joined.First.{First}
 use Rattle.seg_lines.specs.declared.joined.First.TheVariants as firsts

@@ -12,7 +12,6 @@ use Rattle.seg_clusters.specs.Rules.Rules.{ByMachine as ByClusterMachine}
 use Rattle.seg_clusters.specs.Clusters.{owned_cluster_rules}
 use Rattle.seg_clusters.specs.Payloads.{payloads_of}
 use Rattle.seg_line_rules.specs.LineBoundaries.{owned_rules_by, rules_by}
-use Rattle.seg_line_turns.specs.TurnBoundaries.{owned_turn_rules_by, turn_rules_by}
 use Rattle.seg_lines.specs.declared.finder.Finder.{Finder}
 use Rattle.seg_lines.specs.declared.finder.Finder.TheVariants.{Clusters as LentClusters, Places as LentPlaces, Table as LentTable, Turns as LentTurns, Machine as LentMachine}
 use Rattle.seg_lines.specs.declared.finder.OwnedFinder.{OwnedFinder}
@@ -64,14 +63,14 @@ abbrev pub finder_of : Finder → LineFinder
 finder_of LentClusters = ByClusters
 finder_of LentPlaces = ByPlaces
 finder_of (LentTable pairs) = ByTable (rules_by pairs)
-finder_of (LentTurns pairs) = ByTurns (turn_rules_by pairs)
+finder_of (LentTurns pairs) = ByTurns (rules_by pairs)
 finder_of (LentMachine machine) = ByMachine (machine_of machine)
 
 abbrev pub owned_finder : OwnedFinder → LineFinder
 owned_finder OwnedClusters = ByClusters
 owned_finder OwnedPlaces = ByPlaces
 owned_finder (OwnedTable pairs) = ByTable (owned_rules_by pairs)
-owned_finder (OwnedTurns pairs) = ByTurns (owned_turn_rules_by pairs)
+owned_finder (OwnedTurns pairs) = ByTurns (owned_rules_by pairs)
 owned_finder (OwnedMachine machine) = ByMachine (owned_machine machine)
 
 -- what a segmenter finds line breaks by

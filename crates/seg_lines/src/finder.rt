@@ -2,14 +2,14 @@
 
 ghost use Rattle.std.specs.Prelude.{◌≡◌};
 ghost use Rattle.seg_line_rules.specs.LineBoundaries.{owned_rules_by, rules_by};
-ghost use Rattle.seg_line_turns.specs.TurnBoundaries.{owned_turn_rules_by, turn_rules_by};
 ghost use Rattle.seg_lines.specs.LineBreaks.LineFinder.{ByTable, ByTurns};
 ghost use Rattle.seg_lines.specs.LineBreaks.{unless_anywhere};
 ghost use Rattle.seg_lines.specs.Lines.{finder_of, owned_finder};
 
+use seg_line_rules::classic::ClassicEngine;
 use seg_line_rules::line_pairs::{LinePairs, OwnedLinePairs};
 use seg_line_rules::options::LineBreakStrictness;
-use seg_line_turns::turn_pairs::{OwnedTurnPairs, TurnPairs};
+use seg_line_turns::engine_17::Engine17;
 use seg_machine::tailored_machine::{TailoredMachine, TailoredMachineBorrowed};
 
 /// What the breaks of lines are found by.
@@ -20,9 +20,9 @@ pub(crate) enum OwnedFinder {
     /// The places of clusters alone, none of them mandatory.
     Places,
     /// A pair table of lines, with what options say.
-    Table(OwnedLinePairs),
+    Table(OwnedLinePairs<ClassicEngine>),
     /// A pair table of lines of the engine 17, with what options say.
-    Turns(OwnedTurnPairs),
+    Turns(OwnedLinePairs<Engine17>),
     /// A machine of lines, with its tailoring.
     Machine(TailoredMachine),
 }
@@ -42,7 +42,10 @@ impl Drop for OwnedFinder {
 
 impl OwnedFinder {
     /// That of a pair table under this strictness.
-    pub(crate) fn of_table(strictness: LineBreakStrictness, pairs: OwnedLinePairs) -> Self
+    pub(crate) fn of_table(
+        strictness: LineBreakStrictness,
+        pairs: OwnedLinePairs<ClassicEngine>,
+    ) -> Self
         ensures { owned_finder result ≡ unless_anywhere strictness (ByTable (owned_rules_by pairs)) }
     {
         match strictness {
@@ -52,8 +55,8 @@ impl OwnedFinder {
     }
 
     /// That of a pair table of the engine 17 under this strictness.
-    pub(crate) fn of_turns(strictness: LineBreakStrictness, pairs: OwnedTurnPairs) -> Self
-        ensures { owned_finder result ≡ unless_anywhere strictness (ByTurns (owned_turn_rules_by pairs)) }
+    pub(crate) fn of_turns(strictness: LineBreakStrictness, pairs: OwnedLinePairs<Engine17>) -> Self
+        ensures { owned_finder result ≡ unless_anywhere strictness (ByTurns (owned_rules_by pairs)) }
     {
         match strictness {
             LineBreakStrictness::Anywhere => OwnedFinder::Places,
@@ -83,16 +86,19 @@ pub(crate) enum Finder<'data> {
     /// The places of clusters alone, none of them mandatory.
     Places,
     /// A pair table of lines, with what options say.
-    Table(LinePairs<'data>),
+    Table(LinePairs<'data, ClassicEngine>),
     /// A pair table of lines of the engine 17, with what options say.
-    Turns(TurnPairs<'data>),
+    Turns(LinePairs<'data, Engine17>),
     /// A machine of lines, with its tailoring.
     Machine(TailoredMachineBorrowed<'data>),
 }
 
 impl<'data> Finder<'data> {
     /// That of a pair table under this strictness.
-    pub(crate) fn of_table(strictness: LineBreakStrictness, pairs: LinePairs<'data>) -> Self
+    pub(crate) fn of_table(
+        strictness: LineBreakStrictness,
+        pairs: LinePairs<'data, ClassicEngine>,
+    ) -> Self
         ensures { finder_of result ≡ unless_anywhere strictness (ByTable (rules_by pairs.entry)) }
     {
         match strictness {
@@ -102,8 +108,11 @@ impl<'data> Finder<'data> {
     }
 
     /// That of a pair table of the engine 17 under this strictness.
-    pub(crate) fn of_turns(strictness: LineBreakStrictness, pairs: TurnPairs<'data>) -> Self
-        ensures { finder_of result ≡ unless_anywhere strictness (ByTurns (turn_rules_by pairs.entry)) }
+    pub(crate) fn of_turns(
+        strictness: LineBreakStrictness,
+        pairs: LinePairs<'data, Engine17>,
+    ) -> Self
+        ensures { finder_of result ≡ unless_anywhere strictness (ByTurns (rules_by pairs.entry)) }
     {
         match strictness {
             LineBreakStrictness::Anywhere => Finder::Places,

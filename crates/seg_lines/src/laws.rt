@@ -6,7 +6,7 @@ ghost use Rattle.seg_data.specs.ScriptWords.{ScriptWords, AreSameWords};
 ghost use Rattle.seg_clusters.specs.Rules.{PartsTexts};
 ghost use Rattle.seg_clusters.specs.Payloads.{run_cuts_by};
 ghost use Rattle.seg_line_rules.specs.LineBoundaries.{inside, line_boundaries, KeepsMarks};
-ghost use Rattle.seg_line_rules.specs.LineClasses.LineEngine.{Classic, Seventeen};
+ghost use Rattle.seg_line_rules.specs.declared.engines.LineEngine.TheVariants.{Classic, Seventeen};
 ghost use Rattle.seg_line_rules.specs.LineRules.{TableRules};
 ghost use Rattle.seg_line_rules.specs.LineUnits.{counted_units, units_of};
 ghost use Rattle.seg_line_turns.specs.PlainTexts.{ArePlain, HasNoOpening};

@@ -7,8 +7,8 @@ ghost use Rattle.seg_text.specs.Decoding.{latin1, utf8, utf16};
 ghost use Rattle.seg_data.specs.Faults.{IsFaultless, IsLowestFault};
 ghost use Rattle.seg_memo.specs.Memos.{IsMemoRefusal, IsNewMemo};
 ghost use Rattle.seg_data.specs.ScriptWords.{filled, borrowed_words, no_words, script_words};
+ghost use Rattle.seg_line_rules.specs.declared.engines.LineEngine.TheVariants.{Classic, Seventeen};
 ghost use Rattle.seg_line_rules.specs.LineRules.{HasLineTableFault, style_of};
-ghost use Rattle.seg_line_turns.specs.TurnRules.{HasTurnTableFault};
 ghost use Rattle.seg_lines.specs.LineBreaks.{line_boundaries_of, machine_of_lines, table_lines, turn_lines, lines_with_words, LinesResetAfter};
 ghost use Rattle.seg_lines.specs.Lines.{line_rules};
 ghost use Rattle.seg_lines.specs.Options.{machine_choice};
@@ -32,9 +32,10 @@ use seg_clusters::grapheme::{GraphemeClusterSegmenter, GraphemeClusterSegmenterB
 use seg_clusters::spans::is_outside_runs;
 use seg_data::dictionaries::{Dictionaries, DictionariesBorrowed};
 use seg_data::provider::DataError;
+use seg_line_rules::classic::ClassicEngine;
 use seg_line_rules::line_pairs::{LinePairs, OwnedLinePairs};
 use seg_line_rules::options::LineStyle;
-use seg_line_turns::turn_pairs::{OwnedTurnPairs, TurnPairs};
+use seg_line_turns::engine_17::Engine17;
 use seg_machine::provider::SegmenterStateMachine;
 use seg_memo::memo::{MemoBreakIterator, MemoError};
 use seg_memo::reader::CountedTransitions;
@@ -186,11 +187,11 @@ impl LineSegmenter {
         options: LineBreakOptions<'_>,
     ) -> Result<Self, DataError>
         ensures accepted { IfOk result (λ segmenter. (owned_line_rules segmenter ≡ table_lines (record { table = table; style = style_of options.entry }) clusters no_words)
-            × IsFaultless (HasLineTableFault table clusters)) }
-        ensures rejected { IfErr result (IsLowestFault (HasLineTableFault table clusters)) }
+            × IsFaultless (HasLineTableFault Classic table clusters)) }
+        ensures rejected { IfErr result (IsLowestFault (HasLineTableFault Classic table clusters)) }
     {
         let style = LineStyle::new(options);
-        let pairs = OwnedLinePairs::try_new(table, &clusters, style)?;
+        let pairs = OwnedLinePairs::<ClassicEngine>::try_new(table, &clusters, style)?;
         Ok(LineSegmenter {
             finder: OwnedFinder::of_table(style.strictness, pairs),
             clusters: GraphemeClusterSegmenter::try_new(clusters)?,
@@ -207,8 +208,8 @@ impl LineSegmenter {
         options: LineBreakOptions<'_>,
     ) -> Result<Self, DataError>
         ensures accepted { IfOk result (λ segmenter. (owned_line_rules segmenter ≡ table_lines (record { table = table; style = style_of options.entry }) clusters (without_ja (script_words dictionaries)))
-            × IsFaultless (HasLineTableFault table clusters)) }
-        ensures rejected { IfErr result (IsLowestFault (HasLineTableFault table clusters)) }
+            × IsFaultless (HasLineTableFault Classic table clusters)) }
+        ensures rejected { IfErr result (IsLowestFault (HasLineTableFault Classic table clusters)) }
     {
         let mut segmenter = Self::try_new_for_non_complex_scripts(table, clusters, options)?;
         segmenter.load_dictionary(dictionaries);
@@ -225,11 +226,11 @@ impl LineSegmenter {
         options: LineBreakOptions<'_>,
     ) -> Result<Self, DataError>
         ensures accepted { IfOk result (λ segmenter. (owned_line_rules segmenter ≡ turn_lines (record { table = table; style = style_of options.entry }) clusters no_words)
-            × IsFaultless (HasTurnTableFault table clusters)) }
-        ensures rejected { IfErr result (IsLowestFault (HasTurnTableFault table clusters)) }
+            × IsFaultless (HasLineTableFault Seventeen table clusters)) }
+        ensures rejected { IfErr result (IsLowestFault (HasLineTableFault Seventeen table clusters)) }
     {
         let style = LineStyle::new(options);
-        let pairs = OwnedTurnPairs::try_new(table, &clusters, style)?;
+        let pairs = OwnedLinePairs::<Engine17>::try_new(table, &clusters, style)?;
         Ok(LineSegmenter {
             finder: OwnedFinder::of_turns(style.strictness, pairs),
             clusters: GraphemeClusterSegmenter::try_new(clusters)?,
@@ -314,8 +315,8 @@ impl<'data> LineSegmenterBorrowed<'data> {
         options: LineBreakOptions<'_>,
     ) -> Result<Self, DataError>
         ensures accepted { IfOk result (λ segmenter. (line_rules segmenter ≡ table_lines (record { table = table.now; style = style_of options.entry }) clusters.now no_words)
-            × IsFaultless (HasLineTableFault table.now clusters.now)) }
-        ensures rejected { IfErr result (IsLowestFault (HasLineTableFault table.now clusters.now)) }
+            × IsFaultless (HasLineTableFault Classic table.now clusters.now)) }
+        ensures rejected { IfErr result (IsLowestFault (HasLineTableFault Classic table.now clusters.now)) }
     {
         Self::new_dictionary(table, clusters, DictionariesBorrowed::none(), options)
     }
@@ -329,11 +330,11 @@ impl<'data> LineSegmenterBorrowed<'data> {
         options: LineBreakOptions<'_>,
     ) -> Result<Self, DataError>
         ensures accepted { IfOk result (λ segmenter. (line_rules segmenter ≡ table_lines (record { table = table.now; style = style_of options.entry }) clusters.now (without_ja (borrowed_words dictionaries.entry)))
-            × IsFaultless (HasLineTableFault table.now clusters.now)) }
-        ensures rejected { IfErr result (IsLowestFault (HasLineTableFault table.now clusters.now)) }
+            × IsFaultless (HasLineTableFault Classic table.now clusters.now)) }
+        ensures rejected { IfErr result (IsLowestFault (HasLineTableFault Classic table.now clusters.now)) }
     {
         let style = LineStyle::new(options);
-        let pairs = LinePairs::try_new(table, clusters, style)?;
+        let pairs = LinePairs::<ClassicEngine>::try_new(table, clusters, style)?;
         Ok(LineSegmenterBorrowed {
             finder: Finder::of_table(style.strictness, pairs),
             payloads: ComplexPayloadsBorrowed::new(
@@ -350,11 +351,11 @@ impl<'data> LineSegmenterBorrowed<'data> {
         options: LineBreakOptions<'_>,
     ) -> Result<Self, DataError>
         ensures accepted { IfOk result (λ segmenter. (line_rules segmenter ≡ turn_lines (record { table = table.now; style = style_of options.entry }) clusters.now no_words)
-            × IsFaultless (HasTurnTableFault table.now clusters.now)) }
-        ensures rejected { IfErr result (IsLowestFault (HasTurnTableFault table.now clusters.now)) }
+            × IsFaultless (HasLineTableFault Seventeen table.now clusters.now)) }
+        ensures rejected { IfErr result (IsLowestFault (HasLineTableFault Seventeen table.now clusters.now)) }
     {
         let style = LineStyle::new(options);
-        let pairs = TurnPairs::try_new(table, clusters, style)?;
+        let pairs = LinePairs::<Engine17>::try_new(table, clusters, style)?;
         Ok(LineSegmenterBorrowed {
             finder: Finder::of_turns(style.strictness, pairs),
             payloads: ComplexPayloadsBorrowed::new(

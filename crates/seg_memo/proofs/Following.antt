@@ -1,24 +1,17 @@
 -- What follows a configuration, its outcome, and what a scan looks up from it on.
-use Rattle.std.proofs.Common.{◌≡◌, ℕ, suc, ◌+◌, ◌-◌, ◌^◌, ◌<◌, ◌≤◌, ◌==◌, Bool, true, false, if◌then◌else◌, Option, Some, None, List, [], ◌∷◌, ◌++◌, length, drop, get_or, map, replicate, min, refl, sym, ap, ◌∙◌, subst, arith, drop-cons, inl, inr, length-append}
+use Rattle.std.proofs.Common.{◌≡◌, ◌⊎◌, ℕ, suc, ◌+◌, ◌-◌, ◌^◌, ◌<◌, ◌≤◌, ◌==◌, Bool, true, false, if◌then◌else◌, Option, Some, None, List, [], ◌∷◌, ◌++◌, length, drop, get_or, map, replicate, min, refl, sym, ap, ◌∙◌, subst, arith, drop-cons, inl, inr, length-append}
 use Rattle.std.specs.Prelude.{IfSome}
 use Rattle.std.specs.Option.{option_map_or}
 use Rattle.std.proofs.lemmas.Bool.{cases_lt, cases_eq, ne_eqb, eq-eqb}
 use Rattle.std.proofs.lemmas.List.{get_or_past, drop_all, length-drop, length-replicate}
 use Rattle.std.proofs.lemmas.Nat.{or_lt, pow_below}
-use Rattle.seg_text.specs.declared.boundary.Boundary.{Boundary}
+use Rattle.seg_memo.specs.Configurations.{Boundary, Acceptance, Continue, Accept, Conditional, Configuration, Outcome, Nothing, Picked, Kept, LookUp, Ends, Leads, Subject, configuration, following, condition_held, entering, look_ups_on, look_ups, entered, at, outcome, outcome_at, arrival, look_up}
 use Rattle.seg_text.specs.Boundaries.{boundary}
-use Rattle.seg_machine.specs.declared.provider.Acceptance.{Acceptance}
-use Rattle.seg_machine.specs.declared.provider.Acceptance.TheVariants.{Continue, Accept, Conditional}
 use Rattle.seg_machine.specs.Machine.{Machine, step, run, state_at}
 use Rattle.seg_machine.specs.MachineFaults.{NamesPast, IsChecked}
 use Rattle.seg_machine.specs.Search.{keep}
 use Rattle.seg_machine.proofs.Scanned.{run-more}
-use Rattle.seg_memo.specs.declared.configuration.Configuration.{Configuration}
-use Rattle.seg_memo.specs.declared.configuration.Outcome.{Outcome}
-use Rattle.seg_memo.specs.declared.configuration.Outcome.TheVariants.{Nothing, Picked, Kept}
-use Rattle.seg_memo.specs.declared.configuration.LookUp.TheVariants.{Ends, Leads}
-use Rattle.seg_memo.specs.Configurations.{Subject, configuration, following, condition_held, entering, look_ups_on, look_ups, entered, at, outcome, outcome_at, arrival, look_up}
-use Rattle.seg_memo.specs.Grids.{IsSound, IsConfigurationOf}
+use Rattle.seg_memo.specs.Grids.{IsSound, IsConfigurationOf, IsOn}
 
 -- a configuration comes after another
 pub record Follows (s : Subject) (before after : Configuration) : Type 0 where
@@ -119,27 +112,34 @@ outcome-follows s c d f =
 
 -- a segment's end is past the configuration, but at the end of the text
 
-entered-past : (state : Acceptance × Option ℕ) (o : Outcome) (found : Boundary) → entered 1 state (at suc o) ≡ Picked found → 0 < found.offset
-entered-past (Accept status, name) Nothing found is = let same : boundary 1 status ≡ found = cc in let offset : 1 ≡ found.offset = ap (λ (b : Boundary). b.offset) same in omega (arith, offset)
-entered-past (Continue, name) Nothing found is = cc
-entered-past (Conditional lookahead status, name) Nothing found is = cc
-entered-past (acceptance, name) (Picked later) found is =
-    let same : boundary (suc later.offset) later.status ≡ found = cc in
-    let offset : suc later.offset ≡ found.offset = ap (λ (b : Boundary). b.offset) same in
-    omega (arith, offset)
-entered-past (acceptance, None) (Kept lookahead status) found is = cc
-entered-past (acceptance, Some name) (Kept lookahead status) found is = on (name == lookahead) is
+pub entered-cases : (place : ℕ) (state : Acceptance × Option ℕ) (o : Outcome) (found : Boundary) → entered place state o ≡ Picked found → (found.offset ≡ place) ⊎ (o ≡ Picked found)
+entered-cases place (Accept status, name) Nothing found is = let same : boundary place status ≡ found = cc in inl (ap (λ (b : Boundary). b.offset) (sym same))
+entered-cases place (Continue, name) Nothing found is = cc
+entered-cases place (Conditional lookahead status, name) Nothing found is = cc
+entered-cases place (acceptance, name) (Picked later) found is = inr is
+entered-cases place (acceptance, None) (Kept lookahead status) found is = cc
+entered-cases place (acceptance, Some name) (Kept lookahead status) found is = on (name == lookahead) is
   where
-    on : (same : Bool) → (if same then Picked (boundary 1 status) else Kept lookahead status) ≡ Picked found → 0 < found.offset
-    on true is = let same : boundary 1 status ≡ found = cc in let offset : 1 ≡ found.offset = ap (λ (b : Boundary). b.offset) same in omega (arith, offset)
+    on : (same : Bool) → (if same then Picked (boundary place status) else Kept lookahead status) ≡ Picked found → (found.offset ≡ place) ⊎ (Kept lookahead status ≡ Picked found)
+    on true is = let same : boundary place status ≡ found = cc in inl (ap (λ (b : Boundary). b.offset) (sym same))
     on false is = cc
+
+at-past : (o : Outcome) (found : Boundary) → at suc o ≡ Picked found → 0 < found.offset
+at-past Nothing found is = cc
+at-past (Kept lookahead status) found is = cc
+at-past (Picked first) found is =
+    let same : boundary (suc first.offset) first.status ≡ found = cc in
+    let offset : suc first.offset ≡ found.offset = ap (λ (b : Boundary). b.offset) same in
+    omega (arith, offset)
 
 outcome-past : (kept : ℕ) (states : List (Acceptance × Option ℕ)) (found : Boundary) → outcome kept states ≡ Picked found → 0 < found.offset
 outcome-past kept [] found is = let never : Nothing ≡ Picked found = sym (outcome-nil kept) ∙ is in cc
 outcome-past kept (state ∷ states) found is = on (condition_held kept state) refl
   where
     on : (held : Option (ℕ × ℕ)) → condition_held kept state ≡ held → 0 < found.offset
-    on None free = entered-past state (outcome (keep kept state.1) states) found (sym (outcome-cons kept state states None free) ∙ is)
+    on None free =
+        let o = outcome (keep kept state.1) states in
+        elim (entered-cases 1 state (at suc o) found (sym (outcome-cons kept state states None free) ∙ is)) [ inl one ↦ omega (arith, one) | inr later ↦ at-past o found later ]
     on (Some f) holds = let never : Kept f.0 f.1 ≡ Picked found = sym (outcome-cons kept state states (Some f) holds) ∙ is in cc
 
 pub outcome-at : (s : Subject) (c : Configuration) → outcome_at s c ≡ at (λ steps. min (c.place + steps) (length s.symbols)) (outcome c.kept (map (state_at s.machine) (following s c)))
@@ -171,6 +171,15 @@ look-ups-cons : (s : Subject) (c : Configuration) (next : ℕ) (states : List �
     → look_ups_on s c (next ∷ states) ≡ c ∷ option_map_or {T = ℕ × ℕ} {U = List Configuration} (λ f. []) found (look_ups_on s (entering s c next) states)
 unfolding look_ups_on
 look-ups-cons s c next states found is = rw is refl
+
+-- it looks up that configuration
+pub look-ups-on : (s : Subject) (c : Configuration) → IsOn c (look_ups s c)
+unfolding look_ups
+look-ups-on s c = on (following s c)
+  where
+    on : (states : List ℕ) → IsOn c (look_ups_on s c states)
+    on [] = subst (IsOn c) (sym (look-ups-nil s c)) (inl refl)
+    on (next ∷ states) = subst (IsOn c) (sym (look-ups-cons s c next states (condition_held c.kept (state_at s.machine next)) refl)) (inl refl)
 
 look-ups-none : (s : Subject) (c : Configuration) → following s c ≡ [] → look_ups s c ≡ c ∷ []
 unfolding look_ups
@@ -208,6 +217,20 @@ pub look-up-leads : (s : Subject) (c : Configuration) (next : ℕ) → step s.ma
     → condition_held c.kept (state_at s.machine next) ≡ None → look_up s c ≡ Leads (entering s c next)
 look-up-leads s c next some free = look-up-some s c next some ∙ rw free refl
 
+-- so it gives one of three
+pub looks : (s : Subject) (c : Configuration) (P : LookUp → Type 0) → (step s.machine c.state (get_or s.symbols c.place 0) ≡ None → P (Ends Nothing))
+    → ((next : ℕ) (f : ℕ × ℕ) → step s.machine c.state (get_or s.symbols c.place 0) ≡ Some next → condition_held c.kept (state_at s.machine next) ≡ Some f → P (Ends (Kept f.0 f.1)))
+    → ((next : ℕ) → step s.machine c.state (get_or s.symbols c.place 0) ≡ Some next → condition_held c.kept (state_at s.machine next) ≡ None → P (Leads (entering s c next))) → P (look_up s c)
+looks s c P none held free = on (step s.machine c.state (get_or s.symbols c.place 0)) refl
+  where
+    over : (next : ℕ) → step s.machine c.state (get_or s.symbols c.place 0) ≡ Some next → (f : Option (ℕ × ℕ)) → condition_held c.kept (state_at s.machine next) ≡ f → P (look_up s c)
+    over next some None is = subst P (sym (look-up-leads s c next some is)) (free next some is)
+    over next some (Some f) is = subst P (sym (look-up-held s c next f some is)) (held next f some is)
+
+    on : (found : Option ℕ) → step s.machine c.state (get_or s.symbols c.place 0) ≡ found → P (look_up s c)
+    on None is = subst P (sym (look-up-none s c is)) (none is)
+    on (Some next) is = over next is (condition_held c.kept (state_at s.machine next)) refl
+
 -- what is read of a state of a checked machine
 pub names-few : (m : Machine) (next : ℕ) → IsChecked m → NamesPast 8 (state_at m next) → ⊥
 names-few m next checked past = checked.lookaheads next (on (state_at m next) past)
@@ -239,36 +262,22 @@ step-within s c next sound within is =
     subst (λ (found : Option ℕ). IfSome found (λ n. n < length s.machine.states)) is (sound.checked.in_range c.state (get_or s.symbols c.place 0) within.state (sound.own c.place))
 
 pub leads-within : (s : Subject) (c d : Configuration) → IsSound s → IsConfigurationOf s c → look_up s c ≡ Leads d → IsConfigurationOf s d
-leads-within s c d sound within is = on (step s.machine c.state (get_or s.symbols c.place 0)) refl
-  where
-    over : (next : ℕ) → step s.machine c.state (get_or s.symbols c.place 0) ≡ Some next → (held : Option (ℕ × ℕ)) → condition_held c.kept (state_at s.machine next) ≡ held → IsConfigurationOf s d
-    over next some (Some f) holds = let never : Ends (Kept f.0 f.1) ≡ Leads d = sym (look-up-held s c next f some holds) ∙ is in cc
-    over next some None free =
-        let same : Leads (entering s c next) ≡ Leads d = sym (look-up-leads s c next some free) ∙ is in
-        let one : entering s c next ≡ d = cc in
-        subst (IsConfigurationOf s) one (record {
-          state = step-within s c next sound within some;
-          place = omega arith;
-          kept = keep-below s.machine c.kept next sound.checked within.kept;
-        })
-
-    on : (found : Option ℕ) → step s.machine c.state (get_or s.symbols c.place 0) ≡ found → IsConfigurationOf s d
-    on None none = let never : Ends Nothing ≡ Leads d = sym (look-up-none s c none) ∙ is in cc
-    on (Some next) some = over next some (condition_held c.kept (state_at s.machine next)) refl
+leads-within s c d sound within =
+    looks s c (λ found. found ≡ Leads d → IsConfigurationOf s d) (λ none is. cc) (λ next f some holds is. cc)
+    (λ next some free is.
+    let one : entering s c next ≡ d = cc in
+    subst (IsConfigurationOf s) one (record {
+      state = step-within s c next sound within some;
+      place = omega arith;
+      kept = keep-below s.machine c.kept next sound.checked within.kept;
+    }))
 
 pub leads : (s : Subject) (c d : Configuration) → IsSound s → IsConfigurationOf s c → look_up s c ≡ Leads d → Follows s c d
-leads s c d sound within is = on (step s.machine c.state (get_or s.symbols c.place 0)) refl
-  where
-    over : (next : ℕ) → step s.machine c.state (get_or s.symbols c.place 0) ≡ Some next → (held : Option (ℕ × ℕ)) → condition_held c.kept (state_at s.machine next) ≡ held → Follows s c d
-    over next some (Some f) holds = let never : Ends (Kept f.0 f.1) ≡ Leads d = sym (look-up-held s c next f some holds) ∙ is in cc
-    over next some None free =
-        let same : Leads (entering s c next) ≡ Leads d = sym (look-up-leads s c next some free) ∙ is in
-        let one : entering s c next ≡ d = cc in
-        subst (Follows s c) one (record { states = follows-some s c (entering s c next) sound.checked within some refl; free = free; kept = refl; place = refl })
-
-    on : (found : Option ℕ) → step s.machine c.state (get_or s.symbols c.place 0) ≡ found → Follows s c d
-    on None none = let never : Ends Nothing ≡ Leads d = sym (look-up-none s c none) ∙ is in cc
-    on (Some next) some = over next some (condition_held c.kept (state_at s.machine next)) refl
+leads s c d sound within =
+    looks s c (λ found. found ≡ Leads d → Follows s c d) (λ none is. cc) (λ next f some holds is. cc)
+    (λ next some free is.
+    let one : entering s c next ≡ d = cc in
+    subst (Follows s c) one (record { states = follows-some s c (entering s c next) sound.checked within some refl; free = free; kept = refl; place = refl }))
 
 -- or is the last of its scan
 pub record IsLast (s : Subject) (c : Configuration) (o : Outcome) : Type 0 where
@@ -276,23 +285,17 @@ pub record IsLast (s : Subject) (c : Configuration) (o : Outcome) : Type 0 where
   pub alone : look_ups s c ≡ c ∷ []
 
 pub ends : (s : Subject) (c : Configuration) (o : Outcome) → IsSound s → IsConfigurationOf s c → look_up s c ≡ Ends o → IsLast s c o
-ends s c o sound within is = on (step s.machine c.state (get_or s.symbols c.place 0)) refl
-  where
-    over : (next : ℕ) → step s.machine c.state (get_or s.symbols c.place 0) ≡ Some next → (held : Option (ℕ × ℕ)) → condition_held c.kept (state_at s.machine next) ≡ held → IsLast s c o
-    over next some None free = let never : Leads (entering s c next) ≡ Ends o = sym (look-up-leads s c next some free) ∙ is in cc
-    over next some (Some f) holds =
-        let same : Ends (Kept f.0 f.1) ≡ Ends o = sym (look-up-held s c next f some holds) ∙ is in
-        let one : Kept f.0 f.1 ≡ o = cc in
-        let comes = follows-some s c (entering s c next) sound.checked within some refl in
-        record { outcome_is = outcome-held s c next _ f comes holds ∙ one; alone = look-ups-held s c next _ f comes holds }
-
-    on : (found : Option ℕ) → step s.machine c.state (get_or s.symbols c.place 0) ≡ found → IsLast s c o
-    on None none =
-        let same : Ends Nothing ≡ Ends o = sym (look-up-none s c none) ∙ is in
-        let one : Nothing ≡ o = cc in
-        let stops = follows-none s c sound.checked within none in
-        record { outcome_is = outcome-none s c stops ∙ one; alone = look-ups-none s c stops }
-    on (Some next) some = over next some (condition_held c.kept (state_at s.machine next)) refl
+ends s c o sound within =
+    looks s c (λ found. found ≡ Ends o → IsLast s c o)
+    (λ none is.
+    let one : Nothing ≡ o = cc in
+    let stops = follows-none s c sound.checked within none in
+    record { outcome_is = outcome-none s c stops ∙ one; alone = look-ups-none s c stops })
+    (λ next f some holds is.
+    let one : Kept f.0 f.1 ≡ o = cc in
+    let comes = follows-some s c (entering s c next) sound.checked within some refl in
+    record { outcome_is = outcome-held s c next _ f comes holds ∙ one; alone = look-ups-held s c next _ f comes holds })
+    (λ next some free is. cc)
 
 pub outcome-leads : (s : Subject) (c d : Configuration) → IsSound s → IsConfigurationOf s c → look_up s c ≡ Leads d → outcome_at s c ≡ entered d.place (state_at s.machine d.state) (outcome_at s d)
 outcome-leads s c d sound within is = outcome-follows s c d (leads s c d sound within is)

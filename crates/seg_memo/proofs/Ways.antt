@@ -1,202 +1,17 @@
 -- The way of a scan that keeps a lookahead, forward over the cells and back.
-use Rattle.std.proofs.Common.{◌≡◌, ℕ, suc, ◌+◌, ◌-◌, ◌^◌, ◌<◌, ◌≤◌, ◌==◌, ◌||◌, Bool, true, false, Option, Some, None, List, [], ◌∷◌, ◌++◌, if◌then◌else◌, length, min, set, refl, sym, ap, ◌∙◌, subst, arith, inl, inr, eq-eqb}
-use Rattle.std.specs.Prelude.{bit_or, slice_index_or}
-use Rattle.std.proofs.lemmas.Bool.{cases_eq, eqb-true, eqb-false, false≢true, ne_eqb}
-use Rattle.std.proofs.lemmas.List.{length-set, get_or-set_same, get_or-set_other}
-use Rattle.seg_text.specs.declared.boundary.Boundary.{Boundary}
-use Rattle.seg_machine.specs.Machine.{state_at, step}
+use Rattle.std.proofs.Common.{◌≡◌, ℕ, suc, ◌+◌, ◌-◌, ◌^◌, ◌<◌, ◌≤◌, ◌==◌, Bool, true, false, Option, Some, None, List, [], ◌∷◌, ◌++◌, if◌then◌else◌, length, min, refl, sym, ap, ◌∙◌, subst, arith, inl, inr, eq-eqb}
+use Rattle.std.specs.Prelude.{bit_or}
+use Rattle.std.proofs.lemmas.Bool.{cases_eq, eqb-true, eqb-false, false≢true}
+use Rattle.seg_memo.specs.Configurations.{Boundary, Configuration, Outcome, Nothing, Picked, Kept, Ends, Leads, Subject, following, look_ups, all_look_ups, entered, outcome_at, look_up}
+use Rattle.seg_machine.specs.Machine.{state_at}
 use Rattle.seg_machine.specs.Search.{has, keep}
 use Rattle.seg_machine.proofs.Sets.{has-keep, has-none}
-use Rattle.seg_memo.specs.declared.configuration.Configuration.{Configuration}
-use Rattle.seg_memo.specs.declared.configuration.Outcome.{Outcome}
-use Rattle.seg_memo.specs.declared.configuration.Outcome.TheVariants.{Nothing, Picked, Kept}
-use Rattle.seg_memo.specs.declared.configuration.LookUp.TheVariants.{Ends, Leads}
-use Rattle.seg_memo.specs.declared.configuration.Cell.{Cell}
-use Rattle.seg_memo.specs.declared.configuration.Cell.TheVariants.{Unknown, First, Way, KnownNothing, KnownKept}
-use Rattle.seg_memo.specs.Configurations.{Subject, condition_held, configuration, following, look_ups, all_look_ups, entered, outcome_at, look_up}
-use Rattle.seg_memo.specs.Grids.{Grid, AreFilled, IsFit, IsNamed, IsOn, IsPlainRight, IsRight, IsSound, IsRightFrom, IsWalked, IsWay, IsConfigurationOf, IsUnderWay, Went, cell, with_cell, has_number, holding, is_filled, is_filled_at, filled_count, known, number, came_from, way_from}
-use Rattle.seg_memo.proofs.Numbers.{number-in, number-same}
-use Rattle.seg_memo.proofs.Following.{ends, few, fewer, leads, look-ups-leads, look-up-held, look-up-leads, look-up-none, outcome-leads}
-use Rattle.seg_memo.proofs.Counts.{AreWithin, count-bound, fills-other, fills-same, filled-mark, filled-stays, has-append, has-cons, has-nil, on-append, on-has, or-cases, or-right, stays-filled}
-use Rattle.seg_memo.proofs.Scanning.{all-part, all-within}
-
--- cells
-
-pub right-known : (s : Subject) (c : Configuration) (x : Cell) (o : Outcome) → IsRight s c x → known x ≡ Some o → o ≡ outcome_at s c
-right-known s c Unknown o right is = cc
-right-known s c First o right is = cc
-right-known s c (Way state kept stays) o right is = cc
-right-known s c KnownNothing o right is = let same : Nothing ≡ o = cc in sym same ∙ right
-right-known s c (KnownKept lookahead status) o right is = let same : Kept lookahead status ≡ o = cc in sym same ∙ right
-
-pub right-unknown : (s : Subject) (c : Configuration) (x : Cell) → IsRight s c x → known x ≡ None → x ≡ Unknown
-right-unknown s c Unknown right is = refl
-right-unknown s c First right is = absurd right
-right-unknown s c (Way state kept stays) right is = absurd right
-right-unknown s c KnownNothing right is = cc
-right-unknown s c (KnownKept lookahead status) right is = cc
-
-pub known-filled : (x : Cell) (o : Outcome) → known x ≡ Some o → is_filled x ≡ true
-known-filled Unknown o is = cc
-known-filled First o is = refl
-known-filled (Way state kept stays) o is = refl
-known-filled KnownNothing o is = refl
-known-filled (KnownKept lookahead status) o is = refl
-
-pub right-holding : (s : Subject) (c : Configuration) (o : Outcome) (x : Cell) → o ≡ outcome_at s c → holding o ≡ Some x → IsRight s c x
-right-holding s c Nothing x is holds = let same : KnownNothing ≡ x = cc in subst (IsRight s c) same is
-right-holding s c (Picked found) x is holds = cc
-right-holding s c (Kept lookahead status) x is holds = let same : KnownKept lookahead status ≡ x = cc in subst (IsRight s c) same is
-
-holding-filled : (o : Outcome) (x : Cell) → holding o ≡ Some x → is_filled x ≡ true
-holding-filled Nothing x holds = let same : KnownNothing ≡ x = cc in ap is_filled (sym same)
-holding-filled (Picked found) x holds = cc
-holding-filled (Kept lookahead status) x holds = let same : KnownKept lookahead status ≡ x = cc in ap is_filled (sym same)
-
--- a write changes one cell
-
-pub other-cell : (s : Subject) (g : Grid) (c d : Configuration) (x : Cell) → IsConfigurationOf s c → IsConfigurationOf s d → (d ≡ c → ⊥) → cell s (with_cell s g c x) d ≡ cell s g d
-other-cell s g c d x inside within other = get_or-set_other g.cells (number s c) (number s d) x Unknown (λ is. other (number-same s d c within inside is))
-
-pub same-cell : (s : Subject) (g : Grid) (c : Configuration) (x : Cell) → IsFit s g → IsConfigurationOf s c → cell s (with_cell s g c x) c ≡ x
-same-cell s g c x fit inside = get_or-set_same g.cells (number s c) x Unknown (number-in s g c fit inside)
-
-pub fit-write : (s : Subject) (g : Grid) (c : Configuration) (x : Cell) → IsFit s g → IsFit s (with_cell s g c x)
-fit-write s g c x fit = record { sound = fit.sound; states = fit.states; sets = fit.sets; size = length-set g.cells (number s c) x ∙ fit.size }
-
-pub table-mark : (s : Subject) (g : Grid) (place : ℕ) (path : List Configuration) (c : Configuration) (x : Cell) → IsRightFrom s g place path → IsConfigurationOf s c
-    → IsRightFrom s (with_cell s g c x) place (c ∷ path)
-table-mark s g place path c x table inside = record {
-  fit = fit-write s g c x table.fit;
-  right = λ some d past within off.
-      subst (IsRight s d) (sym (other-cell s g c d x inside within (λ is. off (inl is)))) (table.right some d past within (λ on. off (inr on)));
-}
-
-pub table-fill : (s : Subject) (g : Grid) (place : ℕ) (path : List Configuration) (c : Configuration) (x : Cell) → IsRightFrom s g place (c ∷ path) → IsConfigurationOf s c → IsRight s c x
-    → IsRightFrom s (with_cell s g c x) place path
-table-fill s g place path c x table inside right = record {
-  fit = fit-write s g c x table.fit;
-  right = λ some d past within off.
-      elim (cases_eq (number s d) (number s c)) [
-        | inl same ↦
-            subst (λ (e : Configuration). IsRight s e (cell s (with_cell s g c x) e)) (sym (number-same s d c within inside same))
-            (subst (IsRight s c) (sym (same-cell s g c x table.fit inside)) right)
-        | inr other ↦
-            let differs : d ≡ c → ⊥ = λ is. other (ap (number s) is) in
-            subst (IsRight s d) (sym (other-cell s g c d x inside within differs)) (table.right some d past within (λ on. elim on [ inl is ↦ differs is | inr rest ↦ off rest ]))
-      ];
-}
-
-pub filling-mark : (s : Subject) (g : Grid) (starts : List ℕ) (found : List Configuration) (c : Configuration) (x : Cell)
-    → AreFilled s g starts found → IsFit s g → IsConfigurationOf s c → is_filled x ≡ true → AreFilled s (with_cell s g c x) starts (c ∷ found)
-filling-mark s g starts found c x are fit inside full i =
-    elim (cases_eq i (number s c)) [
-      | inl same ↦
-          subst (λ (j : ℕ). is_filled_at (set g.cells (number s c) x) j ≡ (has_number s j (c ∷ found) || has_number s j (all_look_ups s starts))) (sym same)
-          (fills-same g.cells (number s c) x (number-in s g c fit inside) full
-          ∙ sym (ap (λ (b : Bool). b || has_number s (number s c) (all_look_ups s starts)) (has-cons s (number s c) c found)
-          ∙ ap (λ (b : Bool). (b || has_number s (number s c) found) || has_number s (number s c) (all_look_ups s starts)) (eq-eqb (number s c) (number s c) refl)))
-      | inr other ↦
-          fills-other g.cells (number s c) i x other
-          ∙ are i
-          ∙ sym (ap (λ (b : Bool). b || has_number s i (all_look_ups s starts)) (has-cons s i c found)
-          ∙ ap (λ (b : Bool). (b || has_number s i found) || has_number s i (all_look_ups s starts)) (ne_eqb (number s c) i (λ is. other (sym is))))
-    ]
-
-pub filling-stays : (s : Subject) (g : Grid) (starts : List ℕ) (found : List Configuration) (c : Configuration) (x : Cell)
-    → AreFilled s g starts found → IsFit s g → IsConfigurationOf s c → is_filled (cell s g c) ≡ true → is_filled x ≡ true → AreFilled s (with_cell s g c x) starts found
-filling-stays s g starts found c x are fit inside was full i = stays-filled g.cells (number s c) i x (number-in s g c fit inside) was full ∙ are i
-
--- the way
-
-pub way-inside : (s : Subject) (g : Grid) (first here : Configuration) (path : List Configuration) → IsWay s g first here path → IsConfigurationOf s here
-way-inside s g first here [] way = way.1
-way-inside s g first here (before ∷ path) way = way.1
-
-way-filled : (s : Subject) (g : Grid) (first here : Configuration) (path : List Configuration) → IsWay s g first here path → is_filled (cell s g here) ≡ true
-way-filled s g first here [] way = ap is_filled way.2
-way-filled s g first here (before ∷ path) way = ap is_filled way.2
-
--- all of it is of the text
-way-within : (s : Subject) (g : Grid) (first here : Configuration) (path : List Configuration) → IsWay s g first here path → AreWithin s (here ∷ path)
-way-within s g first here [] way d on = elim on [ inl is ↦ subst (IsConfigurationOf s) (sym is) way.1 | inr none ↦ absurd none ]
-way-within s g first here (before ∷ path) way d on =
-    elim on [
-      | inl is ↦ subst (IsConfigurationOf s) (sym is) way.1
-      | inr rest ↦ way-within s g first before path way.3 d rest
-    ]
-
--- it goes on from the first
-pub way-past : (s : Subject) (g : Grid) (first here : Configuration) (path : List Configuration) → IsSound s → IsWay s g first here path → first.place ≤ here.place
-way-past s g first here [] sound way = let same : here.place ≡ first.place = ap (λ (c : Configuration). c.place) way.0 in omega (arith, same)
-way-past s g first here (before ∷ path) sound way =
-    let inside = way-inside s g first before path way.3 in
-    let more = way-past s g first before path sound way.3 in
-    let place : here.place ≡ min (suc before.place) (length s.symbols) = (leads s before here sound inside way.0).place in
-    omega (arith, more, inside.place, place)
-
--- a segment's end is the same from each of them
-way-picked : (s : Subject) (g : Grid) (first here c : Configuration) (path : List Configuration) (found : Boundary) → IsSound s → IsWay s g first here path → outcome_at s here ≡ Picked found
-    → IsOn c (here ∷ path) → outcome_at s c ≡ Picked found
-way-picked s g first here c [] found sound way is on = elim on [ inl same ↦ ap (outcome_at s) same ∙ is | inr none ↦ absurd none ]
-way-picked s g first here c (before ∷ path) found sound way is on =
-    elim on [
-      | inl same ↦ ap (outcome_at s) same ∙ is
-      | inr rest ↦
-          way-picked s g first before c path found sound way.3
-          (outcome-leads s before here sound (way-inside s g first before path way.3) way.0 ∙ ap (entered here.place (state_at s.machine here.state)) is) rest
-    ]
-
-way-first : (s : Subject) (g : Grid) (first here : Configuration) (path : List Configuration) → IsWay s g first here path → IsOn first (here ∷ path)
-way-first s g first here [] way = inl (sym way.0)
-way-first s g first here (before ∷ path) way = inr (way-first s g first before path way.3)
-
--- more states come after those that lie further back
-way-shorter : (s : Subject) (g : Grid) (first here c : Configuration) (path : List Configuration) → IsSound s → IsWay s g first here path → IsOn c path
-    → length (following s here) < length (following s c)
-way-shorter s g first here c [] sound way on = absurd on
-way-shorter s g first here c (before ∷ path) sound way on =
-    let less = fewer s before here sound (way-inside s g first before path way.3) way.0 in
-    elim on [
-      | inl is ↦ rw is less
-      | inr further ↦ let more = way-shorter s g first before c path sound way.3 further in omega (arith, less, more)
-    ]
-
-off-way : (s : Subject) (g : Grid) (first here : Configuration) (path : List Configuration) → IsSound s → IsWay s g first here path → IsOn here path → ⊥
-off-way s g first here path sound way on = let less = way-shorter s g first here here path sound way on in omega (arith, less)
-
-next-off-way : (s : Subject) (g : Grid) (first here next : Configuration) (path : List Configuration) → IsSound s → IsWay s g first here path → look_up s here ≡ Leads next
-    → IsOn next (here ∷ path) → ⊥
-next-off-way s g first here next path sound way leads on =
-    let less = fewer s here next sound (way-inside s g first here path way) leads in
-    elim on [
-      | inl is ↦ let same : length (following s next) ≡ length (following s here) = ap (λ (c : Configuration). length (following s c)) is in omega (arith, less, same)
-      | inr further ↦ let more = way-shorter s g first here next path sound way further in omega (arith, less, more)
-    ]
-
-way-write : (s : Subject) (g : Grid) (first here : Configuration) (path : List Configuration) (c : Configuration) (x : Cell) → IsWay s g first here path → IsConfigurationOf s c
-    → (IsOn c (here ∷ path) → ⊥) → IsWay s (with_cell s g c x) first here path
-way-write s g first here [] c x way inside off = (way.0, way.1, other-cell s g c here x inside way.1 (λ is. off (inl (sym is))) ∙ way.2)
-way-write s g first here (before ∷ path) c x way inside off =
-    (way.0, way.1, other-cell s g c here x inside way.1 (λ is. off (inl (sym is))) ∙ way.2, way-write s g first before path c x way.3 inside (λ on. off (inr on)))
-
-pub or-swap : (a b c : Bool) → (a || (b || c)) ≡ ((b || a) || c)
-or-swap true true c = refl
-or-swap true false c = refl
-or-swap false true c = refl
-or-swap false false c = refl
-
--- what the whole scan looks up is the way, and what it looks up from its end on
-way-covers : (s : Subject) (g : Grid) (first here : Configuration) (path : List Configuration) (i : ℕ) → IsSound s → IsWay s g first here path
-    → has_number s i (look_ups s first) ≡ (has_number s i path || has_number s i (look_ups s here))
-way-covers s g first here [] i sound way =
-    ap (λ (c : Configuration). has_number s i (look_ups s c)) (sym way.0) ∙ sym (ap (λ (b : Bool). b || has_number s i (look_ups s here)) (has-nil s i))
-way-covers s g first here (before ∷ path) i sound way =
-    way-covers s g first before path i sound way.3
-    ∙ ap (λ (cs : List Configuration). has_number s i path || has_number s i cs) (look-ups-leads s before here sound (way-inside s g first before path way.3) way.0)
-    ∙ ap (λ (b : Bool). has_number s i path || b) (has-cons s i before (look_ups s here))
-    ∙ or-swap (has_number s i path) (number s before == i) (has_number s i (look_ups s here))
-    ∙ sym (ap (λ (b : Bool). b || has_number s i (look_ups s here)) (has-cons s i before path))
+use Rattle.seg_memo.specs.Grids.{Cell, First, Way, KnownNothing, KnownKept, Table, Comes, HasCell, IsConfigurationOf, IsFit, IsNamed, IsOn, IsSet, IsSound, IsUnderWay, IsWalked, IsWay, Keeps, OnWay, Tells, Went, cell, holding, known, onto, came_from, way_from}
+use Rattle.seg_memo.proofs.Cells.{same}
+use Rattle.seg_memo.proofs.Following.{ends, few, fewer, leads, leads-within, look-ups-leads, look-ups-on, outcome-leads}
+use Rattle.seg_memo.proofs.Lists.{AreWithin, on-append, on-onto, onto-append, or-right}
+use Rattle.seg_memo.proofs.Scanning.{all-part, on-scan, visited, visited-within}
+use Rattle.seg_memo.proofs.Tells.{count-room, keeps-but, keeps-fill, keeps-new, keeps-same, set-still, tells-known, tells-none}
 
 -- a scan that keeps a lookahead goes on
 
@@ -213,292 +28,224 @@ keep-more : (kept : ℕ) (name : Option ℕ) → 0 < kept → 0 < keep kept name
 keep-more kept None some = some
 keep-more kept (Some lookahead) some = keep-some kept lookahead
 
--- a write leaves the cells where no lookahead is kept
-pub plain-write : (s : Subject) (g : Grid) (last : Option Boundary) (first c : Configuration) (x : Cell) → IsConfigurationOf s c → 0 < c.kept → IsPlainRight s g last first
-    → IsPlainRight s (with_cell s g c x) last first
-plain-write s g last first c x inside kept plain b is less none d from within unkept =
-    subst (IsRight s d) (sym (other-cell s g c d x inside within (λ same. let e : d.kept ≡ c.kept = ap (λ (y : Configuration). y.kept) same in omega (arith, e, unkept, kept))))
-    (plain b is less none d from within unkept)
-
-pub walk-start : (s : Subject) (g : Grid) (start : ℕ) (last : Option Boundary) (first : Configuration) → IsNamed s g start last first → cell s g first ≡ Unknown
-    → IsUnderWay s (with_cell s g first First) start last first first
-walk-start s g start last first w unknown =
-    let inside = w.comes.within in
+on-next : (s : Subject) (first here next : Configuration) → IsSound s → OnWay s first here → look_up s here ≡ Leads next → OnWay s first next
+on-next s first here next sound way is =
+    let f = leads s here next sound way.within is in
     record {
-      starts = w.starts;
-      passed = w.passed;
-      comes = w.comes;
-      path = [];
-      way = (refl, inside, same-cell s g first First w.table.fit inside);
-      keeping = λ d on. elim on [ inl is ↦ subst (λ (c : Configuration). 0 < c.kept) (sym is) w.comes.kept | inr none ↦ absurd none ];
-      table = table-mark s g start w.passed first First w.table inside;
-      plain = plain-write s g last first first First inside w.comes.kept w.plain;
-      filling = filling-mark s g w.starts w.passed first First w.filling w.table.fit inside refl;
+      within = leads-within s here next sound way.within is;
+      past = omega (arith, f.place, way.past, way.within.place);
+      kept = subst (λ (k : ℕ). 0 < k) (sym f.kept) (keep-more here.kept (state_at s.machine next.state).1 way.kept);
     }
 
-pub next-keeps : (s : Subject) (g : Grid) (start : ℕ) (last : Option Boundary) (first here next : Configuration) → IsUnderWay s g start last first here → look_up s here ≡ Leads next → 0 < next.kept
-next-keeps s g start last first here next w is =
-    let f = leads s here next w.table.fit.sound (way-inside s g first here w.path w.way) is in
-    subst (λ (k : ℕ). 0 < k) (sym f.kept) (keep-more here.kept (state_at s.machine next.state).1 (w.keeping here (inl refl)))
+-- the way
 
-next-off : (s : Subject) (g : Grid) (start : ℕ) (last : Option Boundary) (first here next : Configuration) → (w : IsUnderWay s g start last first here) → look_up s here ≡ Leads next
-    → IsOn next (here ∷ (w.path ++ w.passed)) → ⊥
-next-off s g start last first here next w is on =
-    elim (on-append next (here ∷ w.path) w.passed on) [
-      | inl path ↦ next-off-way s g first here next w.path w.table.fit.sound w.way is path
-      | inr before ↦ let some = next-keeps s g start last first here next w is in omega (arith, some, w.comes.free next before)
+way-all : (s : Subject) (t : Table) (first here : Configuration) (path : List Configuration) → IsWay s t first here path → (d : Configuration) → IsOn d (here ∷ path) → OnWay s first d
+way-all s t first here [] way d on = elim on [ inl is ↦ subst (OnWay s first) (sym is) way.1 | inr none ↦ absurd none ]
+way-all s t first here (before ∷ path) way d on = elim on [ inl is ↦ subst (OnWay s first) (sym is) way.1 | inr rest ↦ way-all s t first before path way.3 d rest ]
+
+way-on : (s : Subject) (t : Table) (first here : Configuration) (path : List Configuration) → IsWay s t first here path → OnWay s first here
+way-on s t first here path way = way-all s t first here path way here (inl refl)
+
+-- a segment's end is the same from each of them
+way-picked : (s : Subject) (t : Table) (first here c : Configuration) (path : List Configuration) (found : Boundary) → IsSound s → IsWay s t first here path → outcome_at s here ≡ Picked found
+    → IsOn c (here ∷ path) → outcome_at s c ≡ Picked found
+way-picked s t first here c [] found sound way is on = elim on [ inl same ↦ ap (outcome_at s) same ∙ is | inr none ↦ absurd none ]
+way-picked s t first here c (before ∷ path) found sound way is on =
+    elim on [
+      | inl same ↦ ap (outcome_at s) same ∙ is
+      | inr rest ↦
+          way-picked s t first before c path found sound way.3
+          (outcome-leads s before here sound (way-on s t first before path way.3).within way.0 ∙ ap (entered here.place (state_at s.machine here.state)) is) rest
     ]
 
-pub next-past : (s : Subject) (g : Grid) (start : ℕ) (last : Option Boundary) (first here next : Configuration) → IsUnderWay s g start last first here → look_up s here ≡ Leads next → first.place ≤ next.place
-next-past s g start last first here next w is =
-    let inside = way-inside s g first here w.path w.way in
-    let past = way-past s g first here w.path w.table.fit.sound w.way in
-    let on : next.place ≡ min (suc here.place) (length s.symbols) = (leads s here next w.table.fit.sound inside is).place in
-    omega (arith, past, inside.place, on)
+way-first : (s : Subject) (t : Table) (first here : Configuration) (path : List Configuration) → IsWay s t first here path → IsOn first (here ∷ path)
+way-first s t first here [] way = inl (sym way.0)
+way-first s t first here (before ∷ path) way = inr (way-first s t first before path way.3)
 
-next-right : (s : Subject) (g : Grid) (start : ℕ) (last : Option Boundary) (first here next : Configuration) → IsUnderWay s g start last first here → look_up s here ≡ Leads next → IsConfigurationOf s next
-    → IsRight s next (cell s g next)
-next-right s g start last first here next w is inside =
-    let past = next-past s g start last first here next w is in
-    w.table.right w.comes.some next (omega (arith, past, w.comes.past)) inside (next-off s g start last first here next w is)
-
-next-unknown : (s : Subject) (g : Grid) (start : ℕ) (last : Option Boundary) (first here next : Configuration) → IsUnderWay s g start last first here → look_up s here ≡ Leads next → IsConfigurationOf s next
-    → known (cell s g next) ≡ None → cell s g next ≡ Unknown
-next-unknown s g start last first here next w leads inside none = right-unknown s next (cell s g next) (next-right s g start last first here next w leads inside) none
-
-pub walk-next : (s : Subject) (g : Grid) (start : ℕ) (last : Option Boundary) (first here next : Configuration) → IsUnderWay s g start last first here → look_up s here ≡ Leads next → IsConfigurationOf s next
-    → IsUnderWay s (with_cell s g next (way_from here next)) start last first next
-walk-next s g start last first here next w leads inside = record {
-  starts = w.starts;
-  passed = w.passed;
-  comes = w.comes;
-  path = here ∷ w.path;
-  way = (
-    leads,
-    inside,
-    same-cell s g next (way_from here next) w.table.fit inside,
-    way-write s g first here w.path next (way_from here next) w.way inside (next-off-way s g first here next w.path w.table.fit.sound w.way leads),
-  );
-  keeping = λ d on.
-      elim on [
-        | inl is ↦ subst (λ (c : Configuration). 0 < c.kept) (sym is) (next-keeps s g start last first here next w leads)
-        | inr rest ↦ w.keeping d rest
-      ];
-  table = table-mark s g start (here ∷ (w.path ++ w.passed)) next (way_from here next) w.table inside;
-  plain = plain-write s g last first next (way_from here next) inside (next-keeps s g start last first here next w leads) w.plain;
-  filling = filling-mark s g w.starts (here ∷ (w.path ++ w.passed)) next (way_from here next) w.filling w.table.fit inside refl;
-}
-
-pub count-next : (s : Subject) (g : Grid) (start : ℕ) (last : Option Boundary) (counted : ℕ) (first here next : Configuration) → IsUnderWay s g start last first here → look_up s here ≡ Leads next
-    → IsConfigurationOf s next → known (cell s g next) ≡ None → counted ≡ filled_count g.cells → counted + 1 ≡ filled_count (with_cell s g next (way_from here next)).cells
-count-next s g start last counted first here next w leads inside none count =
-    let more = filled-mark g.cells (number s next) (way_from here next) (number-in s g next w.table.fit inside) (ap is_filled (next-unknown s g start last first here next w leads inside none)) refl in
-    omega (arith, count, more)
-
--- the scan's last look-up
-
-pub or-move : (a b : Bool) → (a || b) ≡ (b || (a || false))
-or-move true true = refl
-or-move true false = refl
-or-move false true = refl
-or-move false false = refl
-
--- what was looked up, by what is looked up from the last on
-went-filling : (s : Subject) (g : Grid) (first here : Configuration) (path passed : List Configuration) (starts : List ℕ) → AreFilled s g starts (here ∷ (path ++ passed))
-    → ((i : ℕ) → ((has_number s i (here ∷ path) || has_number s i passed) || has_number s i (all_look_ups s starts)) ≡ ((has_number s i (look_ups s first) || has_number s i passed) || has_number s i (all_look_ups s starts)))
-    → AreFilled s g starts (look_ups s first ++ passed)
-went-filling s g first here path passed starts filling same i =
-    filling i
-    ∙ ap (λ (b : Bool). b || has_number s i (all_look_ups s starts)) (has-append s i (here ∷ path) passed)
-    ∙ same i
-    ∙ ap (λ (b : Bool). b || has_number s i (all_look_ups s starts)) (sym (has-append s i (look_ups s first) passed))
-
-pub walk-ends : (s : Subject) (g : Grid) (start : ℕ) (last : Option Boundary) (first here : Configuration) (o : Outcome) → IsUnderWay s g start last first here → look_up s here ≡ Ends o
-    → Went s g start last first here o
-walk-ends s g start last first here o w is =
-    let inside = way-inside s g first here w.path w.way in
-    let ended = ends s here o w.table.fit.sound inside is in
-    record {
-      starts = w.starts;
-      passed = w.passed;
-      comes = w.comes;
-      path = w.path;
-      way = w.way;
-      keeping = w.keeping;
-      table = w.table;
-      plain = w.plain;
-      filling = went-filling s g first here w.path w.passed w.starts w.filling (λ i.
-          ap (λ (b : Bool). (b || has_number s i w.passed) || has_number s i (all_look_ups s w.starts))
-          (has-cons s i here w.path ∙ or-move (number s here == i) (has_number s i w.path)
-          ∙ ap (λ (b : Bool). has_number s i w.path || ((number s here == i) || b)) (sym (has-nil s i))
-          ∙ ap (λ (b : Bool). has_number s i w.path || b) (sym (has-cons s i here []))
-          ∙ ap (λ (cs : List Configuration). has_number s i w.path || has_number s i cs) (sym ended.alone)
-          ∙ sym (way-covers s g first here w.path i w.table.fit.sound w.way)));
-      is = sym ended.outcome_is;
-    }
-
--- one that was looked up before
-pub or-part : (a b c p : Bool) → (c ≡ true → p ≡ true) → ((a || b) || p) ≡ ((b || (a || c)) || p)
-or-part true true c p part = refl
-or-part true false c p part = refl
-or-part false true c p part = refl
-or-part false false false p part = refl
-or-part false false true p part = part refl
-
-or-past : (a b c q p : Bool) → (c ≡ true → p ≡ true) → (((a || b) || q) || p) ≡ (((b || (a || c)) || q) || p)
-or-past true true c q p part = refl
-or-past true false c q p part = refl
-or-past false true c q p part = refl
-or-past false false false q p part = refl
-or-past false false true true p part = refl
-or-past false false true false p part = part refl
-
-next-before : (s : Subject) (g : Grid) (start : ℕ) (last : Option Boundary) (first here next : Configuration) (o : Outcome) → (w : IsUnderWay s g start last first here) → look_up s here ≡ Leads next
-    → IsConfigurationOf s next → known (cell s g next) ≡ Some o → IsOn next (all_look_ups s w.starts)
-next-before s g start last first here next o w leads inside is =
-    elim (or-cases (has_number s (number s next) (here ∷ (w.path ++ w.passed))) (has_number s (number s next) (all_look_ups s w.starts)) (sym (w.filling (number s next)) ∙ known-filled (cell s g next) o is)) [
-      | inl path ↦
-          absurd (next-off s g start last first here next w leads
-          (on-has s next (here ∷ (w.path ++ w.passed)) inside
-          (λ d on. elim (on-append d (here ∷ w.path) w.passed on) [ inl way ↦ way-within s g first here w.path w.way d way | inr before ↦ w.comes.all_within d before ]) path))
-      | inr past ↦ on-has s next (all_look_ups s w.starts) inside (all-within s w.starts start w.table.fit.sound w.comes.are (omega (arith, w.comes.some))) past
+-- more states come after those that lie further back
+way-shorter : (s : Subject) (t : Table) (first here c : Configuration) (path : List Configuration) → IsSound s → IsWay s t first here path → IsOn c path
+    → length (following s here) < length (following s c)
+way-shorter s t first here c [] sound way on = absurd on
+way-shorter s t first here c (before ∷ path) sound way on =
+    let less = fewer s before here sound (way-on s t first before path way.3).within way.0 in
+    elim on [
+      | inl is ↦ rw is less
+      | inr further ↦ let more = way-shorter s t first before c path sound way.3 further in omega (arith, less, more)
     ]
 
-pub walk-known : (s : Subject) (g : Grid) (start : ℕ) (last : Option Boundary) (first here next : Configuration) (o : Outcome) → IsUnderWay s g start last first here → look_up s here ≡ Leads next
-    → IsConfigurationOf s next → known (cell s g next) ≡ Some o → Went s g start last first here (entered next.place (state_at s.machine next.state) o)
-walk-known s g start last first here next o w leads inside is =
-    let here-inside = way-inside s g first here w.path w.way in
-    let on = next-before s g start last first here next o w leads inside is in
-    record {
-      starts = w.starts;
-      passed = w.passed;
-      comes = w.comes;
-      path = w.path;
-      way = w.way;
-      keeping = w.keeping;
-      table = w.table;
-      plain = w.plain;
-      filling = went-filling s g first here w.path w.passed w.starts w.filling (λ i.
-          ap (λ (b : Bool). (b || has_number s i w.passed) || has_number s i (all_look_ups s w.starts)) (has-cons s i here w.path)
-          ∙ or-past (number s here == i) (has_number s i w.path) (has_number s i (look_ups s next)) (has_number s i w.passed) (has_number s i (all_look_ups s w.starts))
-          (all-part s w.starts start next w.table.fit.sound w.comes.are (omega (arith, w.comes.some)) on i)
-          ∙ ap (λ (b : Bool). (b || has_number s i w.passed) || has_number s i (all_look_ups s w.starts))
-          (ap (λ (b : Bool). has_number s i w.path || b) (sym (has-cons s i here (look_ups s next)))
-          ∙ ap (λ (cs : List Configuration). has_number s i w.path || has_number s i cs) (sym (look-ups-leads s here next w.table.fit.sound here-inside leads))
-          ∙ sym (way-covers s g first here w.path i w.table.fit.sound w.way)));
-      is = ap (entered next.place (state_at s.machine next.state)) (right-known s next (cell s g next) o (next-right s g start last first here next w leads inside) is)
-          ∙ sym (outcome-leads s here next w.table.fit.sound here-inside leads);
-    }
+off-way : (s : Subject) (t : Table) (first here : Configuration) (path : List Configuration) → IsSound s → IsWay s t first here path → IsOn here path → ⊥
+off-way s t first here path sound way on = let less = way-shorter s t first here here path sound way on in omega (arith, less)
+
+next-off-way : (s : Subject) (t : Table) (first here next : Configuration) (path : List Configuration) → IsSound s → IsWay s t first here path → look_up s here ≡ Leads next
+    → IsOn next (here ∷ path) → ⊥
+next-off-way s t first here next path sound way leads on =
+    let less = fewer s here next sound (way-on s t first here path way).within leads in
+    elim on [
+      | inl is ↦ let same : length (following s next) ≡ length (following s here) = ap (λ (c : Configuration). length (following s c)) is in omega (arith, less, same)
+      | inr further ↦ let more = way-shorter s t first here next path sound way further in omega (arith, less, more)
+    ]
+
+-- a write to another cell leaves it
+way-set : (s : Subject) (t u : Table) (first here : Configuration) (path : List Configuration) (c : Configuration) (x : Cell) → IsFit s t first.place → IsWay s t first here path → IsSet t u 0 c x
+    → (IsOn c (here ∷ path) → ⊥) → IsWay s u first here path
+way-set s t u first here [] c x fit way set off = (way.0, way.1, (set.others here (omega arith) (fit.has here way.1.within way.1.past)).1 (λ is. off (inl (sym is))) ∙ way.2)
+way-set s t u first here (before ∷ path) c x fit way set off = (
+  way.0,
+  way.1,
+  (set.others here (omega arith) (fit.has here way.1.within way.1.past)).1 (λ is. off (inl (sym is))) ∙ way.2,
+  way-set s t u first before path c x fit way.3 set (λ on. off (inr on)),
+)
+
+-- what the whole scan looks up is the way, and what it looks up from its end on
+way-covers : (s : Subject) (t : Table) (first here : Configuration) (path : List Configuration) → IsSound s → IsWay s t first here path → look_ups s first ≡ onto path (look_ups s here)
+way-covers s t first here [] sound way = ap (look_ups s) (sym way.0)
+way-covers s t first here (before ∷ path) sound way =
+    way-covers s t first before path sound way.3 ∙ ap (onto path) (look-ups-leads s before here sound (way-on s t first before path way.3).within way.0)
+
+-- forward
+
+fit-first : {s : Subject} {t : Table} {counted start : ℕ} {last : Option Boundary} {first : Configuration} {found but : List Configuration} → Comes s start last first → Keeps s t counted last first found but → IsFit s t first.place
+fit-first comes k = record { sound = k.fit.sound; has = λ c within past. k.fit.has c within (let low = comes.low in omega (arith, low, past)) }
+
+-- it is one of the scan's look-ups
+pub first-on : {s : Subject} {start : ℕ} {last : Option Boundary} {first : Configuration} (k : Comes s start last first) (c : Configuration) → IsOn c (look_ups s first) → IsOn c (all_look_ups s (start ∷ k.starts))
+first-on {s = s} {start = start} {first = first} k c on = on-scan s start k.starts c (subst (IsOn c) (sym k.covers) (on-onto c k.passed (look_ups s first) (inr on)))
 
 -- the configuration that names the first lookahead
+module _ {s : Subject} {t : Table} {counted start : ℕ} {last : Option Boundary} {first : Configuration} (w : IsNamed s t counted start last first) where
+  pub first-cell : HasCell t first
+  first-cell = w.keeps.fit.has first w.comes.within w.comes.low
 
-first-off : (s : Subject) (g : Grid) (start : ℕ) (last : Option Boundary) (first : Configuration) → (w : IsNamed s g start last first) → IsOn first w.passed → ⊥
-first-off s g start last first w on = omega (arith, w.comes.free first on, w.comes.kept)
+  first-off : IsOn first w.comes.passed → ⊥
+  first-off on = let none = (w.comes.before first on).free in omega (arith, none, w.comes.kept)
 
-first-right : (s : Subject) (g : Grid) (start : ℕ) (last : Option Boundary) (first : Configuration) → IsNamed s g start last first → IsRight s first (cell s g first)
-first-right s g start last first w = w.table.right w.comes.some first (omega (arith, w.comes.past)) w.comes.within (first-off s g start last first w)
+  pub first-tells : Tells s (w.comes.passed ++ all_look_ups s w.comes.starts) first (cell t first)
+  first-tells = w.keeps.cells.at first w.comes.within w.comes.low first-off
 
-pub first-unknown : (s : Subject) (g : Grid) (start : ℕ) (last : Option Boundary) (first : Configuration) → IsNamed s g start last first → known (cell s g first) ≡ None → cell s g first ≡ Unknown
-first-unknown s g start last first w none = right-unknown s first (cell s g first) (first-right s g start last first w) none
+  named-within : AreWithin s (w.comes.passed ++ all_look_ups s w.comes.starts)
+  named-within = visited-within s w.comes.starts start w.comes.passed w.keeps.fit.sound w.comes.are (omega (arith, w.comes.some)) (λ d on. (w.comes.before d on).within)
 
-or-known : (c q p : Bool) → (c ≡ true → p ≡ true) → (q || p) ≡ ((c || q) || p)
-or-known false q p part = refl
-or-known true true p part = refl
-or-known true false p part = part refl
+  -- it is looked up
+  first-new : {u : Table} {count : ℕ} {x : Cell} → known (cell t first) ≡ None → count ≡ counted + 1 → IsSet t u 0 first x
+      → Keeps s u count last first (first ∷ (w.comes.passed ++ all_look_ups s w.comes.starts)) (first ∷ w.comes.passed)
+  first-new none counts set = keeps-new w.keeps set w.comes.kept (tells-none s (w.comes.passed ++ all_look_ups s w.comes.starts) first (cell t first) first-tells none) counts
 
--- it was looked up before
-pub first-known : (s : Subject) (g : Grid) (start : ℕ) (last : Option Boundary) (first : Configuration) (o : Outcome) → IsNamed s g start last first → known (cell s g first) ≡ Some o
-    → IsWalked s g start last first o
-first-known s g start last first o w is =
-    let inside = w.comes.within in
-    let most : start ≤ length s.symbols = omega (arith, w.comes.some) in
-    let on : IsOn first (all_look_ups s w.starts) =
-    elim (or-cases (has_number s (number s first) w.passed) (has_number s (number s first) (all_look_ups s w.starts)) (sym (w.filling (number s first)) ∙ known-filled (cell s g first) o is)) [
-      | inl before ↦ absurd (first-off s g start last first w (on-has s first w.passed inside w.comes.all_within before))
-      | inr past ↦ on-has s first (all_look_ups s w.starts) inside (all-within s w.starts start w.table.fit.sound w.comes.are most) past
-    ] in
-    record {
-      starts = w.starts;
-      passed = w.passed;
-      comes = w.comes;
-      path = [];
-      ends = λ d none. absurd none;
-      table = w.table;
-      plain = w.plain;
-      filling = λ i.
-          w.filling i
-          ∙ or-known (has_number s i (look_ups s first)) (has_number s i w.passed) (has_number s i (all_look_ups s w.starts)) (all-part s w.starts start first w.table.fit.sound w.comes.are most on i)
-          ∙ ap (λ (b : Bool). b || has_number s i (all_look_ups s w.starts)) (sym (has-append s i (look_ups s first) w.passed));
-      is = right-known s first (cell s g first) o (first-right s g start last first w) is;
-    }
+  first-within : AreWithin s (first ∷ (w.comes.passed ++ all_look_ups s w.comes.starts))
+  first-within d on = elim on [ inl same ↦ subst (IsConfigurationOf s) (sym same) w.comes.within | inr rest ↦ named-within d rest ]
 
-pub table-with : (s : Subject) (g : Grid) (place : ℕ) (path : List Configuration) (c : Configuration) → IsRightFrom s g place path → IsRightFrom s g place (c ∷ path)
-table-with s g place path c table = record { fit = table.fit; right = λ some d past within off. table.right some d past within (λ on. off (inr on)) }
+  pub first-room : known (cell t first) ≡ None → counted < 18446744073709551615
+  first-room none = let more = first-new none refl (set-still t first) in count-room w.keeps.fit counted (first ∷ (w.comes.passed ++ all_look_ups s w.comes.starts)) first-within more.count
 
-or-false : (a : Bool) → a ≡ (a || false)
-or-false true = refl
-or-false false = refl
+  pub walk-start : {u : Table} {count : ℕ} → known (cell t first) ≡ None → count ≡ counted + 1 → IsSet t u 0 first First → IsUnderWay s u count start last first first
+  walk-start none counts set = record {
+    comes = w.comes;
+    path = [];
+    way = (refl, record { within = w.comes.within; past = omega arith; kept = w.comes.kept }, set.own);
+    keeps = first-new none counts set;
+  }
 
--- its look-up ends the scan
-pub first-ends : (s : Subject) (g : Grid) (start : ℕ) (last : Option Boundary) (first : Configuration) (o : Outcome) (x : Cell) → IsNamed s g start last first → look_up s first ≡ Ends o → holding o ≡ Some x
-    → IsWalked s (with_cell s g first x) start last first o
-first-ends s g start last first o x w is holds =
-    let inside = w.comes.within in
-    let ended = ends s first o w.table.fit.sound inside is in
-    record {
-      starts = w.starts;
-      passed = w.passed;
-      comes = w.comes;
-      path = [];
-      ends = λ d none. absurd none;
-      table = table-fill s g start w.passed first x (table-with s g start w.passed first w.table) inside (right-holding s first o x (sym ended.outcome_is) holds);
-      plain = plain-write s g last first first x inside w.comes.kept w.plain;
-      filling = λ i.
-          filling-mark s g w.starts w.passed first x w.filling w.table.fit inside (holding-filled o x holds) i
-          ∙ ap (λ (b : Bool). b || has_number s i (all_look_ups s w.starts))
-          (has-cons s i first w.passed
-          ∙ ap (λ (b : Bool). b || has_number s i w.passed)
-          (or-false (number s first == i)
-          ∙ ap (λ (b : Bool). (number s first == i) || b) (sym (has-nil s i))
-          ∙ sym (has-cons s i first [])
-          ∙ ap (has_number s i) (sym ended.alone))
-          ∙ sym (has-append s i (look_ups s first) w.passed));
-      is = sym ended.outcome_is;
-    }
+  -- it was looked up before
+  pub first-known : {o : Outcome} → known (cell t first) ≡ Some o → IsWalked s t counted start last first o
+  first-known {o = o} is =
+      let k = tells-known s (w.comes.passed ++ all_look_ups s w.comes.starts) first (cell t first) first-tells o is in
+      let before : IsOn first (all_look_ups s w.comes.starts) = elim (on-append first w.comes.passed (all_look_ups s w.comes.starts) k.0) [ inl path ↦ absurd (first-off path) | inr before ↦ before ] in
+      record {
+        comes = w.comes;
+        path = [];
+        ends = λ d none. absurd none;
+        keeps = keeps-but
+            (keeps-same w.keeps named-within
+            (visited s w.comes.starts start w.comes.passed (look_ups s first) w.comes.covers (all-part s w.comes.starts start first w.keeps.fit.sound w.comes.are (omega (arith, w.comes.some)) before))) first;
+        is = k.1;
+      }
 
--- it picks nothing then
-pub ends-open : (s : Subject) (c : Configuration) (found : Boundary) → look_up s c ≡ Ends (Picked found) → ⊥
-ends-open s c found is = on (step s.machine c.state (slice_index_or s.symbols c.place 0)) refl
-  where
-    over : (next : ℕ) → step s.machine c.state (slice_index_or s.symbols c.place 0) ≡ Some next → (held : Option (ℕ × ℕ)) → condition_held c.kept (state_at s.machine next) ≡ held → ⊥
-    over next some None free = let never = sym (look-up-leads s c next some free) ∙ is in cc
-    over next some (Some f) holds = let never = sym (look-up-held s c next f some holds) ∙ is in cc
+  -- its look-up ends the scan
+  pub first-ends : {o : Outcome} {count : ℕ} → known (cell t first) ≡ None → look_up s first ≡ Ends o → count ≡ counted + 1 → IsWalked s t count start last first o
+  first-ends {o = o} none is counts =
+      let ended = ends s first o w.keeps.fit.sound w.comes.within is in
+      record {
+        comes = w.comes;
+        path = [];
+        ends = λ d none. absurd none;
+        keeps = keeps-same (first-new none counts (set-still t first)) first-within
+            (visited s w.comes.starts start (first ∷ w.comes.passed) [] (w.comes.covers ∙ ap (onto w.comes.passed) ended.alone) (λ c on. absurd on));
+        is = sym ended.outcome_is;
+      }
 
-    on : (found : Option ℕ) → step s.machine c.state (slice_index_or s.symbols c.place 0) ≡ found → ⊥
-    on None none = let never = sym (look-up-none s c none) ∙ is in cc
-    on (Some next) some = over next some (condition_held c.kept (state_at s.machine next)) refl
+-- on the way
+module _ {s : Subject} {t : Table} {counted start : ℕ} {last : Option Boundary} {first here : Configuration} (w : IsUnderWay s t counted start last first here) where
+  under-on : OnWay s first here
+  under-on = way-on s t first here w.path w.way
+
+  walk-within : AreWithin s ((here ∷ (w.path ++ w.comes.passed)) ++ all_look_ups s w.comes.starts)
+  walk-within =
+      visited-within s w.comes.starts start (here ∷ (w.path ++ w.comes.passed)) w.keeps.fit.sound w.comes.are (omega (arith, w.comes.some))
+      (λ d on. elim (on-append d (here ∷ w.path) w.comes.passed on) [ inl way ↦ (way-all s t first here w.path w.way d way).within | inr before ↦ (w.comes.before d before).within ])
+
+  pub next-on : {next : Configuration} → look_up s here ≡ Leads next → OnWay s first next
+  next-on {next = next} is = on-next s first here next w.keeps.fit.sound under-on is
+
+  pub next-cell : {next : Configuration} → look_up s here ≡ Leads next → HasCell t next
+  next-cell {next = next} is = let on = next-on is in let fit = fit-first w.comes w.keeps in fit.has next on.within on.past
+
+  next-off : {next : Configuration} → look_up s here ≡ Leads next → IsOn next (here ∷ (w.path ++ w.comes.passed)) → ⊥
+  next-off {next = next} is on =
+      elim (on-append next (here ∷ w.path) w.comes.passed on) [
+        | inl path ↦ next-off-way s t first here next w.path w.keeps.fit.sound w.way is path
+        | inr before ↦ let some = (next-on is).kept in let none = (w.comes.before next before).free in omega (arith, some, none)
+      ]
+
+  next-tells : {next : Configuration} → look_up s here ≡ Leads next → Tells s ((here ∷ (w.path ++ w.comes.passed)) ++ all_look_ups s w.comes.starts) next (cell t next)
+  next-tells {next = next} is = let on = next-on is in w.keeps.cells.at next on.within (omega (arith, on.past, w.comes.low)) (next-off is)
+
+  pub walk-next : {u : Table} {next : Configuration} {x : Cell} → look_up s here ≡ Leads next → known (cell t next) ≡ None → x ≡ way_from here next → IsSet t u 0 next x → IsUnderWay s u (counted + 1) start last first next
+  walk-next {u = u} {next = next} {x = x} is none way set =
+      let on = next-on is in
+      record {
+        comes = w.comes;
+        path = here ∷ w.path;
+        way = (
+          is,
+          on,
+          set.own ∙ way,
+          way-set s t u first here w.path next x (fit-first w.comes w.keeps) w.way set (next-off-way s t first here next w.path w.keeps.fit.sound w.way is),
+        );
+        keeps = keeps-new w.keeps set on.kept (tells-none s ((here ∷ (w.path ++ w.comes.passed)) ++ all_look_ups s w.comes.starts) next (cell t next) (next-tells is) none) refl;
+      }
+
+  -- the scan's last look-up, after which it would go on over what was looked up before
+  walk-last : {o : Outcome} (rest : List Configuration) → look_ups s here ≡ here ∷ rest → ((c : Configuration) → IsOn c rest → IsOn c (all_look_ups s w.comes.starts)) → o ≡ outcome_at s here → Went s t counted start last first here o
+  walk-last rest looked part is = record {
+    comes = w.comes;
+    path = w.path;
+    way = w.way;
+    keeps = keeps-same w.keeps walk-within
+        (visited s w.comes.starts start (here ∷ (w.path ++ w.comes.passed)) rest
+        (w.comes.covers ∙ ap (onto w.comes.passed) (way-covers s t first here w.path w.keeps.fit.sound w.way) ∙ sym (onto-append w.path w.comes.passed (look_ups s here))
+        ∙ ap (onto (w.path ++ w.comes.passed)) looked) part);
+    is = is;
+  }
+
+  pub walk-ends : {o : Outcome} {count : ℕ} → look_up s here ≡ Ends o → count ≡ counted → Went s t count start last first here o
+  walk-ends {o = o} is counts =
+      let ended = ends s here o w.keeps.fit.sound under-on.within is in
+      rw counts (walk-last [] ended.alone (λ c on. absurd on) (sym ended.outcome_is))
+
+  -- one that was looked up before
+  pub walk-known : {o : Outcome} {next : Configuration} → look_up s here ≡ Leads next → known (cell t next) ≡ Some o → Went s t counted start last first here (entered next.place (state_at s.machine next.state) o)
+  walk-known {o = o} {next = next} is holds =
+      let sound = w.keeps.fit.sound in
+      let k = tells-known s ((here ∷ (w.path ++ w.comes.passed)) ++ all_look_ups s w.comes.starts) next (cell t next) (next-tells is) o holds in
+      let before : IsOn next (all_look_ups s w.comes.starts) =
+      elim (on-append next (here ∷ (w.path ++ w.comes.passed)) (all_look_ups s w.comes.starts) k.0) [ inl path ↦ absurd (next-off is path) | inr before ↦ before ] in
+      walk-last (look_ups s next) (look-ups-leads s here next sound under-on.within is) (all-part s w.comes.starts start next sound w.comes.are (omega (arith, w.comes.some)) before)
+      (ap (entered next.place (state_at s.machine next.state)) k.1 ∙ sym (outcome-leads s here next sound under-on.within is))
+
+-- the reader's count has room for the next
+pub walk-room : {s : Subject} {t : Table} {counted start : ℕ} {last : Option Boundary} {first here : Configuration} → IsUnderWay s t (counted + 1) start last first here → counted < 18446744073709551615
+walk-room {counted = counted} w = count-room w.keeps.fit counted _ (walk-within w) w.keeps.count
 
 -- and back
-
-pub back-inside : (s : Subject) (g : Grid) (start : ℕ) (last : Option Boundary) (first here : Configuration) (o : Outcome) → Went s g start last first here o → IsConfigurationOf s here
-back-inside s g start last first here o w = way-inside s g first here w.path w.way
-
-pub back-past : (s : Subject) (g : Grid) (start : ℕ) (last : Option Boundary) (first here : Configuration) (o : Outcome) → Went s g start last first here o → first.place ≤ here.place
-back-past s g start last first here o w = way-past s g first here w.path w.table.fit.sound w.way
-
-pub back-filled : (s : Subject) (g : Grid) (start : ℕ) (last : Option Boundary) (first here : Configuration) (o : Outcome) (x : Cell) → Went s g start last first here o → holding o ≡ Some x
-    → filled_count (with_cell s g here x).cells ≡ filled_count g.cells
-back-filled s g start last first here o x w holds =
-    filled-stays g.cells (number s here) x (number-in s g here w.table.fit (way-inside s g first here w.path w.way)) (way-filled s g first here w.path w.way) (holding-filled o x holds)
-
-back-filling : (s : Subject) (g : Grid) (start : ℕ) (last : Option Boundary) (first here : Configuration) (o : Outcome) (x : Cell) → (w : Went s g start last first here o) → holding o ≡ Some x
-    → AreFilled s (with_cell s g here x) w.starts (look_ups s first ++ w.passed)
-back-filling s g start last first here o x w holds =
-    filling-stays s g w.starts (look_ups s first ++ w.passed) here x w.filling w.table.fit (way-inside s g first here w.path w.way) (way-filled s g first here w.path w.way) (holding-filled o x holds)
-
-same-configuration : (c d : Configuration) → c.state ≡ d.state → c.place ≡ d.place → c.kept ≡ d.kept → c ≡ d
-same-configuration c d s p k =
-    ap (λ (x : ℕ). configuration x c.place c.kept) s ∙ ap (λ (x : ℕ). configuration d.state x c.kept) p ∙ ap (λ (x : ℕ). configuration d.state d.place x) k
 
 -- the place before, by whether it stays
 place-before : (before here most : ℕ) (stays : Bool) → before ≤ most → here ≡ min (suc before) most → (here == before) ≡ stays → before ≡ (if stays then here else here - 1)
@@ -514,95 +261,78 @@ way-same : (s : Subject) (before here : Configuration) (state kept : ℕ) (stays
 way-same s before here state kept stays sound inside is way =
     let states : before.state ≡ state = cc in
     let sets : before.kept ≡ kept = cc in
-    let same : (here.place == before.place) ≡ stays = cc in
-    same-configuration before (came_from here state kept stays) states (place-before before.place here.place (length s.symbols) stays inside.place (leads s before here sound inside is).place same) sets
+    let places : (here.place == before.place) ≡ stays = cc in
+    same before (came_from here state kept stays) states (place-before before.place here.place (length s.symbols) stays inside.place (leads s before here sound inside is).place places) sets
 
-pub back-room : (s : Subject) (g : Grid) (start : ℕ) (last : Option Boundary) (first here : Configuration) (o : Outcome) → Went s g start last first here o → 0 < here.place
-back-room s g start last first here o w = let past = back-past s g start last first here o w in omega (arith, past, w.comes.past)
+module _ {s : Subject} {t : Table} {counted start : ℕ} {last : Option Boundary} {first here : Configuration} {o : Outcome} (w : Went s t counted start last first here o) where
+  pub back-on : OnWay s first here
+  back-on = way-on s t first here w.path w.way
 
-pub back-next : (s : Subject) (g : Grid) (start : ℕ) (last : Option Boundary) (first here : Configuration) (o : Outcome) (x : Cell) (state kept : ℕ) (stays : Bool) → Went s g start last first here o
-    → holding o ≡ Some x → cell s g here ≡ Way state kept stays
-    → Went s (with_cell s g here x) start last first (came_from here state kept stays) (entered here.place (state_at s.machine here.state) o)
-back-next s g start last first here o x state kept stays w holds is = on w.path w.way w.table w.keeping
-  where
-    on : (path : List Configuration) → IsWay s g first here path → IsRightFrom s g start (here ∷ (path ++ w.passed)) → ((d : Configuration) → IsOn d (here ∷ path) → 0 < d.kept)
-        → Went s (with_cell s g here x) start last first (came_from here state kept stays) (entered here.place (state_at s.machine here.state) o)
-    on [] way table keeping = let never : First ≡ Way state kept stays = sym way.2 ∙ is in cc
-    on (before ∷ path) way table keeping =
-        let inside = way-inside s g first before path way.3 in
-        let one : before ≡ came_from here state kept stays = way-same s before here state kept stays w.table.fit.sound inside way.0 (sym way.2 ∙ is) in
-        subst (λ (c : Configuration). Went s (with_cell s g here x) start last first c (entered here.place (state_at s.machine here.state) o)) one (record {
-          starts = w.starts;
-          passed = w.passed;
-          comes = w.comes;
-          path = path;
-          way = way-write s g first before path here x way.3 way.1 (off-way s g first here (before ∷ path) w.table.fit.sound way);
-          keeping = λ d on. keeping d (inr on);
-          table = table-fill s g start (before ∷ (path ++ w.passed)) here x table way.1 (right-holding s here o x w.is holds);
-          plain = plain-write s g last first here x way.1 (keeping here (inl refl)) w.plain;
-          filling = back-filling s g start last first here o x w holds;
-          is = ap (entered here.place (state_at s.machine here.state)) w.is ∙ sym (outcome-leads s before here w.table.fit.sound inside way.0);
-        })
+  pub back-cell : HasCell t here
+  back-cell = let fit = fit-first w.comes w.keeps in fit.has here back-on.within back-on.past
 
--- at the first configuration
-pub back-first : (s : Subject) (g : Grid) (start : ℕ) (last : Option Boundary) (first here : Configuration) (o : Outcome) (x : Cell) → Went s g start last first here o → holding o ≡ Some x
-    → ((state kept : ℕ) (stays : Bool) → cell s g here ≡ Way state kept stays → ⊥) → IsWalked s (with_cell s g here x) start last first o
-back-first s g start last first here o x w holds not = on w.path w.way w.table w.keeping
-  where
-    on : (path : List Configuration) → IsWay s g first here path → IsRightFrom s g start (here ∷ (path ++ w.passed)) → ((d : Configuration) → IsOn d (here ∷ path) → 0 < d.kept)
-        → IsWalked s (with_cell s g here x) start last first o
-    on (before ∷ path) way table keeping = absurd (not before.state before.kept (here.place == before.place) way.2)
-    on [] way table keeping = record {
-      starts = w.starts;
-      passed = w.passed;
-      comes = w.comes;
-      path = [];
-      ends = λ d none. absurd none;
-      table = table-fill s g start w.passed here x table way.1 (right-holding s here o x w.is holds);
-      plain = plain-write s g last first here x way.1 (keeping here (inl refl)) w.plain;
-      filling = back-filling s g start last first here o x w holds;
-      is = w.is ∙ ap (outcome_at s) way.0;
-    }
+  pub back-room : 0 < here.place
+  back-room = let past = back-on.past in omega (arith, past, w.comes.low, w.comes.high)
 
--- at the segment's end: no later scan reaches what lies further back
-pub back-picked : (s : Subject) (g : Grid) (start : ℕ) (last : Option Boundary) (first here : Configuration) (o : Outcome) (found : Boundary) → Went s g start last first here o → o ≡ Picked found
-    → IsWalked s g start last first o
-back-picked s g start last first here o found w picks =
-    let all : (c : Configuration) → IsOn c (here ∷ w.path) → outcome_at s c ≡ Picked found = λ c on. way-picked s g first here c w.path found w.table.fit.sound w.way (sym w.is ∙ picks) on in
-    record {
-      starts = w.starts;
-      passed = w.passed;
-      comes = w.comes;
-      path = here ∷ w.path;
-      ends = λ d on. (found, picks, all d on);
-      table = w.table;
-      plain = w.plain;
-      filling = w.filling;
-      is = picks ∙ sym (all first (way-first s g first here w.path w.way));
-    }
+  -- it gets its outcome
+  back-keeps : {u : Table} {x : Cell} → holding o ≡ Some x → IsSet t u 0 here x → Keeps s u counted last first (all_look_ups s (start ∷ w.comes.starts)) (w.path ++ w.comes.passed)
+  back-keeps {x = x} holds set =
+      keeps-fill w.keeps set back-on.kept
+      (first-on w.comes here (subst (IsOn here) (sym (way-covers s t first here w.path w.keeps.fit.sound w.way)) (on-onto here w.path (look_ups s here) (inr (look-ups-on s here)))))
+      (held o holds ∙ ap Some w.is)
+    where
+      held : (o : Outcome) → holding o ≡ Some x → known x ≡ Some o
+      held Nothing is = let same : KnownNothing ≡ x = cc in ap known (sym same)
+      held (Picked found) is = cc
+      held (Kept lookahead status) is = let same : KnownKept lookahead status ≡ x = cc in ap known (sym same)
 
-pub back-end : (s : Subject) (g : Grid) (start : ℕ) (last : Option Boundary) (first here : Configuration) (o : Outcome) → Went s g start last first here o → holding o ≡ None → IsWalked s g start last first o
-back-end s g start last first here o w none = on o refl
-  where
-    on : (p : Outcome) → o ≡ p → IsWalked s g start last first o
-    on Nothing is = let never : None ≡ Some KnownNothing = sym none ∙ ap holding is in cc
-    on (Picked found) is = back-picked s g start last first here o found w is
-    on (Kept lookahead status) is = let never : None ≡ Some (KnownKept lookahead status) = sym none ∙ ap holding is in cc
+  pub back-next : {u : Table} {x : Cell} {state kept : ℕ} {stays : Bool} → holding o ≡ Some x → cell t here ≡ Way state kept stays → IsSet t u 0 here x
+      → Went s u counted start last first (came_from here state kept stays) (entered here.place (state_at s.machine here.state) o)
+  back-next {u = u} {x = x} {state = state} {kept = kept} {stays = stays} holds is set = on w.path w.way (back-keeps holds set)
+    where
+      on : (path : List Configuration) → IsWay s t first here path → Keeps s u counted last first (all_look_ups s (start ∷ w.comes.starts)) (path ++ w.comes.passed)
+          → Went s u counted start last first (came_from here state kept stays) (entered here.place (state_at s.machine here.state) o)
+      on [] way keeps = let never : First ≡ Way state kept stays = sym way.2 ∙ is in cc
+      on (before ∷ path) way keeps =
+          let sound = w.keeps.fit.sound in
+          let inside = (way-on s t first before path way.3).within in
+          subst (λ (c : Configuration). Went s u counted start last first c (entered here.place (state_at s.machine here.state) o)) (way-same s before here state kept stays sound inside way.0 (sym way.2 ∙ is)) (record {
+            comes = w.comes;
+            path = path;
+            way = way-set s t u first before path here x (fit-first w.comes w.keeps) way.3 set (off-way s t first here (before ∷ path) sound way);
+            keeps = keeps;
+            is = ap (entered here.place (state_at s.machine here.state)) w.is ∙ sym (outcome-leads s before here sound inside way.0);
+          })
 
--- each step back has a state more to come
-pub back-fewer : (s : Subject) (g : Grid) (start : ℕ) (last : Option Boundary) (first here : Configuration) (o : Outcome) (state kept : ℕ) (stays : Bool) → Went s g start last first here o
-    → cell s g here ≡ Way state kept stays
-    → let most = length s.symbols + length s.machine.states in most - length (following s (came_from here state kept stays)) < most - length (following s here)
-back-fewer s g start last first here o state kept stays w is = on w.path w.way
-  where
-    on : (path : List Configuration) → IsWay s g first here path
-        → let most = length s.symbols + length s.machine.states in most - length (following s (came_from here state kept stays)) < most - length (following s here)
-    on [] way = let never : First ≡ Way state kept stays = sym way.2 ∙ is in cc
-    on (before ∷ path) way =
-        let one : before ≡ came_from here state kept stays = way-same s before here state kept stays w.table.fit.sound (way-inside s g first before path way.3) way.0 (sym way.2 ∙ is) in
-        subst (λ (c : Configuration). let most = length s.symbols + length s.machine.states in most - length (following s c) < most - length (following s here)) one
-        (omega (arith, few s before, fewer s before here w.table.fit.sound (way-inside s g first before path way.3) way.0))
+  -- at the first configuration
+  pub back-first : {u : Table} {x : Cell} → holding o ≡ Some x → ((state kept : ℕ) (stays : Bool) → cell t here ≡ Way state kept stays → ⊥) → IsSet t u 0 here x → IsWalked s u counted start last first o
+  back-first {u = u} holds not set = on w.path w.way (back-keeps holds set)
+    where
+      on : (path : List Configuration) → IsWay s t first here path → Keeps s u counted last first (all_look_ups s (start ∷ w.comes.starts)) (path ++ w.comes.passed) → IsWalked s u counted start last first o
+      on (before ∷ path) way keeps = absurd (not before.state before.kept (here.place == before.place) way.2)
+      on [] way keeps = record { comes = w.comes; path = []; ends = λ d none. absurd none; keeps = keeps-but keeps first; is = w.is ∙ ap (outcome_at s) way.0 }
 
--- the reader's count has room
-pub count-room : (s : Subject) (g : Grid) (counted : ℕ) → IsFit s g → counted + 1 ≡ filled_count g.cells → counted < 18446744073709551615
-count-room s g counted fit count = omega (arith, count, count-bound (is_filled_at g.cells) (length g.cells), fit.size, fit.sound.room)
+  -- at the segment's end: no later scan reaches what lies further back
+  pub back-end : holding o ≡ None → IsWalked s t counted start last first o
+  back-end none = on o refl
+    where
+      on : (p : Outcome) → o ≡ p → IsWalked s t counted start last first o
+      on Nothing is = let never : None ≡ Some KnownNothing = sym none ∙ ap holding is in cc
+      on (Kept lookahead status) is = let never : None ≡ Some (KnownKept lookahead status) = sym none ∙ ap holding is in cc
+      on (Picked found) is =
+          let all : (c : Configuration) → IsOn c (here ∷ w.path) → outcome_at s c ≡ Picked found = λ c on. way-picked s t first here c w.path found w.keeps.fit.sound w.way (sym w.is ∙ is) on in
+          record { comes = w.comes; path = here ∷ w.path; ends = λ d on. (found, is, all d on); keeps = keeps-but w.keeps first; is = is ∙ sym (all first (way-first s t first here w.path w.way)) }
+
+  -- each step back has a state more to come
+  pub back-fewer : {state kept : ℕ} {stays : Bool} → cell t here ≡ Way state kept stays
+      → let most = length s.symbols + length s.machine.states in most - length (following s (came_from here state kept stays)) < most - length (following s here)
+  back-fewer {state = state} {kept = kept} {stays = stays} is = on w.path w.way
+    where
+      on : (path : List Configuration) → IsWay s t first here path
+          → let most = length s.symbols + length s.machine.states in most - length (following s (came_from here state kept stays)) < most - length (following s here)
+      on [] way = let never : First ≡ Way state kept stays = sym way.2 ∙ is in cc
+      on (before ∷ path) way =
+          let inside = (way-on s t first before path way.3).within in
+          subst (λ (c : Configuration). let most = length s.symbols + length s.machine.states in most - length (following s c) < most - length (following s here))
+          (way-same s before here state kept stays w.keeps.fit.sound inside way.0 (sym way.2 ∙ is))
+          (omega (arith, few s before, fewer s before here w.keeps.fit.sound inside way.0))

@@ -1,18 +1,18 @@
 -- Configurations of scans, those that a scan looks up, and how many different ones there are.
 use Rattle.std.specs.Prelude.{◌≡◌, ℕ, suc, ◌+◌, ◌*◌, ◌^◌, ◌<◌, ◌==◌, ◌&&◌, ◌||◌, Bool, false, if◌then◌else◌, Option, Some, None, List, [], ◌∷◌, ◌++◌, drop, min, length, replicate, map, slice_index_or}
 use Rattle.std.specs.Option.{option_map_or}
-use Rattle.seg_text.specs.declared.boundary.Boundary.{Boundary}
+pub use Rattle.seg_text.specs.declared.boundary.Boundary.{Boundary}
 use Rattle.seg_text.specs.Boundaries.{boundary}
 use Rattle.seg_machine.specs.Machine.{Machine, run, state_at, step}
 use Rattle.seg_machine.specs.Pick.{pick}
 use Rattle.seg_machine.specs.Search.{has, keep}
-use Rattle.seg_machine.specs.declared.provider.Acceptance.{Acceptance}
-use Rattle.seg_machine.specs.declared.provider.Acceptance.TheVariants.{Conditional, Continue, Accept}
-use Rattle.seg_memo.specs.declared.configuration.Configuration.{Configuration}
-use Rattle.seg_memo.specs.declared.configuration.Outcome.{Outcome}
-use Rattle.seg_memo.specs.declared.configuration.Outcome.TheVariants.{Nothing, Picked, Kept}
-use Rattle.seg_memo.specs.declared.configuration.LookUp.{LookUp}
-use Rattle.seg_memo.specs.declared.configuration.LookUp.TheVariants.{Ends, Leads}
+pub use Rattle.seg_machine.specs.declared.provider.Acceptance.{Acceptance}
+pub use Rattle.seg_machine.specs.declared.provider.Acceptance.TheVariants.{Conditional, Continue, Accept}
+pub use Rattle.seg_memo.specs.declared.configuration.Configuration.{Configuration}
+pub use Rattle.seg_memo.specs.declared.configuration.Outcome.{Outcome}
+pub use Rattle.seg_memo.specs.declared.configuration.Outcome.TheVariants.{Nothing, Picked, Kept}
+pub use Rattle.seg_memo.specs.declared.configuration.LookUp.{LookUp}
+pub use Rattle.seg_memo.specs.declared.configuration.LookUp.TheVariants.{Ends, Leads}
 
 abbrev pub configuration : ℕ → ℕ → ℕ → Configuration
 configuration state place kept = record { state = state; place = place; kept = kept }
@@ -28,17 +28,6 @@ pub record Subject : Type 0 where
 
 abbrev pub subject : Machine → List ℕ → Subject
 subject m symbols = record { machine = m; symbols = symbols }
-
--- a scan of it, from a place on
-pub record Scan : Type 0 where
-  pub subject : Subject
-  pub start : ℕ
-
--- a scan that names a lookahead, and the last acceptance before that
-pub record Named : Type 0 where
-  pub subject : Subject
-  pub start : ℕ
-  pub last : Option Boundary
 
 -- the place up to which a segment's end is known: that of the last acceptance, or else the first
 abbrev pub floor : ℕ → Option Boundary → ℕ

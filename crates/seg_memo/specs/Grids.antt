@@ -1,33 +1,16 @@
--- The table of configurations.
-use Rattle.std.specs.Prelude.{◌≡◌, ℕ, zero, suc, ◌+◌, ◌-◌, ◌*◌, ◌^◌, ◌<◌, ◌≤◌, ◌⊎◌, ◌==◌, ◌||◌, Bool, true, false, if◌then◌else◌, Option, Some, None, List, [], ◌∷◌, ◌++◌, drop, length, min, slice_index_or, slice_set, nat_lt, vec_capacity}
-use Rattle.seg_text.specs.declared.boundary.Boundary.{Boundary}
-use Rattle.seg_text.specs.Items.{Item, Text, code_points, rest_after, start_of}
+-- The table of configurations: a map from configurations to cells, and what it tells of the scans.
+use Rattle.std.specs.Prelude.{◌≡◌, ℕ, suc, ◌+◌, ◌-◌, ◌*◌, ◌^◌, ◌<◌, ◌≤◌, ◌⊎◌, ◌==◌, Bool, if◌then◌else◌, Option, Some, None, List, [], ◌∷◌, ◌++◌, drop, length, min, slice_index_or, vec_capacity}
+use Rattle.seg_memo.specs.Configurations.{Boundary, Configuration, Outcome, Nothing, Picked, Kept, Leads, Subject, configuration, configurations, reading, following, look_ups, all_look_ups, start_at, AreStarts, different, entered, floor, later, outcome_at, look_up}
+use Rattle.seg_text.specs.Items.{Text, code_points, rest_after}
 use Rattle.seg_machine.specs.Machine.{Machine, state_at, symbol_count, symbols_of}
 use Rattle.seg_machine.specs.MachineFaults.{IsChecked}
-use Rattle.seg_memo.specs.declared.configuration.Configuration.{Configuration}
-use Rattle.seg_memo.specs.declared.configuration.Outcome.{Outcome}
-use Rattle.seg_memo.specs.declared.configuration.Outcome.TheVariants.{Nothing, Picked, Kept}
-use Rattle.seg_memo.specs.declared.configuration.LookUp.TheVariants.{Leads}
-use Rattle.seg_memo.specs.declared.configuration.Cell.{Cell}
-use Rattle.seg_memo.specs.declared.configuration.Cell.TheVariants.{Unknown, First, Way, KnownNothing, KnownKept}
-use Rattle.seg_memo.specs.Configurations.{Subject, configuration, configurations, reading, look_ups, all_look_ups, start_at, AreStarts, entered, floor, later, outcome_at, look_up}
-use Rattle.seg_memo.specs.declared.table.Table.{Table}
+use Rattle.seg_machine.specs.Pick.{pick}
+use Rattle.seg_text.specs.Boundaries.{shift}
+pub use Rattle.seg_memo.specs.declared.configuration.Cell.{Cell}
+pub use Rattle.seg_memo.specs.declared.configuration.Cell.TheVariants.{Unknown, First, Way, KnownNothing, KnownKept}
+pub use Rattle.seg_memo.specs.declared.table.Table.{Table}
 
--- so many states, so many sets of lookaheads, and a cell for each of them at each place
-pub record Grid : Type 0 where
-  pub states : ℕ
-  pub sets : ℕ
-  pub cells : List Cell
-
--- the number of a configuration, which is that of its cell
-unfoldable pub number : Subject → Configuration → ℕ
-number s c = (c.place * 2 ^ s.machine.num_lookaheads + c.kept) * length s.machine.states + c.state
-
-abbrev pub cell : Subject → Grid → Configuration → Cell
-cell s g c = slice_index_or g.cells (number s c) Unknown
-
-abbrev pub with_cell : Subject → Grid → Configuration → Cell → Grid
-with_cell s g c x = record g { cells = slice_set g.cells (number s c) x }
+-- Cells.
 
 -- the outcome that a cell holds
 abbrev pub known : Cell → Option Outcome
@@ -49,21 +32,7 @@ way_from before here = Way before.state before.kept (here.place == before.place)
 abbrev pub came_from : Configuration → ℕ → ℕ → Bool → Configuration
 came_from here state kept stays = configuration state (if stays then here.place else here.place - 1) kept
 
-abbrev pub is_filled : Cell → Bool
-is_filled Unknown = false
-is_filled _ = true
-
--- how many of the first so many numbers pass a test
-unfoldable pub count_below : (ℕ → Bool) → ℕ → ℕ
-count_below test zero = 0
-count_below test (suc n) = (if test n then 1 else 0) + count_below test n
-
-abbrev pub is_filled_at : List Cell → ℕ → Bool
-is_filled_at cells i = is_filled (slice_index_or cells i Unknown)
-
--- how many cells are filled
-abbrev pub filled_count : List Cell → ℕ
-filled_count cells = count_below (is_filled_at cells) (length cells)
+-- Texts, machines and cursors.
 
 -- a configuration of a text
 pub record IsConfigurationOf (s : Subject) (c : Configuration) : Type 0 where
@@ -77,203 +46,167 @@ pub record IsSound (s : Subject) : Type 0 where
   pub own : (place : ℕ) → slice_index_or s.symbols place 0 < symbol_count s.machine
   pub room : configurations s.machine (length s.symbols) < 2 ^ 64
 
--- the table has a cell for each configuration
-pub record IsFit (s : Subject) (g : Grid) : Type 0 where
-  pub sound : IsSound s
-  pub states : g.states ≡ length s.machine.states
-  pub sets : g.sets ≡ 2 ^ s.machine.num_lookaheads
-  pub size : length g.cells ≡ configurations s.machine (length s.symbols)
+-- a machine with the symbols of a text, and that text
+pub record Source : Type 0 where
+  pub subject : Subject
+  pub whole : Text
 
--- a reader has so many states and these transitions: the machine is read by it
-pub record IsReadBy (s : Subject) (m : Machine) (states : ℕ) (transitions : List ℕ) : Type 0 where
-  pub machine : s.machine ≡ reading m transitions
+-- a scan of it, from a place on
+pub record Scan : Type 0 where
+  pub source : Source
+  pub start : ℕ
+
+-- one that names a lookahead, and the last acceptance before that
+pub record Named : Type 0 where
+  pub source : Source
+  pub start : ℕ
+  pub last : Option Boundary
+
+-- a reader has so many states and these transitions: the machine is read by it, and the symbols are those of the text
+pub record IsReadBy (r : Source) (m : Machine) (states : ℕ) (transitions : List ℕ) : Type 0 where
+  pub machine : r.subject.machine ≡ reading m transitions
+  pub symbols : r.subject.symbols ≡ symbols_of m (code_points r.whole.items)
   pub states_are : states ≡ length m.states
 
--- what is left of the text begins at this place
-abbrev pub IsAt : Subject → Machine → ℕ → List Item → Type 0
-IsAt s m place items = symbols_of m (code_points items) ≡ drop place s.symbols
+-- the symbol at a place of the text, or that of the end, is read, and this is left after it
+pub record IsKeptSymbol (r : Source) (place symbol : ℕ) (after : Text) : Type 0 where
+  pub symbol_is : symbol ≡ slice_index_or r.subject.symbols place 0
+  pub rest : after ≡ rest_after (min (suc place) (length r.subject.symbols)) r.whole
 
--- the cell of a configuration that no scan is at: it holds its outcome, or nothing
-abbrev pub IsRight : Subject → Configuration → Cell → Type 0
-IsRight s c Unknown = Unit {0}
-IsRight s c First = ⊥
-IsRight s c (Way state kept stays) = ⊥
-IsRight s c KnownNothing = Nothing ≡ outcome_at s c
-IsRight s c (KnownKept lookahead status) = Kept lookahead status ≡ outcome_at s c
+-- The table as a map.
 
--- a cursor went on from a place over as many items of its text as its place did
-abbrev pub GoesOverItems : Text → ℕ → Text → ℕ → Type 0
-GoesOverItems before place after next = (count : ℕ) × (after ≡ rest_after count before) × (next ≡ place + count)
+-- the number of a configuration, of so many states and so many sets at each place
+unfoldable pub number : ℕ → ℕ → Configuration → ℕ
+number states sets c = (c.place * sets + c.kept) * states + c.state
 
--- where a cursor stands that went on to a place from one where this was left of the text
-abbrev pub CursorStandsAt : Text → ℕ → ℕ → ℕ → Type 0
-CursorStandsAt text place next offset = (after : Text) × GoesOverItems text place after next × (offset ≡ start_of after)
+-- the cell of a configuration
+unfoldable pub cell : Table → Configuration → Cell
+cell t c = slice_index_or t.cells.items (number t.states t.sets c - t.first) Unknown
 
--- the symbol at a place of the text, or that of the end, is read, and this is left after it, of what was left from some place on
-pub record IsKeptSymbol (s : Subject) (m : Machine) (text : Text) (from place symbol : ℕ) (after : Text) : Type 0 where
-  pub symbol_is : symbol ≡ slice_index_or s.symbols place 0
-  pub goes : GoesOverItems text from after (min (suc place) (length s.symbols))
-  pub rest : IsAt s m (min (suc place) (length s.symbols)) after.items
+-- there is one, which wasn't let go
+pub record HasCell (t : Table) (c : Configuration) : Type 0 where
+  pub state : c.state < t.states
+  pub kept : c.kept < t.sets
+  pub first : t.first ≤ number t.states t.sets c
+  pub room : number t.states t.sets c < vec_capacity t.cells
+  pub fits : number t.states t.sets c < 2 ^ 64
+
+-- the cells of a place and of those after it stay
+pub record IsLeft (old new : Table) (from : ℕ) : Type 0 where
+  pub at : (c : Configuration) → from ≤ c.place → HasCell old c → HasCell new c × (cell new c ≡ cell old c)
+
+-- so do they but for one, which is this
+pub record IsSet (old new : Table) (from : ℕ) (here : Configuration) (x : Cell) : Type 0 where
+  pub own : cell new here ≡ x
+  pub others : (c : Configuration) → from ≤ c.place → HasCell old c → HasCell new c × ((c ≡ here → ⊥) → cell new c ≡ cell old c)
+
+-- What it tells of scans.
 
 abbrev pub IsOn : Configuration → List Configuration → Type 0
 IsOn c [] = ⊥
 IsOn c (d ∷ path) = (c ≡ d) ⊎ IsOn c path
 
--- each cell from a place on is right, but for those on a path; at the end of the text none has to be
-pub record IsRightFrom (s : Subject) (g : Grid) (place : ℕ) (path : List Configuration) : Type 0 where
-  pub fit : IsFit s g
-  pub right : place < length s.symbols → (c : Configuration) → place ≤ c.place → IsConfigurationOf s c → (IsOn c path → ⊥) → IsRight s c (cell s g c)
+-- a list in reverse order, and another after it
+abbrev pub onto : List Configuration → List Configuration → List Configuration
+onto [] found = found
+onto (c ∷ path) found = onto path (c ∷ found)
 
--- does a configuration of a list have this number
-unfoldable pub has_number : Subject → ℕ → List Configuration → Bool
-has_number s i [] = false
-has_number s i (c ∷ cs) = number s c == i || has_number s i cs
+-- the cell of a configuration that no scan is at, where those on a list were looked up: its own is not among them, or the cell holds its outcome
+abbrev pub Tells : Subject → List Configuration → Configuration → Cell → Type 0
+Tells s found c x = ((x ≡ Unknown) × (IsOn c found → ⊥)) ⊎ ((known x ≡ Some (outcome_at s c)) × IsOn c found)
 
--- the cells hold the way back from a configuration to the first of its scan
-abbrev pub IsWay : Subject → Grid → Configuration → Configuration → List Configuration → Type 0
-IsWay s g first here [] = (here ≡ first) × IsConfigurationOf s here × (cell s g here ≡ First)
-IsWay s g first here (before ∷ path) =
-    (look_up s before ≡ Leads here) × IsConfigurationOf s here × (cell s g here ≡ way_from before here) × IsWay s g first before path
+-- so does each from a place on, but for those on another list
+pub record TellFrom (s : Subject) (t : Table) (from : ℕ) (found but : List Configuration) : Type 0 where
+  pub at : (c : Configuration) → IsConfigurationOf s c → from ≤ c.place → (IsOn c but → ⊥) → Tells s found c (cell t c)
 
--- the cells of just these look-ups are filled, beside those of the scans before
-abbrev pub AreFilled : Subject → Grid → List ℕ → List Configuration → Type 0
-AreFilled s g starts found =
-    (i : ℕ) → is_filled_at g.cells i ≡ (has_number s i found || has_number s i (all_look_ups s starts))
+-- the configurations of a text have cells from a place on
+pub record IsFit (s : Subject) (t : Table) (from : ℕ) : Type 0 where
+  pub sound : IsSound s
+  pub has : (c : Configuration) → IsConfigurationOf s c → from ≤ c.place → HasCell t c
 
--- the scans of the segments up to a place were made
-pub record IsMemo (s : Subject) (g : Grid) (place : ℕ) : Type 0 where
+-- the scans of the segments up to a place were made, which looked up so many configurations
+pub record IsMemo (s : Subject) (t : Table) (counted place : ℕ) : Type 0 where
   pub starts : List ℕ
   pub are : AreStarts s starts place
   pub within : place ≤ length s.symbols
-  pub table : IsRightFrom s g place []
-  pub filling : AreFilled s g starts []
+  pub fit : IsFit s t place
+  pub cells : TellFrom s t (suc place) (all_look_ups s starts) []
+  pub count : counted ≡ different (all_look_ups s starts)
+
+-- so was the scan from a place, whose segment ends here: with the pick of what is left of the text there
+pub record IsScanned (s : Subject) (t : Table) (counted start : ℕ) (found : Boundary) : Type 0 where
+  pub memo : IsMemo s t counted found.offset
+  pub past : start ≤ found.offset
+  pub segment : (p : Boundary) × (pick s.machine (drop start s.symbols) ≡ Some p) × (found ≡ shift start p)
+
+-- a configuration that a scan looked up before another, where no lookahead was named
+pub record Before (s : Subject) (here d : Configuration) : Type 0 where
+  pub within : IsConfigurationOf s d
+  pub free : d.kept ≡ 0
+  pub place : d.place ≤ here.place
+  pub longer : length (following s here) ≤ length (following s d)
 
 -- a scan reaches a configuration, the first that names a lookahead: with the last acceptance before it, the segments before, and
--- what it looked up so far, where no lookahead was named
-pub record Comes (s : Subject) (start : ℕ) (last : Option Boundary) (first : Configuration) (starts : List ℕ) (passed : List Configuration) : Type 0 where
+-- what it looked up so far
+pub record Comes (s : Subject) (start : ℕ) (last : Option Boundary) (first : Configuration) : Type 0 where
+  pub starts : List ℕ
   pub are : AreStarts s starts start
   pub some : start < length s.symbols
+  pub passed : List Configuration
+  pub before : (d : Configuration) → IsOn d passed → Before s first d
+  pub covers : look_ups s (start_at start) ≡ onto passed (look_ups s first)
   pub within : IsConfigurationOf s first
   pub kept : 0 < first.kept
-  pub past : start < first.place
-  pub low : floor start last ≤ first.place
-  pub high : start ≤ floor start last
-  pub free : (d : Configuration) → IsOn d passed → d.kept ≡ 0
-  pub all_within : (d : Configuration) → IsOn d passed → IsConfigurationOf s d
-  pub before : (d : Configuration) → IsOn d passed → first.place < length s.symbols → d.place < first.place
-  pub covers : (i : ℕ) → has_number s i (look_ups s (start_at start)) ≡ (has_number s i passed || has_number s i (look_ups s first))
+  pub high : start < floor first.place last
+  pub low : floor first.place last ≤ first.place
   pub is : outcome_at s (start_at start) ≡ later last (entered first.place (state_at s.machine first.state) (outcome_at s first))
   pub picks : outcome_at s (start_at start) ≡ Nothing → ⊥
 
--- where the last acceptance is the pick, the cells from there on are right that keep no lookahead
-abbrev pub IsPlainRight : Subject → Grid → Option Boundary → Configuration → Type 0
-IsPlainRight s g last first =
-    (b : Boundary) → last ≡ Some b → b.offset < length s.symbols → entered first.place (state_at s.machine first.state) (outcome_at s first) ≡ Nothing
-    → (c : Configuration) → b.offset ≤ c.place → IsConfigurationOf s c → c.kept ≡ 0 → IsRight s c (cell s g c)
+-- so many configurations were looked up, those on a list. Each cell from the last acceptance on tells but for some, and where that
+-- acceptance is the pick, also each after it that keeps no lookahead
+pub record Keeps (s : Subject) (t : Table) (counted : ℕ) (last : Option Boundary) (first : Configuration) (found but : List Configuration) : Type 0 where
+  pub fit : IsFit s t (floor first.place last)
+  pub cells : TellFrom s t (floor first.place last) found but
+  pub plain : (b : Boundary) → last ≡ Some b → entered first.place (state_at s.machine first.state) (outcome_at s first) ≡ Nothing
+      → (c : Configuration) → IsConfigurationOf s c → suc b.offset ≤ c.place → c.kept ≡ 0 → Tells s found c (cell t c)
+  pub count : counted ≡ different found
 
 -- it is to look up that configuration
-pub record IsNamed (s : Subject) (g : Grid) (start : ℕ) (last : Option Boundary) (first : Configuration) : Type 0 where
-  pub starts : List ℕ
-  pub passed : List Configuration
-  pub comes : Comes s start last first starts passed
-  pub table : IsRightFrom s g start passed
-  pub plain : IsPlainRight s g last first
-  pub filling : AreFilled s g starts passed
+pub record IsNamed (s : Subject) (t : Table) (counted start : ℕ) (last : Option Boundary) (first : Configuration) : Type 0 where
+  pub comes : Comes s start last first
+  pub keeps : Keeps s t counted last first (comes.passed ++ all_look_ups s comes.starts) comes.passed
+
+-- a configuration that it reaches from there
+pub record OnWay (s : Subject) (first here : Configuration) : Type 0 where
+  pub within : IsConfigurationOf s here
+  pub past : first.place ≤ here.place
+  pub kept : 0 < here.kept
+
+-- the cells hold the way back from a configuration to the first of its scan
+abbrev pub IsWay : Subject → Table → Configuration → Configuration → List Configuration → Type 0
+IsWay s t first here [] = (here ≡ first) × OnWay s first here × (cell t here ≡ First)
+IsWay s t first here (before ∷ path) =
+    (look_up s before ≡ Leads here) × OnWay s first here × (cell t here ≡ way_from before here) × IsWay s t first before path
 
 -- from there it goes on: it looked up the configurations of a path, this one last, and the cells hold the way back
-pub record IsUnderWay (s : Subject) (g : Grid) (start : ℕ) (last : Option Boundary) (first here : Configuration) : Type 0 where
-  pub starts : List ℕ
-  pub passed : List Configuration
-  pub comes : Comes s start last first starts passed
+pub record IsUnderWay (s : Subject) (t : Table) (counted start : ℕ) (last : Option Boundary) (first here : Configuration) : Type 0 where
+  pub comes : Comes s start last first
   pub path : List Configuration
-  pub way : IsWay s g first here path
-  pub keeping : (d : Configuration) → IsOn d (here ∷ path) → 0 < d.kept
-  pub table : IsRightFrom s g start (here ∷ (path ++ passed))
-  pub plain : IsPlainRight s g last first
-  pub filling : AreFilled s g starts (here ∷ (path ++ passed))
+  pub way : IsWay s t first here path
+  pub keeps : Keeps s t counted last first ((here ∷ (path ++ comes.passed)) ++ all_look_ups s comes.starts) (here ∷ (path ++ comes.passed))
 
 -- it went on to its last look-up, or goes back from there: the cells hold the way back, and this one's outcome is known
-pub record Went (s : Subject) (g : Grid) (start : ℕ) (last : Option Boundary) (first here : Configuration) (o : Outcome) : Type 0 where
-  pub starts : List ℕ
-  pub passed : List Configuration
-  pub comes : Comes s start last first starts passed
+pub record Went (s : Subject) (t : Table) (counted start : ℕ) (last : Option Boundary) (first here : Configuration) (o : Outcome) : Type 0 where
+  pub comes : Comes s start last first
   pub path : List Configuration
-  pub way : IsWay s g first here path
-  pub keeping : (d : Configuration) → IsOn d (here ∷ path) → 0 < d.kept
-  pub table : IsRightFrom s g start (here ∷ (path ++ passed))
-  pub plain : IsPlainRight s g last first
-  pub filling : AreFilled s g starts (look_ups s first ++ passed)
+  pub way : IsWay s t first here path
+  pub keeps : Keeps s t counted last first (all_look_ups s (start ∷ comes.starts)) (here ∷ (path ++ comes.passed))
   pub is : o ≡ outcome_at s here
 
--- it was made, and this is that configuration's outcome: the cells that still hold a way are before the pick
-pub record IsWalked (s : Subject) (g : Grid) (start : ℕ) (last : Option Boundary) (first : Configuration) (o : Outcome) : Type 0 where
-  pub starts : List ℕ
-  pub passed : List Configuration
-  pub comes : Comes s start last first starts passed
+-- it was made, and this is the first's outcome: the cells that still hold a way are before the pick, and the first's own may not tell
+pub record IsWalked (s : Subject) (t : Table) (counted start : ℕ) (last : Option Boundary) (first : Configuration) (o : Outcome) : Type 0 where
+  pub comes : Comes s start last first
   pub path : List Configuration
   pub ends : (d : Configuration) → IsOn d path → (f : Boundary) × (o ≡ Picked f) × (outcome_at s d ≡ Picked f)
-  pub table : IsRightFrom s g start (path ++ passed)
-  pub plain : IsPlainRight s g last first
-  pub filling : AreFilled s g starts (look_ups s first ++ passed)
+  pub keeps : Keeps s t counted last first (all_look_ups s (start ∷ comes.starts)) (first ∷ (path ++ comes.passed))
   pub is : o ≡ outcome_at s first
-
--- the scan from a place was made: this is its outcome
-pub record IsScanned (s : Subject) (g : Grid) (place : ℕ) (o : Outcome) : Type 0 where
-  pub starts : List ℕ
-  pub are : AreStarts s starts place
-  pub within : place ≤ length s.symbols
-  pub fit : IsFit s g
-  pub table : (found : Boundary) → o ≡ Picked found → IsRightFrom s g found.offset []
-  pub filling : AreFilled s g starts (look_ups s (start_at place))
-  pub is : o ≡ outcome_at s (start_at place)
-
--- The cells that a table holds: a window of the whole grid.
-
--- a table holds the cells of a grid from its first on, so many as it has, and those after them are unknown, but for some that
--- are lost: of the configurations from a place on none comes before the first. There is room for all
-pub record IsPart (s : Subject) (t : Table) (place : ℕ) (lost : ℕ → Bool) (whole : Grid) : Type 0 where
-  pub fit : IsFit s whole
-  pub states : t.states ≡ whole.states
-  pub sets : t.sets ≡ whole.sets
-  pub begins : t.first ≤ number s (start_at place)
-  pub held : (i : ℕ) → lost (t.first + i) ≡ false → slice_index_or t.cells.items i Unknown ≡ slice_index_or whole.cells (t.first + i) Unknown
-  pub room : length whole.cells ≤ vec_capacity t.cells
-
--- those up to a place are lost, that one's too: a scan reads only what comes after its start
-abbrev pub late : Subject → ℕ → ℕ → Bool
-late s place i = nat_lt i (number s (start_at (suc place)))
-
--- a table holds cells of some grid
-abbrev pub IsHeld : Subject → Table → ℕ → Type 0
-IsHeld s t place = (lost : ℕ → Bool) × (whole : Grid) × IsPart s t place lost whole
-
--- it is so with a grid of which this is true, and which has as many filled cells as were counted
-pub record Has (s : Subject) (t : Table) (place : ℕ) (lost : ℕ → Bool) (counted : ℕ) (P : Grid → Type 0) : Type 0 where
-  pub whole : Grid
-  pub window : IsPart s t place lost whole
-  pub count : counted ≡ filled_count whole.cells
-  pub is : P whole
-
--- what is lost may be lost still, but for the cell of a configuration
-abbrev pub IsLeft : Subject → (ℕ → Bool) → (ℕ → Bool) → Configuration → Type 0
-IsLeft s lost left c = (i : ℕ) → (i ≡ number s c → ⊥) → left i ≡ false → lost i ≡ false
-
--- it is so of a scan that reached a configuration that names its first lookahead: the cells are held where one is kept, and
--- all from the last acceptance on but those that are in hand
-pub record Keeps (s : Subject) (t : Table) (last : Option Boundary) (first : Configuration) (counted : ℕ) (P : Grid → Type 0) : Type 0 where
-  pub whole : Grid
-  pub lost : ℕ → Bool
-  pub window : IsPart s t (floor first.place last) lost whole
-  pub free : (c : Configuration) → IsConfigurationOf s c → first.place ≤ c.place → 0 < c.kept → lost (number s c) ≡ false
-  pub ends : (i : ℕ) → late s (floor first.place last) i ≡ false → lost i ≡ false
-  pub count : counted ≡ filled_count whole.cells
-  pub is : P whole
-
--- that configuration's own cell may be lost
-pub record KeepsOthers (s : Subject) (t : Table) (last : Option Boundary) (first : Configuration) (counted : ℕ) (P : Grid → Type 0) : Type 0 where
-  pub whole : Grid
-  pub lost : ℕ → Bool
-  pub window : IsPart s t (floor first.place last) lost whole
-  pub ends : (i : ℕ) → (i ≡ number s first → ⊥) → late s (floor first.place last) i ≡ false → lost i ≡ false
-  pub count : counted ≡ filled_count whole.cells
-  pub is : P whole

@@ -18,16 +18,16 @@
 //!   acceptance at once, writes no other cell, and goes nowhere back.
 //! - **From the first name on** it leaves in each cell the **way** that it came. Once the outcome of the last is known, it goes back over it, and
 //!   each cell gets the outcome from there on: nothing, or a condition that waits for the place of its lookahead. A pick ends the way back.
-//! - **The window**: the table holds the grid from a first cell on, as far as one was written. What is counted is how many cells of the whole
-//!   grid are filled, whether they are held or not.
+//! - **The window**: the table is a map from configurations to cells. It holds the grid from a first cell on, as far as one was written.
+//!   What is counted is how many different configurations were looked up, whether they still have cells or not.
 //!
 //! ```text
 //! grid     |  let go  |  # # # . . # .  |  unknown  |
 //!          0        first        first + held     Q * 2^L * (n + 1)
 //! ```
 //!
-//! In specs/, Configurations says what scans look up and what they find; Grids what the cells hold on the way, and what the table holds of
-//! them; Memos what is seen from outside.
+//! In specs/, Configurations says what scans look up and what they find; Grids the table as a map, and what its cells tell of the scans so far;
+//! Memos what is seen from outside.
 #![tactic(auto)]
 
 pub mod configuration;

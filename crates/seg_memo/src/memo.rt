@@ -60,7 +60,7 @@ impl<'data, I: Cursor, R: ReadTransitions> Model for MemoBreakIterator<'data, I,
     ghost use Rattle.seg_machine.specs.Machine.{symbols_of};
     ghost use Rattle.seg_machine.specs.Tailored.{parts_of};
     ghost use Rattle.seg_memo.specs.Configurations.{reading, subject};
-    ghost use Rattle.seg_memo.specs.Grids.{IsKeptSymbol, IsMemo, IsReadBy, Has, late};
+    ghost use Rattle.seg_memo.specs.Grids.{IsKeptSymbol, IsMemo, IsReadBy, Source};
     ghost use Rattle.seg_memo.specs.Memos.{Memo, memo};
 
     ghost Value = { Memo };
@@ -69,12 +69,12 @@ impl<'data, I: Cursor, R: ReadTransitions> Model for MemoBreakIterator<'data, I,
 
     ghost invariant = { λ s.
         let m = reading (parts_of s.scanned.machine) (R.transitions s.reader) in
-        let scanned = subject m (symbols_of m (code_points (I.text s.scanned.text).items)) in
+        let source : Source = record { subject = subject m (symbols_of m (code_points (I.text s.scanned.text).items)); whole = I.text s.scanned.text } in
         (s.started ≡ false → (s.status ≡ 0) × (s.place ≡ 0))
-        × IsReadBy scanned (parts_of s.scanned.machine) (R.states s.reader) (R.transitions s.reader)
+        × IsReadBy source (parts_of s.scanned.machine) (R.states s.reader) (R.transitions s.reader)
         × (I.text s.rest ≡ rest_after s.place (I.text s.scanned.text))
-        × Has scanned s.table s.place (late scanned s.place) (R.counted s.reader) (λ whole. IsMemo scanned whole s.place)
-        × IsKeptSymbol scanned (parts_of s.scanned.machine) (I.text s.rest) s.place s.place s.first (I.text s.ahead) };
+        × IsMemo source.subject s.table (R.counted s.reader) s.place
+        × IsKeptSymbol source s.place s.first (I.text s.ahead) };
 }
 
 impl<'data, I: Cursor, R: ReadTransitions> MemoBreakIterator<'data, I, R> {
@@ -215,12 +215,7 @@ impl<'data, I: Cursor> MemoBreakIterator<'data, I, CountedTransitions<'data>> {
                 text,
             },
             reader: CountedTransitions::new(machine.machine()),
-            table: Table {
-                states,
-                sets,
-                first: 0,
-                cells,
-            },
+            table: Table::new(states, sets, cells),
             rest,
             place: 0,
             first,

@@ -1,16 +1,16 @@
 //! A scan that looks up no configuration that was looked up before.
 
-ghost use Rattle.std.specs.Prelude.{◌≡◌, ◌≢◌, ℕ, false, [], Some, suc, ◌+◌, ◌<◌, ◌≤◌, ◌^◌, length, drop, min, slice_index_or};
+ghost use Rattle.std.specs.Prelude.{◌≡◌, ℕ, false, Some, suc, ◌+◌, ◌<◌, ◌≤◌, ◌^◌, length, drop, min, slice_index_or};
 ghost use Rattle.seg_text.specs.declared.boundary.Boundary.{Boundary as AnyBoundary};
 ghost use Rattle.seg_text.specs.Boundaries.{shift};
-ghost use Rattle.seg_text.specs.Items.{Text, rest_after};
+ghost use Rattle.seg_text.specs.Items.{Text, code_points, rest_after, start_of};
+ghost use Rattle.seg_machine.specs.Machine.{symbols_of};
 ghost use Rattle.seg_machine.specs.Pick.{pick};
 ghost use Rattle.seg_machine.specs.Tailored.{parts_of};
-ghost use Rattle.seg_memo.specs.Configurations.{Named, Scan, Subject, floor, look_up, IfLeads};
-ghost use Rattle.seg_memo.specs.Grids.{GoesOverItems, IsKeptSymbol, IsAt, IsMemo, IsNamed, IsReadBy, IsScanned, IsSound, IsWalked, IsConfigurationOf, CursorStandsAt, Went, Has, Keeps, KeepsOthers, cell, late};
+ghost use Rattle.seg_memo.specs.Configurations.{floor, look_up, IfLeads};
+ghost use Rattle.seg_memo.specs.Grids.{IsConfigurationOf, IsKeptSymbol, IsMemo, IsNamed, IsReadBy, IsScanned, IsSound, IsWalked, Named, Scan, Source, Went, cell};
 ghost use Rattle.seg_memo.specs.declared.configuration.Cell.TheVariants.{Unknown};
 ghost use Rattle.seg_memo.specs.declared.configuration.LookUp.TheVariants.{Leads};
-ghost use Rattle.seg_memo.specs.declared.configuration.Outcome.TheVariants.{Picked};
 
 use crate::configuration::{
     Cell, Configuration, LookUp, Outcome, arrive, before, entered, floor, holding, known, name_of,
@@ -38,14 +38,14 @@ pub(crate) fn next_symbol<I: Cursor>(
     rest: &mut I,
     place: usize,
 ) -> (Symbol, usize)
-    ghost subject: { Subject }
-    requires rest { IsAt subject (parts_of machine.now) place (I.text rest.old).items }
-    requires place { place ≤ length subject.symbols }
-    requires room { suc (length subject.symbols) < 2 ^ 64 }
-    ensures symbol { result.0 ≡ slice_index_or subject.symbols place 0 }
-    ensures place { result.1 ≡ min (suc place) (length subject.symbols) }
-    ensures rest { IsAt subject (parts_of machine.now) result.1 (I.text rest.new).items }
-    ensures goes { GoesOverItems (I.text rest.old) place (I.text rest.new) result.1 }
+    ghost source: { Source }
+    requires symbols { source.subject.symbols ≡ symbols_of (parts_of machine.now) (code_points source.whole.items) }
+    requires rest { I.text rest.old ≡ rest_after place source.whole }
+    requires place { place ≤ length source.subject.symbols }
+    requires room { suc (length source.subject.symbols) < 2 ^ 64 }
+    ensures symbol { result.0 ≡ slice_index_or source.subject.symbols place 0 }
+    ensures place { result.1 ≡ min (suc place) (length source.subject.symbols) }
+    ensures rest { I.text rest.new ≡ rest_after result.1 source.whole }
 {
     match rest.next_item() {
         Some((_, code_point)) => (machine.symbol(code_point), place + 1),
@@ -61,17 +61,16 @@ fn look_up<I: Cursor, R: ReadTransitions>(
     rest: &mut I,
     here: Configuration,
 ) -> LookUp
-    ghost subject: { Subject }
-    requires sound { IsSound subject }
-    requires read { IsReadBy subject (parts_of machine.now) (R.states reader.old) (R.transitions reader.old) }
+    ghost source: { Source }
+    requires sound { IsSound source.subject }
+    requires read { IsReadBy source (parts_of machine.now) (R.states reader.old) (R.transitions reader.old) }
     requires count { R.counted reader.old < usize.MAX }
-    requires here { IsConfigurationOf subject here }
-    requires rest { IsAt subject (parts_of machine.now) here.place (I.text rest.old).items }
-    ensures value { result ≡ look_up subject here }
-    ensures within { IfLeads result (IsConfigurationOf subject) }
-    ensures rest { IfLeads result (λ next. IsAt subject (parts_of machine.now) next.place (I.text rest.new).items) }
-    ensures goes { IfLeads result (λ next. GoesOverItems (I.text rest.old) here.place (I.text rest.new) next.place) }
-    ensures read { IsReadBy subject (parts_of machine.now) (R.states reader.new) (R.transitions reader.new) }
+    requires here { IsConfigurationOf source.subject here }
+    requires rest { I.text rest.old ≡ rest_after here.place source.whole }
+    ensures value { result ≡ look_up source.subject here }
+    ensures within { IfLeads result (IsConfigurationOf source.subject) }
+    ensures rest { IfLeads result (λ next. I.text rest.new ≡ rest_after next.place source.whole) }
+    ensures read { IsReadBy source (parts_of machine.now) (R.states reader.new) (R.transitions reader.new) }
     ensures count { R.counted reader.new ≡ R.counted reader.old + 1 }
 {
     let (symbol, place) = next_symbol(machine, rest, here.place);
@@ -94,13 +93,13 @@ fn go_forward<I: Cursor, R: ReadTransitions>(
     second: Configuration,
 ) -> (Configuration, Outcome)
     ghost named: { Named }
-    requires read { IsReadBy named.subject (parts_of machine.now) (R.states reader.old) (R.transitions reader.old) }
+    requires read { IsReadBy named.source (parts_of machine.now) (R.states reader.old) (R.transitions reader.old) }
     requires named { (count : ℕ) × (R.counted reader.old ≡ count + 1)
-        × Keeps named.subject table.old named.last first count (λ whole. IsNamed named.subject whole named.start named.last first × (cell named.subject whole first ≡ Unknown)) }
-    requires second { (look_up named.subject first ≡ Leads second) × IsConfigurationOf named.subject second }
-    requires rest { IsAt named.subject (parts_of machine.now) second.place (I.text rest.old).items }
-    ensures read { IsReadBy named.subject (parts_of machine.now) (R.states reader.new) (R.transitions reader.new) }
-    ensures went { Keeps named.subject table.new named.last first (R.counted reader.new) (λ whole. Went named.subject whole named.start named.last first result.0 result.1) }
+        × IsNamed named.source.subject table.old count named.start named.last first × (cell table.old first ≡ Unknown) }
+    requires second { (look_up named.source.subject first ≡ Leads second) × IsConfigurationOf named.source.subject second }
+    requires rest { I.text rest.old ≡ rest_after second.place named.source.whole }
+    ensures read { IsReadBy named.source (parts_of machine.now) (R.states reader.new) (R.transitions reader.new) }
+    ensures went { Went named.source.subject table.new (R.counted reader.new) named.start named.last first result.0 result.1 }
 {
     let mut here = first;
     let mut next = second;
@@ -130,10 +129,9 @@ fn go_back(
     outcome: Outcome,
 ) -> Outcome
     ghost named: { Named }
-    requires states { named.subject.machine.states ≡ (parts_of machine.now).states }
-    requires went { (count : ℕ) × Keeps named.subject table.old named.last first count (λ whole. Went named.subject whole named.start named.last first last outcome) }
-    ensures walked { (count : ℕ) → Keeps named.subject table.old named.last first count (λ whole. Went named.subject whole named.start named.last first last outcome)
-        → Keeps named.subject table.new named.last first count (λ whole. IsWalked named.subject whole named.start named.last first result) }
+    requires states { named.source.subject.machine.states ≡ (parts_of machine.now).states }
+    requires went { (count : ℕ) × Went named.source.subject table.old count named.start named.last first last outcome }
+    ensures walked { (count : ℕ) → Went named.source.subject table.old count named.start named.last first last outcome → IsWalked named.source.subject table.new count named.start named.last first result }
 {
     let mut here = last;
     let mut outcome = outcome;
@@ -162,12 +160,12 @@ fn outcome_from<I: Cursor, R: ReadTransitions>(
     from: usize,
 ) -> Outcome
     ghost named: { Named }
-    requires read { IsReadBy named.subject (parts_of machine.now) (R.states reader.old) (R.transitions reader.old) }
-    requires named { Keeps named.subject table.old named.last first (R.counted reader.old) (λ whole. IsNamed named.subject whole named.start named.last first) }
-    requires rest { IsAt named.subject (parts_of machine.now) first.place (I.text rest.now).items }
+    requires read { IsReadBy named.source (parts_of machine.now) (R.states reader.old) (R.transitions reader.old) }
+    requires named { IsNamed named.source.subject table.old (R.counted reader.old) named.start named.last first }
+    requires rest { I.text rest.now ≡ rest_after first.place named.source.whole }
     requires from { from ≡ floor first.place named.last }
-    ensures read { IsReadBy named.subject (parts_of machine.now) (R.states reader.new) (R.transitions reader.new) }
-    ensures walked { KeepsOthers named.subject table.new named.last first (R.counted reader.new) (λ whole. IsWalked named.subject whole named.start named.last first result) }
+    ensures read { IsReadBy named.source (parts_of machine.now) (R.states reader.new) (R.transitions reader.new) }
+    ensures walked { IsWalked named.source.subject table.new (R.counted reader.new) named.start named.last first result }
 {
     if let Some(outcome) = known(table.cell(first)) {
         return outcome;
@@ -185,8 +183,10 @@ fn outcome_from<I: Cursor, R: ReadTransitions>(
 /// Where a cursor stands at a place, of one that is at an earlier place.
 #[inline(always)]
 fn place_after<I: Cursor>(rest: &I, place: usize, later: usize) -> usize
-    requires { place ≤ later }
-    ensures { CursorStandsAt (I.text rest.now) place later result }
+    ghost whole: { Text }
+    requires place { place ≤ later }
+    requires rest { I.text rest.now ≡ rest_after place whole }
+    ensures { result ≡ start_of (rest_after later whole) }
 {
     let mut left = rest.fork();
     for item in place..later {
@@ -208,14 +208,13 @@ fn scan_kept<I: Cursor, R: ReadTransitions>(
     stood: usize,
 ) -> (Boundary, usize)
     ghost named: { Named }
-    requires read { IsReadBy named.subject (parts_of machine.now) (R.states reader.old) (R.transitions reader.old) }
+    requires read { IsReadBy named.source (parts_of machine.now) (R.states reader.old) (R.transitions reader.old) }
     requires last { last ≡ named.last }
-    requires named { Keeps named.subject table.old named.last first (R.counted reader.old) (λ whole. IsNamed named.subject whole named.start named.last first) }
-    requires rest { IsAt named.subject (parts_of machine.now) first.place (I.text rest.now).items }
-    ensures read { IsReadBy named.subject (parts_of machine.now) (R.states reader.new) (R.transitions reader.new) }
-    ensures scanned { Has named.subject table.new result.0.offset (late named.subject result.0.offset) (R.counted reader.new) (λ whole. IsScanned named.subject whole named.start (Picked result.0)) }
-    ensures stands { (text : Text) → GoesOverItems text named.start (I.text rest.now) first.place → CursorStandsAt text named.start (floor named.start named.last) stood
-        → CursorStandsAt text named.start result.0.offset result.1 }
+    requires named { IsNamed named.source.subject table.old (R.counted reader.old) named.start named.last first }
+    requires rest { I.text rest.now ≡ rest_after first.place named.source.whole }
+    ensures read { IsReadBy named.source (parts_of machine.now) (R.states reader.new) (R.transitions reader.new) }
+    ensures scanned { IsScanned named.source.subject table.new (R.counted reader.new) named.start result.0 }
+    ensures stands { stood ≡ start_of (rest_after (floor named.start named.last) named.source.whole) → result.1 ≡ start_of (rest_after result.0.offset named.source.whole) }
 {
     let from = floor(first.place, last);
     let outcome = outcome_from(machine, reader, table, rest, first, from);
@@ -247,17 +246,17 @@ fn scan_plain<I: Cursor, R: ReadTransitions>(
     names: bool,
 ) -> (Boundary, usize, usize)
     ghost scan: { Scan }
-    requires names { names ≡ false → scan.subject.machine.num_lookaheads ≡ 0 }
-    requires read { IsReadBy scan.subject (parts_of machine.now) (R.states reader.old) (R.transitions reader.old) }
-    requires memo { Has scan.subject table.old scan.start (late scan.subject scan.start) (R.counted reader.old) (λ whole. IsMemo scan.subject whole scan.start) }
+    requires names { names ≡ false → scan.source.subject.machine.num_lookaheads ≡ 0 }
+    requires read { IsReadBy scan.source (parts_of machine.now) (R.states reader.old) (R.transitions reader.old) }
+    requires memo { IsMemo scan.source.subject table.old (R.counted reader.old) scan.start }
     requires start { start ≡ scan.start }
-    requires rest { IsAt scan.subject (parts_of machine.now) scan.start (I.text rest.now).items }
-    requires some { (I.text rest.now).items ≢ [] }
-    requires ahead { IsKeptSymbol scan.subject (parts_of machine.now) (I.text rest.now) scan.start scan.start first.old (I.text ahead.old) }
-    ensures read { IsReadBy scan.subject (parts_of machine.now) (R.states reader.new) (R.transitions reader.new) }
-    ensures scanned { Has scan.subject table.new result.0.offset (late scan.subject result.0.offset) (R.counted reader.new) (λ whole. IsScanned scan.subject whole scan.start (Picked result.0)) }
-    ensures stands { CursorStandsAt (I.text rest.now) scan.start result.0.offset result.1 }
-    ensures ahead { IsKeptSymbol scan.subject (parts_of machine.now) (I.text rest.now) scan.start result.2 first.new (I.text ahead.new) }
+    requires rest { I.text rest.now ≡ rest_after scan.start scan.source.whole }
+    requires some { scan.start < length scan.source.subject.symbols }
+    requires ahead { IsKeptSymbol scan.source scan.start first.old (I.text ahead.old) }
+    ensures read { IsReadBy scan.source (parts_of machine.now) (R.states reader.new) (R.transitions reader.new) }
+    ensures scanned { IsScanned scan.source.subject table.new (R.counted reader.new) scan.start result.0 }
+    ensures stands { result.1 ≡ start_of (rest_after result.0.offset scan.source.whole) }
+    ensures ahead { IsKeptSymbol scan.source result.2 first.new (I.text ahead.new) }
 {
     let mut state = SegmenterStateMachine::START_STATE;
     let mut symbol = *first;
@@ -314,16 +313,16 @@ fn scan_any<I: Cursor, R: ReadTransitions>(
     start: usize,
 ) -> (Boundary, usize, usize)
     ghost scan: { Scan }
-    requires read { IsReadBy scan.subject (parts_of machine.now) (R.states reader.old) (R.transitions reader.old) }
-    requires memo { Has scan.subject table.old scan.start (late scan.subject scan.start) (R.counted reader.old) (λ whole. IsMemo scan.subject whole scan.start) }
+    requires read { IsReadBy scan.source (parts_of machine.now) (R.states reader.old) (R.transitions reader.old) }
+    requires memo { IsMemo scan.source.subject table.old (R.counted reader.old) scan.start }
     requires start { start ≡ scan.start }
-    requires rest { IsAt scan.subject (parts_of machine.now) scan.start (I.text rest.now).items }
-    requires some { (I.text rest.now).items ≢ [] }
-    requires ahead { IsKeptSymbol scan.subject (parts_of machine.now) (I.text rest.now) scan.start scan.start first.old (I.text ahead.old) }
-    ensures read { IsReadBy scan.subject (parts_of machine.now) (R.states reader.new) (R.transitions reader.new) }
-    ensures scanned { Has scan.subject table.new result.0.offset (late scan.subject result.0.offset) (R.counted reader.new) (λ whole. IsScanned scan.subject whole scan.start (Picked result.0)) }
-    ensures stands { CursorStandsAt (I.text rest.now) scan.start result.0.offset result.1 }
-    ensures ahead { IsKeptSymbol scan.subject (parts_of machine.now) (I.text rest.now) scan.start result.2 first.new (I.text ahead.new) }
+    requires rest { I.text rest.now ≡ rest_after scan.start scan.source.whole }
+    requires some { scan.start < length scan.source.subject.symbols }
+    requires ahead { IsKeptSymbol scan.source scan.start first.old (I.text ahead.old) }
+    ensures read { IsReadBy scan.source (parts_of machine.now) (R.states reader.new) (R.transitions reader.new) }
+    ensures scanned { IsScanned scan.source.subject table.new (R.counted reader.new) scan.start result.0 }
+    ensures stands { result.1 ≡ start_of (rest_after result.0.offset scan.source.whole) }
+    ensures ahead { IsKeptSymbol scan.source result.2 first.new (I.text ahead.new) }
 {
     if machine.num_lookaheads() != 0 {
         return scan_plain(machine, reader, table, rest, first, ahead, start, true);
@@ -354,17 +353,17 @@ pub(crate) fn next_segment<I: Cursor, R: ReadTransitions>(
     ahead: &mut I,
     start: usize,
 ) -> Boundary
-    ghost subject: { Subject }
-    requires read { IsReadBy subject (parts_of scanned.now.machine) (R.states reader.old) (R.transitions reader.old) }
-    requires memo { Has subject table.old start (late subject start) (R.counted reader.old) (λ whole. IsMemo subject whole start) }
-    requires rest { IsAt subject (parts_of scanned.now.machine) start (I.text rest.old).items }
-    requires some { (I.text rest.old).items ≢ [] }
-    requires ahead { IsKeptSymbol subject (parts_of scanned.now.machine) (I.text rest.old) start start first.old (I.text ahead.old) }
-    ensures read { IsReadBy subject (parts_of scanned.now.machine) (R.states reader.new) (R.transitions reader.new) }
-    ensures memo { Has subject table.new result.offset (late subject result.offset) (R.counted reader.new) (λ whole. IsMemo subject whole result.offset) }
-    ensures segment { (p : AnyBoundary) × (pick subject.machine (drop start subject.symbols) ≡ Some p) × (result ≡ shift start p)
-        × (I.text rest.new ≡ rest_after p.offset (I.text rest.old)) }
-    ensures ahead { IsKeptSymbol subject (parts_of scanned.now.machine) (I.text rest.new) result.offset result.offset first.new (I.text ahead.new) }
+    ghost source: { Source }
+    requires read { IsReadBy source (parts_of scanned.now.machine) (R.states reader.old) (R.transitions reader.old) }
+    requires memo { IsMemo source.subject table.old (R.counted reader.old) start }
+    requires rest { I.text rest.old ≡ rest_after start source.whole }
+    requires some { start < length source.subject.symbols }
+    requires ahead { IsKeptSymbol source start first.old (I.text ahead.old) }
+    ensures read { IsReadBy source (parts_of scanned.now.machine) (R.states reader.new) (R.transitions reader.new) }
+    ensures memo { IsMemo source.subject table.new (R.counted reader.new) result.offset }
+    ensures segment { (p : AnyBoundary) × (pick source.subject.machine (drop start source.subject.symbols) ≡ Some p) × (result ≡ shift start p) }
+    ensures rest { I.text rest.new ≡ rest_after result.offset source.whole }
+    ensures ahead { IsKeptSymbol source result.offset first.new (I.text ahead.new) }
 {
     let machine = &scanned.machine;
     let (found, stood, place) = scan_any(machine, reader, table, rest, first, ahead, start);
@@ -384,11 +383,12 @@ fn read_first<I: Cursor>(
     first: &mut Symbol,
     ahead: &mut I,
 )
-    ghost subject: { Subject }
-    requires rest { IsAt subject (parts_of machine.now) place (I.text rest.now).items }
-    requires place { place ≤ length subject.symbols }
-    requires room { suc (length subject.symbols) < 2 ^ 64 }
-    ensures { IsKeptSymbol subject (parts_of machine.now) (I.text rest.now) place place first.new (I.text ahead.new) }
+    ghost source: { Source }
+    requires symbols { source.subject.symbols ≡ symbols_of (parts_of machine.now) (code_points source.whole.items) }
+    requires rest { I.text rest.now ≡ rest_after place source.whole }
+    requires place { place ≤ length source.subject.symbols }
+    requires room { suc (length source.subject.symbols) < 2 ^ 64 }
+    ensures { IsKeptSymbol source place first.new (I.text ahead.new) }
 {
     *ahead = rest.fork();
     let (symbol, _) = next_symbol(machine, ahead, place);

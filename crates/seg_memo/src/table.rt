@@ -1,9 +1,10 @@
 //! The table of configurations: a cell for each, of which those are held that a scan may reach.
 
-ghost use Rattle.std.specs.Prelude.{◌≡◌, ◌+◌, ◌<◌, ◌≤◌, ◌^◌, ℕ, Bool, false, if◌then◌else◌, length, slice_index_or, vec_capacity};
-ghost use Rattle.seg_memo.specs.Configurations.{Scan};
+ghost use Rattle.std.specs.Prelude.{◌≡◌, ◌≢◌, ◌+◌, ◌-◌, ◌*◌, ◌<◌, ◌≤◌, ◌^◌, ℕ, [], true, false, length, slice_index_or, vec_capacity};
+ghost use Rattle.seg_memo.specs.declared.configuration.Configuration.{Configuration as AnyConfiguration};
 ghost use Rattle.seg_memo.specs.declared.configuration.Cell.TheVariants.{Unknown, KnownNothing};
-ghost use Rattle.seg_memo.specs.Grids.{Grid, cell, with_cell, number, is_filled, IsConfigurationOf, IsHeld, IsLeft, IsPart};
+ghost use Rattle.seg_memo.specs.Configurations.{start_at};
+ghost use Rattle.seg_memo.specs.Grids.{HasCell, IsLeft, IsSet, cell, number};
 
 use crate::configuration::{Cell, Configuration};
 use seg_machine::provider::SegmenterStateMachine;
@@ -14,25 +15,38 @@ const LET_GO: usize = 4096;
 /// So many cells are made at once, where there is room.
 const AHEAD: usize = 64;
 
-/// A cell for each configuration of a text: for so many states and so many sets of lookaheads at each place. Held are the
-/// cells from the first on, as far as some were made; those after them are unknown, and no scan comes back to those before.
+/// A map from configurations to cells: for so many states and so many sets of lookaheads at each place. Held are the cells from
+/// the first on, as far as some were made; those after them are unknown, and no scan comes back to those before.
 #[derive(Debug, Drop)]
 pub(crate) struct Table {
-    pub(crate) states: usize,
-    pub(crate) sets: usize,
-    pub(crate) first: usize,
-    pub(crate) cells: Vec<Cell>,
+    states: usize,
+    sets: usize,
+    first: usize,
+    cells: Vec<Cell>,
 }
 
 impl Table {
+    /// A table whose cells are all unknown, and that has room for some.
+    #[inline(always)]
+    pub(crate) fn new(states: usize, sets: usize, cells: Vec<Cell>) -> Self
+        requires { cells.items ≡ [] }
+        ensures unknown { (c : AnyConfiguration) → cell result c ≡ Unknown }
+        ensures has { (c : AnyConfiguration) → c.state < states → c.kept < sets → number states sets c < vec_capacity cells
+            → number states sets c < 2 ^ 64 → HasCell result c }
+    {
+        Table {
+            states,
+            sets,
+            first: 0,
+            cells,
+        }
+    }
+
     /// Where the cell of a configuration is, counted from the first that is held.
     #[inline(always)]
     fn index(&self, here: Configuration) -> usize
-        ghost scan: { Scan }
-        requires window { IsHeld scan.subject self.now scan.start }
-        requires here { IsConfigurationOf scan.subject here }
-        requires from { scan.start ≤ here.place }
-        ensures number { self.now.first + result ≡ number scan.subject here }
+        requires { HasCell self.now here }
+        ensures number { self.now.first + result ≡ number self.now.states self.now.sets here }
         ensures room { result < vec_capacity self.now.cells }
         ensures fits { self.now.first + result < 2 ^ 64 }
     {
@@ -43,11 +57,8 @@ impl Table {
     /// The cell of a configuration.
     #[inline(always)]
     pub(crate) fn cell(&self, here: Configuration) -> Cell
-        ghost scan: { Scan }
-        requires window { IsHeld scan.subject self.now scan.start }
-        requires here { IsConfigurationOf scan.subject here }
-        requires from { scan.start ≤ here.place }
-        ensures { (place : ℕ) (lost : ℕ → Bool) (whole : Grid) → IsPart scan.subject self.now place lost whole → lost (number scan.subject here) ≡ false → result ≡ cell scan.subject whole here }
+        requires { HasCell self.now here }
+        ensures { result ≡ cell self.now here }
     {
         let index = self.index(here);
         if index < self.cells.len() {
@@ -99,12 +110,8 @@ impl Table {
     /// Writes into the cell of a configuration.
     #[inline(always)]
     pub(crate) fn write(&mut self, here: Configuration, cell: Cell)
-        ghost scan: { Scan }
-        requires window { IsHeld scan.subject self.old scan.start }
-        requires here { IsConfigurationOf scan.subject here }
-        requires from { scan.start ≤ here.place }
-        ensures { (place : ℕ) (lost left : ℕ → Bool) (whole : Grid) → IsPart scan.subject self.old place lost whole → IsLeft scan.subject lost left here
-            → IsPart scan.subject self.new place left (with_cell scan.subject whole here cell) }
+        requires { HasCell self.old here }
+        ensures { IsSet self.old self.new 0 here cell }
     {
         let index = self.index(here);
         self.reach(index);
@@ -114,13 +121,10 @@ impl Table {
     /// Holds the cell of a configuration, and lets go those before a place, where that is due.
     #[inline(never)]
     fn make_room(&mut self, here: Configuration, from: usize)
-        ghost scan: { Scan }
-        requires window { IsHeld scan.subject self.old scan.start }
-        requires here { IsConfigurationOf scan.subject here }
-        requires place { scan.start ≤ here.place }
-        requires from { from ≡ scan.start }
-        ensures window { (lost : ℕ → Bool) (whole : Grid) → IsPart scan.subject self.old scan.start lost whole → IsPart scan.subject self.new scan.start lost whole }
-        ensures held { number scan.subject here < self.new.first + length self.new.cells.items }
+        requires here { HasCell self.old here }
+        requires from { HasCell self.old (start_at from) × (from ≤ here.place) }
+        ensures left { IsLeft self.old self.new from }
+        ensures held { number self.new.states self.new.sets here < self.new.first + length self.new.cells.items }
     {
         self.leave(from);
         let index = self.index(here);
@@ -130,13 +134,10 @@ impl Table {
     /// Holds the cell of a configuration; only those from a place on are needed.
     #[inline(always)]
     fn hold(&mut self, here: Configuration, from: usize)
-        ghost scan: { Scan }
-        requires window { IsHeld scan.subject self.old scan.start }
-        requires here { IsConfigurationOf scan.subject here }
-        requires place { scan.start ≤ here.place }
-        requires from { from ≡ scan.start }
-        ensures window { (lost : ℕ → Bool) (whole : Grid) → IsPart scan.subject self.old scan.start lost whole → IsPart scan.subject self.new scan.start lost whole }
-        ensures held { number scan.subject here < self.new.first + length self.new.cells.items }
+        requires here { HasCell self.old here }
+        requires from { HasCell self.old (start_at from) × (from ≤ here.place) }
+        ensures left { IsLeft self.old self.new from }
+        ensures held { number self.new.states self.new.sets here < self.new.first + length self.new.cells.items }
     {
         if self.index(here) >= self.cells.len() {
             self.make_room(here, from);
@@ -146,13 +147,10 @@ impl Table {
     /// Whether a configuration after a place was looked up; if not, its cell holds from now on that its outcome is nothing.
     #[inline(always)]
     pub(crate) fn mark(&mut self, here: Configuration, from: usize) -> bool
-        ghost scan: { Scan }
-        requires window { IsHeld scan.subject self.old scan.start }
-        requires here { IsConfigurationOf scan.subject here }
-        requires place { scan.start ≤ here.place }
-        requires from { from ≡ scan.start }
-        ensures { (lost : ℕ → Bool) (whole : Grid) → IsPart scan.subject self.old scan.start lost whole → lost (number scan.subject here) ≡ false
-            → (result ≡ is_filled (cell scan.subject whole here)) × IsPart scan.subject self.new scan.start lost (if result then whole else with_cell scan.subject whole here KnownNothing) }
+        requires here { HasCell self.old here }
+        requires from { HasCell self.old (start_at from) × (from ≤ here.place) }
+        ensures new { result ≡ false → (cell self.old here ≡ Unknown) × IsSet self.old self.new from here KnownNothing }
+        ensures known { result ≡ true → (cell self.old here ≢ Unknown) × IsLeft self.old self.new from }
     {
         self.hold(here, from);
         let index = self.index(here);
@@ -166,11 +164,8 @@ impl Table {
     /// Lets go the cells before a place, where there are many of them, and no fewer than others.
     #[inline(always)]
     pub(crate) fn leave(&mut self, start: usize)
-        ghost scan: { Scan }
-        requires window { IsHeld scan.subject self.old scan.start }
-        requires start { start ≡ scan.start }
-        requires place { start ≤ length scan.subject.symbols }
-        ensures { (lost : ℕ → Bool) (whole : Grid) → IsPart scan.subject self.old scan.start lost whole → IsPart scan.subject self.new scan.start lost whole }
+        requires { HasCell self.old (start_at start) }
+        ensures { IsLeft self.old self.new start }
     {
         let before = self.index(Configuration {
             state: SegmenterStateMachine::START_STATE,

@@ -11,6 +11,7 @@ use seg_clusters::grapheme::GraphemeClusterBreakIterator;
 use seg_text::scaffold::{Latin1, PotentiallyIllFormedUtf8, RuleBreakType, Utf8, Utf16};
 
 // The next boundary of clusters, of which nothing is said.
+#[inline(always)]
 fn next_cluster<'s, Y: RuleBreakType<'s>>(
     clusters: &mut GraphemeClusterBreakIterator<'_, 's, Y>,
 ) -> Option<(usize, ())>
@@ -41,6 +42,7 @@ impl<'data, 's> BreakIterator for GraphemeClusterBreakIterator<'data, 's, Utf8> 
         self.source().as_str()
     }
 
+    #[inline(always)]
     fn next_break(&mut self) -> Option<(usize, ())> {
         next_cluster(self)
     }
@@ -72,6 +74,7 @@ impl<'data, 's> BreakIterator
         self.source().as_slice()
     }
 
+    #[inline(always)]
     fn next_break(&mut self) -> Option<(usize, ())> {
         next_cluster(self)
     }
@@ -102,6 +105,7 @@ impl<'data, 's> BreakIterator for GraphemeClusterBreakIterator<'data, 's, Latin1
         self.source().as_slice()
     }
 
+    #[inline(always)]
     fn next_break(&mut self) -> Option<(usize, ())> {
         next_cluster(self)
     }
@@ -132,6 +136,7 @@ impl<'data, 's> BreakIterator for GraphemeClusterBreakIterator<'data, 's, Utf16>
         self.source().as_slice()
     }
 
+    #[inline(always)]
     fn next_break(&mut self) -> Option<(usize, ())> {
         next_cluster(self)
     }

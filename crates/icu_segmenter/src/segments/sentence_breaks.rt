@@ -11,6 +11,7 @@ use seg_clusters::sentence::SentenceBreakIterator;
 use seg_text::scaffold::{Latin1, PotentiallyIllFormedUtf8, RuleBreakType, Utf8, Utf16};
 
 // The next boundary of sentences, of which nothing is said.
+#[inline(always)]
 fn next_sentence<'s, Y: RuleBreakType<'s>>(
     sentences: &mut SentenceBreakIterator<'_, 's, Y>,
 ) -> Option<(usize, ())>
@@ -41,6 +42,7 @@ impl<'data, 's> BreakIterator for SentenceBreakIterator<'data, 's, Utf8> {
         self.source().as_str()
     }
 
+    #[inline(always)]
     fn next_break(&mut self) -> Option<(usize, ())> {
         next_sentence(self)
     }
@@ -71,6 +73,7 @@ impl<'data, 's> BreakIterator for SentenceBreakIterator<'data, 's, PotentiallyIl
         self.source().as_slice()
     }
 
+    #[inline(always)]
     fn next_break(&mut self) -> Option<(usize, ())> {
         next_sentence(self)
     }
@@ -101,6 +104,7 @@ impl<'data, 's> BreakIterator for SentenceBreakIterator<'data, 's, Latin1> {
         self.source().as_slice()
     }
 
+    #[inline(always)]
     fn next_break(&mut self) -> Option<(usize, ())> {
         next_sentence(self)
     }
@@ -131,6 +135,7 @@ impl<'data, 's> BreakIterator for SentenceBreakIterator<'data, 's, Utf16> {
         self.source().as_slice()
     }
 
+    #[inline(always)]
     fn next_break(&mut self) -> Option<(usize, ())> {
         next_sentence(self)
     }

@@ -11,6 +11,7 @@ use seg_text::scaffold::{Latin1, PotentiallyIllFormedUtf8, RuleBreakType, Utf8, 
 use seg_words::word::{WordBreakIterator, WordType};
 
 // The next boundary of words, with the type of what ends there.
+#[inline(always)]
 fn next_word<'s, Y: RuleBreakType<'s>>(
     words: &mut WordBreakIterator<'_, 's, Y>,
 ) -> Option<(usize, WordType)>
@@ -41,6 +42,7 @@ impl<'data, 's> BreakIterator for WordBreakIterator<'data, 's, Utf8> {
         self.source().as_str()
     }
 
+    #[inline(always)]
     fn next_break(&mut self) -> Option<(usize, WordType)> {
         next_word(self)
     }
@@ -71,6 +73,7 @@ impl<'data, 's> BreakIterator for WordBreakIterator<'data, 's, PotentiallyIllFor
         self.source().as_slice()
     }
 
+    #[inline(always)]
     fn next_break(&mut self) -> Option<(usize, WordType)> {
         next_word(self)
     }
@@ -101,6 +104,7 @@ impl<'data, 's> BreakIterator for WordBreakIterator<'data, 's, Latin1> {
         self.source().as_slice()
     }
 
+    #[inline(always)]
     fn next_break(&mut self) -> Option<(usize, WordType)> {
         next_word(self)
     }
@@ -131,6 +135,7 @@ impl<'data, 's> BreakIterator for WordBreakIterator<'data, 's, Utf16> {
         self.source().as_slice()
     }
 
+    #[inline(always)]
     fn next_break(&mut self) -> Option<(usize, WordType)> {
         next_word(self)
     }

@@ -1,4 +1,5 @@
 use Rattle.std.proofs.Common.{◌≡◌, refl, sym, ◌∙◌, subst}
+use Rattle.icu_segmenter.specs.LineEngine.TheVariants.{Classic}
 use Rattle.icu_segmenter.specs.LineRules.{HasLineTableFault}
 use Rattle.seg_data.specs.Faults.{IsFaultless}
 use Rattle.seg_pairs.specs.PairTable.{PairTable, pair_table}
@@ -17,4 +18,4 @@ pub returns-clause-sound : goal.returns-clause-sound
 returns-clause-sound c =
     let parts : pair_table c.in-Ok.classes c.in_ok-entries.entries.items c.new-statuses.result.items 57 54 55 56 46 ≡ line_table =
     rw (c.in-Ok.ensures.accepted.0, c.in_ok-from_slice.ensures.items, c.in_ok-entries.ensures, c.new-statuses.ensures.items) refl in
-    subst (λ (t : PairTable). IsFaultless (HasLineTableFault t cluster_table)) (sym (c.in-Ok-try_from_parts.ensures.accepted.0 ∙ parts)) lines-sound
+    subst (λ (t : PairTable). IsFaultless (HasLineTableFault Classic t cluster_table)) (sym (c.in-Ok-try_from_parts.ensures.accepted.0 ∙ parts)) lines-sound

@@ -1,5 +1,6 @@
 use Rattle.std.proofs.Common.{◌≡◌, refl, sym, ◌∙◌, subst}
-use Rattle.icu_segmenter.specs.TurnRules.{HasTurnTableFault}
+use Rattle.icu_segmenter.specs.LineEngine.TheVariants.{Seventeen}
+use Rattle.icu_segmenter.specs.LineRules.{HasLineTableFault}
 use Rattle.seg_data.specs.Faults.{IsFaultless}
 use Rattle.seg_pairs.specs.PairTable.{PairTable, pair_table}
 use Rattle.bench.specs.TurnTables.{turn_table}
@@ -17,4 +18,4 @@ pub returns-clause-sound : goal.returns-clause-sound
 returns-clause-sound c =
     let parts : pair_table c.in-Ok.classes c.in_ok-entries.entries.items c.new-statuses.result.items 71 68 69 70 58 ≡ turn_table =
     rw (c.in-Ok.ensures.accepted.0, c.in_ok-from_slice.ensures.items, c.in_ok-entries.ensures, c.new-statuses.ensures.items) refl in
-    subst (λ (t : PairTable). IsFaultless (HasTurnTableFault t cluster_table)) (sym (c.in-Ok-try_from_parts.ensures.accepted.0 ∙ parts)) turns-sound
+    subst (λ (t : PairTable). IsFaultless (HasLineTableFault Seventeen t cluster_table)) (sym (c.in-Ok-try_from_parts.ensures.accepted.0 ∙ parts)) turns-sound

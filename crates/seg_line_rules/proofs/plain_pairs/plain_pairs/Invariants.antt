@@ -5,7 +5,7 @@ use Rattle.seg_line_rules.proofs.plain_pairs.plain_pairs.Given as goal
 
 abbrev pub invariant-loop-place : goal.invariant-loop-place
 invariant-loop-place g l = record {
-  passed : IsPassed (rules_by l.pairs) l.fn.first (g.I.Cursor.text l.fn.rest) l.next (g.I.Cursor.text l.rest) false;
+  passed : IsPassed (rules_by l.pairs) (g.E.PairEngine.plain (rules_by l.pairs).table) l.fn.first (g.I.Cursor.text l.fn.rest) l.next (g.I.Cursor.text l.rest) false;
 }
 
 abbrev pub decreases-loop-place : goal.decreases-loop-place

@@ -1,4 +1,4 @@
-use Rattle.seg_memo.proofs.Starts.{one-count, one-start}
+use Rattle.seg_memo.proofs.Scanning.{one-count, one-start}
 use Rattle.seg_memo.proofs.laws.look_ups_are_one.Goals as goal
 
 pub returns : goal.returns

@@ -1,27 +1,21 @@
 use Rattle.std.proofs.Common.{◌≡◌, length}
+use Rattle.seg_text.specs.Items.{rest_after}
 use Rattle.seg_machine.specs.Tailored.{parts_of}
-use Rattle.seg_memo.specs.declared.configuration.LookUp.TheVariants.{Leads}
-use Rattle.seg_memo.specs.Configurations.{following, look_up}
-use Rattle.seg_memo.specs.Grids.{IsAt, IsConfigurationOf, IsReadBy, IsUnderWay, Keeps}
+use Rattle.seg_memo.specs.Configurations.{Leads, following, look_up}
+use Rattle.seg_memo.specs.Grids.{IsConfigurationOf, IsReadBy, IsUnderWay}
 use Rattle.seg_memo.proofs.search.go_forward.Given as goal
 
-abbrev pub ghost-cell : goal.ghost-cell
-ghost-cell g a = record { subject = g.named.subject; start = a.here.place }
-
-abbrev pub ghost-write : goal.ghost-write
-ghost-write g a = record { subject = g.named.subject; start = a.here.place }
-
 abbrev pub ghost-look_up : goal.ghost-look_up
-ghost-look_up g a = g.named.subject
+ghost-look_up g a = g.named.source
 
 abbrev pub invariant-scan : goal.invariant-scan
 invariant-scan g l = record {
-  read : IsReadBy g.named.subject (parts_of l.machine) (g.R.ReadTransitions.states l.reader) (g.R.ReadTransitions.transitions l.reader);
-  walking : Keeps g.named.subject l.table g.named.last l.fn.first (g.R.ReadTransitions.counted l.reader) (λ whole. IsUnderWay g.named.subject whole g.named.start g.named.last l.fn.first l.here);
-  leads : look_up g.named.subject l.here ≡ Leads l.next;
-  within : IsConfigurationOf g.named.subject l.next;
-  rest : IsAt g.named.subject (parts_of l.machine) l.next.place (g.I.Cursor.text l.rest).items;
+  read : IsReadBy g.named.source (parts_of l.machine) (g.R.ReadTransitions.states l.reader) (g.R.ReadTransitions.transitions l.reader);
+  walking : IsUnderWay g.named.source.subject l.table (g.R.ReadTransitions.counted l.reader) g.named.start g.named.last l.fn.first l.here;
+  leads : look_up g.named.source.subject l.here ≡ Leads l.next;
+  within : IsConfigurationOf g.named.source.subject l.next;
+  rest : g.I.Cursor.text l.rest ≡ rest_after l.next.place g.named.source.whole;
 }
 
 abbrev pub decreases-scan : goal.decreases-scan
-decreases-scan g l = length (following g.named.subject l.next)
+decreases-scan g l = length (following g.named.source.subject l.next)

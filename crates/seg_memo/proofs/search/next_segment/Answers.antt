@@ -1,37 +1,25 @@
-use Rattle.std.proofs.Common.{refl}
-use Rattle.seg_memo.proofs.Ahead.{segment-ahead, segment-at}
-use Rattle.seg_memo.proofs.Held.{plain-memo, plain-segment}
-use Rattle.seg_memo.proofs.Moves.{segment-sought}
-use Rattle.seg_memo.proofs.Numbers.{items-fit}
+use Rattle.std.proofs.Common.{ℕ, ap, subst, sym, ◌∙◌}
+use Rattle.seg_text.specs.Items.{start_of}
+use Rattle.seg_memo.specs.Grids.{IsKeptSymbol}
+use Rattle.seg_memo.proofs.Reading.{seeks, sought}
+use Rattle.seg_memo.proofs.Cells.{items-fit}
 use Rattle.seg_memo.proofs.search.next_segment.Goals as goal
+
+pub seek-requires : goal.seek-requires
+seek-requires g c = (_, c.scan_any-stood.ensures.stands ∙ ap start_of (sym (sought g.source.whole _ c.args.start _ c.requires.1.1.1.1.0 c.scan_any-stood.ensures.scanned.past)))
 
 pub read_first-requires : goal.read_first-requires
 read_first-requires g c κs within =
-    let memo = (plain-memo g.subject _ _ _ _ _ _ _ _ c.scan_any-stood.ensures.scanned
-    c.scan_any-stood.ensures.read c.requires.1.1.1.1.0 c.requires.1.1.1.1.1.0).is in
-    (within, (segment-at g.subject _ _ _ _ _ c.requires.1.1.1.1.0 (segment-sought g.subject _ _ c.args.start _ _ _ (plain-segment _ _ _ _ _ _ c.scan_any-stood.ensures.scanned) c.scan_any-stood.ensures.stands refl c.seek.ensures), (memo.within, items-fit _ memo.table.fit.sound)))
+    let memo = c.scan_any-stood.ensures.scanned.memo in
+    let rest = seeks g.source.whole _ _ c.args.start _ _ c.requires.1.1.1.1.0 c.scan_any-stood.ensures.scanned.past c.scan_any-stood.ensures.stands c.seek.ensures in
+    (within, (c.requires.1.1.0.symbols, (rest, (memo.within, items-fit _ memo.fit.sound))))
 
-pub returns-then-found-place-clause-memo : goal.returns-then-found-place-clause-memo
-returns-then-found-place-clause-memo g c =
-    plain-memo g.subject _ _ _ _ _ _ _ _ c.scan_any-stood.ensures.scanned
-    c.scan_any-stood.ensures.read c.requires.1.1.1.1.0 c.requires.1.1.1.1.1.0
+pub returns-then-found-place-clause-rest : goal.returns-then-found-place-clause-rest
+returns-then-found-place-clause-rest g c = seeks g.source.whole _ _ c.args.start _ _ c.requires.1.1.1.1.0 c.scan_any-stood.ensures.scanned.past c.scan_any-stood.ensures.stands c.seek.ensures
 
-pub returns-then-found-place-clause-segment : goal.returns-then-found-place-clause-segment
-returns-then-found-place-clause-segment g c =
-    segment-sought g.subject _ _ c.args.start _ _ _ (plain-segment _ _ _ _ _ _ c.scan_any-stood.ensures.scanned) c.scan_any-stood.ensures.stands refl c.seek.ensures
-
-pub returns-else-found-place-clause-memo : goal.returns-else-found-place-clause-memo
-returns-else-found-place-clause-memo g c =
-    plain-memo g.subject _ _ _ _ _ _ _ _ c.scan_any-stood.ensures.scanned
-    c.scan_any-stood.ensures.read c.requires.1.1.1.1.0 c.requires.1.1.1.1.1.0
-
-pub returns-else-found-place-clause-segment : goal.returns-else-found-place-clause-segment
-returns-else-found-place-clause-segment g c =
-    segment-sought g.subject _ _ c.args.start _ _ _ (plain-segment _ _ _ _ _ _ c.scan_any-stood.ensures.scanned) c.scan_any-stood.ensures.stands refl c.seek.ensures
+pub returns-else-found-place-clause-rest : goal.returns-else-found-place-clause-rest
+returns-else-found-place-clause-rest g c = seeks g.source.whole _ _ c.args.start _ _ c.requires.1.1.1.1.0 c.scan_any-stood.ensures.scanned.past c.scan_any-stood.ensures.stands c.seek.ensures
 
 pub returns-else-found-place-clause-ahead : goal.returns-else-found-place-clause-ahead
 returns-else-found-place-clause-ahead g c =
-    segment-ahead g.subject _ _ _ _ _ _ _ _ c.scan_any-stood.ensures.ahead
-    (segment-sought g.subject _ _ c.args.start _ _ _ (plain-segment _ _ _ _ _ _ c.scan_any-stood.ensures.scanned) c.scan_any-stood.ensures.stands refl c.seek.ensures)
-    (plain-memo g.subject _ _ _ _ _ _ _ _ c.scan_any-stood.ensures.scanned
-    c.scan_any-stood.ensures.read c.requires.1.1.1.1.0 c.requires.1.1.1.1.1.0).is.within c.if-found-place.false
+    subst (λ (n : ℕ). IsKeptSymbol g.source n c.scan_any-stood.new.first (g.I.Cursor.text c.scan_any-stood.new.ahead)) (sym c.if-found-place.false) c.scan_any-stood.ensures.ahead

@@ -1,15 +1,13 @@
-use Rattle.seg_memo.proofs.Moves.{goes-none, goes-one}
-use Rattle.seg_memo.proofs.Reading.{at-next, at-end}
+use Rattle.std.proofs.Common.{◌∙◌}
+use Rattle.seg_memo.proofs.Reading.{reads-item, reads-none}
 use Rattle.seg_memo.proofs.search.next_symbol.Goals as goal
 
-pub returns-in-Some-clause-rest : goal.returns-in-Some-clause-rest
-returns-in-Some-clause-rest g c = at-next g.subject _ c.args.place _ _ _ c.in-Some.ensures.gives c.requires.1.0
+pub returns-in-Some : goal.returns-in-Some
+returns-in-Some g c =
+    let k = reads-item g.source _ c.args.place (c.in-Some.field-0-0, c.in-Some.code_point) _ _ c.requires.1.0 c.requires.1.1.0 c.in-Some.ensures.gives c.in-Some.ensures.end in
+    record { symbol = c.symbol.ensures ∙ k.symbol; place = k.place_is; rest = k.rest }
 
-pub returns-in-None-clause-place : goal.returns-in-None-clause-place
-returns-in-None-clause-place g c = at-end g.subject _ c.args.place _ c.in-None.ensures.gives.0 c.requires.1.0 c.requires.1.1.0
-
-pub returns-in-Some-clause-goes : goal.returns-in-Some-clause-goes
-returns-in-Some-clause-goes g c = goes-one _ _ _ c.args.place c.in-Some.ensures.gives c.in-Some.ensures.end
-
-pub returns-in-None-clause-goes : goal.returns-in-None-clause-goes
-returns-in-None-clause-goes g c = goes-none _ _ c.args.place c.in-None.ensures.gives.0 c.in-None.ensures.gives.1 c.in-None.ensures.end
+pub returns-in-None : goal.returns-in-None
+returns-in-None g c =
+    let k = reads-none g.source _ c.args.place _ _ c.requires.1.0 c.requires.1.1.1.0 c.requires.1.1.0 c.in-None.ensures.gives.0 c.in-None.ensures.gives.1 c.in-None.ensures.end in
+    record { symbol = k.symbol; place = k.place_is; rest = k.rest }

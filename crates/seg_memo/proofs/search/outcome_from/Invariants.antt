@@ -1,13 +1,7 @@
 use Rattle.seg_memo.proofs.search.outcome_from.Given as goal
 
-abbrev pub ghost-cell : goal.ghost-cell
-ghost-cell g a = record { subject = g.named.subject; start = a.here.place }
-
 abbrev pub ghost-look_up : goal.ghost-look_up
-ghost-look_up g a = g.named.subject
-
-abbrev pub ghost-leave : goal.ghost-leave
-ghost-leave g a = record { subject = g.named.subject; start = a.start }
+ghost-look_up g a = g.named.source
 
 abbrev pub ghost-go_forward : goal.ghost-go_forward
 ghost-go_forward g a = g.named

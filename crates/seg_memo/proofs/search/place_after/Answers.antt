@@ -1,5 +1,5 @@
-use Rattle.seg_memo.proofs.Moves.{goes-more}
+use Rattle.seg_memo.proofs.Reading.{goes-more}
 use Rattle.seg_memo.proofs.search.place_after.Goals as goal
 
 pub loop-item-preserved : goal.loop-item-preserved
-loop-item-preserved g c = goes-more _ _ _ _ _ c.loop-item.invariant c.skip.ensures
+loop-item-preserved g c = goes-more g.whole _ _ c.loop-item.item c.loop-item.invariant c.skip.ensures

@@ -18,4 +18,4 @@ returns-in-Apart-clause-lands g c = unit-case (rules_by c.args.self.now.pairs) _
 pub returns-in-Table-clause-lands : goal.returns-in-Table-clause-lands
 returns-in-Table-clause-lands g c =
     unit-table (rules_by c.args.self.now.pairs) c.table.result.now c.args.left c.in-Some.right _ _ _ _ c.in-Some.ensures.gives (sym c.in-Table.is ∙ c.case_of.ensures)
-    c.table.ensures (c.table_step.ensures.lands _)
+    c.table.ensures.value (c.table_step.ensures.lands _)

@@ -1,5 +1,5 @@
 use Rattle.std.proofs.Common.{refl}
-use Rattle.seg_line_turns.specs.TurnBoundaries.{turn_rules_by}
+use Rattle.seg_line_rules.specs.LineBoundaries.{rules_by}
 use Rattle.seg_line_turns.proofs.TurnEvents.{break-leads, break-of, ahead-none, ends-here, first-of, go-leads, go-of, goes-on, not-empty, run-goes, run-leads-to, run-of, unread_by}
 use Rattle.seg_line_turns.proofs.TurnsLeft.{nothing-unread}
 use Rattle.seg_line_turns.proofs.turn_events.TurnEventsLineSource.next_event.Goals as goal
@@ -7,7 +7,7 @@ use Rattle.seg_line_turns.proofs.turn_events.TurnEventsLineSource.next_event.Goa
 pub seek-requires : goal.seek-requires
 seek-requires g c =
     let s = c.self.inside in
-    let rules = turn_rules_by s.pairs in
+    let rules = rules_by s.pairs in
     let a = first-of g.I.Cursor.text rules (g.I.Cursor.text s.here) s.next c.in-Some.next s.rest c.fork.result c.in-Some.is c.self.invariant c.fork.ensures in
     let b = break-of rules s.starts s.opened (g.I.Cursor.text s.here) (g.I.Cursor.text c.fork.result) (c.in-Some.next.place, c.in-Some.next.code_point) c.first_unit-first.result c.turn.result
     a.items a.end
@@ -17,7 +17,7 @@ seek-requires g c =
 pub seek-requires-in-Go : goal.seek-requires-in-Go
 seek-requires-in-Go g c =
     let s = c.self.inside in
-    let rules = turn_rules_by s.pairs in
+    let rules = rules_by s.pairs in
     let a = first-of g.I.Cursor.text rules (g.I.Cursor.text s.here) s.next c.in-Some.next s.rest c.fork.result c.in-Some.is c.self.invariant c.fork.ensures in
     let b = go-of rules s.starts s.opened (g.I.Cursor.text s.here) (g.I.Cursor.text c.fork.result) (c.in-Some.next.place, c.in-Some.next.code_point) c.first_unit-first.result c.turn.result
     a.items a.end
@@ -27,7 +27,7 @@ seek-requires-in-Go g c =
 pub seek-requires-in-Run : goal.seek-requires-in-Run
 seek-requires-in-Run g c =
     let s = c.self.inside in
-    let rules = turn_rules_by s.pairs in
+    let rules = rules_by s.pairs in
     let a = first-of g.I.Cursor.text rules (g.I.Cursor.text s.here) s.next c.in-Some.next s.rest c.fork.result c.in-Some.is c.self.invariant c.fork.ensures in
     let b = run-of rules s.starts s.opened (g.I.Cursor.text s.here) (g.I.Cursor.text c.fork.result) (c.in-Some.next.place, c.in-Some.next.code_point) c.first_unit-first.result c.turn.result
     a.items a.end
@@ -37,7 +37,7 @@ seek-requires-in-Run g c =
 pub returns-in-Break-clause-leads : goal.returns-in-Break-clause-leads
 returns-in-Break-clause-leads g c =
     let s = c.self.inside in
-    let rules = turn_rules_by s.pairs in
+    let rules = rules_by s.pairs in
     let a = first-of g.I.Cursor.text rules (g.I.Cursor.text s.here) s.next c.in-Some.next s.rest c.fork.result c.in-Some.is c.self.invariant c.fork.ensures in
     let b = break-of rules s.starts s.opened (g.I.Cursor.text s.here) (g.I.Cursor.text c.fork.result) (c.in-Some.next.place, c.in-Some.next.code_point) c.first_unit-first.result c.turn.result
     a.items a.end
@@ -47,7 +47,7 @@ returns-in-Break-clause-leads g c =
 pub returns-in-Break-clause-goes : goal.returns-in-Break-clause-goes
 returns-in-Break-clause-goes g c =
     let s = c.self.inside in
-    let rules = turn_rules_by s.pairs in
+    let rules = rules_by s.pairs in
     let a = first-of g.I.Cursor.text rules (g.I.Cursor.text s.here) s.next c.in-Some.next s.rest c.fork.result c.in-Some.is c.self.invariant c.fork.ensures in
     let b = break-of rules s.starts s.opened (g.I.Cursor.text s.here) (g.I.Cursor.text c.fork.result) (c.in-Some.next.place, c.in-Some.next.code_point) c.first_unit-first.result c.turn.result
     a.items a.end
@@ -57,7 +57,7 @@ returns-in-Break-clause-goes g c =
 pub returns-in-Go-clause-leads : goal.returns-in-Go-clause-leads
 returns-in-Go-clause-leads g c =
     let s = c.self.inside in
-    let rules = turn_rules_by s.pairs in
+    let rules = rules_by s.pairs in
     let a = first-of g.I.Cursor.text rules (g.I.Cursor.text s.here) s.next c.in-Some.next s.rest c.fork.result c.in-Some.is c.self.invariant c.fork.ensures in
     let b = go-of rules s.starts s.opened (g.I.Cursor.text s.here) (g.I.Cursor.text c.fork.result) (c.in-Some.next.place, c.in-Some.next.code_point) c.first_unit-first.result c.turn.result
     a.items a.end
@@ -70,7 +70,7 @@ returns-in-Go-clause-leads g c =
 pub returns-in-Go-clause-goes : goal.returns-in-Go-clause-goes
 returns-in-Go-clause-goes g c =
     let s = c.self.inside in
-    let rules = turn_rules_by s.pairs in
+    let rules = rules_by s.pairs in
     let a = first-of g.I.Cursor.text rules (g.I.Cursor.text s.here) s.next c.in-Some.next s.rest c.fork.result c.in-Some.is c.self.invariant c.fork.ensures in
     let b = go-of rules s.starts s.opened (g.I.Cursor.text s.here) (g.I.Cursor.text c.fork.result) (c.in-Some.next.place, c.in-Some.next.code_point) c.first_unit-first.result c.turn.result
     a.items a.end
@@ -80,7 +80,7 @@ returns-in-Go-clause-goes g c =
 pub returns-in-Run-clause-leads : goal.returns-in-Run-clause-leads
 returns-in-Run-clause-leads g c =
     let s = c.self.inside in
-    let rules = turn_rules_by s.pairs in
+    let rules = rules_by s.pairs in
     let a = first-of g.I.Cursor.text rules (g.I.Cursor.text s.here) s.next c.in-Some.next s.rest c.fork.result c.in-Some.is c.self.invariant c.fork.ensures in
     let b = run-of rules s.starts s.opened (g.I.Cursor.text s.here) (g.I.Cursor.text c.fork.result) (c.in-Some.next.place, c.in-Some.next.code_point) c.first_unit-first.result c.turn.result
     a.items a.end
@@ -98,7 +98,7 @@ returns-in-Run-clause-leads g c =
 pub returns-in-Run-clause-goes : goal.returns-in-Run-clause-goes
 returns-in-Run-clause-goes g c =
     let s = c.self.inside in
-    let rules = turn_rules_by s.pairs in
+    let rules = rules_by s.pairs in
     let a = first-of g.I.Cursor.text rules (g.I.Cursor.text s.here) s.next c.in-Some.next s.rest c.fork.result c.in-Some.is c.self.invariant c.fork.ensures in
     let b = run-of rules s.starts s.opened (g.I.Cursor.text s.here) (g.I.Cursor.text c.fork.result) (c.in-Some.next.place, c.in-Some.next.code_point) c.first_unit-first.result c.turn.result
     a.items a.end
@@ -109,12 +109,12 @@ returns-in-Run-clause-goes g c =
 pub returns-in_default-clause-leads : goal.returns-in_default-clause-leads
 returns-in_default-clause-leads g c =
     let s = c.self.inside in
-    let rules = turn_rules_by s.pairs in
+    let rules = rules_by s.pairs in
     let none = ahead-none rules (g.I.Cursor.text s.here) s.next _ c.in_default.is c.self.invariant in
     rw (← c.self.view_is) (none, (refl, λ cuts. nothing-unread cuts (unread_by rules s.starts s.opened (g.I.Cursor.text s.here)) none))
 
 pub returns-in_default-clause-goes : goal.returns-in_default-clause-goes
 returns-in_default-clause-goes g c =
     let s = c.self.inside in
-    let none = ahead-none (turn_rules_by s.pairs) (g.I.Cursor.text s.here) s.next _ c.in_default.is c.self.invariant in
-    rw (← c.self.view_is) (ends-here (turn_rules_by s.pairs) s.starts s.opened (g.I.Cursor.text s.here) none)
+    let none = ahead-none (rules_by s.pairs) (g.I.Cursor.text s.here) s.next _ c.in_default.is c.self.invariant in
+    rw (← c.self.view_is) (ends-here (rules_by s.pairs) s.starts s.opened (g.I.Cursor.text s.here) none)

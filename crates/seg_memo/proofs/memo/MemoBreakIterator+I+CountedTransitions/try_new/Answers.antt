@@ -1,9 +1,7 @@
 use Rattle.std.proofs.Common.{◌∙◌, ap, arith, length, refl, sym}
-use Rattle.seg_memo.proofs.Ahead.{made-ahead}
-use Rattle.seg_memo.proofs.Fresh.{parts-fit, parts-keep, sets-made, states-made}
+use Rattle.seg_memo.proofs.Memoised.{made-memo, parts-fit, sets-made, states-made, made-ahead, read-by}
 use Rattle.seg_machine.specs.Machine.{Machine}
 use Rattle.seg_machine.specs.Tailored.{machine_of, parts_of}
-use Rattle.seg_memo.proofs.Memoised.{read-by}
 use Rattle.seg_memo.proofs.memo.«MemoBreakIterator+I+CountedTransitions».try_new.Goals as goal
 
 pub invariant_of-result : goal.invariant_of-result
@@ -11,21 +9,14 @@ invariant_of-result g c = (
   λ off. (refl, refl),
   read-by (parts_of c.parts-parts.result) _ _ _ (c.new.ensures.states ∙ ap length c.machine-2.ensures.states ∙ ap (λ (m : Machine). length m.states) (sym c.parts-parts.ensures)),
   ap (g.I.Cursor.text) c.fork-rest.ensures,
-  parts-keep (machine_of c.args.machine) (parts_of c.parts-parts.result) _ _ _ _ c.parts-parts.ensures c.facts.ensures (c.new.ensures.transitions ∙ c.machine-2.ensures.transitions)
+  made-memo (machine_of c.args.machine) (parts_of c.parts-parts.result) _ _ _ _ _ _ _ c.parts-parts.ensures c.facts.ensures (c.new.ensures.transitions ∙ c.machine-2.ensures.transitions)
       (states-made (machine_of c.args.machine) _ (c.states-states.ensures ∙ c.machine.ensures.states)) (sets-made _ _ c.facts.ensures c.num_lookaheads-sets.ensures)
-      c.in-Some.ensures.fits refl c.in-Ok.ensures.items (omega (arith, c.in-Some.ensures.room, c.in-Ok.ensures.exact)) c.new.ensures.count,
-  made-ahead (parts_of c.parts-parts.result) _ (g.I.Cursor.text c.args.text) (g.I.Cursor.text c.fork-ahead.result) _ _ _ _ (ap (g.I.Cursor.text) c.fork-ahead.ensures) (ap (g.I.Cursor.text) c.fork-rest.ensures)
-      c.next_symbol-first.ensures.symbol c.next_symbol-first.ensures.place c.next_symbol-first.ensures.rest c.next_symbol-first.ensures.goes,
+      c.in-Some.ensures.fits (omega (arith, c.in-Some.ensures.room, c.in-Ok.ensures.exact)) c.new-2.ensures.unknown c.new-2.ensures.has c.new.ensures.count,
+  made-ahead (parts_of c.parts-parts.result) _ (g.I.Cursor.text c.fork-ahead.result) (g.I.Cursor.text c.args.text) _ _ _ (ap (g.I.Cursor.text) c.fork-ahead.ensures) c.next_symbol-first.ensures.symbol
+      c.next_symbol-first.ensures.place c.next_symbol-first.ensures.rest,
 )
 
 pub next_symbol-first-requires : goal.next_symbol-first-requires
-next_symbol-first-requires g c κs within = (
-  within,
-  (
-    refl,
-    (
-      omega arith,
-      parts-fit (machine_of c.args.machine) (parts_of c.parts-parts.result) (g.I.Cursor.text c.fork-ahead.result).items c.facts.ensures (rw c.fork-ahead.ensures c.in-Some.ensures.fits),
-    ),
-  ),
-)
+next_symbol-first-requires g c κs within =
+    let fits = parts-fit (machine_of c.args.machine) (parts_of c.parts-parts.result) (g.I.Cursor.text c.fork-ahead.result).items c.facts.ensures (rw c.fork-ahead.ensures c.in-Some.ensures.fits) in
+    (within, (refl, (refl, (omega arith, fits))))

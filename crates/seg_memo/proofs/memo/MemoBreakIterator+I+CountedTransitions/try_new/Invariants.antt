@@ -7,4 +7,4 @@ use Rattle.seg_memo.proofs.memo.«MemoBreakIterator+I+CountedTransitions».try_n
 abbrev pub ghost-next_symbol : goal.ghost-next_symbol
 ghost-next_symbol g a =
     let m = parts_of a.machine.now in
-    subject m (symbols_of m (code_points (g.I.Cursor.text a.rest.now).items))
+    record { subject = subject m (symbols_of m (code_points (g.I.Cursor.text a.rest.now).items)); whole = g.I.Cursor.text a.rest.now }

@@ -3,7 +3,7 @@ use Rattle.seg_text.specs.Boundaries.{offsets}
 use Rattle.seg_machine.specs.Tailored.{parts_of}
 use Rattle.seg_machine.proofs.Engine.{not_at_end}
 use Rattle.seg_memo.specs.Configurations.{reading}
-use Rattle.seg_memo.proofs.Memoised.{end-none, memo-next, rest-at}
+use Rattle.seg_memo.proofs.Memoised.{end-none, memo-next}
 use Rattle.seg_memo.proofs.memo.MemoBreakIterator.next_boundary.Goals as goal
 
 pub returns-then-is_at_end-clause-steps : goal.returns-then-is_at_end-clause-steps
@@ -11,36 +11,10 @@ returns-then-is_at_end-clause-steps g c =
     let none = end-none _ (g.I.Cursor.text c.self.inside.scanned.text) _ c.self.inside.place _ c.self.inside.status c.if-not-self.false c.self.invariant.2 (sym c.is_at_end.ensures ∙ c.if-is_at_end.true) in
     rw (← c.self.view_is) ((ap offsets none, ap offsets none), (none, none, refl))
 
-pub next_segment-found-requires : goal.next_segment-found-requires
-next_segment-found-requires g c = λ κs lives. (
-  lives.0,
-  (
-    lives.1,
-    (
-      c.self.invariant.1,
-      (
-        c.self.invariant.3,
-        (
-          rest-at (parts_of c.self.inside.scanned.machine) _ (g.R.ReadTransitions.transitions c.self.inside.reader) (g.I.Cursor.text c.self.inside.scanned.text) _ _ c.self.invariant.1 c.self.invariant.2,
-          (not_at_end _ (sym c.is_at_end.ensures ∙ c.if-is_at_end.false), c.self.invariant.4),
-        ),
-      ),
-    ),
-  ),
-)
-
-pub returns-clause-steps : goal.returns-clause-steps
-returns-clause-steps g c =
-    rw (← c.self.view_is)
-    ((memo-next (reading (parts_of c.self.inside.scanned.machine) (g.R.ReadTransitions.transitions c.self.inside.reader)) _ (g.I.Cursor.text c.self.inside.scanned.text) (g.I.Cursor.text c.self.inside.rest)
+pub returns : goal.returns
+returns g c =
+    let k = memo-next (reading (parts_of c.self.inside.scanned.machine) (g.R.ReadTransitions.transitions c.self.inside.reader)) _ (g.I.Cursor.text c.self.inside.scanned.text) (g.I.Cursor.text c.self.inside.rest)
     (g.I.Cursor.text c.next_segment-found.new.rest) c.self.inside.place (g.R.ReadTransitions.counted c.self.inside.reader) (g.R.ReadTransitions.counted c.next_segment-found.new.reader) _ _ c.self.inside.status
     c.next_segment-found.result (sym c.next_segment-found.ensures.read.machine) c.if-not-self.false c.self.invariant.2 (not_at_end _ (sym c.is_at_end.ensures ∙ c.if-is_at_end.false))
-    c.next_segment-found.ensures.segment c.place-2.ensures).steps)
-
-pub returns-clause-goes : goal.returns-clause-goes
-returns-clause-goes g c =
-    rw (← c.self.view_is)
-    ((memo-next (reading (parts_of c.self.inside.scanned.machine) (g.R.ReadTransitions.transitions c.self.inside.reader)) _ (g.I.Cursor.text c.self.inside.scanned.text) (g.I.Cursor.text c.self.inside.rest)
-    (g.I.Cursor.text c.next_segment-found.new.rest) c.self.inside.place (g.R.ReadTransitions.counted c.self.inside.reader) (g.R.ReadTransitions.counted c.next_segment-found.new.reader) _ _ c.self.inside.status
-    c.next_segment-found.result (sym c.next_segment-found.ensures.read.machine) c.if-not-self.false c.self.invariant.2 (not_at_end _ (sym c.is_at_end.ensures ∙ c.if-is_at_end.false))
-    c.next_segment-found.ensures.segment c.place-2.ensures).goes)
+    c.next_segment-found.ensures.segment c.next_segment-found.ensures.rest c.place-2.ensures in
+    rw (← c.self.view_is) (record { steps = k.steps; goes = k.goes; same = (sym c.next_segment-found.ensures.read.machine, refl) })

@@ -7,4 +7,4 @@ use Rattle.seg_memo.proofs.memo.MemoBreakIterator.next_boundary.Given as goal
 abbrev pub ghost-next_segment : goal.ghost-next_segment
 ghost-next_segment g a =
     let m = reading (parts_of a.scanned.now.machine) (g.R.ReadTransitions.transitions a.reader.now) in
-    subject m (symbols_of m (code_points (g.I.Cursor.text a.scanned.now.text).items))
+    record { subject = subject m (symbols_of m (code_points (g.I.Cursor.text a.scanned.now.text).items)); whole = g.I.Cursor.text a.scanned.now.text }

@@ -5,8 +5,7 @@ use Rattle.seg_machine.specs.Tailored.{parts_of}
 use Rattle.seg_memo.specs.Configurations.{reading}
 use Rattle.seg_memo.specs.Memos.{Memo}
 use Rattle.seg_memo.proofs.Ahead.{other-ahead}
-use Rattle.seg_memo.proofs.Fresh.{other-keeps}
-use Rattle.seg_memo.proofs.Memoised.{read-by}
+use Rattle.seg_memo.proofs.Memoised.{other-memo, read-by}
 use Rattle.seg_memo.proofs.memo.MemoBreakIterator.with_reader.Goals as goal
 
 pub invariant_of-result : goal.invariant_of-result
@@ -16,8 +15,8 @@ invariant_of-result g c =
     let checked : IsChecked (reading (parts_of c.self.inside.scanned.machine) (g.Other.ReadTransitions.transitions c.args.reader)) =
     subst (λ (v : Memo). IsChecked (reading v.machine (g.Other.ReadTransitions.transitions c.args.reader))) (sym c.self.view_is) c.requires.checked in (
       λ off. (refl, refl),
-      read-by (parts_of c.self.inside.scanned.machine) _ _ _ (c.requires.states ∙ ap (λ (v : Memo). length v.machine.states) (sym c.self.view_is)),
+      read-by (parts_of c.self.inside.scanned.machine) _ _ (g.I.Cursor.text c.self.inside.scanned.text) (c.requires.states ∙ ap (λ (v : Memo). length v.machine.states) (sym c.self.view_is)),
       c.self.invariant.2 ∙ ap (λ (n : ℕ). rest_after n (g.I.Cursor.text c.self.inside.scanned.text)) none,
-      other-keeps (parts_of c.self.inside.scanned.machine) (g.R.ReadTransitions.transitions c.self.inside.reader) (g.Other.ReadTransitions.transitions c.args.reader) _ _ _ _ _ c.self.invariant.3 none checked c.requires.count,
+      other-memo (parts_of c.self.inside.scanned.machine) (g.R.ReadTransitions.transitions c.self.inside.reader) (g.Other.ReadTransitions.transitions c.args.reader) _ _ _ _ _ c.self.invariant.3 none checked c.requires.count,
       other-ahead (parts_of c.self.inside.scanned.machine) (g.R.ReadTransitions.transitions c.self.inside.reader) (g.Other.ReadTransitions.transitions c.args.reader) _ _ _ _ _ c.self.invariant.4 none,
     )

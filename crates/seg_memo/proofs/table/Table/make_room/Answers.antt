@@ -1,7 +1,7 @@
-use Rattle.seg_memo.proofs.Windows.{part-more}
+use Rattle.seg_memo.proofs.Cells.{left-more, left-on}
 use Rattle.seg_memo.proofs.table.Table.make_room.Goals as goal
 
-pub returns-clause-window : goal.returns-clause-window
-returns-clause-window g c = λ lost whole w.
-    part-more g.scan.subject c.leave.new.self c.reach.new.self g.scan.start lost whole (c.leave.ensures lost whole w) c.reach.ensures.states c.reach.ensures.sets c.reach.ensures.first
-    c.reach.ensures.capacity c.reach.ensures.held
+pub returns-clause-left : goal.returns-clause-left
+returns-clause-left c =
+    left-on c.leave.ensures
+    (left-more c.leave.new.self c.reach.new.self c.args.from c.reach.ensures.states c.reach.ensures.sets c.reach.ensures.first c.reach.ensures.capacity c.reach.ensures.held)

@@ -1,7 +1,8 @@
-use Rattle.seg_memo.proofs.Windows.{window-write}
+use Rattle.std.proofs.Common.{refl}
+use Rattle.seg_memo.proofs.Cells.{set-there}
 use Rattle.seg_memo.proofs.table.Table.write.Goals as goal
 
 pub returns : goal.returns
-returns g c = λ place lost left whole window lefts.
-    window-write g.scan.subject c.args.self.now c.reach.new.self place lost left whole c.args.here c.args.cell c.index-index.result window lefts c.requires.1.0 c.index-index.ensures.number
-    c.reach.ensures.states c.reach.ensures.sets c.reach.ensures.first c.reach.ensures.capacity c.reach.ensures.length c.reach.ensures.held
+returns c =
+    set-there c.args.self.now _ c.reach.new.self.cells.items c.args.here c.args.cell c.index-index.result c.requires c.index-index.ensures.number
+    c.reach.ensures.states c.reach.ensures.sets c.reach.ensures.first c.reach.ensures.capacity c.reach.ensures.length refl c.reach.ensures.held
