@@ -114,8 +114,8 @@ abbrev pub is_never_complex : LineEngine → ℕ → Bool
 is_never_complex Classic class = is_named_class class
 is_never_complex Seventeen class = not (class == class_number Seventeen SA)
 
--- the faults of a pair table of lines: it has no class ID, a code point below U+0100, which Latin-1 has too, is complex, before the options read
--- its class, or its complex class is one that it can't be
+-- the faults of a pair table of lines: it has no class ID; a code point of Latin-1 is complex, before the options read its class; or its complex
+-- class is one that it can't name
 abbrev pub HasOwnLineFault : LineEngine → PairTable → DataError → Type 0
 HasOwnLineFault engine t ClassOutOfRange = t.property_count ≤ class_number engine ID
 HasOwnLineFault engine t ComplexBelow0100 = (code_point : ℕ) × (code_point < 0x100) × (is_complex_by engine t (class_of t None code_point) ≡ true)
