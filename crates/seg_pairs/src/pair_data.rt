@@ -151,6 +151,25 @@ impl<'data> PairDataBorrowed<'data> {
         self.table.property_table().get32(code_point)
     }
 
+    /// The same, for loops that ask nothing else of a code point: an override is asked out of line, so that they stay short.
+    #[inline(always)]
+    pub(crate) fn class_apart(self, code_point: u32) -> u8
+        ensures { result ≡ class_by self.entry code_point }
+    {
+        match self.overriding {
+            Some(_) => self.overridden_class(code_point),
+            None => self.table.property_table().get32(code_point),
+        }
+    }
+
+    // The class of a code point, where there is an override.
+    #[inline(never)]
+    fn overridden_class(self, code_point: u32) -> u8
+        ensures { result ≡ class_by self.entry code_point }
+    {
+        self.class(code_point)
+    }
+
     /// Whether code points may have the class: the table or its override names it.
     pub fn names(self, class: u8) -> bool
         ensures { IsTrue result ↔ Names (pair_table_of self.entry) (override_of self.entry) class }

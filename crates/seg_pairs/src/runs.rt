@@ -37,8 +37,9 @@ impl<'data> CodePointTest for ComplexTest<'data> {
 
     ghost passes = { λ s code_point. is_complex (pair_table_of s.pairs) (override_of s.pairs) code_point };
 
+    #[inline(always)]
     fn accepts(&self, code_point: u32) -> bool {
-        self.pairs.class(code_point) == self.pairs.table().complex_property()
+        self.pairs.class_apart(code_point) == self.pairs.table().complex_property()
     }
 }
 
