@@ -1,5 +1,5 @@
 -- What comes next of a text whose lines are found event by event.
-use Rattle.std.proofs.Common.{◌≡◌, ◌≢◌, ℕ, ◌+◌, ◌-◌, ◌<◌, Option, Some, None, List, [], ◌∷◌, ◌++◌, length, map, take, drop, refl, sym, ap, ◌∙◌, subst, arith}
+use Rattle.std.proofs.Common.{◌≡◌, ◌≢◌, ℕ, ◌+◌, ◌-◌, ◌<◌, Option, Some, List, [], ◌∷◌, ◌++◌, length, map, take, drop, refl, sym, ap, ◌∙◌, subst, arith}
 use Rattle.std.specs.Prelude.{IfSome}
 use Rattle.std.specs.Iterator.{YieldsFirst}
 use Rattle.std.proofs.lemmas.List.{drop-drop, length-drop, length-take, take-map}
@@ -9,6 +9,7 @@ use Rattle.seg_text.specs.Boundaries.{boundary, boundary_in, shift_all, Cuts, Ar
 use Rattle.seg_text.proofs.Places.{in-shift, code_points-drop}
 use Rattle.seg_text.proofs.Stretches.{text-later-next}
 use Rattle.seg_pairs.specs.declared.elements.Element.{Element}
+use Rattle.seg_pairs.specs.declared.verdicts.Outcome.{Outcome}
 use Rattle.seg_pairs.specs.declared.verdicts.Outcome.TheVariants.{Break as BreakOut, Run as RunOut}
 use Rattle.seg_pairs.specs.Elements.{onto, place_at}
 use Rattle.seg_pairs.specs.Verdict.{Verdict, chain, TakesOf, EndsIn}
@@ -18,7 +19,8 @@ use Rattle.seg_pairs.proofs.Engine.{read-onto, rest-is}
 use Rattle.seg_pairs.proofs.Events.{cuts-placed}
 use Rattle.seg_line_rules.specs.declared.engines.LineEngine.TheVariants.{Classic}
 use Rattle.seg_line_rules.specs.declared.plain_pairs.ClassedItem.{ClassedItem}
-use Rattle.seg_line_rules.specs.LineEvents.{IsItemAhead, text_from, UnreadLines, unread_lines, lines_unread, LeavesLess, AreUnitsAhead}
+use Rattle.seg_line_rules.specs.LineEvents.{text_from, UnreadLines, unread_lines, lines_unread, LeavesLess, AreUnitsAhead}
+use Rattle.seg_line_rules.specs.ReadAhead.{UnreadItems, TakesRun, items_after, lines_of, rules_of}
 use Rattle.seg_line_rules.specs.LineBoundaries.{line_verdict, complex_length, line_stretch_of, line_stretch}
 use Rattle.seg_line_rules.specs.LineRules.{TableRules}
 use Rattle.seg_line_rules.specs.LineUnits.{CountedUnit, extent_of, UnitsLeft, units_seen, line_elements}
@@ -39,11 +41,11 @@ abbrev pub run_extent : TableRules Classic → Text → ℕ
 run_extent rules text = complex_length rules (code_points text.items)
 
 -- a boundary comes next, so many items on
-pub record HasBreak (rules : TableRules Classic) (text : Text) (after : List Element) : Type 0 where
+pub record HasBreak (rules : TableRules Classic) (text : Text) (place : ℕ) : Type 0 where
   pub taken : ℕ
-  pub rest : after ≡ line_elements rules (drop taken text.items)
+  pub here : place ≡ start_of (rest_after taken text)
   pub fewer : length (drop taken text.items) < length text.items
-  pub leads : (cuts : Cuts) → unread_lines cuts (unread rules text) ≡ boundary (start_of (rest_after taken text)) 0 ∷ unread_lines cuts (unread rules (rest_after taken text))
+  pub leads : (cuts : Cuts) → unread_lines cuts (unread rules text) ≡ boundary place 0 ∷ unread_lines cuts (unread rules (rest_after taken text))
 
 -- a run comes next, so many items on; what is left begins with its last
 pub record HasRun (rules : TableRules Classic) (text : Text) (place : ℕ) : Type 0 where
@@ -129,20 +131,21 @@ module _ (rules : TableRules Classic) where
               ∙ ap (λ (n : ℕ). unread_lines cuts (unread rules (rest_after n whole))) (ap (λ (found : ℕ × Verdict). found.0) (at cuts));
         }
 
-    break-at : (gone n class taken : ℕ) (after : List Element) → Ends gone (BreakAfter n class) → taken ≡ gone + n → after ≡ line_elements rules (drop taken all)
-        → HasBreak rules whole after
-    break-at gone n class taken after ends sum is =
+    break-at : (gone n class taken place : ℕ) (after : List Element) → Ends gone (BreakAfter n class) → taken ≡ gone + n → after ≡ line_elements rules (drop taken all)
+        → place ≡ place_at after end → HasBreak rules whole place
+    break-at gone n class taken place after ends sum is place_is =
         let some : 0 < n = (subst (TakesOf (length (ends.first ∷ ends.others))) ends.last_is (line-forward rules ends.first ends.others)).0 in
         let s : Stretch = record { extent = n; boundaries = boundary n 0 ∷ [] } in
+        let here : place ≡ start_of (rest_after taken whole) = place_is ∙ rw is (elements-place rules (drop taken all) end) in
         record {
           taken = taken;
-          rest = is;
+          here = here;
           fewer = omega (arith, sum, some, length-drop taken all);
           leads = λ cuts.
               let stretch : line_stretch cuts rules (code_points (drop gone all)) ≡ s =
               ap (line_stretch cuts rules) ends.points ∙ ap (line_stretch_of cuts rules (ends.first ∷ ends.others)) ends.last_is in
               ends.leads cuts ∙ first-stretch cuts (drop gone all) end ends.first ends.others s ends.points stretch
-              ∙ rw (drop-drop n gone all, sum) refl;
+              ∙ rw (here, drop-drop n gone all, sum) refl;
         }
 
     run-at : (gone place : ℕ) → Ends gone RunBegins → place ≡ place_of (drop gone all) end → HasRun rules whole place
@@ -162,17 +165,17 @@ module _ (rules : TableRules Classic) where
         positive [] first others is = cc
         positive (item ∷ items) first others is = omega arith
 
-    break-in : (class : ℕ) (next : Option Element) (rest : List Element)
-        → EndsIn (chain (element_verdict rules) (line_elements rules all)) (line_elements rules all) (BreakOut class next) rest → HasBreak rules whole (onto next rest)
-    break-in class next rest = on (chain (element_verdict rules) (line_elements rules all)) refl
+    break-in : (class place : ℕ) (next : Option Element) (rest : List Element) → place ≡ place_at (onto next rest) end
+        → EndsIn (chain (element_verdict rules) (line_elements rules all)) (line_elements rules all) (BreakOut class next) rest → HasBreak rules whole place
+    break-in class place next rest place_is = on (chain (element_verdict rules) (line_elements rules all)) refl
       where
         on : (found : ℕ × Verdict) → chain (element_verdict rules) (line_elements rules all) ≡ found → EndsIn found (line_elements rules all) (BreakOut class next) rest
-            → HasBreak rules whole (onto next rest)
+            → HasBreak rules whole place
         on (gone, BreakAfter n with_class) is ends =
-            break-at (extent_of gone us) (extent_of n (drop gone us)) with_class (extent_of (gone + n) us) (onto next rest)
+            break-at (extent_of gone us) (extent_of n (drop gone us)) with_class (extent_of (gone + n) us) place (onto next rest)
             (chain-ends (extent_of gone us, BreakAfter (extent_of n (drop gone us)) with_class) (elements-chain rules all (gone, BreakAfter n with_class) (omega arith) is))
             (extent-sum rules gone n us)
-            (rest-is next rest (drop (gone + n) (line_elements rules all)) ends.1 ∙ elements-left rules (gone + n) all)
+            (rest-is next rest (drop (gone + n) (line_elements rules all)) ends.1 ∙ elements-left rules (gone + n) all) place_is
         on (gone, GoAfter n) is ends = absurd ends
         on (gone, RunBegins) is ends = absurd ends
 
@@ -189,48 +192,46 @@ module _ (rules : TableRules Classic) where
             (chain-ends (extent_of gone us, RunBegins) (elements-chain rules all (gone, RunBegins) (omega arith) is))
             (ap (λ (elements : List Element). place_at elements end) (sym ends ∙ elements-left rules gone all) ∙ elements-place rules (drop (extent_of gone us) all) end)
 
--- the same of what a call has at hand: the first element, and the elements after it
+-- the same of what a call has at hand: the first unit and those after it, and those that are left after the verdicts
+module _ (before : UnreadItems) (rules : TableRules Classic) (same : rules ≡ rules_of Classic before) (left : Element) (units later : UnitsLeft)
+    (ahead : AreUnitsAhead (rules_of Classic before) before.text (Some left) units) where
+  abbrev LeadsTo : Outcome → Type 0
+  LeadsTo found = EndsIn (chain (element_verdict rules) (left ∷ units.left)) (left ∷ units.left) found later.left
 
-pub break-of : (rules : TableRules Classic) (text : Text) (next : Option Element) (left : Element) (rest : List Element) (class : ℕ) (after : Option Element) (later : List Element)
-    → next ≡ Some left → onto next rest ≡ line_elements rules text.items
-    → EndsIn (chain (element_verdict rules) (left ∷ rest)) (left ∷ rest) (BreakOut class after) later
-    → HasBreak rules text (onto after later)
-break-of rules text next left rest class after later here is ends =
-    on text.items (ap (λ (n : Option Element). onto n rest) (sym here) ∙ is)
-  where
-    on : (items : List Item) → left ∷ rest ≡ line_elements rules items → HasBreak rules (record { items = items; end = text.end }) (onto after later)
-    on [] is = cc
-    on (item ∷ items) is =
-        break-in rules item items text.end class after later (subst (λ (es : List Element). EndsIn (chain (element_verdict rules) es) es (BreakOut class after) later) is ends)
+  pub break-of : (class : ℕ) (next : Option Element) (place : ℕ) → LeadsTo (BreakOut class next) → later.end ≡ units.end
+      → place ≡ place_at (onto next later.left) later.end → HasBreak rules before.text place
+  break-of class next place ends end place_is = on before.text.items (ahead.same ∙ ap (λ rules. line_elements rules before.text.items) (sym same))
+    where
+      on : (items : List Item) → left ∷ units.left ≡ line_elements rules items → HasBreak rules (record { items = items; end = before.text.end }) place
+      on [] is = cc
+      on (item ∷ items) is =
+          break-in rules item items before.text.end class place next later.left (place_is ∙ ap (place_at (onto next later.left)) (end ∙ ahead.same_end))
+          (subst (λ (es : List Element). EndsIn (chain (element_verdict rules) es) es (BreakOut class next) later.left) is ends)
 
-pub run-of : (rules : TableRules Classic) (text : Text) (next : Option Element) (left : Element) (rest : List Element) (first second : Element) (later : List Element)
-    → next ≡ Some left → onto next rest ≡ line_elements rules text.items
-    → EndsIn (chain (element_verdict rules) (left ∷ rest)) (left ∷ rest) (RunOut first second) later
-    → HasRun rules text first.place
-run-of rules text next left rest first second later here is ends =
-    on text.items (ap (λ (n : Option Element). onto n rest) (sym here) ∙ is)
-  where
-    on : (items : List Item) → left ∷ rest ≡ line_elements rules items → HasRun rules (record { items = items; end = text.end }) first.place
-    on [] is = cc
-    on (item ∷ items) is =
-        run-in rules item items text.end first second later (subst (λ (es : List Element). EndsIn (chain (element_verdict rules) es) es (RunOut first second) later) is ends)
+  pub run-of : (first second : Element) → LeadsTo (RunOut first second) → HasRun rules before.text first.place
+  run-of first second ends = on before.text.items (ahead.same ∙ ap (λ rules. line_elements rules before.text.items) (sym same))
+    where
+      on : (items : List Item) → left ∷ units.left ≡ line_elements rules items → HasRun rules (record { items = items; end = before.text.end }) first.place
+      on [] is = cc
+      on (item ∷ items) is =
+          run-in rules item items before.text.end first second later.left
+          (subst (λ (es : List Element). EndsIn (chain (element_verdict rules) es) es (RunOut first second) later.left) is ends)
 
-pub place-after : (rules : TableRules Classic) (text : Text) (n place end : ℕ) (after : List Element) → place ≡ place_at after end → after ≡ line_elements rules (drop n text.items)
-    → end ≡ text.end → place ≡ start_of (rest_after n text)
-place-after rules text n place end after is same stays = is ∙ rw (same, stays) (elements-place rules (drop n text.items) text.end)
-
--- the first unit of a text is read
-pub ahead-read : (rules : TableRules Classic) (text : Text) (from : UnitsLeft) (next : Option Element) (rest : UnitsLeft)
-    → from ≡ record { rules = rules; left = line_elements rules text.items; end = text.end }
-    → YieldsFirst (λ (left : UnitsLeft). left.left) from next rest
-    → rest.end ≡ from.end → rest.rules.table ≡ from.rules.table → IfSome next (λ next. next.class < from.rules.table.property_count)
-    → AreUnitsAhead rules text next rest
-ahead-read rules text from next rest is gives end table below = record {
-  same = sym (read-onto (λ (left : UnitsLeft). left.left) from next rest gives) ∙ ap (λ (left : UnitsLeft). left.left) is;
-  same_end = end ∙ ap (λ (left : UnitsLeft). left.end) is;
-  same_table = table ∙ ap (λ (left : UnitsLeft). left.rules.table) is;
-  below = subst (λ (from : UnitsLeft). IfSome next (λ next. next.class < from.rules.table.property_count)) is below;
-}
+-- the first unit of a text is read, whose first item was read ahead
+pub ahead-read : (rules read : TableRules Classic) (text rest : Text) (first : ClassedItem) (from : UnitsLeft) (next : Option Element) (units : UnitsLeft)
+    → read ≡ rules → text ≡ text_from first rest
+    → from ≡ record { rules = read; left = line_elements read (text_from first rest).items; end = rest.end }
+    → YieldsFirst (λ (left : UnitsLeft). left.left) from next units
+    → units.end ≡ from.end → units.rules.table ≡ from.rules.table → IfSome next (λ next. next.class < from.rules.table.property_count)
+    → AreUnitsAhead rules text next units
+ahead-read rules read text rest first from next units same text_is from_is gives end table below =
+    let is : from ≡ record { rules = rules; left = line_elements rules text.items; end = text.end } = from_is ∙ rw (same, text_is) refl in
+    record {
+      same = sym (read-onto (λ (left : UnitsLeft). left.left) from next units gives) ∙ ap (λ (left : UnitsLeft). left.left) is;
+      same_end = end ∙ ap (λ (left : UnitsLeft). left.end) is;
+      same_table = table ∙ ap (λ (left : UnitsLeft). left.rules.table) is;
+      below = subst (λ (from : UnitsLeft). IfSome next (λ next. next.class < from.rules.table.property_count)) is below;
+    }
 
 -- a text with a first item has a unit
 pub some-first : (rules : TableRules Classic) (first : ClassedItem) (rest : Text) (units : UnitsLeft)
@@ -240,45 +241,23 @@ some-first rules first rest units is none = never (no-elements rules (text_from 
     never : (text_from first rest).items ≡ [] → ⊥
     never is = cc
 
--- the first unit of a text whose first item is read, and those after it
-pub ahead-here : {I : Type 0} (text : I → Text) (rules : TableRules Classic) (here : Text) (next : Option ClassedItem) (first : ClassedItem) (rest copy : I) (left : Element) (units : UnitsLeft)
-    → next ≡ Some first → IsItemAhead rules here next (text rest) → copy ≡ rest → AreUnitsAhead rules (text_from first (text copy)) (Some left) units
-    → AreUnitsAhead rules here (Some left) units
-ahead-here text rules here next first rest copy left units is ahead same read =
-    let some : IsItemAhead rules here (Some first) (text rest) = subst (λ (next : Option ClassedItem). IsItemAhead rules here next (text rest)) is ahead in
-    subst (λ (t : Text). AreUnitsAhead rules t (Some left) units) (ap (λ i. text_from first (text i)) same ∙ sym some.0) read
-
--- nothing is left
-pub ahead-none : (rules : TableRules Classic) (here : Text) (next : Option ClassedItem) (rest : Text) → next ≡ None → IsItemAhead rules here next rest → here.items ≡ []
-ahead-none rules here next rest is ahead = subst (λ (next : Option ClassedItem). IsItemAhead rules here next rest) is ahead
-
--- a text with a first item isn't empty
-pub not-empty : (rules : TableRules Classic) (here : Text) (next : Option ClassedItem) (first : ClassedItem) (rest : Text) → next ≡ Some first → IsItemAhead rules here next rest
-    → here.items ≢ []
-not-empty rules here next first rest is ahead none =
-    let some : IsItemAhead rules here (Some first) rest = subst (λ (next : Option ClassedItem). IsItemAhead rules here next rest) is ahead in
-    never (ap (λ (t : Text). t.items) (sym some.0) ∙ none)
-  where
-    never : (text_from first rest).items ≡ [] → ⊥
-    never is = cc
+-- a text of which less is left wasn't empty
+pub not-empty : (fewer : ℕ) (items : List Item) → fewer < length items → items ≢ []
+not-empty fewer items less none = absurd (omega (arith, less, ap length none))
 
 -- what is left after an event
-pub goes-on : (rules : TableRules Classic) (text after : Text) (n : ℕ) → after ≡ rest_after n text → length (drop n text.items) < length text.items
-    → LeavesLess (lines_unread (unread rules text)) (lines_unread (unread rules after))
-goes-on rules text after n is fewer = rw is (record { end = refl; fewer = λ some. fewer })
+module _ (before : UnreadItems) (rules : TableRules Classic) (same : rules ≡ rules_of Classic before) (after : UnreadItems) (place : ℕ) where
+  module _ (b : HasBreak rules before.text place) (is : after ≡ items_after b.taken before) where
+    pub break-leads : (cuts : Cuts) → unread_lines cuts (lines_of before) ≡ boundary place 0 ∷ unread_lines cuts (lines_of after)
+    break-leads cuts = rw (is, ← same) (b.leads cuts)
 
-pub break-leads : (rules : TableRules Classic) (text after : Text) (place : ℕ) (elements : List Element) (b : HasBreak rules text elements)
-    → place ≡ start_of (rest_after b.taken text) → after ≡ rest_after b.taken text → (cuts : Cuts)
-    → unread_lines cuts (unread rules text) ≡ boundary place 0 ∷ unread_lines cuts (unread rules after)
-break-leads rules text after place elements b place_is is cuts = rw (place_is, is) (b.leads cuts)
+    pub break-goes : LeavesLess (lines_unread (lines_of before)) (lines_unread (lines_of after))
+    break-goes = rw is (record { end = refl; fewer = λ some. b.fewer })
 
-pub run-leads : (rules : TableRules Classic) (text left run after : Text) (place : ℕ) (r : HasRun rules text place) → left ≡ rest_after r.gone text
-    → run ≡ text_before (run_extent rules left) left → after ≡ rest_after (run_extent rules left - 1) left
-    → (cuts : Cuts) → AreCutsOf (length run.items) (cuts (code_points run.items))
-    → unread_lines cuts (unread rules text) ≡ with_status 0 (cut_places cuts run) ++ unread_lines cuts (unread rules after)
-run-leads rules text left run after place r left_is run_is is = rw (is, run_is, left_is) r.leads
+  module _ (r : HasRun rules before.text place) (run : Text) (takes : TakesRun (rules_of Classic before) (items_after r.gone before) run after) where
+    pub run-leads : (cuts : Cuts) → AreCutsOf (length run.items) (cuts (code_points run.items))
+        → unread_lines cuts (lines_of before) ≡ with_status 0 (cut_places cuts run) ++ unread_lines cuts (lines_of after)
+    run-leads = rw (takes.rest, takes.run_is, ← same) r.leads
 
-pub run-goes : (rules : TableRules Classic) (text left after : Text) (place : ℕ) (r : HasRun rules text place) → left ≡ rest_after r.gone text
-    → after ≡ rest_after (run_extent rules left - 1) left → LeavesLess (lines_unread (unread rules text)) (lines_unread (unread rules after))
-run-goes rules text left after place r left_is is =
-    rw (is, left_is) (record { end = refl; fewer = λ some. r.fewer })
+    pub run-goes : LeavesLess (lines_unread (lines_of before)) (lines_unread (lines_of after))
+    run-goes = rw (takes.rest, ← same) (record { end = refl; fewer = λ some. r.fewer })

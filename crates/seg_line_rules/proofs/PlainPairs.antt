@@ -1,5 +1,5 @@
 -- Pairs of units of one item each, between which the table alone decides.
-use Rattle.std.proofs.Common.{◌≡◌, ℕ, suc, ◌&&◌, ◌||◌, ◌==◌, not, Bool, true, false, cond, None, List, [], ◌∷◌, drop, refl, sym, ap, ◌∙◌}
+use Rattle.std.proofs.Common.{◌≡◌, ℕ, suc, ◌&&◌, ◌||◌, ◌==◌, not, Bool, true, false, cond, Option, Some, None, List, [], ◌∷◌, drop, refl, sym, ap, ◌∙◌}
 use Rattle.seg_text.specs.Items.{Text, code_points}
 use Rattle.seg_text.specs.Boundaries.{boundary, Cuts, Stretch}
 use Rattle.seg_text.specs.declared.boundary.Boundary.{Boundary}
@@ -17,7 +17,8 @@ use Rattle.seg_line_rules.specs.declared.plain_pairs.ClassedItem.{ClassedItem}
 use Rattle.seg_line_rules.specs.declared.engines.PlainPair.{PlainPair}
 use Rattle.seg_line_rules.specs.declared.engines.PlainPair.TheVariants as plain
 use Rattle.seg_line_rules.specs.declared.verdicts.Case.TheVariants.{Table}
-use Rattle.seg_line_rules.specs.LineEvents.{FollowsPairs, HasClass, text_from, unread_lines, asks_more}
+use Rattle.seg_line_rules.specs.LineEvents.{FollowsPairs, HasClass, LeadsToBreak, lines_unread, text_from, unread_lines, asks_more}
+use Rattle.seg_line_rules.specs.ReadAhead.{LeadsByPairs, UnreadItems, lines_of, rules_of}
 use Rattle.seg_line_rules.specs.ClassicPairs.{entry_pair, is_plain, plain_pair}
 use Rattle.seg_line_rules.specs.LineBoundaries.{in_code_points, line_stretch_of, line_stretch, line_verdict}
 use Rattle.seg_line_rules.specs.LineLists.{LooseRow, keeps, listed, listed_by, loose_rows}
@@ -224,3 +225,19 @@ module _ (rules : TableRules Classic) (few : asks_more rules.style ≡ false) (c
 
   pub lines-follow : FollowsPairs rules (plain_pair rules.table) found found
   lines-follow = record { goes = go-on; breaks = break-on }
+
+-- plain pairs lead to the boundaries of lines
+module _ (before after : UnreadItems) (same : rules_of Classic after ≡ rules_of Classic before) where
+  abbrev found_in : Cuts → Text → List Boundary
+  found_in cuts text = unread_lines cuts (record { rules = rules_of Classic before; text = text })
+
+  lead : (result : Option ℕ) → ((cuts : Cuts) → LeadsByPairs (found_in cuts) (found_in cuts) before.text result after.text)
+      → LeadsToBreak (lines_unread (lines_of before)) result (lines_unread (lines_of after))
+  lead (Some place) leads = rw same leads
+  lead None leads = rw same (λ cuts. (leads cuts).0, (leads (λ run. [])).1)
+
+  pub lines-lead : (result : Option ℕ)
+      → ((found later : Text → List Boundary) → (asks_more before.style ≡ false → FollowsPairs (rules_of Classic before) (plain_pair before.table) found later)
+      → LeadsByPairs found later before.text result after.text)
+      → LeadsToBreak (lines_unread (lines_of before)) result (lines_unread (lines_of after))
+  lines-lead result leads = lead result (λ cuts. leads (found_in cuts) (found_in cuts) (λ few. lines-follow (rules_of Classic before) few cuts))

@@ -6,3 +6,4 @@ pub mod LineVerdict
 pub mod LineBoundaries
 pub mod ClassicPairs
 pub mod LineEvents
+pub mod ReadAhead

@@ -105,6 +105,11 @@ pub record AreUnitsAhead (rules : TableRules Classic) (text : Text) (next : Opti
   pub same_table : rest.rules.table ≡ rules.table
   pub below : IfSome next (λ next. next.class < rules.table.property_count)
 
+-- where a text has a unit, it's this one, with those after it
+abbrev pub AreFirstUnits : TableRules Classic → Text → Option (Element × UnitsLeft) → Type 0
+AreFirstUnits rules text None = text.items ≡ []
+AreFirstUnits rules text (Some (left, rest)) = AreUnitsAhead rules text (Some left) rest
+
 -- What pairs of classes lead to, between which the table alone decides.
 
 -- the options ask for more than the classes and the table

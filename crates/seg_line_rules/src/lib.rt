@@ -13,5 +13,6 @@ pub mod line_pairs;
 pub mod lists;
 pub mod options;
 pub mod plain_pairs;
+pub mod read_ahead;
 pub mod units;
 pub mod verdicts;

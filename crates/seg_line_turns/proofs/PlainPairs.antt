@@ -1,5 +1,5 @@
 -- Turns by the classes and the table alone.
-use Rattle.std.proofs.Common.{◌≡◌, ℕ, suc, ◌&&◌, ◌||◌, not, Bool, true, false, Option, List, [], ◌∷◌, ◌++◌, map, refl, sym, ap, ◌∙◌}
+use Rattle.std.proofs.Common.{◌≡◌, ℕ, suc, ◌&&◌, ◌||◌, not, Bool, true, false, Option, Some, None, List, [], ◌∷◌, ◌++◌, map, refl, sym, ap, ◌∙◌}
 use Rattle.std.proofs.lemmas.Bool.{eqb-true}
 use Rattle.seg_text.specs.declared.boundary.Boundary.{Boundary}
 use Rattle.seg_text.specs.Boundaries.{boundary, boundary_in, boundaries_in, Cuts}
@@ -8,7 +8,8 @@ use Rattle.seg_pairs.specs.declared.provider.pairs.BreakState.{BreakState}
 use Rattle.seg_pairs.specs.declared.provider.pairs.BreakState.TheVariants as entries
 use Rattle.seg_pairs.specs.PairTable.{entry_of}
 use Rattle.seg_line_rules.specs.LineRules.{TableRules, is_one_of, is_complex_context, line_class}
-use Rattle.seg_line_rules.specs.LineEvents.{FollowsPairs, asks_more, text_from, HasClass}
+use Rattle.seg_line_rules.specs.LineEvents.{FollowsPairs, LeadsToBreak, asks_more, text_from, HasClass}
+use Rattle.seg_line_rules.specs.ReadAhead.{LeadsByPairs, UnreadItems, rules_of}
 use Rattle.seg_line_rules.specs.declared.engines.PlainPair.{PlainPair}
 use Rattle.seg_line_rules.specs.declared.engines.PlainPair.TheVariants as plain
 use Rattle.seg_line_rules.specs.declared.plain_pairs.ClassedItem.{ClassedItem}
@@ -17,7 +18,7 @@ use Rattle.seg_line_rules.specs.LineClasses.LineClass.{CM, CM_EASTASIAN, HH, HY,
 use Rattle.seg_line_rules.specs.declared.engines.LineEngine.TheVariants.{Seventeen}
 use Rattle.seg_line_rules.proofs.Marks.{none-among}
 use Rattle.seg_line_rules.proofs.PlainPairs.{and-first, and-last, and-off, if-off, keeps-off, listed-off, not-true, said-break, said-go}
-use Rattle.seg_line_turns.specs.TurnEvents.{entry_turn, going_text, is_asked, is_plain_turn, is_unanswered, plain_turn, unread_turns}
+use Rattle.seg_line_turns.specs.TurnEvents.{entry_turn, going_text, is_asked, is_plain_turn, is_unanswered, plain_turn, turns_of, turns_unread, unread_turns}
 use Rattle.seg_line_turns.specs.TurnBoundaries.{later_turns, turn_stretch_of}
 use Rattle.seg_line_turns.specs.TurnClasses.{is_before_hyphen, is_before_quote, is_glue, is_hyphen, is_infix, is_opening, is_quote, is_space}
 use Rattle.seg_line_turns.specs.TurnRules.{LeftUnit, is_joined, left_unit}
@@ -248,3 +249,24 @@ module _ (rules : TableRules Seventeen) (few : asks_more rules.style ≡ false) 
 
   pub turns-follow : (opened : Bool) → FollowsPairs rules (plain_turn rules.table) (found opened) (found false)
   turns-follow opened = record { goes = go-on opened; breaks = break-on opened }
+
+-- plain pairs lead to the boundaries of lines
+module _ (opened : Bool) (before after : UnreadItems) (same : rules_of Seventeen after ≡ rules_of Seventeen before) where
+  abbrev found_in : Bool → Cuts → Text → List Boundary
+  found_in opened cuts text = unread_turns cuts (going_text (rules_of Seventeen before) opened text)
+
+  abbrev Leads : Option ℕ → Type 0
+  Leads result =
+      (found later : Text → List Boundary)
+      → (asks_more before.style ≡ false → FollowsPairs (rules_of Seventeen before) (plain_turn before.table) found later)
+      → LeadsByPairs found later before.text result after.text
+
+  lead : (result : Option ℕ) → Leads result → (cuts : Cuts) → LeadsByPairs (found_in opened cuts) (found_in false cuts) before.text result after.text
+  lead result leads cuts = leads (found_in opened cuts) (found_in false cuts) (λ few. turns-follow (rules_of Seventeen before) few cuts opened)
+
+  pub turns-break : (place : ℕ) → Leads (Some place)
+      → LeadsToBreak (turns_unread (turns_of false opened before)) (Some place) (turns_unread (turns_of false false after))
+  turns-break place leads = rw same (lead (Some place) leads)
+
+  pub turns-pass : Leads None → LeadsToBreak (turns_unread (turns_of false opened before)) None (turns_unread (turns_of false opened after))
+  turns-pass leads = rw same (λ cuts. (lead None leads cuts).0, (lead None leads (λ run. [])).1)

@@ -1,5 +1,5 @@
 -- What comes next of a text that is read turn by turn.
-use Rattle.std.proofs.Common.{◌≡◌, ◌≢◌, ℕ, ◌+◌, ◌-◌, ◌<◌, ◌&&◌, Bool, false, Option, Some, None, List, [], ◌∷◌, ◌++◌, length, map, take, drop, refl, sym, ap, ◌∙◌, subst, arith}
+use Rattle.std.proofs.Common.{◌≡◌, ℕ, ◌+◌, ◌-◌, ◌<◌, ◌&&◌, Bool, false, List, [], ◌∷◌, ◌++◌, length, map, take, drop, refl, sym, ap, ◌∙◌, subst, arith}
 use Rattle.std.proofs.lemmas.List.{drop-drop, length-drop, length-take, length-map, take-map}
 use Rattle.std.proofs.lemmas.List.Sums.{prefix_len-le-length}
 use Rattle.seg_text.specs.declared.boundary.Boundary.{Boundary}
@@ -9,13 +9,14 @@ use Rattle.seg_text.proofs.Places.{in-append, in-shift, code_points-drop}
 use Rattle.seg_pairs.proofs.Events.{cuts-placed}
 use Rattle.seg_line_rules.specs.LineRules.{TableRules, is_complex_point}
 use Rattle.seg_line_rules.specs.declared.plain_pairs.ClassedItem.{ClassedItem}
-use Rattle.seg_line_rules.specs.LineEvents.{LeavesLess, text_from, HasClass, IsItemAhead}
+use Rattle.seg_line_rules.specs.LineEvents.{LeavesLess, text_from}
+use Rattle.seg_line_rules.specs.ReadAhead.{TakesRun, UnreadItems, items_after, rules_of}
 use Rattle.seg_line_rules.specs.LineBoundaries.{complex_length}
 use Rattle.seg_line_rules.specs.declared.engines.LineEngine.TheVariants.{Seventeen}
 use Rattle.seg_line_turns.specs.declared.turn_units.Left.{Left}
 use Rattle.seg_line_turns.specs.declared.turn_units.TurnOutcome.{TurnOutcome}
 use Rattle.seg_line_turns.specs.declared.turn_units.TurnOutcome.TheVariants.{Break, Go, Run}
-use Rattle.seg_line_turns.specs.TurnEvents.{UnreadTurns, turns_unread, unread_turns, after_cuts}
+use Rattle.seg_line_turns.specs.TurnEvents.{turns_of, turns_unread, unread_turns, after_cuts}
 use Rattle.seg_line_turns.specs.TurnBoundaries.{has_none, turn_stretch_of, turn_stretch, later_turns}
 use Rattle.seg_line_turns.specs.TurnPlaces.{item_place, placed, left_seen, FindsFrom}
 use Rattle.seg_line_turns.specs.Turns.{Turn, turn, first_unit}
@@ -176,82 +177,58 @@ module _ (rules : TableRules Seventeen) where
   to-run starts opened here (GoTo place wide) at after turns is = cc
 
 -- the same of what a call has at hand: the first item, its unit, what the turn found, and what is left after it
-module _ (rules : TableRules Seventeen) (starts opened : Bool) (here after : Text) (item : Item) (first : Left) (result : TurnOutcome)
-    (items : here.items ≡ item ∷ after.items) (end : after.end ≡ here.end)
-    (unit : left_seen 0 first ≡ first_unit rules starts item.1) (place_is : first.last_place ≡ item.0)
+module _ (before : UnreadItems) (rules : TableRules Seventeen) (starts opened : Bool) (one : ClassedItem) (after : Text) (from : before.text ≡ text_from one after)
+    (first : Left) (result : TurnOutcome) (unit : left_seen 0 first ≡ first_unit rules starts one.code_point) (place_is : first.last_place ≡ one.place)
     (finds : FindsFrom first after result (λ unit. turn rules opened unit (code_points after.items))) where
-  there : 0 < length here.items
-  there = rw items (omega arith)
+  there : 0 < length before.text.items
+  there = rw from (omega arith)
 
-  pub not-empty : here.items ≢ []
-  not-empty none = cons (sym items ∙ none)
-    where
-      cons : item ∷ after.items ≡ [] → ⊥
-      cons is = cc
+  abbrev found_turn : Turn
+  found_turn = turn rules opened (first_unit rules starts one.code_point) (code_points after.items)
 
-  pub break-of : (place resume : ℕ) → result ≡ Break place resume → ToBreak rules starts opened here place resume
-  break-of place resume is =
-      to-break rules starts opened here _ place resume there (turn-next rules starts opened here after item items)
-      (sym is ∙ turn-found rules starts opened here after item first result items end unit place_is finds)
+  turns : TurnsTo rules starts opened before.text found_turn
+  turns = turn-next rules starts opened before.text after (one.place, one.code_point) (ap (λ (t : Text). t.items) from)
 
-  pub go-of : (place : ℕ) (wide : Bool) → result ≡ Go place wide → ToGo rules starts opened here place wide
-  go-of place wide is =
-      to-go rules starts opened here _ place wide there (turn-next rules starts opened here after item items)
-      (sym is ∙ turn-found rules starts opened here after item first result items end unit place_is finds)
+  found : result ≡ placed before.text found_turn
+  found =
+      turn-found rules starts opened before.text after (one.place, one.code_point) first result (ap (λ (t : Text). t.items) from)
+      (sym (ap (λ (t : Text). t.end) from)) unit place_is finds
 
-  pub run-of : (place : ℕ) (wide : Bool) → result ≡ Run place wide → ToRun rules starts opened here place wide
-  run-of place wide is =
-      to-run rules starts opened here _ place wide (turn-next rules starts opened here after item items)
-      (sym is ∙ turn-found rules starts opened here after item first result items end unit place_is finds)
+  pub break-of : (place resume : ℕ) → result ≡ Break place resume → ToBreak rules starts opened before.text place resume
+  break-of place resume is = to-break rules starts opened before.text _ place resume there turns (sym is ∙ found)
 
-abbrev pub unread_by : TableRules Seventeen → (starts opened : Bool) → Text → UnreadTurns
-unread_by rules starts opened text = record { rules = rules; starts = starts; opened = opened; text = text }
+  pub go-of : (place : ℕ) (wide : Bool) → result ≡ Go place wide → ToGo rules starts opened before.text place wide
+  go-of place wide is = to-go rules starts opened before.text _ place wide there turns (sym is ∙ found)
 
--- the first item of a text, and what is left after it
-pub record FirstOf (here after : Text) (item : Item) : Type 0 where
-  pub items : here.items ≡ item ∷ after.items
-  pub end : after.end ≡ here.end
+  pub run-of : (place : ℕ) (wide : Bool) → result ≡ Run place wide → ToRun rules starts opened before.text place wide
+  run-of place wide is = to-run rules starts opened before.text _ place wide turns (sym is ∙ found)
 
-pub ahead-some : (rules : TableRules Seventeen) (here : Text) (next : Option ClassedItem) (one : ClassedItem) (rest : Text) → next ≡ Some one → IsItemAhead rules here next rest
-    → (here ≡ text_from one rest) × HasClass rules one
-ahead-some rules here next one rest is ahead = subst (λ (next : Option ClassedItem). IsItemAhead rules here next rest) is ahead
+-- what is left after a turn
+module _ (before : UnreadItems) (rules : TableRules Seventeen) (same : rules ≡ rules_of Seventeen before) (starts opened : Bool) (after : UnreadItems) where
+  goes-on : (wide : Bool) (n : ℕ) → after ≡ items_after n before → length (drop n before.text.items) < length before.text.items
+      → LeavesLess (turns_unread (turns_of starts opened before)) (turns_unread (turns_of false wide after))
+  goes-on wide n is fewer = rw is (record { end = refl; fewer = λ some. fewer })
 
-pub ahead-none : (rules : TableRules Seventeen) (here : Text) (next : Option ClassedItem) (rest : Text) → next ≡ None → IsItemAhead rules here next rest → here.items ≡ []
-ahead-none rules here next rest is ahead = subst (λ (next : Option ClassedItem). IsItemAhead rules here next rest) is ahead
+  module _ (place resume : ℕ) (b : ToBreak rules starts opened before.text place resume) (is : after ≡ items_after b.taken before) where
+    pub break-leads : (cuts : Cuts) → unread_turns cuts (turns_of starts opened before) ≡ boundary place 0 ∷ unread_turns cuts (turns_of false false after)
+    break-leads cuts = rw (is, ← same) (b.leads cuts)
 
-pub first-of : {I : Type 0} (text : I → Text) (rules : TableRules Seventeen) (here : Text) (next : Option ClassedItem) (one : ClassedItem) (rest copy : I) → next ≡ Some one
-    → IsItemAhead rules here next (text rest) → copy ≡ rest → FirstOf here (text copy) (one.place, one.code_point)
-first-of text rules here next one rest copy is ahead same =
-    let from = (ahead-some rules here next one (text rest) is ahead).0 in
-    record {
-      items = ap (λ (t : Text). t.items) from ∙ ap (λ i. (one.place, one.code_point) ∷ (text i).items) (sym same);
-      end = ap (λ i. (text i).end) same ∙ sym (ap (λ (t : Text). t.end) from);
-    }
+    pub break-goes : LeavesLess (turns_unread (turns_of starts opened before)) (turns_unread (turns_of false false after))
+    break-goes = goes-on false b.taken is b.fewer
 
--- nothing is left
-pub ends-here : (rules : TableRules Seventeen) (starts opened : Bool) (here : Text) → here.items ≡ []
-    → LeavesLess (turns_unread (unread_by rules starts opened here)) (turns_unread (unread_by rules starts opened here))
-ends-here rules starts opened here none = record { end = refl; fewer = λ some. absurd (some none) }
+  module _ (place : ℕ) (wide : Bool) (b : ToGo rules starts opened before.text place wide) (is : after ≡ items_after b.taken before) where
+    pub go-leads : (cuts : Cuts) → unread_turns cuts (turns_of starts opened before) ≡ unread_turns cuts (turns_of false wide after)
+    go-leads cuts = rw (is, ← same) (b.leads cuts)
 
-pub goes-on : (rules : TableRules Seventeen) (starts opened wide : Bool) (here after : Text) (n : ℕ) → after ≡ rest_after n here → length (drop n here.items) < length here.items
-    → LeavesLess (turns_unread (unread_by rules starts opened here)) (turns_unread (unread_by rules false wide after))
-goes-on rules starts opened wide here after n is fewer = rw is (record { end = refl; fewer = λ some. fewer })
+    pub go-goes : LeavesLess (turns_unread (turns_of starts opened before)) (turns_unread (turns_of false wide after))
+    go-goes = goes-on wide b.taken is b.fewer
 
-pub break-leads : (rules : TableRules Seventeen) (starts opened : Bool) (here after : Text) (place resume : ℕ) → (b : ToBreak rules starts opened here place resume) → after ≡ rest_after b.taken here
-    → (cuts : Cuts) → unread_turns cuts (unread_by rules starts opened here) ≡ boundary place 0 ∷ unread_turns cuts (unread_by rules false false after)
-break-leads rules starts opened here after place resume b is cuts = rw is (b.leads cuts)
+  module _ (place : ℕ) (wide : Bool) (r : ToRun rules starts opened before.text place wide) (run : Text)
+      (takes : TakesRun (rules_of Seventeen before) (items_after r.first before) run after) where
+    pub run-leads-to : (cuts : Cuts) → AreCutsOf (length run.items) (cuts (code_points run.items))
+        → unread_turns cuts (turns_of starts opened before)
+        ≡ with_status 0 (cut_places cuts run) ++ unread_turns cuts (after_cuts (cut_places cuts run) (turns_of false wide after))
+    run-leads-to = rw (takes.rest, takes.run_is, ← same) r.leads
 
-pub go-leads : (rules : TableRules Seventeen) (starts opened wide : Bool) (here after : Text) (place : ℕ) → (b : ToGo rules starts opened here place wide) → after ≡ rest_after b.taken here
-    → (cuts : Cuts) → unread_turns cuts (unread_by rules starts opened here) ≡ unread_turns cuts (unread_by rules false wide after)
-go-leads rules starts opened wide here after place b is cuts = rw is (b.leads cuts)
-
-pub run-leads-to : (rules : TableRules Seventeen) (starts opened wide : Bool) (here left run after : Text) (place : ℕ) → (r : ToRun rules starts opened here place wide) → left ≡ rest_after r.first here
-    → run ≡ text_before (prefix_length (is_complex_point rules) left) left → after ≡ rest_after (prefix_length (is_complex_point rules) left - 1) left
-    → (cuts : Cuts) → AreCutsOf (length run.items) (cuts (code_points run.items))
-    → unread_turns cuts (unread_by rules starts opened here) ≡ with_status 0 (cut_places cuts run) ++ unread_turns cuts (after_cuts (cut_places cuts run) (unread_by rules false wide after))
-run-leads-to rules starts opened wide here left run after place r left_is run_is is = rw (is, run_is, left_is) r.leads
-
-pub run-goes : (rules : TableRules Seventeen) (starts opened wide : Bool) (here left after : Text) (place : ℕ) (r : ToRun rules starts opened here place wide) → left ≡ rest_after r.first here
-    → after ≡ rest_after (prefix_length (is_complex_point rules) left - 1) left → LeavesLess (turns_unread (unread_by rules starts opened here)) (turns_unread (unread_by rules false wide after))
-run-goes rules starts opened wide here left after place r left_is is =
-    rw (is, left_is) (record { end = refl; fewer = λ some. r.fewer })
+    pub run-goes : LeavesLess (turns_unread (turns_of starts opened before)) (turns_unread (turns_of false wide after))
+    run-goes = rw (takes.rest, ← same) (record { end = refl; fewer = λ some. r.fewer })

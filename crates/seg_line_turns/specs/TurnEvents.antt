@@ -7,6 +7,7 @@ use Rattle.seg_pairs.specs.declared.provider.pairs.BreakState.{BreakState}
 use Rattle.seg_pairs.specs.declared.provider.pairs.BreakState.TheVariants as entries
 use Rattle.seg_pairs.specs.PairTable.{PairTable, entry_of}
 use Rattle.seg_line_rules.specs.LineEvents.{UnreadText}
+use Rattle.seg_line_rules.specs.ReadAhead.{UnreadItems, rules_of}
 use Rattle.seg_line_rules.specs.LineRules.{TableRules, is_one_of, is_complex_context}
 use Rattle.seg_line_rules.specs.declared.engines.PlainPair.{PlainPair}
 use Rattle.seg_line_rules.specs.declared.engines.PlainPair.TheVariants as plain
@@ -25,6 +26,10 @@ pub record UnreadTurns : Type 0 where
   pub starts : Bool
   pub opened : Bool
   pub text : Text
+
+-- a text whose first item is read ahead, as such a one
+abbrev pub turns_of : (starts opened : Bool) → UnreadItems → UnreadTurns
+turns_of starts opened unread = record { rules = rules_of Seventeen unread; starts = starts; opened = opened; text = unread.text }
 
 -- the boundaries of an unread text but that at its start
 abbrev pub unread_turns : Cuts → UnreadTurns → List Boundary

@@ -8,22 +8,17 @@ ghost use Rattle.seg_line_rules.specs.LineBoundaries.{rules_by};
 use crate::engine_17::Engine17;
 use crate::turn_units::TurnOutcome;
 use crate::turns::{first_unit, turn};
-use seg_line_rules::events::{LineEvent, LineSource, complex_run, next_classed};
+use seg_line_rules::events::{LineEvent, LineSource};
 use seg_line_rules::line_pairs::LinePairs;
-use seg_line_rules::plain_pairs::{ClassedItem, asks_more, plain_pairs};
+use seg_line_rules::read_ahead::ReadAhead;
 use seg_text::cursor::Cursor;
 use std::marker::Model;
 
 /// A text whose lines are found turn by turn.
 #[derive(Debug, Drop)]
 pub struct TurnEvents<'data, I: Cursor> {
-    pairs: LinePairs<'data, Engine17>,
-    // What isn't turned yet: as items, ..
-    here: I,
-    // .. and as the first of them, which is read already, ..
-    next: Option<ClassedItem>,
-    // .. with those after it.
-    rest: I,
+    // What isn't turned yet.
+    ahead: ReadAhead<'data, Engine17, I>,
     // Whether nothing was read.
     starts: bool,
     // Whether a space after an opening was met since the last boundary.
@@ -31,15 +26,11 @@ pub struct TurnEvents<'data, I: Cursor> {
 }
 
 impl<'data, I: Cursor> Model for TurnEvents<'data, I> {
-    ghost use Rattle.seg_line_rules.specs.LineEvents.{IsItemAhead};
-    ghost use Rattle.seg_line_turns.specs.TurnEvents.{UnreadTurns};
-    ghost use Rattle.seg_line_rules.specs.LineBoundaries.{rules_by};
+    ghost use Rattle.seg_line_turns.specs.TurnEvents.{UnreadTurns, turns_of};
 
     ghost Value = { UnreadTurns };
 
-    ghost view = { λ s. record { rules = rules_by s.pairs; starts = s.starts; opened = s.opened; text = I.text s.here } };
-
-    ghost invariant = { λ s. IsItemAhead (rules_by s.pairs) (I.text s.here) s.next (I.text s.rest) };
+    ghost view = { λ s. turns_of s.starts s.opened s.ahead };
 }
 
 impl<'data, I: Cursor> TurnEvents<'data, I> {
@@ -47,13 +38,8 @@ impl<'data, I: Cursor> TurnEvents<'data, I> {
     pub fn new(pairs: LinePairs<'data, Engine17>, text: I) -> Self
         ensures { result ≡ whole_text (rules_by pairs.entry) (I.text text) }
     {
-        let mut rest = text.fork();
-        let next = next_classed(pairs, &mut rest);
         TurnEvents {
-            pairs,
-            here: text,
-            next,
-            rest,
+            ahead: ReadAhead::new(pairs, text),
             starts: true,
             opened: false,
         }
@@ -68,11 +54,11 @@ impl<'data, I: Cursor> LineSource for TurnEvents<'data, I> {
     ghost unread = { turns_unread };
 
     fn place(&self) -> usize {
-        self.here.place()
+        self.ahead.place()
     }
 
     fn nothing(&self) -> I {
-        self.here.up_to(self.here.place())
+        self.ahead.nothing()
     }
 
     fn note_cut(&mut self) {
@@ -81,54 +67,38 @@ impl<'data, I: Cursor> LineSource for TurnEvents<'data, I> {
 
     #[inline(always)]
     fn plain_break(&mut self) -> Option<usize> {
-        let Some(next) = self.next else {
-            return None;
-        };
         if self.starts {
             return None;
         }
-        if asks_more(self.pairs.style()) {
+        let Some(place) = self.ahead.plain_break() else {
             return None;
-        }
-        let passed = plain_pairs(self.pairs, next, self.rest.fork());
-        self.here.seek(passed.next.place);
-        self.next = Some(passed.next);
-        self.rest = passed.rest;
-        if !passed.is_break {
-            return None;
-        }
+        };
         self.opened = false;
-        Some(passed.next.place)
+        Some(place)
     }
 
     #[inline(never)]
     fn next_event(&mut self) -> LineEvent<I> {
-        let Some(next) = self.next else {
+        let Some((next, rest)) = self.ahead.first() else {
             return LineEvent::End;
         };
-        let first = first_unit(self.pairs, self.starts, next);
+        let pairs = self.ahead.pairs();
+        let first = first_unit(pairs, self.starts, next);
         self.starts = false;
-        match turn(self.pairs, self.opened, first, self.rest.fork()) {
+        match turn(pairs, self.opened, first, rest) {
             TurnOutcome::Break(place, resume) => {
                 self.opened = false;
-                self.here.seek(resume);
-                self.rest = self.here.fork();
-                self.next = next_classed(self.pairs, &mut self.rest);
+                self.ahead.go_to(resume);
                 LineEvent::Break(place)
             }
             TurnOutcome::Go(place, opened) => {
                 self.opened = opened;
-                self.here.seek(place);
-                self.rest = self.here.fork();
-                self.next = next_classed(self.pairs, &mut self.rest);
+                self.ahead.go_to(place);
                 LineEvent::Go
             }
             TurnOutcome::Run(place, opened) => {
                 self.opened = opened;
-                self.here.seek(place);
-                let (run, end) = complex_run(self.pairs, &mut self.here);
-                self.rest = self.here.fork();
-                self.next = next_classed(self.pairs, &mut self.rest);
+                let (run, end) = self.ahead.run_at(place);
                 LineEvent::Run(run, end)
             }
         }
@@ -136,10 +106,7 @@ impl<'data, I: Cursor> LineSource for TurnEvents<'data, I> {
 
     fn fork(&self) -> Self {
         TurnEvents {
-            pairs: self.pairs,
-            here: self.here.fork(),
-            next: self.next,
-            rest: self.rest.fork(),
+            ahead: self.ahead.fork(),
             starts: self.starts,
             opened: self.opened,
         }

@@ -1,6 +1,6 @@
 use Rattle.std.proofs.Common.{sym, ◌∙◌}
 use Rattle.seg_line_rules.proofs.RunEnds.{running-next}
-use Rattle.seg_line_rules.proofs.events.run_ends.Goals as goal
+use Rattle.seg_line_rules.proofs.read_ahead.run_ends.Goals as goal
 
 pub loop-code_point-preserved : goal.loop-code_point-preserved
 loop-code_point-preserved g c = record {
