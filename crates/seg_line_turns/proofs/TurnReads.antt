@@ -8,8 +8,8 @@ use Rattle.seg_line_turns.specs.declared.turn_units.Left.{Left}
 use Rattle.seg_line_turns.specs.declared.turn_units.TurnOutcome.{TurnOutcome}
 use Rattle.seg_line_turns.specs.declared.turn_units.TurnOutcome.TheVariants as found
 use Rattle.seg_line_turns.specs.declared.turn_walk.Walker.{Walker}
-use Rattle.seg_line_turns.specs.declared.turn_walk.WalkOutcome.{WalkOutcome}
-use Rattle.seg_line_turns.specs.declared.turn_walk.WalkOutcome.TheVariants as outcome
+use Rattle.std.specs.declared.ops.ControlFlow.{ControlFlow}
+use Rattle.std.specs.declared.ops.ControlFlow.TheVariants as outcome
 use Rattle.seg_line_turns.specs.TurnPlaces.{item_place, placed, step_at, walker_at, walker_seen, left_seen, IsLeft, IsWalkAt, FindsBetween}
 use Rattle.seg_line_turns.specs.TurnRules.{LeftUnit, with_item}
 use Rattle.seg_line_turns.specs.Turns.{Turn, Walking, WalkStep, walk_step, walk_by, walk_turn, walk_end_turn, turn, right_turn, is_taken, opens}
@@ -44,17 +44,17 @@ walking-end rules whole walker rest after found end result walking none empty en
     ∙ ap (placed whole) (sym (walk-nil rules (walker_seen walking.saved walker) walking.number) ∙ ap (walk_turn rules (walker_seen walking.saved walker) walking.number) (sym points) ∙ walking.same)
 
 -- what a step says of the next item
-abbrev pub Steps : TableRules Seventeen → Walker → ℕ → ℕ → Text → WalkOutcome → Type 0
+abbrev pub Steps : TableRules Seventeen → Walker → ℕ → ℕ → Text → ControlFlow TurnOutcome Walker → Type 0
 Steps rules walker place class after step =
     (whole : Text) (number saved : ℕ) → place ≡ item_place number whole → IsWalkAt whole (suc number) saved walker after
     → step ≡ step_at whole (walk_step rules (walker_seen saved walker) number class (code_points after.items))
 
-stop-found : (whole : Text) (s : WalkStep) (later : Walking → Turn) (result : TurnOutcome) → outcome.Stops result ≡ step_at whole s → result ≡ placed whole (walk_by s later)
+stop-found : (whole : Text) (s : WalkStep) (later : Walking → Turn) (result : TurnOutcome) → outcome.Break result ≡ step_at whole s → result ≡ placed whole (walk_by s later)
 stop-found whole (Stops turn) later result is = ap turn_in is
   where
-    turn_in : WalkOutcome → TurnOutcome
-    turn_in (outcome.Stops turn) = turn
-    turn_in (outcome.GoesOn walker) = result
+    turn_in : ControlFlow TurnOutcome Walker → TurnOutcome
+    turn_in (outcome.Break turn) = turn
+    turn_in (outcome.Continue walker) = result
 stop-found whole (GoesOn w) later result is = cc
 
 pub record Goes (whole : Text) (next : Walker) (s : WalkStep) : Type 0 where
@@ -62,17 +62,17 @@ pub record Goes (whole : Text) (next : Walker) (s : WalkStep) : Type 0 where
   pub is : s ≡ GoesOn walking
   pub next_is : next ≡ walker_at whole walking
 
-go-found : (whole : Text) (s : WalkStep) (next : Walker) → outcome.GoesOn next ≡ step_at whole s → Goes whole next s
+go-found : (whole : Text) (s : WalkStep) (next : Walker) → outcome.Continue next ≡ step_at whole s → Goes whole next s
 go-found whole (Stops turn) next is = cc
 go-found whole (GoesOn w) next is = record { walking = w; is = refl; next_is = ap walker_in is }
   where
-    walker_in : WalkOutcome → Walker
-    walker_in (outcome.Stops turn) = next
-    walker_in (outcome.GoesOn walker) = walker
+    walker_in : ControlFlow TurnOutcome Walker → Walker
+    walker_in (outcome.Break turn) = next
+    walker_in (outcome.Continue walker) = walker
 
 module _ (rules : TableRules Seventeen) (whole : Text) (walker : Walker) (rest after : Text) (found : Turn) (item : Item) (class : ℕ)
     (walking : IsWalking rules whole walker rest found) (items : rest.items ≡ item ∷ after.items) (end : after.end ≡ rest.end) (class_is : class ≡ line_class rules item.1) where
-  step-here : (step : WalkOutcome) → Steps rules walker item.0 class after step
+  step-here : (step : ControlFlow TurnOutcome Walker) → Steps rules walker item.0 class after step
       → step ≡ step_at whole (walk_step rules (walker_seen walking.saved walker) walking.number (line_class rules item.1) (code_points after.items))
   step-here step steps =
       let next = next-of whole rest after walking.number item walking.at.after items end in
@@ -85,13 +85,13 @@ module _ (rules : TableRules Seventeen) (whole : Text) (walker : Walker) (rest a
       sym (walk-cons rules (walker_seen walking.saved walker) walking.number item.1 (code_points after.items))
       ∙ ap (walk_turn rules (walker_seen walking.saved walker) walking.number) (sym (ap code_points items)) ∙ walking.same
 
-  pub walking-stops : (step : WalkOutcome) (result : TurnOutcome) → Steps rules walker item.0 class after step → step ≡ outcome.Stops result → result ≡ placed whole found
+  pub walking-stops : (step : ControlFlow TurnOutcome Walker) (result : TurnOutcome) → Steps rules walker item.0 class after step → step ≡ outcome.Break result → result ≡ placed whole found
   walking-stops step result steps is =
       stop-found whole (walk_step rules (walker_seen walking.saved walker) walking.number (line_class rules item.1) (code_points after.items))
       (λ w. walk_turn rules w (suc walking.number) (code_points after.items)) result (sym is ∙ step-here step steps)
       ∙ ap (placed whole) found-here
 
-  pub walking-goes : (step : WalkOutcome) (next : Walker) → Steps rules walker item.0 class after step → step ≡ outcome.GoesOn next → IsWalking rules whole next after found
+  pub walking-goes : (step : ControlFlow TurnOutcome Walker) (next : Walker) → Steps rules walker item.0 class after step → step ≡ outcome.Continue next → IsWalking rules whole next after found
   walking-goes step next steps is =
       let on = next-of whole rest after walking.number item walking.at.after items end in
       let goes = go-found whole (walk_step rules (walker_seen walking.saved walker) walking.number (line_class rules item.1) (code_points after.items)) next (sym is ∙ step-here step steps) in

@@ -11,8 +11,8 @@ use Rattle.seg_line_rules.specs.declared.engines.LineEngine.TheVariants.{Sevente
 use Rattle.seg_line_turns.specs.declared.bases.BaseAhead.{BaseAhead}
 use Rattle.seg_line_turns.specs.declared.turn_units.Left.{Left}
 use Rattle.seg_line_turns.specs.declared.turn_walk.Walker.{Walker}
-use Rattle.seg_line_turns.specs.declared.turn_walk.WalkOutcome.{WalkOutcome}
-use Rattle.seg_line_turns.specs.declared.turn_walk.WalkOutcome.TheVariants as outcome
+use Rattle.std.specs.declared.ops.ControlFlow.{ControlFlow}
+use Rattle.std.specs.declared.ops.ControlFlow.TheVariants as outcome
 use Rattle.seg_line_turns.specs.declared.turn_units.TurnOutcome.{TurnOutcome}
 use Rattle.seg_line_turns.specs.declared.turn_units.TurnOutcome.TheVariants.{Break, Go, Run}
 use Rattle.seg_line_turns.specs.TurnClasses.{is_contingent}
@@ -97,9 +97,9 @@ walker_at whole w = record {
   opened = w.opened;
 }
 
-abbrev pub step_at : Text → WalkStep → WalkOutcome
-step_at whole (Stops found) = outcome.Stops (placed whole found)
-step_at whole (GoesOn w) = outcome.GoesOn (walker_at whole w)
+abbrev pub step_at : Text → WalkStep → ControlFlow TurnOutcome Walker
+step_at whole (Stops found) = outcome.Break (placed whole found)
+step_at whole (GoesOn w) = outcome.Continue (walker_at whole w)
 
 -- the walk saved this item of a text, it is before the item with this number, and this is left
 pub record IsWalkAt (whole : Text) (number saved : ℕ) (walker : Walker) (rest : Text) : Type 0 where
@@ -112,6 +112,6 @@ pub record IsBaseOf (rules : TableRules Seventeen) (rest : Text) (found : BaseAh
   pub place : found.place ≡ item_place (to_base rules (code_points rest.items)) rest
 
 -- where a walk goes on, its state is below the number of states
-abbrev pub IsBelowState : ℕ → WalkOutcome → Type 0
-IsBelowState count (outcome.Stops found) = Unit {0}
-IsBelowState count (outcome.GoesOn walker) = walker.state < count
+abbrev pub IsBelowState : ℕ → ControlFlow TurnOutcome Walker → Type 0
+IsBelowState count (outcome.Break found) = Unit {0}
+IsBelowState count (outcome.Continue walker) = walker.state < count

@@ -16,6 +16,7 @@ use seg_line_rules::line_pairs::LinePairs;
 use seg_pairs::provider::{BreakState, RuleBreakData};
 use seg_pairs::walk::{entry_after, entry_at_end, is_class, saves, state_named};
 use seg_text::cursor::Cursor;
+use std::ops::ControlFlow;
 
 /// What a walk carries.
 #[derive(Clone, Copy, Debug)]
@@ -34,15 +35,6 @@ pub struct Walker {
     pub opened: bool,
 }
 
-/// What an item does to a walk.
-#[derive(Clone, Copy, Debug)]
-pub enum WalkOutcome {
-    /// The turn is found.
-    Stops(TurnOutcome),
-    /// It goes on.
-    GoesOn(Walker),
-}
-
 /// The turn that a walk finds, before these items.
 pub(crate) fn walk<I: Cursor>(pairs: LinePairs<'_, Engine17>, begin: Walker, rest: I) -> TurnOutcome
     requires { begin.state < (rules_by pairs).table.property_count }
@@ -56,8 +48,8 @@ pub(crate) fn walk<I: Cursor>(pairs: LinePairs<'_, Engine17>, begin: Walker, res
             return walk_end(pairs.table(), walker, rest.place());
         };
         match walk_step(pairs, walker, place, pairs.class(code_point), &rest) {
-            WalkOutcome::Stops(outcome) => return outcome,
-            WalkOutcome::GoesOn(next) => walker = next,
+            ControlFlow::Break(outcome) => return outcome,
+            ControlFlow::Continue(next) => walker = next,
         }
     }
 }
@@ -74,14 +66,14 @@ fn walk_end(table: &RuleBreakData, walker: Walker, end: usize) -> TurnOutcome
     }
 }
 
-/// What the item at a place does to a walk; `rest` has those after it.
+/// What the item at a place does to a walk: it breaks with the turn, or goes on. `rest` has the items after it.
 fn walk_step<I: Cursor>(
     pairs: LinePairs<'_, Engine17>,
     walker: Walker,
     place: usize,
     class: u8,
     rest: &I,
-) -> WalkOutcome
+) -> ControlFlow<TurnOutcome, Walker>
     requires state { walker.state < (rules_by pairs).table.property_count }
     requires class { class < (rules_by pairs).table.property_count }
     ensures value { (whole : Text) (number saved : ℕ) → place ≡ item_place number whole → IsWalkAt whole (suc number) saved walker (I.text rest.now)
@@ -89,14 +81,14 @@ fn walk_step<I: Cursor>(
     ensures state { IsBelowState (rules_by pairs.entry).table.property_count result }
 {
     if is_glue(class) && !bears_none(LineEngine::Seventeen, walker.before) {
-        return WalkOutcome::GoesOn(Walker {
+        return ControlFlow::Continue(Walker {
             before: class,
             ..walker
         });
     }
     let is_space = class == RuleBreakData::LINE_V3_PROPERTY_SP;
     if walker.opened && !is_space && !is_hyphen(class) {
-        return WalkOutcome::Stops(TurnOutcome::Go(place, false));
+        return ControlFlow::Break(TurnOutcome::Go(place, false));
     }
     let opened = walker.opened && is_space;
     space_step(pairs, Walker { opened, ..walker }, place, class, rest)
@@ -109,7 +101,7 @@ fn space_step<I: Cursor>(
     place: usize,
     class: u8,
     rest: &I,
-) -> WalkOutcome
+) -> ControlFlow<TurnOutcome, Walker>
     requires state { walker.state < (rules_by pairs).table.property_count }
     requires class { class < (rules_by pairs).table.property_count }
     ensures value { (whole : Text) (number saved : ℕ) → place ≡ item_place number whole → IsWalkAt whole (suc number) saved walker (I.text rest.now)
@@ -123,7 +115,7 @@ fn space_step<I: Cursor>(
         && class == RuleBreakData::LINE_V3_PROPERTY_IS
         && !sticks(table, walker.state)
     {
-        return WalkOutcome::Stops(TurnOutcome::Go(walker.saved, walker.opened));
+        return ControlFlow::Break(TurnOutcome::Go(walker.saved, walker.opened));
     }
     if class == RuleBreakData::LINE_V3_PROPERTY_QU_PF
         && after_space
@@ -134,13 +126,13 @@ fn space_step<I: Cursor>(
         } else {
             walker.saved
         };
-        return WalkOutcome::Stops(TurnOutcome::Go(to, walker.opened));
+        return ControlFlow::Break(TurnOutcome::Go(to, walker.opened));
     }
     if after_space && is_hyphen(class) && letter_comes(pairs, rest) {
         if sticks(table, walker.state) {
-            return WalkOutcome::Stops(go_to_base(pairs, walker.opened, rest));
+            return ControlFlow::Break(go_to_base(pairs, walker.opened, rest));
         }
-        return WalkOutcome::Stops(TurnOutcome::Break(place, rest.place()));
+        return ControlFlow::Break(TurnOutcome::Break(place, rest.place()));
     }
     entry_step(pairs, walker, place, class)
 }
@@ -151,7 +143,7 @@ fn entry_step(
     walker: Walker,
     place: usize,
     class: u8,
-) -> WalkOutcome
+) -> ControlFlow<TurnOutcome, Walker>
     requires state { walker.state < (rules_by pairs).table.property_count }
     requires class { class < (rules_by pairs).table.property_count }
     ensures value { (whole : Text) (number saved : ℕ) → place ≡ item_place number whole → walker.saved ≡ item_place saved whole
@@ -162,10 +154,10 @@ fn entry_step(
     let entry = entry_after(table, walker.state, class);
     let joined = is_joiner(LineEngine::Seventeen, walker.before);
     let Some(next) = state_named(entry) else {
-        return WalkOutcome::Stops(walk_stop(walker, joined, place, entry));
+        return ControlFlow::Break(walk_stop(walker, joined, place, entry));
     };
     let saves = saves(entry, is_class(table, walker.state));
-    WalkOutcome::GoesOn(Walker {
+    ControlFlow::Continue(Walker {
         state: next,
         saved: if saves { place } else { walker.saved },
         is_saved_joined: if saves {
