@@ -77,8 +77,8 @@ fn character(code: u32) -> char
 }
 
 /// Reads the first item where no ASCII stands: how many bytes it takes, and its character. The commonest rows of
-/// Table 3-7 are read in line.
-#[inline(always)]
+/// Table 3-7 come first.
+#[inline(never)]
 fn read_wide(bytes: &[u8]) -> (usize, char)
     requires { 0x80 ≤ slice_index bytes.now 0 }
     ensures { result ≡ read_utf8 bytes.now }
@@ -90,9 +90,6 @@ fn read_wide(bytes: &[u8]) -> (usize, char)
     if first == 0xE0 {
         return read_three(bytes, 0xA0, 0xBF);
     }
-    if 0xC2 <= first && first <= 0xDF {
-        return read_two(bytes);
-    }
     read_other(bytes)
 }
 
@@ -100,11 +97,11 @@ fn read_wide(bytes: &[u8]) -> (usize, char)
 #[inline(never)]
 fn read_other(bytes: &[u8]) -> (usize, char)
     requires wide { 0x80 ≤ slice_index bytes.now 0 }
-    requires two { 0xC2 ≤ slice_index bytes.now 0 → 0xDF < slice_index bytes.now 0 }
-    requires three { 0xE0 ≤ slice_index bytes.now 0 → 0xEC < slice_index bytes.now 0 }
+    requires other { 0xE0 ≤ slice_index bytes.now 0 → 0xEC < slice_index bytes.now 0 }
     ensures { result ≡ read_utf8 bytes.now }
 {
     match bytes[0] {
+        0xC2..=0xDF => read_two(bytes),
         0xED => read_three(bytes, 0x80, 0x9F),
         0xEE..=0xEF => read_three(bytes, 0x80, 0xBF),
         0xF0 => read_four(bytes, 0x90, 0xBF),
@@ -115,7 +112,6 @@ fn read_other(bytes: &[u8]) -> (usize, char)
 }
 
 /// Reads a sequence of two bytes, or what begins one.
-#[inline(always)]
 fn read_two(bytes: &[u8]) -> (usize, char)
     requires low { 0xC2 ≤ slice_index bytes.now 0 }
     requires high { slice_index bytes.now 0 ≤ 0xDF }

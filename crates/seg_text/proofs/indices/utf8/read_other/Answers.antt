@@ -2,6 +2,9 @@ use Rattle.std.proofs.Common.{arith, refl}
 use Rattle.seg_text.proofs.Utf8Reads.{row-at, no-row}
 use Rattle.seg_text.proofs.indices.utf8.read_other.Goals as goal
 
+pub returns-in-194-to-223 : goal.returns-in-194-to-223
+returns-in-194-to-223 c = row-at 1 (0xC2, 0xDF) _ _ _ (omega arith) refl c.requires.wide (omega arith) (omega arith) (c.read_two.ensures (0xC2, 0xDF))
+
 pub returns-in-237 : goal.returns-in-237
 returns-in-237 c = row-at 4 (0xED, 0xED) _ _ _ (omega arith) refl c.requires.wide (omega arith) (omega arith) (c.read_three.ensures (0xED, 0xED))
 
@@ -18,7 +21,10 @@ pub returns-in-244 : goal.returns-in-244
 returns-in-244 c = row-at 8 (0xF4, 0xF4) _ _ _ (omega arith) refl c.requires.wide (omega arith) (omega arith) (c.read_four-in-244.ensures (0xF4, 0xF4))
 
 pub returns-in_default : goal.returns-in_default
-returns-in_default c = no-row _ c.requires.wide (λ low high. omega (arith, c.requires.two, c.requires.three))
+returns-in_default c = no-row _ c.requires.wide (λ low high. omega (arith, c.requires.other))
 
 pub returns-in_default-2 : goal.returns-in_default-2
-returns-in_default-2 c = no-row _ c.requires.wide (λ low high. omega (arith, c.requires.two, c.requires.three))
+returns-in_default-2 c = no-row _ c.requires.wide (λ low high. omega (arith, c.requires.other))
+
+pub returns-in_default-3 : goal.returns-in_default-3
+returns-in_default-3 c = no-row _ c.requires.wide (λ low high. omega (arith, c.requires.other))

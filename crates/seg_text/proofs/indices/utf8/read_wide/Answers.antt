@@ -7,6 +7,3 @@ returns-then-first-le236 c = row-at 3 (0xE1, 0xEC) _ _ _ (omega arith) refl c.re
 
 pub returns-then-first : goal.returns-then-first
 returns-then-first c = row-at 2 (0xE0, 0xE0) _ _ _ (omega arith) refl c.requires (omega arith) (omega arith) (c.read_three-then-first.ensures (0xE0, 0xE0))
-
-pub returns-then-first-le223 : goal.returns-then-first-le223
-returns-then-first-le223 c = row-at 1 (0xC2, 0xDF) _ _ _ (omega arith) refl c.requires (omega arith) (omega arith) (c.read_two.ensures (0xC2, 0xDF))
