@@ -1,5 +1,5 @@
 -- Pairs of units of one item each, between which the table alone decides.
-use Rattle.std.proofs.Common.{◌≡◌, ℕ, suc, ◌&&◌, ◌||◌, ◌==◌, not, Bool, true, false, cond, Option, Some, None, List, [], ◌∷◌, drop, refl, sym, ap, ◌∙◌}
+use Rattle.std.proofs.Common.{◌≡◌, ◌≤◌, ℕ, suc, ◌&&◌, ◌||◌, ◌==◌, not, Bool, true, false, cond, Option, Some, None, List, [], ◌∷◌, drop, length, refl, sym, ap, ◌∙◌}
 use Rattle.seg_text.specs.Items.{Text, code_points}
 use Rattle.seg_text.specs.Boundaries.{boundary, Cuts, Stretch}
 use Rattle.seg_text.specs.declared.boundary.Boundary.{Boundary}
@@ -227,14 +227,14 @@ module _ (rules : TableRules Classic) (few : asks_more rules.style ≡ false) (c
   lines-follow = record { goes = go-on; breaks = break-on }
 
 -- plain pairs lead to the boundaries of lines
-module _ (before after : UnreadItems) (same : rules_of Classic after ≡ rules_of Classic before) where
+module _ (before after : UnreadItems) (same : rules_of Classic after ≡ rules_of Classic before) (most : length after.text.items ≤ length before.text.items) where
   abbrev found_in : Cuts → Text → List Boundary
   found_in cuts text = unread_lines cuts (record { rules = rules_of Classic before; text = text })
 
   lead : (result : Option ℕ) → ((cuts : Cuts) → LeadsByPairs (found_in cuts) (found_in cuts) before.text result after.text)
       → LeadsToBreak (lines_unread (lines_of before)) result (lines_unread (lines_of after))
   lead (Some place) leads = rw same leads
-  lead None leads = rw same (λ cuts. (leads cuts).0, (leads (λ run. [])).1)
+  lead None leads = rw same (leads, most)
 
   pub lines-lead : (result : Option ℕ)
       → ((found later : Text → List Boundary) → (asks_more before.style ≡ false → FollowsPairs (rules_of Classic before) (plain_pair before.table) found later)

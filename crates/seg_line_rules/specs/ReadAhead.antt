@@ -1,5 +1,5 @@
 -- A text whose first item is read ahead, with its class, by either engine.
-use Rattle.std.specs.Prelude.{◌≡◌, ◌≤◌, ◌-◌, ℕ, Option, Some, None, List, [], ◌∷◌, length}
+use Rattle.std.specs.Prelude.{◌≡◌, ◌-◌, ℕ, Option, Some, None, List, [], ◌∷◌}
 use Rattle.seg_text.specs.Items.{Text, prefix_length, rest_after, text_before}
 use Rattle.seg_text.specs.declared.boundary.Boundary.{Boundary}
 use Rattle.seg_text.specs.Boundaries.{boundary}
@@ -44,4 +44,4 @@ pub record TakesRun {engine : LineEngine} (rules : TableRules engine) (before : 
 -- plain pairs lead to a boundary, or to none, as two functions of a text find them
 abbrev pub LeadsByPairs : (found later : Text → List Boundary) → Text → Option ℕ → Text → Type 0
 LeadsByPairs found later before (Some place) after = found before ≡ boundary place 0 ∷ later after
-LeadsByPairs found later before None after = (found before ≡ found after) × (length after.items ≤ length before.items)
+LeadsByPairs found later before None after = found before ≡ found after

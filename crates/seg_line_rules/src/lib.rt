@@ -1,5 +1,5 @@
-//! Lines by a pair table. For both engines: pair tables with what options say, classes, lists, pairs that the table alone decides, and the iterator
-//! over what is found next. For the classic one: units of code points with their marks, and the verdicts on them.
+//! Lines by a pair table. For both engines: pair tables with what options say, classes, lists, texts that are read ahead, pairs that the table alone
+//! decides, and the iterator over what is found next. For the classic one: units of code points with their marks, and the verdicts on them.
 #![tactic(auto)]
 
 pub mod boundaries;

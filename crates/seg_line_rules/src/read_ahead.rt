@@ -1,6 +1,6 @@
 //! A text whose first item is read already, with its class: both engines of lines read by it.
 
-ghost use Rattle.std.specs.Prelude.{◌≡◌, ◌-◌, ℕ, List, [], false};
+ghost use Rattle.std.specs.Prelude.{◌≡◌, ◌≤◌, ◌-◌, ℕ, List, [], length, false};
 ghost use Rattle.seg_text.specs.declared.boundary.Boundary.{Boundary};
 ghost use Rattle.seg_text.specs.Items.{Text, prefix_length, rest_after, start_of, text_before};
 ghost use Rattle.seg_line_rules.specs.LineEvents.{FollowsPairs, IsItemAhead, asks_more};
@@ -114,6 +114,7 @@ impl<'data, E: PairEngine, I: Cursor> ReadAhead<'data, E, I> {
     #[inline(always)]
     pub fn plain_break(&mut self) -> Option<usize>
         ensures rules { rules_of E.ENGINE self.new ≡ rules_of E.ENGINE self.old }
+        ensures most { length self.new.text.items ≤ length self.old.text.items }
         ensures leads { (found later : Text → List Boundary)
             → (asks_more self.old.style ≡ false → FollowsPairs (rules_of E.ENGINE self.old) (E.plain self.old.table) found later)
             → LeadsByPairs found later self.old.text result self.new.text }

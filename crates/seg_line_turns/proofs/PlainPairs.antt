@@ -1,5 +1,5 @@
 -- Turns by the classes and the table alone.
-use Rattle.std.proofs.Common.{◌≡◌, ℕ, suc, ◌&&◌, ◌||◌, not, Bool, true, false, Option, Some, None, List, [], ◌∷◌, ◌++◌, map, refl, sym, ap, ◌∙◌}
+use Rattle.std.proofs.Common.{◌≡◌, ◌≤◌, ℕ, suc, ◌&&◌, ◌||◌, not, Bool, true, false, Option, Some, None, List, [], ◌∷◌, ◌++◌, length, map, refl, sym, ap, ◌∙◌}
 use Rattle.std.proofs.lemmas.Bool.{eqb-true}
 use Rattle.seg_text.specs.declared.boundary.Boundary.{Boundary}
 use Rattle.seg_text.specs.Boundaries.{boundary, boundary_in, boundaries_in, Cuts}
@@ -252,14 +252,14 @@ module _ (rules : TableRules Seventeen) (few : asks_more rules.style ≡ false) 
 
 -- plain pairs lead to the boundaries of lines
 module _ (opened : Bool) (before after : UnreadItems) (same : rules_of Seventeen after ≡ rules_of Seventeen before) where
-  abbrev found_in : Bool → Cuts → Text → List Boundary
-  found_in opened cuts text = unread_turns cuts (going_text (rules_of Seventeen before) opened text)
-
   abbrev Leads : Option ℕ → Type 0
   Leads result =
       (found later : Text → List Boundary)
       → (asks_more before.style ≡ false → FollowsPairs (rules_of Seventeen before) (plain_turn before.table) found later)
       → LeadsByPairs found later before.text result after.text
+
+  abbrev found_in : Bool → Cuts → Text → List Boundary
+  found_in opened cuts text = unread_turns cuts (going_text (rules_of Seventeen before) opened text)
 
   lead : (result : Option ℕ) → Leads result → (cuts : Cuts) → LeadsByPairs (found_in opened cuts) (found_in false cuts) before.text result after.text
   lead result leads cuts = leads (found_in opened cuts) (found_in false cuts) (λ few. turns-follow (rules_of Seventeen before) few cuts opened)
@@ -268,5 +268,6 @@ module _ (opened : Bool) (before after : UnreadItems) (same : rules_of Seventeen
       → LeadsToBreak (turns_unread (turns_of false opened before)) (Some place) (turns_unread (turns_of false false after))
   turns-break place leads = rw same (lead (Some place) leads)
 
-  pub turns-pass : Leads None → LeadsToBreak (turns_unread (turns_of false opened before)) None (turns_unread (turns_of false opened after))
-  turns-pass leads = rw same (λ cuts. (lead None leads cuts).0, (lead None leads (λ run. [])).1)
+  pub turns-pass : Leads None → length after.text.items ≤ length before.text.items
+      → LeadsToBreak (turns_unread (turns_of false opened before)) None (turns_unread (turns_of false opened after))
+  turns-pass leads most = rw same (lead None leads, most)
