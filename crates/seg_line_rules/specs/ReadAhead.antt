@@ -8,7 +8,7 @@ use Rattle.seg_line_rules.specs.declared.engines.LineEngine.{LineEngine}
 use Rattle.seg_line_rules.specs.declared.engines.LineEngine.TheVariants.{Classic}
 use Rattle.seg_line_rules.specs.declared.options.LineStyle.{LineStyle}
 use Rattle.seg_line_rules.specs.declared.plain_pairs.ClassedItem.{ClassedItem}
-use Rattle.seg_line_rules.specs.LineEvents.{HasClass, UnreadLines, text_from}
+use Rattle.seg_line_rules.specs.LineEvents.{IsItemAhead, UnreadLines}
 use Rattle.seg_line_rules.specs.LineRules.{TableRules, is_complex_point}
 
 -- a text that isn't read yet, and what its classes are read by, whichever the engine
@@ -31,10 +31,10 @@ lines_of unread = record { rules = rules_of Classic unread; text = unread.text }
 abbrev pub items_after : ℕ → UnreadItems → UnreadItems
 items_after n unread = record unread { text = rest_after n unread.text }
 
--- the first item of a text, with its class and those after it
-abbrev pub IsFirst : {I : Type 0} {engine : LineEngine} → (I → Text) → TableRules engine → Text → Option (ClassedItem × I) → Type 0
-IsFirst text rules here None = here.items ≡ []
-IsFirst text rules here (Some (first, rest)) = (here ≡ text_from first (text rest)) × HasClass rules first
+-- the item that is ahead of a text, where there is one, and those after it
+abbrev pub AreItemsAhead : {I : Type 0} {engine : LineEngine} → (I → Text) → TableRules engine → Text → Option (ClassedItem × I) → Type 0
+AreItemsAhead text rules here None = here.items ≡ []
+AreItemsAhead text rules here (Some (first, rest)) = IsItemAhead rules here (Some first) (text rest)
 
 -- the complex items that come first are this run, and what is left begins with the last of them
 pub record TakesRun {engine : LineEngine} (rules : TableRules engine) (before : UnreadItems) (run : Text) (after : UnreadItems) : Type 0 where

@@ -6,7 +6,7 @@ ghost use Rattle.seg_text.specs.Items.{Text, prefix_length, rest_after, start_of
 ghost use Rattle.seg_line_rules.specs.LineEvents.{FollowsPairs, IsItemAhead, asks_more};
 ghost use Rattle.seg_line_rules.specs.LineBoundaries.{rules_by};
 ghost use Rattle.seg_line_rules.specs.LineRules.{is_complex_point};
-ghost use Rattle.seg_line_rules.specs.ReadAhead.{IsFirst, LeadsByPairs, TakesRun, items_after, rules_of, unread_by};
+ghost use Rattle.seg_line_rules.specs.ReadAhead.{AreItemsAhead, LeadsByPairs, TakesRun, items_after, rules_of, unread_by};
 
 use crate::classes::is_complex;
 use crate::engines::PairEngine;
@@ -78,7 +78,7 @@ impl<'data, E: PairEngine, I: Cursor> ReadAhead<'data, E, I> {
 
     /// The first item, and those after it. None at the end.
     pub fn first(&self) -> Option<(ClassedItem, I)>
-        ensures { IsFirst I.text (rules_of E.ENGINE self.now) self.now.text result }
+        ensures { AreItemsAhead I.text (rules_of E.ENGINE self.now) self.now.text result }
     {
         let Some(next) = self.next else {
             return None;
