@@ -139,9 +139,21 @@ impl<I: Cursor> Ahead<I> {
     fn read(&mut self, machine: &TailoredMachineBorrowed<'_>, rest: &I)
         ensures { IsSymbolAhead (machine_of machine.now) (I.text rest.now) self.new.symbol (I.text self.new.after) }
     {
-        self.after = rest.fork();
-        self.symbol = next_symbol(machine, &mut self.after);
+        let machine = *machine;
+        let next = read_apart(&machine, rest.fork());
+        self.symbol = next.symbol;
+        self.after = next.after;
     }
+}
+
+/// The first symbol of a text, and what is left after its item. Apart, so that it isn't in line once more.
+#[inline(never)]
+fn read_apart<I: Cursor>(machine: &TailoredMachineBorrowed<'_>, text: I) -> Ahead<I>
+    ensures { IsSymbolAhead (machine_of machine.now) (I.text text) result.symbol (I.text result.after) }
+{
+    let mut after = text;
+    let symbol = next_symbol(machine, &mut after);
+    Ahead { symbol, after }
 }
 
 /// Goes on to the end of the next segment, and gives its status.

@@ -149,6 +149,7 @@ impl<'a, U: Copy, E: ReadsUnits<U>> Iterator for Indices<'a, U, E> {
 impl<'a, U: Copy, E: ReadsUnits<U>> Cursor for Indices<'a, U, E> {
     ghost text = { λ s. E.text s.place s.units };
 
+    #[inline(always)]
     fn next_item(&mut self) -> Option<(usize, u32)> {
         match self.next() {
             Some((place, character)) => Some((place, E::code_point(character))),

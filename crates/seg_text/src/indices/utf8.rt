@@ -78,7 +78,7 @@ fn character(code: u32) -> char
 
 /// Reads the first item where no ASCII stands: how many bytes it takes, and its character. The commonest rows of
 /// Table 3-7 come first.
-#[inline(never)]
+#[inline(always)]
 fn read_wide(bytes: &[u8]) -> (usize, char)
     requires { 0x80 ≤ slice_index bytes.now 0 }
     ensures { result ≡ read_utf8 bytes.now }
