@@ -1,5 +1,5 @@
 -- Pair tables: their entries, and what holds of parts with no fault.
-use Rattle.std.proofs.Common.{◌≡◌, ◌≢◌, ℕ, suc, ◌+◌, ◌*◌, ◌<◌, ◌≤◌, length, get_or, Any, refl, sym, ap, ◌∙◌, subst, inl, inr, arith, eq-eqb}
+use Rattle.std.proofs.Common.{◌≡◌, ◌≢◌, ℕ, suc, ◌+◌, ◌*◌, ◌<◌, ◌≤◌, ◌⊎◌, length, get_or, Any, refl, sym, ap, ◌∙◌, subst, inl, inr, arith, eq-eqb}
 use Rattle.std.specs.Prelude.{Option, Some, None, IsSomeAnd, Contains}
 use Rattle.std.proofs.lemmas.Bool.{cases_lt, cases_eq, cond-true, cond-false, ne_eqb}
 use Rattle.std.proofs.lemmas.Nat.{mul-le}
@@ -99,32 +99,41 @@ none-keeps t overriding count checked fits none all (class, inl named, keeps) =
 none-keeps t overriding count checked fits none all (class, inr other, keeps) =
     none class (omega (arith, fits class other)) (inr other) keeps
 
+-- which faults a pair table with an override can have
+pub data-cases : (t : PairTable) (overriding : Option Table) (fault : DataError) → HasPairDataFault t overriding fault
+    → ((fault ≡ ClassOutOfRange) × HasPairDataFault t overriding ClassOutOfRange)
+    ⊎ (((fault ≡ StartRowKeeps) × HasPairDataFault t overriding StartRowKeeps) ⊎ (fault ≡ ComplexItems))
+data-cases t overriding Memory has = absurd has
+data-cases t overriding RangeOrder has = absurd has
+data-cases t overriding RangePast10FFFF has = absurd has
+data-cases t overriding TableSize has = absurd has
+data-cases t overriding ClassOutOfRange has = inl (refl, has)
+data-cases t overriding StateOutOfRange has = absurd has
+data-cases t overriding StartRowKeeps has = inr (inl (refl, has))
+data-cases t overriding ComplexItems has = inr (inr refl)
+data-cases t overriding ComplexBelow0100 has = absurd has
+data-cases t overriding ComplexClassNamed has = absurd has
+data-cases t overriding StateCount has = absurd has
+data-cases t overriding TransitionSize has = absurd has
+data-cases t overriding TransitionOutOfRange has = absurd has
+data-cases t overriding SymbolOutOfRange has = absurd has
+data-cases t overriding TooManyLookaheads has = absurd has
+data-cases t overriding LookaheadOutOfRange has = absurd has
+data-cases t overriding EndCycle has = absurd has
+data-cases t overriding Stalls has = absurd has
+data-cases t overriding MissingTailoring has = absurd has
+
 -- complex items are the lowest fault where the others of an override are absent
 pub complex-lowest : (t : PairTable) (overriding : Option Table) → (HasPairDataFault t overriding ClassOutOfRange → ⊥)
     → (HasPairDataFault t overriding StartRowKeeps → ⊥) → HasPairDataFault t overriding ComplexItems
     → IsLowestFault (HasPairDataFault t overriding) ComplexItems
-complex-lowest t overriding class start complex = record { is_there = complex; lowest = lowest }
-  where
-    lowest : (lower : DataError) → number_of lower < 8 → HasPairDataFault t overriding lower → ⊥
-    lowest Memory less has = has
-    lowest RangeOrder less has = has
-    lowest RangePast10FFFF less has = has
-    lowest TableSize less has = has
-    lowest StateOutOfRange less has = has
-    lowest ClassOutOfRange less has = class has
-    lowest StartRowKeeps less has = start has
-    lowest ComplexItems less has = omega arith
-    lowest ComplexBelow0100 less has = omega arith
-    lowest MissingTailoring less has = omega arith
-    lowest ComplexClassNamed less has = omega arith
-    lowest StateCount less has = omega arith
-    lowest TransitionSize less has = omega arith
-    lowest TransitionOutOfRange less has = omega arith
-    lowest SymbolOutOfRange less has = omega arith
-    lowest TooManyLookaheads less has = omega arith
-    lowest LookaheadOutOfRange less has = omega arith
-    lowest EndCycle less has = omega arith
-    lowest Stalls less has = omega arith
+complex-lowest t overriding class start complex = record {
+  is_there = complex;
+  lowest = λ lower less has. elim (data-cases t overriding lower has) [
+    | inl (is, has) ↦ class has
+    | inr other ↦ elim other [ inl (is, has) ↦ start has | inr is ↦ omega (arith, less, ap number_of is) ]
+  ];
+}
 
 pub complex-lowest-of : (t u : PairTable) (overriding other : Option Table) → u ≡ t → other ≡ overriding
     → (HasPairDataFault t overriding ClassOutOfRange → ⊥) → (HasPairDataFault u other StartRowKeeps → ⊥) → HasPairDataFault u other ComplexItems

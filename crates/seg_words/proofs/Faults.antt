@@ -6,6 +6,7 @@ use Rattle.seg_data.specs.Faults.{number_of, IsFaultless, IsLowestFault}
 use Rattle.seg_data.specs.Table.{Table}
 use Rattle.seg_pairs.specs.PairTable.{PairTable}
 use Rattle.seg_pairs.specs.PairData.{HasPairDataFault, HasComplexClassBelow0100}
+use Rattle.seg_pairs.proofs.Pairs.{data-cases}
 use Rattle.seg_words.specs.Words.{HasOwnFault, HasWordTableFault}
 
 own-cases : (t : PairTable) (o : Option Table) (fault : DataError) → HasOwnFault t o fault
@@ -32,30 +33,11 @@ own-cases t o Stalls has = absurd has
 own-cases t o MissingTailoring has = absurd has
 
 -- clusters have no override, and so no class past the others
-cluster-cases : (t : PairTable) (fault : DataError) → HasPairDataFault t None fault → (fault ≡ StartRowKeeps) ⊎ (fault ≡ ComplexItems)
-cluster-cases t Memory has = absurd has
-cluster-cases t RangeOrder has = absurd has
-cluster-cases t RangePast10FFFF has = absurd has
-cluster-cases t TableSize has = absurd has
-cluster-cases t ClassOutOfRange has = absurd has.1
-cluster-cases t StateOutOfRange has = absurd has
-cluster-cases t StartRowKeeps has = inl refl
-cluster-cases t ComplexItems has = inr refl
-cluster-cases t ComplexBelow0100 has = absurd has
-cluster-cases t ComplexClassNamed has = absurd has
-cluster-cases t StateCount has = absurd has
-cluster-cases t TransitionSize has = absurd has
-cluster-cases t TransitionOutOfRange has = absurd has
-cluster-cases t SymbolOutOfRange has = absurd has
-cluster-cases t TooManyLookaheads has = absurd has
-cluster-cases t LookaheadOutOfRange has = absurd has
-cluster-cases t EndCycle has = absurd has
-cluster-cases t Stalls has = absurd has
-cluster-cases t MissingTailoring has = absurd has
-
 cluster-number : (t : PairTable) (fault : DataError) → HasPairDataFault t None fault → (6 < number_of fault) × (number_of fault < 9)
-cluster-number t fault has =
-    elim (cluster-cases t fault has) [ inl is ↦ rw is (omega arith, omega arith) | inr is ↦ rw is (omega arith, omega arith) ]
+cluster-number t fault has = elim (data-cases t None fault has) [
+  | inl (is, (class, (named, past))) ↦ absurd named
+  | inr other ↦ elim other [ inl (is, has) ↦ rw is (omega arith, omega arith) | inr is ↦ rw is (omega arith, omega arith) ]
+]
 
 module _ (t : PairTable) (o : Option Table) (clusters : PairTable) where
   module _ (class : HasPairDataFault t o ClassOutOfRange → ⊥) (start : HasPairDataFault t o StartRowKeeps → ⊥) where
