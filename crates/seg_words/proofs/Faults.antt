@@ -35,7 +35,7 @@ own-cases t o MissingTailoring has = absurd has
 -- clusters have no override, and so no class past the others
 cluster-number : (t : PairTable) (fault : DataError) → HasPairDataFault t None fault → (6 < number_of fault) × (number_of fault < 9)
 cluster-number t fault has = elim (data-cases t None fault has) [
-  | inl (is, (class, (named, past))) ↦ absurd named
+  | inl (is, has) ↦ absurd has.1
   | inr other ↦ elim other [ inl (is, has) ↦ rw is (omega arith, omega arith) | inr is ↦ rw is (omega arith, omega arith) ]
 ]
 
