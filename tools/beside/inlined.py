@@ -4,7 +4,7 @@
     tools/beside/inlined.py prove CRATE FOLDER                      at the top of the repository: runs `rt ci CRATE`, and keeps the program's module in FOLDER
     tools/beside/inlined.py build FOLDER PROGRAM [PATTERN=HINT]..   compiles that module as the kit does; functions whose name has the pattern get the hint
 
-A hint is `always`, `never` or `none`. With none given the machine code is that of the proved program. FOLDER/module.ll is the module as text: what else is to be
+A hint is `always`, `never` or `none`. With no hint given the machine code is that of the proved program. FOLDER/module.ll is the module as text: what else is to be
 tried can be written there by hand. What is kept of earlier runs isn't compiled again, so CRATE is best a small new program over libraries that are kept.
 """
 import pathlib
@@ -14,7 +14,7 @@ import sys
 
 sys.dont_write_bytecode = True
 sys.path.insert(0, str(pathlib.Path(__file__).resolve().parent))
-from unproved import kit, watched  # noqa: E402
+from unproved import kit, printed, watched  # noqa: E402
 
 HINTS = {"always": " alwaysinline ", "never": " noinline "}
 # Stands in the prover's place: has it take another toolchain.
@@ -35,13 +35,9 @@ def prove(crate, folder):
     shim.write_text(SHIM.format(theirs=top / "toolchain", ours=watched(top / "toolchain", room), prover=rt.rtlib.RATTLE))
     shim.chmod(0o755)
     rt.rtlib.RATTLE = str(shim)
-    status = rt.main(["ci", crate])
-    module = max((room / "clang").glob("*/module.bc"), key=lambda file: file.stat().st_size, default=None)
-    if module is None:
-        sys.exit(status or "no module was compiled: the crate is kept, or is no program")
-    (room / "words").write_text((module.parent / "words").read_text().replace(str(room / "toolchain"), str(top / "toolchain")))
-    clang = [top / "toolchain/bin/clang", "--target=x86_64-unknown-linux-gnu", "--no-default-config", "-Wno-everything"]
-    subprocess.run([*clang, "-S", "-emit-llvm", "-Xclang", "-disable-llvm-passes", "-x", "ir", module, "-o", room / "module.ll"], check=True)
+    rt.main(["ci", crate])
+    words = printed(room, top / "toolchain", room / "module.ll")
+    (room / "words").write_text("\n".join(word.replace(str(room / "toolchain"), str(top / "toolchain")) for word in words))
 
 
 def group_of(text, hint):
@@ -71,7 +67,7 @@ def build(folder, program, *hints):
     source, made = room / "hinted.ll", room / "hinted.o"
     source.write_text(text)
     given = {"module.bc": str(source), "module.o": str(made)}
-    words = [given.get(word, word) for word in (room / "words").read_text().split("\n")[:-1] if word != "-Werror"]
+    words = [given.get(word, word) for word in (room / "words").read_text().split("\n") if word != "-Werror"]
     subprocess.run([top / "toolchain/bin/clang", *words, "-Wno-everything"], check=True)
     link = [top / "bin/rattle-link", "--target", "x86_64-unknown-linux-gnu", "--toolchain", top / "toolchain", "-o", program, made]
     subprocess.run([*link, top / "c/libos_c.a", top / "c/liblibc_c.a"], check=True, stdout=subprocess.DEVNULL)
