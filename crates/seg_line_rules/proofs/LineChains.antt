@@ -2,7 +2,6 @@
 use Rattle.std.proofs.Common.{◌≡◌, ℕ, zero, suc, ◌+◌, ◌<◌, ◌≤◌, Bool, true, false, List, [], ◌∷◌, length, drop, refl, sym, ap, ◌∙◌, subst, arith}
 use Rattle.std.proofs.lemmas.List.{length-map, drop-drop}
 use Rattle.seg_text.specs.Items.{Item, place_of, code_points}
-use Rattle.seg_pairs.specs.declared.elements.Element.{Element}
 use Rattle.seg_pairs.specs.Elements.{place_at}
 use Rattle.seg_pairs.specs.Verdict.{Verdict, go_on, chain, TakesOf, IsForward}
 use Rattle.seg_pairs.specs.Verdict.Verdict.{BreakAfter, GoAfter, RunBegins}
@@ -10,7 +9,7 @@ use Rattle.seg_pairs.proofs.Chained.{chain-map}
 use Rattle.seg_pairs.proofs.Chains.{left-after, chain-go, chain-break, chain-run}
 use Rattle.seg_line_rules.specs.declared.engines.LineEngine.TheVariants.{Classic}
 use Rattle.seg_line_rules.specs.LineRules.{TableRules, line_class}
-use Rattle.seg_line_rules.specs.LineUnits.{LineUnit, CountedUnit, is_glued, units_from, counted_units, units_of, extent_of, unit_seen, units_seen, base_of, marked_element, elements_from, line_elements}
+use Rattle.seg_line_rules.specs.LineUnits.{UnitElement, LineUnit, CountedUnit, is_glued, units_from, counted_units, units_of, extent_of, unit_seen, units_seen, base_of, marked_element, elements_from, line_elements}
 use Rattle.seg_line_rules.specs.LineVerdict.{unit_verdict}
 use Rattle.seg_line_rules.specs.LineBoundaries.{in_code_points, line_verdict}
 use Rattle.seg_line_rules.proofs.LineStretches.{line-forward}
@@ -27,7 +26,7 @@ chain-step v forward x xs RunBegins is = chain-run v forward x xs is
 module _ (rules : TableRules Classic) where
   -- the elements of a text are its units
 
-  seen-from : (element : Element) (extent : ℕ) (items : List Item)
+  seen-from : (element : UnitElement) (extent : ℕ) (items : List Item)
       → units_seen (elements_from rules element items) ≡ units_of (units_from rules (record { extent = extent; unit = unit_seen element }) (code_points items))
   unfolding elements_from units_from
   seen-from element extent [] = refl
@@ -52,14 +51,14 @@ module _ (rules : TableRules Classic) where
   seen-units (item ∷ items) = seen-from (base_of rules item) 1 items
 
   -- the first element, which is the first unit, and those of what is left
-  record FirstElement (element : Element) (extent : ℕ) (items : List Item) : Type 0 where
+  record FirstElement (element : UnitElement) (extent : ℕ) (items : List Item) : Type 0 where
     marks : ℕ
-    whole : Element
+    whole : UnitElement
     is : elements_from rules element items ≡ whole ∷ line_elements rules (drop marks items)
     units_is : units_from rules (record { extent = extent; unit = unit_seen element }) (code_points items)
         ≡ record { extent = extent + marks; unit = unit_seen whole } ∷ units rules (code_points (drop marks items))
 
-  first-element : (element : Element) (extent : ℕ) (items : List Item) → FirstElement element extent items
+  first-element : (element : UnitElement) (extent : ℕ) (items : List Item) → FirstElement element extent items
   unfolding elements_from units_from counted_units
   first-element element extent [] =
       let none : extent + 0 ≡ extent = omega arith in
@@ -176,7 +175,7 @@ module _ (rules : TableRules Classic) where
 
   -- a chain over the elements of a text, as one over its code points
   pub elements-chain : (items : List Item) (found : ℕ × Verdict) → 0 < length items
-      → chain (λ (elements : List Element). unit_verdict rules (units_seen elements)) (line_elements rules items) ≡ found
+      → chain (λ (elements : List UnitElement). unit_verdict rules (units_seen elements)) (line_elements rules items) ≡ found
       → chain (line_verdict rules) (code_points items) ≡ in-all (units rules (code_points items)) found
   elements-chain [] found some is = absurd (omega (arith, some))
   elements-chain (item ∷ items) found some is =

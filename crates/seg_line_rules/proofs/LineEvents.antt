@@ -8,7 +8,6 @@ use Rattle.seg_text.specs.Items.{Item, Text, place_of, start_of, rest_after, tex
 use Rattle.seg_text.specs.Boundaries.{boundary, boundary_in, shift_all, Cuts, AreCutsOf, with_status, cut_places, Stretch, later_boundaries}
 use Rattle.seg_text.proofs.Places.{in-shift, code_points-drop}
 use Rattle.seg_text.proofs.Stretches.{text-later-next}
-use Rattle.seg_pairs.specs.declared.elements.Element.{Element}
 use Rattle.seg_pairs.specs.declared.verdicts.Outcome.{Outcome}
 use Rattle.seg_pairs.specs.declared.verdicts.Outcome.TheVariants.{Break as BreakOut, Run as RunOut}
 use Rattle.seg_pairs.specs.Elements.{onto, place_at}
@@ -17,13 +16,14 @@ use Rattle.seg_pairs.specs.Verdict.Verdict.{BreakAfter, GoAfter, RunBegins}
 use Rattle.seg_pairs.proofs.Chained.{Chained, chained}
 use Rattle.seg_pairs.proofs.Engine.{read-onto, rest-is}
 use Rattle.seg_pairs.proofs.Events.{cuts-placed}
+use Rattle.seg_line_rules.specs.declared.units.UnitDetail.{UnitDetail}
 use Rattle.seg_line_rules.specs.declared.engines.LineEngine.TheVariants.{Classic}
 use Rattle.seg_line_rules.specs.declared.plain_pairs.ClassedItem.{ClassedItem}
 use Rattle.seg_line_rules.specs.LineEvents.{text_from, UnreadLines, unread_lines, lines_unread, LeavesLess, AreUnitsAhead}
 use Rattle.seg_line_rules.specs.ReadAhead.{UnreadItems, TakesRun, items_after, lines_of, rules_of}
 use Rattle.seg_line_rules.specs.LineBoundaries.{line_verdict, complex_length, line_stretch_of, line_stretch}
 use Rattle.seg_line_rules.specs.LineRules.{TableRules}
-use Rattle.seg_line_rules.specs.LineUnits.{CountedUnit, extent_of, UnitsLeft, units_seen, line_elements}
+use Rattle.seg_line_rules.specs.LineUnits.{UnitElement, CountedUnit, extent_of, UnitsLeft, units_seen, line_elements}
 use Rattle.seg_line_rules.specs.LineVerdict.{unit_verdict}
 use Rattle.seg_line_rules.proofs.LineChains.{elements-chain, elements-left, elements-place, no-elements}
 use Rattle.seg_line_rules.proofs.LineStretches.{line-forward, line-going, line-run, run-two}
@@ -33,7 +33,7 @@ abbrev unread : TableRules Classic → Text → UnreadLines
 unread rules text = record { rules = rules; text = text }
 
 -- the verdict on the first of some elements
-abbrev pub element_verdict : TableRules Classic → List Element → Verdict
+abbrev pub element_verdict : TableRules Classic → List UnitElement → Verdict
 element_verdict rules elements = unit_verdict rules (units_seen elements)
 
 -- how many items of a text are complex before the first that isn't
@@ -131,7 +131,7 @@ module _ (rules : TableRules Classic) where
               ∙ ap (λ (n : ℕ). unread_lines cuts (unread rules (rest_after n whole))) (ap (λ (found : ℕ × Verdict). found.0) (at cuts));
         }
 
-    break-at : (gone n class taken place : ℕ) (after : List Element) → Ends gone (BreakAfter n class) → taken ≡ gone + n → after ≡ line_elements rules (drop taken all)
+    break-at : (gone n class taken place : ℕ) (after : List UnitElement) → Ends gone (BreakAfter n class) → taken ≡ gone + n → after ≡ line_elements rules (drop taken all)
         → place ≡ place_at after end → HasBreak rules whole place
     break-at gone n class taken place after ends sum is place_is =
         let some : 0 < n = (subst (TakesOf (length (ends.first ∷ ends.others))) ends.last_is (line-forward rules ends.first ends.others)).0 in
@@ -165,7 +165,7 @@ module _ (rules : TableRules Classic) where
         positive [] first others is = cc
         positive (item ∷ items) first others is = omega arith
 
-    break-in : (class place : ℕ) (next : Option Element) (rest : List Element) → place ≡ place_at (onto next rest) end
+    break-in : (class place : ℕ) (next : Option UnitElement) (rest : List UnitElement) → place ≡ place_at (onto next rest) end
         → EndsIn (chain (element_verdict rules) (line_elements rules all)) (line_elements rules all) (BreakOut class next) rest → HasBreak rules whole place
     break-in class place next rest place_is = on (chain (element_verdict rules) (line_elements rules all)) refl
       where
@@ -179,7 +179,7 @@ module _ (rules : TableRules Classic) where
         on (gone, GoAfter n) is ends = absurd ends
         on (gone, RunBegins) is ends = absurd ends
 
-    run-in : (first second : Element) (rest : List Element)
+    run-in : (first second : UnitElement) (rest : List UnitElement)
         → EndsIn (chain (element_verdict rules) (line_elements rules all)) (line_elements rules all) (RunOut first second) rest → HasRun rules whole first.place
     run-in first second rest = on (chain (element_verdict rules) (line_elements rules all)) refl
       where
@@ -190,15 +190,15 @@ module _ (rules : TableRules Classic) where
         on (gone, RunBegins) is ends =
             run-at (extent_of gone us) first.place
             (chain-ends (extent_of gone us, RunBegins) (elements-chain rules all (gone, RunBegins) (omega arith) is))
-            (ap (λ (elements : List Element). place_at elements end) (sym ends ∙ elements-left rules gone all) ∙ elements-place rules (drop (extent_of gone us) all) end)
+            (ap (λ (elements : List UnitElement). place_at elements end) (sym ends ∙ elements-left rules gone all) ∙ elements-place rules (drop (extent_of gone us) all) end)
 
 -- the same of what a call has at hand: the first unit and those after it, and those that are left after the verdicts
-module _ (before : UnreadItems) (rules : TableRules Classic) (same : rules ≡ rules_of Classic before) (left : Element) (units later : UnitsLeft)
+module _ (before : UnreadItems) (rules : TableRules Classic) (same : rules ≡ rules_of Classic before) (left : UnitElement) (units later : UnitsLeft)
     (ahead : AreUnitsAhead (rules_of Classic before) before.text (Some left) units) where
-  abbrev LeadsTo : Outcome → Type 0
+  abbrev LeadsTo : Outcome UnitDetail → Type 0
   LeadsTo found = EndsIn (chain (element_verdict rules) (left ∷ units.left)) (left ∷ units.left) found later.left
 
-  pub break-of : (class : ℕ) (next : Option Element) (place : ℕ) → LeadsTo (BreakOut class next) → later.end ≡ units.end
+  pub break-of : (class : ℕ) (next : Option UnitElement) (place : ℕ) → LeadsTo (BreakOut class next) → later.end ≡ units.end
       → place ≡ place_at (onto next later.left) later.end → HasBreak rules before.text place
   break-of class next place ends end place_is = on before.text.items (ahead.same ∙ ap (λ rules. line_elements rules before.text.items) (sym same))
     where
@@ -206,19 +206,19 @@ module _ (before : UnreadItems) (rules : TableRules Classic) (same : rules ≡ r
       on [] is = cc
       on (item ∷ items) is =
           break-in rules item items before.text.end class place next later.left (place_is ∙ ap (place_at (onto next later.left)) (end ∙ ahead.same_end))
-          (subst (λ (es : List Element). EndsIn (chain (element_verdict rules) es) es (BreakOut class next) later.left) is ends)
+          (subst (λ (es : List UnitElement). EndsIn (chain (element_verdict rules) es) es (BreakOut class next) later.left) is ends)
 
-  pub run-of : (first second : Element) → LeadsTo (RunOut first second) → HasRun rules before.text first.place
+  pub run-of : (first second : UnitElement) → LeadsTo (RunOut first second) → HasRun rules before.text first.place
   run-of first second ends = on before.text.items (ahead.same ∙ ap (λ rules. line_elements rules before.text.items) (sym same))
     where
       on : (items : List Item) → left ∷ units.left ≡ line_elements rules items → HasRun rules (record { items = items; end = before.text.end }) first.place
       on [] is = cc
       on (item ∷ items) is =
           run-in rules item items before.text.end first second later.left
-          (subst (λ (es : List Element). EndsIn (chain (element_verdict rules) es) es (RunOut first second) later.left) is ends)
+          (subst (λ (es : List UnitElement). EndsIn (chain (element_verdict rules) es) es (RunOut first second) later.left) is ends)
 
 -- the first unit of a text is read, whose first item was read ahead
-pub ahead-read : (rules read : TableRules Classic) (text rest : Text) (first : ClassedItem) (from : UnitsLeft) (next : Option Element) (units : UnitsLeft)
+pub ahead-read : (rules read : TableRules Classic) (text rest : Text) (first : ClassedItem) (from : UnitsLeft) (next : Option UnitElement) (units : UnitsLeft)
     → read ≡ rules → text ≡ text_from first rest
     → from ≡ record { rules = read; left = line_elements read (text_from first rest).items; end = rest.end }
     → YieldsFirst (λ (left : UnitsLeft). left.left) from next units

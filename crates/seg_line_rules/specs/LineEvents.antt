@@ -4,7 +4,6 @@ use Rattle.seg_text.specs.Items.{Text, code_points, rest_after, start_of}
 use Rattle.seg_text.specs.declared.boundary.Boundary.{Boundary}
 use Rattle.seg_text.specs.Boundaries.{boundary, boundaries_in, Cuts, AreCutsOf, with_status, cut_places, later_boundaries, Remainder}
 use Rattle.seg_pairs.specs.PairTable.{PairTable}
-use Rattle.seg_pairs.specs.declared.elements.Element.{Element}
 use Rattle.seg_pairs.specs.Elements.{onto}
 use Rattle.seg_line_rules.specs.declared.plain_pairs.ClassedItem.{ClassedItem}
 use Rattle.seg_line_rules.specs.declared.engines.LineEngine.{LineEngine}
@@ -13,7 +12,7 @@ use Rattle.seg_line_rules.specs.LineRules.{TableRules, line_class, is_keep_all, 
 use Rattle.seg_line_rules.specs.declared.events.LineEvent.{LineEvent}
 use Rattle.seg_line_rules.specs.declared.events.LineEvent.TheVariants.{End, Go, Break, Run}
 use Rattle.seg_line_rules.specs.LineBoundaries.{line_stretch}
-use Rattle.seg_line_rules.specs.LineUnits.{UnitsLeft, line_elements}
+use Rattle.seg_line_rules.specs.LineUnits.{UnitElement, UnitsLeft, line_elements}
 use Rattle.seg_line_rules.specs.declared.options.LineStyle.{LineStyle}
 use Rattle.seg_line_rules.specs.declared.engines.PlainPair.{PlainPair}
 use Rattle.seg_line_rules.specs.declared.engines.PlainPair.TheVariants as plain
@@ -99,14 +98,14 @@ abbrev pub lines_unread : UnreadLines → UnreadText
 lines_unread unread = record { text = unread.text; later = λ cuts run. unread_lines cuts unread }
 
 -- the first unit, where there is one, and the others are those of the text
-pub record AreUnitsAhead (rules : TableRules Classic) (text : Text) (next : Option Element) (rest : UnitsLeft) : Type 0 where
+pub record AreUnitsAhead (rules : TableRules Classic) (text : Text) (next : Option UnitElement) (rest : UnitsLeft) : Type 0 where
   pub same : onto next rest.left ≡ line_elements rules text.items
   pub same_end : rest.end ≡ text.end
   pub same_table : rest.rules.table ≡ rules.table
   pub below : IfSome next (λ next. next.class < rules.table.property_count)
 
 -- where a text has a unit, it's this one, with those after it
-abbrev pub AreFirstUnits : TableRules Classic → Text → Option (Element × UnitsLeft) → Type 0
+abbrev pub AreFirstUnits : TableRules Classic → Text → Option (UnitElement × UnitsLeft) → Type 0
 AreFirstUnits rules text None = text.items ≡ []
 AreFirstUnits rules text (Some (left, rest)) = AreUnitsAhead rules text (Some left) rest
 

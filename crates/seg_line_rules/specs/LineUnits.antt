@@ -3,6 +3,7 @@ use Rattle.std.specs.Prelude.{ℕ, zero, suc, ◌+◌, ◌==◌, ◌&&◌, not, 
 use Rattle.seg_text.specs.Items.{Item}
 use Rattle.seg_pairs.specs.declared.elements.Element.{Element}
 use Rattle.seg_line_rules.specs.declared.engines.LineEngine.{LineEngine}
+use Rattle.seg_line_rules.specs.declared.units.UnitDetail.{UnitDetail}
 use Rattle.seg_line_rules.specs.LineClasses.{class_number}
 use Rattle.seg_line_rules.specs.LineClasses.LineClass.{BK, CM, CM_EASTASIAN, CR, LF, NL, SP, ZW, ZWJ}
 use Rattle.seg_line_rules.specs.declared.engines.LineEngine.TheVariants.{Classic, Seventeen}
@@ -81,43 +82,42 @@ extent_of (suc n) (one ∷ counted) = one.extent + extent_of n counted
 
 -- Units of lines as elements of a text, by the classic engine.
 
+abbrev pub UnitElement : Type 0
+UnitElement = Element UnitDetail
+
 -- what a verdict looks at of an element
-abbrev pub unit_seen : Element → LineUnit
+abbrev pub unit_seen : UnitElement → LineUnit
 unit_seen element = record {
   class = element.class;
-  code_point = element.code_point;
-  left_code_point = element.code_point;
-  is_joined = element.is_joined;
-  is_single = element.is_single;
+  code_point = element.detail.code_point;
+  left_code_point = element.detail.code_point;
+  is_joined = element.detail.is_joined;
+  is_single = element.detail.is_single;
 }
 
-abbrev pub units_seen : List Element → List LineUnit
+abbrev pub units_seen : List UnitElement → List LineUnit
 units_seen elements = map unit_seen elements
 
 -- an item alone, and an element with one mark more, each mark by its class
-abbrev pub base_element : ℕ → ℕ → ℕ → Element
+abbrev pub base_element : ℕ → ℕ → ℕ → UnitElement
 base_element place code_point class = record {
   class = class;
   place = place;
-  code_point = code_point;
-  is_joined = is_joiner Classic class;
-  is_single = true;
+  detail = record { code_point = code_point; is_joined = is_joiner Classic class; is_single = true };
 }
 
-abbrev pub marked_element : Element → ℕ → Element
+abbrev pub marked_element : UnitElement → ℕ → UnitElement
 marked_element element class = record {
   class = element.class;
   place = element.place;
-  code_point = element.code_point;
-  is_joined = is_joiner Classic class;
-  is_single = false;
+  detail = record { code_point = element.detail.code_point; is_joined = is_joiner Classic class; is_single = false };
 }
 
-abbrev pub base_of : TableRules Classic → Item → Element
+abbrev pub base_of : TableRules Classic → Item → UnitElement
 base_of rules item = base_element item.0 item.1 (line_class rules item.1)
 
 -- the elements of a text that begins with this one, or with its first items
-unfoldable pub elements_from : TableRules Classic → Element → List Item → List Element
+unfoldable pub elements_from : TableRules Classic → UnitElement → List Item → List UnitElement
 elements_from rules element [] = element ∷ []
 elements_from rules element (item ∷ items) =
     if is_glued Classic element.class (line_class rules item.1)
@@ -125,21 +125,21 @@ elements_from rules element (item ∷ items) =
     else element ∷ elements_from rules (base_of rules item) items
 
 -- those of a text whose first item was read already, where there was one
-abbrev pub elements_after : TableRules Classic → Option Element → List Item → List Element
+abbrev pub elements_after : TableRules Classic → Option UnitElement → List Item → List UnitElement
 elements_after rules None items = []
 elements_after rules (Some first) items = elements_from rules first items
 
-abbrev pub line_elements : TableRules Classic → List Item → List Element
+abbrev pub line_elements : TableRules Classic → List Item → List UnitElement
 line_elements rules [] = []
 line_elements rules (item ∷ items) = elements_from rules (base_of rules item) items
 
 -- what isn't read yet of the units of a text
 pub record UnitsLeft : Type 0 where
   pub rules : TableRules Classic
-  pub left : List Element
+  pub left : List UnitElement
   pub end : ℕ
 
 -- the first item is a base by the rules, and where there is none no item is left
-pub record IsFirst (rules : TableRules Classic) (first : Option Element) (items : List Item) : Type 0 where
+pub record IsFirst (rules : TableRules Classic) (first : Option UnitElement) (items : List Item) : Type 0 where
   pub none : first ≡ None → items ≡ []
   pub below : IfSome first (λ first. first.class < rules.table.property_count)

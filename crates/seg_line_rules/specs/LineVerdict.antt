@@ -6,15 +6,15 @@ use Rattle.seg_pairs.specs.PairTable.{PairTable, entry_of}
 use Rattle.seg_pairs.specs.Walk.{Walk, is_class}
 use Rattle.seg_pairs.specs.Verdict.{Verdict, unasked, walk_from}
 use Rattle.seg_pairs.specs.Verdict.Verdict.{BreakAfter, GoAfter, RunBegins}
-use Rattle.seg_pairs.specs.declared.elements.Element.{Element}
 use Rattle.seg_pairs.specs.declared.verdicts.Step.{Step}
 use Rattle.seg_pairs.specs.declared.verdicts.Step.TheVariants as steps
+use Rattle.seg_line_rules.specs.declared.units.UnitDetail.{UnitDetail}
 use Rattle.seg_line_rules.specs.declared.verdicts.Case.{Case}
 use Rattle.seg_line_rules.specs.declared.verdicts.Case.TheVariants.{Run, Together, Apart, Table}
 use Rattle.seg_line_rules.specs.declared.engines.LineEngine.{LineEngine}
 use Rattle.seg_line_rules.specs.LineRules.{TableRules, is_complex_class}
 use Rattle.seg_line_rules.specs.LineLists.{keeps, listed}
-use Rattle.seg_line_rules.specs.LineUnits.{LineUnit}
+use Rattle.seg_line_rules.specs.LineUnits.{UnitElement, LineUnit}
 
 abbrev pub unit_classes : List LineUnit → List ℕ
 unit_classes units = map (λ (unit : LineUnit). unit.class) units
@@ -113,5 +113,5 @@ unit_verdict rules (left ∷ right ∷ after) =
 -- Steps of lines.
 
 -- a boundary before an element, unless it is taken away
-abbrev pub step_unless : Bool → Element → Step
+abbrev pub step_unless : Bool → UnitElement → Step UnitDetail
 step_unless taken_away next = if taken_away then steps.Go next else steps.Break next 0

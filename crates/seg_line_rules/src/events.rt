@@ -13,9 +13,9 @@ ghost use Rattle.seg_line_rules.specs.ReadAhead.{rules_of};
 use crate::classic::ClassicEngine;
 use crate::line_pairs::LinePairs;
 use crate::read_ahead::ReadAhead;
-use crate::units::Units;
+use crate::units::{Unit, UnitDetail, Units};
 use crate::verdicts::LineVerdicts;
-use seg_pairs::elements::{Element, Elements};
+use seg_pairs::elements::Elements;
 use seg_pairs::verdicts::{Outcome, next_break};
 use seg_text::cursor::Cursor;
 use std::marker::Model;
@@ -150,7 +150,7 @@ impl<'data, I: Cursor> LineSource for LineEvents<'data, I> {
 /// The first unit of a text, and the units after it. None at the end.
 fn first_units<'data, I: Cursor>(
     ahead: &ReadAhead<'data, ClassicEngine, I>,
-) -> Option<(Element, Units<'data, I>)>
+) -> Option<(Unit, Units<'data, I>)>
     ensures { AreFirstUnits (rules_of Classic ahead.now) ahead.now.text result }
 {
     let Some((first, rest)) = ahead.first() else {
@@ -164,7 +164,7 @@ fn first_units<'data, I: Cursor>(
 }
 
 /// The place of this unit, or else of the first of the others, or of the text's end.
-fn place_before<E: Elements>(next: Option<Element>, rest: &E) -> usize
+fn place_before<E: Elements<Detail = UnitDetail>>(next: Option<Unit>, rest: &E) -> usize
     ensures { result ≡ place_at (onto next (E.left rest.now)) (E.end rest.now) }
 {
     match next {

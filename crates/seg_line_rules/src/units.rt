@@ -14,12 +14,26 @@ use seg_pairs::elements::{Element, Elements};
 use seg_text::cursor::Cursor;
 use std::marker::Model;
 
-/// The units of a text as elements: a code point that isn't glued, with the marks after it.
+/// What the rules of lines ask of a unit besides its class and its place.
+#[derive(Clone, Copy, Debug)]
+pub struct UnitDetail {
+    /// The code point of its base.
+    pub code_point: u32,
+    /// Whether it ends with the mark that joins it to what follows it.
+    pub is_joined: bool,
+    /// Whether it is one item.
+    pub is_single: bool,
+}
+
+/// A code point that isn't glued, with the marks after it, as an element.
+pub type Unit = Element<UnitDetail>;
+
+/// The units of a text as elements.
 #[derive(Debug, Drop)]
 pub struct Units<'data, I: Cursor> {
     pairs: LinePairs<'data, ClassicEngine>,
     // The first item of the next unit, which is read already.
-    first: Option<Element>,
+    first: Option<Unit>,
     // The items after it.
     rest: I,
 }
@@ -67,6 +81,8 @@ impl<'data, I: Cursor> Units<'data, I> {
 }
 
 impl<'data, I: Cursor> Elements for Units<'data, I> {
+    type Detail = UnitDetail;
+
     ghost left = { λ s. s.left };
 
     ghost end = { λ s. s.end };
@@ -74,7 +90,7 @@ impl<'data, I: Cursor> Elements for Units<'data, I> {
     ghost table = { λ s. s.rules.table };
 
     #[inline(always)]
-    fn next_element(&mut self) -> Option<Element> {
+    fn next_element(&mut self) -> Option<Unit> {
         let Some(base) = self.first else {
             return None;
         };
@@ -100,6 +116,10 @@ impl<'data, I: Cursor> Elements for Units<'data, I> {
         }
     }
 
+    fn catch_up(&mut self, other: Self) {
+        *self = other;
+    }
+
     fn place(&self) -> usize {
         match self.first {
             Some(first) => first.place,
@@ -112,9 +132,9 @@ impl<'data, I: Cursor> Elements for Units<'data, I> {
 #[inline(never)]
 fn read_unit<I: Cursor>(
     pairs: LinePairs<'_, ClassicEngine>,
-    base: Element,
+    base: Unit,
     rest: &mut I,
-) -> (Element, Option<Element>)
+) -> (Unit, Option<Unit>)
     ensures unit { elements_from (rules_by pairs.entry) base (I.text rest.old).items ≡ result.0 ∷ elements_after (rules_by pairs.entry) result.1 (I.text rest.new).items }
     ensures end { (I.text rest.new).end ≡ (I.text rest.old).end }
     ensures class { result.0.class ≡ base.class }
@@ -135,7 +155,7 @@ fn read_unit<I: Cursor>(
 }
 
 /// An item as a unit of its own.
-fn base(pairs: LinePairs<'_, ClassicEngine>, place: usize, code_point: u32) -> Element
+fn base(pairs: LinePairs<'_, ClassicEngine>, place: usize, code_point: u32) -> Unit
     ensures element { result ≡ base_of (rules_by pairs.entry) (place, code_point) }
     ensures below { result.class < (rules_by pairs.entry).table.property_count }
 {
@@ -143,27 +163,31 @@ fn base(pairs: LinePairs<'_, ClassicEngine>, place: usize, code_point: u32) -> E
 }
 
 /// An item of this class as a unit of its own.
-fn base_element(place: usize, code_point: u32, class: u8) -> Element
+fn base_element(place: usize, code_point: u32, class: u8) -> Unit
     ensures { result ≡ base_element place code_point class }
 {
     Element {
         class,
         place,
-        code_point,
-        is_joined: is_joiner(LineEngine::Classic, class),
-        is_single: true,
+        detail: UnitDetail {
+            code_point,
+            is_joined: is_joiner(LineEngine::Classic, class),
+            is_single: true,
+        },
     }
 }
 
 /// A unit with one mark more, of this class.
-fn marked_element(unit: Element, class: u8) -> Element
+fn marked_element(unit: Unit, class: u8) -> Unit
     ensures { result ≡ marked_element unit class }
 {
     Element {
         class: unit.class,
         place: unit.place,
-        code_point: unit.code_point,
-        is_joined: is_joiner(LineEngine::Classic, class),
-        is_single: false,
+        detail: UnitDetail {
+            code_point: unit.detail.code_point,
+            is_joined: is_joiner(LineEngine::Classic, class),
+            is_single: false,
+        },
     }
 }

@@ -5,13 +5,14 @@ ghost use Rattle.seg_pairs.specs.PairTable.{entry_of};
 ghost use Rattle.seg_pairs.specs.Verdict.{Lands, LandsOrWalks, IsStepBelow};
 ghost use Rattle.seg_line_rules.specs.LineBoundaries.{rules_by};
 ghost use Rattle.seg_line_rules.specs.LineVerdict.{step_unless, begins_run, case_of, unit_first_verdict, unit_named_verdict, unit_verdict};
-ghost use Rattle.seg_line_rules.specs.LineUnits.{unit_seen, units_seen};
+ghost use Rattle.seg_line_rules.specs.LineUnits.{UnitElement, unit_seen, units_seen};
 
 use crate::classic::ClassicEngine;
 use crate::engines::LineEngine;
 use crate::line_pairs::LinePairs;
 use crate::lists::{Neighbours, keeps, listed};
-use seg_pairs::elements::{Element, Elements};
+use crate::units::{Unit, UnitDetail};
+use seg_pairs::elements::Elements;
 use seg_pairs::provider::{BreakState, RuleBreakData};
 use seg_pairs::verdicts::{Step, Verdicts};
 use seg_pairs::walk::{Stop, entry_between, is_class, state_named, walk};
@@ -30,7 +31,7 @@ pub enum Case {
 }
 
 /// What decides between two units: the first case that applies.
-pub fn case_of(pairs: LinePairs<'_, ClassicEngine>, left: Element, right: Element) -> Case
+pub fn case_of(pairs: LinePairs<'_, ClassicEngine>, left: Unit, right: Unit) -> Case
     ensures { result ≡ case_of (rules_by pairs.entry) (unit_seen left) (unit_seen right) }
 {
     if begins_run(pairs, left, right) {
@@ -42,11 +43,11 @@ pub fn case_of(pairs: LinePairs<'_, ClassicEngine>, left: Element, right: Elemen
     }
     let pair = Neighbours {
         left: left.class,
-        left_code_point: left.code_point,
+        left_code_point: left.detail.code_point,
         right: right.class,
-        right_code_point: right.code_point,
+        right_code_point: right.detail.code_point,
     };
-    match listed(engine, pairs.style(), left.is_joined, pair) {
+    match listed(engine, pairs.style(), left.detail.is_joined, pair) {
         Some(true) => Case::Apart,
         Some(false) => Case::Together,
         None => Case::Table,
@@ -54,11 +55,11 @@ pub fn case_of(pairs: LinePairs<'_, ClassicEngine>, left: Element, right: Elemen
 }
 
 /// Whether a run of complex code points begins with the left unit.
-fn begins_run(pairs: LinePairs<'_, ClassicEngine>, left: Element, right: Element) -> bool
+fn begins_run(pairs: LinePairs<'_, ClassicEngine>, left: Unit, right: Unit) -> bool
     ensures { result ≡ begins_run (rules_by pairs.entry) (unit_seen left) (unit_seen right) }
 {
     let complex = pairs.table().complex_property();
-    left.class == complex && left.is_single && right.class == complex
+    left.class == complex && left.detail.is_single && right.class == complex
 }
 
 /// The rules of lines, over units.
@@ -69,6 +70,8 @@ pub struct LineVerdicts<'data> {
 }
 
 impl<'data> Verdicts for LineVerdicts<'data> {
+    type Detail = UnitDetail;
+
     ghost verdict = { λ s elements. unit_verdict (rules_by s.pairs) (units_seen elements) };
 
     ghost walk_verdict = { λ s state left elements. unit_named_verdict (rules_by s.pairs).table state (unit_seen left) (units_seen elements) };
@@ -76,7 +79,15 @@ impl<'data> Verdicts for LineVerdicts<'data> {
     ghost table = { λ s. (rules_by s.pairs).table };
 
     #[inline(always)]
-    fn step<E: Elements>(&self, left: Element, rest: &mut E) -> Step {
+    fn step<E: Elements<Detail = UnitDetail>>(&self, left: Unit, rest: &mut E) -> Step<UnitDetail>
+        requires left { left.class < (rules_by self.now.pairs).table.property_count }
+        requires table { E.table rest.old ≡ (rules_by self.now.pairs).table }
+        ensures lands { LandsOrWalks (λ state. unit_named_verdict (rules_by self.now.pairs).table state (unit_seen left) (units_seen (left ∷ E.left rest.old)))
+            (unit_verdict (rules_by self.now.pairs) (units_seen (left ∷ E.left rest.old))) (left ∷ E.left rest.old) result (E.left rest.new) }
+        ensures class { IsStepBelow (rules_by self.now.pairs).table.property_count result }
+        ensures end { E.end rest.new ≡ E.end rest.old }
+        ensures table { E.table rest.new ≡ E.table rest.old }
+    {
         let Some(right) = rest.next_element() else {
             return Step::End(0);
         };
@@ -89,13 +100,21 @@ impl<'data> Verdicts for LineVerdicts<'data> {
     }
 
     #[inline(always)]
-    fn walk_step<E: Elements>(
+    fn walk_step<E: Elements<Detail = UnitDetail>>(
         &self,
         state: u8,
-        left: Element,
-        right: Element,
+        left: Unit,
+        right: Unit,
         rest: &mut E,
-    ) -> Step {
+    ) -> Step<UnitDetail>
+        requires state { state < (rules_by self.now.pairs).table.property_count }
+        requires right { right.class < (rules_by self.now.pairs).table.property_count }
+        requires table { E.table rest.old ≡ (rules_by self.now.pairs).table }
+        ensures lands { Lands (unit_named_verdict (rules_by self.now.pairs).table state (unit_seen left) (units_seen (left ∷ right ∷ E.left rest.old))) (left ∷ right ∷ E.left rest.old) result (E.left rest.new) }
+        ensures class { IsStepBelow (rules_by self.now.pairs).table.property_count result }
+        ensures end { E.end rest.new ≡ E.end rest.old }
+        ensures table { E.table rest.new ≡ E.table rest.old }
+    {
         walk_step(self.pairs.table(), state, left, right, rest)
     }
 
@@ -104,10 +123,10 @@ impl<'data> Verdicts for LineVerdicts<'data> {
 
 /// The step of a pair table from `left`, which `right` follows.
 #[inline(always)]
-fn table_step(table: &RuleBreakData, left: Element, right: Element) -> Step
+fn table_step(table: &RuleBreakData, left: Unit, right: Unit) -> Step<UnitDetail>
     requires left { left.class < table.now.property_count }
     requires right { right.class < table.now.property_count }
-    ensures lands { (after : List Element) → LandsOrWalks (λ state. unit_named_verdict table.now state (unit_seen left) (units_seen (left ∷ right ∷ after)))
+    ensures lands { (after : List UnitElement) → LandsOrWalks (λ state. unit_named_verdict table.now state (unit_seen left) (units_seen (left ∷ right ∷ after)))
         (unit_first_verdict table.now (unit_seen left) (units_seen (left ∷ right ∷ after)) (entry_of table.now left.class right.class))
         (left ∷ right ∷ after) result after }
     ensures class { IsStepBelow table.now.property_count result }
@@ -118,18 +137,18 @@ fn table_step(table: &RuleBreakData, left: Element, right: Element) -> Step
     }
     match state_named(entry) {
         Some(state) => Step::Walk(right, state),
-        None => unless(left.is_joined, right),
+        None => unless(left.detail.is_joined, right),
     }
 }
 
 /// The step where the entry of the two names a state.
-fn walk_step<E: Elements>(
+fn walk_step<E: Elements<Detail = UnitDetail>>(
     table: &RuleBreakData,
     start: u8,
-    left: Element,
-    right: Element,
+    left: Unit,
+    right: Unit,
     rest: &mut E,
-) -> Step
+) -> Step<UnitDetail>
     requires start { start < table.now.property_count }
     requires right { right.class < table.now.property_count }
     requires table { E.table rest.old ≡ table.now }
@@ -152,22 +171,23 @@ fn walk_step<E: Elements>(
     match next {
         Some(next) => match entry {
             BreakState::Keep => Step::Go(next),
-            BreakState::Break => unless(before.is_joined, next),
+            BreakState::Break => unless(before.detail.is_joined, next),
             _ => {
                 let from_class = is_class(table, start);
-                let taken_away = saved_before.is_joined | (before.is_joined & from_class);
+                let taken_away = saved_before.detail.is_joined
+                    | (before.detail.is_joined & from_class);
                 go_back(rest, saved_rest, saved, taken_away)
             }
         },
         None => match entry {
-            BreakState::NoMatch => go_back(rest, saved_rest, saved, saved_before.is_joined),
+            BreakState::NoMatch => go_back(rest, saved_rest, saved, saved_before.detail.is_joined),
             _ => Step::End(0),
         },
     }
 }
 
 /// A boundary before an element, unless it is taken away.
-fn unless(taken_away: bool, next: Element) -> Step
+fn unless(taken_away: bool, next: Unit) -> Step<UnitDetail>
     ensures { result ≡ step_unless taken_away next }
 {
     if taken_away {
@@ -178,7 +198,12 @@ fn unless(taken_away: bool, next: Element) -> Step
 }
 
 /// A boundary at the place that was saved, unless it is taken away: the units are read again from there on.
-fn go_back<E: Elements>(rest: &mut E, saved_rest: E, saved: Element, taken_away: bool) -> Step
+fn go_back<E: Elements<Detail = UnitDetail>>(
+    rest: &mut E,
+    saved_rest: E,
+    saved: Unit,
+    taken_away: bool,
+) -> Step<UnitDetail>
     ensures rest { rest.new ≡ saved_rest }
     ensures step { result ≡ step_unless taken_away saved }
 {

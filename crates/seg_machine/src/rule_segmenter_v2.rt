@@ -139,6 +139,7 @@ impl<I: Cursor> Ahead<I> {
     fn read(&mut self, machine: &TailoredMachineBorrowed<'_>, rest: &I)
         ensures { IsSymbolAhead (machine_of machine.now) (I.text rest.now) self.new.symbol (I.text self.new.after) }
     {
+        // On a copy, so that no address of the iterator is handed on, and it can stay in registers.
         let machine = *machine;
         let next = read_apart(&machine, rest.fork());
         self.symbol = next.symbol;

@@ -20,12 +20,12 @@ use Rattle.seg_pairs.specs.declared.verdicts.Outcome.TheVariants.{Break as Break
 use Rattle.seg_pairs.specs.Verdict.{Verdict, verdict, chain, TakesOf, EndsIn, IsRest}
 use Rattle.seg_pairs.specs.Verdict.Verdict.{BreakAfter, GoAfter, RunBegins}
 use Rattle.seg_pairs.specs.Breaks.{status_of, stretch_of, class_stretch, classes_by, table_stretch, table_boundaries}
-use Rattle.seg_pairs.specs.Elements.{classes_of, class_text, onto, place_at, elements_of}
+use Rattle.seg_pairs.specs.Elements.{ItemElement, classes_of, class_text, onto, place_at, elements_of}
 use Rattle.seg_pairs.proofs.Chained.{chain-first}
 use Rattle.seg_pairs.proofs.Chains.{chain-no-run}
 use Rattle.seg_pairs.proofs.Forward.{verdict-forward, verdict-no-run, on-classes}
 
-pub read-onto : {S : Type 0} (left : S → List Element) (s : S) (first : Option Element) (t : S) → YieldsFirst left s first t → left s ≡ onto first (left t)
+pub read-onto : {S D : Type 0} (left : S → List (Element D)) (s : S) (first : Option (Element D)) (t : S) → YieldsFirst left s first t → left s ≡ onto first (left t)
 read-onto left s None t gives = gives.0 ∙ sym gives.1
 read-onto left s (Some first) t gives = gives
 
@@ -34,7 +34,7 @@ none-left pairs [] none = refl
 none-left pairs (item ∷ items) none = cc
 
 -- the verdict of a table on the first of some elements
-abbrev pub element_verdict : PairTable → List Element → Verdict
+abbrev pub element_verdict : PairTable → List ItemElement → Verdict
 element_verdict t elements = verdict t (classes_of elements)
 
 -- stretches by a table alone: each takes some of what is left, and ends with its one boundary where it has one
@@ -75,44 +75,44 @@ table-alone t overriding x xs = class-alone t (classes_by t overriding (x ∷ xs
 
 -- elements as a text
 
-class-start : (elements : List Element) (end : ℕ) → start_of (class_text elements end) ≡ place_at elements end
+class-start : (elements : List ItemElement) (end : ℕ) → start_of (class_text elements end) ≡ place_at elements end
 class-start [] end = refl
 class-start (element ∷ elements) end = refl
 
-class-after : (n : ℕ) (elements : List Element) (end : ℕ) → rest_after n (class_text elements end) ≡ class_text (drop n elements) end
-class-after n elements end = rw (drop-map {Y = Item} (λ (element : Element). (element.place, element.class)) n elements) refl
+class-after : (n : ℕ) (elements : List ItemElement) (end : ℕ) → rest_after n (class_text elements end) ≡ class_text (drop n elements) end
+class-after n elements end = rw (drop-map {Y = Item} (λ (element : ItemElement). (element.place, element.class)) n elements) refl
 
-class-codes : (elements : List Element) (end : ℕ) → code_points (class_text elements end).items ≡ classes_of elements
+class-codes : (elements : List ItemElement) (end : ℕ) → code_points (class_text elements end).items ≡ classes_of elements
 class-codes [] end = refl
 class-codes (element ∷ elements) end = ap (λ (classes : List ℕ). element.class ∷ classes) (class-codes elements end)
 
 -- the boundaries of elements that are left, where those up to the first were given
-abbrev Ends : PairTable → List Element → ℕ → List Boundary
+abbrev Ends : PairTable → List ItemElement → ℕ → List Boundary
 Ends t elements end = boundaries_in (later_boundaries (class_stretch t)) (class_text elements end)
 
 ends-none : (t : PairTable) (end : ℕ) → Ends t [] end ≡ []
 ends-none t end = rw (later-nil (class_stretch t)) refl
 
-ends-next : (t : PairTable) (left : Element) (elements : List Element) (end gone n class : ℕ)
+ends-next : (t : PairTable) (left : ItemElement) (elements : List ItemElement) (end gone n class : ℕ)
     → chain (element_verdict t) (left ∷ elements) ≡ (gone, BreakAfter n class)
     → Ends t (left ∷ elements) end
     ≡ boundary (place_at (drop (gone + n) (left ∷ elements)) end) (status_of t.rule_status_table class) ∷ Ends t (drop (gone + n) (left ∷ elements)) end
 ends-next t left elements end gone n class found =
-    let whole : List Element = left ∷ elements in
-    let rest : List Element = drop (gone + n) whole in
+    let whole : List ItemElement = left ∷ elements in
+    let rest : List ItemElement = drop (gone + n) whole in
     let status : ℕ = status_of t.rule_status_table class in
-    let first : List Element → Stretch = λ elements. class_stretch t (classes_of elements) in
+    let first : List ItemElement → Stretch = λ elements. class_stretch t (classes_of elements) in
     let begins = chain-first (element_verdict t) (on-classes (verdict t) (verdict-forward t)) t.rule_status_table first (by-class t) left elements gone n class found in
     let by_class : later_boundaries (class_stretch t) (classes_of whole) ≡ boundary (gone + n) status ∷ shift_all (gone + n) (later_boundaries (class_stretch t) (classes_of rest)) =
-    sym (later-map (λ (element : Element). element.class) (class_stretch t) whole) ∙ begins
-    ∙ ap (λ (later : List Boundary). boundary (gone + n) status ∷ shift_all (gone + n) later) (later-map (λ (element : Element). element.class) (class_stretch t) rest) in
+    sym (later-map (λ (element : ItemElement). element.class) (class_stretch t) whole) ∙ begins
+    ∙ ap (λ (later : List Boundary). boundary (gone + n) status ∷ shift_all (gone + n) later) (later-map (λ (element : ItemElement). element.class) (class_stretch t) rest) in
     rw (class-codes whole end, class-codes rest end, by_class, in-shift (class_text whole end) (gone + n), class-after (gone + n) whole end)
     (ap (λ place. boundary place status ∷ map (boundary_in (class_text rest end)) (later_boundaries (class_stretch t) (classes_of rest)))
     (ap start_of (class-after (gone + n) whole end) ∙ class-start rest end))
   where
-    by-class : (t : PairTable) (x : Element) (xs : List Element)
+    by-class : (t : PairTable) (x : ItemElement) (xs : List ItemElement)
         → class_stretch t (classes_of (x ∷ xs)) ≡ stretch_of t.rule_status_table (length (x ∷ xs)) (element_verdict t (x ∷ xs))
-    by-class t x xs = class-is t x.class (classes_of xs) ∙ ap (λ n. stretch_of t.rule_status_table n (element_verdict t (x ∷ xs))) (length-map (x ∷ xs) (λ (element : Element). element.class))
+    by-class t x xs = class-is t x.class (classes_of xs) ∙ ap (λ n. stretch_of t.rule_status_table n (element_verdict t (x ∷ xs))) (length-map (x ∷ xs) (λ (element : ItemElement). element.class))
 
 -- a new engine
 
@@ -133,7 +133,7 @@ items-boundaries pairs text (b ∷ counted) =
     rw (items-place pairs text.items text.end b.offset, items-boundaries pairs text counted) refl
 
 -- the boundaries of elements, that at their start too
-abbrev All : PairTable → List Element → ℕ → List Boundary
+abbrev All : PairTable → List ItemElement → ℕ → List Boundary
 All t elements end = boundaries_in (list_boundaries (class_stretch t)) (class_text elements end)
 
 items-left : (pairs : PairDataBorrowed) (text : Text)
@@ -149,7 +149,7 @@ items-left pairs text =
     ap (map (boundary_in (class_text (elements_of pairs text.items) text.end))) found
     ∙ items-boundaries pairs text (table_boundaries p o (code_points text.items))
 
-pub new-left : (pairs : PairDataBorrowed) (text : Text) (t : PairTable) (elements : List Element) (after : ℕ)
+pub new-left : (pairs : PairDataBorrowed) (text : Text) (t : PairTable) (elements : List ItemElement) (after : ℕ)
     → t ≡ pair_table_of pairs → after ≡ text.end → elements_of pairs text.items ≡ elements
     → All t elements after ≡ boundaries_in (table_boundaries (pair_table_of pairs) (override_of pairs)) text
 new-left pairs text t elements after same stays is =
@@ -166,7 +166,7 @@ new-cover pairs text left is rising = rw is (covers (table_stretch (pair_table_o
 -- a call
 
 -- what an engine has still to give, where these elements are left
-abbrev pub Left : Bool → PairTable → List Element → ℕ → ℕ → Remainder
+abbrev pub Left : Bool → PairTable → List ItemElement → ℕ → ℕ → Remainder
 Left started t elements end class = remainder started (class_stretch t) (class_text elements end) (status_of t.rule_status_table class)
 
 pub record Gives (before after : Remainder) (place : ℕ) : Type 0 where
@@ -178,11 +178,11 @@ gives before after place is =
     let steps : offsets_left before ≡ place ∷ offsets_left after = ap offsets is in
     record { steps = (steps, is); goes = fewer-left offsets_left before after place steps }
 
-pub rest-is : (next : Option Element) (rest whole : List Element) → IsRest next rest whole → onto next rest ≡ whole
+pub rest-is : {D : Type 0} (next : Option (Element D)) (rest whole : List (Element D)) → IsRest next rest whole → onto next rest ≡ whole
 rest-is None rest whole (none, empty) = empty ∙ sym none
 rest-is (Some next) rest whole is = sym is
 
-pub gives-next : (t u : PairTable) (now : Option Element) (left : Element) (elements : List Element) (next : Option Element) (rest : List Element)
+pub gives-next : (t u : PairTable) (now : Option ItemElement) (left : ItemElement) (elements : List ItemElement) (next : Option ItemElement) (rest : List ItemElement)
     (end after : ℕ) (started : Bool) (class next_class place : ℕ) → started ≡ true → now ≡ Some left
     → EndsIn (chain (element_verdict t) (left ∷ elements)) (left ∷ elements) (BreakOut next_class next) rest
     → u ≡ t → after ≡ end → place ≡ place_at (onto next rest) after
@@ -198,11 +198,11 @@ gives-next t u now left elements next rest end after started class next_class pl
     by (gone, GoAfter n) found ends = absurd ends
     by (gone, RunBegins) found ends = absurd ends
 
-pub end-left : (t : PairTable) (next : Option Element) (elements : List Element) (end class : ℕ) (started : Bool)
+pub end-left : (t : PairTable) (next : Option ItemElement) (elements : List ItemElement) (end class : ℕ) (started : Bool)
     → started ≡ true → next ≡ None → elements ≡ [] → (Left started t (onto next elements) end class).left ≡ []
 end-left t next elements end class started on none empty = rw (on, none, empty) (ends-none t end)
 
-pub run-never : (t : PairTable) (left : Element) (elements : List Element) (first second : Element) (rest : List Element)
+pub run-never : (t : PairTable) (left : ItemElement) (elements : List ItemElement) (first second : ItemElement) (rest : List ItemElement)
     → EndsIn (chain (element_verdict t) (left ∷ elements)) (left ∷ elements) (RunOut first second) rest → ⊥
 run-never t left elements first second rest ends = by (chain (element_verdict t) (left ∷ elements)) refl ends
   where
@@ -212,20 +212,20 @@ run-never t left elements first second rest ends = by (chain (element_verdict t)
     by (gone, RunBegins) found ends =
         chain-no-run (element_verdict t) (on-classes (verdict t) (verdict-forward t)) (λ x xs. verdict-no-run t x.class _) left elements (ap (λ (f : ℕ × Verdict). f.1) found)
 
-pub rest-empty : (found : ℕ × Verdict) (elements : List Element) (class : ℕ) (next : Option Element) (rest : List Element)
+pub rest-empty : (found : ℕ × Verdict) (elements : List ItemElement) (class : ℕ) (next : Option ItemElement) (rest : List ItemElement)
     → EndsIn found elements (BreakOut class next) rest → next ≡ None → rest ≡ []
 rest-empty (gone, BreakAfter n with_class) elements class None rest (same, left) none = left.1
 rest-empty (gone, BreakAfter n with_class) elements class (Some next) rest (same, left) none = cc
 rest-empty (gone, GoAfter n) elements class next rest ends none = absurd ends
 rest-empty (gone, RunBegins) elements class next rest ends none = absurd ends
 
-pub below-of : (t u v : PairTable) (next : Option Element) → t ≡ u → v ≡ u → IfSome next (λ next. next.class < t.property_count) → IfSome next (λ next. next.class < v.property_count)
+pub below-of : (t u v : PairTable) (next : Option ItemElement) → t ≡ u → v ≡ u → IfSome next (λ next. next.class < t.property_count) → IfSome next (λ next. next.class < v.property_count)
 below-of t u v next same equal below =
     let Below : PairTable → Type 0 = λ t. IfSome next (λ next. next.class < t.property_count) in
     subst Below (same ∙ sym equal) below
 
-pub new-empty : (whole : List Element) (first : Option Element) (pairs : PairDataBorrowed) (items : List Item)
-    → YieldsFirst (λ (elements : List Element). elements) whole first (elements_of pairs items) → first ≡ None → items ≡ []
+pub new-empty : (whole : List ItemElement) (first : Option ItemElement) (pairs : PairDataBorrowed) (items : List Item)
+    → YieldsFirst (λ (elements : List ItemElement). elements) whole first (elements_of pairs items) → first ≡ None → items ≡ []
 new-empty whole None pairs items gives none = none-left pairs items gives.1
 new-empty whole (Some first) pairs items gives none = cc
 
@@ -235,37 +235,22 @@ elements-rise : (pairs : PairDataBorrowed) (items : List Item) (end : ℕ) → I
 elements-rise pairs [] end rises = rises
 elements-rise pairs (item ∷ items) end rises = (subst (λ place. item.0 < place) (sym (items-place pairs items end 0)) rises.0, elements-rise pairs items end rises.1)
 
-pub new-rising : (pairs : PairDataBorrowed) (text : Text) (elements : List Element) (after : ℕ)
+pub new-rising : (pairs : PairDataBorrowed) (text : Text) (elements : List ItemElement) (after : ℕ)
     → after ≡ text.end → elements_of pairs text.items ≡ elements → IsRising text.items text.end → IsRising (class_text elements after).items after
 new-rising pairs text elements after same is rises = rw (same, ← is) (elements-rise pairs text.items text.end rises)
 
-pub next-rising : (found : ℕ × Verdict) (now : Option Element) (left : Element) (elements : List Element) (class : ℕ) (next : Option Element) (rest : List Element) (end after : ℕ)
+pub next-rising : (found : ℕ × Verdict) (now : Option ItemElement) (left : ItemElement) (elements : List ItemElement) (class : ℕ) (next : Option ItemElement) (rest : List ItemElement) (end after : ℕ)
     → now ≡ Some left → EndsIn found (left ∷ elements) (BreakOut class next) rest → after ≡ end
     → IsRising (class_text (onto now elements) end).items end → IsRising (class_text (onto next rest) after).items after
 next-rising (gone, BreakAfter n with_class) now left elements class next rest end after here (same, left_is) stays rises =
     let there = rest-is next rest (drop (gone + n) (left ∷ elements)) left_is in
-    rw (stays, there, ← drop-map {Y = Item} (λ (element : Element). (element.place, element.class)) (gone + n) (left ∷ elements))
+    rw (stays, there, ← drop-map {Y = Item} (λ (element : ItemElement). (element.place, element.class)) (gone + n) (left ∷ elements))
     (IsRising-drop (class_text (left ∷ elements) end).items end (gone + n) (rw here at rises))
 next-rising (gone, GoAfter n) now left elements class next rest end after here ends stays rises = absurd ends
 next-rising (gone, RunBegins) now left elements class next rest end after here ends stays rises = absurd ends
 
 -- what is left of the boundaries of elements that rise
-pub engine-left : (t : PairTable) (elements : List Element) (end class : ℕ) (started : Bool) → IsRising (class_text elements end).items end
+pub engine-left : (t : PairTable) (elements : List ItemElement) (end class : ℕ) (started : Bool) → IsRising (class_text elements end).items end
     → AreLeft started (place_at elements end) end (Left started t elements end class).left
 engine-left t elements end class started rises =
     rw (← class-start elements end) (stretches-left (class_stretch t) (class-within t) started (class_text elements end) (status_of t.rule_status_table class) rises)
-
--- an element without its code point says the same of places and classes
-
-abbrev AreAlike : Option Element → Option Element → Type 0
-AreAlike next bare = (elements : List Element) (end : ℕ) → class_text (onto bare elements) end ≡ class_text (onto next elements) end
-
-pub same-rising : (next bare : Option Element) (elements : List Element) (end : ℕ) → AreAlike next bare
-    → IsRising (class_text (onto next elements) end).items end → IsRising (class_text (onto bare elements) end).items end
-same-rising next bare elements end alike rises = subst (λ (text : Text). IsRising text.items end) (sym (alike elements end)) rises
-
-pub same-before : (next bare : Option Element) (t : PairTable) (elements : List Element) (end class : ℕ) → AreAlike next bare
-    → (after : Remainder) (started : Bool) (place : ℕ)
-    → Gives (Left started t (onto bare elements) end class) after place → Gives (Left started t (onto next elements) end class) after place
-same-before next bare t elements end class alike after started place gives =
-    subst (λ (text : Text). Gives (remainder started (class_stretch t) text (status_of t.rule_status_table class)) after place) (alike elements end) gives

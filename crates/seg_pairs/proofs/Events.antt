@@ -2,7 +2,7 @@
 use Rattle.std.proofs.Common.{◌≡◌, ℕ, ◌+◌, ◌<◌, ◌≤◌, Option, Some, None, List, [], ◌∷◌, ◌++◌, length, map, take, drop, refl, sym, ap, ◌∙◌, subst, arith}
 use Rattle.std.specs.Prelude.{IfSome}
 use Rattle.std.specs.Iterator.{YieldsFirst}
-use Rattle.std.proofs.lemmas.List.{drop-drop, length-drop, length-take, drop-map, take-map}
+use Rattle.std.proofs.lemmas.List.{drop-drop, length-drop, length-take, take-map}
 use Rattle.seg_text.specs.declared.boundary.Boundary.{Boundary}
 use Rattle.seg_text.specs.Items.{Item, Text, place_of, start_of, rest_after, text_before, code_points, prefix_length}
 use Rattle.seg_text.specs.Boundaries.{boundary, boundary_in, shift_all, Cuts, AreCutsOf, with_status, cut_places, Stretch, later_boundaries}
@@ -10,20 +10,20 @@ use Rattle.seg_text.proofs.Places.{in-shift, code_points-drop, place-before}
 use Rattle.seg_text.proofs.Stretches.{text-later-next}
 use Rattle.seg_data.specs.Table.{Table}
 use Rattle.seg_pairs.specs.declared.pair_data.PairDataBorrowed.{PairDataBorrowed}
-use Rattle.seg_pairs.specs.declared.elements.Element.{Element}
 use Rattle.seg_pairs.specs.declared.verdicts.Outcome.TheVariants.{Break as BreakOut, Run as RunOut}
 use Rattle.seg_pairs.specs.PairData.{pair_table_of, override_of}
 use Rattle.seg_pairs.specs.PairTable.{PairTable, class_of}
-use Rattle.seg_pairs.specs.Elements.{classes_of, onto, place_at, element_of, elements_of, IsElementAhead}
+use Rattle.seg_pairs.specs.Elements.{ItemElement, classes_of, onto, place_at, elements_of, IsElementAhead}
 use Rattle.seg_pairs.specs.Verdict.{Verdict, complex_verdict, chain, TakesOf, EndsIn}
 use Rattle.seg_pairs.specs.Verdict.Verdict.{BreakAfter, GoAfter, RunBegins}
 use Rattle.seg_pairs.specs.Breaks.{status_of, GoesOnUnread, is_complex, run_length, run_status, stretch_with_runs, complex_stretch, unread_by, unread_boundaries}
 use Rattle.seg_pairs.proofs.Chained.{Chained, chain-map}
 use Rattle.seg_pairs.proofs.ComplexStretches.{point_verdict, point-forward, run-some, complex-going, complex-chained}
+use Rattle.seg_pairs.proofs.ItemElements.{elements-drop, elements-place}
 use Rattle.seg_pairs.proofs.Engine.{read-onto, none-left, new-empty, items-codes, rest-is}
 
 -- the verdict on the first of some elements, of which some may be complex
-abbrev pub element_verdict : PairTable → List Element → Verdict
+abbrev pub element_verdict : PairTable → List ItemElement → Verdict
 element_verdict t elements = complex_verdict t (classes_of elements)
 
 -- from elements to items
@@ -32,16 +32,9 @@ elements-chain : (pairs : PairDataBorrowed) (items : List Item)
     → chain (element_verdict (pair_table_of pairs)) (elements_of pairs items) ≡ chain (point_verdict (pair_table_of pairs) (override_of pairs)) (code_points items)
 elements-chain pairs items =
     let t = pair_table_of pairs in
-    chain-map (λ (element : Element). element.class) (complex_verdict t) (elements_of pairs items)
+    chain-map (λ (element : ItemElement). element.class) (complex_verdict t) (elements_of pairs items)
     ∙ ap (chain (complex_verdict t)) (items-codes pairs items)
     ∙ sym (chain-map (class_of t (override_of pairs)) (complex_verdict t) (code_points items))
-
-elements-drop : (pairs : PairDataBorrowed) (n : ℕ) (items : List Item) → drop n (elements_of pairs items) ≡ elements_of pairs (drop n items)
-elements-drop pairs n items = drop-map (element_of pairs) n items
-
-elements-place : (pairs : PairDataBorrowed) (items : List Item) (end : ℕ) → place_at (elements_of pairs items) end ≡ place_of items end
-elements-place pairs [] end = refl
-elements-place pairs (item ∷ items) end = refl
 
 -- cuts of a beginning of a text stand at the same places in the text
 
@@ -52,7 +45,7 @@ cuts-placed text n status count (cut ∷ cuts) below are =
     rw (place-before text.items text.end n cut (omega (arith, below, are.0)), cuts-placed text n status count cuts below are.1) refl
 
 -- a boundary comes next, so many items on
-pub record HasBreak (pairs : PairDataBorrowed) (text : Text) (class : ℕ) (after : List Element) : Type 0 where
+pub record HasBreak (pairs : PairDataBorrowed) (text : Text) (class : ℕ) (after : List ItemElement) : Type 0 where
   pub taken : ℕ
   pub rest : after ≡ elements_of pairs (drop taken text.items)
   pub fewer : length (drop taken text.items) < length text.items
@@ -151,7 +144,7 @@ module _ (pairs : PairDataBorrowed) (item : Item) (items : List Item) (end : ℕ
             ∙ ap (λ (n : ℕ). unread_boundaries cuts (unread_by pairs (rest_after n whole))) (ap (λ (found : ℕ × Verdict). found.0) (at cuts));
       }
 
-  break-at : (gone n class : ℕ) (after : List Element) → Ends gone (BreakAfter n class) → after ≡ drop (gone + n) (elements_of pairs all) → HasBreak pairs whole class after
+  break-at : (gone n class : ℕ) (after : List ItemElement) → Ends gone (BreakAfter n class) → after ≡ drop (gone + n) (elements_of pairs all) → HasBreak pairs whole class after
   break-at gone n class after ends is =
       let some : 0 < n = (subst (TakesOf (length (ends.first ∷ ends.others))) ends.last_is (point-forward t o ends.first ends.others)).0 in
       let s : Stretch = record { extent = n; boundaries = boundary n (status_of t.rule_status_table class) ∷ [] } in
@@ -177,7 +170,7 @@ module _ (pairs : PairDataBorrowed) (item : Item) (items : List Item) (end : ℕ
         leads = λ cuts are. ends.leads cuts ∙ run-first pairs cuts (drop gone all) end ends.first ends.others ends.points ends.last_is are;
       }
 
-  break-in : (class : ℕ) (next : Option Element) (rest : List Element)
+  break-in : (class : ℕ) (next : Option ItemElement) (rest : List ItemElement)
       → EndsIn (chain (element_verdict t) (elements_of pairs all)) (elements_of pairs all) (BreakOut class next) rest → HasBreak pairs whole class (onto next rest)
   break-in class next rest = on (chain (element_verdict t) (elements_of pairs all)) refl
     where
@@ -188,7 +181,7 @@ module _ (pairs : PairDataBorrowed) (item : Item) (items : List Item) (end : ℕ
       on (gone, GoAfter n) is ends = absurd ends
       on (gone, RunBegins) is ends = absurd ends
 
-  run-in : (first second : Element) (rest : List Element)
+  run-in : (first second : ItemElement) (rest : List ItemElement)
       → EndsIn (chain (element_verdict t) (elements_of pairs all)) (elements_of pairs all) (RunOut first second) rest → HasRun pairs whole first.place
   run-in first second rest = on (chain (element_verdict t) (elements_of pairs all)) refl
     where
@@ -197,56 +190,56 @@ module _ (pairs : PairDataBorrowed) (item : Item) (items : List Item) (end : ℕ
       on (gone, GoAfter n) is ends = absurd ends
       on (gone, RunBegins) is ends =
           run-at gone first.place (chain-ends (gone, RunBegins) is)
-          (ap (λ (elements : List Element). place_at elements end) (sym ends ∙ elements-drop pairs gone all) ∙ elements-place pairs (drop gone all) end)
+          (ap (λ (elements : List ItemElement). place_at elements end) (sym ends ∙ elements-drop pairs gone all) ∙ elements-place pairs (drop gone all) end)
 
 -- the same of what a call has at hand: the first element, the elements after it, and the table
 
-break-whole : (pairs : PairDataBorrowed) (items : List Item) (end : ℕ) (whole : List Element) (class : ℕ) (after : Option Element) (later : List Element)
+break-whole : (pairs : PairDataBorrowed) (items : List Item) (end : ℕ) (whole : List ItemElement) (class : ℕ) (after : Option ItemElement) (later : List ItemElement)
     → whole ≡ elements_of pairs items → 0 < length whole
     → EndsIn (chain (element_verdict (pair_table_of pairs)) whole) whole (BreakOut class after) later
     → HasBreak pairs (record { items = items; end = end }) class (onto after later)
 break-whole pairs [] end whole class after later is some ends = absurd (omega (arith, some, ap length is))
 break-whole pairs (item ∷ items) end whole class after later is some ends =
-    break-in pairs item items end class after later (subst (λ (es : List Element). EndsIn (chain (element_verdict (pair_table_of pairs)) es) es (BreakOut class after) later) is ends)
+    break-in pairs item items end class after later (subst (λ (es : List ItemElement). EndsIn (chain (element_verdict (pair_table_of pairs)) es) es (BreakOut class after) later) is ends)
 
-run-whole : (pairs : PairDataBorrowed) (items : List Item) (end : ℕ) (whole : List Element) (first second : Element) (later : List Element)
+run-whole : (pairs : PairDataBorrowed) (items : List Item) (end : ℕ) (whole : List ItemElement) (first second : ItemElement) (later : List ItemElement)
     → whole ≡ elements_of pairs items → 0 < length whole
     → EndsIn (chain (element_verdict (pair_table_of pairs)) whole) whole (RunOut first second) later
     → HasRun pairs (record { items = items; end = end }) first.place
 run-whole pairs [] end whole first second later is some ends = absurd (omega (arith, some, ap length is))
 run-whole pairs (item ∷ items) end whole first second later is some ends =
-    run-in pairs item items end first second later (subst (λ (es : List Element). EndsIn (chain (element_verdict (pair_table_of pairs)) es) es (RunOut first second) later) is ends)
+    run-in pairs item items end first second later (subst (λ (es : List ItemElement). EndsIn (chain (element_verdict (pair_table_of pairs)) es) es (RunOut first second) later) is ends)
 
-pub break-of : (pairs : PairDataBorrowed) (text : Text) (next : Option Element) (left : Element) (rest : List Element) (t : PairTable) (class : ℕ) (after : Option Element) (later : List Element)
+pub break-of : (pairs : PairDataBorrowed) (text : Text) (next : Option ItemElement) (left : ItemElement) (rest : List ItemElement) (t : PairTable) (class : ℕ) (after : Option ItemElement) (later : List ItemElement)
     → t ≡ pair_table_of pairs → next ≡ Some left → onto next rest ≡ elements_of pairs text.items
     → EndsIn (chain (element_verdict t) (left ∷ rest)) (left ∷ rest) (BreakOut class after) later
     → HasBreak pairs text class (onto after later)
 break-of pairs text next left rest t class after later same here is ends =
-    break-whole pairs text.items text.end (left ∷ rest) class after later (ap (λ (n : Option Element). onto n rest) (sym here) ∙ is) (omega arith)
+    break-whole pairs text.items text.end (left ∷ rest) class after later (ap (λ (n : Option ItemElement). onto n rest) (sym here) ∙ is) (omega arith)
     (subst (λ (t : PairTable). EndsIn (chain (element_verdict t) (left ∷ rest)) (left ∷ rest) (BreakOut class after) later) same ends)
 
-pub run-of : (pairs : PairDataBorrowed) (text : Text) (next : Option Element) (left : Element) (rest : List Element) (t : PairTable) (first second : Element) (later : List Element)
+pub run-of : (pairs : PairDataBorrowed) (text : Text) (next : Option ItemElement) (left : ItemElement) (rest : List ItemElement) (t : PairTable) (first second : ItemElement) (later : List ItemElement)
     → t ≡ pair_table_of pairs → next ≡ Some left → onto next rest ≡ elements_of pairs text.items
     → EndsIn (chain (element_verdict t) (left ∷ rest)) (left ∷ rest) (RunOut first second) later
     → HasRun pairs text first.place
 run-of pairs text next left rest t first second later same here is ends =
-    run-whole pairs text.items text.end (left ∷ rest) first second later (ap (λ (n : Option Element). onto n rest) (sym here) ∙ is) (omega arith)
+    run-whole pairs text.items text.end (left ∷ rest) first second later (ap (λ (n : Option ItemElement). onto n rest) (sym here) ∙ is) (omega arith)
     (subst (λ (t : PairTable). EndsIn (chain (element_verdict t) (left ∷ rest)) (left ∷ rest) (RunOut first second) later) same ends)
 
-pub place-after : (pairs : PairDataBorrowed) (text : Text) (n place end : ℕ) (after : List Element) → place ≡ place_at after end → after ≡ elements_of pairs (drop n text.items) → end ≡ text.end
+pub place-after : (pairs : PairDataBorrowed) (text : Text) (n place end : ℕ) (after : List ItemElement) → place ≡ place_at after end → after ≡ elements_of pairs (drop n text.items) → end ≡ text.end
     → place ≡ start_of (rest_after n text)
 place-after pairs text n place end after is same stays = is ∙ rw (same, stays) (elements-place pairs (drop n text.items) text.end)
 
-pub nothing-left : (pairs : PairDataBorrowed) (items : List Item) (next : Option Element) (rest : List Element) → next ≡ None → rest ≡ [] → onto next rest ≡ elements_of pairs items → items ≡ []
-nothing-left pairs items next rest none empty is = none-left pairs items (sym is ∙ ap (λ (n : Option Element). onto n rest) none ∙ empty)
+pub nothing-left : (pairs : PairDataBorrowed) (items : List Item) (next : Option ItemElement) (rest : List ItemElement) → next ≡ None → rest ≡ [] → onto next rest ≡ elements_of pairs items → items ≡ []
+nothing-left pairs items next rest none empty is = none-left pairs items (sym is ∙ ap (λ (n : Option ItemElement). onto n rest) none ∙ empty)
 
 -- the first element of a text is read
-pub ahead-read : (pairs : PairDataBorrowed) (from text : Text) (next : Option Element) (rest_pairs : PairDataBorrowed) (rest : Text) → from ≡ text
-    → YieldsFirst (λ (elements : List Element). elements) (elements_of pairs from.items) next (elements_of rest_pairs rest.items)
+pub ahead-read : (pairs : PairDataBorrowed) (from text : Text) (next : Option ItemElement) (rest_pairs : PairDataBorrowed) (rest : Text) → from ≡ text
+    → YieldsFirst (λ (elements : List ItemElement). elements) (elements_of pairs from.items) next (elements_of rest_pairs rest.items)
     → rest.end ≡ from.end → pair_table_of rest_pairs ≡ pair_table_of pairs → IfSome next (λ next. next.class < (pair_table_of pairs).property_count)
     → IsElementAhead pairs text next rest_pairs rest
 ahead-read pairs from text next rest_pairs rest same gives end table below = record {
-  same = sym (read-onto (λ (elements : List Element). elements) (elements_of pairs from.items) next (elements_of rest_pairs rest.items) gives) ∙ ap (λ (text : Text). elements_of pairs text.items) same;
+  same = sym (read-onto (λ (elements : List ItemElement). elements) (elements_of pairs from.items) next (elements_of rest_pairs rest.items) gives) ∙ ap (λ (text : Text). elements_of pairs text.items) same;
   same_end = end ∙ ap (λ (text : Text). text.end) same;
   same_table = table;
   empty = new-empty (elements_of pairs from.items) next rest_pairs rest.items gives;
@@ -258,7 +251,7 @@ pub goes-on : (pairs : PairDataBorrowed) (text after : Text) (n : ℕ) → after
     → GoesOnUnread (unread_by pairs text) (unread_by pairs after)
 goes-on pairs text after n is fewer = rw is (record { table = refl; overriding = refl; end = refl; fewer = λ some. fewer })
 
-pub break-leads : (pairs : PairDataBorrowed) (text after : Text) (class place : ℕ) (elements : List Element) (b : HasBreak pairs text class elements)
+pub break-leads : (pairs : PairDataBorrowed) (text after : Text) (class place : ℕ) (elements : List ItemElement) (b : HasBreak pairs text class elements)
     → place ≡ start_of (rest_after b.taken text) → after ≡ rest_after b.taken text → (cuts : Cuts)
     → unread_boundaries cuts (unread_by pairs text)
     ≡ boundary place (status_of (pair_table_of pairs).rule_status_table class) ∷ unread_boundaries cuts (unread_by pairs after)

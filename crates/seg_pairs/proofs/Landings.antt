@@ -1,7 +1,7 @@
 -- What a walk's stop says.
-use Rattle.std.proofs.Common.{◌≡◌, ◌≢◌, ℕ, ◌<◌, ◌==◌, Bool, true, cond, Option, Some, None, List, [], ◌∷◌, length, drop, refl, sym, ap, ◌∙◌, subst, arith, eq-eqb}
+use Rattle.std.proofs.Common.{◌≡◌, ◌≢◌, ℕ, suc, ◌<◌, ◌==◌, Bool, true, cond, Option, Some, None, List, [], ◌∷◌, length, drop, refl, sym, ap, ◌∙◌, subst, arith, eq-eqb}
 use Rattle.std.proofs.lemmas.Bool.{ne_eqb}
-use Rattle.std.proofs.lemmas.List.{drop-map, drop-drop, length-drop}
+use Rattle.std.proofs.lemmas.List.{drop-map, drop-drop, drop_all, length-drop}
 use Rattle.seg_pairs.specs.declared.provider.pairs.BreakState.{BreakState}
 use Rattle.seg_pairs.specs.declared.provider.pairs.BreakState.TheVariants.{Break as BreakEntry, Keep, NoMatch, Intermediate, Index}
 use Rattle.seg_pairs.specs.PairTable.{PairTable, entry_of, named_state}
@@ -17,8 +17,8 @@ use Rattle.seg_pairs.proofs.Chains.{IsOnChain, chain-break, chain-run}
 use Rattle.seg_pairs.specs.Verdict.Verdict.{BreakAfter, GoAfter, RunBegins}
 use Rattle.seg_pairs.proofs.Walks.{drop-next}
 
-module _ (t : PairTable) (start : ℕ) (left right : Element) (after : List Element) (state : ℕ) (entry : BreakState)
-    (before : Element) (next : Option Element) (rest : List Element) (saved_before saved : Element) (saved_rest : List Element) (class : ℕ)
+module _ {D : Type 0} (t : PairTable) (start : ℕ) (left right : Element D) (after : List (Element D)) (state : ℕ) (entry : BreakState)
+    (before : Element D) (next : Option (Element D)) (rest : List (Element D)) (saved_before saved : Element D) (saved_rest : List (Element D)) (class : ℕ)
     (stop : IsStop t start (left ∷ right ∷ after) state entry before next rest saved_before saved saved_rest class) where
   abbrev pub w : Walk
   w = walk_of t start (left ∷ right ∷ after)
@@ -29,11 +29,11 @@ module _ (t : PairTable) (start : ℕ) (left right : Element) (after : List Elem
   pub saved-at : drop w.saved (left ∷ right ∷ after) ≡ saved ∷ saved_rest
   saved-at = ap (λ n. drop n (left ∷ right ∷ after)) stop.saves ∙ sym (drop-next (left ∷ right ∷ after) (saved ∷ saved_rest) saved_before stop.saved_passed stop.saved_after)
 
-  verdict-next : (element : Element) → next ≡ Some element → named_verdict t start left.class (classes_of (left ∷ right ∷ after)) ≡ stop_verdict w entry
+  verdict-next : (element : Element D) → next ≡ Some element → named_verdict t start left.class (classes_of (left ∷ right ∷ after)) ≡ stop_verdict w entry
   unfolding named_verdict
   verdict-next element is =
       let there : drop w.stop (classes_of (left ∷ right ∷ after)) ≡ element.class ∷ classes_of rest =
-      drop-map (λ (e : Element). e.class) w.stop (left ∷ right ∷ after)
+      drop-map (λ (e : Element D). e.class) w.stop (left ∷ right ∷ after)
       ∙ ap classes_of (rest-at ∙ ap (λ n. onto n rest) is) in
       ap (walk_verdict t w) there
       ∙ ap (λ q. stop_verdict w (entry_of t q element.class)) stop.in_state
@@ -43,24 +43,24 @@ module _ (t : PairTable) (start : ℕ) (left right : Element) (after : List Elem
   unfolding named_verdict
   verdict-end is =
       let there : drop w.stop (classes_of (left ∷ right ∷ after)) ≡ [] =
-      drop-map (λ (e : Element). e.class) w.stop (left ∷ right ∷ after)
+      drop-map (λ (e : Element D). e.class) w.stop (left ∷ right ∷ after)
       ∙ ap classes_of (rest-at ∙ ap (λ n. onto n rest) is ∙ stop.at_end is) in
       ap (walk_verdict t w) there
       ∙ ap (λ q. end_verdict w (entry_of t q t.eot_property)) stop.in_state
       ∙ ap (end_verdict w) (sym (stop.at_entry ∙ ap (λ n. entry_of t state (class_at t n)) is))
 
-  abbrev LandsOn : Step → List Element → Type 0
+  abbrev LandsOn : Step D → List (Element D) → Type 0
   LandsOn step left_over = Lands (named_verdict t start left.class (classes_of (left ∷ right ∷ after))) (left ∷ right ∷ after) step left_over
 
-  lands-by : (v : Verdict) (step : Step) (left_over : List Element) → named_verdict t start left.class (classes_of (left ∷ right ∷ after)) ≡ v
+  lands-by : (v : Verdict) (step : Step D) (left_over : List (Element D)) → named_verdict t start left.class (classes_of (left ∷ right ∷ after)) ≡ v
       → Lands v (left ∷ right ∷ after) step left_over → LandsOn step left_over
   lands-by v step left_over is lands = subst (λ v. Lands v (left ∷ right ∷ after) step left_over) (sym is) lands
 
-  pub lands-go : (element : Element) → next ≡ Some element → entry ≡ Keep → LandsOn (Go element) rest
+  pub lands-go : (element : Element D) → next ≡ Some element → entry ≡ Keep → LandsOn (Go element) rest
   lands-go element is keep =
       lands-by (GoAfter w.stop) (Go element) rest (verdict-next element is ∙ ap (stop_verdict w) keep) (rest-at ∙ ap (λ n. onto n rest) is)
 
-  pub lands-break : (element : Element) → next ≡ Some element → entry ≡ BreakEntry → LandsOn (Break element state) rest
+  pub lands-break : (element : Element D) → next ≡ Some element → entry ≡ BreakEntry → LandsOn (Break element state) rest
   lands-break element is break =
       lands-by (BreakAfter w.stop w.state) (Break element state) rest (verdict-next element is ∙ ap (stop_verdict w) break)
       (sym stop.in_state, rest-at ∙ ap (λ n. onto n rest) is)
@@ -72,7 +72,7 @@ module _ (t : PairTable) (start : ℕ) (left right : Element) (after : List Elem
   back-stop (Index q) keep break = refl
   back-stop (Intermediate q) keep break = refl
 
-  pub lands-back : (element : Element) → next ≡ Some element → (entry ≡ Keep → ⊥) → (entry ≡ BreakEntry → ⊥) → LandsOn (Break saved class) saved_rest
+  pub lands-back : (element : Element D) → next ≡ Some element → (entry ≡ Keep → ⊥) → (entry ≡ BreakEntry → ⊥) → LandsOn (Break saved class) saved_rest
   lands-back element is keep break =
       lands-by (BreakAfter w.saved w.class) (Break saved class) saved_rest (verdict-next element is ∙ back-stop entry keep break) (sym stop.saved_class, saved-at)
 
@@ -94,7 +94,7 @@ module _ (t : PairTable) (start : ℕ) (left right : Element) (after : List Elem
 
 -- the step where the first entry names a state, or says what there is
 
-pub lands-first : (t : PairTable) (left right : Element) (after : List Element) (entry : BreakState) (step : Step) (rest : List Element)
+pub lands-first : {D : Type 0} (t : PairTable) (left right : Element D) (after : List (Element D)) (entry : BreakState) (step : Step D) (rest : List (Element D))
     → entry ≡ entry_of t left.class right.class
     → Lands (first_verdict t left.class (classes_of (left ∷ right ∷ after)) entry) (left ∷ right ∷ after) step rest
     → Lands (verdict t (classes_of (left ∷ right ∷ after))) (left ∷ right ∷ after) step rest
@@ -103,7 +103,7 @@ lands-first t left right after entry step rest is lands =
     subst (λ e. Lands (first_verdict t left.class (classes_of (left ∷ right ∷ after)) e) (left ∷ right ∷ after) step rest) is lands
 
 -- where the entry names a state, the verdict is that of the walk from there
-pub walk-named : (t : PairTable) (left right : Element) (after : List Element) (entry : BreakState) (state : ℕ)
+pub walk-named : {D : Type 0} (t : PairTable) (left right : Element D) (after : List (Element D)) (entry : BreakState) (state : ℕ)
     → entry ≡ entry_of t left.class right.class → named_state entry ≡ Some state
     → verdict t (classes_of (left ∷ right ∷ after)) ≡ named_verdict t state left.class (classes_of (left ∷ right ∷ after))
 unfolding verdict
@@ -119,7 +119,7 @@ walk-named t left right after entry state is names =
     by_walk (Intermediate q) names = cc
 
 -- where it names none, and isn't `Keep`, a boundary stands between the two
-pub lands-between : (t : PairTable) (left right : Element) (after : List Element) (entry : BreakState)
+pub lands-between : {D : Type 0} (t : PairTable) (left right : Element D) (after : List (Element D)) (entry : BreakState)
     → entry ≡ entry_of t left.class right.class → named_state entry ≡ None → (entry ≡ Keep → ⊥)
     → Lands (verdict t (classes_of (left ∷ right ∷ after))) (left ∷ right ∷ after) (Break right left.class) after
 lands-between t left right after BreakEntry is none other = lands-first t left right after BreakEntry _ after is (refl, refl)
@@ -129,23 +129,23 @@ lands-between t left right after (Index q) is none other = cc
 lands-between t left right after (Intermediate q) is none other = cc
 
 -- the step from the last element
-pub lands-last : (t : PairTable) (left : Element) (after rest : List Element) → after ≡ [] → rest ≡ []
+pub lands-last : {D : Type 0} (t : PairTable) (left : Element D) (after rest : List (Element D)) → after ≡ [] → rest ≡ []
     → Lands (verdict t (classes_of (left ∷ after))) (left ∷ after) (End left.class) rest
 unfolding verdict
 lands-last t left after rest is none = rw is (refl, refl, none)
 
 -- the steps where elements may be complex
 
-pub complex-last : (t : PairTable) (left : Element) (after rest : List Element) → after ≡ [] → rest ≡ []
+pub complex-last : {D : Type 0} (t : PairTable) (left : Element D) (after rest : List (Element D)) → after ≡ [] → rest ≡ []
     → Lands (complex_verdict t (classes_of (left ∷ after))) (left ∷ after) (End left.class) rest
 unfolding complex_verdict
 complex-last t left after rest is none = rw is (refl, refl, none)
 
-abbrev by-complex : PairTable → Element → Element → List Element → Bool → Bool → Verdict
+abbrev by-complex : {D : Type 0} → PairTable → Element D → Element D → List (Element D) → Bool → Bool → Verdict
 by-complex t left right more second first =
     cond second (cond first RunBegins (BreakAfter 1 left.class)) (verdict t (classes_of (left ∷ right ∷ more)))
 
-pub complex-pair : (walk : List Element → ℕ → Verdict) (t : PairTable) (left right : Element) (after more : List Element) (step : Step) (rest : List Element)
+pub complex-pair : {D : Type 0} (walk : List (Element D) → ℕ → Verdict) (t : PairTable) (left right : Element D) (after more : List (Element D)) (step : Step D) (rest : List (Element D))
     → after ≡ right ∷ more → right.class ≢ t.complex_property
     → LandsOrWalks (walk (left ∷ right ∷ more)) (verdict t (classes_of (left ∷ right ∷ more))) (left ∷ right ∷ more) step rest
     → LandsOrWalks (walk (left ∷ after)) (complex_verdict t (classes_of (left ∷ after))) (left ∷ after) step rest
@@ -155,7 +155,7 @@ complex-pair walk t left right after more step rest is other lands =
     (subst (λ b. LandsOrWalks (walk (left ∷ right ∷ more)) (by-complex t left right more b (left.class == t.complex_property)) (left ∷ right ∷ more) step rest)
     (sym (ne_eqb right.class t.complex_property other)) lands)
 
-pub complex-break : (t : PairTable) (left right : Element) (after more : List Element)
+pub complex-break : {D : Type 0} (t : PairTable) (left right : Element D) (after more : List (Element D))
     → after ≡ right ∷ more → right.class ≡ t.complex_property → left.class ≢ t.complex_property
     → Lands (complex_verdict t (classes_of (left ∷ after))) (left ∷ after) (Break right left.class) more
 unfolding complex_verdict
@@ -164,7 +164,7 @@ complex-break t left right after more is complex other =
     (subst (λ b. Lands (by-complex t left right more b (left.class == t.complex_property)) (left ∷ right ∷ more) (Break right left.class) more) (sym (eq-eqb right.class t.complex_property complex))
     (subst (λ b. Lands (by-complex t left right more true b) (left ∷ right ∷ more) (Break right left.class) more) (sym (ne_eqb left.class t.complex_property other)) (refl, refl)))
 
-pub complex-run : (t : PairTable) (left right : Element) (after more : List Element)
+pub complex-run : {D : Type 0} (t : PairTable) (left right : Element D) (after more : List (Element D))
     → after ≡ right ∷ more → right.class ≡ t.complex_property → left.class ≡ t.complex_property
     → Lands (complex_verdict t (classes_of (left ∷ after))) (left ∷ after) (Run right) more
 unfolding complex_verdict
@@ -175,17 +175,17 @@ complex-run t left right after more is complex same =
 
 -- the step of a walk that decides a verdict
 
-pub walk-lands : (walk : List Element → ℕ → Verdict) (verdict : Verdict) (left right : Element) (after more : List Element) (state : ℕ) (step : Step) (rest : List Element)
+pub walk-lands : {D : Type 0} (walk : List (Element D) → ℕ → Verdict) (verdict : Verdict) (left right : Element D) (after more : List (Element D)) (state : ℕ) (step : Step D) (rest : List (Element D))
     → LandsOrWalks (walk (left ∷ after)) verdict (left ∷ after) (WalkOn right state) more
     → Lands (walk (left ∷ right ∷ more) state) (left ∷ right ∷ more) step rest → Lands verdict (left ∷ after) step rest
-walk-lands walk verdict left right after more state step rest (is, here) lands =
+walk-lands {D} walk verdict left right after more state step rest (is, here) lands =
     subst (λ v. Lands v (left ∷ after) step rest) (sym is)
-    (subst (λ (elements : List Element). Lands (walk (left ∷ elements) state) (left ∷ elements) step rest) (sym here) lands)
+    (subst (λ (elements : List (Element D)). Lands (walk (left ∷ elements) state) (left ∷ elements) step rest) (sym here) lands)
 
 -- the step where a chain of verdicts ends
 
-module _ (v : List Element → Verdict) (whole : List Element) (x : Element) (xs : List Element) (forward : IsForward v) (on : IsOnChain v whole x xs) where
-  ends-at : (outcome : Outcome) (rest : List Element) (w : Verdict) → chain v (x ∷ xs) ≡ (0, w)
+module _ {D : Type 0} (v : List (Element D) → Verdict) (whole : List (Element D)) (x : Element D) (xs : List (Element D)) (forward : IsForward v) (on : IsOnChain v whole x xs) where
+  ends-at : (outcome : Outcome D) (rest : List (Element D)) (w : Verdict) → chain v (x ∷ xs) ≡ (0, w)
       → EndsIn (on.gone, w) whole outcome rest → EndsIn (chain v whole) whole outcome rest
   ends-at outcome rest w end ends =
       let passed : (chain v whole).0 ≡ on.gone = omega (arith, on.passed, ap (λ (f : ℕ × Verdict). f.0) end) in
@@ -193,13 +193,13 @@ module _ (v : List Element → Verdict) (whole : List Element) (x : Element) (xs
       let whole_is : (on.gone, w) ≡ chain v whole = ap (λ (n : ℕ). (n, w)) (sym passed) ∙ ap (λ (u : Verdict). ((chain v whole).0, u)) (sym last) in
       subst (λ (f : ℕ × Verdict). EndsIn f whole outcome rest) whole_is ends
 
-  ends-boundary : (class : ℕ) (next : Option Element) (rest : List Element) (n with_class : ℕ) → v (x ∷ xs) ≡ BreakAfter n with_class
+  ends-boundary : (class : ℕ) (next : Option (Element D)) (rest : List (Element D)) (n with_class : ℕ) → v (x ∷ xs) ≡ BreakAfter n with_class
       → class ≡ with_class → IsRest next rest (drop n (x ∷ xs)) → EndsIn (chain v whole) whole (BreakOut class next) rest
   ends-boundary class next rest n with_class is same left =
       ends-at (BreakOut class next) rest (BreakAfter n with_class) (chain-break v forward x xs n with_class is)
       (same, subst (λ elements. IsRest next rest elements) (ap (drop n) on.here ∙ drop-drop n on.gone whole) left)
 
-  pub ends-break : (class : ℕ) (next : Element) (rest : List Element) → Lands (v (x ∷ xs)) (x ∷ xs) (Break next class) rest
+  pub ends-break : (class : ℕ) (next : Element D) (rest : List (Element D)) → Lands (v (x ∷ xs)) (x ∷ xs) (Break next class) rest
       → EndsIn (chain v whole) whole (BreakOut class (Some next)) rest
   ends-break class next rest lands = by (v (x ∷ xs)) refl lands
     where
@@ -208,7 +208,7 @@ module _ (v : List Element → Verdict) (whole : List Element) (x : Element) (xs
       by (GoAfter n) is lands = absurd lands
       by RunBegins is lands = absurd lands
 
-  pub ends-end : (class : ℕ) (rest : List Element) → Lands (v (x ∷ xs)) (x ∷ xs) (End class) rest
+  pub ends-end : (class : ℕ) (rest : List (Element D)) → Lands (v (x ∷ xs)) (x ∷ xs) (End class) rest
       → EndsIn (chain v whole) whole (BreakOut class None) rest
   ends-end class rest lands = by (v (x ∷ xs)) refl lands
     where
@@ -217,7 +217,7 @@ module _ (v : List Element → Verdict) (whole : List Element) (x : Element) (xs
       by (GoAfter n) is lands = absurd lands
       by RunBegins is lands = absurd lands
 
-  pub ends-run : (second : Element) (rest : List Element) → Lands (v (x ∷ xs)) (x ∷ xs) (Run second) rest
+  pub ends-run : (second : Element D) (rest : List (Element D)) → Lands (v (x ∷ xs)) (x ∷ xs) (Run second) rest
       → EndsIn (chain v whole) whole (RunOut x second) rest
   ends-run second rest lands = by (v (x ∷ xs)) refl lands
     where
@@ -226,16 +226,16 @@ module _ (v : List Element → Verdict) (whole : List Element) (x : Element) (xs
       by (GoAfter n) is lands = absurd lands
       by RunBegins is lands =
           ends-at (RunOut x second) rest RunBegins (chain-run v forward x xs is)
-          (sym on.here ∙ ap (λ (elements : List Element). x ∷ elements) lands)
+          (sym on.here ∙ ap (λ (elements : List (Element D)). x ∷ elements) lands)
 
 -- a step to go on, by the verdict that says so
-pub record Goes (v : List Element → Verdict) (x : Element) (xs : List Element) (next : Element) (rest : List Element) : Type 0 where
+pub record Goes {D : Type 0} (v : List (Element D) → Verdict) (x : Element D) (xs : List (Element D)) (next : Element D) (rest : List (Element D)) : Type 0 where
   pub taken : ℕ
   pub goes : v (x ∷ xs) ≡ GoAfter taken
   pub here : drop taken (x ∷ xs) ≡ next ∷ rest
   pub fewer : length rest < length xs
 
-pub goes-from : (v : List Element → Verdict) (x : Element) (xs : List Element) (next : Element) (rest : List Element) → IsForward v
+pub goes-from : {D : Type 0} (v : List (Element D) → Verdict) (x : Element D) (xs : List (Element D)) (next : Element D) (rest : List (Element D)) → IsForward v
     → Lands (v (x ∷ xs)) (x ∷ xs) (Go next) rest → Goes v x xs next rest
 goes-from v x xs next rest forward lands = by (v (x ∷ xs)) refl (forward x xs) lands
   where
@@ -248,3 +248,28 @@ goes-from v x xs next rest forward lands = by (v (x ∷ xs)) refl (forward x xs)
       here = lands;
       fewer = let long = length-drop n (x ∷ xs) in let some = ap length lands in omega (arith, long, some, takes.0);
     }
+
+-- where a walk stops, and the place that it saved, are further on in the same elements
+
+later-two : {D : Type 0} (left right first second : Element D) (after rest : List (Element D)) (passed : ℕ) → first ∷ second ∷ rest ≡ drop passed (left ∷ right ∷ after)
+    → rest ≡ drop passed after
+later-two left right first second after rest passed here =
+    let whole = left ∷ right ∷ after in
+    drop-next whole rest second (suc passed) (drop-next whole (second ∷ rest) first passed here)
+
+later-rest : {D : Type 0} (left right before : Element D) (next : Option (Element D)) (after rest : List (Element D)) (passed : ℕ)
+    → before ∷ onto next rest ≡ drop passed (left ∷ right ∷ after) → (next ≡ None → rest ≡ []) → (k : ℕ) × (rest ≡ drop k after)
+later-rest left right before None after rest passed here none = (length after, none refl ∙ sym (drop_all (length after) after (omega arith)))
+later-rest left right before (Some next) after rest passed here none = (passed, later-two left right before next after rest passed here)
+
+pub later-stop : {D : Type 0} (t : PairTable) (start : ℕ) (left right : Element D) (after : List (Element D)) (state : ℕ) (entry : BreakState)
+    (before : Element D) (next : Option (Element D)) (rest : List (Element D)) (saved_before saved : Element D) (saved_rest : List (Element D)) (class : ℕ)
+    → IsStop t start (left ∷ right ∷ after) state entry before next rest saved_before saved saved_rest class → (k : ℕ) × (rest ≡ drop k after)
+later-stop t start left right after state entry before next rest saved_before saved saved_rest class stop =
+    later-rest left right before next after rest stop.passed stop.left_after stop.at_end
+
+pub later-saved : {D : Type 0} (t : PairTable) (start : ℕ) (left right : Element D) (after : List (Element D)) (state : ℕ) (entry : BreakState)
+    (before : Element D) (next : Option (Element D)) (rest : List (Element D)) (saved_before saved : Element D) (saved_rest : List (Element D)) (class : ℕ)
+    → IsStop t start (left ∷ right ∷ after) state entry before next rest saved_before saved saved_rest class → (k : ℕ) × (saved_rest ≡ drop k after)
+later-saved t start left right after state entry before next rest saved_before saved saved_rest class stop =
+    (stop.saved_passed, later-two left right saved_before saved after saved_rest stop.saved_passed stop.saved_after)

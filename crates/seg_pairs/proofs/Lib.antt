@@ -2,6 +2,7 @@ pub mod Pairs
 pub mod Walks
 pub mod Landings
 pub mod Forward
+mod ItemElements
 pub mod Chains
 pub mod Chained
 pub mod ComplexStretches

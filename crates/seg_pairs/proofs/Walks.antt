@@ -70,9 +70,9 @@ unfolding walk namings
 walk-end t state number saved class = let here : number + 0 ≡ number = omega arith in rw here refl
 
 -- a walk over elements, on its way: what is left of it is what is left of the whole
-pub record IsMidway
-    (t : PairTable) (start : ℕ) (whole : List Element) (state : ℕ) (before : Element) (left : List Element)
-    (saved_before saved : Element) (saved_left : List Element) (class : ℕ) : Type 0 where
+pub record IsMidway {D : Type 0}
+    (t : PairTable) (start : ℕ) (whole : List (Element D)) (state : ℕ) (before : Element D) (left : List (Element D))
+    (saved_before saved : Element D) (saved_left : List (Element D)) (class : ℕ) : Type 0 where
   pub below : state < t.property_count
   pub passed : ℕ
   pub left_after : before ∷ left ≡ drop passed whole
@@ -81,15 +81,15 @@ pub record IsMidway
   pub same : walk t state (suc passed) (suc saved_passed) class (classes_of left) ≡ walk_of t start whole
 
 -- the elements after the first of these
-pub drop-next : (whole left : List Element) (before : Element) (passed : ℕ) → before ∷ left ≡ drop passed whole → left ≡ drop (suc passed) whole
+pub drop-next : {D : Type 0} (whole left : List (Element D)) (before : Element D) (passed : ℕ) → before ∷ left ≡ drop passed whole → left ≡ drop (suc passed) whole
 drop-next whole left before passed here =
     let more : passed + 1 ≡ suc passed = omega arith in
     rw (← more) (ap (drop 1) here ∙ drop-drop 1 passed whole)
 
 -- one entry more of the walk, by what it saves
-module _ (t : PairTable) (start : ℕ) (whole : List Element) (state : ℕ) (before : Element) (left : List Element)
-    (saved_before saved : Element) (saved_left : List Element) (class : ℕ)
-    (next : Element) (after : List Element) (entry : BreakState) (to next_class : ℕ) (leaves : Bool) where
+module _ {D : Type 0} (t : PairTable) (start : ℕ) (whole : List (Element D)) (state : ℕ) (before : Element D) (left : List (Element D))
+    (saved_before saved : Element D) (saved_left : List (Element D)) (class : ℕ)
+    (next : Element D) (after : List (Element D)) (entry : BreakState) (to next_class : ℕ) (leaves : Bool) where
   walk-on : (passed saved_passed : ℕ) (b : Bool)
       → walk t state (suc passed) (suc saved_passed) class (classes_of left) ≡ walk_of t start whole
       → left ≡ next ∷ after → entry ≡ entry_of t state next.class → named_state entry ≡ Some to
@@ -98,7 +98,7 @@ module _ (t : PairTable) (start : ℕ) (whole : List Element) (state : ℕ) (bef
   walk-on passed saved_passed b same is is_entry named is_leaves saves is_class =
       rw (is_class, ← saves, is_leaves, is_entry)
       (sym (walk-named t state (suc passed) (suc saved_passed) class next.class to (classes_of after) (sym (ap named_state is_entry) ∙ named))
-      ∙ ap (λ (elements : List Element). walk t state (suc passed) (suc saved_passed) class (classes_of elements)) (sym is) ∙ same)
+      ∙ ap (λ (elements : List (Element D)). walk t state (suc passed) (suc saved_passed) class (classes_of elements)) (sym is) ∙ same)
 
   pub midway-saved : IsMidway t start whole state before left saved_before saved saved_left class
       → left ≡ next ∷ after → entry ≡ entry_of t state next.class → named_state entry ≡ Some to → to < t.property_count
@@ -109,7 +109,7 @@ module _ (t : PairTable) (start : ℕ) (whole : List Element) (state : ℕ) (bef
     passed = suc midway.passed;
     left_after = sym is ∙ drop-next whole left before midway.passed midway.left_after;
     saved_passed = midway.passed;
-    saved_after = ap (λ (elements : List Element). before ∷ elements) (sym is) ∙ midway.left_after;
+    saved_after = ap (λ (elements : List (Element D)). before ∷ elements) (sym is) ∙ midway.left_after;
     same = walk-on midway.passed midway.saved_passed true midway.same is is_entry named is_leaves saves is_class;
   }
 
@@ -127,18 +127,18 @@ module _ (t : PairTable) (start : ℕ) (whole : List Element) (state : ℕ) (bef
   }
 
 -- where the walk stops
-module _ (t : PairTable) (start : ℕ) (whole : List Element) (state : ℕ) (before : Element) (left : List Element)
-    (saved_before saved : Element) (saved_left : List Element) (class : ℕ) (entry : BreakState)
+module _ {D : Type 0} (t : PairTable) (start : ℕ) (whole : List (Element D)) (state : ℕ) (before : Element D) (left : List (Element D))
+    (saved_before saved : Element D) (saved_left : List (Element D)) (class : ℕ) (entry : BreakState)
     (midway : IsMidway t start whole state before left saved_before saved saved_left class) where
-  pub stop-at : (next : Element) (after : List Element) → left ≡ next ∷ after → entry ≡ entry_of t state next.class → named_state entry ≡ None
+  pub stop-at : (next : Element D) (after : List (Element D)) → left ≡ next ∷ after → entry ≡ entry_of t state next.class → named_state entry ≡ None
       → IsStop t start whole state entry before (Some next) after saved_before saved saved_left class
   stop-at next after is is_entry none =
-      let stops = ap (λ (elements : List Element). walk t state (suc midway.passed) (suc midway.saved_passed) class (classes_of elements)) (sym is) ∙ midway.same in
+      let stops = ap (λ (elements : List (Element D)). walk t state (suc midway.passed) (suc midway.saved_passed) class (classes_of elements)) (sym is) ∙ midway.same in
       let same = sym (sym (walk-stop t state (suc midway.passed) (suc midway.saved_passed) class next.class (classes_of after) (sym (ap named_state is_entry) ∙ none)) ∙ stops) in
       record {
         passed = midway.passed;
         stops = ap (λ (w : Walk). w.stop) same;
-        left_after = ap (λ (elements : List Element). before ∷ elements) (sym is) ∙ midway.left_after;
+        left_after = ap (λ (elements : List (Element D)). before ∷ elements) (sym is) ∙ midway.left_after;
         in_state = ap (λ (w : Walk). w.state) same;
         at_entry = is_entry;
         names_none = λ element here. none;
@@ -149,15 +149,15 @@ module _ (t : PairTable) (start : ℕ) (whole : List Element) (state : ℕ) (bef
         saved_class = ap (λ (w : Walk). w.class) same;
       }
 
-  pub stop-end : (after : List Element) → left ≡ [] → after ≡ [] → entry ≡ entry_of t state t.eot_property
+  pub stop-end : (after : List (Element D)) → left ≡ [] → after ≡ [] → entry ≡ entry_of t state t.eot_property
       → IsStop t start whole state entry before None after saved_before saved saved_left class
   stop-end after is none is_entry =
-      let stops = ap (λ (elements : List Element). walk t state (suc midway.passed) (suc midway.saved_passed) class (classes_of elements)) (sym is) ∙ midway.same in
+      let stops = ap (λ (elements : List (Element D)). walk t state (suc midway.passed) (suc midway.saved_passed) class (classes_of elements)) (sym is) ∙ midway.same in
       let same = sym (sym (walk-end t state (suc midway.passed) (suc midway.saved_passed) class) ∙ stops) in
       record {
         passed = midway.passed;
         stops = ap (λ (w : Walk). w.stop) same;
-        left_after = ap (λ (elements : List Element). before ∷ elements) (none ∙ sym is) ∙ midway.left_after;
+        left_after = ap (λ (elements : List (Element D)). before ∷ elements) (none ∙ sym is) ∙ midway.left_after;
         in_state = ap (λ (w : Walk). w.state) same;
         at_entry = is_entry;
         names_none = λ element here. cc;
@@ -168,7 +168,7 @@ module _ (t : PairTable) (start : ℕ) (whole : List Element) (state : ℕ) (bef
         saved_class = ap (λ (w : Walk). w.class) same;
       }
 
-  pub stop-from : (next : Option Element) (after : List Element) → YieldsFirst (λ (elements : List Element). elements) left next after
+  pub stop-from : (next : Option (Element D)) (after : List (Element D)) → YieldsFirst (λ (elements : List (Element D)). elements) left next after
       → entry ≡ entry_of t state (class_at t next) → (next ≡ None) ⊎ (named_state entry ≡ None)
       → IsStop t start whole state entry before next after saved_before saved saved_left class
   stop-from None after gives is_entry stops = stop-end after gives.0 gives.1 is_entry
@@ -176,17 +176,20 @@ module _ (t : PairTable) (start : ℕ) (whole : List Element) (state : ℕ) (bef
   stop-from (Some next) after gives is_entry (inr none) = stop-at next after gives is_entry none
 
 -- an element that was read, where it is there
-pub read-some : (left : List Element) (next : Option Element) (element : Element) (after : List Element)
-    → YieldsFirst (λ (elements : List Element). elements) left next after → next ≡ Some element → left ≡ element ∷ after
-read-some left None element after gives is = cc
-read-some left (Some next) element after gives is = gives ∙ ap (λ (next : Element). next ∷ after) (some-same is)
+pub read-some : {D : Type 0} (left : List (Element D)) (next : Option (Element D)) (element : Element D) (after : List (Element D))
+    → YieldsFirst (λ (elements : List (Element D)). elements) left next after → next ≡ Some element → left ≡ element ∷ after
+read-some {D} left None element after gives is = cc
+read-some {D} left (Some next) element after gives is = gives ∙ ap (λ (next : Element D). next ∷ after) (some-same is)
   where
     some-same : Some next ≡ Some element → next ≡ element
-    some-same is = ap (λ (found : Option Element). option_map_or (λ (e : Element). e) found next) is
+    some-same is = ap (λ (found : Option (Element D)). option_map_or (λ (e : Element D). e) found next) is
 
-pub entry-at : (t : PairTable) (state : ℕ) (next : Option Element) (element : Element) (entry : BreakState)
+pub entry-at : {D : Type 0} (t : PairTable) (state : ℕ) (next : Option (Element D)) (element : Element D) (entry : BreakState)
     → entry ≡ entry_of t state (class_at t next) → next ≡ Some element → entry ≡ entry_of t state element.class
 entry-at t state next element entry is there = is ∙ ap (λ n. entry_of t state (class_at t n)) there
 
-pub below-some : (t : PairTable) (next : Option Element) (element : Element) → IfSome next (λ next. next.class < t.property_count) → next ≡ Some element → element.class < t.property_count
-below-some t next element below is = let P : Option Element → Type 0 = λ next. IfSome next (λ next. next.class < t.property_count) in subst P is below
+pub below-some : {D : Type 0} (t : PairTable) (next : Option (Element D)) (element : Element D) → IfSome next (λ next. next.class < t.property_count) → next ≡ Some element → element.class < t.property_count
+below-some {D} t next element below is = let P : Option (Element D) → Type 0 = λ next. IfSome next (λ next. next.class < t.property_count) in subst P is below
+
+pub below-same : {D : Type 0} (count : ℕ) (other element : Element D) → element ≡ other → other.class < count → element.class < count
+below-same {D} count other element is below = subst (λ (e : Element D). e.class < count) (sym is) below

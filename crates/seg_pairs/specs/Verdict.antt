@@ -78,11 +78,11 @@ complex_verdict t (first ∷ second ∷ after) =
 -- Where a walk over elements stops.
 
 -- the class of the next element, or else of the end of the text
-abbrev pub class_at : PairTable → Option Element → ℕ
-class_at t next = option_map_or (λ (element : Element). element.class) next t.eot_property
+abbrev pub class_at : {D : Type 0} → PairTable → Option (Element D) → ℕ
+class_at {D} t next = option_map_or (λ (element : Element D). element.class) next t.eot_property
 
 -- the walk of these elements, whose first two name a state
-abbrev pub walk_of : PairTable → ℕ → List Element → Walk
+abbrev pub walk_of : {D : Type 0} → PairTable → ℕ → List (Element D) → Walk
 walk_of t start [] = walk_from t start 0 []
 walk_of t start (first ∷ []) = walk_from t start first.class []
 walk_of t start (first ∷ second ∷ after) = walk_from t start first.class (classes_of after)
@@ -90,15 +90,15 @@ walk_of t start (first ∷ second ∷ after) = walk_from t start first.class (cl
 -- the walk stops in this state before the elements that are left, where this entry names no state, or at the end; it
 -- was saved last before those, with this class; `before` and `saved_before` are the elements right before
 pub record IsStop
-    (t : PairTable) (start : ℕ) (elements : List Element) (state : ℕ) (entry : BreakState)
-    (before : Element) (next : Option Element) (left : List Element)
-    (saved_before saved : Element) (saved_left : List Element) (class : ℕ) : Type 0 where
+    {D : Type 0} (t : PairTable) (start : ℕ) (elements : List (Element D)) (state : ℕ) (entry : BreakState)
+    (before : Element D) (next : Option (Element D)) (left : List (Element D))
+    (saved_before saved : Element D) (saved_left : List (Element D)) (class : ℕ) : Type 0 where
   pub passed : ℕ
   pub stops : (walk_of t start elements).stop ≡ suc passed
   pub left_after : before ∷ onto next left ≡ drop passed elements
   pub in_state : (walk_of t start elements).state ≡ state
   pub at_entry : entry ≡ entry_of t state (class_at t next)
-  pub names_none : (element : Element) → next ≡ Some element → named_state entry ≡ None
+  pub names_none : (element : Element D) → next ≡ Some element → named_state entry ≡ None
   pub at_end : next ≡ None → left ≡ []
   pub saved_passed : ℕ
   pub saves : (walk_of t start elements).saved ≡ suc saved_passed
@@ -136,12 +136,12 @@ HasNoRun {X} verdict = (x : X) (xs : List X) → verdict (x ∷ xs) ≢ RunBegin
 -- Steps of an engine: what a verdict on the first of some elements leads to, and which are left.
 
 -- the next element, which was read already, and those after it; or none
-abbrev pub IsRest : Option Element → List Element → List Element → Type 0
+abbrev pub IsRest : {D : Type 0} → Option (Element D) → List (Element D) → List (Element D) → Type 0
 IsRest None left elements = (elements ≡ []) × (left ≡ [])
 IsRest (Some next) left elements = elements ≡ next ∷ left
 
 -- the step is what the verdict says, and leaves the elements after those that it takes
-abbrev pub Lands : Verdict → List Element → Step → List Element → Type 0
+abbrev pub Lands : {D : Type 0} → Verdict → List (Element D) → Step D → List (Element D) → Type 0
 Lands (BreakAfter taken with_class) elements (steps.Break next class) left = (class ≡ with_class) × (drop taken elements ≡ next ∷ left)
 Lands (BreakAfter taken with_class) elements (steps.End class) left = (class ≡ with_class) × (drop taken elements ≡ []) × (left ≡ [])
 Lands (GoAfter taken) elements (steps.Go next) left = drop taken elements ≡ next ∷ left
@@ -149,24 +149,24 @@ Lands RunBegins elements (steps.Run second) left = drop 1 elements ≡ second �
 Lands verdict elements step left = ⊥
 
 -- the same, or the first two elements name a state, and the verdict is that of the walk from there
-abbrev pub LandsOrWalks : (ℕ → Verdict) → Verdict → List Element → Step → List Element → Type 0
+abbrev pub LandsOrWalks : {D : Type 0} → (ℕ → Verdict) → Verdict → List (Element D) → Step D → List (Element D) → Type 0
 LandsOrWalks walk verdict elements (steps.Walk second state) left = (verdict ≡ walk state) × (drop 1 elements ≡ second ∷ left)
 LandsOrWalks walk verdict elements step left = Lands verdict elements step left
 
 -- the outcome is what the verdict at the end of a chain says, after the elements that the chain takes
-abbrev pub EndsIn : ℕ × Verdict → List Element → Outcome → List Element → Type 0
+abbrev pub EndsIn : {D : Type 0} → ℕ × Verdict → List (Element D) → Outcome D → List (Element D) → Type 0
 EndsIn (gone, BreakAfter taken with_class) elements (BreakOut class next) left = (class ≡ with_class) × IsRest next left (drop (gone + taken) elements)
 EndsIn (gone, RunBegins) elements (RunOut first second) left = drop gone elements ≡ first ∷ second ∷ left
 EndsIn found elements outcome left = ⊥
 
 -- the class of the element that was read already is below this number, and so is the state of a walk
-abbrev pub IsStepBelow : ℕ → Step → Type 0
+abbrev pub IsStepBelow : {D : Type 0} → ℕ → Step D → Type 0
 IsStepBelow count (steps.Break next class) = next.class < count
 IsStepBelow count (steps.End class) = Unit {0}
 IsStepBelow count (steps.Go next) = next.class < count
 IsStepBelow count (steps.Run second) = second.class < count
 IsStepBelow count (steps.Walk second state) = (second.class < count) × (state < count)
 
-abbrev pub IsOutcomeBelow : ℕ → Outcome → Type 0
+abbrev pub IsOutcomeBelow : {D : Type 0} → ℕ → Outcome D → Type 0
 IsOutcomeBelow count (BreakOut class next) = IfSome next (λ next. next.class < count)
 IsOutcomeBelow count (RunOut first second) = (first.class < count) × (second.class < count)

@@ -151,21 +151,38 @@ impl<'data> PairDataBorrowed<'data> {
         self.table.property_table().get32(code_point)
     }
 
-    /// The same, for loops that ask nothing else of a code point: an override is asked out of line, so that they stay short.
+    /// The same of an ASCII character. An override is asked out of line, so that loops stay short.
     #[inline(always)]
-    pub(crate) fn class_apart(self, code_point: u32) -> u8
-        ensures { result ≡ class_by self.entry code_point }
+    pub(crate) fn ascii_class(self, character: u8) -> u8
+        requires { character < 0x80 }
+        ensures value { result ≡ class_by self.entry character }
+        ensures below { result < (pair_table_of self.entry).property_count }
     {
+        self.table.facts();
+        match self.overriding {
+            Some(_) => self.overridden_class(character as u32),
+            None => self.table.property_table().get_ascii(character),
+        }
+    }
+
+    /// The same of a code point that is mostly above ASCII.
+    #[inline(always)]
+    pub(crate) fn wide_class(self, code_point: u32) -> u8
+        ensures value { result ≡ class_by self.entry code_point }
+        ensures below { result < (pair_table_of self.entry).property_count }
+    {
+        self.table.facts();
         match self.overriding {
             Some(_) => self.overridden_class(code_point),
-            None => self.table.property_table().get32(code_point),
+            None => self.table.property_table().get_wide(code_point),
         }
     }
 
     // The class of a code point, where there is an override.
     #[inline(never)]
     fn overridden_class(self, code_point: u32) -> u8
-        ensures { result ≡ class_by self.entry code_point }
+        ensures value { result ≡ class_by self.entry code_point }
+        ensures below { result < (pair_table_of self.entry).property_count }
     {
         self.class(code_point)
     }

@@ -20,8 +20,8 @@ use std::marker::Model;
 /// lead to from the one before. For tables by which no run begins.
 #[derive(Debug, Drop)]
 pub struct RuleBreakIterator<'data, I: Cursor> {
-    // The first element after the boundary that was given last. Only its class and its place are asked for.
-    next: Option<Element>,
+    // The first element after the boundary that was given last.
+    next: Option<Element<()>>,
     // The elements after that one.
     rest: Items<'data, I>,
     started: bool,
@@ -105,7 +105,7 @@ impl<'data, I: Cursor> Iterator for RuleBreakIterator<'data, I> {
             self.started = true;
             return Some(place_before(self.next, &self.rest));
         }
-        let Some(left) = placed(self.next) else {
+        let Some(left) = self.next else {
             self.class = 0;
             return None;
         };
@@ -132,27 +132,8 @@ impl<'data, I: Cursor> Iterator for RuleBreakIterator<'data, I> {
     }
 }
 
-/// The same element by its class and its place, where there is one: one item, whose code point no boundary has to keep.
-#[inline(always)]
-fn placed(next: Option<Element>) -> Option<Element>
-    ensures text { (elements : List Element) (end : ℕ) → class_text (onto result elements) end ≡ class_text (onto next elements) end }
-    ensures none { result ≡ None → next ≡ None }
-    ensures class { (count : ℕ) → IfSome next (λ next. next.class < count) → IfSome result (λ next. next.class < count) }
-{
-    match next {
-        Some(Element { class, place, .. }) => Some(Element {
-            class,
-            is_joined: false,
-            is_single: true,
-            code_point: 0,
-            place,
-        }),
-        None => None,
-    }
-}
-
 /// The place of this element, or else of the first of the others, or of the text's end.
-pub(crate) fn place_before<E: Elements>(next: Option<Element>, rest: &E) -> usize
+pub(crate) fn place_before<E: Elements>(next: Option<Element<E::Detail>>, rest: &E) -> usize
     ensures { result ≡ place_at (onto next (E.left rest.now)) (E.end rest.now) }
 {
     match next {

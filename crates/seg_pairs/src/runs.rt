@@ -39,7 +39,7 @@ impl<'data> CodePointTest for ComplexTest<'data> {
 
     #[inline(always)]
     fn accepts(&self, code_point: u32) -> bool {
-        self.pairs.class_apart(code_point) == self.pairs.table().complex_property()
+        self.pairs.wide_class(code_point) == self.pairs.table().complex_property()
     }
 }
 
@@ -50,7 +50,7 @@ pub struct Events<'data, I: Cursor> {
     // What isn't read yet: as items, ..
     here: I,
     // .. and as elements, the first apart.
-    next: Option<Element>,
+    next: Option<Element<()>>,
     rest: Items<'data, I>,
 }
 

@@ -1,36 +1,36 @@
 //! What comes after an element of a text: a boundary, none, or a run of complex elements.
 
-ghost use Rattle.std.specs.Prelude.{◌≡◌, ◌<◌, ℕ, List, ◌∷◌, IfSome};
+ghost use Rattle.std.specs.Prelude.{◌≡◌, ◌<◌, ℕ, List, ◌∷◌, drop, IfSome};
 ghost use Rattle.seg_pairs.specs.PairTable.{PairTable};
 ghost use Rattle.seg_pairs.specs.Elements.{classes_of};
 ghost use Rattle.seg_pairs.specs.Verdict.{IsStop, Lands, LandsOrWalks, EndsIn, IsStepBelow, IsOutcomeBelow, verdict, named_verdict, complex_verdict, chain, IsForward};
 
 use crate::elements::{Element, Elements};
 use crate::provider::{BreakState, RuleBreakData};
-use crate::walk::{Stop, walk, walk_apart};
+use crate::walk::{Stop, walk};
 
 /// What a verdict on an element leads to.
 #[derive(Clone, Copy, Debug)]
-pub enum Step {
+pub enum Step<D: Copy> {
     /// A boundary before this element, with this class.
-    Break(Element, u8),
+    Break(Element<D>, u8),
     /// A boundary at the end of the text, with this class.
     End(u8),
     /// No boundary before this element, of which the next verdict is asked.
-    Go(Element),
+    Go(Element<D>),
     /// A run of complex elements begins with the element in question. This is its second.
-    Run(Element),
+    Run(Element<D>),
     /// A walk decides: the element in question and this one, its second, name this state.
-    Walk(Element, u8),
+    Walk(Element<D>, u8),
 }
 
 /// What the verdicts from an element on lead to.
 #[derive(Clone, Copy, Debug)]
-pub enum Outcome {
+pub enum Outcome<D: Copy> {
     /// A boundary, with this class, before this element or at the end of the text.
-    Break(u8, Option<Element>),
+    Break(u8, Option<Element<D>>),
     /// A run of complex elements that begins with these two.
-    Run(Element, Element),
+    Run(Element<D>, Element<D>),
 }
 
 /// What comes after an element, by some rules.
@@ -38,19 +38,26 @@ pub trait Verdicts {
     ghost use Rattle.seg_pairs.specs.declared.elements.Element.{Element};
     ghost use Rattle.seg_pairs.specs.Verdict.{Verdict};
 
+    /// What elements have besides their class and their place.
+    type Detail: Copy;
+
     /// The verdict on the first of these elements.
-    ghost verdict: { Self → List Element → Verdict };
+    ghost verdict: { Self → List (Element Self.Detail) → Verdict };
 
     /// The verdict on the first of these elements where a walk decides, from the state that it and
     /// the second name.
-    ghost walk_verdict: { Self → ℕ → Element → List Element → Verdict };
+    ghost walk_verdict: { Self → ℕ → Element Self.Detail → List (Element Self.Detail) → Verdict };
 
     /// The pair table whose classes the elements have.
     ghost table: { Self → PairTable };
 
     /// What the verdict on `left` leads to, or the walk that decides it. `rest` has the elements
     /// after `left`, and then those after the one that the step has read.
-    fn step<E: Elements>(&self, left: Element, rest: &mut E) -> Step
+    fn step<E: Elements<Detail = Self::Detail>>(
+        &self,
+        left: Element<Self::Detail>,
+        rest: &mut E,
+    ) -> Step<Self::Detail>
         requires left { left.class < (table self.now).property_count }
         requires table { E.table rest.old ≡ table self.now }
         ensures lands { LandsOrWalks (λ state. walk_verdict self.now state left (left ∷ E.left rest.old)) (verdict self.now (left ∷ E.left rest.old)) (left ∷ E.left rest.old) result (E.left rest.new) }
@@ -60,7 +67,13 @@ pub trait Verdicts {
 
     /// What the walk leads to that decides the verdict on `left`, which `right` follows. `rest` has the
     /// elements after `right`, and then those after the one that the step has read.
-    fn walk_step<E: Elements>(&self, state: u8, left: Element, right: Element, rest: &mut E) -> Step
+    fn walk_step<E: Elements<Detail = Self::Detail>>(
+        &self,
+        state: u8,
+        left: Element<Self::Detail>,
+        right: Element<Self::Detail>,
+        rest: &mut E,
+    ) -> Step<Self::Detail>
         requires state { state < (table self.now).property_count }
         requires right { right.class < (table self.now).property_count }
         requires table { E.table rest.old ≡ table self.now }
@@ -82,6 +95,8 @@ pub struct TableVerdicts<'data> {
 }
 
 impl<'data> Verdicts for TableVerdicts<'data> {
+    type Detail = ();
+
     ghost verdict = { λ s elements. verdict s.table.now (classes_of elements) };
 
     ghost walk_verdict = { λ s state left elements. named_verdict s.table.now state left.class (classes_of elements) };
@@ -89,7 +104,14 @@ impl<'data> Verdicts for TableVerdicts<'data> {
     ghost table = { λ s. s.table.now };
 
     #[inline(always)]
-    fn step<E: Elements>(&self, left: Element, rest: &mut E) -> Step {
+    fn step<E: Elements<Detail = ()>>(&self, left: Element<()>, rest: &mut E) -> Step<()>
+        requires left { left.class < self.now.table.now.property_count }
+        requires table { E.table rest.old ≡ self.now.table.now }
+        ensures lands { LandsOrWalks (λ state. named_verdict self.now.table.now state left.class (classes_of (left ∷ E.left rest.old))) (verdict self.now.table.now (classes_of (left ∷ E.left rest.old))) (left ∷ E.left rest.old) result (E.left rest.new) }
+        ensures class { IsStepBelow self.now.table.now.property_count result }
+        ensures end { E.end rest.new ≡ E.end rest.old }
+        ensures table { E.table rest.new ≡ E.table rest.old }
+    {
         match rest.next_element() {
             Some(right) => pair_step(self.table, left, right),
             None => Step::End(left.class),
@@ -97,15 +119,22 @@ impl<'data> Verdicts for TableVerdicts<'data> {
     }
 
     #[inline(always)]
-    fn walk_step<E: Elements>(
+    fn walk_step<E: Elements<Detail = ()>>(
         &self,
         state: u8,
-        left: Element,
-        right: Element,
+        left: Element<()>,
+        right: Element<()>,
         rest: &mut E,
-    ) -> Step {
-        let stop = walk_apart(self.table, state, left, right, rest);
-        landing(stop, rest)
+    ) -> Step<()>
+        requires state { state < self.now.table.now.property_count }
+        requires right { right.class < self.now.table.now.property_count }
+        requires table { E.table rest.old ≡ self.now.table.now }
+        ensures lands { Lands (named_verdict self.now.table.now state left.class (classes_of (left ∷ right ∷ E.left rest.old))) (left ∷ right ∷ E.left rest.old) result (E.left rest.new) }
+        ensures class { IsStepBelow self.now.table.now.property_count result }
+        ensures end { E.end rest.new ≡ E.end rest.old }
+        ensures table { E.table rest.new ≡ E.table rest.old }
+    {
+        walk_to(self.table, state, left, right, rest)
     }
 
     fn facts(&self) {}
@@ -120,6 +149,8 @@ pub struct ComplexVerdicts<'data> {
 }
 
 impl<'data> Verdicts for ComplexVerdicts<'data> {
+    type Detail = ();
+
     ghost verdict = { λ s elements. complex_verdict s.table.now (classes_of elements) };
 
     ghost walk_verdict = { λ s state left elements. named_verdict s.table.now state left.class (classes_of elements) };
@@ -127,7 +158,14 @@ impl<'data> Verdicts for ComplexVerdicts<'data> {
     ghost table = { λ s. s.table.now };
 
     #[inline(always)]
-    fn step<E: Elements>(&self, left: Element, rest: &mut E) -> Step {
+    fn step<E: Elements<Detail = ()>>(&self, left: Element<()>, rest: &mut E) -> Step<()>
+        requires left { left.class < self.now.table.now.property_count }
+        requires table { E.table rest.old ≡ self.now.table.now }
+        ensures lands { LandsOrWalks (λ state. named_verdict self.now.table.now state left.class (classes_of (left ∷ E.left rest.old))) (complex_verdict self.now.table.now (classes_of (left ∷ E.left rest.old))) (left ∷ E.left rest.old) result (E.left rest.new) }
+        ensures class { IsStepBelow self.now.table.now.property_count result }
+        ensures end { E.end rest.new ≡ E.end rest.old }
+        ensures table { E.table rest.new ≡ E.table rest.old }
+    {
         let complex = self.table.complex_property();
         let Some(right) = rest.next_element() else {
             return Step::End(left.class);
@@ -142,15 +180,22 @@ impl<'data> Verdicts for ComplexVerdicts<'data> {
     }
 
     #[inline(always)]
-    fn walk_step<E: Elements>(
+    fn walk_step<E: Elements<Detail = ()>>(
         &self,
         state: u8,
-        left: Element,
-        right: Element,
+        left: Element<()>,
+        right: Element<()>,
         rest: &mut E,
-    ) -> Step {
-        let stop = walk(self.table, state, left, right, rest);
-        landing(stop, rest)
+    ) -> Step<()>
+        requires state { state < self.now.table.now.property_count }
+        requires right { right.class < self.now.table.now.property_count }
+        requires table { E.table rest.old ≡ self.now.table.now }
+        ensures lands { Lands (named_verdict self.now.table.now state left.class (classes_of (left ∷ right ∷ E.left rest.old))) (left ∷ right ∷ E.left rest.old) result (E.left rest.new) }
+        ensures class { IsStepBelow self.now.table.now.property_count result }
+        ensures end { E.end rest.new ≡ E.end rest.old }
+        ensures table { E.table rest.new ≡ E.table rest.old }
+    {
+        walk_to(self.table, state, left, right, rest)
     }
 
     fn facts(&self) {}
@@ -159,7 +204,11 @@ impl<'data> Verdicts for ComplexVerdicts<'data> {
 /// The next boundary after `left`, or the run that begins before it: where the rules' verdicts to go
 /// on lead. `rest` has the elements after `left`, and then those after the one that was read last.
 #[inline(always)]
-pub fn next_break<E: Elements, R: Verdicts>(rules: &R, left: Element, rest: &mut E) -> Outcome
+pub fn next_break<R: Verdicts, E: Elements<Detail = R::Detail>>(
+    rules: &R,
+    left: Element<R::Detail>,
+    rest: &mut E,
+) -> Outcome<R::Detail>
     requires left { left.class < (R.table rules.now).property_count }
     requires table { E.table rest.old ≡ R.table rules.now }
     ensures ends { EndsIn (chain (R.verdict rules.now) (left ∷ E.left rest.old)) (left ∷ E.left rest.old) result (E.left rest.new) }
@@ -168,7 +217,7 @@ pub fn next_break<E: Elements, R: Verdicts>(rules: &R, left: Element, rest: &mut
     ensures table { E.table rest.new ≡ E.table rest.old }
 {
     rules.facts();
-    let mut left = left;
+    let mut left = rebuilt(left);
     loop {
         match rules.step(left, rest) {
             Step::Go(next) => left = next,
@@ -176,8 +225,8 @@ pub fn next_break<E: Elements, R: Verdicts>(rules: &R, left: Element, rest: &mut
             Step::End(class) => return Outcome::Break(class, None),
             Step::Run(second) => return Outcome::Run(left, second),
             Step::Walk(right, state) => match rules.walk_step(state, left, right, rest) {
-                Step::Go(next) => left = next,
-                Step::Break(next, class) => return Outcome::Break(class, Some(next)),
+                Step::Go(next) => left = rebuilt(next),
+                Step::Break(next, class) => return Outcome::Break(class, Some(rebuilt(next))),
                 Step::End(class) => return Outcome::Break(class, None),
                 Step::Run(other) => return Outcome::Run(left, other),
                 Step::Walk(_other, _state) => unreachable!(),
@@ -186,12 +235,24 @@ pub fn next_break<E: Elements, R: Verdicts>(rules: &R, left: Element, rest: &mut
     }
 }
 
+/// The same element, field by field, so that no gap between them is carried along.
+#[inline(always)]
+fn rebuilt<D: Copy>(element: Element<D>) -> Element<D>
+    ensures { result ≡ element }
+{
+    Element {
+        class: element.class,
+        place: element.place,
+        detail: element.detail,
+    }
+}
+
 /// The step of a pair table from `left`, which `right` follows.
 #[inline(always)]
-pub fn pair_step(table: &RuleBreakData, left: Element, right: Element) -> Step
+pub fn pair_step<D: Copy>(table: &RuleBreakData, left: Element<D>, right: Element<D>) -> Step<D>
     requires left { left.class < table.now.property_count }
     requires right { right.class < table.now.property_count }
-    ensures lands { (after : List Element) → LandsOrWalks (λ state. named_verdict table.now state left.class (classes_of (left ∷ right ∷ after)))
+    ensures lands { (after : List (Element D)) → LandsOrWalks (λ state. named_verdict table.now state left.class (classes_of (left ∷ right ∷ after)))
         (verdict table.now (classes_of (left ∷ right ∷ after))) (left ∷ right ∷ after) result after }
     ensures class { IsStepBelow table.now.property_count result }
 {
@@ -205,17 +266,47 @@ pub fn pair_step(table: &RuleBreakData, left: Element, right: Element) -> Step
     }
 }
 
-/// The step that a walk leads to where it stops. `rest` has the elements after the one before which it stops.
+/// The step that a walk leads to. It goes on a copy of `rest`, so that what the caller has can stay in registers.
 #[inline(always)]
-fn landing<E: Elements>(stop: Stop<E>, rest: &mut E) -> Step
-    ensures lands { (table : PairTable) (start : ℕ) (left right : Element) (elements : List Element)
-        → IsStop table start (left ∷ right ∷ elements) stop.state stop.entry stop.before stop.next (E.left rest.old)
-        stop.saved_before stop.saved (E.left stop.saved_rest) stop.saved_class
-        → Lands (named_verdict table start left.class (classes_of (left ∷ right ∷ elements))) (left ∷ right ∷ elements) result (E.left rest.new) }
-    ensures class { (count : ℕ) → IfSome stop.next (λ next. next.class < count) → stop.saved.class < count → IsStepBelow count result }
-    ensures end { E.end stop.saved_rest ≡ E.end rest.old → E.end rest.new ≡ E.end rest.old }
-    ensures table { E.table stop.saved_rest ≡ E.table rest.old → E.table rest.new ≡ E.table rest.old }
+fn walk_to<E: Elements>(
+    table: &RuleBreakData,
+    start: u8,
+    left: Element<E::Detail>,
+    right: Element<E::Detail>,
+    rest: &mut E,
+) -> Step<E::Detail>
+    requires start { start < table.now.property_count }
+    requires right { right.class < table.now.property_count }
+    requires table { E.table rest.old ≡ table.now }
+    ensures lands { Lands (named_verdict table.now start left.class (classes_of (left ∷ right ∷ E.left rest.old))) (left ∷ right ∷ E.left rest.old) result (E.left rest.new) }
+    ensures class { IsStepBelow table.now.property_count result }
+    ensures end { E.end rest.new ≡ E.end rest.old }
+    ensures table { E.table rest.new ≡ E.table rest.old }
 {
+    let (step, after) = walk_apart(table, start, left, right, rest.fork());
+    rest.catch_up(after);
+    step
+}
+
+/// The same with the elements after the one that the step has read, which are some of `rest`.
+#[inline(never)]
+fn walk_apart<E: Elements>(
+    table: &RuleBreakData,
+    start: u8,
+    left: Element<E::Detail>,
+    right: Element<E::Detail>,
+    rest: E,
+) -> (Step<E::Detail>, E)
+    requires start { start < table.now.property_count }
+    requires right { right.class < table.now.property_count }
+    requires table { E.table rest ≡ table.now }
+    ensures lands { Lands (named_verdict table.now start left.class (classes_of (left ∷ right ∷ E.left rest))) (left ∷ right ∷ E.left rest) result.0 (E.left result.1) }
+    ensures class { IsStepBelow table.now.property_count result.0 }
+    ensures later { (k : ℕ) × (E.left result.1 ≡ drop k (E.left rest)) }
+    ensures end { E.end result.1 ≡ E.end rest }
+    ensures table { E.table result.1 ≡ E.table rest }
+{
+    let mut ahead = rest;
     let Stop {
         state,
         entry,
@@ -225,26 +316,16 @@ fn landing<E: Elements>(stop: Stop<E>, rest: &mut E) -> Step
         saved,
         saved_rest,
         saved_class,
-    } = stop;
+    } = walk(table, start, left, right, &mut ahead);
     match next {
         Some(next) => match entry {
-            BreakState::Keep => Step::Go(next),
-            BreakState::Break => Step::Break(next, state),
-            _ => go_back(rest, saved_rest, saved, saved_class),
+            BreakState::Keep => (Step::Go(next), ahead),
+            BreakState::Break => (Step::Break(next, state), ahead),
+            _ => (Step::Break(saved, saved_class), saved_rest),
         },
         None => match entry {
-            BreakState::NoMatch => go_back(rest, saved_rest, saved, saved_class),
-            _ => Step::End(state),
+            BreakState::NoMatch => (Step::Break(saved, saved_class), saved_rest),
+            _ => (Step::End(state), ahead),
         },
     }
-}
-
-/// A boundary at the place that was saved: the elements are read again from there on.
-#[inline(always)]
-fn go_back<E: Elements>(rest: &mut E, saved_rest: E, saved: Element, class: u8) -> Step
-    ensures rest { rest.new ≡ saved_rest }
-    ensures step { result ≡ Step.Break saved class }
-{
-    *rest = saved_rest;
-    Step::Break(saved, class)
 }

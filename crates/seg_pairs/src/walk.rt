@@ -16,13 +16,13 @@ pub struct Stop<E: Elements> {
     /// The entry of this state and the element, or the end of the text, before which it stops.
     pub entry: BreakState,
     /// The element before that.
-    pub before: Element,
+    pub before: Element<E::Detail>,
     /// The element before which it stops, if it isn't the end.
-    pub next: Option<Element>,
+    pub next: Option<Element<E::Detail>>,
     /// The element before the place that was saved.
-    pub saved_before: Element,
+    pub saved_before: Element<E::Detail>,
     /// The element that begins at that place.
-    pub saved: Element,
+    pub saved: Element<E::Detail>,
     /// The elements after this one.
     pub saved_rest: E,
     /// The class that was saved.
@@ -36,8 +36,8 @@ pub struct Stop<E: Elements> {
 pub fn walk<E: Elements>(
     table: &RuleBreakData,
     start: u8,
-    left: Element,
-    right: Element,
+    left: Element<E::Detail>,
+    right: Element<E::Detail>,
     rest: &mut E,
 ) -> Stop<E>
     requires start { start < table.now.property_count }
@@ -83,35 +83,12 @@ pub fn walk<E: Elements>(
     }
 }
 
-/// The same on a copy of `rest`, so that what the caller has can stay in registers.
-#[inline(always)]
-pub fn walk_apart<E: Elements>(
-    table: &RuleBreakData,
-    start: u8,
-    left: Element,
-    right: Element,
-    rest: &mut E,
-) -> Stop<E>
-    requires start { start < table.now.property_count }
-    requires right { right.class < table.now.property_count }
-    requires table { E.table rest.old ≡ table.now }
-    ensures stop { IsStop table.now start (left ∷ right ∷ E.left rest.old) result.state result.entry result.before result.next (E.left rest.new)
-        result.saved_before result.saved (E.left result.saved_rest) result.saved_class }
-    ensures next { IfSome result.next (λ next. next.class < table.now.property_count) }
-    ensures saved { result.saved.class < table.now.property_count }
-    ensures end { E.end rest.new ≡ E.end rest.old }
-    ensures table { E.table rest.new ≡ E.table rest.old }
-    ensures saved_end { E.end result.saved_rest ≡ E.end rest.old }
-    ensures saved_table { E.table result.saved_rest ≡ E.table rest.old }
-{
-    let mut ahead = rest.fork();
-    let stop = walk(table, start, left, right, &mut ahead);
-    *rest = ahead;
-    stop
-}
-
 /// The entry of two elements.
-pub fn entry_between(table: &RuleBreakData, left: Element, right: Element) -> BreakState
+pub fn entry_between<D: Copy>(
+    table: &RuleBreakData,
+    left: Element<D>,
+    right: Element<D>,
+) -> BreakState
     requires left { left.class < table.now.property_count }
     requires right { right.class < table.now.property_count }
     ensures value { result ≡ entry_of table.now left.class right.class }
@@ -157,7 +134,7 @@ pub fn state_named(entry: BreakState) -> Option<u8>
 }
 
 /// The class of the next element, or that of the text's end.
-fn class_before(table: &RuleBreakData, next: Option<Element>) -> u8
+fn class_before<D: Copy>(table: &RuleBreakData, next: Option<Element<D>>) -> u8
     requires { IfSome next (λ next. next.class < table.now.property_count) }
     ensures value { result ≡ class_at table.now next }
     ensures below { result < table.now.property_count }
@@ -170,7 +147,7 @@ fn class_before(table: &RuleBreakData, next: Option<Element>) -> u8
 }
 
 /// The next element and the state that the entry names, where there are both.
-fn going_on(next: Option<Element>, entry: BreakState) -> Option<(Element, u8)>
+fn going_on<D: Copy>(next: Option<Element<D>>, entry: BreakState) -> Option<(Element<D>, u8)>
     ensures { MatchOption result ((next ≡ None) ⊎ (named_state entry ≡ None))
         (λ both. (next ≡ Some both.0) × (named_state entry ≡ Some both.1)) }
 {

@@ -5,7 +5,7 @@ use Rattle.std.proofs.lemmas.Bool.{eq-eqb, ne_eqb}
 use Rattle.std.proofs.Math.Dec.{eqb-suc-zero}
 use Rattle.std.specs.Prelude.{Some, ⊤}
 use Rattle.std.specs.Iterator.{MakesProgress, item_count}
-use Rattle.seg_text.specs.Items.{Rest, GoesOn, Text, rest_after, place_of, items_by, Reader, Reading}
+use Rattle.seg_text.specs.Items.{Rest, GoesOn, Text, BeginsWide, rest_after, place_of, items_by, Reader, Reading}
 use Rattle.seg_text.specs.Lemmas.Readers.{IsReader, items_by-nil, items_by-cons, place_of-items_by}
 
 -- the items after the first k are those of the units after the first so many
@@ -95,6 +95,16 @@ next-item {U = U} read reader start text found inside reads = on (drop start tex
     on [] is reads = absurd (omega (arith, length-drop start text, ap length is))
     on (unit ∷ units) is reads =
         rw (items_by-cons read reader start unit units, ← reads, ← drop-drop found.0 start text, is) refl
+
+-- what is left begins wide where its first item does, and where nothing is left
+pub begins-wide : {U : Type 0} (read : Reader U) → IsReader read → (start : ℕ) (text : List U)
+    → (start < length text → 0x80 ≤ (read (drop start text)).1) → BeginsWide (items_by read start (drop start text))
+begins-wide {U = U} read reader start text wide = on (drop start text) refl wide
+  where
+    on : (units : List U) → drop start text ≡ units → (start < length text → 0x80 ≤ (read units).1) → BeginsWide (items_by read start units)
+    on [] is wide = rw (items_by-nil read start) tt
+    on (unit ∷ units) is wide =
+        rw (items_by-cons read reader start unit units) (wide (omega (arith, length-drop start text, ap length is)))
 
 -- and where it goes
 pub goes-on : {U : Type 0} (taken start : ℕ) (text : List U) → start + taken ≤ length text

@@ -5,6 +5,7 @@ pub mod Utf8Rows
 pub mod Utf8
 pub mod Utf8Reads
 pub mod Utf16
+pub mod Wide
 pub mod Slice
 pub mod Str
 pub mod StrTiling

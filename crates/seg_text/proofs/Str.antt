@@ -1,7 +1,7 @@
 -- The bytes of a str are well-formed UTF-8, and so each of its items is one of its characters.
 use Rattle.std.proofs.Common.{◌≡◌, ℕ, zero, suc, ◌+◌, ◌-◌, ◌/◌, ◌%◌, ◌<◌, ◌≤◌, ◌⊎◌, inl, inr, true, List, [], ◌∷◌, ◌++◌, length, get_or, take, drop, length-append, length-drop, refl, ap, sym, ◌∙◌, arith}
 use Rattle.std.proofs.lemmas.Bool.{cases_lt, and_parts}
-use Rattle.std.proofs.lemmas.List.{take_at, drop_at, drop_all, drop-drop}
+use Rattle.std.proofs.lemmas.List.{take_at, drop_at, drop_all, drop_more, drop-drop}
 use Rattle.std.proofs.lemmas.Str.{IsUtf8-take, IsCharBoundary-from_drop, length-encode, len_utf8_bounds, chars-encodes, cons_from_encodes}
 use Rattle.std.specs.Prelude.{slice_index_or}
 use Rattle.std.specs.Char.{IsScalar, encode_utf8}
@@ -17,6 +17,7 @@ use Rattle.seg_text.proofs.Cursors.{seek-within, taken-within}
 use Rattle.seg_text.proofs.Slice.{up_to-found}
 use Rattle.seg_text.proofs.Utf8.{read_utf8-of}
 use Rattle.seg_text.proofs.Utf8Reads.{ascii-at}
+use Rattle.seg_text.proofs.Wide.{utf8-wide}
 
 -- ---- the bytes of a character
 
@@ -241,6 +242,12 @@ up_to-utf8 k to start text inside is here =
 pub ascii-read : (start : ℕ) (bytes text : List ℕ) → bytes ≡ text → start < length text → get_or bytes start 0 < 0x80
     → (1, get_or bytes start 0) ≡ read_utf8 (drop start text)
 ascii-read start bytes text same inside ascii = rw same (ascii-at start text inside (rw same at ascii))
+
+-- a byte that isn't ASCII
+pub wide-read : (start : ℕ) (bytes text : List ℕ) → bytes ≡ text → start < length text → 0x80 ≤ get_or bytes start 0
+    → 0x80 ≤ (read_utf8 (drop start text)).1
+wide-read start bytes text same inside wide =
+    utf8-wide (drop start text) (rw (drop_more text start 0 inside) (rw same at wide))
 
 -- the first character, where `before` is the text, as an iterator holds it, and `after` what it holds then
 pub first-read : (c : ℕ) (text before after rest : List ℕ) → IsUtf8 text → before ≡ text → before ≡ encode_utf8 c ++ after → rest ≡ after

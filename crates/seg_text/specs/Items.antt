@@ -21,6 +21,11 @@ place_of (item ∷ items) end = item.0
 abbrev pub start_of : Text → ℕ
 start_of text = place_of text.items text.end
 
+-- the first item, where there is one, isn't ASCII
+abbrev pub BeginsWide : List Item → Type 0
+BeginsWide [] = Unit {0}
+BeginsWide (item ∷ items) = 0x80 ≤ item.1
+
 -- what is left of a text after so many items
 abbrev pub rest_after : ℕ → Text → Text
 rest_after count text = record { items = drop count text.items; end = text.end }

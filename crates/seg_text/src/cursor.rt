@@ -1,8 +1,8 @@
 //! What engines need of a cursor over a text, whatever its encoding.
 
-ghost use Rattle.std.specs.Prelude.{◌≡◌, ℕ, ◌+◌, length, ◌==◌};
+ghost use Rattle.std.specs.Prelude.{◌≡◌, ℕ, ◌+◌, ◌<◌, ◌∷◌, length, ◌==◌, MatchOption};
 ghost use Rattle.std.specs.Iterator.{YieldsFirst};
-ghost use Rattle.seg_text.specs.Items.{Text, IsRising, start_of, rest_after, slice_of, text_before};
+ghost use Rattle.seg_text.specs.Items.{Text, BeginsWide, IsRising, start_of, rest_after, slice_of, text_before};
 
 /// A cursor over a text, at the place of its next item.
 ///
@@ -14,6 +14,13 @@ pub trait Cursor: Drop {
     /// Reads the next item: its place and its code point. None at the end, and from then on.
     fn next_item(&mut self) -> Option<(usize, u32)>
         ensures gives { YieldsFirst (λ s. (text s).items) self.old result self.new }
+        ensures end { (text self.new).end ≡ (text self.old).end };
+
+    /// Reads the next item where it is ASCII: its place and its character. None where it isn't, and at the end: then nothing
+    /// is read.
+    fn next_ascii(&mut self) -> Option<(usize, u8)>
+        ensures read { MatchOption result ((self.new ≡ self.old) × BeginsWide (text self.old).items)
+            (λ item. (item.1 < 0x80) × ((text self.old).items ≡ item ∷ (text self.new).items)) }
         ensures end { (text self.new).end ≡ (text self.old).end };
 
     /// Another cursor at the same place of the same text. Takes no memory and never fails.

@@ -91,8 +91,25 @@ impl ClassTable {
         ensures { result ≡ value_of self.now code_point }
     {
         if code_point < ASCII_LEN as u32 {
-            return self.ascii[code_point as usize];
+            return self.get_ascii(code_point as u8);
         }
+        self.get_wide(code_point)
+    }
+
+    /// The value of an ASCII character: the same as `get32`.
+    #[inline(always)]
+    pub fn get_ascii(&self, character: u8) -> u8
+        requires { character < 0x80 }
+        ensures { result ≡ value_of self.now character }
+    {
+        self.ascii[character as usize]
+    }
+
+    /// The same as `get32`, which asks nothing of ASCII first: for code points that are mostly above it.
+    #[inline(always)]
+    pub fn get_wide(&self, code_point: u32) -> u8
+        ensures { result ≡ value_of self.now code_point }
+    {
         match self.pages.get(code_point) {
             Some(value) => value,
             None => self.search(code_point),

@@ -26,6 +26,12 @@ impl ReadsUnits<u8> for Latin1 {
     }
 
     #[inline(always)]
+    fn read_ascii(units: &[u8]) -> Option<u8> {
+        let first = units[0];
+        if first < 0x80 { Some(first) } else { None }
+    }
+
+    #[inline(always)]
     fn read_first(units: &[u8]) -> (usize, u8) {
         (1, units[0])
     }

@@ -1,9 +1,9 @@
 //! A cursor over a `str`.
 
-ghost use Rattle.std.specs.Prelude.{◌≡◌, ◌≤◌, ◌<◌, ℕ, ⊤, drop, length, ◌+◌, ◌==◌};
+ghost use Rattle.std.specs.Prelude.{◌≡◌, ◌≤◌, ◌<◌, ℕ, ⊤, drop, length, ◌+◌, ◌==◌, MatchOption, ◌∷◌};
 ghost use Rattle.std.specs.Iterator.{YieldsFirst, item_count, MakesProgress};
 ghost use Rattle.seg_text.specs.Decoding.{utf8_items, utf8_from, read_utf8};
-ghost use Rattle.seg_text.specs.Items.{Rest, GoesOn};
+ghost use Rattle.seg_text.specs.Items.{Rest, GoesOn, BeginsWide};
 ghost use Rattle.seg_text.specs.Lemmas.Rising.{utf8_items-rises};
 
 use crate::cursor::Cursor;
@@ -109,6 +109,19 @@ impl<'a> Cursor for StrCharIndices<'a> {
             Some((place, character)) => Some((place, character as u32)),
             None => None,
         }
+    }
+
+    #[inline(always)]
+    fn next_ascii(&mut self) -> Option<(usize, u8)> {
+        let place = self.front_offset;
+        if place < self.text.len() {
+            let byte = self.text.as_bytes()[place];
+            if byte < 0x80 {
+                self.front_offset = place + 1;
+                return Some((place, byte));
+            }
+        }
+        None
     }
 
     fn fork(&self) -> Self {

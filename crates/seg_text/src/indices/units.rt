@@ -1,8 +1,8 @@
 //! A cursor over a slice of units, for each encoding that reads them.
-ghost use Rattle.std.specs.Prelude.{◌≡◌, ◌≤◌, ◌<◌, ℕ, ⊤, drop, length, ◌+◌, ◌==◌, List, IfSome};
+ghost use Rattle.std.specs.Prelude.{◌≡◌, ◌≤◌, ◌<◌, ℕ, ⊤, drop, length, ◌+◌, ◌==◌, List, IfSome, MatchOption, ◌∷◌};
 ghost use Rattle.std.specs.Iterator.{YieldsFirst, item_count, MakesProgress};
-ghost use Rattle.seg_text.specs.Items.{Rest, GoesOn, Text};
-ghost use Rattle.seg_text.specs.Lemmas.Encodings.{IsEncoding, text-rises};
+ghost use Rattle.seg_text.specs.Items.{Rest, GoesOn, Text, BeginsWide};
+ghost use Rattle.seg_text.specs.Lemmas.Encodings.{IsEncoding, coded, text-rises};
 
 use crate::cursor::Cursor;
 use crate::private::Sealed;
@@ -31,6 +31,12 @@ pub trait ReadsUnits<U: Copy>: Sealed {
     fn read_single(units: &[U]) -> Option<Self::Character>
         requires { 0 < length units.now }
         ensures { IfSome result (λ character. (1, character) ≡ read units.now) };
+
+    /// The first item's character, where it is ASCII.
+    fn read_ascii(units: &[U]) -> Option<u8>
+        requires { 0 < length units.now }
+        ensures { MatchOption result (0x80 ≤ code_point (read units.now).1)
+            (λ character. (character < 0x80) × ((1, character) ≡ coded read code_point units.now)) };
 
     /// Reads the first item: how many units it takes, and its character.
     fn read_first(units: &[U]) -> (usize, Self::Character)
@@ -155,6 +161,18 @@ impl<'a, U: Copy, E: ReadsUnits<U>> Cursor for Indices<'a, U, E> {
             Some((place, character)) => Some((place, E::code_point(character))),
             None => None,
         }
+    }
+
+    #[inline(always)]
+    fn next_ascii(&mut self) -> Option<(usize, u8)> {
+        let place = self.front_offset;
+        if place < self.units.len() {
+            if let Some(ascii) = E::read_ascii(&self.units[place..]) {
+                self.front_offset = place + 1;
+                return Some((place, ascii));
+            }
+        }
+        None
     }
 
     fn fork(&self) -> Self {

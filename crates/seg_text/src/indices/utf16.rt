@@ -35,6 +35,16 @@ impl ReadsUnits<u16> for Utf16 {
     }
 
     #[inline(always)]
+    fn read_ascii(units: &[u16]) -> Option<u8> {
+        let first = units[0];
+        if first < 0x80 {
+            Some(first as u8)
+        } else {
+            None
+        }
+    }
+
+    #[inline(always)]
     fn read_first(units: &[u16]) -> (usize, u32) {
         let first = units[0];
         if first & 0xFC00 != 0xD800 {

@@ -1,5 +1,5 @@
 use Rattle.std.proofs.Common.{◌∙◌, ap, sym}
-use Rattle.seg_pairs.specs.declared.elements.Element.{Element}
+use Rattle.seg_line_rules.specs.LineUnits.{UnitElement}
 use Rattle.seg_line_rules.specs.LineBoundaries.{rules_by}
 use Rattle.seg_line_rules.proofs.UnitElements.{unit-ends, unit-stops, unit-goes}
 use Rattle.seg_line_rules.proofs.units.read_unit.Goals as goal
@@ -17,5 +17,5 @@ loop-place-preserved g c = record {
   same = unit-goes (rules_by c.args.pairs) _ _ _ _ _ _ _ _ c.loop-place.invariant.same c.in-Some.ensures.gives c.class-class.ensures.value
       (sym c.is_glued.ensures ∙ c.if-not-is_glued.false) c.marked_element-unit.ensures;
   end = c.in-Some.ensures.end ∙ c.loop-place.invariant.end;
-  class = ap (λ (unit : Element). unit.class) c.marked_element-unit.ensures ∙ c.loop-place.invariant.class;
+  class = ap (λ (unit : UnitElement). unit.class) c.marked_element-unit.ensures ∙ c.loop-place.invariant.class;
 }

@@ -15,7 +15,7 @@ returns-in_default g c =
     record {
       lands = rw (c.go_back.ensures.step, c.go_back.ensures.rest)
           (unit-back _ _ _ _ _ _ _ _ _ _ _ _ _ _ c.walk-stop.ensures.stop _ _ c.in-Some.is c.in_default.not-Keep c.in_default.not-Break
-          (ap (λ b. stop.saved_before.is_joined || (stop.before.is_joined && b)) c.is_class-from_class.ensures));
+          (ap (λ b. stop.saved_before.detail.is_joined || (stop.before.detail.is_joined && b)) c.is_class-from_class.ensures));
       class = rw c.go_back.ensures.step (unless-below _ _ _ c.walk-stop.ensures.saved);
       end = ap g.E.Elements.end c.go_back.ensures.rest ∙ c.walk-stop.ensures.saved_end;
       table = ap g.E.Elements.table c.go_back.ensures.rest ∙ c.walk-stop.ensures.saved_table;

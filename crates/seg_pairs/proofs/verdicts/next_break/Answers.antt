@@ -52,16 +52,17 @@ loop-next-preserved g c =
     let goes = goes-from (g.R.Verdicts.verdict c.args.rules.now) _ _ _ _ c.facts.ensures
     (walk-lands (λ elements state. g.R.Verdicts.walk_verdict c.args.rules.now state c.loop-next.left elements) _ _ _ _ _ _ _ _ c.in-Walk.ensures.lands c.in-Go-walk_step.ensures.lands) in
     record {
-      on = on_chain-go (g.R.Verdicts.verdict c.args.rules.now) _ _ _ _ _ _ c.facts.ensures c.loop-next.invariant.on goes.goes goes.here;
-      class = c.in-Go-walk_step.ensures.class;
+      on = rw c.rebuilt-left-in-Go-walk_step.ensures (on_chain-go (g.R.Verdicts.verdict c.args.rules.now) _ _ _ _ _ _ c.facts.ensures c.loop-next.invariant.on goes.goes goes.here);
+      class = rw c.rebuilt-left-in-Go-walk_step.ensures c.in-Go-walk_step.ensures.class;
       end = c.in-Go-walk_step.ensures.end ∙ c.in-Walk.ensures.end ∙ c.loop-next.invariant.end;
       table = c.in-Go-walk_step.ensures.table ∙ c.in-Walk.ensures.table ∙ c.loop-next.invariant.table;
     }
 
 pub returns-in-Break-walk_step-clause-ends : goal.returns-in-Break-walk_step-clause-ends
 returns-in-Break-walk_step-clause-ends g c =
-    ends-break (g.R.Verdicts.verdict c.args.rules.now) _ _ _ c.facts.ensures c.loop-next.invariant.on _ _ _
-    (walk-lands (λ elements state. g.R.Verdicts.walk_verdict c.args.rules.now state c.loop-next.left elements) _ _ _ _ _ _ _ _ c.in-Walk.ensures.lands c.in-Break-walk_step.ensures.lands)
+    rw c.rebuilt.ensures
+    (ends-break (g.R.Verdicts.verdict c.args.rules.now) _ _ _ c.facts.ensures c.loop-next.invariant.on _ _ _
+    (walk-lands (λ elements state. g.R.Verdicts.walk_verdict c.args.rules.now state c.loop-next.left elements) _ _ _ _ _ _ _ _ c.in-Walk.ensures.lands c.in-Break-walk_step.ensures.lands))
 
 pub returns-in-End-walk_step-clause-ends : goal.returns-in-End-walk_step-clause-ends
 returns-in-End-walk_step-clause-ends g c =

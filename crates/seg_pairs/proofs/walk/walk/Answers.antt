@@ -1,7 +1,6 @@
 use Rattle.std.proofs.Common.{◌<◌, ◌∙◌, sym, ap, subst}
 use Rattle.seg_pairs.specs.PairTable.{PairTable, entry_of}
-use Rattle.seg_pairs.specs.declared.elements.Element.{Element}
-use Rattle.seg_pairs.proofs.Walks.{midway-saved, midway-kept, stop-from, read-some, entry-at, below-some}
+use Rattle.seg_pairs.proofs.Walks.{midway-saved, midway-kept, stop-from, read-some, entry-at, below-some, below-same}
 use Rattle.seg_pairs.proofs.walk.walk.Goals as goal
 use Rattle.seg_pairs.proofs.walk.walk.Goals.{then-saves, else-saves}
 
@@ -23,7 +22,7 @@ loop-element-preserved g c =
         midway = rw (w.saved_before-is, w.saved-is, w.saved_rest-is, w.fork-saved_rest-then-saves.ensures)
             (midway-saved _ _ _ _ _ _ _ _ _ _ _ _ _ _ _ _ c.loop-element.invariant.midway read entry named
             (c.entry-entry.ensures.state _ named) c.is_class-leaves_class.ensures (sym c.saves.ensures ∙ w.if-saves.true) c.class_after-saved_class.ensures);
-        saved = subst (λ (e : Element). e.class < c.args.table.now.property_count) (sym w.saved-is)
+        saved = below-same _ _ _ w.saved-is
             (subst (λ (t : PairTable). c.in-Some.element.class < t.property_count) (c.loop-element.invariant.table ∙ c.requires.table)
             (below-some (g.E.Elements.table c.loop-element.rest) _ _ c.next_element-next.ensures.class there));
         end = end;
@@ -35,7 +34,7 @@ loop-element-preserved g c =
         midway = rw (w.saved_before-is, w.saved-is, w.saved_rest-is)
             (midway-kept _ _ _ _ _ _ _ _ _ _ _ _ _ _ _ _ c.loop-element.invariant.midway read entry named
             (c.entry-entry.ensures.state _ named) c.is_class-leaves_class.ensures (sym c.saves.ensures ∙ w.if-saves.false) c.class_after-saved_class.ensures);
-        saved = subst (λ (e : Element). e.class < c.args.table.now.property_count) (sym w.saved-is) c.loop-element.invariant.saved;
+        saved = below-same _ _ _ w.saved-is c.loop-element.invariant.saved;
         end = end;
         table = same;
         saved_end = ap g.E.Elements.end w.saved_rest-is ∙ c.loop-element.invariant.saved_end;

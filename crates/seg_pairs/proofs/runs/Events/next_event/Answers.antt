@@ -1,9 +1,8 @@
 use Rattle.std.proofs.Common.{◌∷◌, List, refl, sym, ap, ◌∙◌}
 use Rattle.seg_text.specs.Items.{Text}
 use Rattle.seg_pairs.specs.PairData.{pair_table_of}
-use Rattle.seg_pairs.specs.Elements.{elements_of}
+use Rattle.seg_pairs.specs.Elements.{ItemElement, elements_of}
 use Rattle.seg_pairs.specs.Verdict.{chain}
-use Rattle.seg_pairs.specs.declared.elements.Element.{Element}
 use Rattle.seg_pairs.proofs.Engine.{rest-empty, none-left, below-of}
 use Rattle.seg_pairs.proofs.Events.{element_verdict, break-of, run-of, place-after, nothing-left, ahead-read, break-leads, run-leads, goes-on, run-goes}
 use Rattle.seg_pairs.proofs.runs.Events.next_event.Goals as goal
@@ -34,7 +33,7 @@ invariant_of-self g c =
     let after = c.next_break.new.rest in
     let b = break-of s.pairs text _ _ _ _ _ _ _ c.table.ensures c.in-Some.is c.self.invariant.same c.in-Break.ensures.ends in
     let moved = c.seek.ensures b.taken (place-after s.pairs text b.taken _ _ _ c.place_before-place.ensures b.rest (c.in-Break.ensures.end ∙ c.self.invariant.same_end)) in
-    let whole : List Element = c.in-Some.left ∷ elements_of s.rest.pairs (g.I.Cursor.text s.rest.cursor).items in
+    let whole : List ItemElement = c.in-Some.left ∷ elements_of s.rest.pairs (g.I.Cursor.text s.rest.cursor).items in
     record {
       same = b.rest ∙ ap (λ (text : Text). elements_of s.pairs text.items) (sym moved);
       same_end = c.in-Break.ensures.end ∙ c.self.invariant.same_end ∙ ap (λ (text : Text). text.end) (sym moved);
