@@ -3,6 +3,7 @@
 
     tools/beside/inlined.py prove CRATE FOLDER                      at the top of the repository: runs `rt ci CRATE`, and keeps the program's module in FOLDER
     tools/beside/inlined.py build FOLDER PROGRAM [PATTERN=HINT]..   compiles that module as the kit does; functions whose name has the pattern get the hint
+    tools/beside/inlined.py dropped FOLDER                          at the top: the functions that ask to be in line, and that the kit found too large for it
 
 A hint is `always`, `never` or `none`. With no hint given the machine code is that of the proved program. FOLDER/module.ll is the module as text: what else is to be
 tried can be written there by hand. What is kept of earlier runs isn't compiled again, so CRATE is best a small new program over libraries that are kept.
@@ -14,7 +15,7 @@ import sys
 
 sys.dont_write_bytecode = True
 sys.path.insert(0, str(pathlib.Path(__file__).resolve().parent))
-from unproved import kit, printed, watched  # noqa: E402
+from unproved import asked, inline_of, kit, printed, watched  # noqa: E402
 
 HINTS = {"always": " alwaysinline ", "never": " noinline "}
 # Stands in the prover's place: has it take another toolchain.
@@ -73,10 +74,22 @@ def build(folder, program, *hints):
     subprocess.run([*link, top / "c/libos_c.a", top / "c/liblibc_c.a"], check=True, stdout=subprocess.DEVNULL)
 
 
+def dropped(folder):
+    """Prints the functions whose source has `inline(always)`, and the module not."""
+    text = (pathlib.Path(folder) / "module.ll").read_text()
+    always = {group for group, words in re.findall(r"^attributes (#\d+) = \{(.*)\}$", text, re.MULTILINE) if "alwaysinline" in words}
+    wants = asked([it for it in pathlib.Path("crates").iterdir() if (it / "src").is_dir()])
+    for name, group in re.findall(r'^define [^"\n]*@"([^"]*)".* (#\d+) \{$', text, re.MULTILINE):
+        if inline_of(name, wants) == "alwaysinline" and group not in always:
+            print(name)
+
+
 def main(arguments):
     verb, *rest = arguments or [""]
     if verb == "prove" and len(rest) == 2:
         prove(*rest)
+    elif verb == "dropped" and len(rest) == 1:
+        dropped(*rest)
     elif verb == "build" and len(rest) >= 2:
         build(*rest)
     else:

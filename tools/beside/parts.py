@@ -28,9 +28,9 @@ OURS = (
     (r"::tally_of(::<|$)", "count"),
     (r"::(place|seek|fork|is_at_end|end|offset|slice|up_to|new|drop|table|facts|get_or)(::<|$)", None),
     (r"^seg_text::indices::|::(next_item|next_symbol|next_element)(::<|$)", "decode"),
-    (r"^seg_data::provider::table::|::(class|strict_class|symbol|symbol_of_value|replacement_by|parts)(::<|$)|::machine_parts::", "look"),
+    (r"^seg_data::provider::table::|::(class|ascii_class|wide_class|strict_class|symbol|symbol_of_value|replacement_by|parts)(::<|$)|::machine_parts::", "look"),
     (r"^seg_pairs::runs::(?!Events)|^seg_text::prefixes::|^seg_clusters::(runs|complex|script_iter|pieces|cuts|spans)::|::inside_cuts::|::CutsLeft|::(complex_run|take_run|run_ends)(::<|$)", "run"),
-    (r"Iterator::next(::<|$)|::(next_segment|next_boundary|next_event|plain_break|read|place_before|placed)(::<|$)|^seg_text::reach::|^seg_(clusters|words|lines)::", "boundary"),
+    (r"Iterator::next(::<|$)|::(next_segment|next_boundary|next_event|plain_break|read|place_before)(::<|$)|^seg_text::reach::|^seg_(clusters|words|lines)::", "boundary"),
     (r"^seg_(pairs|machine|line_rules|line_turns)::", "verdict"),
 )
 
