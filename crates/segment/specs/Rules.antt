@@ -1,5 +1,5 @@
 -- What a command line with rules asks for, and what is written then.
-use Rattle.std.specs.Prelude.{◌≡◌, ℕ, false, Option, None, Some, List, codes}
+use Rattle.std.specs.Prelude.{◌≡◌, false, None, Some, codes}
 use Rattle.clap.specs.Matches.{first_value}
 use Rattle.clap.specs.declared.parser.matches.Found.{Found}
 use Rattle.icu_segmenter.specs.Machine.{Machine}

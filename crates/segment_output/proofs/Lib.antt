@@ -1,8 +1,10 @@
+pub mod BareLines
 pub mod Escaping
 pub mod Fields
 pub mod FoundByMemo
 pub mod Gathered
 pub mod JoinedCuts
+pub mod LineFeeds
 pub mod MarkedPlaces
 pub mod Printed
 pub mod Segments

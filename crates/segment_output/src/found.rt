@@ -2,6 +2,8 @@
 ghost use Rattle.std.specs.Prelude.{◌≡◌, ◌≤◌, IfSome, length};
 ghost use Rattle.segment_output.specs.Size.{both_sizes, line_feeds, size_of};
 
+use memchr::memchr_iter;
+
 /// What was found of a text.
 #[derive(Clone, Copy, Debug, PartialEq, Eq)]
 pub struct Found {
@@ -55,5 +57,6 @@ pub fn line_feeds(text: &[u8]) -> usize
     ensures value { result ≡ line_feeds text.now }
     ensures most { result ≤ length text.now }
 {
-    text.iter().filter(|byte| **byte == b'\n').count()
+    // Line feeds are few, so each is searched for: `Memchr::count` would look at every byte.
+    Iterator::count(memchr_iter(b'\n', text))
 }

@@ -131,3 +131,25 @@ impl<M: HasMark, B: BreakIterator<Mark = M>> Iterator for Marked<B> {
         }
     }
 }
+
+/// The boundaries that an iterator has still to give, each unmarked: what is said of the segments is never worked out.
+#[derive(Drop)]
+pub struct Bare<B: BreakIterator> {
+    pub breaks: B,
+}
+
+impl<B: BreakIterator> Iterator for Bare<B> {
+    type Item = (usize, Mark);
+
+    ghost next_gives = { YieldsFirst (λ s. marked (λ status. Unmarked) (B.left s.breaks)) };
+
+    ghost remaining = { item_count (λ s. marked (λ status. Unmarked) (B.left s.breaks)) };
+
+    #[inline(always)]
+    fn next(&mut self) -> Option<(usize, Mark)> {
+        match self.breaks.next_break() {
+            Some(end) => Some((end.0, Mark::Unmarked)),
+            None => None,
+        }
+    }
+}

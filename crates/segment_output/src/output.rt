@@ -1,5 +1,5 @@
 //! How segments are written.
-ghost use Rattle.std.specs.Prelude.{◌≡◌, ◌+◌, ◌++◌, ◌∷◌, [], ℕ, List, None, length, decimal, option_map, IfOk, OnOk};
+ghost use Rattle.std.specs.Prelude.{◌≡◌, ◌≢◌, ◌+◌, ◌++◌, ◌∷◌, [], ℕ, false, List, None, length, decimal, option_map, IfOk, OnOk};
 ghost use Rattle.std.specs.Io.KnownBytes.{Appends};
 ghost use Rattle.std.specs.Iterator.{IsFinite, YieldsThen};
 ghost use Rattle.std.specs.List.{slice_range};
@@ -7,6 +7,7 @@ ghost use Rattle.segment_output.specs.Gathered.{AreGathered};
 ghost use Rattle.segment_output.specs.Output.{beside, count_line, counts, line_end, segments, line_at, lines_at};
 ghost use Rattle.segment_output.specs.Stretch.{IsStretch};
 ghost use Rattle.segment_output.specs.declared.marks.Mark.{Mark};
+ghost use Rattle.segment_output.specs.declared.output.Style.TheVariants.{Json};
 
 use crate::escapes::push_escaped;
 use crate::found::Tally;
@@ -32,6 +33,18 @@ pub enum Style {
     Offsets,
     /// Not at all: they are only counted, and these numbers stand beside how many there are.
     Counted(Numbers),
+}
+
+impl Style {
+    /// Whether what is said of segments is asked for: where it is shown, and where words are shown alone.
+    pub fn asks_marks(self, alone: bool) -> bool
+        ensures { result ≡ false → (alone ≡ false) × (self ≢ Json) }
+    {
+        match self {
+            Style::Json => true,
+            _ => alone,
+        }
+    }
 }
 
 /// A text, or a part of one, and how its segments are written.

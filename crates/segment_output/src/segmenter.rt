@@ -15,7 +15,7 @@ ghost use Rattle.icu_segmenter.specs.TextSegments.{marked};
 ghost use Rattle.icu_segmenter.specs.Words.{owned_word_rules};
 ghost use Rattle.segment_output.specs.Segmenter.{boundaries_by, cluster_rules_by, line_rules_by, line_rules_of, segments_by, sentence_rules_by, suppressed_finder, word_rules_by, IsAskedOf, IsByMachine};
 
-use crate::marks::{HasMark, Marked};
+use crate::marks::{Bare, HasMark, Marked};
 use crate::output::{Part, Style, print_segments};
 use crate::vocabulary::Vocabulary;
 use icu_segmenter::cursor::{Segmenter as Cursor, SegmenterOf};
@@ -92,7 +92,7 @@ impl Segmenter {
             }
             Segmenter::Words(words, alone) => {
                 let places = words.as_borrowed().segment_utf8(part.bytes);
-                print_breaks(alloc, places, *alone, part, out)
+                print_words(alloc, places, *alone, part, out)
             }
             Segmenter::Sentences(sentences) => {
                 let places = sentences.as_borrowed().segment_utf8(part.bytes);
@@ -144,6 +144,26 @@ fn print_breaks<M: HasMark, B: BreakIterator<Mark = M>, O: Write>(
 {
     let mut places = Marked { breaks };
     print_segments(alloc, &mut places, alone, part, out)
+}
+
+// The same of words, whose types are worked out only where they are asked for.
+#[inline(always)]
+fn print_words<M: HasMark, B: BreakIterator<Mark = M>, O: Write>(
+    alloc: Global,
+    breaks: B,
+    alone: bool,
+    part: Part<'_>,
+    out: &mut O,
+) -> io::Result<usize>
+    ensures { IfOk result (λ count.
+        let found = segments alone (marked (λ status. M.said (B.mark status)) (B.left breaks)) in
+        (count ≡ length found) × Appends (O.contents out.old) (O.contents out.new) (lines_at part.entry.style part.entry.before part.entry.bytes.now found)) }
+{
+    if part.style.asks_marks(alone) {
+        return print_breaks(alloc, breaks, alone, part, out);
+    }
+    let mut places = Bare { breaks };
+    print_segments(alloc, &mut places, false, part, out)
 }
 
 impl Segmenter {
