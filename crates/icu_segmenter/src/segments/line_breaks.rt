@@ -12,6 +12,7 @@ use seg_lines::line::LineBreakIterator;
 use seg_text::scaffold::{Latin1, PotentiallyIllFormedUtf8, RuleBreakType, Utf8, Utf16};
 
 // The next boundary of lines, and whether a line must end there.
+#[inline(always)]
 fn next_line<'s, Y: RuleBreakType<'s>>(
     lines: &mut LineBreakIterator<'_, 's, Y>,
 ) -> Option<(usize, bool)>
@@ -42,6 +43,7 @@ impl<'data, 's> BreakIterator for LineBreakIterator<'data, 's, Utf8> {
         self.source().as_str()
     }
 
+    #[inline(always)]
     fn next_break(&mut self) -> Option<(usize, bool)> {
         next_line(self)
     }
@@ -72,6 +74,7 @@ impl<'data, 's> BreakIterator for LineBreakIterator<'data, 's, PotentiallyIllFor
         self.source().as_slice()
     }
 
+    #[inline(always)]
     fn next_break(&mut self) -> Option<(usize, bool)> {
         next_line(self)
     }
@@ -102,6 +105,7 @@ impl<'data, 's> BreakIterator for LineBreakIterator<'data, 's, Latin1> {
         self.source().as_slice()
     }
 
+    #[inline(always)]
     fn next_break(&mut self) -> Option<(usize, bool)> {
         next_line(self)
     }
@@ -132,6 +136,7 @@ impl<'data, 's> BreakIterator for LineBreakIterator<'data, 's, Utf16> {
         self.source().as_slice()
     }
 
+    #[inline(always)]
     fn next_break(&mut self) -> Option<(usize, bool)> {
         next_line(self)
     }
