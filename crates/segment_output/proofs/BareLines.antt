@@ -1,5 +1,5 @@
 -- Where marks aren't shown, it is the same which they are.
-use Rattle.std.proofs.Common.{◌≡◌, ◌≢◌, ℕ, suc, false, Option, List, [], ◌∷◌, ◌++◌, Result, Ok, Err, IfOk, length, refl, ap, ◌∙◌}
+use Rattle.std.proofs.Common.{◌≡◌, ◌≢◌, ℕ, suc, false, Option, List, [], ◌∷◌, ◌++◌, Result, IfOk, length, refl, ap, ◌∙◌}
 use Rattle.std.specs.Io.KnownBytes.{Appends}
 use Rattle.icu_segmenter.specs.Boundary.{Boundary}
 use Rattle.icu_segmenter.specs.TextSegments.{marked}

@@ -1,5 +1,5 @@
 -- As many places hold a line feed as there are line feeds.
-use Rattle.std.proofs.Common.{◌≡◌, ℕ, zero, suc, ◌+◌, ◌-◌, ◌==◌, arith, Bool, true, false, List, ◌∷◌, length, drop, filter, refl, sym, ap, ◌∙◌, if◌then◌else◌}
+use Rattle.std.proofs.Common.{◌≡◌, ℕ, zero, suc, ◌+◌, ◌-◌, ◌==◌, arith, Bool, true, false, List, ◌∷◌, length, drop, filter, sym, ap, ◌∙◌, if◌then◌else◌}
 use Rattle.std.specs.Prelude.{slice_index}
 use Rattle.std.proofs.lemmas.List.{drop_all, drop_more}
 use Rattle.memchr.specs.Find.{is_byte, places, places_from}

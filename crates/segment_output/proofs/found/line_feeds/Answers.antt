@@ -1,5 +1,5 @@
 -- Each place that is found holds a line feed.
-use Rattle.std.proofs.Common.{◌≡◌, List, ℕ, length, ap, ◌∙◌}
+use Rattle.std.proofs.Common.{List, ℕ, length, ap, ◌∙◌}
 use Rattle.icu_segmenter.proofs.Callers.{given-is_left}
 use Rattle.segment_output.proofs.LineFeeds.{places-are}
 use Rattle.segment_output.proofs.found.line_feeds.Goals as goal
