@@ -1,5 +1,5 @@
 #!/usr/bin/env python3
-"""Tests of tools/edits: python3 tools/test_edits.py. The last three check a small crate some fifteen times, which takes a minute."""
+"""Tests of tools/edits: python3 tools/test_edits.py. The last two check a small crate some fifteen times, which takes a minute."""
 import contextlib
 import importlib.machinery
 import importlib.util
@@ -184,23 +184,23 @@ class Judging(unittest.TestCase):
 LIST = """\
 # A page with a table of edits
 
-| wrong body | edits | what else |
+| wrong body | refused by each gate | what else |
 |---|---|---|
 | of another table | `small/always_one` | |
 
 ## Named wrong bodies
 
-| wrong body | edits | what else |
+| wrong body | refused by each gate | in edits/, and what else |
 |---|---|---|
 | answers one less | `small/one_less` | |
-| another number, or none | `small/limit_of_eight`, `small/constant` | `tools/refusals` too |
-| one less again | `small/one_less` | |
-| wants memory | | a row of `small/rows` |
+| another number, or none | | `small/limit_of_eight`, `small/constant`; `tools/refusals` too |
+| one less again | `small/one_less` | `small/always_one` |
+| wants memory | | a row of `small/rows.rows` |
 | is forgotten | | |
 
 ## Another part
 
-| wrong body | edits | what else |
+| wrong body | refused by each gate | what else |
 |---|---|---|
 | of a later table | `small/another_promise` | |
 """
@@ -209,23 +209,66 @@ LIST = """\
 class Naming(unittest.TestCase):
     def test_the_table_is_read_under_its_heading(self):
         found, bare = edits.named(LIST)
-        self.assertEqual(found, [("small", "one_less"), ("small", "limit_of_eight"), ("small", "constant")])
+        wanted = [("must-fail", "one_less"), ("edits", "limit_of_eight"), ("edits", "constant"), ("edits", "always_one")]
+        self.assertEqual(found, [("small", folder, name) for folder, name in wanted])
         self.assertEqual(bare, ["is forgotten"])
 
     def test_a_page_without_the_table_lists_nothing(self):
         self.assertEqual(edits.named(LIST.replace("## Named", "## Some")), ([], []))
 
-    def test_words_may_come_in_any_order(self):
-        self.assertEqual(edits.arguments(["--jobs", "3", "--named", "small"]), ("3", True, ["small"]))
-        self.assertEqual(edits.arguments(["small"]), (None, False, ["small"]))
+    def test_words_are_a_seed_or_crates(self):
+        self.assertEqual(edits.arguments(["--jobs", "3", "--sample", "abc"]), ("3", "--sample", ["abc"]))
+        self.assertEqual(edits.arguments(["--stand"]), (None, "--stand", []))
+        self.assertEqual(edits.arguments(["--jobs", "3", "small"]), ("3", "", ["small"]))
 
     def test_this_repository_lists_edits_that_are_there(self):
         root = os.path.dirname(os.path.dirname(os.path.abspath(__file__)))
         with open(f"{root}/{edits.NAMED}", encoding="utf-8") as it:
             found, bare = edits.named(it.read())
-        places = [[f"{root}/crates/{crate}/{folder}/{name}.edit" for folder in edits.FOLDERS] for crate, name in found]
-        self.assertEqual([it for it in places if not any(map(os.path.isfile, it))], [])
+        places = [f"{root}/crates/{crate}/{folder}/{name}.edit" for crate, folder, name in found]
+        self.assertEqual([it for it in places if not os.path.isfile(it)], [])
         self.assertTrue(found and not bare)
+
+
+class Sampling(unittest.TestCase):
+    """Which edits a commit picks, of thirty crates with 1 to 40 edits each, every ninth tried alone."""
+
+    def edits(self):
+        found = {}
+        for crate in range(30):
+            count = 1 + crate * 13 % 40
+            found[f"crate_{crate}"] = [edits.Edit(f"crate_{crate}", f"edit_{at}", "", [], {"a"} if at % 9 else set()) for at in range(count)]
+        return found
+
+    def test_the_parts_of_a_crate_are_few_and_hold_each_edit_once(self):
+        for of in self.edits().values():
+            parts = edits.parts_of(of)
+            self.assertEqual(sorted(it.name for part in parts for it in part), sorted(it.name for it in of))
+            self.assertLess(max(map(edits.weight, parts)), edits.PART + edits.ALONE)
+            self.assertLessEqual(len(parts), -(-edits.weight(of) // edits.PART))
+
+    def test_a_seed_picks_the_same_sample_again(self):
+        labels = [[it.label for it in edits.sample_of(self.edits(), seed)] for seed in ("one", "one", "two")]
+        self.assertEqual(labels[0], labels[1])
+        self.assertNotEqual(labels[0], labels[2])
+
+    def test_each_edit_is_tried_as_often_as_any_other(self):
+        given, tries, count = self.edits(), {}, 2000
+        most = edits.SAMPLE + edits.PART + edits.ALONE
+        for seed in range(count):
+            found = edits.sample_of(given, seed)
+            self.assertTrue(edits.SAMPLE <= edits.weight(found) <= most)
+            self.assertEqual(len({it.label for it in found}), len(found))
+            for it in found:
+                tries[it.label] = tries.get(it.label, 0) + 1
+        self.assertEqual(len(tries), sum(map(len, given.values())))
+        # a sample's part of the whole, more or less
+        mean = count * edits.SAMPLE / sum(map(edits.weight, given.values()))
+        self.assertTrue(0.7 * mean < min(tries.values()) and max(tries.values()) < 1.6 * mean, (mean, min(tries.values()), max(tries.values())))
+
+    def test_a_sample_is_everything_where_there_is_little(self):
+        few = {"crate_0": [edit("one", ["a"]), edit("two", ["a"])]}
+        self.assertEqual(edits.sample_of(few, "any"), few["crate_0"])
 
 
 class Built(unittest.TestCase):
@@ -310,10 +353,12 @@ EDITS = {
 
 
 class Whole(unittest.TestCase):
-    def run_on(self, words, files=None):
-        """Runs the tool on a small crate with these further files, and returns its status and its lines."""
+    def run_on(self, words, files=None, gone=()):
+        """Runs the tool on a small crate with these further files and without some edits, and returns its status and its lines."""
         with tempfile.TemporaryDirectory() as room:
             self.write(room, files or {})
+            for name in gone:
+                os.remove(f"{room}/crates/small/{name}.edit")
             said = io.StringIO()
             here = os.getcwd()
             os.chdir(room)
@@ -324,25 +369,38 @@ class Whole(unittest.TestCase):
                 os.chdir(here)
         return status, [it for it in said.getvalue().split("\n") if it]
 
-    def test_named_edits_alone(self):
-        listed = LIST.replace("`small/constant`", "`small/is_gone`, `other/is_gone`")
-        status, lines = self.run_on(["--named"], {edits.NAMED: listed})
-        self.assertEqual(status, 1, lines)
-        tried = [it.partition(": ")[0] for it in lines if it.startswith(("small/", "other/"))]
-        self.assertEqual({*tried}, {"small/one_less", "small/limit_of_eight", "small/is_gone", "other/is_gone"}, lines)
-        self.assertEqual({*next(it for it in lines if it.startswith("FAILED: "))[8:].split()}, {"small/is_gone", "other/is_gone", "is_forgotten"}, lines)
-        self.assertEqual(lines[-1], "2 passed, 3 failed")
+    def failed(self, lines):
+        return {*next(it for it in lines if it.startswith("FAILED: "))[8:].split()}
 
-    def test_named_edits_that_are_all_refused(self):
+    def test_a_sample_leaves_must_fail_to_the_gate(self):
+        status, lines = self.run_on(["--sample", "any"], {edits.NAMED: LIST})
+        self.assertEqual(status, 1, lines)
+        refused = [f"small/{os.path.basename(it)}" for it, (_, _, is_refused) in EDITS.items() if is_refused and it.startswith("edits/")]
+        tried = {it.partition(": ")[0] for it in lines if it.startswith("small/") and ": refused at " in it or ": alone, refused" in it}
+        self.assertEqual(tried, {*refused}, lines)
+        wrong = {"small/changes_nothing", "small/name_gone", "small/stands_twice", "small/stands_nowhere", "is_forgotten"}
+        self.assertEqual(self.failed(lines), wrong, lines)
+        self.assertEqual(lines[-1], f"{len(refused)} passed, {len(wrong)} failed")
+
+    def test_what_stands(self):
+        listed = LIST.replace("| is forgotten | | |\n", "| was moved | `small/constant` | `small/is_gone`, `other/is_gone` |\n")
+        status, lines = self.run_on(["--stand"], {edits.NAMED: listed})
+        self.assertEqual(status, 1, lines)
+        told = {it.partition(": ")[0] for it in lines[:-1]}
+        self.assertEqual(told, {"small/constant", "small/is_gone", "other/is_gone", "small/stands_twice", "small/stands_nowhere"}, lines)
+        self.assertEqual(lines[-1], "8 stand, 5 do not")
+
+    def test_all_that_is_well_stands(self):
         listed = LIST.replace("| is forgotten | | |\n", "")
-        status, lines = self.run_on(["--named"], {edits.NAMED: listed})
-        self.assertEqual((status, lines[-1]), (0, "3 passed, 0 failed"), lines)
+        gone = ("edits/stands_twice", "edits/stands_nowhere")
+        status, lines = self.run_on(["--stand"], {edits.NAMED: listed}, gone)
+        self.assertEqual((status, lines), (0, ["8 stand, 0 do not"]))
 
     def test_a_small_crate(self):
         status, lines = self.run_on([])
         failed = {f"small/{os.path.basename(name)}" for name, (_, _, is_refused) in EDITS.items() if not is_refused}
         self.assertEqual(status, 1, lines)
-        self.assertEqual({*next(it for it in lines if it.startswith("FAILED: "))[8:].split()}, failed, lines)
+        self.assertEqual(self.failed(lines), failed, lines)
         self.assertEqual(lines[-1], f"{len(EDITS) - len(failed)} passed, {len(failed)} failed")
 
     def write(self, room, more):

@@ -1,4 +1,5 @@
-/* Text boundaries, proved: grapheme clusters, words, sentences and line breaks of UAX #29 and UAX #14.
+/* Text boundaries, proved: grapheme clusters, words and sentences of UAX #29 (Unicode 18.0), and line breaks of UAX #14 revision 55
+ * (Unicode 17) with properties of Unicode 18.0.
  *
  *     yengatomu_slot words = {0};
  *     size_t ends[64];
@@ -40,7 +41,8 @@ typedef struct yengatomu_word {
 
 /* kind */
 enum { YENGATOMU_CLUSTERS, YENGATOMU_WORDS, YENGATOMU_SENTENCES, YENGATOMU_LINES };
-/* strictness, as `line-break` of CSS Text 3 has it. By ANYWHERE lines break at each grapheme cluster. */
+/* strictness, as `line-break` of CSS Text 3 has it. By ANYWHERE lines may break at each grapheme cluster and must break nowhere; but a
+ * word_break other than YENGATOMU_BREAK_NORMAL overrides it. */
 enum { YENGATOMU_STRICT, YENGATOMU_NORMAL, YENGATOMU_LOOSE, YENGATOMU_ANYWHERE };
 /* word_break, as `word-break` of CSS Text 3 has it */
 enum { YENGATOMU_BREAK_NORMAL, YENGATOMU_BREAK_ALL, YENGATOMU_KEEP_ALL };
@@ -69,7 +71,8 @@ uint32_t yengatomu_open(yengatomu_slot *slot, uint32_t kind, uint32_t strictness
  *     Letter × Letter
  *     ÷
  *
- * Its boundaries are where the rules break, and the other calls take it as one of clusters. YENGATOMU_WRONG_RULES where the text is
+ * Its boundaries are where the rules break, and the other calls take it as one of clusters. Proved is that the machine follows the rules
+ * that were read; how they are read is tested. YENGATOMU_WRONG_RULES where the text is
  * ill-formed or a line of it is wrong; YENGATOMU_NO_MACHINE where the rules are too large, or need to know too much of the text to be
  * followed. *error is then the number of the line, from 1 on: that which is wrong, or that of a rule which shows why there is no
  * machine; 0 where the text is ill-formed, where no rule shows it, and in all other cases. If it isn't YENGATOMU_OK, the slot is empty. */
@@ -126,7 +129,8 @@ size_t yengatomu_count_words(yengatomu_slot *slot, const uint8_t *text, size_t l
 size_t yengatomu_count_words_utf16(yengatomu_slot *slot, const uint16_t *text, size_t len);
 
 /* Versions as 10,000 times the major number, 100 times the minor one and the update: of this library, and of the Unicode data by which
- * a kind is segmented (0 for no such kind). */
+ * a kind is segmented (0 for no such kind). The data of each kind are of 18.0 (180000). So are the rules, those of UAX #29; but the rules
+ * of lines are those of UAX #14 revision 55, which belongs to 17.0 (170000). */
 uint32_t yengatomu_version(void);
 uint32_t yengatomu_unicode_version(uint32_t kind);
 

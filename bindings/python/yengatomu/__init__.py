@@ -1,4 +1,4 @@
-"""Text boundaries, proved: grapheme clusters, words, sentences and line breaks of UAX #29 and UAX #14.
+"""Text boundaries, proved: clusters, words and sentences of UAX #29 (Unicode 18.0), line breaks of UAX #14 revision 55 (Unicode 17).
 
     >>> import yengatomu
     >>> yengatomu.words("can't pay 3.14!")
@@ -56,7 +56,7 @@ class Kind(IntEnum):
 
 
 class Strictness(IntEnum):
-    """How strictly lines break, as `line-break` of CSS Text 3 has it. By ANYWHERE they break at each grapheme cluster."""
+    """How strictly lines break, as `line-break` of CSS Text 3 has it. By ANYWHERE they break at each grapheme cluster, unless `word_break` is given."""
 
     STRICT = 0
     NORMAL = 1
@@ -391,5 +391,5 @@ def version() -> str:
 
 
 def unicode_version(kind: Kind) -> str:
-    """Returns the version of the Unicode data by which a kind is segmented."""
+    """Returns the version of the Unicode data by which a kind is segmented. The rules of lines are those of UAX #14 revision 55 (Unicode 17)."""
     return _version(_library.unicode_version(Kind(kind)))

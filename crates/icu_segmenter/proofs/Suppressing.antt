@@ -1,9 +1,9 @@
 -- The boundaries that abbreviations leave.
-use Rattle.std.proofs.Common.{◌≡◌, ℕ, Bool, true, false, List, [], ◌∷◌, refl, sym, ap, subst, ◌∙◌}
+use Rattle.std.proofs.Common.{◌≡◌, ℕ, ◌<◌, Bool, true, false, List, [], ◌∷◌, drop, get_or, refl, sym, ap, subst, ◌∙◌}
 use Rattle.std.specs.Prelude.{Some, None}
 use Rattle.std.specs.Iterator.{YieldsFirst}
 use Rattle.seg_text.specs.declared.boundary.Boundary.{Boundary}
-use Rattle.seg_text.specs.Boundaries.{boundaries_in, offsets, IsCover}
+use Rattle.seg_text.specs.Boundaries.{boundaries_in, offsets, AreLeft, IsCover, RisesTo}
 use Rattle.seg_text.specs.Items.{IsRising, Text}
 use Rattle.seg_data.specs.WordSets.{Words}
 use Rattle.icu_segmenter.specs.Kept.{AreAscending, left_of, stays, IsLater}
@@ -92,3 +92,25 @@ pub all-cover : (words : Words) (text start : Text) (end : ℕ) (found left : Li
 all-cover words text start end found left same ends kept cover =
     subst (λ (boundaries : List Boundary). IsCover 0 end boundaries) (sym kept)
     (left-covers words start end found (ap (λ (text : Text). text.end) same ∙ ends) cover)
+
+-- ---- how many are left
+
+rises-by : (boundaries others : List Boundary) (from end : ℕ) → offsets boundaries ≡ offsets others → RisesTo from boundaries end → RisesTo from others end
+rises-by [] [] from end same rises = rises
+rises-by [] (other ∷ others) from end same rises = cc
+rises-by (boundary ∷ boundaries) [] from end same rises = cc
+rises-by (boundary ∷ boundaries) (other ∷ others) from end same rises =
+    let here : boundary.offset ≡ other.offset = ap (λ (places : List ℕ). get_or places 0 0) same in
+    let there : offsets boundaries ≡ offsets others = ap (drop 1) same in
+    (subst (λ place. from < place) here rises.0, rises-by boundaries others other.offset end there (subst (λ place. RisesTo place boundaries end) here rises.1))
+
+-- what is left is told by places alone
+pub ahead-by : (boundaries others : List Boundary) (started : Bool) (from end : ℕ) → offsets boundaries ≡ offsets others → AreLeft started from end boundaries
+    → AreLeft started from end others
+ahead-by boundaries others true from end same is = rises-by boundaries others from end same is
+ahead-by [] others false from end same is = absurd is
+ahead-by (boundary ∷ boundaries) [] false from end same is = cc
+ahead-by (boundary ∷ boundaries) (other ∷ others) false from end same is =
+    let here : boundary.offset ≡ other.offset = ap (λ (places : List ℕ). get_or places 0 0) same in
+    let there : offsets boundaries ≡ offsets others = ap (drop 1) same in
+    (sym here ∙ is.0, rises-by boundaries others from end there is.1)

@@ -27,6 +27,7 @@ mod word_breaks;
 
 use seg_words::word::WordType;
 use std::alloc::AllocError;
+use std::fmt::Debug;
 use std::marker::Model;
 pub use units::Units;
 
@@ -176,6 +177,7 @@ pub trait WordBreaks: BreakIterator<Mark = WordType> {
 /// The segments of a text, each with the place where it begins and with what the status says of the boundary at which it ends. After
 /// None it stays None.
 #[derive(Drop)]
+#[derive_where(Debug; B: Debug, B::Units: Debug)]
 pub struct MarkedSegments<B: BreakIterator> {
     breaks: B,
     text: B::Units,
@@ -240,6 +242,7 @@ impl<B: BreakIterator> Iterator for MarkedSegments<B> {
 
 /// The segments of a text. After None it stays None.
 #[derive(Drop)]
+#[derive_where(Debug; B: Debug, B::Units: Debug)]
 pub struct Segments<B: BreakIterator> {
     segments: MarkedSegments<B>,
 }
@@ -275,6 +278,7 @@ impl<B: BreakIterator> Iterator for Segments<B> {
 
 /// The segments of a text, each with the place where it begins. After None it stays None.
 #[derive(Drop)]
+#[derive_where(Debug; B: Debug, B::Units: Debug)]
 pub struct SegmentIndices<B: BreakIterator> {
     segments: MarkedSegments<B>,
 }
@@ -310,6 +314,7 @@ impl<B: BreakIterator> Iterator for SegmentIndices<B> {
 
 /// The words of a text, each with the place where it begins and its type. After None it stays None.
 #[derive(Drop)]
+#[derive_where(Debug; B: Debug, B::Units: Debug)]
 pub struct Words<B: BreakIterator<Mark = WordType>> {
     segments: MarkedSegments<B>,
 }

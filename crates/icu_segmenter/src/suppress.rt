@@ -26,13 +26,14 @@ mod segmenter;
 mod sentence_breaks;
 mod starts;
 
-use crate::segments::BreakIterator;
+use crate::segments::{BreakIterator, Units};
 pub use abbreviations::{AbbreviationError, Abbreviations};
-use kept::Kept;
+use kept::{HintedKept, Kept};
 use seg_data::provider::DictionaryCursor;
 use seg_text::cursor::Cursor;
 pub use segmenter::SuppressingSegmenter;
 use std::alloc::AllocError;
+use std::fmt::Debug;
 
 /// An iterator over the boundaries of sentences.
 pub trait SentenceBreaks: BreakIterator {
@@ -64,9 +65,10 @@ pub trait SentenceBreaks: BreakIterator {
     {
         let source = self.fork();
         let text = self.code_points();
+        let end = self.text().len();
         let words = abbreviations.cursor();
         SuppressedBreaks {
-            kept: Kept::new(self, words, text),
+            kept: HintedKept::new(Kept::new(self, words, text), end),
             words,
             source,
         }
@@ -79,8 +81,9 @@ pub trait SentenceBreaks: BreakIterator {
 /// It reads the text once more than the sentences do, and from each place where an abbreviation may begin as far as one goes on there,
 /// with the spaces after it. Takes no memory.
 #[derive(Drop)]
+#[derive_where(Debug; B: Debug, I: Debug)]
 pub struct SuppressedBreaks<'data, B: BreakIterator, I: Cursor> {
-    kept: Kept<'data, B, I>,
+    kept: HintedKept<'data, B, I>,
     words: DictionaryCursor<'data>,
     source: B,
 }
@@ -108,6 +111,10 @@ impl<'data, B: BreakIterator, I: Cursor> Iterator for SuppressedBreaks<'data, B,
     fn next(&mut self) -> Option<usize> {
         let (place, _) = self.kept.next_break()?;
         Some(place)
+    }
+
+    fn size_hint(&self) -> (usize, Option<usize>) {
+        self.kept.size_hint()
     }
 }
 

@@ -2,3 +2,5 @@ mod ChosenLines
 mod TypedWords
 mod TableTests
 mod Tables
+mod Refusals
+mod Refused

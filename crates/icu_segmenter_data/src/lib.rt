@@ -1,6 +1,6 @@
 //! The segmenters of `icu_segmenter` over Unicode's data, each in one call.
 //!
-//! They are by machines of Unicode 18.0, of which it is proved that they follow UAX #29 and UAX #14 (`icu_segmenter_uax29`,
+//! They are by machines of Unicode 18.0, of which it is proved that they follow UAX #29 and UAX #14 revision 55 (`icu_segmenter_uax29`,
 //! `icu_segmenter_uax14`). The pair tables (`classic`) are of Unicode 18.0 too: arrays that `generate/generate.py` writes out of the
 //! rows of rules that the machines follow. That they have the same boundaries is tested, on every text of up to three characters out of
 //! one for each symbol and class, and isn't proved. It is proved that their checks reject none of them.

@@ -1,5 +1,6 @@
-//! Segmenters by Unicode's machines, each in one call: they are proved to follow UAX #29 and UAX #14.
-ghost use Rattle.std.specs.Prelude.{◌≡◌, IfOk};
+//! Segmenters by Unicode's machines, each in one call: they are proved to follow UAX #29 and UAX #14 revision 55.
+ghost use Rattle.std.specs.Prelude.{◌≡◌, IfOk, IfErr};
+ghost use Rattle.seg_data.specs.declared.provider.DataError.TheVariants.{Memory};
 ghost use Rattle.icu_segmenter.specs.Clusters.{owned_cluster_rules, owned_sentence_rules};
 ghost use Rattle.icu_segmenter.specs.Lines.{chosen_rules, owned_line_rules};
 ghost use Rattle.icu_segmenter.specs.Options.{machine_choice};
@@ -26,19 +27,21 @@ use icu_segmenter_uax29::{cluster_machine, sentence_machine, typed_word_machine}
 use std::alloc::Global;
 
 /// A segmenter of extended grapheme clusters, by the machine of which it is proved that they are those of UAX #29 as it is in Unicode
-/// 18.0 (`icu_segmenter_uax29::laws::clusters_are_uax29`). Fails only when out of memory.
+/// 18.0 (`icu_segmenter_uax29::laws::clusters_are_uax29`). The only error is `Memory`.
 pub fn grapheme_segmenter(alloc: Global) -> Result<GraphemeClusterSegmenter, DataError>
-    ensures { IfOk result (λ clusters. owned_cluster_rules clusters ≡ ByMachine cluster_machine) }
+    ensures made { IfOk result (λ clusters. owned_cluster_rules clusters ≡ ByMachine cluster_machine) }
+    ensures rejected { IfErr result (λ fault. fault ≡ Memory) }
 {
     GraphemeClusterSegmenter::try_new_neo(cluster_machine(alloc)?)
 }
 
 /// A segmenter of words, by the machine of which it is proved that they are those of UAX #29 as it is in Unicode 18.0, with their types
-/// (`icu_segmenter_uax29::laws::word_types`). It has no dictionaries: `load_dictionary` takes them. Fails only when
-/// out of memory.
+/// (`icu_segmenter_uax29::laws::word_types`). It has no dictionaries: `load_dictionary` takes them. The only error is
+/// `Memory`.
 pub fn word_segmenter(alloc: Global) -> Result<WordSegmenter, DataError>
     ensures machines { IfOk result (λ words. owned_word_rules words ≡ machine_words typed_word_machine cluster_table no_words) }
     ensures words { IfOk result (λ words. AreWords (owned_word_rules words)) }
+    ensures rejected { IfErr result (λ fault. fault ≡ Memory) }
 {
     word_types();
     WordSegmenter::try_new_neo_for_non_complex_scripts(
@@ -49,9 +52,10 @@ pub fn word_segmenter(alloc: Global) -> Result<WordSegmenter, DataError>
 }
 
 /// A segmenter of sentences, by the machine of which it is proved that they are those of UAX #29 as it is in Unicode 18.0
-/// (`icu_segmenter_uax29::laws::sentences_are_uax29`). Fails only when out of memory.
+/// (`icu_segmenter_uax29::laws::sentences_are_uax29`). The only error is `Memory`.
 pub fn sentence_segmenter(alloc: Global) -> Result<SentenceSegmenter, DataError>
-    ensures { IfOk result (λ sentences. owned_sentence_rules sentences ≡ ByMachine sentence_machine) }
+    ensures made { IfOk result (λ sentences. owned_sentence_rules sentences ≡ ByMachine sentence_machine) }
+    ensures rejected { IfErr result (λ fault. fault ≡ Memory) }
 {
     let machine = sentence_machine(alloc)?;
     SentenceSegmenter::try_new_neo(machine, None, SentenceBreakOptions::default())
@@ -59,14 +63,15 @@ pub fn sentence_segmenter(alloc: Global) -> Result<SentenceSegmenter, DataError>
 
 /// A segmenter of lines, by the machine of which it is proved that they are those of UAX #14, in the form of revision 55, with the
 /// properties of Unicode 18.0 (`icu_segmenter_uax14::laws::lines_follow_rules`), and the tailoring of CSS Text 3 that these options
-/// choose; or by the machine of clusters where they are `Anywhere`. It has no dictionaries: `load_dictionary` takes them. Fails only
-/// when out of memory.
+/// choose; or by the machine of clusters where they are `Anywhere`. It has no dictionaries: `load_dictionary` takes them. The only error
+/// is `Memory`.
 pub fn line_segmenter(
     alloc: Global,
     options: LineBreakOptions<'_>,
 ) -> Result<LineSegmenter, DataError>
     ensures machines { IfOk result (λ lines. owned_line_rules lines ≡ chosen_rules line_machine line_tailorings cluster_machine (machine_choice options.entry)) }
     ensures lines { IfOk result (λ lines. AreLines (owned_line_rules lines)) }
+    ensures rejected { IfErr result (λ fault. fault ≡ Memory) }
 {
     segmenters_follow_rules();
     LineSegmenter::try_new_neo_for_non_complex_scripts(

@@ -13,7 +13,7 @@ ghost use Rattle.icu_segmenter_uax14.specs.Tailored.{FollowsRules, HasScriptsOf,
 use seg_rules::laws::{boundaries_are_places, boundary_is_verdict, row_fits_by_patterns};
 
 /// Law: for every text the boundaries of the line machine, with any tailoring or none, are exactly the places where the rules of
-/// UAX #14 break, with status 1 where they must break.
+/// UAX #14 revision 55 break, with status 1 where they must break.
 pub fn lines_follow_rules()
     ensures { (tailoring : Tailoring) → FollowsRules (machine_by tailoring) }
 {

@@ -14,7 +14,7 @@ use seg_lines::provider::LineTailorings;
 use seg_machine::provider::SegmenterStateMachine;
 use std::alloc::Global;
 
-/// The machine of the lines of UAX #14, with the properties of Unicode 18.0. Status 1 is a mandatory break. Letters and marks of
+/// The machine of the lines of UAX #14 revision 55, with the properties of Unicode 18.0. Status 1 is a mandatory break. Letters and marks of
 /// Thai, Lao, Khmer and Myanmar have their script, so that dictionaries can cut them. The only error is out of memory.
 #[tactic(auto, unfolding(crate::specs::Lines::line_machine))]
 pub fn line_machine(alloc: Global) -> Result<SegmenterStateMachine, DataError>

@@ -92,7 +92,7 @@ cluster_rows =
     ∷ row [] joins (one SpacingMark ∷ [])
     -- GB9b
     ∷ row (one Prepend ∷ []) joins []
-    -- GB9c, as the crate unicode_segmentation has it: it asks for no consonant before the linker
+    -- GB9c of Unicode 18.0, which, unlike that of 17.0, asks for no consonant before the linker
     ∷ row (one InLinker ∷ many InExtend ∷ []) joins (one Consonant ∷ [])
     -- GB11
     ∷ row (one ExtPict ∷ many Extend ∷ one ZWJ ∷ []) joins (one ExtPict ∷ [])

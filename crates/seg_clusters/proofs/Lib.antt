@@ -21,4 +21,5 @@ pub mod UnwordedSpans
 pub mod InnerCuts
 pub mod InnerRange
 pub mod Fitting
+mod CutHints
 pub mod SplitSpans

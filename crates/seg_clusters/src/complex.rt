@@ -1,6 +1,6 @@
 //! What pieces of complex scripts are cut by: dictionaries, and the clusters at whose ends they may cut.
 
-ghost use Rattle.std.specs.Prelude.{◌≡◌, ◌≢◌, ◌+◌, ◌<◌, ◌^◌, length, IfOk, IfErr};
+ghost use Rattle.std.specs.Prelude.{◌≡◌, ◌≢◌, ◌+◌, ◌<◌, ◌^◌, ⊤, length, IfOk, IfErr};
 ghost use Rattle.std.specs.Iterator.{YieldsFirst, item_count};
 ghost use Rattle.seg_text.specs.Boundaries.{cut_places};
 ghost use Rattle.seg_text.specs.Decoding.{utf8, utf16};
@@ -23,7 +23,7 @@ use seg_memo::reader::CountedTransitions;
 use seg_text::cursor::Cursor;
 use seg_text::indices::{StrCharIndices, Utf8CharIndices, Utf16Indices};
 use seg_text::scaffold::{PotentiallyIllFormedUtf8, RuleBreakType, Utf8, Utf16};
-use std::alloc::Global;
+use std::alloc::{AllocError, Global};
 use std::fmt::Debug;
 use std::marker::PhantomData;
 
@@ -176,6 +176,19 @@ impl<'data, 's, Y: RuleBreakType<'s>> Drop for ComplexIterator<'data, 's, Y> {
     }
 }
 
+impl<'data, 's, Y: RuleBreakType<'s>> Clone for ComplexIterator<'data, 's, Y> {
+    ghost is_clone = { λ s r. r ≡ s };
+
+    ghost is_infallible = { λ _. ⊤ };
+
+    fn clone(&self) -> Result<Self, AllocError> {
+        Ok(ComplexIterator {
+            cuts: self.cuts.fork(),
+            text: PhantomData,
+        })
+    }
+}
+
 impl<'data, 's, Y: RuleBreakType<'s>> Iterator for ComplexIterator<'data, 's, Y> {
     ghost use Rattle.seg_clusters.specs.Payloads.{complex_left};
 
@@ -187,5 +200,9 @@ impl<'data, 's, Y: RuleBreakType<'s>> Iterator for ComplexIterator<'data, 's, Y>
 
     fn next(&mut self) -> Option<usize> {
         self.cuts.next()
+    }
+
+    fn size_hint(&self) -> (usize, Option<usize>) {
+        self.cuts.size_hint()
     }
 }

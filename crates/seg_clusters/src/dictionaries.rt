@@ -68,6 +68,13 @@ impl<'data, D: WordCursor, I: Cursor> Iterator for DictionaryCuts<'data, D, I> {
         self.rest.seek(place);
         Some(place)
     }
+
+    // Each cut is a unit or more after the one before, and the last is at the piece's end.
+    fn size_hint(&self) -> (usize, Option<usize>) {
+        grapheme::cover(self.clusters);
+        let units = self.rest.end() - self.rest.place();
+        (units.min(1), Some(units))
+    }
 }
 
 /// The place of the first cut of what is left of a piece.

@@ -19,12 +19,22 @@ use std::alloc::{AllocError, Global};
 use std::marker::Model;
 
 /// What the boundaries of a text are found by.
-#[derive(Debug, Drop)]
+#[derive(Debug)]
 pub enum OwnedEngine {
     /// A pair table, with its override.
     Classic(PairData),
     /// A state machine, with its tailoring.
     Neo(TailoredMachine),
+}
+
+// Written out, so that it is proved here and not in each function that drops one.
+impl Drop for OwnedEngine {
+    fn drop(self) {
+        match self {
+            OwnedEngine::Classic(_) => {}
+            OwnedEngine::Neo(_) => {}
+        }
+    }
 }
 
 impl OwnedEngine {

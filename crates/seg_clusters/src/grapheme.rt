@@ -118,9 +118,16 @@ impl<'data, 's, Y: RuleBreakType<'s>> Iterator for GraphemeClusterBreakIterator<
 }
 
 /// Finds grapheme clusters with data that it owns.
-#[derive(Debug, Drop)]
+#[derive(Debug)]
 pub struct GraphemeClusterSegmenter {
     engine: OwnedEngine,
+}
+
+// Written out, so that it is proved here and not in each function that drops one.
+impl Drop for GraphemeClusterSegmenter {
+    fn drop(self) {
+        let GraphemeClusterSegmenter { engine: _ } = self;
+    }
 }
 
 impl GraphemeClusterSegmenter {

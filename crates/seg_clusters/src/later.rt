@@ -65,4 +65,20 @@ impl<'data, I: Cursor> Iterator for LaterCuts<'data, I> {
             None => None,
         }
     }
+
+    fn size_hint(&self) -> (usize, Option<usize>) {
+        self.cuts.size_hint()
+    }
+}
+
+impl<'data, I: Cursor> LaterCuts<'data, I> {
+    /// The same cuts once more, from the same one on.
+    pub(crate) fn fork(&self) -> Self
+        ensures { result ≡ self.now }
+    {
+        LaterCuts {
+            cuts: self.cuts.fork(),
+            offset: self.offset,
+        }
+    }
 }

@@ -136,9 +136,16 @@ impl<'data, 's, Y: RuleBreakType<'s>> Iterator for SentenceBreakIterator<'data, 
 }
 
 /// Finds sentences with data that it owns.
-#[derive(Debug, Drop)]
+#[derive(Debug)]
 pub struct SentenceSegmenter {
     engine: OwnedEngine,
+}
+
+// Written out, so that it is proved here and not in each function that drops one.
+impl Drop for SentenceSegmenter {
+    fn drop(self) {
+        let SentenceSegmenter { engine: _ } = self;
+    }
 }
 
 impl SentenceSegmenter {

@@ -2,6 +2,7 @@
 ghost use Rattle.std.specs.Prelude.{IfOk};
 ghost use Rattle.seg_rules.specs.Given.{rules_of};
 ghost use Rattle.seg_rules.specs.Passed.{FindsPlaces};
+ghost use Rattle.seg_compile.specs.Symbols.{HasSymbolsOf};
 
 pub use crate::certified::Certified;
 use crate::dues::VERDICTS;
@@ -80,7 +81,8 @@ pub struct Characters {
 }
 
 /// The machine of rules over the symbols from 1 up to `symbols`: its boundaries of every list of code points are, with their
-/// statuses, the places where the rules break. Of its states no two are alike.
+/// statuses, the places where the rules break, each code point read as the symbol that `characters` give it. Its states are as few
+/// as the compiler can make them.
 ///
 /// It fails if the rules are too large (`TooManySymbols` to `TooManyStates`); if no machine that the check can follow finds their places,
 /// with a text that shows it (`TwoUndecided` to `NeedsPast`); if the characters are rejected (`Data`); and when out of memory.
@@ -90,7 +92,8 @@ pub fn compile(
     symbols: usize,
     characters: Characters,
 ) -> Result<SegmenterStateMachine, CompileError>
-    ensures { IfOk result (λ machine. FindsPlaces (rules_of rules.now) machine) }
+    ensures places { IfOk result (λ machine. FindsPlaces (rules_of rules.now) machine) }
+    ensures symbols { IfOk result (λ machine. HasSymbolsOf characters machine) }
 {
     let found = compile_certified(alloc, rules, symbols, characters)?;
     Ok(found.into_machine())
@@ -103,7 +106,8 @@ pub fn compile_certified(
     symbols: usize,
     characters: Characters,
 ) -> Result<Certified, CompileError>
-    ensures { IfOk result (λ found. FindsPlaces (rules_of rules.now) found.machine) }
+    ensures places { IfOk result (λ found. FindsPlaces (rules_of rules.now) found.machine) }
+    ensures symbols { IfOk result (λ found. HasSymbolsOf characters found.machine) }
 {
     let given = Given {
         alloc,

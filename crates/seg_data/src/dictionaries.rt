@@ -7,7 +7,7 @@ ghost use Rattle.seg_data.specs.ScriptWords.{words_of, words_after, filled, borr
 use crate::provider::{ComplexScript, DictionaryBreakData, DictionaryCursor};
 
 /// The dictionaries of scripts, each if there is one.
-#[derive(Debug, Drop)]
+#[derive(Debug)]
 pub struct Dictionaries {
     /// That of Myanmar.
     pub my: Option<DictionaryBreakData>,
@@ -19,6 +19,19 @@ pub struct Dictionaries {
     pub th: Option<DictionaryBreakData>,
     /// That of Chinese and Japanese.
     pub ja: Option<DictionaryBreakData>,
+}
+
+// Written out, so that it is proved here and not in each function that drops one.
+impl Drop for Dictionaries {
+    fn drop(self) {
+        let Dictionaries {
+            my: _,
+            km: _,
+            lo: _,
+            th: _,
+            ja: _,
+        } = self;
+    }
 }
 
 impl Dictionaries {

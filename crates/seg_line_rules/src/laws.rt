@@ -1,7 +1,7 @@
 //! Laws of the boundaries of lines by a pair table, in lists of code points: however runs are cut, or where their cuts rise strictly to their ends.
 
 ghost use Rattle.std.specs.Prelude.{◌≡◌, ℕ, List, length, drop};
-ghost use Rattle.seg_text.specs.Boundaries.{HasEqualOrdinals, IsCover, RestartsIn, Cuts, HasOneAnswer};
+ghost use Rattle.seg_text.specs.Boundaries.{IsCover, RestartsIn, Cuts, HasOneAnswer};
 ghost use Rattle.seg_line_rules.specs.LineBoundaries.{CutsCover, HasComplexCodePoint, inside, line_boundaries, line_stretch, rules_by, KeepsMarks};
 ghost use Rattle.seg_line_rules.specs.LineUnits.{counted_units, extent_of};
 
@@ -28,14 +28,6 @@ pub fn boundaries_are_one(pairs: LinePairs<'_, ClassicEngine>)
 pub fn strict_cover(pairs: LinePairs<'_, ClassicEngine>)
     ensures { (cuts : Cuts) → CutsCover cuts → (code_points : List ℕ)
         → IsCover 0 (length code_points) (line_boundaries (inside cuts) (rules_by pairs.entry) code_points) }
-{
-    let _ = pairs;
-}
-
-/// Law: two texts with equal code points, in whatever encodings, have the same boundaries, counted in code points: one function of the
-/// rules and of the decoded list, which names no place, length or encoding.
-pub fn equal_code_points(pairs: LinePairs<'_, ClassicEngine>)
-    ensures { (cuts : Cuts) → HasEqualOrdinals (line_boundaries cuts (rules_by pairs.entry)) }
 {
     let _ = pairs;
 }

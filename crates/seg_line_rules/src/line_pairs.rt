@@ -17,13 +17,24 @@ use std::alloc::AllocError;
 use std::marker::PhantomData;
 
 /// A pair table of lines of its own, with what options say, for an engine.
-#[derive(Debug, Drop)]
+#[derive(Debug)]
 pub struct OwnedLinePairs<E: PairEngine> {
     table: RuleBreakData,
     style: LineStyle,
     engine: PhantomData<E>,
     ghost has_id: { class_number E.ENGINE ID < table.property_count },
     ghost complex_apart: { is_never_complex E.ENGINE table.complex_property ≡ false },
+}
+
+// Written out, so that it is proved here and not in each function that drops one.
+impl<E: PairEngine> Drop for OwnedLinePairs<E> {
+    fn drop(self) {
+        let OwnedLinePairs {
+            table: _,
+            style: _,
+            engine: _,
+        } = self;
+    }
 }
 
 impl<E: PairEngine> OwnedLinePairs<E> {

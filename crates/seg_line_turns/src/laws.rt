@@ -2,7 +2,7 @@
 //! ends. No law says that what is left of a text after a boundary has the boundaries of the whole: the start of a text and a space after an
 //! opening are seen from afar, as by the sample data in a space, a hyphen and a letter.
 ghost use Rattle.std.specs.Prelude.{◌≡◌, ℕ, List, length};
-ghost use Rattle.seg_text.specs.Boundaries.{HasEqualOrdinals, IsCover, Cuts};
+ghost use Rattle.seg_text.specs.Boundaries.{IsCover, Cuts};
 ghost use Rattle.seg_line_rules.specs.LineBoundaries.{CutsCover, KeepsMarks, inside, line_boundaries, rules_by};
 ghost use Rattle.seg_line_rules.specs.LineUnits.{counted_units, units_of};
 ghost use Rattle.seg_line_rules.specs.declared.engines.LineEngine.TheVariants.{Seventeen};
@@ -23,12 +23,6 @@ pub fn boundaries_are_one()
 pub fn strict_cover()
     ensures { (cuts : Cuts) (rules : TableRules Seventeen) → CutsCover cuts → (code_points : List ℕ)
         → IsCover 0 (length code_points) (turn_boundaries (inside cuts) rules code_points) }
-{}
-
-/// Law: two texts with equal code points, in whatever encodings, have the same boundaries, counted in code points: one function of the
-/// rules and of the decoded list, which names no place, length or encoding.
-pub fn equal_code_points()
-    ensures { (cuts : Cuts) (rules : TableRules Seventeen) → HasEqualOrdinals (turn_boundaries cuts rules) }
 {}
 
 /// Law: no boundary but that at 0 stands before a code point of class CM, CM_EASTASIAN or ZWJ, except after one of class BK, CR, LF, NL, SP or

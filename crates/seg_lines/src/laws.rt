@@ -1,7 +1,9 @@
 //! Laws of the boundaries of lines, and of wrapped lines. A break is mandatory where its status is 1, so what is said of statuses is said of marks.
 
 ghost use Rattle.std.specs.Prelude.{◌≡◌, ℕ, List};
-ghost use Rattle.seg_text.specs.Boundaries.{HasEqualOrdinals, RestartsIn};
+ghost use Rattle.seg_text.specs.Boundaries.{AreSameCounted, RestartsIn};
+ghost use Rattle.seg_text.specs.Decoding.{utf8, utf16};
+ghost use Rattle.seg_text.specs.Items.{code_points};
 ghost use Rattle.seg_data.specs.ScriptWords.{ScriptWords, AreSameWords};
 ghost use Rattle.seg_clusters.specs.Rules.{PartsTexts};
 ghost use Rattle.seg_clusters.specs.Payloads.{run_cuts_by};
@@ -13,14 +15,15 @@ ghost use Rattle.seg_line_turns.specs.PlainTexts.{ArePlain, HasNoOpening};
 ghost use Rattle.seg_line_turns.specs.TurnBoundaries.{StartsBear};
 ghost use Rattle.seg_lines.specs.LineBreaks.LineFinder.{ByTable, ByTurns};
 ghost use Rattle.seg_lines.specs.LineBreaks.{HasOneList, LineRules, MayRestart, line_boundaries_by, lines_with_words, LinesResetAfter, HasNoMandatoryBreak, IsByPairTable};
-ghost use Rattle.seg_lines.specs.Lines.{line_rules};
+ghost use Rattle.seg_lines.specs.Lines.{line_rules, lines_left};
 ghost use Rattle.seg_lines.specs.Wrapping.{Segment, HasOneWrapping};
 
 use crate::finder::Finder;
-use crate::line::LineSegmenterBorrowed;
+use crate::line::{LineBreakIterator, LineSegmenterBorrowed};
 use seg_clusters::laws::grapheme;
 use seg_line_rules::laws;
 use seg_line_turns::laws as turn_laws;
+use seg_text::scaffold::{PotentiallyIllFormedUtf8, Utf16};
 
 /// Law: a list of code points has exactly one list of boundaries, in code points. Where clusters are found, the first is at
 /// its start, and each other one comes from the first stretch of what is left; so it is by a pair table of lines, and by the engine 17 from the first
@@ -35,12 +38,20 @@ pub fn boundaries_are_one(segmenter: LineSegmenterBorrowed<'_>)
     }
 }
 
-/// Law: two texts with equal code points, in whatever encodings, have the same boundaries, counted in code points, with
-/// the same statuses: one function of the rules and of the decoded list, which names no place, length or encoding.
-pub fn equal_code_points(segmenter: LineSegmenterBorrowed<'_>)
-    ensures { HasEqualOrdinals (line_boundaries_by (line_rules segmenter.entry)) }
+/// Law: a text in possibly ill-formed UTF-8 and one in possibly ill-formed UTF-16 that have equal code points have the same
+/// boundaries, counted in code points, with the same statuses. The lines of both are returned, none of them read.
+pub fn equal_code_points<'data, 's>(
+    segmenter: LineSegmenterBorrowed<'data>,
+    one: &'s [u8],
+    other: &'s [u16],
+) -> (
+    LineBreakIterator<'data, 's, PotentiallyIllFormedUtf8>,
+    LineBreakIterator<'data, 's, Utf16>,
+)
+    ensures { code_points (utf8 one.now).items ≡ code_points (utf16 other.now).items
+        → AreSameCounted (utf8 one.now) (lines_left result.0) (utf16 other.now) (lines_left result.1) }
 {
-    let _ = segmenter;
+    (segmenter.segment_utf8(one), segmenter.segment_utf16(other))
 }
 
 /// Law: the words of each script are a set: in what order they come, and how often, changes no boundary.

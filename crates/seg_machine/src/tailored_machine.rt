@@ -13,11 +13,21 @@ use crate::provider::{
 use seg_data::provider::{ComplexScript, DataError};
 
 /// A checked machine with its tailoring, if there is one.
-#[derive(Debug, Drop)]
+#[derive(Debug)]
 pub struct TailoredMachine {
     machine: SegmenterStateMachine,
     tailoring: Option<SegmenterStateMachineOverride>,
     ghost text_symbols: { HasTextSymbols (with_tailoring machine tailoring) },
+}
+
+// Written out, so that it is proved here and not in each function that drops one.
+impl Drop for TailoredMachine {
+    fn drop(self) {
+        let TailoredMachine {
+            machine: _,
+            tailoring: _,
+        } = self;
+    }
 }
 
 impl TailoredMachine {

@@ -145,15 +145,6 @@ memo-bound s t place counted count items memo is long =
     let most = different-bound s (all_look_ups s memo.starts) (all-within s memo.starts place memo.fit.sound memo.are memo.within) in
     rw (← long) (omega (arith, is, memo.count, most))
 
--- the room for a text of as many items as it has units is enough
-pub units-fit : (m : Machine) (text : Text) (states sets units most : ℕ) → IsRising text.items text.end → states ≡ length m.states → sets ≡ 2 ^ m.num_lookaheads → units + start_of text ≡ text.end
-    → states * sets * (units + 1) < 2 ^ 64 → most ≡ states * sets * (units + 1) → (configurations m (length text.items) ≤ most) × (configurations m (length text.items) < 2 ^ 64)
-units-fit m text states sets units most rising states_are sets_are end fits is =
-    let few : start_of text + length text.items ≤ text.end = items-few text.items text.end rising in
-    let less : states * sets * (length text.items + 1) ≤ states * sets * (units + 1) = mul-le (states * sets) (length text.items + 1) (states * sets) (units + 1) (omega arith) (omega (arith, few, end)) in
-    let same : states * sets * (length text.items + 1) ≡ configurations m (length text.items) = rw (states_are, sets_are) refl in
-    (omega (arith, less, same, is), omega (arith, less, same, fits))
-
 -- the symbols by a machine's parts can be counted
 pub parts-fit : (m parts : Machine) (items : List Item) → IsChecked m → configurations m (length items) < 2 ^ 64
     → suc (length (symbols_of parts (code_points items))) < 2 ^ 64

@@ -1,6 +1,6 @@
 //! The boundaries of a text by a state machine, where no configuration is looked up twice.
 
-ghost use Rattle.std.specs.Prelude.{◌≡◌, ◌<◌, ◌≤◌, ◌+◌, ◌*◌, ◌^◌, ⊤, ℕ, false, Some, IfOk, IfErr, IfSome, IsNone, SomeIff, length};
+ghost use Rattle.std.specs.Prelude.{◌≡◌, ◌<◌, ◌≤◌, ◌+◌, ◌*◌, ◌^◌, ⊤, ℕ, false, Some, IfOk, IfErr, SomeIff, length};
 ghost use Rattle.std.specs.Iterator.{YieldsFirst, MakesProgress, item_count};
 ghost use Rattle.seg_text.specs.Boundaries.{GivesNext, boundaries_in, remainder};
 ghost use Rattle.seg_text.specs.Items.{code_points, rest_after};
@@ -16,6 +16,7 @@ use crate::table::Table;
 use seg_machine::provider::Symbol;
 use seg_machine::tailored_machine::TailoredMachineBorrowed;
 use seg_text::cursor::Cursor;
+use seg_text::reach::Reach;
 use std::alloc::Global;
 use std::marker::Model;
 use thiserror::Error;
@@ -39,6 +40,9 @@ pub enum MemoError {
 
 /// The boundaries of a text by a state machine: its start, and then the end of each segment. Each configuration of its scans
 /// is looked up once.
+///
+/// It has no `Clone`: a copy of its table would take memory without an allocator that is passed in, and both would count what they
+/// read before.
 #[derive(Debug, Drop)]
 pub struct MemoBreakIterator<'data, I: Cursor, R: ReadTransitions> {
     scanned: Scanned<'data, I>,
@@ -161,33 +165,21 @@ fn count_configurations(states: usize, sets: usize, items: usize) -> Option<usiz
     states.checked_mul(sets)?.checked_mul(items.checked_add(1)?)
 }
 
-/// So many cells at most are made room for without a count of items: a gigabyte, of which only what is used is touched.
-const UNCOUNTED: usize = 1 << 28;
-
-/// How many cells to make room for, unless there are more configurations than the greatest `usize`: those of as many items as
-/// the text has units, which needs no count, or where these are many, of as many as it has.
+/// How many configurations a machine has over a text, unless there are more than the greatest `usize`: its items are counted first.
 fn count_cells<I: Cursor>(machine: &TailoredMachineBorrowed<'_>, text: &I) -> Option<usize>
-    ensures room { IfSome result (λ count. configurations (machine_of machine.now) (length (I.text text.now).items) ≤ count) }
-    ensures fits { IfSome result (λ _. configurations (machine_of machine.now) (length (I.text text.now).items) < 2 ^ 64) }
-    ensures none { IsNone result → 2 ^ 64 ≤ configurations (machine_of machine.now) (length (I.text text.now).items) }
+    ensures { let count = configurations (machine_of machine.now) (length (I.text text.now).items) in SomeIff result (count < 2 ^ 64) count }
 {
     machine.facts();
     let states = machine.machine().states().len();
     let sets = 1 << machine.num_lookaheads();
-    let units = text.end() - text.place();
-    if let Some(most) = count_configurations(states, sets, units) {
-        if most <= UNCOUNTED {
-            return Some(most);
-        }
-    }
-    let items = count_items(text)?;
-    let count = count_configurations(states, sets, items)?;
-    Some(count)
+    count_configurations(states, sets, count_items(text)?)
 }
 
 impl<'data, I: Cursor> MemoBreakIterator<'data, I, CountedTransitions<'data>> {
-    /// The boundaries of what is left of `text`. One growth makes the room for all configurations; nothing takes memory
-    /// after that. `TooLarge` where there are more of them than the greatest `usize`: no memory is asked for then.
+    /// The boundaries of what is left of `text`, which is read once more, to count its items n. One growth makes room for
+    /// Q * 2^L * (n + 1) cells of 4 bytes, a cell for each configuration by the machine's Q states and L lookaheads; nothing takes
+    /// memory after that. `TooLarge` where there are more configurations than the greatest `usize`: no memory is asked for then.
+    /// `Memory` where that growth is refused.
     pub fn try_new(
         alloc: Global,
         machine: TailoredMachineBorrowed<'data>,
@@ -271,5 +263,14 @@ impl<'data, I: Cursor, R: ReadTransitions> Iterator for MemoBreakIterator<'data,
         ensures goes { MakesProgress (λ _. ⊤) (item_count memo_places) self.old result self.new }
     {
         self.next_boundary()
+    }
+
+    fn size_hint(&self) -> (usize, Option<usize>) {
+        let reach = Reach {
+            started: self.started,
+            place: self.rest.place(),
+            end: self.rest.end(),
+        };
+        reach.size_hint()
     }
 }

@@ -1,6 +1,7 @@
 //! What is wrong with a text, and at which line: for callers of `TextRules`, and within this crate.
 
 use std::alloc::{AllocError, AllocFailed};
+use std::fmt::{self, Debug, Display, Formatter};
 use thiserror::Error;
 
 /// Why a text gives no rules.
@@ -14,7 +15,7 @@ pub struct TextError {
 }
 
 /// What is wrong at a line, by what was wanted there.
-#[derive(Clone, Copy, Debug, PartialEq, Error)]
+#[derive(Clone, Copy, PartialEq, Error)]
 pub enum Fault {
     /// The text has no rules.
     #[error("wanted rules, and the text has none")]
@@ -123,6 +124,13 @@ pub enum Fault {
     /// Out of memory.
     #[error("out of memory")]
     Memory,
+}
+
+// The message: a derived one is proved variant by variant, for half a minute.
+impl Debug for Fault {
+    fn fmt<W: fmt::Write>(&self, f: &mut Formatter<W>) -> fmt::Result {
+        Display::fmt(self, f)
+    }
 }
 
 impl From<AllocError> for Fault {

@@ -9,11 +9,21 @@ use seg_data::provider::DataError;
 
 /// A pair table and the override that it is used with, if there is one. The classes that the
 /// override names are among the table's.
-#[derive(Debug, Drop)]
+#[derive(Debug)]
 pub struct PairData {
     table: RuleBreakData,
     overriding: Option<RuleBreakDataOverride>,
     ghost fits: { (class : ℕ) → Overrides overriding class → class < table.property_count },
+}
+
+// Written out, so that it is proved here and not in each function that drops one.
+impl Drop for PairData {
+    fn drop(self) {
+        let PairData {
+            table: _,
+            overriding: _,
+        } = self;
+    }
 }
 
 impl PairData {

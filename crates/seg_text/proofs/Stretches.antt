@@ -3,7 +3,7 @@ use Rattle.std.proofs.Common.{◌≡◌, ℕ, zero, suc, ◌<◌, ◌≤◌, Lis
 use Rattle.std.proofs.lemmas.List.{length-drop, length-map, drop-map}
 use Rattle.seg_text.specs.Items.{Item, Text, rest_after, code_points}
 use Rattle.seg_text.specs.declared.boundary.Boundary.{Boundary}
-use Rattle.seg_text.specs.Boundaries.{start, shift_all, boundary_in, boundaries_in, HasEqualOrdinals, Stretch, AreLaterBoundaries, later_boundaries_within, later_boundaries, HasOneAnswer, HasProgress}
+use Rattle.seg_text.specs.Boundaries.{start, shift_all, boundary_in, boundaries_in, AreSameCounted, Stretch, AreLaterBoundaries, later_boundaries_within, later_boundaries, HasOneAnswer, HasProgress}
 use Rattle.seg_text.proofs.Places.{in-append, in-shift, code_points-drop}
 
 fewer : {X : Type 0} (n most : ℕ) (x : X) (xs : List X) → 0 < n → length (x ∷ xs) ≤ suc most → length (drop n (x ∷ xs)) ≤ most
@@ -66,8 +66,9 @@ module _ {X : Type 0} (first : List X → Stretch) (going : HasProgress first) w
   }
 
 -- boundaries are found in the code points alone
-pub equal-ordinals : (find : List ℕ → List Boundary) → HasEqualOrdinals find
-equal-ordinals find one other same = (find (code_points one.items), refl, ap (λ cps. map (boundary_in other) (find cps)) (sym same))
+pub same-counted : (find : List ℕ → List Boundary) (one other : Text) → code_points one.items ≡ code_points other.items
+    → AreSameCounted one (boundaries_in find one) other (boundaries_in find other)
+same-counted find one other same = (find (code_points one.items), refl, ap (λ cps. map (boundary_in other) (find cps)) (sym same))
 
 pub text-later-nil : (first : List ℕ → Stretch) (end : ℕ) → boundaries_in (later_boundaries first) (record { items = []; end = end }) ≡ []
 text-later-nil first end = rw (later-nil first) refl

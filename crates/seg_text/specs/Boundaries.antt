@@ -40,12 +40,10 @@ abbrev pub IsCover : ℕ → ℕ → List Boundary → Type 0
 IsCover from end [] = ⊥
 IsCover from end (boundary ∷ boundaries) = (boundary.offset ≡ from) × RisesTo from boundaries end
 
--- texts with equal code points, in whatever encodings, have the same boundaries, counted in code points
-abbrev pub HasEqualOrdinals : (List ℕ → List Boundary) → Type 0
-HasEqualOrdinals find =
-    (one other : Text) → code_points one.items ≡ code_points other.items
-    → (counted : List Boundary) × (boundaries_in find one ≡ map (boundary_in one) counted)
-    × (boundaries_in find other ≡ map (boundary_in other) counted)
+-- what was found in one text and in another are the same boundaries, counted in code points
+abbrev pub AreSameCounted : Text → List Boundary → Text → List Boundary → Type 0
+AreSameCounted one found other others =
+    (counted : List Boundary) × (found ≡ map (boundary_in one) counted) × (others ≡ map (boundary_in other) counted)
 
 -- a list may be cut anew from any of its boundaries: after each come those of the rest, taken alone and shifted, all but
 -- its first, which is at 0

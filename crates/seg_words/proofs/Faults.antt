@@ -9,7 +9,7 @@ use Rattle.seg_pairs.specs.PairData.{HasPairDataFault, HasComplexClassBelow0100}
 use Rattle.seg_pairs.proofs.Pairs.{data-cases}
 use Rattle.seg_words.specs.Words.{HasOwnFault, HasWordTableFault}
 
-own-cases : (t : PairTable) (o : Option Table) (fault : DataError) → HasOwnFault t o fault
+pub own-cases : (t : PairTable) (o : Option Table) (fault : DataError) → HasOwnFault t o fault
     → ((fault ≡ ClassOutOfRange) × HasPairDataFault t o ClassOutOfRange)
     ⊎ (((fault ≡ StartRowKeeps) × HasPairDataFault t o StartRowKeeps) ⊎ ((fault ≡ ComplexBelow0100) × HasComplexClassBelow0100 t o))
 own-cases t o Memory has = absurd has

@@ -2,14 +2,17 @@
 //! said of types.
 
 ghost use Rattle.std.specs.Prelude.{◌≡◌, ℕ, List, [], ◌∷◌};
-ghost use Rattle.seg_text.specs.Boundaries.{HasEqualOrdinals, RestartsIn, HasOneAnswer};
+ghost use Rattle.seg_text.specs.Boundaries.{AreSameCounted, RestartsIn, HasOneAnswer};
+ghost use Rattle.seg_text.specs.Decoding.{utf8, utf16};
+ghost use Rattle.seg_text.specs.Items.{code_points};
 ghost use Rattle.seg_data.specs.ScriptWords.{ScriptWords, AreSameWords};
 ghost use Rattle.seg_clusters.specs.Rules.{PartsTexts};
 ghost use Rattle.seg_words.specs.WordRules.{WordsResetAfter, HasNoRunOfWords, WordRules, first_word_stretch, with_words, word_boundaries_by};
-ghost use Rattle.seg_words.specs.Words.{word_rules};
+ghost use Rattle.seg_words.specs.Words.{word_rules, words_left};
 
-use crate::word::{WordSegmenterBorrowed, WordType};
+use crate::word::{WordBreakIterator, WordSegmenterBorrowed, WordType};
 use seg_clusters::engine::Engine;
+use seg_text::scaffold::{PotentiallyIllFormedUtf8, Utf16};
 
 /// Law: a list of code points has exactly one list of boundaries, in code points: the first is at its start, and the
 /// others come from the first stretch of what is left, again and again. Such a stretch is the machine's pick, what the verdict
@@ -20,12 +23,20 @@ pub fn boundaries_are_one(segmenter: WordSegmenterBorrowed<'_>)
     let _ = segmenter;
 }
 
-/// Law: two texts with equal code points, in whatever encodings, have the same boundaries, counted in code points, with
-/// the same statuses: one function of the rules and of the decoded list, which names no place, length or encoding.
-pub fn equal_code_points(segmenter: WordSegmenterBorrowed<'_>)
-    ensures { HasEqualOrdinals (word_boundaries_by (word_rules segmenter.entry)) }
+/// Law: a text in possibly ill-formed UTF-8 and one in possibly ill-formed UTF-16 that have equal code points have the same
+/// boundaries, counted in code points, with the same statuses. The words of both are returned, none of them read.
+pub fn equal_code_points<'data, 's>(
+    segmenter: WordSegmenterBorrowed<'data>,
+    one: &'s [u8],
+    other: &'s [u16],
+) -> (
+    WordBreakIterator<'data, 's, PotentiallyIllFormedUtf8>,
+    WordBreakIterator<'data, 's, Utf16>,
+)
+    ensures { code_points (utf8 one.now).items ≡ code_points (utf16 other.now).items
+        → AreSameCounted (utf8 one.now) (words_left result.0) (utf16 other.now) (words_left result.1) }
 {
-    let _ = segmenter;
+    (segmenter.segment_utf8(one), segmenter.segment_utf16(other))
 }
 
 /// Law: the words of each script are a set: in what order they come, and how often, changes no boundary.

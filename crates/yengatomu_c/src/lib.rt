@@ -31,6 +31,7 @@ mod versions;
 mod wrapped;
 
 use dictionary::Refusal;
+use icu_segmenter::provider::DataError;
 use request::{LineNumbers, requested};
 use rules::Complaint;
 use segmenter::Segmenter;
@@ -70,7 +71,8 @@ pub extern "C" fn yengatomu_open(
             slot.put(segmenter);
             0
         }
-        Err(_) => 1,
+        Err(DataError::Memory) => 1,
+        Err(_) => unreachable!(),
     }
 }
 

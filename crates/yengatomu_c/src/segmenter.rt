@@ -1,6 +1,7 @@
 //! The segmenter that a slot holds.
 
-ghost use Rattle.std.specs.Prelude.{◌≡◌, IfOk};
+ghost use Rattle.std.specs.Prelude.{◌≡◌, IfOk, IfErr};
+ghost use Rattle.seg_data.specs.declared.provider.DataError.TheVariants.{Memory};
 ghost use Rattle.icu_segmenter.specs.Boundaries.{HasRestart};
 ghost use Rattle.icu_segmenter.specs.Lines.{owned_line_rules};
 ghost use Rattle.yengatomu_c.specs.Finders.{find_by, finder_of};
@@ -27,10 +28,11 @@ pub enum Segmenter {
 }
 
 impl Segmenter {
-    /// What is asked for, in a box. The only error is that memory is missing.
+    /// What is asked for, in a box. The only error is `Memory`.
     pub fn boxed(alloc: Global, request: Request) -> Result<Box<Segmenter>, DataError>
         ensures made { IfOk result (λ segmenter. finder_of segmenter.value ≡ finder_asked request) }
         ensures restart { IfOk result (λ segmenter. HasRestart (find_by (finder_of segmenter.value))) }
+        ensures rejected { IfErr result (λ fault. fault ≡ Memory) }
     {
         let segmenter = Segmenter::new(alloc, request)?;
         match Box::new(alloc, segmenter) {
@@ -39,10 +41,11 @@ impl Segmenter {
         }
     }
 
-    /// What is asked for. The only error is that memory is missing.
+    /// What is asked for. The only error is `Memory`.
     pub fn new(alloc: Global, request: Request) -> Result<Self, DataError>
         ensures made { IfOk result (λ segmenter. finder_of segmenter ≡ finder_asked request) }
         ensures restart { IfOk result (λ segmenter. HasRestart (find_by (finder_of segmenter))) }
+        ensures rejected { IfErr result (λ fault. fault ≡ Memory) }
     {
         match request {
             Request::Clusters => clusters(alloc),
@@ -77,6 +80,7 @@ impl Segmenter {
 fn clusters(alloc: Global) -> Result<Segmenter, DataError>
     ensures made { IfOk result (λ segmenter. finder_of segmenter ≡ finder_asked Request.Clusters) }
     ensures restart { IfOk result (λ segmenter. HasRestart (find_by (finder_of segmenter))) }
+    ensures rejected { IfErr result (λ fault. fault ≡ Memory) }
 {
     let clusters = grapheme_segmenter(alloc)?;
     laws::grapheme::restart(clusters.as_borrowed());
@@ -86,6 +90,7 @@ fn clusters(alloc: Global) -> Result<Segmenter, DataError>
 fn words(alloc: Global) -> Result<Segmenter, DataError>
     ensures made { IfOk result (λ segmenter. finder_of segmenter ≡ finder_asked Request.Words) }
     ensures restart { IfOk result (λ segmenter. HasRestart (find_by (finder_of segmenter))) }
+    ensures rejected { IfErr result (λ fault. fault ≡ Memory) }
 {
     let words = word_segmenter(alloc)?;
     laws::word::restart(words.as_borrowed());
@@ -95,6 +100,7 @@ fn words(alloc: Global) -> Result<Segmenter, DataError>
 fn sentences(alloc: Global) -> Result<Segmenter, DataError>
     ensures made { IfOk result (λ segmenter. finder_of segmenter ≡ finder_asked Request.Sentences) }
     ensures restart { IfOk result (λ segmenter. HasRestart (find_by (finder_of segmenter))) }
+    ensures rejected { IfErr result (λ fault. fault ≡ Memory) }
 {
     let sentences = sentence_segmenter(alloc)?;
     laws::sentence::restart(sentences.as_borrowed());
@@ -104,6 +110,7 @@ fn sentences(alloc: Global) -> Result<Segmenter, DataError>
 fn lines(alloc: Global, options: LineOptions) -> Result<Segmenter, DataError>
     ensures made { IfOk result (λ segmenter. finder_of segmenter ≡ finder_asked (Request.Lines options)) }
     ensures restart { IfOk result (λ segmenter. HasRestart (find_by (finder_of segmenter))) }
+    ensures rejected { IfErr result (λ fault. fault ≡ Memory) }
 {
     let lines = line_segmenter_by(alloc, options)?;
     laws::line::restart(lines.as_borrowed());
@@ -111,7 +118,8 @@ fn lines(alloc: Global, options: LineOptions) -> Result<Segmenter, DataError>
 }
 
 fn line_segmenter_by(alloc: Global, options: LineOptions) -> Result<LineSegmenter, DataError>
-    ensures { IfOk result (λ lines. owned_line_rules lines ≡ line_rules_for options.strictness options.word_option options.is_chinese_or_japanese) }
+    ensures made { IfOk result (λ lines. owned_line_rules lines ≡ line_rules_for options.strictness options.word_option options.is_chinese_or_japanese) }
+    ensures rejected { IfErr result (λ fault. fault ≡ Memory) }
 {
     let chinese = LanguageIdentifier::try_from_language("zh");
     let content_locale = if options.is_chinese_or_japanese {

@@ -32,8 +32,9 @@
 //! # What is proved
 //!
 //! The library behind this crate, `libyengatomu.a`, is proved: for every text it finds exactly the boundaries of its rules, and it never reads or
-//! writes out of range, overflows, aborts or runs for ever. They are proved to be those of UAX #29, and of
-//! lines those of UAX #14, by Unicode 18.0. This crate, some Rust around the library, is tested.
+//! writes out of range, overflows, aborts or runs for ever. They are proved to be those of UAX #29 of Unicode 18.0, and of lines those of
+//! UAX #14 revision 55 (Unicode 17), with properties of Unicode 18.0. With rules of your own, the machine is proved to follow the rules
+//! that were read; how they are read is tested. This crate, some Rust around the library, is tested.
 //!
 //! # Threads
 //!
@@ -204,7 +205,8 @@ impl LineSegmenter {
 impl RuleSegmenter {
     /// A segmenter by rules of your own: symbols, each a set of code points, and then rows, of which the first that fits a place joins (`×`)
     /// or parts (`÷`) what stands there. The page `crates/segment/segment.1` of the repository tells the notation. The library finds a
-    /// machine of the rules, and it is proved that such a machine's boundaries are where they part a text.
+    /// machine of the rules, and it is proved that such a machine's boundaries are where the rules that were read part a text. How they are
+    /// read is tested.
     ///
     /// ```
     /// use yengatomu::{Error, Segmenter};
@@ -372,7 +374,8 @@ impl<K: Kind> Segmenter<K> {
         }
     }
 
-    /// The version of the Unicode data by which this kind is segmented.
+    /// The version of the Unicode data by which this kind is segmented: 18.0.0. The rules of lines are those of UAX #14 revision 55, which
+    /// belongs to Unicode 17; those of the other kinds belong to Unicode 18.
     #[must_use]
     pub fn unicode_version() -> (u32, u32, u32) {
         parts(raw::unicode_version(kind::number::<K>()))

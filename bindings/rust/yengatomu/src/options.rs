@@ -32,7 +32,7 @@ pub enum Strictness {
     Normal = sys::YENGATOMU_NORMAL,
     /// The fewest rules, as `line-break: loose`.
     Loose = sys::YENGATOMU_LOOSE,
-    /// Lines break at each grapheme cluster, as `line-break: anywhere`.
+    /// Lines break at each grapheme cluster, as `line-break: anywhere`. A word option other than normal overrides it.
     Anywhere = sys::YENGATOMU_ANYWHERE,
 }
 

@@ -1,7 +1,7 @@
 //! Laws of the boundaries of texts, whatever rules they are found by.
 
 ghost use Rattle.std.specs.Prelude.{ℕ, List, length};
-ghost use Rattle.seg_text.specs.Boundaries.{HasEqualOrdinals, HasRestart, IsCover, HasOneAnswer};
+ghost use Rattle.seg_text.specs.Boundaries.{HasRestart, IsCover, HasOneAnswer};
 ghost use Rattle.seg_clusters.specs.Rules.{rules_of, PartsTexts, ResetsAfter, boundaries_by, first_stretch};
 
 use crate::engine::Engine;
@@ -11,14 +11,6 @@ use crate::engine::Engine;
 /// table takes.
 pub fn boundaries_are_one(engine: Engine<'_>)
     ensures { HasOneAnswer (first_stretch (rules_of engine.entry)) }
-{
-    let _ = engine;
-}
-
-/// Law: two texts with equal code points, in whatever encodings, have the same boundaries, counted in code points, with
-/// the same statuses: one function of the rules and of the decoded list, which names no place, length or encoding.
-pub fn equal_code_points(engine: Engine<'_>)
-    ensures { HasEqualOrdinals (boundaries_by (rules_of engine.entry)) }
 {
     let _ = engine;
 }

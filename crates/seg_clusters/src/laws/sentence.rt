@@ -1,12 +1,15 @@
 //! Laws of the boundaries of sentences.
 
-ghost use Rattle.std.specs.Prelude.{ℕ, List, length};
-ghost use Rattle.seg_text.specs.Boundaries.{HasEqualOrdinals, HasRestart, IsCover, HasOneAnswer};
+ghost use Rattle.std.specs.Prelude.{◌≡◌, ℕ, List, length};
+ghost use Rattle.seg_text.specs.Boundaries.{AreSameCounted, HasRestart, IsCover, HasOneAnswer};
+ghost use Rattle.seg_text.specs.Decoding.{utf8, utf16};
+ghost use Rattle.seg_text.specs.Items.{code_points};
 ghost use Rattle.seg_clusters.specs.Rules.{PartsTexts, ResetsAfter, boundaries_by, first_stretch};
-ghost use Rattle.seg_clusters.specs.Clusters.{sentence_rules};
+ghost use Rattle.seg_clusters.specs.Clusters.{sentence_rules, sentences_left};
 
 use crate::laws::engine;
-use crate::sentence::SentenceSegmenterBorrowed;
+use crate::sentence::{SentenceBreakIterator, SentenceSegmenterBorrowed};
+use seg_text::scaffold::{PotentiallyIllFormedUtf8, Utf16};
 
 /// Law: a list of code points has exactly one list of boundaries, in code points: the first is at its start, and each
 /// other one comes from the first stretch of what is left. Such a stretch is the machine's pick, or what the verdict of the
@@ -17,12 +20,20 @@ pub fn boundaries_are_one(segmenter: SentenceSegmenterBorrowed<'_>)
     engine::boundaries_are_one(segmenter.engine);
 }
 
-/// Law: two texts with equal code points, in whatever encodings, have the same boundaries, counted in code points, with
-/// the same statuses: one function of the rules and of the decoded list, which names no place, length or encoding.
-pub fn equal_code_points(segmenter: SentenceSegmenterBorrowed<'_>)
-    ensures { HasEqualOrdinals (boundaries_by (sentence_rules segmenter.entry)) }
+/// Law: a text in possibly ill-formed UTF-8 and one in possibly ill-formed UTF-16 that have equal code points have the same
+/// boundaries, counted in code points, with the same statuses. The sentences of both are returned, none of them read.
+pub fn equal_code_points<'data, 's>(
+    segmenter: SentenceSegmenterBorrowed<'data>,
+    one: &'s [u8],
+    other: &'s [u16],
+) -> (
+    SentenceBreakIterator<'data, 's, PotentiallyIllFormedUtf8>,
+    SentenceBreakIterator<'data, 's, Utf16>,
+)
+    ensures { code_points (utf8 one.now).items ≡ code_points (utf16 other.now).items
+        → AreSameCounted (utf8 one.now) (sentences_left result.0) (utf16 other.now) (sentences_left result.1) }
 {
-    engine::equal_code_points(segmenter.engine);
+    (segmenter.segment_utf8(one), segmenter.segment_utf16(other))
 }
 
 /// Law: a text may be segmented anew from any of its boundaries: for every list of code points, the boundaries after one of

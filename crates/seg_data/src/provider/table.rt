@@ -19,7 +19,6 @@ use std::marker::Model;
 const ASCII_LEN: usize = 128;
 
 /// A table that gives each code point a value: that of the range that holds it, or a default.
-#[derive(Drop)]
 pub struct ClassTable {
     ranges: Vec<(u32, u32, u8)>,
     default: u8,
@@ -27,6 +26,18 @@ pub struct ClassTable {
     // Model's value, nor of what `==` compares.
     ascii: [u8; ASCII_LEN],
     pages: Pages,
+}
+
+// Written out, so that it is proved here and not in each function that drops one.
+impl Drop for ClassTable {
+    fn drop(self) {
+        let ClassTable {
+            ranges: _,
+            default: _,
+            ascii: _,
+            pages: _,
+        } = self;
+    }
 }
 
 impl Model for ClassTable {
@@ -75,11 +86,17 @@ impl ClassTable {
         ensures same { IfOk result (λ t. t ≡ self) }
         ensures rejected { IfErr result (λ fault. fault ≡ Memory) }
     {
-        let pages = Pages::try_new(alloc, self.ranges.as_slice(), self.default)?;
+        let ClassTable {
+            ranges,
+            default,
+            ascii,
+            pages: _,
+        } = self;
+        let pages = Pages::try_new(alloc, ranges.as_slice(), default)?;
         Ok(ClassTable {
-            ranges: self.ranges,
-            default: self.default,
-            ascii: self.ascii,
+            ranges,
+            default,
+            ascii,
             pages,
         })
     }

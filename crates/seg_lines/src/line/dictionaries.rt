@@ -9,10 +9,9 @@ use seg_data::dictionaries::{Dictionaries, DictionariesBorrowed};
 pub(super) fn without_ja(dictionaries: Dictionaries) -> Dictionaries
     ensures { script_words result ≡ without_ja (script_words dictionaries) }
 {
-    Dictionaries {
-        ja: None,
-        ..dictionaries
-    }
+    let mut kept = dictionaries;
+    kept.ja = None;
+    kept
 }
 
 // The same, borrowed.

@@ -21,7 +21,6 @@ use std::marker::Model;
 /// A code point's value in `symbols` is its symbol where it is below `pseudo_symbol_shift`, and
 /// otherwise, less the shift, a place in `pseudo_symbol_map`, which has the symbol and the script.
 /// The transition of state q on symbol s is at `q + s * states.len()`; 255 means none.
-#[derive(Drop)]
 pub struct SegmenterStateMachine {
     symbols: ClassTable,
     states: Vec<(Acceptance, Option<Lookahead>)>,
@@ -31,6 +30,21 @@ pub struct SegmenterStateMachine {
     pseudo_symbol_map: Vec<(Symbol, ComplexScript)>,
     // What the states do to a scan, once more: no part of the Model's value, nor of what `==` compares.
     marks: Marks,
+}
+
+// Written out, so that it is proved here and not in each function that drops one.
+impl Drop for SegmenterStateMachine {
+    fn drop(self) {
+        let SegmenterStateMachine {
+            symbols: _,
+            states: _,
+            transitions: _,
+            num_lookaheads: _,
+            pseudo_symbol_shift: _,
+            pseudo_symbol_map: _,
+            marks: _,
+        } = self;
+    }
 }
 
 impl Model for SegmenterStateMachine {

@@ -17,11 +17,21 @@ type Replacements = [(Symbol, ComplexScript); 256];
 /// A tailoring of a state machine: a map that takes the place of the machine's own, so that its
 /// pseudo symbols have other symbols and scripts, and symbols and scripts in the place of symbols
 /// below the shift.
-#[derive(Drop)]
 pub struct SegmenterStateMachineOverride {
     pseudo_symbol_map: Vec<(Symbol, ComplexScript)>,
     symbol_map: Vec<(Symbol, Symbol, ComplexScript)>,
     replacements: Replacements,
+}
+
+// Written out, so that it is proved here and not in each function that drops one.
+impl Drop for SegmenterStateMachineOverride {
+    fn drop(self) {
+        let SegmenterStateMachineOverride {
+            pseudo_symbol_map: _,
+            symbol_map: _,
+            replacements: _,
+        } = self;
+    }
 }
 
 impl Model for SegmenterStateMachineOverride {

@@ -90,7 +90,7 @@ impl BreakState {
 /// The entry of `left` and `right` is at `left * property_count + right`. Classes and states are
 /// below `property_count`; those up to `last_codepoint_property` are classes of code points, and
 /// those above it composites.
-#[derive(Debug, Drop)]
+#[derive(Debug)]
 pub struct RuleBreakData {
     property_table: ClassTable,
     break_state_table: Vec<BreakState>,
@@ -100,6 +100,22 @@ pub struct RuleBreakData {
     sot_property: u8,
     eot_property: u8,
     complex_property: u8,
+}
+
+// Written out, so that it is proved here and not in each function that drops one.
+impl Drop for RuleBreakData {
+    fn drop(self) {
+        let RuleBreakData {
+            property_table: _,
+            break_state_table: _,
+            rule_status_table: _,
+            property_count: _,
+            last_codepoint_property: _,
+            sot_property: _,
+            eot_property: _,
+            complex_property: _,
+        } = self;
+    }
 }
 
 impl Model for RuleBreakData {
@@ -251,9 +267,18 @@ impl PartialEq for RuleBreakData {
 
 /// Classes that replace those of a pair table: a code point that has a class other than 0 here has
 /// that one.
-#[derive(Debug, Drop)]
+#[derive(Debug)]
 pub struct RuleBreakDataOverride {
     property_table_override: ClassTable,
+}
+
+// Written out, so that it is proved here and not in each function that drops one.
+impl Drop for RuleBreakDataOverride {
+    fn drop(self) {
+        let RuleBreakDataOverride {
+            property_table_override: _,
+        } = self;
+    }
 }
 
 impl Model for RuleBreakDataOverride {

@@ -14,12 +14,21 @@ const PAGE_COUNT: u16 = 0x2200;
 
 /// The values of a table's code points, in pages from U+0000 on: all, or none. The values of a page are a block, which pages
 /// of one value share.
-#[derive(Drop)]
 pub(super) struct Pages {
     // The number of each page's block.
     numbers: Vec<u16>,
     // The values of the blocks, one block after another.
     values: Vec<u8>,
+}
+
+// Written out, so that it is proved here and not in each function that drops one.
+impl Drop for Pages {
+    fn drop(self) {
+        let Pages {
+            numbers: _,
+            values: _,
+        } = self;
+    }
 }
 
 impl Pages {

@@ -1,7 +1,10 @@
-use Rattle.seg_text.proofs.Stretches.{equal-ordinals}
+use Rattle.seg_text.proofs.Stretches.{same-counted}
+use Rattle.seg_text.specs.Decoding.{utf8, utf16}
 use Rattle.seg_lines.specs.LineBreaks.{line_boundaries_by}
 use Rattle.seg_lines.specs.Lines.{line_rules}
 use Rattle.seg_lines.proofs.laws.equal_code_points.Goals as goal
 
 pub returns : goal.returns
-returns c = equal-ordinals (line_boundaries_by (line_rules c.args.segmenter))
+returns c =
+    rw (c.segment_utf8.ensures.boundaries, c.segment_utf16.ensures.boundaries)
+    (same-counted (line_boundaries_by (line_rules c.args.segmenter)) (utf8 c.args.one.now) (utf16 c.args.other.now))

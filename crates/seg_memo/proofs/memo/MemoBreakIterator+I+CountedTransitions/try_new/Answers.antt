@@ -11,12 +11,12 @@ invariant_of-result g c = (
   ap (g.I.Cursor.text) c.fork-rest.ensures,
   made-memo (machine_of c.args.machine) (parts_of c.parts-parts.result) _ _ _ _ _ _ _ c.parts-parts.ensures c.facts.ensures (c.new.ensures.transitions ∙ c.machine-2.ensures.transitions)
       (states-made (machine_of c.args.machine) _ (c.states-states.ensures ∙ c.machine.ensures.states)) (sets-made _ _ c.facts.ensures c.num_lookaheads-sets.ensures)
-      c.in-Some.ensures.fits (omega (arith, c.in-Some.ensures.room, c.in-Ok.ensures.exact)) c.new-2.ensures.unknown c.new-2.ensures.has c.new.ensures.count,
+      c.in-Some.ensures.0 (omega (arith, c.in-Some.ensures.1, c.in-Ok.ensures.exact)) c.new-2.ensures.unknown c.new-2.ensures.has c.new.ensures.count,
   made-ahead (parts_of c.parts-parts.result) _ (g.I.Cursor.text c.fork-ahead.result) (g.I.Cursor.text c.args.text) _ _ _ (ap (g.I.Cursor.text) c.fork-ahead.ensures) c.next_symbol-first.ensures.symbol
       c.next_symbol-first.ensures.place c.next_symbol-first.ensures.rest,
 )
 
 pub next_symbol-first-requires : goal.next_symbol-first-requires
 next_symbol-first-requires g c κs within =
-    let fits = parts-fit (machine_of c.args.machine) (parts_of c.parts-parts.result) (g.I.Cursor.text c.fork-ahead.result).items c.facts.ensures (rw c.fork-ahead.ensures c.in-Some.ensures.fits) in
+    let fits = parts-fit (machine_of c.args.machine) (parts_of c.parts-parts.result) (g.I.Cursor.text c.fork-ahead.result).items c.facts.ensures (rw c.fork-ahead.ensures c.in-Some.ensures.0) in
     (within, (refl, (refl, (omega arith, fits))))
