@@ -1,4 +1,4 @@
-/* Refuses each growth of open, open_rules and load_dictionary in turn, alone and with all that come behind it. Each must say that memory is missing, leave no
+/* Refuses each growth of open, open_rules and load_dictionary in turn, alone and with all that come behind it. Each must say that it is out of memory, leave no
  * block behind, and leave the slot empty, or as it was. The other calls must ask for no memory at all.
  *
  * Link it with -Wl,--wrap=NAME for malloc, calloc, realloc, aligned_alloc, posix_memalign and free. */

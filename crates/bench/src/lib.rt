@@ -5,6 +5,7 @@
 #![tactic(auto)]
 
 pub mod clusters;
+pub mod devices;
 pub mod dictionaries;
 pub mod found;
 pub mod line_tables;

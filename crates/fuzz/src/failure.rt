@@ -17,7 +17,7 @@ pub enum Failure {
     /// The data are rejected, as data may be.
     #[error("refused: {0}")]
     Refused(DataError),
-    /// Memory is missing.
+    /// Out of memory.
     #[error("no memory")]
     Memory,
     /// An answer is wrong, in this way.

@@ -10,7 +10,7 @@ use Rattle.icu_segmenter.specs.InLines.{AreInLines}
 abbrev pub abbreviations_of : Abbreviations → Words
 abbreviations_of abbreviations = words_of abbreviations.words
 
--- why words were rejected: one of them has a line feed, or none, and memory is missing
+-- why words were rejected: one of them has a line feed; or none has, and there is no memory
 abbrev pub IsRejection : Words → AbbreviationError → Type 0
 IsRejection words Memory = AreInLines words
 IsRejection words LineFeed = AreInLines words → ⊥

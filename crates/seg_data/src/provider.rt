@@ -30,11 +30,11 @@ pub enum ComplexScript {
     Thai = 5,
 }
 
-/// What is wrong with data, or that memory is missing for them. Each has a number, and of several the lowest is answered.
+/// What is wrong with data, or that there is no memory for them. Each has a number, and of several the lowest is answered.
 #[derive(Clone, Copy, Debug, PartialEq, Eq, Error)]
 pub enum DataError {
-    /// 1: memory is missing. No data have this fault, so only what takes memory answers it.
-    #[error("1 Memory: memory is missing")]
+    /// 1: out of memory. No data have this fault, so only what takes memory answers it.
+    #[error("1 Memory: out of memory")]
     Memory,
     /// 2: a range's first code point is above its last, or isn't above the last of the range
     /// before it.

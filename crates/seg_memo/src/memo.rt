@@ -25,7 +25,7 @@ use thiserror::Error;
 #[derive(Clone, Copy, Debug, PartialEq, Eq, Error)]
 pub enum MemoError {
     /// 1: the table's growth was refused.
-    #[error("1 Memory: memory is missing")]
+    #[error("1 Memory: out of memory")]
     Memory,
     /// 2: a pair table finds the boundaries.
     #[error("2 NotNeo: no machine finds the boundaries")]

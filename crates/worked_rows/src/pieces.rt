@@ -1,6 +1,6 @@
 //! Pieces of one script, the cuts of pieces and of runs, and what dictionaries answer.
 
-use crate::data::machine_of;
+use crate::data::{machine_of, table_of};
 use crate::dictionaries::{all_words, thai, words_of};
 use crate::numbers::number_of;
 use crate::row::Row;
@@ -19,7 +19,7 @@ use seg_data::words::WordCursor;
 use seg_text::cursor::Cursor;
 use std::alloc::{AllocError, Global};
 
-/// The cuts of a text as one piece, by the words of Thai and the clusters of the machine.
+/// The cuts of a text as one piece, by the words of Thai and the clusters of the row's pair table, or of its machine where it has none.
 pub fn cuts(alloc: Global, row: Row<'_>) -> Result<String> {
     let dictionary = thai(alloc, row)?;
     let clusters = clusters_of(alloc, row)?;
@@ -27,7 +27,11 @@ pub fn cuts(alloc: Global, row: Row<'_>) -> Result<String> {
 }
 
 fn clusters_of(alloc: Global, row: Row<'_>) -> Result<GraphemeClusterSegmenter> {
-    Ok(GraphemeClusterSegmenter::try_new_neo(machine_of(alloc, row)?)?)
+    let clusters = match row.part("table") {
+        Some(_) => GraphemeClusterSegmenter::try_new(table_of(alloc, row)?),
+        None => GraphemeClusterSegmenter::try_new_neo(machine_of(alloc, row)?),
+    };
+    Ok(clusters?)
 }
 
 // No piece of a row has so many units.
@@ -70,7 +74,7 @@ fn cuts_in(
     Ok(cuts?)
 }
 
-/// The cuts of a run, by the words and the clusters of the machine.
+/// The cuts of a run, by the words, and the clusters of the row's pair table, or of its machine where it has none.
 pub fn run_cuts(alloc: Global, row: Row<'_>) -> Result<String> {
     let clusters = clusters_of(alloc, row)?;
     run_cuts_with(alloc, row, clusters.as_borrowed())

@@ -31,7 +31,7 @@ IsComplaint text Memory = Unit {0}
 IsComplaint text (Wrong line) = IsWrongAt text line
 IsComplaint text (NoMachine line) = Unit {0}
 
--- What `open_rules` says: 0 where the slot finds boundaries by some rules; 1 where memory is missing; 2 where the text isn't UTF-8, or is wrong
+-- What `open_rules` says: 0 where the slot finds boundaries by some rules; 1 when out of memory; 2 where the text isn't UTF-8, or is wrong
 -- at a line; 3 where its rules have no machine. But for 0 nothing is held, and for 0 and 1 the line is 0.
 abbrev pub IsOpenedByRules : List ℕ → Option Finder → ℕ → ℕ → Type 0
 IsOpenedByRules text held line zero = MatchOption held ⊥ IsBySomeRules × (line ≡ 0)

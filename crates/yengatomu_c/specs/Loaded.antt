@@ -63,7 +63,7 @@ IsWhy words script old Memory = Unit {0}
 IsWhy words script old NoSuch = TakesNone script old
 IsWhy words script old NotUtf8 = AreUtf8 words → ⊥
 
--- What `load_dictionary` says: 0 where the slot's finder has taken the words; 1 where memory is missing; 2 where none are taken; 3 where they
+-- What `load_dictionary` says: 0 where the slot's finder has taken the words; 1 when out of memory; 2 where none are taken; 3 where they
 -- aren't UTF-8. But for 0 the slot is as it was.
 abbrev pub IsLoaded : List (Bor (List ℕ)) → Option ComplexScript → Option Finder → Option Finder → ℕ → Type 0
 IsLoaded words script old new zero =

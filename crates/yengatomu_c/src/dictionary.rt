@@ -24,7 +24,7 @@ const SCRIPTS: [Option<ComplexScript>; 6] = [
 /// Why no dictionary is loaded.
 #[derive(Clone, Copy, Debug, PartialEq, Eq)]
 pub enum Refusal {
-    /// Memory is missing.
+    /// Out of memory.
     Memory,
     /// There is no such script, or what is held takes no dictionaries.
     NoSuch,

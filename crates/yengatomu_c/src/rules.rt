@@ -19,7 +19,7 @@ use std::str;
 /// Why a text makes no segmenter.
 #[derive(Clone, Copy, Debug, PartialEq, Eq)]
 pub enum Complaint {
-    /// Memory is missing.
+    /// Out of memory.
     Memory,
     /// The rules are wrong at this line, from 1 on; or the text isn't UTF-8, of which 0 stands.
     Wrong(usize),

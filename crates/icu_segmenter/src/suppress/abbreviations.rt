@@ -44,7 +44,7 @@ impl Abbreviations {
     /// nothing. One that ends with a space wants that space after it.
     ///
     /// Takes the memory of a dictionary of these words. `LineFeed` where one has a line feed, before any memory is asked for;
-    /// `Memory` where memory is missing.
+    /// `Memory` when out of memory.
     pub fn try_from_words(alloc: Global, words: &[&str]) -> Result<Self, AbbreviationError>
         ensures made { IfOk result (λ abbreviations. IsSameSet (abbreviations_of abbreviations) (code_points_of_each words.now)
             × AreInLines (code_points_of_each words.now)) }

@@ -47,7 +47,7 @@ impl DictionaryBreakData {
     /// Takes 25 bytes at most for each code point of a word, a node of 9 and an edge of 16, which
     /// words that begin alike share, and 17 bytes more. While it is built it takes some four times as
     /// much. Beyond sorting the words, its time grows as their code points do.
-    /// `Memory` where memory is missing, and for nothing else: the words are only read.
+    /// `Memory` when out of memory, and for nothing else: the words are only read.
     pub fn try_from_words(alloc: Global, words: &[&str]) -> Result<Self, DataError>
         ensures words { IfOk result (λ dictionary. IsSameSet (words_of dictionary) (code_points_of_each words.now)) }
         ensures rejected { IfErr result (λ fault. fault ≡ DataError.Memory) }
