@@ -8,7 +8,7 @@ use Rattle.segment_output.specs.Preparation.{is_unchanged, prepared}
 use Rattle.segment_output.specs.Size.{size_of}
 use Rattle.segment.specs.Job.{count_by, numbers_of, output_of, printed_by, text_of, work_output, IsFound, IsTally}
 use Rattle.segment_output.specs.declared.fault.Fault.{Fault}
-use Rattle.segment_output.specs.declared.fault.Fault.TheVariants.{Read, Memo, Write}
+use Rattle.segment_output.specs.declared.fault.Fault.TheVariants.{Read, MemoryBefore, Memo, Write, MemoryAmid}
 use Rattle.segment_output.specs.declared.found.Found.{Found}
 use Rattle.segment_output.specs.declared.found.Size.{Size}
 use Rattle.segment_output.specs.declared.found.Tally.{Tally}
@@ -66,8 +66,10 @@ unwritten-whole P X (Err fault) is = λ before all. is before
 
 of-reader : (fault : Fault) → IsReadFault fault → IsBeforeWriting fault
 of-reader (Read error) is = tt
+of-reader MemoryBefore is = tt
 of-reader (Memo error) is = absurd is
 of-reader (Write error) is = absurd is
+of-reader MemoryAmid is = absurd is
 
 pub begun-whole : (P Q : Type 0) (r : Result Tally Fault) → IfErr r (λ fault. IsBeforeWriting fault → P) → IfErr r (λ fault. IsReadFault fault → P ⊎ Q)
 begun-whole P Q (Ok tally) is = tt

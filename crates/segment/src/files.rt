@@ -2,6 +2,7 @@
 
 use crate::job::Job;
 use crate::run::run;
+use icu_segmenter::memo::MemoError;
 use segment_output::fault::Fault;
 use segment_output::found::{Found, Size, Tally};
 use segment_output::output::write_count;
@@ -22,14 +23,18 @@ struct Totals {
 }
 
 /// Does a job to each file in turn, or to standard input where none is named, and where segments are counted in more than one file writes
-/// how many there were in all, and the numbers beside. What can't be read, and what has no memoised engine, is complained of, and the next file comes. The
-/// status is 1 where there was such a file or not all was written; a pipe that nobody reads ends all quietly.
+/// how many there were in all, and the numbers beside. What can't be read, and what has no memoised engine, is complained of, and the next file comes. Out of memory
+/// it ends, and blames no file. The status is 1 where there was such a file, not all was written, or when out of memory; a pipe that nobody reads ends all quietly.
 pub fn run_all(rt: &HostRuntime, job: &Job, names: &[&str]) -> ExitCode {
     match try_run_all(rt, job, names) {
         Ok(totals) if totals.has_failed => ExitCode::FAILURE,
         Ok(_) => ExitCode::SUCCESS,
         // Nobody reads on, so there is nothing more to do.
         Err(error) if error.kind() == ErrorKind::BrokenPipe => ExitCode::SUCCESS,
+        Err(error) if error.kind() == ErrorKind::OutOfMemory => {
+            let _unheard = eprintln!(rt; "segment: out of memory");
+            ExitCode::FAILURE
+        }
         Err(error) => {
             complain(rt, "standard output", &error);
             ExitCode::FAILURE
@@ -37,7 +42,7 @@ pub fn run_all(rt: &HostRuntime, job: &Job, names: &[&str]) -> ExitCode {
     }
 }
 
-// The error is the output's.
+// The error is the output's, or being out of memory.
 fn try_run_all(rt: &HostRuntime, job: &Job, names: &[&str]) -> io::Result<Totals> {
     let mut totals = no_totals();
     if names.is_empty() {
@@ -87,7 +92,7 @@ fn both(one: Tally, other: Tally) -> Tally {
     }
 }
 
-// Does a job to a file, and adds what came of it. The error is the output's.
+// Does a job to a file, and adds what came of it. The error is the output's, or being out of memory.
 fn add_file(
     rt: &HostRuntime,
     job: &Job,
@@ -97,6 +102,9 @@ fn add_file(
     match run_file(rt, job, name) {
         Ok(tally) => totals.tally = both(totals.tally, tally),
         Err(Fault::Write(error)) => return Err(error),
+        Err(Fault::MemoryBefore | Fault::MemoryAmid | Fault::Memo(MemoError::Memory)) => {
+            return Err(io::Error::from(ErrorKind::OutOfMemory));
+        }
         Err(Fault::Read(error)) => {
             totals.has_failed = true;
             complain(rt, shown_name(name), &error);
@@ -115,7 +123,7 @@ fn run_file(rt: &HostRuntime, job: &Job, name: Option<&str>) -> Result<Tally, Fa
         None => run(alloc, job, name, &mut rt.stdin(), &mut rt.stdout()),
         Some(STANDARD_INPUT) => run(alloc, job, name, &mut rt.stdin(), &mut rt.stdout()),
         Some(path) => {
-            let mut file = fs::open(rt, path).map_err(Fault::Read)?;
+            let mut file = fs::open(rt, path).map_err(Fault::of_reading)?;
             run(alloc, job, name, &mut file, &mut rt.stdout())
         }
     }

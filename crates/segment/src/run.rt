@@ -11,7 +11,6 @@ use segment_output::memo::print_by_memo;
 use segment_output::output::write_count;
 use segment_output::parts::print_parts;
 use std::alloc::Global;
-use std::io;
 use std::io::{Read, Write};
 
 /// Does to what a reader has what a job says, and writes it: each segment on a line of its own, how many there are, with the numbers beside
@@ -38,7 +37,7 @@ pub fn run<I: Read, O: Write>(
     };
     match write_count(alloc, numbers, tally, name, out) {
         Ok(()) => Ok(tally),
-        Err(error) => Err(Fault::Write(error)),
+        Err(error) => Err(Fault::of_writing(error)),
     }
 }
 
@@ -48,7 +47,7 @@ fn read_text<I: Read>(alloc: Global, input: &mut I) -> Result<Vec<u8>, Fault>
     ensures end { OnOk result (IsAtEnd (I.remaining input.new)) }
 {
     let mut text = Vec::new(alloc);
-    input.read_to_end(&mut text).map_err(Fault::Read)?;
+    input.read_to_end(&mut text).map_err(Fault::of_reading)?;
     Ok(text)
 }
 
@@ -99,7 +98,7 @@ fn prepare(alloc: Global, job: &Job, text: Vec<u8>) -> Result<Vec<u8>, Fault>
 {
     match job.preparation.apply(alloc, text) {
         Ok(made) => Ok(made),
-        Err(error) => Err(Fault::Read(io::Error::from(error))),
+        Err(_) => Err(Fault::MemoryBefore),
     }
 }
 
@@ -121,7 +120,7 @@ fn print_text<O: Write>(
                     segments,
                     lookups: 0,
                 }),
-                Err(error) => Err(Fault::Write(error)),
+                Err(error) => Err(Fault::of_writing(error)),
             }
         }
         Work::Cut(segmenter, style, Search::Memoised) => {
@@ -132,7 +131,7 @@ fn print_text<O: Write>(
                 segments: 0,
                 lookups: 0,
             }),
-            Err(error) => Err(Fault::Write(error)),
+            Err(error) => Err(Fault::of_writing(error)),
         },
     }
 }

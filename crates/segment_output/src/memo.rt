@@ -95,7 +95,7 @@ fn print_memo<M: HasMark, O: Write>(
             let lookups = places.memo.lookups();
             Ok(Found { segments, lookups })
         }
-        Err(error) => Err(Fault::Write(error)),
+        Err(error) => Err(Fault::of_writing(error)),
     }
 }
 

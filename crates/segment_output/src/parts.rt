@@ -15,7 +15,7 @@ use crate::found::{Found, Size, Tally};
 use crate::output::{Part, Style};
 use crate::segmenter::Segmenter;
 use memchr::memrchr;
-use std::alloc::{AllocError, Global};
+use std::alloc::Global;
 use std::io;
 use std::io::{ErrorKind, Read, Write};
 
@@ -70,12 +70,6 @@ pub fn print_parts<I: Read, O: Write>(
     Err(Fault::Read(io::Error::from(ErrorKind::Other)))
 }
 
-fn no_memory(error: AllocError) -> Fault
-    ensures { IsReadFault result }
-{
-    Fault::Read(io::Error::from(error))
-}
-
 // One read into a block: how many bytes it gave, and none at the end.
 fn read_block<I: Read>(input: &mut I, block: &mut [u8]) -> Result<usize, Fault>
     requires { 0 < length block.old }
@@ -85,7 +79,7 @@ fn read_block<I: Read>(input: &mut I, block: &mut [u8]) -> Result<usize, Fault>
 {
     match read_again(input, block) {
         Ok(len) => Ok(len),
-        Err(error) => Err(Fault::Read(error)),
+        Err(error) => Err(Fault::of_reading(error)),
     }
 }
 
@@ -134,7 +128,8 @@ fn add_block<O: Write>(
 fn hold(bytes: &[u8], held: &mut Vec<u8>) -> Result<(), Fault>
     ensures { OnOk result (held.new.items ≡ held.old.items ++ bytes.now) }
 {
-    held.extend_from_slice(bytes).map_err(no_memory)
+    held.extend_from_slice(bytes)
+        .map_err(|_| Fault::MemoryBefore)
 }
 
 // Writes the segments of what is held, which is the text's last part.
@@ -180,21 +175,14 @@ fn print_held<O: Write>(
     };
     let count = segmenter
         .print_part(alloc, part, out)
-        .map_err(Fault::Write)?;
+        .map_err(Fault::of_writing)?;
     let Some(size) = progress.size.checked_add(Size::of(bytes)) else {
-        return Err(too_large());
+        return Err(Fault::MemoryAmid);
     };
     let Some(segments) = progress.segments.checked_add(count) else {
-        return Err(too_large());
+        return Err(Fault::MemoryAmid);
     };
     progress.size = size;
     progress.segments = segments;
     Ok(())
-}
-
-// More than a `usize` counts: memory counts as run out.
-fn too_large() -> Fault
-    ensures { IsReadFault result → ⊥ }
-{
-    Fault::Write(io::Error::from(AllocError))
 }
