@@ -104,16 +104,17 @@ IsWidth found width =
     × IsFlag found (codes "break-words") width.breaks_words
     × IsFlag found (codes "by-cluster") width.by_cluster
 
--- tabs are spaces up to multiples of the columns that are named, if they are
-abbrev pub AreTabs : Found → Option ℕ → Type 0
-AreTabs found tabs =
-    (one_text found (codes "tabs") ≡ None → tabs ≡ None)
+-- tabs are spaces up to multiples of the columns that are named; where none are, of 8 by `wrap`, and otherwise they stay
+abbrev pub AreTabs : List ℕ → Found → Option ℕ → Type 0
+AreTabs word found tabs =
+    (one_text found (codes "tabs") ≡ None → word ≡ codes "wrap" → tabs ≡ Some 8)
+    × (one_text found (codes "tabs") ≡ None → word ≢ codes "wrap" → tabs ≡ None)
     × ((digits : List ℕ) → one_text found (codes "tabs") ≡ Some digits → IsNumeral 10 digits → digits_value 10 digits < 2 ^ 64 → tabs ≡ Some (digits_value 10 digits))
     × IfSome tabs (λ columns. 0 < columns)
 
 -- what is done first is what is named
-abbrev pub IsPreparation : Found → Preparation → Type 0
-IsPreparation found preparation = AreTabs found preparation.tabs × IsFlag found (codes "join") preparation.joins
+abbrev pub IsPreparation : List ℕ → Found → Preparation → Type 0
+IsPreparation word found preparation = AreTabs word found preparation.tabs × IsFlag found (codes "join") preparation.joins
 
 -- the numbers beside that of the segments are those that are named
 abbrev pub AreNumbers : Found → Numbers → Type 0
@@ -160,7 +161,7 @@ abbrev pub IsRequest : List ℕ → Found → Request → Type 0
 IsRequest word found request =
     ArePaired found
     × HasMemoAlone found
-    × IsPreparation found request.preparation
+    × IsPreparation word found request.preparation
     × IsTask word found request.task
     × IsChoice strictness_word (first_value found (codes "strictness")) request.strictness
     × IsChoice word_break_word (first_value found (codes "word-break")) request.word_option

@@ -47,7 +47,7 @@ pub struct Request {
 pub enum Columns {
     /// Before the files, if anywhere.
     InPlace,
-    /// In an option.
+    /// In an option, if anywhere.
     InOption,
 }
 
@@ -67,6 +67,9 @@ pub fn columns_by(words: &[String]) -> Columns {
 
 // Of lines that are wrapped, where the command line says nothing.
 const DEFAULT_COLUMNS: usize = 80;
+
+// Of tabs before lines are wrapped, where the command line says nothing.
+const DEFAULT_TABS: usize = 8;
 
 const ENGINES: [&str; 3] = ["neo", "classic", "memo"];
 
@@ -91,7 +94,8 @@ const LINES_HELP: &str = "With --count, write how many line feeds there are, too
 
 const BYTES_HELP: &str = "With --count, write how many bytes there are, too";
 
-const TABS_HELP: &str = "Write spaces for each tab, up to the next multiple of so many columns";
+const TABS_HELP: &str =
+    "Write spaces for each tab, up to the next multiple of so many columns [default: 8]";
 
 const JOIN_HELP: &str = "Join the lines between blank lines first, each two by a space";
 
@@ -341,7 +345,9 @@ fn columns_argument<'a>(alloc: Global) -> Arg<'a> {
         .action(ArgAction::Set)
         .value_parser(value_parser!(usize))
         .value_name("COLUMNS")
-        .help("The columns that a line has at most, which stand before files [default: 80]")
+        .help(
+            "The columns that a line has at most, which stand before files [default: 80]; a word that is no number is a file",
+        )
 }
 
 fn flag<'a>(alloc: Global, name: &'a str, help: &'a str) -> Arg<'a> {
@@ -369,7 +375,7 @@ pub fn request_of(kind: &str, matches: &ArgMatches<'_>) -> Result<Request>
 {
     check_dictionaries(matches)?;
     Ok(Request {
-        preparation: preparation_of(matches)?,
+        preparation: preparation_of(kind, matches)?,
         task: task_of(kind, matches)?,
         strictness: strictness_of(matches.get_str("strictness")),
         word_option: word_option_of(matches.get_str("word-break")),
@@ -471,24 +477,25 @@ fn columns_of(matches: &ArgMatches<'_>) -> usize
 }
 
 // The error is a tab of no columns.
-fn preparation_of(matches: &ArgMatches<'_>) -> Result<Preparation>
-    ensures { IfOk result (IsPreparation (found_of matches.now)) }
+fn preparation_of(kind: &str, matches: &ArgMatches<'_>) -> Result<Preparation>
+    ensures { IfOk result (IsPreparation kind.now (found_of matches.now)) }
 {
-    let tabs = tabs_of(matches)?;
+    let tabs = tabs_of(kind, matches)?;
     Ok(Preparation {
         tabs,
         joins: matches.get_flag("join"),
     })
 }
 
-fn tabs_of(matches: &ArgMatches<'_>) -> Result<Option<usize>>
-    ensures { IfOk result (AreTabs (found_of matches.now)) }
+fn tabs_of(kind: &str, matches: &ArgMatches<'_>) -> Result<Option<usize>>
+    ensures { IfOk result (AreTabs kind.now (found_of matches.now)) }
 {
     let tabs: Option<usize> = matches.get_one("tabs");
-    if let Some(0) = tabs {
-        bail!("tabs have at least 1 column");
+    match tabs {
+        Some(0) => bail!("tabs have at least 1 column"),
+        None if kind == "wrap" => Ok(Some(DEFAULT_TABS)),
+        _ => Ok(tabs),
     }
-    Ok(tabs)
 }
 
 fn kind_of(word: &str, alone: bool) -> Result<Kind>

@@ -18,7 +18,7 @@ use abbreviations::{Place, abbreviations_at, place_of};
 use anyhow::{Result, bail};
 use clap::ArgMatches;
 use clap::error::ErrorKind;
-use command::{Request, columns_by, command_line, request_of};
+use command::{Columns, Request, columns_by, command_line, request_of};
 use dictionary::dictionaries_of;
 use files::run_all;
 use job::{Job, job_of};
@@ -47,6 +47,17 @@ fn start(rt: &HostRuntime) -> Result<ExitCode> {
     let words: Vec<String> = env::args(rt)?.collect(alloc)?;
     let columns = columns_by(words.as_slice());
     match command_line(alloc, columns)?.try_get_matches_from(words.as_slice()) {
+        Ok(matches) => follow(rt, &matches),
+        Err(error) if error.kind() == ErrorKind::ValueValidation => {
+            follow_files(rt, words.as_slice())
+        }
+        Err(error) => answer(rt, &error),
+    }
+}
+
+// Follows words of which no operand says columns: one that is no number, where columns may stand, is a file.
+fn follow_files(rt: &HostRuntime, words: &[String]) -> Result<ExitCode> {
+    match command_line(rt.alloc(), Columns::InOption)?.try_get_matches_from(words) {
         Ok(matches) => follow(rt, &matches),
         Err(error) => answer(rt, &error),
     }
