@@ -12,6 +12,8 @@ pub struct FailingReader<'s> {
 }
 
 impl<'s> Read for FailingReader<'s> {
+    ghost remaining = { λ s. Some s.left.now };
+
     fn read(&mut self, buf: &mut [u8]) -> io::Result<usize> {
         if self.left.is_empty() {
             return Err(io::Error::from(ErrorKind::TimedOut));

@@ -14,7 +14,7 @@ ghost use Rattle.seg_line_rules.specs.LineUnits.{counted_units, units_of};
 ghost use Rattle.seg_line_turns.specs.PlainTexts.{ArePlain, HasNoOpening};
 ghost use Rattle.seg_line_turns.specs.TurnBoundaries.{StartsBear};
 ghost use Rattle.seg_lines.specs.LineBreaks.LineFinder.{ByTable, ByTurns};
-ghost use Rattle.seg_lines.specs.LineBreaks.{HasOneList, LineRules, MayRestart, line_boundaries_by, lines_with_words, LinesResetAfter, HasNoMandatoryBreak, IsByPairTable};
+ghost use Rattle.seg_lines.specs.LineBreaks.{HasOneList, LineRules, MayRestart, line_boundaries_by, line_boundaries_of, lines_with_words, LinesResetAfter, HasNoMandatoryBreak, IsByPairTable};
 ghost use Rattle.seg_lines.specs.Lines.{line_rules, lines_left};
 ghost use Rattle.seg_lines.specs.Wrapping.{Segment, HasOneWrapping};
 
@@ -48,7 +48,9 @@ pub fn equal_code_points<'data, 's>(
     LineBreakIterator<'data, 's, PotentiallyIllFormedUtf8>,
     LineBreakIterator<'data, 's, Utf16>,
 )
-    ensures { code_points (utf8 one.now).items ≡ code_points (utf16 other.now).items
+    ensures one { lines_left result.0 ≡ line_boundaries_of (line_rules segmenter.entry) (utf8 one.now) }
+    ensures other { lines_left result.1 ≡ line_boundaries_of (line_rules segmenter.entry) (utf16 other.now) }
+    ensures equal { code_points (utf8 one.now).items ≡ code_points (utf16 other.now).items
         → AreSameCounted (utf8 one.now) (lines_left result.0) (utf16 other.now) (lines_left result.1) }
 {
     (segmenter.segment_utf8(one), segmenter.segment_utf16(other))

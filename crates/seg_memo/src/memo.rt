@@ -21,7 +21,7 @@ use std::alloc::Global;
 use std::marker::Model;
 use thiserror::Error;
 
-/// Why there is no memo. Each has a number, and of several the lowest is answered.
+/// Why there is no memo. Each has a number, and of several the lowest is answered, but `Memory` last.
 #[derive(Clone, Copy, Debug, PartialEq, Eq, Error)]
 pub enum MemoError {
     /// 1: the table's growth was refused.

@@ -7,7 +7,7 @@ ghost use Rattle.seg_text.specs.Decoding.{utf8, utf16};
 ghost use Rattle.seg_text.specs.Items.{code_points};
 ghost use Rattle.seg_data.specs.ScriptWords.{ScriptWords, AreSameWords};
 ghost use Rattle.seg_clusters.specs.Rules.{PartsTexts};
-ghost use Rattle.seg_words.specs.WordRules.{WordsResetAfter, HasNoRunOfWords, WordRules, first_word_stretch, with_words, word_boundaries_by};
+ghost use Rattle.seg_words.specs.WordRules.{WordsResetAfter, HasNoRunOfWords, WordRules, first_word_stretch, with_words, word_boundaries_by, word_boundaries_of};
 ghost use Rattle.seg_words.specs.Words.{word_rules, words_left};
 
 use crate::word::{WordBreakIterator, WordSegmenterBorrowed, WordType};
@@ -33,7 +33,9 @@ pub fn equal_code_points<'data, 's>(
     WordBreakIterator<'data, 's, PotentiallyIllFormedUtf8>,
     WordBreakIterator<'data, 's, Utf16>,
 )
-    ensures { code_points (utf8 one.now).items ≡ code_points (utf16 other.now).items
+    ensures one { words_left result.0 ≡ word_boundaries_of (word_rules segmenter.entry) (utf8 one.now) }
+    ensures other { words_left result.1 ≡ word_boundaries_of (word_rules segmenter.entry) (utf16 other.now) }
+    ensures equal { code_points (utf8 one.now).items ≡ code_points (utf16 other.now).items
         → AreSameCounted (utf8 one.now) (words_left result.0) (utf16 other.now) (words_left result.1) }
 {
     (segmenter.segment_utf8(one), segmenter.segment_utf16(other))

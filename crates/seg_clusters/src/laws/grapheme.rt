@@ -30,7 +30,9 @@ pub fn equal_code_points<'data, 's>(
     GraphemeClusterBreakIterator<'data, 's, PotentiallyIllFormedUtf8>,
     GraphemeClusterBreakIterator<'data, 's, Utf16>,
 )
-    ensures { code_points (utf8 one.now).items ≡ code_points (utf16 other.now).items
+    ensures one { clusters_left result.0 ≡ boundaries_of (cluster_rules segmenter.entry) (utf8 one.now) }
+    ensures other { clusters_left result.1 ≡ boundaries_of (cluster_rules segmenter.entry) (utf16 other.now) }
+    ensures equal { code_points (utf8 one.now).items ≡ code_points (utf16 other.now).items
         → AreSameCounted (utf8 one.now) (clusters_left result.0) (utf16 other.now) (clusters_left result.1) }
 {
     (segmenter.segment_utf8(one), segmenter.segment_utf16(other))

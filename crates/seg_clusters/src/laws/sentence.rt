@@ -4,7 +4,7 @@ ghost use Rattle.std.specs.Prelude.{◌≡◌, ℕ, List, length};
 ghost use Rattle.seg_text.specs.Boundaries.{AreSameCounted, HasRestart, IsCover, HasOneAnswer};
 ghost use Rattle.seg_text.specs.Decoding.{utf8, utf16};
 ghost use Rattle.seg_text.specs.Items.{code_points};
-ghost use Rattle.seg_clusters.specs.Rules.{PartsTexts, ResetsAfter, boundaries_by, first_stretch};
+ghost use Rattle.seg_clusters.specs.Rules.{PartsTexts, ResetsAfter, boundaries_by, boundaries_of, first_stretch};
 ghost use Rattle.seg_clusters.specs.Clusters.{sentence_rules, sentences_left};
 
 use crate::laws::engine;
@@ -30,7 +30,9 @@ pub fn equal_code_points<'data, 's>(
     SentenceBreakIterator<'data, 's, PotentiallyIllFormedUtf8>,
     SentenceBreakIterator<'data, 's, Utf16>,
 )
-    ensures { code_points (utf8 one.now).items ≡ code_points (utf16 other.now).items
+    ensures one { sentences_left result.0 ≡ boundaries_of (sentence_rules segmenter.entry) (utf8 one.now) }
+    ensures other { sentences_left result.1 ≡ boundaries_of (sentence_rules segmenter.entry) (utf16 other.now) }
+    ensures equal { code_points (utf8 one.now).items ≡ code_points (utf16 other.now).items
         → AreSameCounted (utf8 one.now) (sentences_left result.0) (utf16 other.now) (sentences_left result.1) }
 {
     (segmenter.segment_utf8(one), segmenter.segment_utf16(other))

@@ -4,7 +4,7 @@ use Rattle.seg_words.specs.WordRules.{word_boundaries_by}
 use Rattle.seg_words.specs.Words.{word_rules}
 use Rattle.seg_words.proofs.laws.equal_code_points.Goals as goal
 
-pub returns : goal.returns
-returns c =
+pub returns-clause-equal : goal.returns-clause-equal
+returns-clause-equal c =
     rw (c.segment_utf8.ensures.boundaries, c.segment_utf16.ensures.boundaries)
     (same-counted (word_boundaries_by (word_rules c.args.segmenter)) (utf8 c.args.one.now) (utf16 c.args.other.now))
