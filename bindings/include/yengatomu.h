@@ -10,7 +10,8 @@
  *     }
  *
  * A text is UTF-8, which may be ill-formed: places are bytes from its start. Calls that end in _utf16 take UTF-16, which may be
- * ill-formed too: there places are 16-bit units. What is ill-formed counts as U+FFFD, as Unicode's Table 3-7 parts it.
+ * ill-formed too: there places are 16-bit units. In UTF-8 what is ill-formed counts as U+FFFD, as Unicode's Table 3-7
+ * splits it; in UTF-16 a surrogate that stands alone counts as itself.
  * No call keeps a pointer, writes but to the slot and the buffers it is handed, aborts, or takes a lock.
  *
  * What a caller owes:
@@ -71,8 +72,8 @@ uint32_t yengatomu_open(yengatomu_slot *slot, uint32_t kind, uint32_t strictness
  *     Letter × Letter
  *     ÷
  *
- * Its boundaries are where the rules break, and the other calls take it as one of clusters. Proved is that the machine follows the rules
- * that were read; how they are read is tested. YENGATOMU_WRONG_RULES where the text is
+ * Its boundaries are where the rules break, and the other calls take it as one of clusters. It is proved that the machine
+ * follows some rules; that these are those of the text is tested. YENGATOMU_WRONG_RULES where the text is
  * ill-formed or a line of it is wrong; YENGATOMU_NO_MACHINE where the rules are too large, or need to know too much of the text to be
  * followed. *error is then the number of the line, from 1 on: that which is wrong, or that of a rule which shows why there is no
  * machine; 0 where the text is ill-formed, where no rule shows it, and in all other cases. If it isn't YENGATOMU_OK, the slot is empty. */
@@ -130,7 +131,7 @@ size_t yengatomu_count_words_utf16(yengatomu_slot *slot, const uint16_t *text, s
 
 /* Versions as 10,000 times the major number, 100 times the minor one and the update: of this library, and of the Unicode data by which
  * a kind is segmented (0 for no such kind). The data of each kind are of 18.0 (180000). So are the rules, those of UAX #29; but the rules
- * of lines are those of UAX #14 revision 55, which belongs to 17.0 (170000). */
+ * of lines are those of UAX #14 revision 55, which belongs to 17.0. */
 uint32_t yengatomu_version(void);
 uint32_t yengatomu_unicode_version(uint32_t kind);
 

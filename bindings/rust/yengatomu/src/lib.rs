@@ -33,8 +33,8 @@
 //!
 //! The library behind this crate, `libyengatomu.a`, is proved: for every text it finds exactly the boundaries of its rules, and it never reads or
 //! writes out of range, overflows, aborts or runs for ever. They are proved to be those of UAX #29 of Unicode 18.0, and of lines those of
-//! UAX #14 revision 55 (Unicode 17), with properties of Unicode 18.0. With rules of your own, the machine is proved to follow the rules
-//! that were read; how they are read is tested. This crate, some Rust around the library, is tested.
+//! UAX #14 revision 55 (Unicode 17), with properties of Unicode 18.0. Dictionaries, options and rules of your own change them. With rules
+//! of your own, the machine is proved to follow some rules; that these are those of your text is tested. This crate, some Rust around the library, is tested.
 //!
 //! # Threads
 //!
@@ -205,8 +205,8 @@ impl LineSegmenter {
 impl RuleSegmenter {
     /// A segmenter by rules of your own: symbols, each a set of code points, and then rows, of which the first that fits a place joins (`×`)
     /// or parts (`÷`) what stands there. The page `crates/segment/segment.1` of the repository tells the notation. The library finds a
-    /// machine of the rules, and it is proved that such a machine's boundaries are where the rules that were read part a text. How they are
-    /// read is tested.
+    /// machine of the rules. It is proved that such a machine's boundaries are where some rules part a text; that these are those of the
+    /// text is tested.
     ///
     /// ```
     /// use yengatomu::{Error, Segmenter};

@@ -16,7 +16,8 @@ pub trait Unit: Calls + Copy + From<u8> + PartialEq + sealed::Unit {}
 
 /// A text as it is segmented: `str`; `[u8]`, UTF-8 that may be ill-formed; or `[u16]`, UTF-16 that may be ill-formed.
 ///
-/// What is ill-formed counts as U+FFFD, one for each maximal part that begins a character, as [`String::from_utf8_lossy`] has it.
+/// In UTF-8 what is ill-formed counts as U+FFFD, one for each maximal part that begins a character, as [`String::from_utf8_lossy`] has it.
+/// In UTF-16 a surrogate that stands alone counts as itself.
 /// Segments keep their bytes as they are.
 pub trait Slice: sealed::Slice {
     /// The unit that places count.
