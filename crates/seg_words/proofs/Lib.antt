@@ -1,5 +1,7 @@
 pub mod Faults
 pub mod Left
+pub mod Prefixes
+pub mod Runs
 pub mod Spans
 pub mod EqualSpans
 pub mod ByRules

@@ -1,16 +1,15 @@
 -- Spans of a text by a machine: they take something, and their boundaries cover them.
-use Rattle.std.proofs.Common.{◌≡◌, ℕ, zero, suc, ◌<◌, ◌≤◌, List, [], ◌∷◌, ◌++◌, length, map, take, drop, refl, sym, ap, ◌∙◌, arith, append-nil}
+use Rattle.std.proofs.Common.{◌≡◌, ℕ, zero, suc, ◌-◌, ◌<◌, ◌≤◌, Bool, true, false, List, [], ◌∷◌, ◌++◌, length, map, take, drop, refl, sym, ap, subst, ◌∙◌, arith, append-nil}
 use Rattle.std.specs.Prelude.{Option, None, Some}
-use Rattle.std.specs.Option.{option_map}
-use Rattle.std.proofs.lemmas.List.{drop_all, take_all}
+use Rattle.std.proofs.lemmas.List.{drop_all, length-drop, length-map, take-map, take_all}
 use Rattle.seg_text.specs.declared.boundary.Boundary.{Boundary}
-use Rattle.seg_text.specs.Items.{Item, Text, start_of, rest_after, code_points, IsRising}
+use Rattle.seg_text.specs.Items.{Item, Text, start_of, rest_after, text_before, code_points, IsRising}
 use Rattle.seg_text.specs.Boundaries.{IsCover, RisesTo, boundary, boundary_in, boundaries_in, shift_all, start, with_status, Stretch, HasProgress, IsWithin, later_boundaries, list_boundaries}
 use Rattle.seg_text.proofs.Covers.{covers, covers-list}
+use Rattle.seg_text.proofs.Places.{place-before}
 use Rattle.seg_text.proofs.Stretches.{later-nil, later-next, text-later-nil}
 use Rattle.seg_data.specs.declared.provider.ComplexScript.{ComplexScript}
-use Rattle.seg_data.specs.declared.provider.dictionary.cursor.DictionaryCursor.{DictionaryCursor}
-use Rattle.seg_data.specs.ScriptWords.{words_after, ScriptWords, no_words, words_in}
+use Rattle.seg_data.specs.ScriptWords.{ScriptWords, no_words, words_in}
 use Rattle.seg_data.specs.WordSets.{Words}
 use Rattle.seg_clusters.specs.Rules.{Rules, boundaries_by}
 use Rattle.seg_machine.specs.MachineFaults.{IsChecked}
@@ -20,11 +19,13 @@ use Rattle.seg_machine.proofs.Segmentations.{machine-within}
 use Rattle.seg_clusters.specs.DictionaryCuts.{Clusters, by_words}
 use Rattle.seg_clusters.specs.Payloads.{Payloads, piece_cuts_by}
 use Rattle.seg_clusters.specs.Scripts.{CoverPieces}
-use Rattle.seg_clusters.specs.Spans.{GivesSpan, span_length, span_words, worded_script}
+use Rattle.seg_clusters.specs.Spans.{span_length, span_words, worded_script}
 use Rattle.seg_clusters.proofs.Cutting.{length-taken}
 use Rattle.seg_clusters.proofs.SpanStretches.{AreInside, span-at, span-inside, span-some}
 use Rattle.seg_clusters.proofs.UnwordedSpans.{whole-span, whole-words}
 use Rattle.seg_words.specs.WordRules.{letters, span_boundaries, span_stretch}
+use Rattle.seg_words.specs.WordsLeft.{after_span, last_of, span_left, IsFirstSpan}
+use Rattle.seg_words.specs.declared.span.Span.{Span}
 
 -- only offsets rise
 other-status : (status : ℕ) (cuts : List ℕ) (from end : ℕ) → RisesTo from (with_status 0 cuts) end → RisesTo from (with_status status cuts) end
@@ -83,40 +84,94 @@ module _ (m : Machine) (payloads : Payloads) (checked : IsChecked m) (cover : Co
   abbrev later_in : Text → List Boundary
   later_in text = boundaries_in (later_boundaries (span_stretch m payloads)) text
 
-  -- a span was given
-  pub span-next : {I : Type 0} (text : I → Text) (before after : Text) (span : I × Option DictionaryCursor)
-      → GivesSpan m payloads.words text before (Some span) after
-      → later_in before
-      ≡ map (boundary_in (text span.0)) (span_boundaries m clusters (option_map words_after span.1) (code_points (text span.0).items)) ++ later_in after
-  span-next text before after span gives =
-      let n = span_length m payloads.words (code_points before.items) in
-      let words = span_words m payloads.words (code_points before.items) in
-      span-at m payloads.words (span_boundaries m clusters) fits before.items before.end gives.0
-      ∙ ap (λ (first : Text). map (boundary_in first) (span_boundaries m clusters words (code_points first.items)) ++ later_in (rest_after n before)) (sym gives.1)
-      ∙ ap (λ (words : Option Words). map (boundary_in (text span.0)) (span_boundaries m clusters words (code_points (text span.0).items)) ++ later_in (rest_after n before)) (sym gives.2)
-      ∙ ap (λ (rest : Text). map (boundary_in (text span.0)) (span_boundaries m clusters (option_map words_after span.1) (code_points (text span.0).items)) ++ later_in rest) (sym gives.3)
+  -- ---- a text whose first span has begun, or not
 
-  -- nothing was left of a span, and the next one was given, with its boundaries
-  pub left-next : {I : Type 0} (text : I → Text) (before after : Text) (span : I × Option DictionaryCursor) (none found left : List Boundary)
-      → GivesSpan m payloads.words text before (Some span) after → none ≡ []
-      → found ≡ map (boundary_in (text span.0)) (span_boundaries m clusters (option_map words_after span.1) (code_points (text span.0).items))
-      → none ++ later_in before ≡ left → found ++ later_in after ≡ left
-  left-next text before after span none found left gives nothing are is =
-      ap (λ (some : List Boundary). some ++ later_in after) are
-      ∙ sym (span-next text before after span gives)
-      ∙ ap (λ (some : List Boundary). some ++ later_in before) (sym nothing)
+  abbrev after : Bool → Text → Text
+  after begun text = after_span m payloads.words begun text
+
+  -- it is what is left after some items
+  pub after-is : (begun : Bool) (text : Text) → (count : ℕ) × (after begun text ≡ rest_after count text)
+  after-is true text = (span_length m payloads.words (code_points text.items), refl)
+  after-is false text = (0, refl)
+
+  none-after : (begun : Bool) (text : Text) → text.items ≡ [] → after begun text ≡ text
+  none-after true text none = rw none refl
+  none-after false text none = refl
+
+  -- the last boundary of its first span is at such a place
+  pub gone-to : (begun : Bool) (text : Text) (place : ℕ) (none : List Boundary) → none ≡ [] → last_of place none ≡ start_of (after begun text)
+      → (count : ℕ) × (place ≡ start_of (rest_after count text))
+  gone-to begun text place none nothing last =
+      let (count, is) = after-is begun text in
+      let at : place ≡ start_of (after begun text) = (rw nothing at last) in
+      (count, at ∙ ap start_of is)
+
+  -- a text is gone on to the place of the last boundary of its first span
+  pub gone-on : (begun : Bool) (text gone : Text) (place : ℕ) (none : List Boundary) → none ≡ [] → last_of place none ≡ start_of (after begun text)
+      → ((count : ℕ) → place ≡ start_of (rest_after count text) → gone ≡ rest_after count text) → gone ≡ after begun text
+  gone-on begun text gone place none nothing last seek =
+      let (count, is) = after-is begun text in
+      let at : place ≡ start_of (after begun text) = (rw nothing at last) in
+      seek count (at ∙ ap start_of is) ∙ sym is
+
+  -- the next span begins there, with its boundaries
+  pub first-next : {I : Type 0} (text : Text) (span : Span I) (none left : List Boundary) → IsFirstSpan m payloads text span
+      → none ≡ [] → none ++ later_in text ≡ left → span_left span ++ later_in (after true text) ≡ left
+  first-next text span none left first nothing is =
+      let n = span_length m payloads.words (code_points text.items) in
+      ap (λ (found : List Boundary). found ++ later_in (rest_after n text)) first.1
+      ∙ sym (span-at m payloads.words (span_boundaries m clusters) fits text.items text.end first.0)
+      ∙ ap (λ (some : List Boundary). some ++ later_in text) (sym nothing)
       ∙ is
 
+  -- .. of which the last is at its end
+  last-in : (text : Text) (from n : ℕ) (boundaries : List Boundary) → RisesTo from boundaries n
+      → last_of (start_of (rest_after from text)) (map (boundary_in text) boundaries) ≡ start_of (rest_after n text)
+  last-in text from n [] rises = ap (λ (count : ℕ). start_of (rest_after count text)) rises
+  last-in text from n (boundary ∷ boundaries) rises = last-in text boundary.offset n boundaries rises.1
+
+  last-of-some : (text : Text) (before n : ℕ) (boundaries : List Boundary) → 0 < n → RisesTo 0 boundaries n
+      → last_of before (map (boundary_in text) boundaries) ≡ start_of (rest_after n text)
+  last-of-some text before n [] some rises = absurd (omega (arith, some, rises))
+  last-of-some text before n (boundary ∷ boundaries) some rises = last-in text boundary.offset n boundaries rises.1
+
+  rises-at : (items : List Item) → 0 < span_length m payloads.words (code_points items)
+      → let n = span_length m payloads.words (code_points items) in RisesTo 0 (span_boundaries m clusters (span_words m payloads.words (code_points items)) (code_points (take n items))) n
+  rises-at [] some = absurd (omega (arith, some))
+  rises-at (item ∷ items) some =
+      let n = span_length m payloads.words (code_points (item ∷ items)) in
+      subst (λ (span : List ℕ). RisesTo 0 (span_boundaries m clusters (span_words m payloads.words (code_points (item ∷ items))) span) n)
+      (take-map (λ (item : Item). item.1) n (item ∷ items)) (span-rises item.1 (code_points items))
+
+  pub first-last : {I : Type 0} (text : Text) (span : Span I) (before : ℕ) → IsFirstSpan m payloads text span
+      → last_of before (span_left span) ≡ start_of (after true text)
+  first-last text span before first =
+      let n = span_length m payloads.words (code_points text.items) in
+      ap (last_of before) first.1
+      ∙ last-of-some (text_before n text) before n _ first.0 (rises-at text.items first.0)
+      ∙ place-before text.items text.end n n (omega arith)
+
+  -- less is left after it
+  pub first-less : {I : Type 0} (text : Text) (span : Span I) → IsFirstSpan m payloads text span → length (after true text).items < length text.items
+  first-less text span first =
+      let n = span_length m payloads.words (code_points text.items) in
+      let many : length (code_points text.items) ≡ length text.items = length-map text.items (λ (item : Item). item.1) in
+      let left : length (drop n text.items) ≡ length text.items - n = length-drop n text.items in
+      omega (arith, first.0, span-inside m payloads.words (code_points text.items), many, left)
+
   -- nothing was left
-  pub end-left : {I : Type 0} (text : I → Text) (before after : Text) (none still left : List Boundary)
-      → GivesSpan m payloads.words text before None after → none ≡ [] → still ≡ []
-      → none ++ later_in before ≡ left → (left ≡ []) × (still ++ later_in after ≡ [])
-  end-left text before after none still left gives nothing empty is =
-      let end : later_in before ≡ [] =
-      ap (λ (items : List Item). later_in (record { items = items; end = before.end })) gives.0 ∙ text-later-nil (span_stretch m payloads) before.end in (
-        sym is ∙ ap (λ (some : List Boundary). some ++ later_in before) nothing ∙ end,
-        ap (λ (some : List Boundary). some ++ later_in after) empty ∙ ap later_in gives.1 ∙ end,
+  pub end-left : (begun : Bool) (text : Text) (none still left : List Boundary) → text.items ≡ [] → none ≡ [] → still ≡ []
+      → none ++ later_in text ≡ left → (left ≡ []) × (still ++ later_in (after begun text) ≡ [])
+  end-left begun text none still left empty nothing ended is =
+      let end : later_in text ≡ [] =
+      ap (λ (items : List Item). later_in (record { items = items; end = text.end })) empty ∙ text-later-nil (span_stretch m payloads) text.end in (
+        sym is ∙ ap (λ (some : List Boundary). some ++ later_in text) nothing ∙ end,
+        ap (λ (some : List Boundary). some ++ later_in (after begun text)) ended ∙ ap later_in (none-after begun text empty) ∙ end,
       )
+
+  pub end-last : (begun : Bool) (text : Text) (place : ℕ) (still : List Boundary) → text.items ≡ [] → still ≡ [] → place ≡ start_of text
+      → last_of place still ≡ start_of (after begun text)
+  end-last begun text place still empty ended at = rw (ended, none-after begun text empty) at
 
 -- cuts as boundaries, at their places
 pub cut-boundaries : (status : ℕ) (text : Text) (cuts : List ℕ)

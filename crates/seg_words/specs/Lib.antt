@@ -1,3 +1,4 @@
+pub mod RisingPrefixes
 pub mod WordRules
 pub mod Words
 pub mod WordsLeft

@@ -6,5 +6,6 @@ mod classic;
 mod data;
 pub mod laws;
 mod neo;
+mod prefix;
 mod span;
 pub mod word;

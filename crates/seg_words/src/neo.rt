@@ -11,7 +11,6 @@ ghost use Rattle.seg_words.specs.WordRules.{word_boundaries_of};
 
 use crate::span::Span;
 use seg_clusters::complex::ComplexPayloadsBorrowed;
-use seg_clusters::spans::next_span;
 use seg_machine::tailored_machine::TailoredMachineBorrowed;
 use seg_text::cursor::Cursor;
 use std::marker::Model;
@@ -23,7 +22,12 @@ pub(crate) struct NeoBoundaries<'data, I: Cursor> {
     payloads: ComplexPayloadsBorrowed<'data>,
     // What is left of the span that came last.
     span: Span<'data, I>,
+    // Whether it is the first of `rest`, and not the text's start.
+    has_begun: bool,
+    // The text, from the start of that span on: where it ends is seen when its last boundary is given.
     rest: I,
+    // The place of the boundary that was given last.
+    place: usize,
     status: u8,
 }
 
@@ -31,11 +35,15 @@ impl<'data, I: Cursor> Model for NeoBoundaries<'data, I> {
     ghost use Rattle.seg_text.specs.Boundaries.{Remainder};
     ghost use Rattle.seg_clusters.specs.Payloads.{payloads_of};
     ghost use Rattle.seg_machine.specs.Tailored.{machine_of};
-    ghost use Rattle.seg_words.specs.WordsLeft.{spans_left};
+    ghost use Rattle.std.specs.Prelude.{◌≡◌};
+    ghost use Rattle.seg_text.specs.Items.{start_of};
+    ghost use Rattle.seg_words.specs.WordsLeft.{after_span, last_of, span_left, spans_left};
 
     ghost Value = { Remainder };
 
-    ghost view = { λ s. record { left = spans_left (machine_of s.machine) (payloads_of s.payloads) s.span (I.text s.rest); status = s.status } };
+    ghost view = { λ s. record { left = spans_left (machine_of s.machine) (payloads_of s.payloads) s.span s.has_begun (I.text s.rest); status = s.status } };
+
+    ghost invariant = { λ s. last_of s.place (span_left s.span) ≡ start_of (after_span (machine_of s.machine) (payloads_of s.payloads).words s.has_begun (I.text s.rest)) };
 }
 
 impl<'data, I: Cursor> NeoBoundaries<'data, I> {
@@ -55,6 +63,8 @@ impl<'data, I: Cursor> NeoBoundaries<'data, I> {
             machine,
             payloads,
             span: Span::Start(Some(text.place())),
+            has_begun: false,
+            place: text.place(),
             rest: text,
             status: 0,
         }
@@ -83,12 +93,15 @@ impl<'data, I: Cursor> Iterator for NeoBoundaries<'data, I> {
         self.payloads.facts();
         loop {
             if let Some(boundary) = self.span.next() {
+                self.place = boundary.offset;
                 self.status = boundary.status;
                 return Some(boundary.offset);
             }
-            match next_span(self.machine, self.payloads.dictionaries, &mut self.rest) {
-                Some((span, words)) => {
-                    self.span = Span::new(self.machine, self.payloads.clusters, span, words);
+            self.rest.seek(self.place);
+            match Span::first_of(self.machine, self.payloads, &self.rest) {
+                Some(span) => {
+                    self.span = span;
+                    self.has_begun = true;
                 }
                 None => {
                     self.status = 0;
@@ -108,7 +121,9 @@ impl<'data, I: Cursor> NeoBoundaries<'data, I> {
             machine: self.machine,
             payloads: self.payloads,
             span: self.span.fork(),
+            has_begun: self.has_begun,
             rest: self.rest.fork(),
+            place: self.place,
             status: self.status,
         }
     }

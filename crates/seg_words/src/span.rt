@@ -1,58 +1,100 @@
 //! Spans of a text by a machine, and their boundaries.
 
-ghost use Rattle.std.specs.Prelude.{◌≡◌, map};
+ghost use Rattle.std.specs.Prelude.{◌≡◌, [], MatchOption};
 ghost use Rattle.std.specs.Iterator.{YieldsFirst, item_count};
-ghost use Rattle.std.specs.Option.{option_map};
-ghost use Rattle.seg_text.specs.Items.{code_points};
-ghost use Rattle.seg_text.specs.Boundaries.{boundary_in};
-ghost use Rattle.seg_clusters.specs.Clusters.{cluster_rules};
-ghost use Rattle.seg_data.specs.ScriptWords.{words_after};
-ghost use Rattle.seg_clusters.specs.Rules.{boundaries_by};
+ghost use Rattle.seg_text.specs.Items.{prefix_length, text_before};
+ghost use Rattle.seg_text.specs.Boundaries.{boundaries_in, later_boundaries};
+ghost use Rattle.seg_data.specs.ScriptWords.{borrowed_words};
+ghost use Rattle.seg_clusters.specs.Payloads.{payloads_of};
+ghost use Rattle.seg_machine.specs.Pick.{machine_stretch};
 ghost use Rattle.seg_machine.specs.Tailored.{machine_of};
-ghost use Rattle.seg_words.specs.WordsLeft.{span_left};
-ghost use Rattle.seg_words.specs.WordRules.{span_boundaries};
+ghost use Rattle.seg_words.specs.WordsLeft.{is_between, span_left, IsFirstSpan};
 
+use crate::prefix::Prefix;
+use seg_clusters::complex::ComplexPayloadsBorrowed;
 use seg_clusters::dictionaries::DictionaryCuts;
-use seg_clusters::grapheme::GraphemeClusterSegmenterBorrowed;
+use seg_clusters::spans::{is_outside_runs, next_span};
+use seg_data::dictionaries::DictionariesBorrowed;
 use seg_data::provider::DictionaryCursor;
 use seg_machine::rule_segmenter_v2::RuleBreakIterator;
 use seg_machine::tailored_machine::TailoredMachineBorrowed;
 use seg_text::boundary::Boundary;
 use seg_text::cursor::Cursor;
+use seg_text::prefixes::CodePointTest;
 
 /// The status of what ends with letters.
 const LETTERS: u8 = 2;
+
+/// Whether code points stand between runs.
+#[derive(Clone, Copy, Debug)]
+pub(crate) struct BetweenRuns<'data> {
+    machine: TailoredMachineBorrowed<'data>,
+    dictionaries: DictionariesBorrowed<'data>,
+}
+
+impl<'data> CodePointTest for BetweenRuns<'data> {
+    ghost use Rattle.seg_data.specs.ScriptWords.{borrowed_words};
+    ghost use Rattle.seg_machine.specs.Tailored.{machine_of};
+    ghost use Rattle.seg_words.specs.WordsLeft.{is_between};
+
+    ghost passes = { λ test. is_between (machine_of test.machine) (borrowed_words test.dictionaries) };
+
+    fn accepts(&self, code_point: u32) -> bool {
+        is_outside_runs(self.machine, self.dictionaries, code_point)
+    }
+}
 
 /// A span, of which boundaries are left.
 #[derive(Debug, Drop)]
 pub(crate) enum Span<'data, I: Cursor> {
     /// Nothing but the text's start, until it is given.
     Start(Option<usize>),
-    /// A piece between runs, by the machine.
-    Piece(RuleBreakIterator<'data, I>),
+    /// A piece between runs, by the machine, which ends it where a run begins.
+    Piece(RuleBreakIterator<'data, Prefix<I, BetweenRuns<'data>>>),
     /// A run, by the words of its script.
     Run(DictionaryCuts<'data, DictionaryCursor<'data>, I>),
 }
 
 impl<'data, I: Cursor> Span<'data, I> {
-    /// A span with its boundaries but that at its start: a run where its script has words.
-    pub(crate) fn new(
+    /// The first span of a text: a run where its script has words. None where the text has no item. Takes no memory.
+    ///
+    /// It reads a run up to its end, and of a piece between runs what the machine reads first.
+    pub(crate) fn first_of(
         machine: TailoredMachineBorrowed<'data>,
-        clusters: GraphemeClusterSegmenterBorrowed<'data>,
-        span: I,
-        words: Option<DictionaryCursor<'data>>,
-    ) -> Self
-        ensures { span_left result ≡ map (boundary_in (I.text span)) (span_boundaries (machine_of machine.entry) (boundaries_by (cluster_rules clusters.entry)) (option_map words_after words.entry) (code_points (I.text span).items)) }
+        payloads: ComplexPayloadsBorrowed<'data>,
+        text: &I,
+    ) -> Option<Self>
+        ensures { MatchOption result ((I.text text.now).items ≡ []) (IsFirstSpan (machine_of machine.entry) (payloads_of payloads.entry) (I.text text.now)) }
     {
-        match words {
-            Some(words) => Span::Run(DictionaryCuts::new(words, clusters, span)),
-            None => {
-                let mut piece = RuleBreakIterator::new(machine, span);
-                piece.next();
-                Span::Piece(piece)
+        let Some((_, first)) = text.fork().next_item() else {
+            return None;
+        };
+        match payloads.dictionaries.cursor(machine.script(first)) {
+            None => Some(Span::Piece(piece_of(machine, payloads.dictionaries, text.fork()))),
+            Some(words) => {
+                let (run, _) = next_span(machine, payloads.dictionaries, &mut text.fork())?;
+                Some(Span::Run(DictionaryCuts::new(words, payloads.clusters, run)))
             }
         }
     }
+}
+
+// The boundaries of the piece between runs that a text begins with, but that at its start.
+fn piece_of<'data, I: Cursor>(
+    machine: TailoredMachineBorrowed<'data>,
+    dictionaries: DictionariesBorrowed<'data>,
+    rest: I,
+) -> RuleBreakIterator<'data, Prefix<I, BetweenRuns<'data>>>
+    ensures { result.left ≡ boundaries_in (later_boundaries (machine_stretch (machine_of machine.entry)))
+        (text_before (prefix_length (is_between (machine_of machine.entry) (borrowed_words dictionaries.entry)) (I.text rest)) (I.text rest)) }
+{
+    let test = BetweenRuns {
+        machine,
+        dictionaries,
+    };
+    let mut piece = RuleBreakIterator::new(machine, Prefix { rest, test });
+    piece.next();
+    piece
 }
 
 impl<'data, I: Cursor> Iterator for Span<'data, I> {
