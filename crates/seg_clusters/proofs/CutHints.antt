@@ -1,5 +1,5 @@
 -- How many cuts are left of a piece.
-use Rattle.std.proofs.Common.{◌≡◌, ℕ, suc, ◌+◌, ◌-◌, ◌<◌, ◌≤◌, List, [], ◌∷◌, length, map, arith}
+use Rattle.std.proofs.Common.{◌≡◌, ℕ, suc, ◌+◌, ◌-◌, ◌<◌, ◌≤◌, List, [], ◌∷◌, length, arith}
 use Rattle.std.specs.Prelude.{Option, IfSome, min}
 use Rattle.std.specs.Iterator.{UpTo, at_most}
 use Rattle.std.specs.Iterator.SizeHint.{IsWithinCount}

@@ -47,7 +47,7 @@ last-held None cuts none = ap but_the_last none
 last-held (Some cut) cuts none = ap (λ (later : List ℕ). but_the_last (cut ∷ later)) none
 
 module _ (m : Machine) (payloads : Payloads) (cover : CoverPieces (piece_cuts_by payloads)) where
-  abbrev clusters : Clusters
+  abbrev pub clusters : Clusters
   clusters = boundaries_by payloads.clusters
 
   alone-inside : (found : Option Words) (script : ComplexScript) (n first : ℕ) (rest : List ℕ) → length (first ∷ rest) ≡ n
@@ -73,7 +73,7 @@ module _ (m : Machine) (payloads : Payloads) (cover : CoverPieces (piece_cuts_by
       places-offsets (record { items = []; end = end }) (later_boundaries (inner_stretch m payloads) []) ∙ ap offsets (text-later-nil (inner_stretch m payloads) end)
 
   -- those inside the first span, taken alone, and then those of what is left
-  inner-at : (items : List Item) (end : ℕ) → 0 < span_length m payloads.words (code_points items)
+  pub inner-at : (items : List Item) (end : ℕ) → 0 < span_length m payloads.words (code_points items)
       → let text : Text = record { items = items; end = end } in let n = span_length m payloads.words (code_points items) in
       cut_places (inner_cuts m payloads) text
       ≡ but_the_last (cut_places (span_cuts clusters (span_words m payloads.words (code_points items))) (text_before n text)) ++ cut_places (inner_cuts m payloads) (rest_after n text)
@@ -90,7 +90,7 @@ module _ (m : Machine) (payloads : Payloads) (cover : CoverPieces (piece_cuts_by
       ∙ ap (λ (others : List ℕ). but_the_last (map (place_after (text_before n text)) cuts) ++ others) (sym (places-offsets rest (later_boundaries first (code_points rest.items))))
 
   -- a span was given
-  inner-next : {I : Type 0} (text : I → Text) (before after : Text) (span : I × Option DictionaryCursor)
+  pub inner-next : {I : Type 0} (text : I → Text) (before after : Text) (span : I × Option DictionaryCursor)
       → GivesSpan m payloads.words text before (Some span) after
       → cut_places (inner_cuts m payloads) before
       ≡ but_the_last (cut_places (span_cuts clusters (option_map words_after span.1)) (text span.0)) ++ cut_places (inner_cuts m payloads) after

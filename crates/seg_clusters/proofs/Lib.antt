@@ -20,6 +20,7 @@ pub mod EqualSpans
 pub mod UnwordedSpans
 pub mod InnerCuts
 pub mod InnerRange
+pub mod RunsAhead
 pub mod Fitting
 mod CutHints
 pub mod SplitSpans

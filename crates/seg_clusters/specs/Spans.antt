@@ -3,7 +3,7 @@ use Rattle.std.specs.Prelude.{◌≡◌, ℕ, ◌<◌, ◌==◌, Bool, Option, S
 use Rattle.std.specs.List.{prefix_len}
 use Rattle.std.specs.Option.{option_map}
 use Rattle.seg_text.specs.Items.{Text, rest_after, text_before, code_points}
-use Rattle.seg_text.specs.Boundaries.{offsets, Cuts, with_status, Stretch, later_boundaries}
+use Rattle.seg_text.specs.Boundaries.{offsets, Cuts, cut_places, with_status, Stretch, later_boundaries}
 use Rattle.seg_data.specs.declared.provider.ComplexScript.{ComplexScript}
 use Rattle.seg_data.specs.declared.provider.ComplexScript.TheVariants as scripts
 use Rattle.seg_data.specs.ScriptWords.{words_after, ScriptWords, words_in}
@@ -27,6 +27,10 @@ worded_script m words code_point = let script = (symbol_and_script m code_point)
 -- it is this one
 abbrev pub has_worded_script : Machine → ScriptWords → ComplexScript → ℕ → Bool
 has_worded_script m words script code_point = script_number (worded_script m words code_point) == script_number script
+
+-- it has none: it stands between runs
+abbrev pub is_between : Machine → ScriptWords → ℕ → Bool
+is_between m words code_point = has_worded_script m words scripts.None code_point
 
 -- the first span goes as far as the code points have the script of the first
 abbrev pub span_length : Machine → ScriptWords → List ℕ → ℕ
@@ -72,6 +76,25 @@ inner_stretch m payloads code_points =
 -- those of a list of code points, span by span
 abbrev pub inner_cuts : Machine → Payloads → Cuts
 inner_cuts m payloads code_points = offsets (later_boundaries (inner_stretch m payloads) code_points)
+
+-- no cut stands up to a place; where there is no such place, no cut at all
+abbrev pub AreBeyond : Option ℕ → List ℕ → Type 0
+AreBeyond None cuts = cuts ≡ []
+AreBeyond (Some last) [] = Unit {0}
+AreBeyond (Some last) (cut ∷ cuts) = last < cut
+
+-- the next cut was given; or none, and none stands up to a place
+abbrev pub GivesUpTo : Option ℕ → List ℕ → Option ℕ → List ℕ → Type 0
+GivesUpTo last before given after = MatchOption given ((after ≡ before) × AreBeyond last before) (λ cut. before ≡ cut ∷ after)
+
+-- the next run was given with its words: the cuts strictly inside it are the first of a text, and those of what comes after it are left;
+-- or none, and no cut stands up to a place
+abbrev pub GivesRun : {I : Type 0} → Machine → Payloads → (I → Text) → Option ℕ → Text → Option (I × DictionaryCursor) → Text → Type 0
+GivesRun m payloads text last before given after =
+    let inside = cut_places (inner_cuts m payloads) in
+    MatchOption given ((inside after ≡ inside before) × AreBeyond last (inside before))
+    (λ run. (length after.items < length before.items)
+    × (inside before ≡ but_the_last (cut_places (dictionary_cuts (words_after run.1) (boundaries_by payloads.clusters)) (text run.0)) ++ inside after))
 
 -- Code points outside runs, after which what is cut span by span may be split.
 

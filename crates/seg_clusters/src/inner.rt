@@ -1,19 +1,13 @@
 //! The cuts strictly inside the runs of a text, where a machine tells the runs.
 
-ghost use Rattle.std.specs.Prelude.{◌≡◌};
-ghost use Rattle.std.specs.Iterator.{YieldsFirst, item_count};
+ghost use Rattle.std.specs.Prelude.{◌≡◌, ◌≤◌, ℕ, Some, IsTrue};
 ghost use Rattle.seg_text.specs.Boundaries.{cut_places};
 ghost use Rattle.seg_machine.specs.Tailored.{machine_of};
-ghost use Rattle.std.specs.Option.{option_map};
-ghost use Rattle.seg_clusters.specs.Clusters.{cluster_rules};
-ghost use Rattle.seg_data.specs.ScriptWords.{words_after};
-ghost use Rattle.seg_clusters.specs.Rules.{boundaries_by};
-ghost use Rattle.seg_clusters.specs.Spans.{inner_cuts, span_cuts};
-ghost use Rattle.seg_clusters.specs.Payloads.{payloads_of, piece_left};
+ghost use Rattle.seg_clusters.specs.Spans.{inner_cuts, GivesRun, GivesUpTo};
+ghost use Rattle.seg_clusters.specs.Payloads.{payloads_of};
 
 use crate::complex::ComplexPayloadsBorrowed;
 use crate::dictionaries::DictionaryCuts;
-use crate::grapheme::GraphemeClusterSegmenterBorrowed;
 use crate::runs::PieceIterator;
 use crate::spans::next_span;
 use seg_data::provider::DictionaryCursor;
@@ -22,7 +16,7 @@ use seg_text::cursor::Cursor;
 use std::marker::Model;
 
 /// The cuts strictly inside the runs of a text, as places in units: runs are of one script that has words, by a machine, and
-/// each is cut by these. After None it stays None. Takes no memory.
+/// each is cut by these. Takes no memory.
 #[derive(Debug, Drop)]
 pub struct InnerCuts<'data, I: Cursor> {
     machine: TailoredMachineBorrowed<'data>,
@@ -68,28 +62,48 @@ impl<'data, I: Cursor> InnerCuts<'data, I> {
     }
 }
 
-/// The cuts of a span: those by the words of its script, if it is a run.
-fn span_cuts<'data, I: Cursor>(
-    clusters: GraphemeClusterSegmenterBorrowed<'data>,
-    span: I,
-    words: Option<DictionaryCursor<'data>>,
-) -> PieceIterator<'data, I>
-    ensures { piece_left result ≡ cut_places (span_cuts (boundaries_by (cluster_rules clusters.entry)) (option_map words_after words.entry)) (I.text span) }
+/// Whether a place is a limit, if there is one, or stands behind it.
+fn is_behind(place: usize, last: Option<usize>) -> bool
+    ensures { IsTrue result → (limit : ℕ) × (last ≡ Some limit) × (limit ≤ place) }
 {
-    match words {
-        Some(words) => PieceIterator::Words(DictionaryCuts::new(words, clusters, span)),
-        None => PieceIterator::End(None),
+    match last {
+        Some(last) => last <= place,
+        None => false,
     }
 }
 
-impl<'data, I: Cursor> Iterator for InnerCuts<'data, I> {
-    type Item = usize;
+/// The next run of a text, with the words of its script. None at the end, and where the search for it, between runs, comes to `last`. Takes no memory.
+fn next_run<'data, I: Cursor>(
+    machine: TailoredMachineBorrowed<'data>,
+    payloads: ComplexPayloadsBorrowed<'data>,
+    rest: &mut I,
+    last: Option<usize>,
+) -> Option<(I, DictionaryCursor<'data>)>
+    ensures { GivesRun (machine_of machine.entry) (payloads_of payloads.entry) I.text last (I.text rest.old) result (I.text rest.new) }
+{
+    payloads.facts();
+    'items: loop {
+        if is_behind(rest.place(), last) {
+            return None;
+        }
+        let mut after = rest.fork();
+        let Some((_, first)) = after.next_item() else {
+            return None;
+        };
+        if let Some(words) = payloads.dictionaries.cursor(machine.script(first)) {
+            let (run, _) = next_span(machine, payloads.dictionaries, rest)?;
+            return Some((run, words));
+        }
+        *rest = after;
+    }
+}
 
-    ghost next_gives = { YieldsFirst (λ left. left) };
-
-    ghost remaining = { item_count (λ left. left) };
-
-    fn next(&mut self) -> Option<usize> {
+impl<'data, I: Cursor> InnerCuts<'data, I> {
+    /// The next cut, which may stand behind `last`. None where no cut is left, or each stands behind it: of what stands between runs nothing
+    /// is read from there on. Takes no memory.
+    pub fn next_up_to(&mut self, last: Option<usize>) -> Option<usize>
+        ensures { GivesUpTo last self.old result self.new }
+    {
         self.payloads.facts();
         loop {
             if let Some(place) = self.run.next() {
@@ -97,12 +111,12 @@ impl<'data, I: Cursor> Iterator for InnerCuts<'data, I> {
                 self.held = Some(place);
                 return before;
             }
-            let (span, words) = next_span(
-                self.machine,
-                self.payloads.dictionaries,
-                &mut self.rest,
-            )?;
-            self.run = span_cuts(self.payloads.clusters, span, words);
+            let (run, words) = next_run(self.machine, self.payloads, &mut self.rest, last)?;
+            self.run = PieceIterator::Words(DictionaryCuts::new(
+                words,
+                self.payloads.clusters,
+                run,
+            ));
             self.held = self.run.next();
         }
     }

@@ -14,35 +14,12 @@ use Rattle.seg_machine.specs.Pick.{machine_stretch}
 use Rattle.seg_clusters.specs.Payloads.{Payloads}
 use Rattle.seg_clusters.specs.Rules.{boundaries_by}
 use Rattle.seg_clusters.specs.Scripts.{script_number}
-use Rattle.seg_clusters.specs.Spans.{has_worded_script, span_length, span_words, worded_script, IsOutsideRuns}
+use Rattle.seg_clusters.specs.Spans.{has_worded_script, is_between, span_length, span_words, worded_script}
+use Rattle.seg_clusters.proofs.RunsAhead.{unworded, worded}
 use Rattle.seg_clusters.proofs.SpanStretches.{span-some}
 use Rattle.seg_words.specs.WordRules.{span_boundaries}
-use Rattle.seg_words.specs.WordsLeft.{is_between}
-
-number-is : (script : ComplexScript) (found : Bool) → (IsTrue found ↔ (script ≡ scripts.None)) → found ≡ (script_number script == script_number scripts.None)
-number-is scripts.None found is = is.1 refl
-number-is scripts.Myanmar true is = cc (is.0 refl)
-number-is scripts.Myanmar false is = refl
-number-is scripts.ChineseOrJapanese true is = cc (is.0 refl)
-number-is scripts.ChineseOrJapanese false is = refl
-number-is scripts.Khmer true is = cc (is.0 refl)
-number-is scripts.Khmer false is = refl
-number-is scripts.Lao true is = cc (is.0 refl)
-number-is scripts.Lao false is = refl
-number-is scripts.Thai true is = cc (is.0 refl)
-number-is scripts.Thai false is = refl
-
--- a code point stands in no run, so it stands between them
-pub between-is : (m : Machine) (words : ScriptWords) (code_point : ℕ) (found : Bool) → (IsTrue found ↔ IsOutsideRuns m words code_point) → found ≡ is_between m words code_point
-between-is m words code_point found is = number-is (worded_script m words code_point) found is
 
 module _ (m : Machine) (payloads : Payloads) where
-  unworded : (first : ℕ) → words_in payloads.words (symbol_and_script m first).1 ≡ None → worded_script m payloads.words first ≡ scripts.None
-  unworded first none = rw none refl
-
-  worded : (first : ℕ) (words : Words) → words_in payloads.words (symbol_and_script m first).1 ≡ Some words → worded_script m payloads.words first ≡ (symbol_and_script m first).1
-  worded first words some = rw some refl
-
   -- the first code point has no script that has words
   pub first-piece : (text after : Text) (item : Item) (left : List Boundary) → text.items ≡ item ∷ after.items
       → words_in payloads.words (symbol_and_script m item.1).1 ≡ None
@@ -50,7 +27,7 @@ module _ (m : Machine) (payloads : Payloads) where
       → let count = span_length m payloads.words (code_points text.items) in let first = text_before count text in
       (0 < count) × (left ≡ map (boundary_in first) (span_boundaries m (boundaries_by payloads.clusters) (span_words m payloads.words (code_points text.items)) (code_points first.items)))
   first-piece text after item left is none found =
-      let script : worded_script m payloads.words item.1 ≡ scripts.None = unworded item.1 none in
+      let script : worded_script m payloads.words item.1 ≡ scripts.None = unworded m payloads item.1 none in
       let count = span_length m payloads.words (code_points text.items) in
       let same : count ≡ prefix_length (is_between m payloads.words) text =
       rw is (ap (λ (script : ComplexScript). prefix_len (has_worded_script m payloads.words script) (item.1 ∷ code_points after.items)) script) in
@@ -70,7 +47,7 @@ module _ (m : Machine) (payloads : Payloads) where
       (0 < count) × (left ≡ map (boundary_in first) (span_boundaries m (boundaries_by payloads.clusters) (span_words m payloads.words (code_points text.items)) (code_points first.items)))
   first-run text after run item words left is some taken found =
       let has : span_words m payloads.words (code_points text.items) ≡ Some words =
-      rw is (ap (words_in payloads.words) (worded item.1 words some) ∙ some) in (
+      rw is (ap (words_in payloads.words) (worded m payloads item.1 words some) ∙ some) in (
         rw is (span-some m payloads.words item.1 (code_points after.items)),
         rw has (rw taken at found),
       )

@@ -4,12 +4,11 @@ use Rattle.seg_text.specs.Boundaries.{Remainder, boundaries_in, boundary_in, lis
 use Rattle.seg_text.specs.declared.boundary.Boundary.{Boundary}
 use Rattle.seg_text.specs.Items.{Text, code_points, rest_after, text_before}
 use Rattle.seg_pairs.specs.Breaks.{status_of, Unread, complex_stretch, run_status, unread_boundaries}
-use Rattle.seg_data.specs.declared.provider.ComplexScript.TheVariants as scripts
 use Rattle.seg_data.specs.ScriptWords.{ScriptWords}
 use Rattle.seg_machine.specs.Machine.{Machine}
 use Rattle.seg_clusters.specs.Payloads.{Payloads}
 use Rattle.seg_clusters.specs.Rules.{boundaries_by}
-use Rattle.seg_clusters.specs.Spans.{has_worded_script, span_length, span_words}
+use Rattle.seg_clusters.specs.Spans.{span_length, span_words}
 use Rattle.seg_words.specs.declared.span.Span.{Span}
 use Rattle.seg_words.specs.declared.span.Span.TheVariants.{Start, Piece, Run}
 use Rattle.seg_words.specs.WordRules.{letters, span_boundaries, span_stretch}
@@ -34,10 +33,6 @@ span_left (Start None) = []
 span_left (Start (Some place)) = boundary place 0 ∷ []
 span_left (Piece remainder) = remainder.left
 span_left (Run cuts) = with_status letters cuts
-
--- by a machine a code point has no script that has words: it stands between runs
-abbrev pub is_between : Machine → ScriptWords → ℕ → Bool
-is_between m words code_point = has_worded_script m words scripts.None code_point
 
 -- what comes after a text's first span, if it has begun
 abbrev pub after_span : Machine → ScriptWords → Bool → Text → Text

@@ -8,7 +8,8 @@ ghost use Rattle.seg_data.specs.ScriptWords.{borrowed_words};
 ghost use Rattle.seg_clusters.specs.Payloads.{payloads_of};
 ghost use Rattle.seg_machine.specs.Pick.{machine_stretch};
 ghost use Rattle.seg_machine.specs.Tailored.{machine_of};
-ghost use Rattle.seg_words.specs.WordsLeft.{is_between, span_left, IsFirstSpan};
+ghost use Rattle.seg_clusters.specs.Spans.{is_between};
+ghost use Rattle.seg_words.specs.WordsLeft.{span_left, IsFirstSpan};
 
 use crate::prefix::Prefix;
 use seg_clusters::complex::ComplexPayloadsBorrowed;
@@ -35,7 +36,7 @@ pub(crate) struct BetweenRuns<'data> {
 impl<'data> CodePointTest for BetweenRuns<'data> {
     ghost use Rattle.seg_data.specs.ScriptWords.{borrowed_words};
     ghost use Rattle.seg_machine.specs.Tailored.{machine_of};
-    ghost use Rattle.seg_words.specs.WordsLeft.{is_between};
+    ghost use Rattle.seg_clusters.specs.Spans.{is_between};
 
     ghost passes = { λ test. is_between (machine_of test.machine) (borrowed_words test.dictionaries) };
 

@@ -1,4 +1,3 @@
-use Rattle.std.proofs.lemmas.List.{length-map}
 use Rattle.seg_clusters.proofs.CutHints.{later-lower, later-upper}
 use Rattle.seg_clusters.proofs.later.LaterCutsIterator.size_hint.Goals as goal
 

@@ -1,4 +1,4 @@
-use Rattle.seg_words.proofs.Runs.{between-is}
+use Rattle.seg_clusters.proofs.RunsAhead.{between-is}
 use Rattle.seg_words.proofs.span.BetweenRunsCodePointTest.accepts.Goals as goal
 
 pub returns : goal.returns

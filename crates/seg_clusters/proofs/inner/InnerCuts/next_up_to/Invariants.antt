@@ -6,7 +6,7 @@ use Rattle.seg_machine.specs.Tailored.{machine_of}
 use Rattle.seg_clusters.specs.Spans.{inner_cuts, but_the_last}
 use Rattle.seg_clusters.specs.Payloads.{payloads_of, piece_cuts_by, piece_left}
 use Rattle.seg_clusters.specs.Scripts.{CoverPieces}
-use Rattle.seg_clusters.proofs.inner.InnerCutsIterator.next.Given as goal
+use Rattle.seg_clusters.proofs.inner.InnerCuts.next_up_to.Given as goal
 
 abbrev pub invariant-loop-place : goal.invariant-loop-place
 invariant-loop-place g l =
