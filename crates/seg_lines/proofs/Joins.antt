@@ -2,13 +2,14 @@
 use Rattle.std.proofs.Common.{◌≡◌, ℕ, suc, ◌<◌, ◌≤◌, inl, inr, ◌==◌, nat_lt, Bool, true, false, List, [], ◌∷◌, ◌++◌, length, map, refl, sym, ap, ◌∙◌, subst, arith, eq-eqb}
 use Rattle.std.specs.Prelude.{if◌then◌else◌, IfSome, Option, None, Some, ⊤}
 use Rattle.std.specs.Iterator.{MakesProgress, YieldsFirst, item_count}
-use Rattle.std.specs.Option.{option_to_list}
+use Rattle.std.specs.Option.{option_map, option_to_list}
 use Rattle.std.proofs.lemmas.Bool.{cases_lt, false_from_ne_true, lt-ltb, ltb-true, ne_eqb}
 use Rattle.seg_text.specs.declared.boundary.Boundary.{Boundary}
 use Rattle.seg_text.specs.Items.{Text, IsRising, start_of, rest_after}
 use Rattle.seg_text.specs.Boundaries.{Remainder, boundary, boundary_in, offsets, offsets_left}
 use Rattle.seg_text.proofs.Covers.{place-between}
 use Rattle.seg_clusters.proofs.InnerCuts.{first-taken}
+use Rattle.seg_clusters.specs.Spans.{AreBeyond}
 use Rattle.seg_lines.specs.LineBreaks.{AreAbove, AreRising, joined, with_cut}
 
 abbrev pub AreAtMost : ℕ → List ℕ → Type 0
@@ -136,50 +137,70 @@ all-above : (place : ℕ) (found : Option Boundary) (left : List Boundary) → I
 all-above place None left before rising none = rw (none refl) tt
 all-above place (Some found) left before rising none = (before, above-more place found.offset (offsets left) before rising.0)
 
-cuts-above : (place : ℕ) (cut : Option ℕ) (cuts : List ℕ) → IfSome cut (λ first. place < first) → AreRising (option_to_list cut ++ cuts) → (cut ≡ None → cuts ≡ [])
+-- cuts that rise and stand beyond a place
+beyond-above : (place : ℕ) (cuts : List ℕ) → AreBeyond (Some place) cuts → AreRising cuts → AreAbove place cuts
+beyond-above place [] beyond rising = tt
+beyond-above place (cut ∷ cuts) beyond rising = (beyond, above-more place cut cuts beyond rising.0)
+
+cuts-above : (place : ℕ) (cut : Option ℕ) (cuts : List ℕ) → IfSome cut (λ first. place < first) → AreRising (option_to_list cut ++ cuts) → (cut ≡ None → AreBeyond (Some place) cuts)
     → AreAbove place (option_to_list cut ++ cuts)
-cuts-above place None cuts before rising none = rw (none refl) tt
-cuts-above place (Some cut) cuts before rising none = (before, above-more place cut cuts before rising.0)
+cuts-above place None cuts before rising beyond = beyond-above place cuts (beyond refl) rising
+cuts-above place (Some cut) cuts before rising beyond = (before, above-more place cut cuts before rising.0)
 
-pub cut-step : {S : Type 0} (cuts_left : S → List ℕ) (found : Option Boundary) (left : List Boundary) (cut given : Option ℕ) (old new : S) (place : ℕ)
-    → cut ≡ Some place → IfSome found (λ boundary. place < boundary.offset)
-    → AreRising (offsets (option_to_list found ++ left)) → AreRising (option_to_list cut ++ cuts_left old) → (found ≡ None → left ≡ [])
-    → YieldsFirst cuts_left old given new
-    → joined (option_to_list found ++ left) (option_to_list cut ++ cuts_left old)
-    ≡ boundary place 0 ∷ joined (option_to_list found ++ left) (option_to_list given ++ cuts_left new)
-cut-step cuts_left found left cut given old new place is before rising rises none gives =
-    let taken : option_to_list given ++ cuts_left new ≡ cuts_left old = first-taken cuts_left old new given gives in
-    let after : AreRising (place ∷ cuts_left old) = subst (λ (cut : Option ℕ). AreRising (option_to_list cut ++ cuts_left old)) is rises in
-    ap (λ (cut : Option ℕ). joined (option_to_list found ++ left) (option_to_list cut ++ cuts_left old)) is
-    ∙ cut-first place (option_to_list found ++ left) (cuts_left old) (all-above place found left before rising none) after.0
-    ∙ ap (λ (cuts : List ℕ). boundary place 0 ∷ joined (option_to_list found ++ left) cuts) (sym taken)
+abbrev pub offset_of : Option Boundary → Option ℕ
+offset_of found = option_map (λ (boundary : Boundary). boundary.offset) found
 
-pub boundary-step : {S : Type 0} (all : S → List Boundary) (found given : Option Boundary) (old new : S) (cut : Option ℕ) (cuts : List ℕ) (next : Boundary)
-    → found ≡ Some next → IfSome cut (λ place. next.offset < place)
-    → AreRising (option_to_list cut ++ cuts) → (cut ≡ None → cuts ≡ []) → YieldsFirst all old given new
-    → joined (option_to_list found ++ all old) (option_to_list cut ++ cuts)
-    ≡ next ∷ joined (option_to_list given ++ all new) (option_to_list cut ++ cuts)
-boundary-step all found given old new cut cuts next is before rises none gives =
-    let taken : option_to_list given ++ all new ≡ all old = first-taken all old new given gives in
-    ap (λ (found : Option Boundary). joined (option_to_list found ++ all old) (option_to_list cut ++ cuts)) is
-    ∙ boundary-first next (all old) (option_to_list cut ++ cuts) (cuts-above next.offset cut cuts before rises none)
-    ∙ ap (λ (left : List Boundary). next ∷ joined left (option_to_list cut ++ cuts)) (sym taken)
+module _ (held cut : Option ℕ) (before after : List ℕ) (same : option_to_list cut ++ after ≡ option_to_list held ++ before) (rises : AreRising (option_to_list held ++ before)) where
+  taken-rises : AreRising (option_to_list cut ++ after)
+  taken-rises = subst AreRising (sym same) rises
 
-pub both-step : {S C : Type 0} (all : S → List Boundary) (cuts_left : C → List ℕ) (found given : Option Boundary) (old new : S)
-    (cut later : Option ℕ) (before after : C) (next : Boundary)
-    → found ≡ Some next → cut ≡ Some next.offset → AreRising (option_to_list cut ++ cuts_left before)
-    → YieldsFirst all old given new → YieldsFirst cuts_left before later after
-    → joined (option_to_list found ++ all old) (option_to_list cut ++ cuts_left before)
-    ≡ next ∷ joined (option_to_list given ++ all new) (option_to_list later ++ cuts_left after)
-both-step all cuts_left found given old new cut later before after next is at rises gives takes =
-    let taken : option_to_list given ++ all new ≡ all old = first-taken all old new given gives in
-    let cut_taken : option_to_list later ++ cuts_left after ≡ cuts_left before = first-taken cuts_left before after later takes in
-    let rising : AreRising (next.offset ∷ cuts_left before) = subst (λ (cut : Option ℕ). AreRising (option_to_list cut ++ cuts_left before)) at rises in
-    ap (λ (found : Option Boundary). joined (option_to_list found ++ all old) (option_to_list cut ++ cuts_left before)) is
-    ∙ ap (λ (cut : Option ℕ). joined (next ∷ all old) (option_to_list cut ++ cuts_left before)) at
-    ∙ both-first next.offset next (all old) (cuts_left before) refl rising.0
-    ∙ ap (λ (left : List Boundary). next ∷ joined left (cuts_left before)) (sym taken)
-    ∙ ap (λ (cuts : List ℕ). next ∷ joined (option_to_list given ++ all new) cuts) (sym cut_taken)
+  -- all cuts but the one that comes first
+  pub left-rises : (place : ℕ) → cut ≡ Some place → AreRising after
+  left-rises place is = (subst (λ (cut : Option ℕ). AreRising (option_to_list cut ++ after)) is taken-rises).1
+
+  pub looked-rises : AreRising (option_to_list cut ++ after)
+  looked-rises = taken-rises
+
+  pub cut-step : (found : Option Boundary) (left : List Boundary) (place : ℕ)
+      → cut ≡ Some place → IfSome found (λ boundary. place < boundary.offset)
+      → AreRising (offsets (option_to_list found ++ left)) → (found ≡ None → left ≡ [])
+      → joined (option_to_list found ++ left) (option_to_list held ++ before) ≡ boundary place 0 ∷ joined (option_to_list found ++ left) after
+  cut-step found left place is ahead rising none =
+      let first : AreRising (place ∷ after) = subst (λ (cut : Option ℕ). AreRising (option_to_list cut ++ after)) is taken-rises in
+      ap (joined (option_to_list found ++ left)) (sym same)
+      ∙ ap (λ (cut : Option ℕ). joined (option_to_list found ++ left) (option_to_list cut ++ after)) is
+      ∙ cut-first place (option_to_list found ++ left) after (all-above place found left ahead rising none) first.0
+
+  pub boundary-step : {S : Type 0} (all : S → List Boundary) (found given : Option Boundary) (old new : S) (next : Boundary)
+      → found ≡ Some next → IfSome cut (λ place. next.offset < place) → (cut ≡ None → AreBeyond (offset_of found) after) → YieldsFirst all old given new
+      → joined (option_to_list found ++ all old) (option_to_list held ++ before) ≡ next ∷ joined (option_to_list given ++ all new) (option_to_list cut ++ after)
+  boundary-step all found given old new next is ahead beyond gives =
+      let taken : option_to_list given ++ all new ≡ all old = first-taken all old new given gives in
+      let far : cut ≡ None → AreBeyond (Some next.offset) after = λ none. subst (λ (found : Option Boundary). AreBeyond (offset_of found) after) is (beyond none) in
+      ap (joined (option_to_list found ++ all old)) (sym same)
+      ∙ ap (λ (found : Option Boundary). joined (option_to_list found ++ all old) (option_to_list cut ++ after)) is
+      ∙ boundary-first next (all old) (option_to_list cut ++ after) (cuts-above next.offset cut after ahead taken-rises far)
+      ∙ ap (λ (left : List Boundary). next ∷ joined left (option_to_list cut ++ after)) (sym taken)
+
+  pub both-step : {S : Type 0} (all : S → List Boundary) (found given : Option Boundary) (old new : S) (next : Boundary)
+      → found ≡ Some next → cut ≡ Some next.offset → YieldsFirst all old given new
+      → joined (option_to_list found ++ all old) (option_to_list held ++ before) ≡ next ∷ joined (option_to_list given ++ all new) after
+  both-step all found given old new next is at gives =
+      let taken : option_to_list given ++ all new ≡ all old = first-taken all old new given gives in
+      let rising : AreRising (next.offset ∷ after) = subst (λ (cut : Option ℕ). AreRising (option_to_list cut ++ after)) at taken-rises in
+      ap (joined (option_to_list found ++ all old)) (sym same)
+      ∙ ap (λ (found : Option Boundary). joined (option_to_list found ++ all old) (option_to_list cut ++ after)) is
+      ∙ ap (λ (cut : Option ℕ). joined (next ∷ all old) (option_to_list cut ++ after)) at
+      ∙ both-first next.offset next (all old) after refl rising.0
+      ∙ ap (λ (left : List Boundary). next ∷ joined left after) (sym taken)
+
+  -- nothing comes first
+  pub nothing-step : (found : Option Boundary) (left : List Boundary) → found ≡ None → cut ≡ None → (found ≡ None → left ≡ []) → (cut ≡ None → AreBeyond (offset_of found) after)
+      → (joined (option_to_list found ++ left) (option_to_list held ++ before) ≡ []) × (joined (option_to_list found ++ left) (option_to_list cut ++ after) ≡ [])
+  nothing-step found left is none no-more beyond =
+      let empty : after ≡ [] = subst (λ (found : Option Boundary). AreBeyond (offset_of found) after) is (beyond none) in
+      let all : joined (option_to_list found ++ left) (option_to_list cut ++ after) ≡ [] = rw (is, none, no-more is, empty) refl in
+      (ap (joined (option_to_list found ++ left)) (sym same) ∙ all, all)
 
 pub progress : (old new : Remainder) (next : Boundary) → old.left ≡ next ∷ new.left
     → MakesProgress {S = Remainder} {A = ℕ} (λ x. ⊤) (item_count offsets_left) old (Some next.offset) new

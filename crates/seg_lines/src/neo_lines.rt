@@ -1,11 +1,13 @@
 //! The boundaries of lines by a machine, joined with the cuts strictly inside runs.
 
-ghost use Rattle.std.specs.Prelude.{◌≡◌, ⊤};
+ghost use Rattle.std.specs.Prelude.{◌≡◌, ◌++◌, ⊤, None};
 ghost use Rattle.std.specs.Iterator.{YieldsFirst, MakesProgress, item_count};
+ghost use Rattle.std.specs.Option.{option_map, option_to_list};
 ghost use Rattle.seg_text.specs.Items.{start_of};
 ghost use Rattle.seg_text.specs.Boundaries.{GivesNext, IsCover, boundaries_in, offsets_left};
 ghost use Rattle.seg_machine.specs.Tailored.{machine_of};
 ghost use Rattle.seg_clusters.specs.Payloads.{payloads_of};
+ghost use Rattle.seg_clusters.specs.Spans.{AreBeyond};
 ghost use Rattle.seg_lines.specs.LineBreaks.{all_left, boundaries_with};
 ghost use Rattle.seg_lines.specs.LineBreaks.LineFinder.{ByMachine};
 
@@ -25,7 +27,7 @@ pub(crate) struct JoinedBoundaries<'data, I: Cursor> {
     // The next boundary of the machine.
     boundary: Option<Boundary>,
     cuts: InnerCuts<'data, I>,
-    // The next cut.
+    // The next cut, if it was found: it is looked for up to the next boundary, and no further.
     cut: Option<usize>,
     status: u8,
 }
@@ -43,8 +45,7 @@ impl<'data, I: Cursor> Model for JoinedBoundaries<'data, I> {
     ghost invariant = { λ s.
         AreRising (offsets (option_to_list s.boundary ++ s.machine.left))
         × AreRising (option_to_list s.cut ++ s.cuts)
-        × (s.boundary ≡ None → s.machine.left ≡ [])
-        × (s.cut ≡ None → s.cuts ≡ []) };
+        × (s.boundary ≡ None → s.machine.left ≡ []) };
 }
 
 impl<'data, I: Cursor> JoinedBoundaries<'data, I> {
@@ -62,13 +63,11 @@ impl<'data, I: Cursor> JoinedBoundaries<'data, I> {
         payloads.facts();
         let mut boundaries = RuleBreakIterator::new(machine, text.fork());
         let boundary = next_boundary(&mut boundaries);
-        let mut cuts = InnerCuts::new(machine, payloads, text);
-        let cut = cuts.next();
         JoinedBoundaries {
             machine: boundaries,
             boundary,
-            cuts,
-            cut,
+            cuts: InnerCuts::new(machine, payloads, text),
+            cut: None,
             status: 0,
         }
     }
@@ -90,6 +89,22 @@ fn next_boundary<I: Cursor>(machine: &mut RuleBreakIterator<'_, I>) -> Option<Bo
     Some(Boundary { offset, status })
 }
 
+/// The next cut: the one that is held, or else one that is looked for up to the next boundary.
+fn next_cut<I: Cursor>(
+    cuts: &mut InnerCuts<'_, I>,
+    held: Option<usize>,
+    boundary: Option<Boundary>,
+) -> Option<usize>
+    ensures same { option_to_list result ++ cuts.new ≡ option_to_list held ++ cuts.old }
+    ensures beyond { result ≡ None → AreBeyond (option_map (λ boundary. boundary.offset) boundary) cuts.new }
+{
+    match (held, boundary) {
+        (Some(_), _) => held,
+        (None, Some(boundary)) => cuts.next_up_to(Some(boundary.offset)),
+        (None, None) => cuts.next_up_to(None),
+    }
+}
+
 impl<'data, I: Cursor> Iterator for JoinedBoundaries<'data, I> {
     type Item = usize;
 
@@ -101,13 +116,14 @@ impl<'data, I: Cursor> Iterator for JoinedBoundaries<'data, I> {
         ensures steps { YieldsFirst offsets_left self.old result self.new × GivesNext self.old result self.new }
         ensures goes { MakesProgress (λ _. ⊤) (item_count offsets_left) self.old result self.new }
     {
+        self.cut = next_cut(&mut self.cuts, self.cut, self.boundary);
         match first_of(self.boundary, self.cut) {
             First::Nothing => {
                 self.status = 0;
                 None
             }
             First::Cut(place) => {
-                self.cut = self.cuts.next();
+                self.cut = None;
                 self.status = 0;
                 Some(place)
             }
@@ -118,7 +134,7 @@ impl<'data, I: Cursor> Iterator for JoinedBoundaries<'data, I> {
             }
             First::Both(boundary) => {
                 self.boundary = next_boundary(&mut self.machine);
-                self.cut = self.cuts.next();
+                self.cut = None;
                 self.status = boundary.status;
                 Some(boundary.offset)
             }

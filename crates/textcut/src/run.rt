@@ -21,6 +21,9 @@ ghost use Rattle.icu_segmenter.specs.WrappedLines.{lines_to_come};
 ghost use Rattle.textcut.specs.declared.failure.Failure.{Failure as AnyFailure};
 ghost use Rattle.textcut.specs.declared.request.Request.{Request as AnyRequest};
 
+#[cfg(test)]
+mod tests;
+
 use crate::command::Command;
 use crate::failure::Failure;
 use crate::lines::print_lines;

@@ -18,13 +18,10 @@ invariant_of-result g c =
     let payloads = payloads_of c.args.payloads in
     let text = g.I.Cursor.text c.args.text in
     let boundaries : option_to_list c.next_boundary-boundary.result ++ c.next_boundary-boundary.new.machine.left ≡ c.new-boundaries.result.left =
-    first-taken all_left c.new-boundaries.result c.next_boundary-boundary.new.machine c.next_boundary-boundary.result c.next_boundary-boundary.ensures in
-    let cuts : option_to_list c.next-cut.result ++ c.next-cut.new.self ≡ cut_places (inner_cuts m payloads) text =
-    first-taken (λ (left : List ℕ). left) c.new-cuts.result c.next-cut.new.self c.next-cut.result c.next-cut.ensures.steps ∙ c.new-cuts.ensures in (
+    first-taken all_left c.new-boundaries.result c.next_boundary-boundary.new.machine c.next_boundary-boundary.result c.next_boundary-boundary.ensures in (
       subst (λ (found : List Boundary). AreRising (offsets found)) (sym boundaries) (cover-rising c.new-boundaries.result.left _ _ c.new-boundaries.ensures.cover),
-      subst AreRising (sym cuts) (cut-places-rising m payloads c.facts.ensures c.facts-2.ensures.pieces text (g.met.I.Cursor.rises c.args.text)),
+      subst AreRising (sym c.new.ensures) (cut-places-rising m payloads c.facts.ensures c.facts-2.ensures.pieces text (g.met.I.Cursor.rises c.args.text)),
       no-more all_left c.new-boundaries.result c.next_boundary-boundary.new.machine c.next_boundary-boundary.result c.next_boundary-boundary.ensures,
-      no-more (λ (left : List ℕ). left) c.new-cuts.result c.next-cut.new.self c.next-cut.result c.next-cut.ensures.steps,
     )
 
 pub returns-clause-boundaries : goal.returns-clause-boundaries
@@ -35,10 +32,8 @@ returns-clause-boundaries g c =
     let boundaries : option_to_list c.next_boundary-boundary.result ++ c.next_boundary-boundary.new.machine.left ≡ c.new-boundaries.result.left =
     first-taken all_left c.new-boundaries.result c.next_boundary-boundary.new.machine c.next_boundary-boundary.result c.next_boundary-boundary.ensures in
     let all = boundaries ∙ c.new-boundaries.ensures.left ∙ ap (λ fork. boundaries_in (machine_boundaries m) (g.I.Cursor.text fork)) c.fork.ensures in
-    let cuts : option_to_list c.next-cut.result ++ c.next-cut.new.self ≡ cut_places (inner_cuts m payloads) text =
-    first-taken (λ (left : List ℕ). left) c.new-cuts.result c.next-cut.new.self c.next-cut.result c.next-cut.ensures.steps ∙ c.new-cuts.ensures in
-    ap (λ (found : List Boundary). joined found (option_to_list c.next-cut.result ++ c.next-cut.new.self)) all
-    ∙ ap (joined (boundaries_in (machine_boundaries m) text)) cuts
+    ap (λ (found : List Boundary). joined found c.new.result) all
+    ∙ ap (joined (boundaries_in (machine_boundaries m) text)) c.new.ensures
     ∙ sym (text-joined m payloads c.facts.ensures c.facts-2.ensures.pieces text (g.met.I.Cursor.rises c.args.text))
 
 pub returns-clause-cover : goal.returns-clause-cover
