@@ -1,19 +1,18 @@
 -- The first span of a text: a piece between runs, or a run.
-use Rattle.std.proofs.Common.{◌≡◌, ℕ, ◌<◌, ◌==◌, Bool, true, false, List, ◌∷◌, map, refl, sym, ap, ◌∙◌}
-use Rattle.std.specs.Prelude.{Option, None, Some, IsTrue, ◌↔◌}
+use Rattle.std.proofs.Common.{◌≡◌, ℕ, ◌<◌, List, ◌∷◌, map, sym, ap, ◌∙◌}
+use Rattle.std.specs.Prelude.{Option, None, Some}
 use Rattle.std.specs.List.{prefix_len}
 use Rattle.seg_text.specs.declared.boundary.Boundary.{Boundary}
 use Rattle.seg_text.specs.Items.{Item, Text, text_before, code_points, prefix_length}
 use Rattle.seg_text.specs.Boundaries.{boundary_in, boundaries_in, later_boundaries}
 use Rattle.seg_data.specs.declared.provider.ComplexScript.{ComplexScript}
 use Rattle.seg_data.specs.declared.provider.ComplexScript.TheVariants as scripts
-use Rattle.seg_data.specs.ScriptWords.{ScriptWords, words_in}
+use Rattle.seg_data.specs.ScriptWords.{words_in}
 use Rattle.seg_data.specs.WordSets.{Words}
 use Rattle.seg_machine.specs.Machine.{Machine, symbol_and_script}
 use Rattle.seg_machine.specs.Pick.{machine_stretch}
 use Rattle.seg_clusters.specs.Payloads.{Payloads}
 use Rattle.seg_clusters.specs.Rules.{boundaries_by}
-use Rattle.seg_clusters.specs.Scripts.{script_number}
 use Rattle.seg_clusters.specs.Spans.{has_worded_script, is_between, span_length, span_words, worded_script}
 use Rattle.seg_clusters.proofs.RunsAhead.{unworded, worded}
 use Rattle.seg_clusters.proofs.SpanStretches.{span-some}
