@@ -154,13 +154,6 @@ module _ (held cut : Option ℕ) (before after : List ℕ) (same : option_to_lis
   taken-rises : AreRising (option_to_list cut ++ after)
   taken-rises = subst AreRising (sym same) rises
 
-  -- all cuts but the one that comes first
-  pub left-rises : (place : ℕ) → cut ≡ Some place → AreRising after
-  left-rises place is = (subst (λ (cut : Option ℕ). AreRising (option_to_list cut ++ after)) is taken-rises).1
-
-  pub looked-rises : AreRising (option_to_list cut ++ after)
-  looked-rises = taken-rises
-
   pub cut-step : (found : Option Boundary) (left : List Boundary) (place : ℕ)
       → cut ≡ Some place → IfSome found (λ boundary. place < boundary.offset)
       → AreRising (offsets (option_to_list found ++ left)) → (found ≡ None → left ≡ [])
@@ -193,14 +186,6 @@ module _ (held cut : Option ℕ) (before after : List ℕ) (same : option_to_lis
       ∙ ap (λ (cut : Option ℕ). joined (next ∷ all old) (option_to_list cut ++ after)) at
       ∙ both-first next.offset next (all old) after refl rising.0
       ∙ ap (λ (left : List Boundary). next ∷ joined left after) (sym taken)
-
-  -- nothing comes first
-  pub nothing-step : (found : Option Boundary) (left : List Boundary) → found ≡ None → cut ≡ None → (found ≡ None → left ≡ []) → (cut ≡ None → AreBeyond (offset_of found) after)
-      → (joined (option_to_list found ++ left) (option_to_list held ++ before) ≡ []) × (joined (option_to_list found ++ left) (option_to_list cut ++ after) ≡ [])
-  nothing-step found left is none no-more beyond =
-      let empty : after ≡ [] = subst (λ (found : Option Boundary). AreBeyond (offset_of found) after) is (beyond none) in
-      let all : joined (option_to_list found ++ left) (option_to_list cut ++ after) ≡ [] = rw (is, none, no-more is, empty) refl in
-      (ap (joined (option_to_list found ++ left)) (sym same) ∙ all, all)
 
 pub progress : (old new : Remainder) (next : Boundary) → old.left ≡ next ∷ new.left
     → MakesProgress {S = Remainder} {A = ℕ} (λ x. ⊤) (item_count offsets_left) old (Some next.offset) new
