@@ -9,7 +9,7 @@ ghost use Rattle.segment.specs.Words.{code_points_in};
 
 use crate::command::{Request, Task};
 use crate::folder::{folder_of, path_of};
-use crate::words::{without_mark, words_in};
+use crate::words::{text_of, without_mark, words_in};
 use anyhow::{Context, Result, ensure};
 use clap::ArgMatches;
 use icu_segmenter::options::LanguageIdentifier;
@@ -99,8 +99,9 @@ pub fn abbreviations_at<R: AllocGlobal + Files>(
 }
 
 fn read_abbreviations<R: AllocGlobal + Files>(rt: &R, path: &str) -> Result<Abbreviations> {
-    let text = fs::read_to_string(rt, path)?;
-    abbreviations_in(rt.alloc(), without_mark(text.as_str()))
+    let bytes = fs::read(rt, path)?;
+    let text = text_of(bytes.as_slice())?;
+    abbreviations_in(rt.alloc(), without_mark(text))
 }
 
 // The abbreviations of a list, one a line. The errors are being out of memory, and that there are none.

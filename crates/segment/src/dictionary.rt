@@ -6,7 +6,7 @@ ghost use Rattle.segment.specs.Dictionaries.{words_with};
 use crate::command::{Task, script_of};
 use crate::folder::{folder_dictionaries, folder_of};
 use crate::lists::{Choice, choice_by};
-use crate::words::{without_mark, words_in};
+use crate::words::{text_of, without_mark, words_in};
 use anyhow::{Context, Result, ensure};
 use clap::ArgMatches;
 use icu_segmenter::provider::{ComplexScript, Dictionaries, DictionaryBreakData};
@@ -60,14 +60,14 @@ fn named_dictionaries<R: AllocGlobal + Files>(
 }
 
 fn read_dictionary<R: AllocGlobal + Files>(rt: &R, file: &str) -> Result<DictionaryBreakData> {
-    let text = fs::read_to_string(rt, file)?;
-    dictionary_of(rt.alloc(), text.as_str())
+    let bytes = fs::read(rt, file)?;
+    dictionary_of(rt.alloc(), bytes.as_slice())
 }
 
-/// The dictionary of a text's lines, without a byte order mark at its start, and but for lines that are empty or white space alone. The
-/// errors are being out of memory, and no words.
-pub fn dictionary_of(alloc: Global, text: &str) -> Result<DictionaryBreakData> {
-    let words = words_in(alloc, without_mark(text))?;
+/// The dictionary of a list's lines, without a byte order mark at its start, and but for lines that are empty or white space alone. The
+/// errors are ill-formed UTF-8, with its line, no words, and being out of memory.
+pub fn dictionary_of(alloc: Global, list: &[u8]) -> Result<DictionaryBreakData> {
+    let words = words_in(alloc, without_mark(text_of(list)?))?;
     ensure!(!words.is_empty(), "the dictionary has no words");
     Ok(DictionaryBreakData::try_from_words(alloc, words.as_slice())?)
 }

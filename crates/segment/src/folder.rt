@@ -32,9 +32,9 @@ impl<'a, R: AllocGlobal + Files> ReadLists for Folder<'a, R> {
     fn read_list(&self, name: &str) -> Result<Option<DictionaryBreakData>> {
         let alloc = self.rt.alloc();
         let path = path_of(alloc, self.path, name)?;
-        match fs::read_to_string(self.rt, path.as_str()) {
-            Ok(text) => {
-                let dictionary = dictionary_of(alloc, text.as_str());
+        match fs::read(self.rt, path.as_str()) {
+            Ok(list) => {
+                let dictionary = dictionary_of(alloc, list.as_slice());
                 Ok(Some(dictionary.context(format_args!("{path}"))?))
             }
             Err(error) if error.kind() == ErrorKind::NotFound => Ok(None),

@@ -7,7 +7,7 @@ ghost use Rattle.segment.specs.Rules.{IsJobByRules, IsRulesRequest};
 
 use crate::command::style_of;
 use crate::job::{Job, Search, Work};
-use crate::words::without_mark;
+use crate::words::{text_of, without_mark};
 use anyhow::{Context, Result, bail};
 use clap::ArgMatches;
 use icu_segmenter::provider::{SegmenterStateMachine, Symbol};
@@ -72,8 +72,9 @@ pub fn rules_at<R: AllocGlobal + Files>(rt: &R, path: &str) -> Result<OwnRules> 
 }
 
 fn read_rules<R: AllocGlobal + Files>(rt: &R, path: &str) -> Result<OwnRules> {
-    let text = fs::read_to_string(rt, path)?;
-    let rules = TextRules::try_from_text(rt.alloc(), without_mark(text.as_str()))?;
+    let bytes = fs::read(rt, path)?;
+    let text = text_of(bytes.as_slice())?;
+    let rules = TextRules::try_from_text(rt.alloc(), without_mark(text))?;
     with_machine(rt.alloc(), rules)
 }
 

@@ -2,7 +2,22 @@
 ghost use Rattle.std.specs.Prelude.{◌≡◌, map, IfOk};
 ghost use Rattle.segment.specs.Words.{words_in};
 
+use anyhow::{Result, bail};
+use segment_output::found::line_feeds;
 use std::alloc::{AllocError, Global};
+
+/// The text that a file's bytes are. The error is ill-formed UTF-8, with its line.
+pub fn text_of(bytes: &[u8]) -> Result<&str>
+    ensures { IfOk result (λ text. text.now ≡ bytes.now) }
+{
+    match str::from_utf8(bytes) {
+        Ok(text) => Ok(text),
+        Err(error) => {
+            let before = line_feeds(&bytes[..error.valid_up_to()]);
+            bail!("line {}: ill-formed UTF-8", before + 1)
+        }
+    }
+}
 
 /// A text without a byte order mark at its start.
 pub fn without_mark(text: &str) -> &str {

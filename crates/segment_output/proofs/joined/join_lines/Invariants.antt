@@ -4,7 +4,7 @@ use Rattle.segment_output.specs.Joined.{joined, joined_after}
 use Rattle.segment_output.proofs.joined.join_lines.Given as goal
 
 abbrev pub invariant-loop-rest : goal.invariant-loop-rest
-invariant-loop-rest l = l.paragraphs.items ++ joined_after [] l.rest ≡ joined l.fn.text
+invariant-loop-rest l = l.paragraphs.items ++ joined_after l.line [] l.rest ≡ joined l.fn.text
 
 abbrev pub decreases-loop-rest : goal.decreases-loop-rest
 decreases-loop-rest l = length l.rest
