@@ -1,18 +1,23 @@
 """Tests of the package: that places are the text's own, whatever its encoding and length, and what is refused."""
 
 import copy
+import itertools
 import os
 import pickle
+import pydoc
 import random
+import re
 import sys
+import tempfile
 import threading
 import unittest
 from unittest import mock
 
 import yengatomu
-from yengatomu import Kind, Script, Segmenter, Strictness, WordBreak, WordType, _library
+from yengatomu import Kind, Script, Segmenter, Strictness, WordBreak, WordType, _library, _segmenter, options
 
 THAI = ["ภาษา", "ไทย"]
+WHITE = " \t\r\n"
 # `snake`, `_` and `case` of `snake_case`.
 SNAKE = r"""Letter = \p{L} + \p{M} + \p{Nd}
 Line   = [_ -]
@@ -54,6 +59,14 @@ class Examples(unittest.TestCase):
         self.assertEqual(yengatomu.words("can't pay 3.14!"), ["can't", "pay", "3.14"])
         self.assertEqual(yengatomu.words(b"can't pay 3.14!"), [b"can't", b"pay", b"3.14"])
         self.assertEqual(yengatomu.boundaries("can't pay", Kind.WORDS), [0, 5, 6, 9])
+        self.assertEqual((yengatomu.count_words("can't pay 3.14!"), yengatomu.count_words(b"can't pay 3.14!")), (3, 3))
+
+    def test_word_spans(self):
+        wanted = [(0, 5, WordType.LETTERS), (6, 9, WordType.LETTERS), (10, 14, WordType.NUMBER)]
+        self.assertEqual(yengatomu.word_spans("can't pay 3.14!"), wanted)
+        self.assertEqual(yengatomu.word_spans(b"can't pay 3.14!"), wanted)
+        self.assertEqual(yengatomu.word_spans("é 👩 naïve"), [(0, 1, WordType.LETTERS), (4, 9, WordType.LETTERS)])
+        self.assertEqual(list(Segmenter(Kind.WORDS).spans("é 👩")), [(0, 1), (1, 2), (2, 3)])
 
     def test_graphemes(self):
         self.assertEqual(yengatomu.graphemes("e\u0301👩‍👧🇻🇳🇹🇭"), ["e\u0301", "👩‍👧", "🇻🇳", "🇹🇭"])
@@ -70,6 +83,76 @@ class Examples(unittest.TestCase):
         wanted = ["Xin chào thế giới! The quick", "(“brown”) fox can’t jump 32.3", "feet, right?", "東京に行きます。ありがとうござ", "います。👨‍👩‍👧🇻🇳"]
         self.assertEqual(yengatomu.wrap(text, 30), wanted)
         self.assertEqual([columns for _, columns in Segmenter(Kind.LINES).wrapped(text, 30)], [28, 29, 12, 30, 16])
+
+    def test_broken_words(self):
+        lines = Segmenter(Kind.LINES)
+        self.assertEqual(yengatomu.wrap("an elephant e\u0301e\u0301 ", 3, break_words=True), ["an", "ele", "pha", "nt", "e\u0301e\u0301"])
+        self.assertEqual(list(lines.wrapped("abcde  \nf", 2, break_words=True)), [("ab", 2), ("cd", 2), ("e  \n", 1), ("f", 1)])
+        self.assertEqual(list(lines.wrap(b"abc d", 2, break_words=True)), [b"ab", b"c", b"d"])
+        self.assertEqual(list(lines.wrap("東京", 1, break_words=True)), ["東", "京"])
+
+    def test_tabs(self):
+        for text, columns, wanted in (
+            ("a\tb", 4, "a   b"),
+            ("\t\tb\n\tc\td", 2, "    b\n  c d"),
+            ("abcd\te", 4, "abcd    e"),
+            ("東 \tb\r\n\t", 4, "東  b\r\n    "),
+            ("e\u0301\tb", 3, "e\u0301  b"),
+            ("a\vbc\td", 4, "a\vbc d"),
+            ("a \v b  \tc", 4, "a \v b    c"),
+            ("a b\n", 4, "a b\n"),
+            ("", 1, ""),
+        ):
+            self.assertEqual(yengatomu.expand_tabs(text, columns), wanted)
+            self.assertEqual(yengatomu.expand_tabs(text.encode(), columns), wanted.encode())
+        self.assertEqual(yengatomu.expand_tabs(b"\xff\xe0\xb8\tb", 4), b"\xff\xe0\xb8  b")
+        self.assertEqual(yengatomu.wrap("a\tb c", 5, tabs=4), ["a   b", "c"])
+        self.assertRaises(MemoryError, yengatomu.expand_tabs, "a\tb", 10**30)
+
+    def test_joined(self):
+        for text, wanted in (
+            ("a\nb", "a b"),
+            (" a \t\r\n b", " a b"),
+            ("  a\n b\n c\n\td", "  a\n b c\n\td"),
+            ("a\n> b\n> c\n-- \nd\ne", "a\n> b\n> c\n-- \nd e"),
+            ("a\n\nb\n \nc", "a\n\nb\n \nc"),
+            (" \n a\n b\n c \n", " \n a b c \n"),
+            ("a\u2028\nb\v\nc", "a\u2028 b\v c"),
+            ("a  b", "a  b"),
+            ("\n", "\n"),
+            ("", ""),
+        ):
+            self.assertEqual(yengatomu.join_lines(text), wanted)
+            self.assertEqual(yengatomu.join_lines(text.encode()), wanted.encode())
+        self.assertEqual(yengatomu.sentences("It\nis. No.\n", join=True), ["It is. ", "No.\n"])
+        self.assertEqual(yengatomu.wrap("a\nb\n\nc", 9, join=True), ["a b", "", "c"])
+        # Tabs become spaces first.
+        self.assertEqual(yengatomu.wrap("ab\t\nc", 9, join=True, tabs=4), ["ab c"])
+        self.assertEqual(yengatomu.wrap("a\tbc\nd", 4, tabs=2, join=True, break_words=True), ["a bc", "d"])
+
+    def test_joined_as_stated(self):
+        """White space between two words is a space where it has one line feed, if both lines have one indentation and neither stands apart."""
+
+        def opening(text):
+            line = text[len(text) - len(text.lstrip(WHITE)) :]
+            return None if line.startswith((">", "-- ")) else text[: len(text) - len(line)]
+
+        for letters in itertools.product("a\n >-", repeat=7):
+            text = "".join(letters)
+            parts = re.split(r"([ \t\r\n]+)", text)
+            wanted, line = "", text.lstrip(WHITE)
+            place = len(text) - len(line)
+            line = text[text.rfind("\n", 0, place) + 1 :]
+            place = 0
+            for at, it in enumerate(parts):
+                place += len(it)
+                if at % 2 == 0 or not parts[at - 1] or "\n" not in it:
+                    wanted += it
+                    continue
+                following = text[text.rfind("\n", 0, place) + 1 :]
+                joins = parts[at + 1] and it.count("\n") == 1 and opening(line) is not None and opening(line) == opening(following)
+                wanted, line = wanted + (" " if joins else it), following
+            self.assertEqual(yengatomu.join_lines(text), wanted, repr(text))
 
     def test_marks(self):
         found = list(Segmenter(Kind.WORDS).marked_segments("a 1"))
@@ -109,9 +192,18 @@ class Examples(unittest.TestCase):
         for kind in Kind:
             self.assertRegex(yengatomu.unicode_version(kind), r"^1\d\.\d\.\d$")
 
-    def test_all_is_there(self):
-        for name in yengatomu.__all__:
-            self.assertTrue(hasattr(yengatomu, name))
+    def test_names(self):
+        """What there is for callers, and nothing else: in the module, and by `from yengatomu import *`."""
+        wanted = {*options.__all__, "Segmenter", "boundaries", "count_words", "expand_tabs", "graphemes", "join_lines", "lines", "options"}
+        wanted |= {"sentences", "unicode_version", "version", "word_spans", "words", "wrap"}
+        self.assertEqual({it for it in dir(yengatomu) if not it.startswith("_")}, wanted)
+
+    def test_help(self):
+        shown = pydoc.plain(pydoc.render_doc(yengatomu)).splitlines()
+        self.assertLessEqual(len(shown), 200)
+        for name in ("words", "word_spans", "count_words", "Segmenter", "load_dictionaries", "NO_WORD"):
+            self.assertIn(name, "\n".join(shown))
+        self.assertNotIn("_lock", "\n".join(shown))
 
 
 class Places(unittest.TestCase):
@@ -147,6 +239,15 @@ class Places(unittest.TestCase):
                 self.assertEqual(segmenter.count_words(text), len(words))
                 self.assertEqual(segmenter.count_words(replaced(text).encode()), len(words))
 
+    def test_spans(self):
+        for segmenter, text in self.each():
+            found = segmenter.boundaries(text)
+            self.assertEqual(list(segmenter.spans(text)), list(zip(found, found[1:])))
+            if segmenter.kind is Kind.WORDS:
+                marked = zip(segmenter.spans(text), segmenter.marked_segments(text))
+                self.assertEqual(list(segmenter.word_spans(text)), [(*it, mark) for it, (_, mark) in marked if mark is not WordType.NO_WORD])
+                self.assertEqual([text[a:b] for a, b, _ in segmenter.word_spans(text)], list(segmenter.words(text)))
+
     def test_count(self):
         for segmenter, text in self.each():
             self.assertEqual(segmenter.count(text), len(segmenter.boundaries(text)) - 1)
@@ -157,6 +258,14 @@ class Places(unittest.TestCase):
             for place in [*range(min(len(text), 40) + 2), 10**30]:
                 self.assertEqual(segmenter.next(text, place), next((it for it in found if it > place), None))
                 self.assertEqual(segmenter.previous(text, place), next((it for it in reversed(found) if it < place), None))
+
+    def test_near_by_turns(self):
+        """Of texts that are asked about by turns, of which the last is kept, and of one that is too long to be kept."""
+        clusters = Segmenter(Kind.CLUSTERS)
+        for kept in (10, 1000):
+            with mock.patch.object(_segmenter, "KEPT", kept):
+                for text in ("e\u0301👩b", "e\u0301👩b" * 30, b"ab", "ab") * 2:
+                    self.assertEqual((clusters.next(text, 0), clusters.next(text, 1)), ((1, 2) if len(text) == 2 else (2, 2)))
 
     def test_near_in_bytes(self):
         for segmenter, text in self.each():
@@ -198,8 +307,9 @@ class Long(unittest.TestCase):
             for it in (text, text.replace("\n", "x"), replaced(text).encode()):
                 whole = [list(segmenter.marked_segments(it)) if kind in (Kind.WORDS, Kind.LINES) else None, segmenter.boundaries(it)]
                 for room in (1, 7, 100):
-                    with mock.patch.object(yengatomu, "ROOM", room):
+                    with mock.patch.object(_segmenter, "ROOM", room):
                         self.assertEqual(segmenter.boundaries(it), whole[1])
+                        self.assertEqual(list(segmenter.segments(it)), [it[a:b] for a, b in zip(whole[1], whole[1][1:])])
                         if whole[0] is not None:
                             self.assertEqual(list(segmenter.marked_segments(it)), whole[0])
 
@@ -215,7 +325,7 @@ class Long(unittest.TestCase):
                         whole = segmenter.boundaries(given), list(segmenter.wrapped(given, 9)) if kind is Kind.LINES else None
                         self.assertEqual(len(whole[0]), segmenter.count(given) + 1)
                         for room in (1, 7, 100):
-                            with mock.patch.object(yengatomu, "ROOM", room):
+                            with mock.patch.object(_segmenter, "ROOM", room):
                                 self.assertEqual(segmenter.boundaries(given), whole[0])
                                 if whole[1] is not None:
                                     self.assertEqual(list(segmenter.wrapped(given, 9)), whole[1])
@@ -226,7 +336,7 @@ class Long(unittest.TestCase):
             whole = snake.boundaries(it)
             self.assertEqual(len(whole), 7 * 50 + 1)
             for room in (1, 7, 100):
-                with mock.patch.object(yengatomu, "ROOM", room):
+                with mock.patch.object(_segmenter, "ROOM", room):
                     self.assertEqual(snake.boundaries(it), whole)
 
     def test_wrap(self):
@@ -234,7 +344,7 @@ class Long(unittest.TestCase):
         segmenter = Segmenter(Kind.LINES)
         whole = list(segmenter.wrapped(text, 9))
         for room in (1, 7):
-            with mock.patch.object(yengatomu, "ROOM", room):
+            with mock.patch.object(_segmenter, "ROOM", room):
                 self.assertEqual(list(segmenter.wrapped(text, 9)), whole)
 
     def test_comes_part_by_part(self):
@@ -260,14 +370,26 @@ class Refused(unittest.TestCase):
     def test_numbers(self):
         for wrong in (-1, 4, 2**32, None, "words"):
             self.assertRaises(ValueError, Segmenter, wrong)
-            self.assertRaises(ValueError, Segmenter, Kind.LINES, strictness=wrong)
-            self.assertRaises(ValueError, Segmenter, Kind.LINES, word_break=wrong)
+            if wrong is not None:
+                self.assertRaises(ValueError, Segmenter, Kind.LINES, strictness=wrong)
+                self.assertRaises(ValueError, Segmenter, Kind.LINES, word_break=wrong)
             self.assertRaises(ValueError, yengatomu.boundaries, "a", wrong)
             self.assertRaises(ValueError, yengatomu.unicode_version, wrong)
-        self.assertRaises(ValueError, yengatomu.wrap, "a", -1)
+        for wrong in (-1, 0):
+            for call in (yengatomu.wrap, Segmenter(Kind.LINES).wrap, Segmenter(Kind.LINES).wrapped, yengatomu.expand_tabs):
+                self.assertRaisesRegex(ValueError, f"^columns is {wrong}, and mustn't be below 1$", call, "a", wrong)
+            self.assertRaisesRegex(ValueError, f"^tabs is {wrong}, ", yengatomu.wrap, "a", 1, tabs=wrong)
+        self.assertRaises(TypeError, yengatomu.wrap, "a", 1, tabs="8")
         self.assertRaises(ValueError, Segmenter(Kind.WORDS).next, "a", -1)
         self.assertRaises(ValueError, Segmenter(Kind.WORDS).previous, b"a", -1)
         self.assertEqual(yengatomu.wrap("a b", 10**30), ["a b"])
+
+    def test_options_of_other_kinds(self):
+        for kind in (Kind.CLUSTERS, Kind.WORDS, Kind.SENTENCES):
+            for option in ({"strictness": Strictness.STRICT}, {"word_break": WordBreak.NORMAL}, {"chinese_or_japanese": False}):
+                (name,) = option
+                self.assertRaisesRegex(ValueError, f"^{name} is an option of LINES, and {kind.name} have none$", Segmenter, kind, **option)
+        self.assertRaises(TypeError, Segmenter, Kind.LINES, strict=True)
 
     def test_kinds(self):
         for kind in Kind:
@@ -275,12 +397,14 @@ class Refused(unittest.TestCase):
             if kind is not Kind.WORDS:
                 self.assertRaises(ValueError, segmenter.words, "a")
                 self.assertRaises(ValueError, segmenter.count_words, "a")
+                self.assertRaises(ValueError, segmenter.word_spans, "a")
             if kind is not Kind.LINES:
                 self.assertRaises(ValueError, segmenter.wrap, "a", 1)
                 self.assertRaises(ValueError, segmenter.wrapped, "a", 1)
             if kind in (Kind.CLUSTERS, Kind.SENTENCES):
                 self.assertRaises(ValueError, segmenter.marked_segments, "a")
                 self.assertRaises(ValueError, segmenter.load_dictionary, THAI, Script.THAI)
+                self.assertRaises(ValueError, segmenter.load_dictionaries, ".")
 
     def test_dictionaries(self):
         segmenter = Segmenter(Kind.WORDS)
@@ -293,6 +417,8 @@ class Refused(unittest.TestCase):
         self.assertRaises(ValueError, segmenter.load_dictionary, THAI, 6)
         self.assertRaises(ValueError, segmenter.load_dictionary, ["\ud800"], Script.THAI)
         self.assertRaises(ValueError, segmenter.load_dictionary, [b"\xe0\xb8"], Script.THAI)
+        self.assertRaisesRegex(ValueError, "line feed in it: 'ภาษา", segmenter.load_dictionary, ["a", "ภาษา\nไทย"], Script.THAI)
+        self.assertRaisesRegex(ValueError, "line feed in it", segmenter.load_dictionary, [b"a\nb\n"], Script.THAI)
         self.assertEqual(segmenter.boundaries("".join(THAI)), before)
         segmenter.load_dictionary([], Script.LAO)
         segmenter.load_dictionary(THAI, Script.THAI)
@@ -323,7 +449,85 @@ class Refused(unittest.TestCase):
             self.assertRaises(MemoryError, Segmenter(Kind.WORDS).load_dictionary, THAI, Script.THAI)
 
 
+class Dictionaries(unittest.TestCase):
+    """Lists in files."""
+
+    def setUp(self):
+        self.folder = tempfile.mkdtemp()
+        self.addCleanup(os.rmdir, self.folder)
+
+    def write(self, name, data):
+        path = os.path.join(self.folder, name)
+        with open(path, "wb") as it:
+            it.write(data)
+        self.addCleanup(os.unlink, path)
+        return path
+
+    def test_file(self):
+        lists = "ภาษา\nไทย\n", "\ufeffภาษา\r\n\r\nไทย\r\n", "\n \n\u3000ภาษา \t\n\nไทย"
+        for number, listed in enumerate(lists):
+            path = self.write(f"{number}.txt", listed.encode())
+            for mode, how in (("r", {"encoding": "utf-8"}), ("r", {"encoding": "utf-8", "newline": ""}), ("rb", {})):
+                with open(path, mode, **how) as it:
+                    self.assertEqual(_segmenter.listed_in(it), [it.encode() for it in THAI])
+                segmenter = Segmenter(Kind.WORDS)
+                with open(path, mode, **how) as it:
+                    segmenter.load_dictionary(it, Script.THAI)
+                self.assertEqual(list(segmenter.words("".join(THAI))), THAI)
+
+    def test_folder(self):
+        self.write("thai.txt", "ภาษา\nไทย\n".encode())
+        self.write("cj.txt", "\ufeff東京\r\n".encode())
+        self.write("abbreviations-en.txt", b"Mr.\n")
+        words, lines = Segmenter(Kind.WORDS), Segmenter(Kind.LINES)
+        self.assertEqual(words.load_dictionaries(self.folder), [Script.THAI, Script.CHINESE_OR_JAPANESE])
+        self.assertEqual(lines.load_dictionaries(self.folder), [Script.THAI])
+        self.assertEqual(list(words.words("ภาษาไทย 東京")), ["ภาษา", "ไทย", "東京"])
+        self.assertEqual(list(lines.segments("ภาษาไทย")), THAI)
+
+    def test_all_scripts(self):
+        for name in ("thai", "lao", "khmer", "myanmar", "cj"):
+            self.write(f"{name}.txt", b"a\n")
+        scripts = [Script.THAI, Script.LAO, Script.KHMER, Script.MYANMAR, Script.CHINESE_OR_JAPANESE]
+        self.assertEqual(Segmenter(Kind.WORDS).load_dictionaries(self.folder), scripts)
+        self.assertEqual(Segmenter(Kind.LINES).load_dictionaries(self.folder), scripts[:4])
+
+    def test_folder_without(self):
+        words = Segmenter(Kind.WORDS)
+        with self.assertRaises(FileNotFoundError) as it:
+            words.load_dictionaries(self.folder)
+        self.assertEqual(it.exception.filename, self.folder)
+        self.assertIn("thai.txt", str(it.exception))
+        with self.assertRaises(FileNotFoundError) as it:
+            words.load_dictionaries(f"{self.folder}/none")
+        self.assertEqual(it.exception.filename, f"{self.folder}/none")
+        self.assertRaises(TypeError, words.load_dictionaries, None)
+
+    def test_wrong_files(self):
+        words = Segmenter(Kind.WORDS)
+        before = words.boundaries("ภาษาไทย")
+        self.write("thai.txt", "ภาษา\nไทย\n".encode())
+        for data, said in ((b"\xff\n", "lao.txt is no UTF-8"), (b"\n \n", "lao.txt has no words")):
+            self.write("lao.txt", data)
+            self.assertRaisesRegex(ValueError, said, words.load_dictionaries, self.folder)
+            self.doCleanups_of("lao.txt")
+        self.assertEqual(words.boundaries("ภาษาไทย"), before)
+
+    def doCleanups_of(self, name):
+        """Has a file be written anew."""
+        os.unlink(os.path.join(self.folder, name))
+        self._cleanups.pop()
+
+
 class Lifetimes(unittest.TestCase):
+    def test_calls_keep_their_arrays(self):
+        segmenter = Segmenter(Kind.WORDS)
+        segmenter.count_words("a"), list(segmenter.words("a")), yengatomu.words("a"), yengatomu.lines("a")
+        with mock.patch.object(_segmenter, "_Room", side_effect=AssertionError), mock.patch.object(_library, "open_slot", side_effect=AssertionError):
+            for text in ("a b " * 9, "é", b"a b", "a" * 4096, ""):
+                found = segmenter.boundaries(text), list(segmenter.spans(text)), list(segmenter.words(text)), yengatomu.words(text), yengatomu.lines(text)
+                self.assertEqual(found[2], found[3])
+
     def test_copies(self):
         segmenter = Segmenter(Kind.WORDS)
         other = copy.copy(segmenter)

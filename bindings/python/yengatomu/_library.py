@@ -4,10 +4,9 @@ They are called by `ctypes.CDLL`, which lets other threads run meanwhile. So eac
 `ctypes.PyDLL` would need none while there is a global lock, but would stop all other threads during a call, and keep two from segmenting side by side.
 """
 
-from __future__ import annotations
-
 import ctypes
 import os
+from typing import Any, Callable, Optional
 
 NAME = "libyengatomu.so.0"
 # What open and load_dictionary return.
@@ -15,7 +14,7 @@ OK, NO_MEMORY, NO_SUCH, NOT_UTF8 = range(4)
 # What open_rules returns beside OK and NO_MEMORY.
 WRONG_RULES, NO_MACHINE = 2, 3
 # No boundary.
-NONE = ctypes.c_size_t(-1).value
+NONE: int = ctypes.c_size_t(-1).value
 
 
 def _loaded() -> ctypes.CDLL:
@@ -38,30 +37,26 @@ class Slot(ctypes.Structure):
 
     _fields_ = [("full", ctypes.c_bool), ("at", ctypes.c_void_p)]
 
-    def __del__(self, close=_library.yengatomu_close, byref=ctypes.byref) -> None:
-        close(byref(self))
-
-
-class Word(ctypes.Structure):
-    """A word of a dictionary."""
-
-    _fields_ = [("bytes", ctypes.c_char_p), ("len", ctypes.c_size_t)]
+    def __del__(self, close: Callable[..., Any] = _library.yengatomu_close, address: Callable[[Any], int] = ctypes.addressof) -> None:
+        close(address(self))
 
 
 # What open_rules writes the number of a line to.
 Line = ctypes.c_size_t
-_SLOT, _SIZE, _U32, _TEXT, _ARRAY = ctypes.POINTER(Slot), ctypes.c_size_t, ctypes.c_uint32, ctypes.c_char_p, ctypes.c_void_p
+# (a slot and arrays are passed by their addresses, which are quicker than the structure and the array)
+_SLOT, _SIZE, _U32, _TEXT, _ARRAY = ctypes.c_void_p, ctypes.c_size_t, ctypes.c_uint32, ctypes.c_char_p, ctypes.c_void_p
 
 
-def _call(name: str, result, *arguments):
-    found = getattr(_library, f"yengatomu_{name}")
+def _call(name: str, result: Optional[type], *arguments: Any) -> Callable[..., int]:
+    found: Any = getattr(_library, f"yengatomu_{name}")
     found.restype, found.argtypes = result, arguments
-    return found
+    call: Callable[..., int] = found
+    return call
 
 
 open_slot = _call("open", _U32, _SLOT, _U32, _U32, _U32, ctypes.c_bool)
 open_rules = _call("open_rules", _U32, _SLOT, _TEXT, _SIZE, ctypes.POINTER(_SIZE))
-load_dictionary = _call("load_dictionary", _U32, _SLOT, ctypes.POINTER(Word), _SIZE, _U32)
+load_dictionary = _call("load_dictionary", _U32, _SLOT, _ARRAY, _SIZE, _U32)
 _call("close", None, _SLOT)
 boundaries = _call("boundaries", _SIZE, _SLOT, _TEXT, _SIZE, _SIZE, _ARRAY, _SIZE)
 boundaries_utf16 = _call("boundaries_utf16", _SIZE, _SLOT, _TEXT, _SIZE, _SIZE, _ARRAY, _SIZE)

@@ -1,4 +1,4 @@
-//! Stands in the place of the crate unicode-segmentation 1.9, over yengatomu, without a change of the program that uses it:
+//! Stands in the place of the crate unicode-segmentation 1.12, over yengatomu, without a change of the program that uses it:
 //!
 //! ```toml
 //! [patch.crates-io]

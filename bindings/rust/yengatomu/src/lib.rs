@@ -65,29 +65,55 @@
 
 use std::fmt;
 use std::marker::PhantomData;
+use std::path::Path;
 
 use crate::feed::{Ends, Feed, Marks, Pieces, Wraps};
 use crate::iter::{Boundaries, Lines, MarkedSegments, SegmentIndices, Segments, Words};
 use crate::kind::{Kind, Marked};
 use crate::raw::{Calls, Slot};
 
+mod dictionaries;
 mod feed;
 pub mod iter;
 pub mod kind;
 mod options;
+mod prepare;
 #[allow(unsafe_code)]
 mod raw;
 mod text;
 #[cfg(feature = "unicode-segmentation")]
 pub mod unicode_segmentation;
 
+pub use dictionaries::DictionaryError;
 pub use options::{Error, Line, LineBreak, LineOptions, Script, Strictness, WordBreak, WordType};
+pub use prepare::join_lines;
 pub use text::{Slice, Text, Unit};
 
 /// Segments texts by Unicode's data.
 ///
 /// It is one of [`GraphemeSegmenter`], [`WordSegmenter`], [`SentenceSegmenter`] and [`LineSegmenter`], whose `new` makes it, or a
 /// [`RuleSegmenter`], by rules of your own: [`by_rules`](Segmenter::by_rules).
+///
+/// `new` reads Unicode's data anew, which takes about a millisecond (the example `open` measures it), so make a segmenter once and keep it.
+///
+/// There is no `Clone`: the library has no call that copies what a segmenter holds, and to make it anew would take as long as `new` and the
+/// dictionaries did, and may fail. All calls that segment take `&self`, so within a thread an [`Rc`](std::rc::Rc) shares a segmenter, and its clones
+/// take no time:
+///
+/// ```
+/// use std::rc::Rc;
+/// use yengatomu::WordSegmenter;
+///
+/// #[derive(Clone)]
+/// struct Index {
+///     words: Rc<WordSegmenter>,
+/// }
+///
+/// let index = Index { words: Rc::new(WordSegmenter::new().unwrap()) };
+/// assert_eq!(index.clone().words.count_words("to be"), 2);
+/// ```
+///
+/// Threads share one as an `Arc<Mutex<WordSegmenter>>`, and wait for one another then, or each makes its own, as in a `thread_local!`.
 pub struct Segmenter<K: Kind> {
     slot: Slot,
     kind: PhantomData<K>,
@@ -105,7 +131,7 @@ pub type LineSegmenter = Segmenter<kind::Line>;
 pub type RuleSegmenter = Segmenter<kind::Rule>;
 
 impl GraphemeSegmenter {
-    /// A segmenter of grapheme clusters.
+    /// A segmenter of grapheme clusters. To make it takes about a millisecond: see [`Segmenter`].
     ///
     /// # Errors
     ///
@@ -116,7 +142,7 @@ impl GraphemeSegmenter {
 }
 
 impl SentenceSegmenter {
-    /// A segmenter of sentences.
+    /// A segmenter of sentences. To make it takes about a millisecond: see [`Segmenter`].
     ///
     /// # Errors
     ///
@@ -127,7 +153,7 @@ impl SentenceSegmenter {
 }
 
 impl WordSegmenter {
-    /// A segmenter of words.
+    /// A segmenter of words. To make it takes about a millisecond: see [`Segmenter`].
     ///
     /// Without a dictionary, each letter of a script that is written without spaces is a word: see
     /// [`load_dictionary`](Self::load_dictionary).
@@ -167,7 +193,7 @@ impl WordSegmenter {
 }
 
 impl LineSegmenter {
-    /// A segmenter of lines.
+    /// A segmenter of lines. To make it takes about a millisecond: see [`Segmenter`].
     ///
     /// ```
     /// use yengatomu::{LineOptions, LineSegmenter};
@@ -195,6 +221,26 @@ impl LineSegmenter {
     /// let lines = LineSegmenter::new(LineOptions::default()).unwrap();
     /// let wrapped: Vec<_> = lines.wrap("The quick brown fox\njumps.", 10).map(|line| (line.columns, line.text)).collect();
     /// assert_eq!(wrapped, [(9, "The quick "), (9, "brown fox\n"), (6, "jumps.")]);
+    /// ```
+    ///
+    /// What is wider than the columns may be broken between clusters, as by the program `segment` with `--break-words`, by lines that break
+    /// anywhere:
+    ///
+    /// ```
+    /// use yengatomu::{LineOptions, LineSegmenter, Strictness};
+    ///
+    /// let lines = LineSegmenter::new(LineOptions::default()).unwrap();
+    /// let anywhere = LineSegmenter::new(LineOptions { strictness: Strictness::Anywhere, ..LineOptions::default() }).unwrap();
+    /// let mut broken = Vec::new();
+    /// for line in lines.wrap("an elephant \n", 3) {
+    ///     let text = line.text.trim_end_matches([' ', '\n', '\r']);
+    ///     if line.columns > 3 {
+    ///         broken.extend(anywhere.wrap(text, 3).map(|part| part.text.trim_end_matches([' ', '\n', '\r'])));
+    ///     } else {
+    ///         broken.push(text);
+    ///     }
+    /// }
+    /// assert_eq!(broken, ["an", "ele", "pha", "nt"]);
     /// ```
     #[inline]
     pub fn wrap<'t, T: ?Sized + Text>(&self, text: &'t T, columns: usize) -> Lines<'_, 't, T::Slice> {
@@ -248,7 +294,8 @@ impl<K: Marked> Segmenter<K> {
     }
 
     /// Takes a dictionary: the words of a script that is written without spaces, in any order. Text of that script is then cut into the
-    /// longest words, by segmenters of words and of lines.
+    /// longest words, by segmenters of words and of lines. White space around a word, as a line end, isn't part of it, and blank words are left
+    /// out; so they may be lines of a file.
     ///
     /// If the segmenter has a dictionary of that script, it keeps that one. Of lines, [`Script::ChineseOrJapanese`] changes nothing: they
     /// break between ideographs anyway.
@@ -265,9 +312,37 @@ impl<K: Marked> Segmenter<K> {
     ///
     /// # Errors
     ///
-    /// [`Error::OutOfMemory`]; [`Error::NotUtf8`] where a word isn't UTF-8. The segmenter is then as before.
+    /// [`Error::OutOfMemory`]; [`Error::NotUtf8`] where a word isn't UTF-8; [`Error::LineFeed`] where a word has a line feed in it, as the text of a
+    /// whole file. The segmenter is then as before.
     pub fn load_dictionary<W: AsRef<[u8]>>(&mut self, words: &[W], script: Script) -> Result<(), Error> {
-        self.slot.load_dictionary(words, script)
+        self.slot.load_dictionary(&dictionaries::listed(words)?, script)
+    }
+
+    /// Takes the dictionaries of a folder: `thai.txt`, `lao.txt`, `khmer.txt`, `myanmar.txt` and, of words, `cj.txt`, as many as there are. They
+    /// are as `tools/dictionaries` of the repository writes them: UTF-8, a word a line. Returns their scripts.
+    ///
+    /// ```no_run
+    /// use yengatomu::{DictionaryError, WordSegmenter};
+    ///
+    /// # fn main() -> Result<(), DictionaryError> {
+    /// let mut words = WordSegmenter::new()?;
+    /// words.load_dictionaries("/usr/share/dict/scripts")?;
+    /// # Ok(())
+    /// # }
+    /// ```
+    ///
+    /// # Errors
+    ///
+    /// [`DictionaryError`] with the folder where it isn't there or has no list, with the list where that can't be read, isn't UTF-8 or has no
+    /// words: the segmenter is then as before. Out of memory: it may have some of them.
+    pub fn load_dictionaries(&mut self, folder: impl AsRef<Path>) -> Result<Vec<Script>, DictionaryError> {
+        let lists = dictionaries::lists_in(folder.as_ref(), kind::number::<K>() == kind::number::<kind::Line>())?;
+        let mut loaded = Vec::new();
+        for (text, script) in lists {
+            self.load_dictionary(&text.lines().collect::<Vec<_>>(), script)?;
+            loaded.push(script);
+        }
+        Ok(loaded)
     }
 }
 

@@ -122,6 +122,8 @@ pub enum Error {
     OutOfMemory,
     /// A word of a dictionary isn't UTF-8.
     NotUtf8,
+    /// A word of a dictionary has a line feed in it.
+    LineFeed,
     /// A line of rules is wrong: its number, from 1 on.
     WrongRules(usize),
     /// Rules are too large, or need to know too much of the text to be followed: the line of a rule that shows it, if one does.
@@ -135,6 +137,7 @@ impl fmt::Display for Error {
         match self {
             Self::OutOfMemory => f.write_str("out of memory"),
             Self::NotUtf8 => f.write_str("a word of the dictionary isn't UTF-8"),
+            Self::LineFeed => f.write_str("a word of the dictionary has a line feed in it"),
             Self::WrongRules(line) => write!(f, "line {line} of the rules is wrong"),
             Self::NoMachine(Some(line)) => write!(f, "the rules can't be followed, as line {line} shows"),
             Self::NoMachine(None) => f.write_str("the rules can't be followed"),

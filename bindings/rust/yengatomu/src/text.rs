@@ -28,6 +28,12 @@ pub trait Slice: sealed::Slice {
 
     #[doc(hidden)]
     fn split(&self, place: usize) -> (&Self, &Self);
+
+    /// A text of its own that was made from such a one: `String`, `Vec<u8>` or `Vec<u16>`.
+    type Owned;
+
+    #[doc(hidden)]
+    fn owned(units: Vec<Self::Unit>) -> Self::Owned;
 }
 
 /// What can be segmented: a [`Slice`], or a type that holds one.
@@ -49,6 +55,7 @@ impl Unit for u16 {}
 impl sealed::Slice for str {}
 impl Slice for str {
     type Unit = u8;
+    type Owned = String;
 
     #[inline]
     fn units(&self) -> &[u8] {
@@ -59,11 +66,16 @@ impl Slice for str {
     fn split(&self, place: usize) -> (&Self, &Self) {
         self.split_at(place)
     }
+
+    fn owned(units: Vec<u8>) -> String {
+        String::from_utf8(units).expect("only white space in ASCII was changed")
+    }
 }
 
 impl<U: Unit> sealed::Slice for [U] {}
 impl<U: Unit> Slice for [U] {
     type Unit = U;
+    type Owned = Vec<U>;
 
     #[inline]
     fn units(&self) -> &[U] {
@@ -73,6 +85,10 @@ impl<U: Unit> Slice for [U] {
     #[inline]
     fn split(&self, place: usize) -> (&Self, &Self) {
         self.split_at(place)
+    }
+
+    fn owned(units: Vec<U>) -> Vec<U> {
+        units
     }
 }
 

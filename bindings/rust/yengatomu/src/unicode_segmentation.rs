@@ -1,4 +1,4 @@
-//! The trait of the crate unicode-segmentation 1.9, over this library.
+//! The trait, the iterators and the cursor of the crate unicode-segmentation 1.12, over this library.
 //!
 //! A program that uses that crate needs one line changed: `use unicode_segmentation::UnicodeSegmentation` becomes
 //! `use yengatomu::unicode_segmentation::UnicodeSegmentation`. Methods and iterators have the same names.
@@ -14,13 +14,14 @@
 //!
 //! What differs:
 //!
-//! - The Unicode data: see [`Segmenter::unicode_version`](crate::Segmenter::unicode_version). That crate's 1.9 has Unicode 14.0.
-//! - `graphemes(false)` and `grapheme_indices(false)` give extended clusters, as `true` does. There are no data of legacy clusters, which
-//!   are split further: before a spacing mark, behind a prepended sign, and in a conjunct.
+//! - The Unicode data: see [`UNICODE_VERSION`]. That crate's 1.12 has Unicode 16.0.
+//! - `graphemes(false)`, `grapheme_indices(false)` and a [`GraphemeCursor`] made with `false` give extended clusters, as with `true`. There are no
+//!   data of legacy clusters, which are split further: before a spacing mark, behind a prepended sign, and in a conjunct.
 //! - Iterators over sentences go backwards too.
+//! - A [`GraphemeCursor`] may ask for another chunk where that crate's doesn't, or not ask where that does. Where that panics, since the chunk doesn't
+//!   have the cursor's place, it returns [`GraphemeIncomplete::InvalidOffset`], or asks for the chunk behind.
 //! - From the back, an iterator segments a whole line of the text at a time, up to its line feed, and keeps its boundaries. So the first
 //!   `next_back` takes as long as the last line is.
-//! - There is no `GraphemeCursor`: see [`Segmenter::next_boundary`](crate::Segmenter::next_boundary). There is no `UNICODE_VERSION`.
 //!
 //! Each thread makes one segmenter of a kind when it first needs it, and keeps it. The methods return no errors, so they panic where that
 //! takes more memory than there is.
@@ -30,6 +31,14 @@ use std::iter::{Filter, FusedIterator};
 use crate::feed::{Ask, Pieces};
 use crate::raw::{Calls, Slot};
 use crate::{kind, LineOptions};
+
+mod cursor;
+
+pub use cursor::{GraphemeCursor, GraphemeIncomplete};
+
+/// The version of the Unicode data, and of the rules: [`Segmenter::unicode_version`](crate::Segmenter::unicode_version) of clusters, words and
+/// sentences.
+pub const UNICODE_VERSION: (u64, u64, u64) = (18, 0, 0);
 
 #[derive(Clone, Copy)]
 enum Kind {

@@ -5,8 +5,8 @@ use std::sync::Arc;
 
 use yengatomu::kind::{self, Kind};
 use yengatomu::{
-    Error, GraphemeSegmenter, LineBreak, LineOptions, LineSegmenter, Script, Segmenter, SentenceSegmenter, Slice, Strictness, Text,
-    WordBreak, WordSegmenter, WordType,
+    join_lines, DictionaryError, Error, GraphemeSegmenter, LineBreak, LineOptions, LineSegmenter, Script, Segmenter, SentenceSegmenter,
+    Slice, Strictness, Text, WordBreak, WordSegmenter, WordType,
 };
 use yengatomu_sys::*;
 
@@ -394,6 +394,49 @@ fn text_types() {
     assert_eq!(count(&Mine(text.into())), 2);
 }
 
+#[test]
+fn prepared_texts() {
+    let rows = [
+        ("a\nb", "a b"),
+        (" a \t\r\n b", " a b"),
+        ("  a\n b\n c\n\td", "  a\n b c\n\td"),
+        ("a\n> b\n> c\n-- \nd\ne", "a\n> b\n> c\n-- \nd e"),
+        ("a\n\nb\n \nc", "a\n\nb\n \nc"),
+        (" \n a\n b\n c \n", " \n a b c \n"),
+        ("a\u{2028}\nb\u{b}\nc", "a\u{2028} b\u{b} c"),
+        ("a  b", "a  b"),
+        ("\n", "\n"),
+        ("", ""),
+    ];
+    for (text, joined) in rows {
+        assert_eq!(join_lines(text), joined);
+        assert_eq!(join_lines(text.as_bytes()), joined.as_bytes());
+        assert!(join_lines(&text.encode_utf16().collect::<Vec<_>>()).into_iter().eq(joined.encode_utf16()));
+    }
+    assert_eq!(join_lines(b"\xff\n\xe0\n".as_slice()), b"\xff \xe0\n");
+
+    let rows = [
+        ("a\tb", 4, "a   b"),
+        ("\t\tb\n\tc\td", 2, "    b\n  c d"),
+        ("abcd\te", 4, "abcd    e"),
+        ("東 \tb\r\n\t", 4, "東  b\r\n    "),
+        ("e\u{301}\tb", 3, "e\u{301}  b"),
+        ("a\u{b}bc\td", 4, "a\u{b}bc d"),
+        ("a b\n", 4, "a b\n"),
+        ("a\tb", 0, "ab"),
+        ("", 1, ""),
+    ];
+    let anywhere = LineSegmenter::new(LineOptions { strictness: Strictness::Anywhere, ..LineOptions::default() }).unwrap();
+    for segmenter in [lines(), anywhere, with_thai(lines())] {
+        for (text, columns, spaced) in rows {
+            assert_eq!(segmenter.expand_tabs(text, columns), spaced);
+            assert_eq!(segmenter.expand_tabs(text.as_bytes(), columns), spaced.as_bytes());
+            assert!(segmenter.expand_tabs(&text.encode_utf16().collect::<Vec<_>>(), columns).into_iter().eq(spaced.encode_utf16()));
+        }
+        assert_eq!(segmenter.expand_tabs(b"\xff\xe0\xb8\tb".as_slice(), 4), b"\xff\xe0\xb8  b");
+    }
+}
+
 /// Segments are borrowed from the text, and outlive the segmenter.
 #[test]
 fn segments_outlive_the_segmenter() {
@@ -437,6 +480,52 @@ fn dictionaries() {
         lines().load_dictionary::<&str>(&[], script).unwrap();
     }
     assert!(words.segments("ภาษาไทย").eq(["ภาษา", "ไทย"]));
+}
+
+/// Lines of a file, with their ends or without; and the text of one.
+#[test]
+fn dictionaries_of_lines() {
+    let text = "\u{feff}ภาษา\r\n\n \u{3000}\nไทย\t\n";
+    for lines in [text.lines().collect::<Vec<_>>(), text.split_inclusive('\n').collect()] {
+        let mut words = WordSegmenter::new().unwrap();
+        words.load_dictionary(&lines, Script::Thai).unwrap();
+        assert!(words.segments("ภาษาไทย").eq(["ภาษา", "ไทย"]));
+        assert_eq!(words.load_dictionary(&[text], Script::Lao), Err(Error::LineFeed));
+    }
+    assert_eq!(Error::LineFeed.to_string(), "a word of the dictionary has a line feed in it");
+}
+
+#[test]
+fn folders_of_dictionaries() {
+    let folder = std::env::temp_dir().join(format!("yengatomu-{}", std::process::id()));
+    let write = |name: &str, data: &[u8]| std::fs::write(folder.join(name), data).unwrap();
+    let told = |error: DictionaryError, name: &str, said: &str| {
+        assert_eq!(error.to_string(), format!("{}: {said}", folder.join(name).display()));
+    };
+    let mut words = WordSegmenter::new().unwrap();
+    assert!(matches!(words.load_dictionaries(&folder), Err(DictionaryError::Unreadable(path, _)) if path == folder));
+    std::fs::create_dir(&folder).unwrap();
+    let none = words.load_dictionaries(&folder).unwrap_err().to_string();
+    assert_eq!(none, format!("{}: there is no thai.txt, lao.txt, khmer.txt, myanmar.txt or cj.txt in it", folder.display()));
+
+    write("thai.txt", "ภาษา\r\n\r\nไทย\n".as_bytes());
+    write("lao.txt", b"\xff\n");
+    told(words.load_dictionaries(&folder).unwrap_err(), "lao.txt", "it isn't UTF-8");
+    write("lao.txt", b"\n \n");
+    told(words.load_dictionaries(&folder).unwrap_err(), "lao.txt", "it has no words");
+    // So nothing of it was loaded.
+    assert_eq!(words.count("ภาษา"), WordSegmenter::new().unwrap().count("ภาษา"));
+    assert_eq!(format!("{words:?}"), "Segmenter { kind: \"Word\", has_dictionary: false, .. }");
+    std::fs::remove_file(folder.join("lao.txt")).unwrap();
+
+    write("cj.txt", "\u{feff}東京\n".as_bytes());
+    write("abbreviations-en.txt", b"Mr.\n");
+    assert_eq!(words.load_dictionaries(&folder).unwrap(), [Script::Thai, Script::ChineseOrJapanese]);
+    assert!(words.segments("ภาษาไทย東京").eq(["ภาษา", "ไทย", "東京"]));
+    let mut lines = lines();
+    assert_eq!(lines.load_dictionaries(&folder).unwrap(), [Script::Thai]);
+    assert!(lines.segments("ภาษาไทย").eq(["ภาษา", "ไทย"]));
+    std::fs::remove_dir_all(&folder).unwrap();
 }
 
 const SNAKE: &str = "Letter = \\p{L} + \\p{M} + \\p{Nd}\nLine = [_ -]\nLetter × Letter\nLine × Line\n÷\n";

@@ -1,0 +1,449 @@
+"""What segments texts: `Segmenter`, and the segmenters that a thread keeps."""
+
+import ctypes
+import errno
+import operator
+import os
+import sys
+import threading
+from array import array
+from itertools import accumulate, chain, compress, starmap
+from typing import AnyStr, Callable, Dict, Iterable, Iterator, List, Optional, Tuple, TypeVar, Union
+
+from . import _library
+from ._texts import PAIR, Units, indices, must_be_text, units_of, up_to_line_feed, white_of
+from .options import Kind, Script, Strictness, WordBreak, WordType
+
+_Found = TypeVar("_Found")
+_Call = Callable[..., int]
+# Where segments begin and end, and their marks.
+_Chunk = Tuple[List[int], List[int], "array[int]"]
+
+# How many boundaries a call finds.
+ROOM = 4096
+# The longest text whose units are kept for the next question about places in it.
+KEPT = 1_000_000
+# Calls by whether the text is in UTF-16.
+_BOUNDARIES = _library.boundaries, _library.boundaries_utf16
+_MARKED_BOUNDARIES = _library.marked_boundaries, _library.marked_boundaries_utf16
+_WRAP_COLUMNS = _library.wrap_columns, _library.wrap_columns_utf16
+_COUNT = _library.count, _library.count_utf16
+_COUNT_WORDS = _library.count_words, _library.count_words_utf16
+_NEXT = _library.next_boundary, _library.next_boundary_utf16
+_PREVIOUS = _library.previous_boundary, _library.previous_boundary_utf16
+# What the marks of a kind say.
+_NAMED: Dict[Kind, Tuple[Union[WordType, bool], ...]] = {Kind.WORDS: tuple(WordType), Kind.LINES: (False, True)}
+_TYPES = tuple(WordType)
+
+# White space, as Unicode has it: what may stand around a word in a list.
+_WHITE_SPACE = "\t\n\v\f\r \x85\xa0\u1680\u2000\u2001\u2002\u2003\u2004\u2005\u2006\u2007\u2008\u2009\u200a\u2028\u2029\u202f\u205f\u3000"
+# The lists that a folder may have, as tools/dictionaries writes them.
+_LISTS = {"thai": Script.THAI, "lao": Script.LAO, "khmer": Script.KHMER, "myanmar": Script.MYANMAR, "cj": Script.CHINESE_OR_JAPANESE}
+_MARK = "\ufeff"
+
+
+def size(number: int, name: str, least: int = 0) -> int:
+    """Returns a number as a size, and as the highest one if it is above that."""
+    number = operator.index(number)
+    if number < least:
+        raise ValueError(f"{name} is {number}, and mustn't be below {least}")
+    return min(number, _library.NONE)
+
+
+def listed_in(words: Iterable[Union[str, bytes]]) -> List[bytes]:
+    """Returns the words of a list, without the white space around them, the blank ones, and a byte order mark before the first."""
+    found = []
+    for number, word in enumerate(words):
+        if isinstance(word, bytes):
+            word = word.decode()
+        elif not isinstance(word, str):
+            raise TypeError(f"a word is str or bytes, not {type(word).__name__}")
+        if not number and word.startswith(_MARK):
+            word = word[1:]
+        word = word.strip(_WHITE_SPACE)
+        if "\n" in word:
+            raise ValueError(f"a word of the dictionary has a line feed in it: {word[:40]!r}")
+        if word:
+            found.append(word.encode())
+    return found
+
+
+class _Room:
+    """The arrays that a call writes to: places, and what is said beside them."""
+
+    def __init__(self, size: int, code: str) -> None:
+        self.size = size
+        self.places = array("Q", bytes(8 * size))
+        self.beside = array(code, bytes(array(code).itemsize * size))
+        self.at, self.beside_at = (ctypes.c_void_p(it.buffer_info()[0]) for it in (self.places, self.beside))
+        self.whole = ctypes.c_size_t(size)
+
+
+class Segmenter:
+    """Finds the boundaries of a kind, over Unicode's data.
+
+    Only LINES have options: how strictly they break, which is STRICT where nothing is given, whether within words, and whether their texts are Chinese or
+    Japanese. ValueError where another kind is given one. Threads may share a segmenter, and wait for one another then. To make one takes about a
+    millisecond, so keep it. Texts are str or bytes; anything else is a TypeError.
+    """
+
+    def __init__(
+        self,
+        kind: Kind,
+        *,
+        strictness: Optional[Strictness] = None,
+        word_break: Optional[WordBreak] = None,
+        chinese_or_japanese: Optional[bool] = None,
+    ) -> None:
+        kind = Kind(kind)
+        for name, given in (("strictness", strictness), ("word_break", word_break), ("chinese_or_japanese", chinese_or_japanese)):
+            if given is not None and kind is not Kind.LINES:
+                raise ValueError(f"{name} is an option of LINES, and {kind.name} have none")
+        self._begin(kind)
+        chosen = Strictness.STRICT if strictness is None else Strictness(strictness)
+        within = WordBreak.NORMAL if word_break is None else WordBreak(word_break)
+        status = _library.open_slot(self._at, kind, chosen, within, bool(chinese_or_japanese))
+        if status == _library.NO_MEMORY:
+            raise MemoryError
+        if status != _library.OK:
+            raise ValueError("no such kind or option")
+
+    def _begin(self, kind: Kind) -> None:
+        self._kind, self._has_words = kind, False
+        self._lock, self._slot = threading.Lock(), _library.Slot()
+        self._at = ctypes.c_void_p(ctypes.addressof(self._slot))
+        # What calls write to, by what is said beside places.
+        self._rooms: Dict[str, _Room] = {}
+        # The text that was asked about last, and its units.
+        self._last: Tuple[Union[str, bytes], Units] = b"", units_of(b"")
+
+    @classmethod
+    def by_rules(cls, rules: Union[str, bytes]) -> "Segmenter":
+        """Returns a segmenter by rules of your own, in the notation of crates/segment/segment.1 in the repository. Its kind is CLUSTERS.
+
+        ValueError, with the line, where the rules are wrong, and where they need to know too much of a text to be followed.
+        """
+        if not isinstance(rules, (str, bytes)):
+            raise TypeError(f"rules are str or bytes, not {type(rules).__name__}")
+        encoded, line = rules.encode() if isinstance(rules, str) else rules, _library.Line()
+        made = cls.__new__(cls)
+        made._begin(Kind.CLUSTERS)
+        status = _library.open_rules(made._at, encoded, len(encoded), line)
+        if status == _library.NO_MEMORY:
+            raise MemoryError
+        if status == _library.WRONG_RULES:
+            raise ValueError(f"line {line.value} of the rules is wrong" if line.value else "the rules are no UTF-8")
+        if status != _library.OK:
+            raise ValueError("the rules can't be followed" + (f", as line {line.value} shows" if line.value else ""))
+        return made
+
+    @property
+    def kind(self) -> Kind:
+        """What it cuts texts into."""
+        return self._kind
+
+    def load_dictionary(self, words: Iterable[Union[str, bytes]], script: Script) -> None:
+        """Gives WORDS or LINES the words of a script that is written without spaces, if they have none of that script yet.
+
+        `words` may be an open file: white space around a word, as its line end, isn't part of it, and blank lines are left out. ValueError where a word has
+        a line feed in it or is ill-formed, and of other kinds. LINES take words of CHINESE_OR_JAPANESE, and don't change.
+        """
+        if isinstance(words, (str, bytes)):
+            raise TypeError("a dictionary is of many words, and this is one str or bytes")
+        script = Script(script)
+        self._must_take_words()
+        self._load(listed_in(words), script)
+
+    def load_dictionaries(self, folder: Union[str, "os.PathLike[str]"]) -> List[Script]:
+        """Loads thai.txt, lao.txt, khmer.txt, myanmar.txt and (of WORDS) cj.txt of a folder, as many as there are, and returns their scripts.
+
+        They are as tools/dictionaries writes them: UTF-8, a word a line. FileNotFoundError, with the folder, where it has none of them; ValueError, with the
+        file, where one is no UTF-8 or has no words; and nothing is loaded then.
+        """
+        self._must_take_words()
+        folder, found = os.fspath(folder), {}
+        os.stat(folder)
+        paths = {script: os.path.join(folder, f"{name}.txt") for name, script in _LISTS.items()}
+        there = {script: path for script, path in paths.items() if os.path.exists(path)}
+        if not there:
+            raise FileNotFoundError(errno.ENOENT, "There is no thai.txt, lao.txt, khmer.txt, myanmar.txt or cj.txt in it", folder)
+        if self._kind is Kind.LINES:
+            there.pop(Script.CHINESE_OR_JAPANESE, None)
+        for script, path in there.items():
+            with open(path, "rb") as it:
+                try:
+                    found[script] = listed_in(it)
+                except UnicodeDecodeError as error:
+                    raise ValueError(f"{path} is no UTF-8") from error
+            if not found[script]:
+                raise ValueError(f"{path} has no words")
+        for script, listed in found.items():
+            self._load(listed, script)
+        return list(found)
+
+    def _load(self, listed: List[bytes], script: Script) -> None:
+        whole, sizes = b"".join(listed), array("Q", map(len, listed))
+        # Of each word where it begins and its length, as the structure yengatomu_word has them. (There is one more, so that no array is empty.)
+        words = array("Q", bytes(16 * (len(listed) + 1)))
+        words[0::2] = array("Q", accumulate(sizes, initial=ctypes.cast(ctypes.c_char_p(whole), ctypes.c_void_p).value or 0))
+        words[1:-1:2] = sizes
+        with self._lock:
+            status = _library.load_dictionary(self._at, words.buffer_info()[0], len(listed), script)
+            self._has_words = self._has_words or status == _library.OK
+        if status == _library.NO_MEMORY:
+            raise MemoryError
+        if status != _library.OK:
+            raise ValueError("a word is no UTF-8, or there is no such script")
+
+    def boundaries(self, text: Union[str, bytes]) -> List[int]:
+        """Returns where a text may be cut, from 0 to its length."""
+        it = units_of(text)
+        return [0, *chain.from_iterable(indices(it[3], places) for places in self._places(it))]
+
+    def segments(self, text: AnyStr) -> Iterator[AnyStr]:
+        """Returns what is between the boundaries, part by part."""
+        return self._each(text, lambda starts, ends, _: map(text.__getitem__, map(slice, starts, ends)))
+
+    def spans(self, text: Union[str, bytes]) -> Iterator[Tuple[int, int]]:
+        """Returns where each segment begins and ends."""
+        return self._each(text, lambda starts, ends, _: zip(starts, ends))
+
+    def marked_segments(self, text: AnyStr) -> Iterator[Tuple[AnyStr, Union[WordType, bool]]]:
+        """Returns segments with their marks: WORDS with their WordType, LINES with whether the line must end there. ValueError of other kinds."""
+        named = _NAMED.get(self._kind)
+        if named is None:
+            raise ValueError(f"{self._kind.name} have no marks")
+        name = named.__getitem__
+        return self._each(text, lambda starts, ends, marks: zip(map(text.__getitem__, map(slice, starts, ends)), map(name, marks)), True)
+
+    def words(self, text: AnyStr) -> Iterator[AnyStr]:
+        """Returns the segments that are words, of letters or numbers. ValueError of another kind than WORDS."""
+        self._must_be(Kind.WORDS)
+        return self._each(
+            text, lambda starts, ends, marks: map(text.__getitem__, map(slice, compress(starts, marks), compress(ends, marks))), True
+        )
+
+    def word_spans(self, text: Union[str, bytes]) -> Iterator[Tuple[int, int, WordType]]:
+        """Returns where each word begins and ends, and its type. ValueError of another kind than WORDS."""
+        self._must_be(Kind.WORDS)
+        name = _TYPES.__getitem__
+        return self._each(
+            text, lambda starts, ends, marks: zip(compress(starts, marks), compress(ends, marks), map(name, filter(None, marks))), True
+        )
+
+    def count(self, text: Union[str, bytes]) -> int:
+        """Returns how many segments a text has."""
+        units, length, is_wide, _ = units_of(text)
+        with self._lock:
+            return _COUNT[is_wide](self._at, units, length)
+
+    def count_words(self, text: Union[str, bytes]) -> int:
+        """Returns how many words it has. ValueError of another kind than WORDS."""
+        self._must_be(Kind.WORDS)
+        units, length, is_wide, _ = units_of(text)
+        with self._lock:
+            return _COUNT_WORDS[is_wide](self._at, units, length)
+
+    def next(self, text: Union[str, bytes], place: int) -> Optional[int]:
+        """Returns the nearest boundary above a place, which may be inside a character of bytes. None where there is none, ValueError for a place below 0.
+
+        It takes as long as the place's line up to there; but of a str that isn't ASCII and wasn't asked about just before, or is above a million, as long as that.
+        """
+        return self._near(_NEXT, text, place)
+
+    def previous(self, text: Union[str, bytes], place: int) -> Optional[int]:
+        """Returns the nearest boundary below a place, which may be past the end. None where there is none. As `next` otherwise."""
+        return self._near(_PREVIOUS, text, place)
+
+    def wrap(self, text: AnyStr, columns: int, *, break_words: bool = False) -> Iterator[AnyStr]:
+        """Returns the lines that a text is wrapped to, without the spaces, line feeds and carriage returns at their ends.
+
+        A line takes as many segments as fit in the columns, at least one, and ends where it must. Wide characters take two columns, and marks none.
+        `break_words` breaks what is wider than the columns between clusters. ValueError of another kind than LINES, and where `columns` is below 1.
+        """
+        white = white_of(text)
+        return (line.rstrip(white) for line, _ in self.wrapped(text, columns, break_words=break_words))
+
+    def wrapped(self, text: AnyStr, columns: int, *, break_words: bool = False) -> Iterator[Tuple[AnyStr, int]]:
+        """Returns the same lines, whole, each with how many columns it takes without what `wrap` leaves out."""
+        self._must_be(Kind.LINES)
+        most = size(columns, "columns", 1)
+        lines = self._lines(text, units_of(text), most)
+        return _broken(lines, most) if break_words else lines
+
+    def _lines(self, text: AnyStr, it: Units, columns: int) -> Iterator[Tuple[AnyStr, int]]:
+        start = 0
+        for places, widths in self._found(_WRAP_COLUMNS[it[2]], it, "Q", columns):
+            for end, width in zip(indices(it[3], places), widths):
+                yield text[start:end], width
+                start = end
+
+    def _must_be(self, kind: Kind) -> None:
+        if self._kind is not kind:
+            raise ValueError(f"this is a segmenter of {self._kind.name}, and not of {kind.name}")
+
+    def _must_take_words(self) -> None:
+        if self._kind not in (Kind.WORDS, Kind.LINES):
+            raise ValueError(f"{self._kind.name} have no dictionaries")
+
+    def _each(
+        self, text: Union[str, bytes], show: Callable[[List[int], List[int], "array[int]"], Iterator[_Found]], has_marks: bool = False
+    ) -> Iterator[_Found]:
+        """Returns what is shown of all segments. A text that one call does is done at once."""
+        it = units_of(text)
+        units, length, is_wide, seconds = it
+        if length > ROOM:
+            return chain.from_iterable(starmap(show, self._chunks(it, has_marks)))
+        marks = _NO_MARKS
+        with self._lock:
+            room = self._room(length, "B")
+            # (what is made already is handed over the quickest)
+            if has_marks:
+                count = _MARKED_BOUNDARIES[is_wide](self._at, units, length, _START, room.at, room.whole, room.beside_at, room.whole)
+                marks = room.beside[:count]
+            else:
+                count = _BOUNDARIES[is_wide](self._at, units, length, _START, room.at, room.whole)
+            places = room.places[:count]
+        ends = indices(seconds, places) if seconds else places.tolist()
+        return show([0, *ends], ends, marks)
+
+    def _chunks(self, it: Units, has_marks: bool) -> Iterator[_Chunk]:
+        """Yields where segments begin and end, and their marks, some at a time."""
+        last = 0
+        found = self._found(_MARKED_BOUNDARIES[it[2]], it, "B") if has_marks else ((places, _NO_MARKS) for places in self._places(it))
+        for places, marks in found:
+            ends = indices(it[3], places)
+            starts, last = [last, *ends[:-1]], ends[-1]
+            yield starts, ends, marks
+
+    def _places(self, it: Units) -> Iterator["array[int]"]:
+        """Yields all boundaries above 0, some at a time. With a dictionary the library goes on only from behind a line feed, so there is more room while there is none."""
+        room, start = min(it[1], ROOM), 0
+        while start < it[1]:
+            places = self._ended(it, start, room)
+            if self._has_words and places[-1] < it[1]:
+                del places[up_to_line_feed(it, places) :]
+                if not places:
+                    room *= 4
+                    continue
+            start = places[-1]
+            yield places
+
+    def _found(self, call: _Call, it: Units, code: str, *options: int) -> Iterator[Tuple["array[int]", "array[int]"]]:
+        """Yields what a call finds, places and what it writes beside them, likewise."""
+        room, start = min(it[1], ROOM), 0
+        while start < it[1]:
+            places, beside = self._asked(call, it, start, room, code, *options)
+            if self._has_words and places[-1] < it[1]:
+                count = up_to_line_feed(it, places)
+                if not count:
+                    room *= 4
+                    continue
+                del places[count:], beside[count:]
+            start = places[-1]
+            yield places, beside
+
+    def _ended(self, it: Units, start: int, size: int) -> "array[int]":
+        """Returns the first boundaries above a place, at most so many."""
+        with self._lock:
+            room = self._room(size, "B")
+            return room.places[: _BOUNDARIES[it[2]](self._at, it[0], it[1], start, room.at, size)]
+
+    def _asked(self, call: _Call, it: Units, start: int, size: int, code: str, *options: int) -> Tuple["array[int]", "array[int]"]:
+        """Returns the first places that a call finds, at most so many, and what it writes beside them."""
+        with self._lock:
+            room = self._room(size, code)
+            count = call(self._at, it[0], it[1], start, *options, room.at, size, room.beside_at, size)
+            return room.places[:count], room.beside[:count]
+
+    def _room(self, size: int, code: str) -> _Room:
+        """Returns arrays for so many places: those that are kept, unless they are too small. It is called with the lock held."""
+        room = self._rooms.get(code)
+        if room is None or room.size < size:
+            room = _Room(max(size, ROOM), code)
+            if size <= ROOM:
+                self._rooms[code] = room
+        return room
+
+    def _near(self, calls: Tuple[_Call, _Call], text: Union[str, bytes], place: int) -> Optional[int]:
+        place = size(place, "place")
+        asked, it = self._last
+        if asked is not text:
+            it = units_of(text)
+            if it[1] <= KEPT:
+                self._last = text, it
+        units, length, is_wide, seconds = it
+        # The place in units: as many more as there are pairs below.
+        at = place
+        if seconds and isinstance(text, str):
+            at = min(place + len(PAIR.findall(text, 0, min(place, len(text)))), _library.NONE)
+        with self._lock:
+            found = calls[is_wide](self._at, units, length, at)
+        return None if found == _library.NONE else indices(seconds, array("Q", [found]))[0]
+
+
+_NO_MARKS = array("B")
+_START = ctypes.c_size_t(0)
+
+
+def _broken(lines: Iterator[Tuple[AnyStr, int]], columns: int) -> Iterator[Tuple[AnyStr, int]]:
+    """Yields lines, and those that are wider than the columns in parts, cut between clusters. What isn't counted at a line's end stays with its last part."""
+    for line, width in lines:
+        if width <= columns:
+            yield line, width
+            continue
+        counted = line.rstrip(white_of(line))
+        parts = list(kept.anywhere().wrapped(counted, columns))
+        last, width = parts.pop()
+        yield from parts
+        yield last + line[len(counted) :], width
+
+
+def expanded(text: AnyStr, columns: int) -> AnyStr:
+    """Returns a text with spaces for its tabs."""
+    if isinstance(text, str):
+        return "".join(_fields(text, "\t", "\n", " ", columns)) if "\t" in text else text
+    must_be_text(text)
+    return b"".join(_fields(text, b"\t", b"\n", b" ", columns)) if b"\t" in text else text
+
+
+def _fields(text: AnyStr, tab: AnyStr, line_feed: AnyStr, space: AnyStr, columns: int) -> Iterator[AnyStr]:
+    """Yields what stands between tabs and line feeds, each with the line feed, or with spaces for the tab.
+
+    A field has the columns that it takes as a line, with the spaces at its end. Where other characters end a line in it, it has those of all these lines.
+    """
+    columns, white = min(columns, sys.maxsize), white_of(text)
+    place = width = 0
+    for line, counted in kept.of(Kind.LINES).wrapped(text.replace(tab, line_feed), _library.NONE):
+        place += len(line)
+        width += counted + line[len(line.rstrip(white)) :].count(space)
+        if not line.endswith(line_feed):
+            yield line
+            continue
+        yield line[:-1]
+        yield line_feed if text[place - 1 : place] == line_feed else space * (columns - width % columns)
+        width = 0
+
+
+class _Kept(threading.local):
+    """The segmenters of a thread, so that no two threads wait for one another. Each is made when it is first asked for."""
+
+    def __init__(self) -> None:
+        self.made: List[Optional[Segmenter]] = [None] * (len(Kind) + 1)
+
+    def of(self, kind: Kind) -> Segmenter:
+        """Returns that of a kind, without options."""
+        found = self.made[kind]
+        if found is None:
+            found = self.made[kind] = Segmenter(kind)
+        return found
+
+    def anywhere(self) -> Segmenter:
+        """Returns that of lines which may end at each cluster."""
+        found = self.made[-1]
+        if found is None:
+            found = self.made[-1] = Segmenter(Kind.LINES, strictness=Strictness.ANYWHERE)
+        return found
+
+
+kept = _Kept()

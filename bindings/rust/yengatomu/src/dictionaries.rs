@@ -1,0 +1,110 @@
+//! Words of dictionaries, and lists of them in files.
+use std::path::{Path, PathBuf};
+use std::{error, fmt, fs, io};
+
+use crate::{Error, Script};
+
+/// The lists that a folder may have, as `tools/dictionaries` of the repository writes them.
+const LISTS: [(&str, Script); 5] = [
+    ("thai.txt", Script::Thai),
+    ("lao.txt", Script::Lao),
+    ("khmer.txt", Script::Khmer),
+    ("myanmar.txt", Script::Myanmar),
+    ("cj.txt", Script::ChineseOrJapanese),
+];
+const MARK: char = '\u{feff}';
+
+/// Words without the white space around them, but for blank ones.
+pub(crate) fn listed<W: AsRef<[u8]>>(words: &[W]) -> Result<Vec<&str>, Error> {
+    let mut found = Vec::with_capacity(words.len());
+    for (number, word) in words.iter().enumerate() {
+        let word = std::str::from_utf8(word.as_ref()).map_err(|_| Error::NotUtf8)?;
+        let word = if number == 0 { word.trim_start_matches(MARK) } else { word }.trim();
+        if word.contains('\n') {
+            return Err(Error::LineFeed);
+        }
+        if !word.is_empty() {
+            found.push(word);
+        }
+    }
+    Ok(found)
+}
+
+/// The texts of the lists in a folder, each with its script; of lines without that of Chinese and Japanese, of which they take none.
+pub(crate) fn lists_in(folder: &Path, of_lines: bool) -> Result<Vec<(String, Script)>, DictionaryError> {
+    let unreadable = |path: &Path| {
+        let path = path.to_owned();
+        |error| DictionaryError::Unreadable(path, error)
+    };
+    fs::metadata(folder).map_err(unreadable(folder))?;
+    let mut is_there = false;
+    let mut found = Vec::new();
+    for (name, script) in LISTS {
+        let path = folder.join(name);
+        if !path.exists() {
+            continue;
+        }
+        is_there = true;
+        if of_lines && script == Script::ChineseOrJapanese {
+            continue;
+        }
+        let Ok(text) = String::from_utf8(fs::read(&path).map_err(unreadable(&path))?) else {
+            return Err(DictionaryError::NotUtf8(path));
+        };
+        if text.trim_start_matches(MARK).trim().is_empty() {
+            return Err(DictionaryError::NoWords(path));
+        }
+        found.push((text, script));
+    }
+    if is_there {
+        Ok(found)
+    } else {
+        Err(DictionaryError::NoLists(folder.to_owned()))
+    }
+}
+
+/// Why a folder's lists of words weren't loaded.
+#[derive(Debug)]
+#[non_exhaustive]
+pub enum DictionaryError {
+    /// The folder has no list.
+    NoLists(PathBuf),
+    /// The folder or a list can't be read.
+    Unreadable(PathBuf, io::Error),
+    /// A list isn't UTF-8.
+    NotUtf8(PathBuf),
+    /// A list has no words.
+    NoWords(PathBuf),
+    /// The library took no words: out of memory.
+    Library(Error),
+}
+
+impl fmt::Display for DictionaryError {
+    fn fmt(&self, f: &mut fmt::Formatter<'_>) -> fmt::Result {
+        match self {
+            Self::NoLists(folder) => {
+                write!(f, "{}: there is no thai.txt, lao.txt, khmer.txt, myanmar.txt or cj.txt in it", folder.display())
+            }
+            Self::Unreadable(path, error) => write!(f, "{}: {error}", path.display()),
+            Self::NotUtf8(path) => write!(f, "{}: it isn't UTF-8", path.display()),
+            Self::NoWords(path) => write!(f, "{}: it has no words", path.display()),
+            Self::Library(error) => error.fmt(f),
+        }
+    }
+}
+
+impl error::Error for DictionaryError {
+    fn source(&self) -> Option<&(dyn error::Error + 'static)> {
+        match self {
+            Self::Unreadable(_, error) => Some(error),
+            Self::Library(error) => Some(error),
+            Self::NoLists(_) | Self::NotUtf8(_) | Self::NoWords(_) => None,
+        }
+    }
+}
+
+impl From<Error> for DictionaryError {
+    fn from(error: Error) -> Self {
+        Self::Library(error)
+    }
+}
