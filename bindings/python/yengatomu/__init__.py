@@ -70,9 +70,9 @@ def lines(text: _t.AnyStr) -> _t.List[_t.AnyStr]:
 
 
 def wrap(
-    text: _t.AnyStr, columns: int, *, tabs: _t.Optional[int] = None, join: bool = False, break_words: bool = False
+    text: _t.AnyStr, columns: int, *, tabs: _t.Optional[int] = 8, join: bool = False, break_words: bool = False
 ) -> _t.List[_t.AnyStr]:
-    """Returns the lines that it is wrapped to, as by `Segmenter.wrap`. If asked, first by `expand_tabs` (with `tabs` columns), then by `join_lines`."""
+    """Returns the lines that it is wrapped to, as by `Segmenter.wrap`, first by `expand_tabs` (with `tabs` columns; not if None), then, if asked, by `join_lines`."""
     if tabs is not None:
         text = _segmenter.expanded(text, _segmenter.size(tabs, "tabs", 1))
     return list(_of(Kind.LINES).wrap(_texts.joined(text) if join else text, columns, break_words=break_words))
