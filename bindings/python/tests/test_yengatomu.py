@@ -10,6 +10,7 @@ import re
 import sys
 import tempfile
 import threading
+import time
 import unittest
 from unittest import mock
 
@@ -177,6 +178,17 @@ class Examples(unittest.TestCase):
                 segmenter.load_dictionary(words, Script.THAI)
                 self.assertEqual(list(segmenter.segments("".join(THAI))), THAI)
                 self.assertEqual(list(segmenter.segments("".join(THAI).encode())), [it.encode() for it in THAI])
+
+    def test_reads_no_further(self):
+        """With a dictionary a call reads what it must, not all up to the next run or the end, which would take a millisecond or more here."""
+        for kind, text in itertools.product((Kind.WORDS, Kind.LINES), (b"ab " * 300_000, b"ab " * 300_000 + "ภาษาไทย".encode())):
+            segmenter = Segmenter(kind)
+            segmenter.load_dictionary(THAI, Script.THAI)
+            start, place = time.process_time(), 0
+            for _ in range(1000):
+                place = segmenter.next(text, place)
+                self.assertEqual(segmenter.previous(text, place + 1), place)
+            self.assertLess(time.process_time() - start, 1)
 
     def test_rules(self):
         for rules in (SNAKE, SNAKE.encode()):
