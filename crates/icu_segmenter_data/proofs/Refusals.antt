@@ -1,5 +1,5 @@
 -- Data that pass computed tests have no fault with one another, so nothing but a lack of memory refuses a segmenter by them.
-use Rattle.std.proofs.Common.{◌≡◌, ◌≢◌, ℕ, ◌+◌, ◌<◌, ◌≤◌, ◌⊎◌, Bool, true, false, not, ◌&&◌, ◌==◌, nat_lt, length, Option, Some, None, refl, sym, ap, subst, ◌∙◌, arith, inl, inr, eq-eqb, lt-ltb}
+use Rattle.std.proofs.Common.{◌≡◌, ◌≢◌, ℕ, ◌+◌, ◌<◌, Bool, true, false, not, ◌&&◌, ◌==◌, nat_lt, length, Some, None, refl, sym, subst, arith, inl, inr, eq-eqb, lt-ltb}
 use Rattle.std.specs.Prelude.{Result, Ok, Err, IfErr}
 use Rattle.std.proofs.lemmas.Bool.{and_parts, ltb-true}
 use Rattle.ucd_table.proofs.TrieCheck.{all_below, all_below-at}
@@ -8,7 +8,7 @@ use Rattle.seg_data.specs.declared.provider.ComplexScript.TheVariants as script
 use Rattle.seg_data.specs.declared.provider.DataError.{DataError}
 use Rattle.seg_data.specs.declared.provider.DataError.TheVariants.{Memory, RangeOrder, RangePast10FFFF, TableSize, ClassOutOfRange, StateOutOfRange, StartRowKeeps, ComplexItems, ComplexBelow0100, ComplexClassNamed, StateCount, TransitionSize, TransitionOutOfRange, SymbolOutOfRange, TooManyLookaheads, LookaheadOutOfRange, EndCycle, Stalls, MissingTailoring}
 use Rattle.seg_data.specs.Faults.{IsLowestFault}
-use Rattle.seg_data.specs.Table.{Table, named_values}
+use Rattle.seg_data.specs.Table.{named_values}
 use Rattle.seg_line_rules.specs.declared.engines.LineEngine.{LineEngine}
 use Rattle.seg_line_rules.specs.LineClasses.{class_number}
 use Rattle.seg_line_rules.specs.LineClasses.LineClass.{ID}
@@ -19,8 +19,8 @@ use Rattle.seg_machine.specs.MachineFaults.{HasComplexBelow0100, HasMachineFault
 use Rattle.seg_pairs.proofs.Pairs.{data-cases}
 use Rattle.seg_pairs.specs.declared.provider.pairs.BreakState.{BreakState}
 use Rattle.seg_pairs.specs.declared.provider.pairs.BreakState.TheVariants.{Break, Keep, NoMatch, Intermediate, Index}
-use Rattle.seg_pairs.specs.PairData.{HasPairDataFault, KeepsStart}
-use Rattle.seg_pairs.specs.PairTable.{PairTable, class_of, entry_of, Names}
+use Rattle.seg_pairs.specs.PairData.{HasPairDataFault}
+use Rattle.seg_pairs.specs.PairTable.{PairTable, class_of, entry_of}
 use Rattle.seg_words.proofs.Faults.{own-cases}
 use Rattle.seg_words.specs.Words.{HasOwnFault, HasWordMachineFault, HasWordTableFault}
 use Rattle.icu_segmenter_uax29.proofs.Faultless.{is_symbol}

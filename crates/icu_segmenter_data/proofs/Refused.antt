@@ -1,5 +1,5 @@
 -- Unicode's data have no fault that a segmenter looks for: computations, and what follows for segmenters by them.
-use Rattle.std.proofs.Common.{◌≡◌, true, None, Some, [], refl}
+use Rattle.std.proofs.Common.{◌≡◌, Bool, true, false, None, refl}
 use Rattle.std.specs.Prelude.{Result, IfErr}
 use Rattle.ucd_table.proofs.TrieCheck.{all_below}
 use Rattle.seg_data.specs.declared.provider.DataError.{DataError}
@@ -7,19 +7,20 @@ use Rattle.seg_data.specs.declared.provider.DataError.TheVariants.{Memory}
 use Rattle.seg_data.specs.Faults.{IsLowestFault}
 use Rattle.seg_data.specs.Table.{value_of}
 use Rattle.seg_line_rules.specs.declared.engines.LineEngine.TheVariants.{Classic, Seventeen}
-use Rattle.seg_line_rules.specs.LineRules.{HasLineTableFault}
+use Rattle.seg_line_rules.specs.declared.options.LineBreakOptions.{LineBreakOptions}
+use Rattle.seg_line_rules.specs.declared.options.LineBreakStrictness.{LineBreakStrictness}
+use Rattle.seg_line_rules.specs.declared.options.LineBreakStrictness.TheVariants as strictness
+use Rattle.seg_line_rules.specs.declared.options.LineBreakWordOption.{LineBreakWordOption}
+use Rattle.seg_line_rules.specs.declared.options.LineBreakWordOption.TheVariants as word_option
+use Rattle.seg_line_rules.specs.LineRules.{HasLineTableFault, is_complex_context, style_of}
 use Rattle.seg_lines.specs.Lines.{HasLineFault}
-use Rattle.seg_lines.specs.Options.{MachineTailorings}
-use Rattle.seg_lines.specs.declared.line.options.MachineChoice.{MachineChoice}
-use Rattle.seg_lines.specs.declared.line.options.MachineChoice.TheVariants.{Clusters, Lines}
-use Rattle.seg_lines.specs.declared.line.options.Tailoring.TheVariants as named
-use Rattle.seg_machine.specs.Machine.{Machine, replaced, symbol_and_script, symbol_count, tailoring}
+use Rattle.seg_lines.specs.Options.{MachineTailorings, machine_choice, machine_for}
+use Rattle.seg_machine.specs.Machine.{Machine, replaced, symbol_and_script, symbol_count, with_tailoring}
 use Rattle.seg_machine.specs.MachineFaults.{HasTailoringFault}
 use Rattle.seg_pairs.specs.PairData.{HasPairDataFault}
 use Rattle.seg_pairs.specs.PairTable.{PairTable, class_of, entry_of}
 use Rattle.seg_words.specs.Words.{HasWordMachineFault, HasWordTableFault}
-use Rattle.icu_segmenter_uax14.specs.declared.data.TheConstants.{BREAK_ALL, BREAK_ALL_REPLACED, KEEP_ALL, KEEP_ALL_REPLACED, JA_LOOSE, LOOSE, JA_NORMAL, NORMAL, JA}
-use Rattle.icu_segmenter_uax14.specs.Lines.{line_machine, line_tailorings, tailored_machine}
+use Rattle.icu_segmenter_uax14.specs.Lines.{line_machine, line_tailorings}
 use Rattle.icu_segmenter_uax29.specs.TypedWords.{typed_word_machine}
 use Rattle.icu_segmenter_data.specs.Unicode.{cluster_table, line_17_table, line_table, sentence_table, word_table}
 use Rattle.icu_segmenter_data.proofs.Refusals.{is_latin_plain, memory-only, no-line-table-fault, no-pair-data-fault, no-tailored-fault, no-untailored-fault, no-word-machine-fault, no-word-table-fault, IsLineTable, IsPlain, IsTailored, IsWordTable}
@@ -41,7 +42,7 @@ unfolding all_below class_of value_of
 lines-are-lines = record { id_is = refl; latin_is = refl; complex_is = refl }
 
 lines-17-are-lines : IsLineTable Seventeen line_17_table
-unfolding all_below class_of value_of
+unfolding is_complex_context all_below class_of value_of
 lines-17-are-lines = record { id_is = refl; latin_is = refl; complex_is = refl }
 
 typed-words-are-plain : all_below (is_latin_plain typed_word_machine) 0x100 ≡ true
@@ -52,32 +53,32 @@ line-machine-is-plain : all_below (is_latin_plain line_machine) 0x100 ≡ true
 unfolding line_machine all_below symbol_and_script value_of replaced
 line-machine-is-plain = refl
 
-break-all-is-tailored : IsTailored (tailored_machine BREAK_ALL BREAK_ALL_REPLACED) 73
-unfolding line_machine all_below symbol_and_script symbol_count value_of replaced
+break-all-is-tailored : IsTailored (with_tailoring line_machine line_tailorings.breakall) 73
+unfolding line_machine line_tailorings all_below symbol_and_script symbol_count value_of replaced
 break-all-is-tailored = record { symbols_are = refl; values_are = refl; entries_are = refl; replaced_are = refl; latin_is = refl }
 
-keep-all-is-tailored : IsTailored (tailored_machine KEEP_ALL KEEP_ALL_REPLACED) 73
-unfolding line_machine all_below symbol_and_script symbol_count value_of replaced
+keep-all-is-tailored : IsTailored (with_tailoring line_machine line_tailorings.keepall) 73
+unfolding line_machine line_tailorings all_below symbol_and_script symbol_count value_of replaced
 keep-all-is-tailored = record { symbols_are = refl; values_are = refl; entries_are = refl; replaced_are = refl; latin_is = refl }
 
-ja-loose-is-tailored : IsTailored (tailored_machine JA_LOOSE []) 73
-unfolding line_machine all_below symbol_and_script symbol_count value_of replaced
+ja-loose-is-tailored : IsTailored (with_tailoring line_machine line_tailorings.ja_loose) 73
+unfolding line_machine line_tailorings all_below symbol_and_script symbol_count value_of replaced
 ja-loose-is-tailored = record { symbols_are = refl; values_are = refl; entries_are = refl; replaced_are = refl; latin_is = refl }
 
-loose-is-tailored : IsTailored (tailored_machine LOOSE []) 73
-unfolding line_machine all_below symbol_and_script symbol_count value_of replaced
+loose-is-tailored : IsTailored (with_tailoring line_machine line_tailorings.loose) 73
+unfolding line_machine line_tailorings all_below symbol_and_script symbol_count value_of replaced
 loose-is-tailored = record { symbols_are = refl; values_are = refl; entries_are = refl; replaced_are = refl; latin_is = refl }
 
-ja-normal-is-tailored : IsTailored (tailored_machine JA_NORMAL []) 73
-unfolding line_machine all_below symbol_and_script symbol_count value_of replaced
+ja-normal-is-tailored : IsTailored (with_tailoring line_machine line_tailorings.ja_normal) 73
+unfolding line_machine line_tailorings all_below symbol_and_script symbol_count value_of replaced
 ja-normal-is-tailored = record { symbols_are = refl; values_are = refl; entries_are = refl; replaced_are = refl; latin_is = refl }
 
-normal-is-tailored : IsTailored (tailored_machine NORMAL []) 73
-unfolding line_machine all_below symbol_and_script symbol_count value_of replaced
+normal-is-tailored : IsTailored (with_tailoring line_machine line_tailorings.normal) 73
+unfolding line_machine line_tailorings all_below symbol_and_script symbol_count value_of replaced
 normal-is-tailored = record { symbols_are = refl; values_are = refl; entries_are = refl; replaced_are = refl; latin_is = refl }
 
-ja-is-tailored : IsTailored (tailored_machine JA []) 73
-unfolding line_machine all_below symbol_and_script symbol_count value_of replaced
+ja-is-tailored : IsTailored (with_tailoring line_machine line_tailorings.ja) 73
+unfolding line_machine line_tailorings all_below symbol_and_script symbol_count value_of replaced
 ja-is-tailored = record { symbols_are = refl; values_are = refl; entries_are = refl; replaced_are = refl; latin_is = refl }
 
 -- ---- segmenters
@@ -121,19 +122,22 @@ pub machine-memory-alone : {X : Type 0} (made : Result X DataError) (m : Machine
     → IfErr made (λ fault. fault ≡ Memory)
 machine-memory-alone made m rejected = memory-only made (HasTailoringFault m None) (λ fault has. has) rejected
 
-no-line-fault : (choice : MachineChoice) (fault : DataError) → HasLineFault line_machine line_tailorings choice fault → ⊥
+no-line-fault : (word : LineBreakWordOption) (style : LineBreakStrictness) (is_ja : Bool) (fault : DataError)
+    → HasLineFault line_machine line_tailorings (machine_for word style is_ja) fault → ⊥
 unfolding line_tailorings
-no-line-fault Clusters fault has = has
-no-line-fault (Lines None) fault has = no-untailored-fault line_machine line-machine-is-plain fault has
-no-line-fault (Lines (Some named.BreakAll)) fault has = no-tailored-fault line_machine (tailoring BREAK_ALL BREAK_ALL_REPLACED) 73 break-all-is-tailored fault has
-no-line-fault (Lines (Some named.KeepAll)) fault has = no-tailored-fault line_machine (tailoring KEEP_ALL KEEP_ALL_REPLACED) 73 keep-all-is-tailored fault has
-no-line-fault (Lines (Some named.JaLoose)) fault has = no-tailored-fault line_machine (tailoring JA_LOOSE []) 73 ja-loose-is-tailored fault has
-no-line-fault (Lines (Some named.Loose)) fault has = no-tailored-fault line_machine (tailoring LOOSE []) 73 loose-is-tailored fault has
-no-line-fault (Lines (Some named.JaNormal)) fault has = no-tailored-fault line_machine (tailoring JA_NORMAL []) 73 ja-normal-is-tailored fault has
-no-line-fault (Lines (Some named.Normal)) fault has = no-tailored-fault line_machine (tailoring NORMAL []) 73 normal-is-tailored fault has
-no-line-fault (Lines (Some named.Ja)) fault has = no-tailored-fault line_machine (tailoring JA []) 73 ja-is-tailored fault has
+no-line-fault word_option.BreakAll style is_ja fault has = no-tailored-fault line_machine _ 73 break-all-is-tailored fault has
+no-line-fault word_option.KeepAll style is_ja fault has = no-tailored-fault line_machine _ 73 keep-all-is-tailored fault has
+no-line-fault word_option.Normal strictness.Anywhere is_ja fault has = has
+no-line-fault word_option.Normal strictness.Loose true fault has = no-tailored-fault line_machine _ 73 ja-loose-is-tailored fault has
+no-line-fault word_option.Normal strictness.Loose false fault has = no-tailored-fault line_machine _ 73 loose-is-tailored fault has
+no-line-fault word_option.Normal strictness.Normal true fault has = no-tailored-fault line_machine _ 73 ja-normal-is-tailored fault has
+no-line-fault word_option.Normal strictness.Normal false fault has = no-tailored-fault line_machine _ 73 normal-is-tailored fault has
+no-line-fault word_option.Normal strictness.Strict true fault has = no-tailored-fault line_machine _ 73 ja-is-tailored fault has
+no-line-fault word_option.Normal strictness.Strict false fault has = no-untailored-fault line_machine line-machine-is-plain fault has
 
-pub lines-memory-alone : {X : Type 0} (made : Result X DataError) (m : Machine) (tailorings : MachineTailorings) (choice : MachineChoice) → m ≡ line_machine
-    → tailorings ≡ line_tailorings → IfErr made (IsLowestFault (HasLineFault m tailorings choice)) → IfErr made (λ fault. fault ≡ Memory)
-lines-memory-alone made m tailorings choice is tailored rejected =
-    memory-only made (HasLineFault line_machine line_tailorings choice) (no-line-fault choice) (rw (is, tailored) at rejected)
+pub lines-memory-alone : {X : Type 0} (made : Result X DataError) (m : Machine) (tailorings : MachineTailorings) (options : LineBreakOptions) → m ≡ line_machine
+    → tailorings ≡ line_tailorings → IfErr made (IsLowestFault (HasLineFault m tailorings (machine_choice options))) → IfErr made (λ fault. fault ≡ Memory)
+lines-memory-alone made m tailorings options is tailored rejected =
+    let style = style_of options in
+    memory-only made (HasLineFault line_machine line_tailorings (machine_choice options)) (no-line-fault style.word_option style.strictness style.is_ja_or_zh)
+    (rw (is, tailored) at rejected)

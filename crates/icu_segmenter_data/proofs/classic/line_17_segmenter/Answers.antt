@@ -3,5 +3,5 @@ use Rattle.icu_segmenter_data.proofs.classic.line_17_segmenter.Goals as goal
 
 pub returns-clause-rejected : goal.returns-clause-rejected
 returns-clause-rejected c =
-    line-17-table-memory-alone c.try_new_17_for_non_complex_scripts.result c.in_ok-line_17_table.field-0 c.in_ok-cluster_table.field-0
-    c.in_ok-line_17_table.ensures.made c.in_ok-cluster_table.ensures.made c.try_new_17_for_non_complex_scripts.ensures.rejected
+    line-17-table-memory-alone c.try_new_17_for_non_complex_scripts.result c.in_ok-table.table c.in_ok-clusters.clusters
+    c.in_ok-table.ensures.made c.in_ok-clusters.ensures.made c.try_new_17_for_non_complex_scripts.ensures.rejected

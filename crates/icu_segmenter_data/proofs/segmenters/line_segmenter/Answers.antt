@@ -15,5 +15,5 @@ returns-clause-lines c =
 
 pub returns-clause-rejected : goal.returns-clause-rejected
 returns-clause-rejected c =
-    lines-memory-alone c.try_new_neo_for_non_complex_scripts.result c.in_ok-line_machine.field-0 c.in_ok-line_tailorings.field-0 (machine_choice c.args.options)
+    lines-memory-alone c.try_new_neo_for_non_complex_scripts.result c.in_ok-line_machine.field-0 c.in_ok-line_tailorings.field-0 c.args.options
     c.in_ok-line_machine.ensures.made c.in_ok-line_tailorings.ensures.made c.try_new_neo_for_non_complex_scripts.ensures.rejected
