@@ -1,7 +1,6 @@
 //! The segmenter that a slot holds.
 
 ghost use Rattle.std.specs.Prelude.{◌≡◌, IfOk, IfErr};
-ghost use Rattle.seg_data.specs.declared.provider.DataError.TheVariants.{Memory};
 ghost use Rattle.icu_segmenter.specs.Boundaries.{HasRestart};
 ghost use Rattle.icu_segmenter.specs.Lines.{owned_line_rules};
 ghost use Rattle.yengatomu_c.specs.Finders.{find_by, finder_of};
@@ -32,7 +31,7 @@ impl Segmenter {
     pub fn boxed(alloc: Global, request: Request) -> Result<Box<Segmenter>, DataError>
         ensures made { IfOk result (λ segmenter. finder_of segmenter.value ≡ finder_asked request) }
         ensures restart { IfOk result (λ segmenter. HasRestart (find_by (finder_of segmenter.value))) }
-        ensures rejected { IfErr result (λ fault. fault ≡ Memory) }
+        ensures rejected { IfErr result (λ fault. fault ≡ DataError.Memory) }
     {
         let segmenter = Segmenter::new(alloc, request)?;
         match Box::new(alloc, segmenter) {
@@ -45,7 +44,7 @@ impl Segmenter {
     pub fn new(alloc: Global, request: Request) -> Result<Self, DataError>
         ensures made { IfOk result (λ segmenter. finder_of segmenter ≡ finder_asked request) }
         ensures restart { IfOk result (λ segmenter. HasRestart (find_by (finder_of segmenter))) }
-        ensures rejected { IfErr result (λ fault. fault ≡ Memory) }
+        ensures rejected { IfErr result (λ fault. fault ≡ DataError.Memory) }
     {
         match request {
             Request::Clusters => clusters(alloc),
@@ -80,7 +79,7 @@ impl Segmenter {
 fn clusters(alloc: Global) -> Result<Segmenter, DataError>
     ensures made { IfOk result (λ segmenter. finder_of segmenter ≡ finder_asked Request.Clusters) }
     ensures restart { IfOk result (λ segmenter. HasRestart (find_by (finder_of segmenter))) }
-    ensures rejected { IfErr result (λ fault. fault ≡ Memory) }
+    ensures rejected { IfErr result (λ fault. fault ≡ DataError.Memory) }
 {
     let clusters = grapheme_segmenter(alloc)?;
     laws::grapheme::restart(clusters.as_borrowed());
@@ -90,7 +89,7 @@ fn clusters(alloc: Global) -> Result<Segmenter, DataError>
 fn words(alloc: Global) -> Result<Segmenter, DataError>
     ensures made { IfOk result (λ segmenter. finder_of segmenter ≡ finder_asked Request.Words) }
     ensures restart { IfOk result (λ segmenter. HasRestart (find_by (finder_of segmenter))) }
-    ensures rejected { IfErr result (λ fault. fault ≡ Memory) }
+    ensures rejected { IfErr result (λ fault. fault ≡ DataError.Memory) }
 {
     let words = word_segmenter(alloc)?;
     laws::word::restart(words.as_borrowed());
@@ -100,7 +99,7 @@ fn words(alloc: Global) -> Result<Segmenter, DataError>
 fn sentences(alloc: Global) -> Result<Segmenter, DataError>
     ensures made { IfOk result (λ segmenter. finder_of segmenter ≡ finder_asked Request.Sentences) }
     ensures restart { IfOk result (λ segmenter. HasRestart (find_by (finder_of segmenter))) }
-    ensures rejected { IfErr result (λ fault. fault ≡ Memory) }
+    ensures rejected { IfErr result (λ fault. fault ≡ DataError.Memory) }
 {
     let sentences = sentence_segmenter(alloc)?;
     laws::sentence::restart(sentences.as_borrowed());
@@ -110,7 +109,7 @@ fn sentences(alloc: Global) -> Result<Segmenter, DataError>
 fn lines(alloc: Global, options: LineOptions) -> Result<Segmenter, DataError>
     ensures made { IfOk result (λ segmenter. finder_of segmenter ≡ finder_asked (Request.Lines options)) }
     ensures restart { IfOk result (λ segmenter. HasRestart (find_by (finder_of segmenter))) }
-    ensures rejected { IfErr result (λ fault. fault ≡ Memory) }
+    ensures rejected { IfErr result (λ fault. fault ≡ DataError.Memory) }
 {
     let lines = line_segmenter_by(alloc, options)?;
     laws::line::restart(lines.as_borrowed());
@@ -119,7 +118,7 @@ fn lines(alloc: Global, options: LineOptions) -> Result<Segmenter, DataError>
 
 fn line_segmenter_by(alloc: Global, options: LineOptions) -> Result<LineSegmenter, DataError>
     ensures made { IfOk result (λ lines. owned_line_rules lines ≡ line_rules_for options.strictness options.word_option options.is_chinese_or_japanese) }
-    ensures rejected { IfErr result (λ fault. fault ≡ Memory) }
+    ensures rejected { IfErr result (λ fault. fault ≡ DataError.Memory) }
 {
     let chinese = LanguageIdentifier::try_from_language("zh");
     let content_locale = if options.is_chinese_or_japanese {
