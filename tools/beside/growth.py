@@ -16,22 +16,14 @@ sys.dont_write_bytecode = True
 ROOT = os.path.dirname(os.path.dirname(os.path.dirname(os.path.realpath(__file__))))
 os.environ.setdefault("YENGATOMU_LIB_DIR", f"{ROOT}/bindings/lib")
 sys.path.insert(0, f"{ROOT}/bindings/python")
-from yengatomu import _library as c  # noqa: E402
-
-WORDS, LINES = 1, 3
-SCRIPTS = {"myanmar": 1, "cj": 2, "khmer": 3, "lao": 4, "thai": 5}
+from yengatomu import Kind, Segmenter, _library as c  # noqa: E402
 
 
 def slot_of(kind, lists):
-    """Returns a slot of a kind with all five lists."""
-    slot = c.Slot()
-    assert c.open_slot(slot, kind, 0, 0, False) == c.OK
-    for name, script in SCRIPTS.items():
-        with open(f"{lists}/{name}.txt", "rb") as it:
-            words = it.read().split()
-        array = (c.Word * len(words))(*(c.Word(word, len(word)) for word in words))
-        assert c.load_dictionary(slot, array, len(words), script) == c.OK
-    return slot
+    """Returns a segmenter of a kind with all five lists, and where its slot is."""
+    segmenter = Segmenter(kind)
+    assert len(segmenter.load_dictionaries(lists)) >= 4
+    return segmenter, segmenter._at
 
 
 def ends_of(slot, text, room, most):
@@ -80,7 +72,8 @@ def rows(slots, text):
 
 
 def main(texts, lists, *sizes):
-    slots = {"words": slot_of(WORDS, lists), "lines": slot_of(LINES, lists)}
+    kept = {"words": slot_of(Kind.WORDS, lists), "lines": slot_of(Kind.LINES, lists)}
+    slots = {name: at for name, (_, at) in kept.items()}
     sizes = [int(it) for it in sizes] or [1, 2, 4, 8]
     for name in ("english", "thai", "chinese", "mixed"):
         with open(f"{texts}/{name}.txt", "rb") as it:
