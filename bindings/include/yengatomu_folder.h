@@ -3,6 +3,7 @@
  * A list is a text of UTF-8 with a word a line. White space around a word, a byte order mark at the start and blank lines count for nothing. */
 #ifndef YENGATOMU_FOLDER_H
 #define YENGATOMU_FOLDER_H
+#include <errno.h>
 #include <stdio.h>
 #include <stdlib.h>
 #include <string.h>
@@ -78,7 +79,8 @@ static inline uint32_t yengatomu_load_file(yengatomu_slot *slot, const char *pat
 }
 
 /* Gives a segmenter of words or lines the lists of a folder, as tools/dictionaries writes it: those of myanmar.txt, cj.txt, khmer.txt, lao.txt and
- * thai.txt that are there. YENGATOMU_UNREAD if none can be read. At another error it ends with the file that has it; those before are loaded. */
+ * thai.txt that are there. YENGATOMU_UNREAD if none is there, or one can't be read. At an error it ends with the file that has it; those before are
+ * loaded. */
 static inline uint32_t yengatomu_load_folder(yengatomu_slot *slot, const char *folder) {
     static const char *const names[] = {"myanmar", "cj", "khmer", "lao", "thai"};
     const size_t room = strlen(folder) + sizeof "/myanmar.txt";
@@ -88,7 +90,7 @@ static inline uint32_t yengatomu_load_folder(yengatomu_slot *slot, const char *f
     for (uint32_t script = YENGATOMU_MYANMAR; script <= YENGATOMU_THAI; script++) {
         snprintf(path, room, "%s/%s.txt", folder, names[script - 1]);
         const uint32_t error = yengatomu_load_file(slot, path, script);
-        if (error == YENGATOMU_UNREAD) continue;
+        if (error == YENGATOMU_UNREAD && errno == ENOENT) continue;
         all = error;
         if (error != YENGATOMU_OK) break;
     }
