@@ -29,27 +29,27 @@ cover-up-to [] end cover = absurd cover
 cover-up-to (found ∷ boundaries) end (first, rises) = (omega (arith, first, rises-le boundaries 0 end rises), rise-up-to boundaries 0 end rises)
 
 -- the places of the first items are the same where more follow
-place-front : (one other : List Item) (end middle n : ℕ) → place_of other end ≡ middle → n ≤ length one → place_of (drop n (one ++ other)) end ≡ place_of (drop n one) middle
+pub place-front : (one other : List Item) (end middle n : ℕ) → place_of other end ≡ middle → n ≤ length one → place_of (drop n (one ++ other)) end ≡ place_of (drop n one) middle
 place-front [] other end middle zero is few = is
 place-front [] other end middle (suc n) is few = absurd (omega arith)
 place-front (item ∷ one) other end middle zero is few = refl
 place-front (item ∷ one) other end middle (suc n) is few = place-front one other end middle n is (omega arith)
 
-drop-past : (one other : List Item) (n : ℕ) → drop (length one + n) (one ++ other) ≡ drop n other
+pub drop-past : (one other : List Item) (n : ℕ) → drop (length one + n) (one ++ other) ≡ drop n other
 drop-past [] other n = let same : 0 + n ≡ n = omega arith in ap (λ k. drop k other) same
 drop-past (item ∷ one) other n =
     let same : suc (length one) + n ≡ suc (length one + n) = omega arith in
     ap (λ k. drop k (item ∷ (one ++ other))) same ∙ drop-past one other n
 
 -- items so much later
-abbrev later_items : ℕ → List Item → List Item
+abbrev pub later_items : ℕ → List Item → List Item
 later_items before items = map (λ (item : Item). (before + item.0, item.1)) items
 
-later-codes : (before : ℕ) (items : List Item) → code_points (later_items before items) ≡ code_points items
+pub later-codes : (before : ℕ) (items : List Item) → code_points (later_items before items) ≡ code_points items
 later-codes before [] = refl
 later-codes before (item ∷ items) = ap (λ codes. item.1 ∷ codes) (later-codes before items)
 
-later-place : (before end : ℕ) (items : List Item) → place_of (later_items before items) (before + end) ≡ before + place_of items end
+pub later-place : (before end : ℕ) (items : List Item) → place_of (later_items before items) (before + end) ≡ before + place_of items end
 later-place before end [] = refl
 later-place before end (item ∷ items) = refl
 
@@ -191,6 +191,13 @@ module _ (read : Reader ℕ) (stable : IsStable read) where
           ∙ ap (λ items. place_of items (length first + two.end)) (drop-map (λ (item : Item). (length first + item.0, item.1)) b.offset two.items)
           ∙ later-place (length first) two.end (drop b.offset two.items) in
           ap₂ (λ n (rest : List Boundary). boundary n b.status ∷ rest) place (back-in found)
+
+    -- the items of a text that is split so, and how the code points of its first part end
+    pub items-split : (before second : List ℕ) → items 0 ((before ++ mark) ++ second) ≡ items 0 (before ++ mark) ++ later_items (length (before ++ mark)) (items 0 second)
+    items-split before second = whole-items before second
+
+    pub codes-end : (before : List ℕ) → (front : List ℕ) × (code_points (items 0 (before ++ mark)) ≡ front ++ c ∷ [])
+    codes-end before = (code_points (split before []).front, one-codes before [])
 
     -- where lists of code points may be split after the code point, texts may behind its units
     pub parts-texts : (find : List ℕ → List Boundary) → ((cs : List ℕ) → IsCover 0 (length cs) (find cs)) → PartsBehind find (c ∷ [])

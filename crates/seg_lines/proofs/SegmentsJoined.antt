@@ -20,15 +20,15 @@ between-join units from mid to first second =
     ∙ ap (λ (n : ℕ). take n (drop from units)) (omega (arith, first, second))
 
 -- how many characters lines have, and segments
-unfoldable lines_length : List Line → ℕ
+unfoldable pub lines_length : List Line → ℕ
 lines_length [] = 0
 lines_length (line ∷ lines) = length line.characters + lines_length lines
 
-unfoldable segments_length : List Segment → ℕ
+unfoldable pub segments_length : List Segment → ℕ
 segments_length [] = 0
 segments_length (segment ∷ segments) = length segment.characters + segments_length segments
 
-length-of-lines : (limit : ℕ) (line : Segment) (segments : List Segment) → lines_length (lines_from limit line segments) ≡ length line.characters + segments_length segments
+pub length-of-lines : (limit : ℕ) (line : Segment) (segments : List Segment) → lines_length (lines_from limit line segments) ≡ length line.characters + segments_length segments
 unfolding lines_from lines_length segments_length
 length-of-lines limit line [] = refl
 length-of-lines limit line (next ∷ segments) =
