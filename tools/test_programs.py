@@ -9,12 +9,14 @@ and what it must say on standard error, or how that begins where it has no line 
 standard output that takes nothing, and says what it must complain of; with `unread: WORDS, STATUS, COMPLAINT` it has the first, and mustn't see it.
 `comes: WORDS, TEXT, WANTED, REST, WANTED` has the first text written while the rest hasn't come. `repeated: WORDS, MORE, TEXT, COUNT, REST` has the text so
 often, and then the rest, and asks whether the same is written with more words. `parts: WORDS, TEXT, COUNT, REST` has
-such a text split after line feeds, and asks whether the outputs of the parts are that of the whole. `set: NAME=VALUE, ROW` has a row's program find that
+such a text split after line feeds, and asks whether the outputs of the parts are that of the whole. `small: MEGABYTES, ROW` has a row's program take no
+more memory, and what it reads and must write come so often as a last number says. `set: NAME=VALUE, ROW` has a row's program find that
 in its environment. Other lines say nothing. Each row is asked of what either compiler built.
 
 The options of a manual page, crates/PROGRAM/PROGRAM.1, must be those of the program's help. It ends with 'N passed, M failed', and with status 1 where a row fails or a program isn't there.
 """
 import ast
+import dataclasses
 import os
 import pathlib
 import re
@@ -42,6 +44,7 @@ class Row:
     complaint: bytes = b""
     devices: dict = field(default_factory=dict)
     setting: str = ""
+    megabytes: int = 0
 
     def fault(self, program, folder):
         """Returns what is wrong where the program runs so, or None."""
@@ -49,11 +52,14 @@ class Row:
         how = {"stdout": subprocess.PIPE, "stderr": subprocess.PIPE, **self.devices}
         how |= {"env": {**os.environ, name: value}} if name else {}
         how |= {"input": self.given} if isinstance(self.given, bytes) else {"stdin": self.given}
-        ran = subprocess.run([program, *self.words], cwd=folder, timeout=60, check=False, **how)
+        limit = ["prlimit", f"--as={self.megabytes * 1_000_000}"] if self.megabytes else []
+        ran = subprocess.run([*limit, program, *self.words], cwd=folder, timeout=60, check=False, **how)
         wrote, said = ran.stdout or b"", ran.stderr or b""
         is_said = said == self.complaint if self.complaint[-1:] in (b"", b"\n") else said.startswith(self.complaint)
         if ran.returncode == self.status and wrote == self.wanted and is_said:
             return None
+        if self.megabytes:
+            return f"{shlex.join(self.words)}, in {self.megabytes} MB: status {ran.returncode}, {len(wrote)} bytes written, said {said!r}"
         return f"{self.setting} {shlex.join(self.words)}: status {ran.returncode}, written {wrote!r}, said {said!r}".lstrip()
 
 
@@ -150,7 +156,7 @@ def read(path, folder_as_input, full):
     with open(path, encoding="utf-8") as it:
         for number, line in enumerate(it, 1):
             kind, said = ("row", line) if line.startswith(('"', "'")) else line.partition(": ")[::2]
-            if kind not in ("row", "writes", "file", "copies", "devices", "unread", "comes", "repeated", "parts", "set"):
+            if kind not in ("row", "writes", "file", "copies", "devices", "unread", "comes", "repeated", "parts", "small", "set"):
                 continue
             place, fields = f"{os.path.basename(path)}:{number}", ast.literal_eval(f"({said.strip()},)")
             if kind == "file":
@@ -176,6 +182,11 @@ def read(path, folder_as_input, full):
             elif kind == "parts":
                 words, text, count, rest = fields
                 found.rows.append(Parts(place, shlex.split(words), as_bytes(text) * count + as_bytes(rest)))
+            elif kind == "small":
+                megabytes, words, given, wanted, count, *rest = fields
+                status, complaint = rest or (0, "")
+                row = Row(place, shlex.split(words), as_bytes(given) * count, as_bytes(wanted) * count, status, as_bytes(complaint))
+                found.rows.append(dataclasses.replace(row, megabytes=megabytes))
             else:
                 setting, *fields = fields if kind == "set" else ("", *fields)
                 words, given, wanted, *rest = fields

@@ -1,19 +1,31 @@
 -- How many segments there are is written after what is printed, where they are only counted.
-use Rattle.std.proofs.Common.{◌≡◌, ℕ, Bool, true, false, Option, None, Some, List, IfErr, IfSome, Result, Ok, Err, ◌⊎◌, inl, ap, subst, refl, ◌∙◌, append-nil}
+use Rattle.std.proofs.Common.{◌≡◌, ℕ, Bool, true, false, Option, None, Some, List, IfErr, IfOk, IfSome, Result, Ok, Err, ◌⊎◌, inl, inr, ap, ap₂, length, subst, refl, ◌∙◌, append-nil}
 use Rattle.std.proofs.KnownBytes.{Appends-trans}
 use Rattle.std.specs.Io.KnownBytes.{Appends}
 use Rattle.segment_output.specs.Fault.{IsBeforeWriting, IsReadFault}
 use Rattle.segment_output.specs.Output.{count_line}
-use Rattle.segment_output.specs.Preparation.{is_unchanged, prepared}
+use Rattle.segment_output.specs.Output.{lines_at}
+use Rattle.segment_output.specs.Parts.{IsBegun, count_for, found_for, output_for, printed_behind, text_for}
+use Rattle.segment_output.specs.Preparation.{prepared}
+use Rattle.segment_output.specs.Segmenter.{segments_by}
+use Rattle.segment_output.specs.Wrapped.{wrapped_output}
+use Rattle.segment_output.specs.Wrapper.{wrapping_of}
+use Rattle.segment_output.proofs.JoinedCuts.{lines-at_zero}
 use Rattle.segment_output.specs.Size.{size_of}
-use Rattle.segment.specs.Job.{count_by, numbers_of, output_of, printed_by, text_of, work_output, IsFound, IsTally}
+use Rattle.segment.specs.Job.{count_by, numbers_of, output_of, printed_by, text_of, work_output, IsBegunBy, IsDoneBy, IsFound, IsPrintingOf, IsTally}
 use Rattle.segment_output.specs.declared.fault.Fault.{Fault}
 use Rattle.segment_output.specs.declared.fault.Fault.TheVariants.{Read, MemoryBefore, Memo, Write, MemoryAmid}
 use Rattle.segment_output.specs.declared.found.Found.{Found}
 use Rattle.segment_output.specs.declared.found.Size.{Size}
 use Rattle.segment_output.specs.declared.found.Tally.{Tally}
 use Rattle.segment_output.specs.declared.output.Numbers.{Numbers}
+use Rattle.segment_output.specs.declared.output.Style.{Style}
+use Rattle.segment_output.specs.declared.parts.Printing.{Printing}
+use Rattle.segment_output.specs.declared.parts.Printing.TheVariants.{Segments, Lines}
+use Rattle.segment_output.specs.declared.parts.Splitting.{Splitting}
 use Rattle.segment_output.specs.declared.preparation.Preparation.{Preparation}
+use Rattle.segment_output.specs.declared.segmenter.Segmenter.{Segmenter}
+use Rattle.segment_output.specs.declared.wrapper.Wrapper.{Wrapper}
 use Rattle.segment.specs.declared.job.Job.{Job}
 use Rattle.segment.specs.declared.job.Work.{Work}
 use Rattle.segment.specs.declared.job.Work.TheVariants.{Cut, Wrap}
@@ -75,11 +87,39 @@ pub begun-whole : (P Q : Type 0) (r : Result Tally Fault) → IfErr r (λ fault.
 begun-whole P Q (Ok tally) is = tt
 begun-whole P Q (Err fault) is = λ of_reader. inl (is (of-reader fault of_reader))
 
--- nothing is done first
-pub stays : (preparation : Preparation) (bytes : List ℕ) → is_unchanged preparation ≡ true → prepared preparation bytes ≡ bytes
-stays preparation bytes is = by preparation.tabs preparation.joins is
-  where
-    by : (tabs : Option ℕ) (joins : Bool) → is_unchanged (record { tabs = tabs; joins = joins }) ≡ true → prepared (record { tabs = tabs; joins = joins }) bytes ≡ bytes
-    by None false is = refl
-    by None true is = cc
-    by (Some columns) joins is = cc
+-- what is written part by part is what is written of the whole
+printed-split : (work : Work) (printing : Printing) (text : List ℕ) → IsPrintingOf work printing → printed_behind printing 0 text ≡ work_output work text
+printed-split (Cut segmenter style Plain) (Segments one how) text (same, is) =
+    ap₂ (λ (segmenter : Segmenter) (style : Style). lines_at style 0 text (segments_by segmenter text)) same is ∙ lines-at_zero style text (segments_by segmenter text)
+printed-split (Cut segmenter style Plain) (Lines one) text is = absurd is
+printed-split (Cut segmenter style Memoised) printing text is = absurd is
+printed-split (Wrap wrapper) (Segments one how) text is = absurd is
+printed-split (Wrap wrapper) (Lines one) text is = ap (λ (wrapper : Wrapper). wrapped_output (wrapping_of wrapper) text) is
+
+found-split : (work : Work) (printing : Printing) (text : List ℕ) (found : Found) → IsPrintingOf work printing → found.segments ≡ count_for printing text → found.lookups ≡ 0 → IsFound work text found
+found-split (Cut segmenter style Plain) (Segments one how) text found (same, is) count none = (count ∙ ap (λ (segmenter : Segmenter). length (segments_by segmenter text)) same, none)
+found-split (Cut segmenter style Plain) (Lines one) text found is count none = absurd is
+found-split (Cut segmenter style Memoised) printing text found is count none = absurd is
+found-split (Wrap wrapper) (Segments one how) text found is count none = absurd is
+found-split (Wrap wrapper) (Lines one) text found is count none = (count, none)
+
+pub all-split : (job : Job) (splitting : Splitting) (read old new : Option (List ℕ)) (r : Result Tally Fault) → IsDoneBy job splitting
+    → IfOk r (λ tally. IfSome read (λ bytes. (tally.found.segments ≡ found_for splitting bytes) × (tally.found.lookups ≡ 0) × (tally.size ≡ size_of bytes)
+    × Appends old new (output_for splitting bytes)))
+    → IfOk r (λ tally. IfSome read (λ bytes. IsTally job bytes tally × Appends old new (printed_by job bytes)))
+all-split job splitting read old new (Err fault) done all = tt
+all-split job splitting None old new (Ok tally) done all = tt
+all-split job splitting (Some bytes) old new (Ok tally) (same, is) (count, none, size, written) =
+    let text : text_for splitting bytes ≡ text_of job bytes = ap (λ (preparation : Preparation). prepared preparation bytes) same in (
+      (found-split job.work splitting.printing (text_of job bytes) tally.found is (count ∙ ap (count_for splitting.printing) text) none, size),
+      subst (Appends old new) (ap (printed_behind splitting.printing 0) text ∙ printed-split job.work splitting.printing (text_of job bytes) is) written,
+    )
+
+pub begun-split : (job : Job) (splitting : Splitting) (from to old new : Option (List ℕ)) (P : Type 0) (r : Result Tally Fault) → IsDoneBy job splitting
+    → IfErr r (λ fault. IsReadFault fault → P ⊎ IsBegun splitting from to old new) → IfErr r (λ fault. IsReadFault fault → P ⊎ IsBegunBy job from to old new)
+begun-split job splitting from to old new P (Ok tally) done all = tt
+begun-split job splitting from to old new P (Err fault) done all =
+    λ of_reader. elim (all of_reader) [
+      | inl none ↦ inl none
+      | inr begun ↦ inr (splitting, done, begun)
+    ]

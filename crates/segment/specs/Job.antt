@@ -7,7 +7,7 @@ use Rattle.icu_segmenter.specs.declared.options.LineBreakOptions.{LineBreakOptio
 use Rattle.segment_output.specs.Memo.{IsFoundBy}
 use Rattle.segment_output.specs.Output.{count_line, lines_of}
 use Rattle.segment_output.specs.Parts.{IsBegun}
-use Rattle.segment_output.specs.Preparation.{is_unchanged, prepared}
+use Rattle.segment_output.specs.Preparation.{prepared}
 use Rattle.segment_output.specs.Segmenter.{segments_by, IsAskedOf}
 use Rattle.segment_output.specs.Size.{size_of}
 use Rattle.segment_output.specs.Wrapped.{wrapped_output}
@@ -27,6 +27,9 @@ use Rattle.segment.specs.declared.job.Work.TheVariants.{Cut, Wrap}
 use Rattle.segment.specs.declared.job.Search.{Search}
 use Rattle.segment.specs.declared.job.Search.TheVariants.{Plain, Memoised}
 use Rattle.segment_output.specs.declared.output.Style.TheVariants.{Counted}
+use Rattle.segment_output.specs.declared.parts.Printing.{Printing}
+use Rattle.segment_output.specs.declared.parts.Printing.TheVariants.{Segments, Lines}
+use Rattle.segment_output.specs.declared.parts.Splitting.{Splitting}
 
 -- ---- a text to which the work is done
 
@@ -54,12 +57,14 @@ IsFound (Wrap wrapper) text found = (found.segments ≡ 0) × (found.lookups ≡
 -- may it be split as it comes
 abbrev pub is_split_by : Work → Bool
 is_split_by (Cut segmenter style Plain) = true
-is_split_by work = false
+is_split_by (Cut segmenter style Memoised) = false
+is_split_by (Wrap wrapper) = true
 
--- of what a reader gave before it failed whole lines are written, and nothing of the rest
-abbrev pub IsBegunWork : Work → Option (List ℕ) → Option (List ℕ) → Option (List ℕ) → Option (List ℕ) → Type 0
-IsBegunWork (Cut segmenter style search) from to old new = IsBegun segmenter style from to old new
-IsBegunWork (Wrap wrapper) from to old new = ⊥
+-- what is written part by part is what the work writes
+abbrev pub IsPrintingOf : Work → Printing → Type 0
+IsPrintingOf (Cut segmenter style Plain) (Segments one how) = (one.now ≡ segmenter) × (how ≡ style)
+IsPrintingOf (Wrap wrapper) (Lines one) = one.now ≡ wrapper
+IsPrintingOf work printing = ⊥
 
 -- ---- some bytes that are read
 
@@ -71,12 +76,17 @@ text_of job bytes = prepared job.preparation bytes
 abbrev pub printed_by : Job → List ℕ → List ℕ
 printed_by job bytes = work_output job.work (text_of job bytes)
 
--- may they be split as they come: where they are the text
+-- may they be split as they come
 abbrev pub is_split : Job → Bool
-is_split job = is_unchanged job.preparation && is_split_by job.work
+is_split job = is_split_by job.work
 
+-- what is done part by part is what the job does
+abbrev pub IsDoneBy : Job → Splitting → Type 0
+IsDoneBy job splitting = (splitting.preparation ≡ job.preparation) × IsPrintingOf job.work splitting.printing
+
+-- of what a reader gave before it failed whole lines or paragraphs are written, and nothing of the rest
 abbrev pub IsBegunBy : Job → Option (List ℕ) → Option (List ℕ) → Option (List ℕ) → Option (List ℕ) → Type 0
-IsBegunBy job from to old new = (is_unchanged job.preparation ≡ true) × IsBegunWork job.work from to old new
+IsBegunBy job from to old new = (splitting : Splitting) × IsDoneBy job splitting × IsBegun splitting from to old new
 
 -- what is found of their text, and how large they are
 abbrev pub IsTally : Job → List ℕ → Tally → Type 0

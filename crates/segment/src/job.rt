@@ -1,14 +1,15 @@
 //! What a request asks for, with all that it takes.
-ghost use Rattle.std.specs.Prelude.{◌≡◌, IfOk};
-ghost use Rattle.std.specs.Option.{option_map};
+ghost use Rattle.std.specs.Prelude.{◌≡◌, IfOk, IfSome};
+ghost use Rattle.std.specs.Option.{is_some, option_map};
 ghost use Rattle.icu_segmenter.specs.Abbreviations.{abbreviations_of};
 ghost use Rattle.icu_segmenter.specs.ScriptWords.{script_words};
-ghost use Rattle.segment.specs.Job.{numbers_of, search_by, AreOptions, IsAsked, IsAskedWork};
+ghost use Rattle.segment.specs.Job.{is_split_by, numbers_of, search_by, AreOptions, IsAsked, IsAskedWork, IsPrintingOf};
 
 use crate::command::{Request, Task};
 use anyhow::Result;
 use icu_segmenter::options::LineBreakOptions;
 use segment_output::output::{Numbers, Style};
+use segment_output::parts::Printing;
 use segment_output::preparation::Preparation;
 use segment_output::segmenter::{Engine, Segmenter, segmenter_of};
 use segment_output::vocabulary::Vocabulary;
@@ -40,6 +41,22 @@ pub enum Work {
     Cut(Segmenter, Style, Search),
     /// Its lines are wrapped.
     Wrap(Wrapper),
+}
+
+impl Work {
+    /// What is written, where it is of a text part by part what it is of the whole, if that may be split. None where it is found with a memo.
+    pub fn printing(&self) -> Option<Printing<'_>>
+        ensures same { IfSome result (IsPrintingOf self.now) }
+        ensures always { is_split_by self.now ≡ is_some result }
+    {
+        match self {
+            Work::Cut(segmenter, style, Search::Plain) => {
+                Some(Printing::Segments(segmenter, *style))
+            }
+            Work::Cut(_, _, Search::Memoised) => None,
+            Work::Wrap(wrapper) => Some(Printing::Lines(wrapper)),
+        }
+    }
 }
 
 impl Job {

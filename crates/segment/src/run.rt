@@ -9,14 +9,15 @@ use segment_output::fault::Fault;
 use segment_output::found::{Found, Size, Tally};
 use segment_output::memo::print_by_memo;
 use segment_output::output::write_count;
-use segment_output::parts::print_parts;
+use segment_output::parts::{Splitting, print_parts};
 use std::alloc::Global;
 use std::io::{Read, Write};
 
 /// Does to what a reader has what a job says, and writes it: each segment on a line of its own, how many there are, with the numbers beside
-/// and the reader's name if it has one, or the wrapped lines. What is written doesn't depend on the engine. Where the plain engine cuts texts behind their
-/// line feeds, lines are written as they come. The errors are those of the reader and of the memoised engine, which are met before
-/// anything is written, but that of a reader after the lines that it gave, and of the writer.
+/// and the reader's name if it has one, or the wrapped lines. What is written doesn't depend on the engine. Where texts may be split behind their
+/// line feeds, lines are written as they come, and paragraphs where their lines are joined. The errors are those of the reader and of the
+/// memoised engine, which are met before anything is written, but that of a reader after the lines or paragraphs that it gave, and of the
+/// writer.
 pub fn run<I: Read, O: Write>(
     alloc: Global,
     job: &Job,
@@ -65,15 +66,19 @@ fn print_job<I: Read, O: Write>(
     ensures begun { IfErr result (λ fault. IsReadFault fault → (out.new ≡ out.old)
         ⊎ IsBegunBy job.now (I.remaining input.old) (I.remaining input.new) (O.contents out.old) (O.contents out.new)) }
 {
-    if let Work::Cut(segmenter, style, Search::Plain) = &job.work {
-        if job.preparation.is_none() && segmenter.has_parts() {
-            return print_parts(alloc, segmenter, *style, input, out);
-        }
+    if let Some(printing) = job.work.printing()
+        && printing.has_parts()
+    {
+        let splitting = Splitting {
+            printing,
+            preparation: job.preparation,
+        };
+        return print_parts(alloc, splitting, input, out);
     }
     print_whole(alloc, job, input, out)
 }
 
-// The same of all that a reader has at once.
+// Writes what `print_job` writes, of all that a reader has at once.
 fn print_whole<I: Read, O: Write>(
     alloc: Global,
     job: &Job,

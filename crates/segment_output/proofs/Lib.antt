@@ -4,8 +4,10 @@ pub mod Fields
 pub mod FoundByMemo
 pub mod Gathered
 pub mod JoinedCuts
+pub mod LineEnds
 pub mod LineFeeds
 pub mod MarkedPlaces
+pub mod Prepared
 pub mod Printed
 pub mod Segments
 pub mod ShownLines
@@ -13,4 +15,5 @@ pub mod ShownWide
 pub mod SplitText
 pub mod Stretches
 pub mod Words
+pub mod WrappedParts
 pub mod WrittenTokens

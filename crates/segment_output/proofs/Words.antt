@@ -37,10 +37,10 @@ word-stays line (byte ∷ bytes) = word-by line byte bytes (is_white_space byte)
 -- ---- white space goes on as far as it is
 
 -- what is written behind a word for all the white space there, and what follows
-abbrev shown_of : List ℕ → List ℕ → List ℕ → List ℕ
+abbrev pub shown_of : List ℕ → List ℕ → List ℕ → List ℕ
 shown_of line space bytes = joined_space line space bytes ++ joined_after (line_behind line space bytes) [] bytes
 
-abbrev IsSpaced : List ℕ → List ℕ → List ℕ → Type 0
+abbrev pub IsSpaced : List ℕ → List ℕ → List ℕ → Type 0
 IsSpaced line space bytes = joined_after line space bytes ≡ shown_of line (space ++ space_of bytes) (behind_space bytes)
 
 spaced-by : (line space : List ℕ) (byte : ℕ) (bytes : List ℕ) (is : Bool) → is_white_space byte ≡ is → IsSpaced line (space ++ byte ∷ []) bytes → IsSpaced line space (byte ∷ bytes)
@@ -50,7 +50,7 @@ spaced-by line space byte bytes true is later =
     (later ∙ ap (λ (whole : List ℕ). shown_of line whole (behind_space bytes)) (append_assoc space (byte ∷ []) (space_of bytes)))
 spaced-by line space byte bytes false is later = rw (is, append-nil space, is) refl
 
-spaced : (line space bytes : List ℕ) → IsSpaced line space bytes
+pub spaced : (line space bytes : List ℕ) → IsSpaced line space bytes
 unfolding joined_after
 spaced line space [] = rw (append-nil space, append-nil space) refl
 spaced line space (byte ∷ bytes) = spaced-by line space byte bytes (is_white_space byte) refl (spaced line (space ++ byte ∷ []) bytes)

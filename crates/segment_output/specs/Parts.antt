@@ -1,39 +1,99 @@
--- Texts that are cut part by part, as they come.
-use Rattle.std.specs.Prelude.{◌≡◌, ◌⊎◌, ℕ, ◌+◌, Option, List, ◌++◌, length}
+-- Texts that come part by part, and what is written of them.
+use Rattle.std.specs.Prelude.{◌≡◌, ◌⊎◌, ℕ, ◌+◌, ◌==◌, ◌||◌, Bool, true, false, Option, List, [], ◌∷◌, ◌++◌, length}
 use Rattle.std.specs.Io.KnownBytes.{Appends, Consumes}
+use Rattle.std.specs.List.{list_all}
+use Rattle.icu_segmenter.specs.Boundary.{Boundary}
 use Rattle.icu_segmenter.specs.Boundaries.{IsCover}
+use Rattle.icu_segmenter.specs.Decoding.{utf8}
+use Rattle.icu_segmenter.specs.LineBreaks.{line_boundaries_of}
 use Rattle.icu_segmenter.specs.NearBoundaries.{line_feed}
-use Rattle.segment_output.specs.Output.{lines_at, lines_of}
+use Rattle.icu_segmenter.specs.Rules.{PartsBehind}
+use Rattle.segment_output.specs.Output.{lines_at}
+use Rattle.segment_output.specs.Preparation.{prepared}
 use Rattle.segment_output.specs.Segmenter.{boundaries_by, segments_by}
 use Rattle.segment_output.specs.Size.{both_sizes, size_of}
-use Rattle.segment_output.specs.declared.output.Style.{Style}
+use Rattle.segment_output.specs.Wrapped.{Wrapping, wrapped_output, EndsLines}
+use Rattle.segment_output.specs.Wrapper.{wrapping_of}
+use Rattle.segment_output.specs.declared.parts.Printing.{Printing}
+use Rattle.segment_output.specs.declared.parts.Printing.TheVariants.{Segments, Lines}
 use Rattle.segment_output.specs.declared.parts.Progress.{Progress}
-use Rattle.segment_output.specs.declared.segmenter.Segmenter.{Segmenter}
+use Rattle.segment_output.specs.declared.parts.Splitting.{Splitting}
+
+-- ---- where a text is split
 
 -- whole lines: some bytes, of which the last is a line feed
 abbrev pub AreLines : List ℕ → Type 0
 AreLines bytes = (before : List ℕ) × (bytes ≡ before ++ line_feed)
 
--- a part of a text is cut and written: those of its segments come after those before it
-pub record IsPartWritten (segmenter : Segmenter) (style : Style) (part : List ℕ) (before after : Progress) (old new : Option (List ℕ)) : Type 0 where
-  pub cover : IsCover 0 (length part) (boundaries_by segmenter part)
+-- what a blank line has before its line feed: spaces, tabs and carriage returns
+abbrev pub is_blank : ℕ → Bool
+is_blank byte = byte == 0x20 || byte == 0x09 || byte == 0x0D
+
+-- whole paragraphs: lines, of which the last is blank
+abbrev pub AreParagraphs : List ℕ → Type 0
+AreParagraphs bytes = (before blanks : List ℕ) × (bytes ≡ (before ++ line_feed) ++ (blanks ++ line_feed)) × (list_all is_blank blanks ≡ true)
+
+-- a text is split behind whole lines, and behind whole paragraphs where their lines are joined
+abbrev pub AreWhole : Bool → List ℕ → Type 0
+AreWhole true bytes = AreParagraphs bytes
+AreWhole false bytes = AreLines bytes
+
+-- ---- what is written of a text
+
+-- where its segments or its lines may end
+abbrev pub boundaries_for : Printing → List ℕ → List Boundary
+boundaries_for (Segments segmenter style) bytes = boundaries_by segmenter.now bytes
+boundaries_for (Lines wrapper) bytes = line_boundaries_of (wrapping_of wrapper.now).lines (utf8 bytes)
+
+-- what is written of a text before which so many bytes stand: its segments with their places in all, or its wrapped lines
+abbrev pub printed_behind : Printing → ℕ → List ℕ → List ℕ
+printed_behind (Segments segmenter style) before bytes = lines_at style before bytes (segments_by segmenter.now bytes)
+printed_behind (Lines wrapper) before bytes = wrapped_output (wrapping_of wrapper.now) bytes
+
+-- how many segments are counted; lines aren't
+abbrev pub count_for : Printing → List ℕ → ℕ
+count_for (Segments segmenter style) bytes = length (segments_by segmenter.now bytes)
+count_for (Lines wrapper) bytes = 0
+
+-- may a text be split behind its line feeds, so that of each part is written what is written of it in the whole
+abbrev pub MayBeSplit : Printing → Type 0
+MayBeSplit (Segments segmenter style) = PartsBehind (boundaries_by segmenter.now) line_feed
+MayBeSplit (Lines wrapper) = PartsBehind (boundaries_for (Lines wrapper)) line_feed × EndsLines (wrapping_of wrapper.now).lines
+
+-- ---- parts as they come
+
+-- the text that is made of some bytes, what is written of it, and how many segments it has
+abbrev pub text_for : Splitting → List ℕ → List ℕ
+text_for splitting bytes = prepared splitting.preparation bytes
+
+abbrev pub output_for : Splitting → List ℕ → List ℕ
+output_for splitting bytes = printed_behind splitting.printing 0 (text_for splitting bytes)
+
+abbrev pub found_for : Splitting → List ℕ → ℕ
+found_for splitting bytes = count_for splitting.printing (text_for splitting bytes)
+
+-- a part is written behind those before it
+pub record IsPartWritten (splitting : Splitting) (part : List ℕ) (before after : Progress) (old new : Option (List ℕ)) : Type 0 where
+  pub cover : IsCover 0 (length (text_for splitting part)) (boundaries_for splitting.printing (text_for splitting part))
   pub size : after.size ≡ both_sizes before.size (size_of part)
-  pub count : after.segments ≡ before.segments + length (segments_by segmenter part)
-  pub written : Appends old new (lines_at style before.size.bytes part (segments_by segmenter part))
+  pub made : after.made ≡ before.made + length (text_for splitting part)
+  pub count : after.segments ≡ before.segments + found_for splitting part
+  pub written : Appends old new (printed_behind splitting.printing before.made (text_for splitting part))
 
--- a block has come: all up to its last line feed, with what was held before it, is cut and written, and what stands behind it is held;
--- where it has none it is held, and nothing is written
-abbrev pub IsAdded : Segmenter → Style → List ℕ → Progress → Progress → Type 0 → Option (List ℕ) → Option (List ℕ) → Type 0
-IsAdded segmenter style block before after IsUnwritten old new =
-    ((after.held.items ≡ before.held.items ++ block) × (after.size ≡ before.size) × (after.segments ≡ before.segments) × IsUnwritten)
-    ⊎ ((part : List ℕ) × AreLines part × (before.held.items ++ block ≡ part ++ after.held.items) × IsPartWritten segmenter style part before after old new)
+-- a block has come: all up to the last place where it may be split, with what was held before it, is written, and what stands behind it is held;
+-- where there is no such place it is held, and nothing is written
+abbrev pub IsAdded : Splitting → List ℕ → Progress → Progress → Type 0 → Option (List ℕ) → Option (List ℕ) → Type 0
+IsAdded splitting block before after IsUnwritten old new =
+    ((after.held.items ≡ before.held.items ++ block) × (after.size ≡ before.size) × (after.made ≡ before.made) × (after.segments ≡ before.segments) × IsUnwritten)
+    ⊎ ((part : List ℕ) × AreWhole splitting.preparation.joins part × (before.held.items ++ block ≡ part ++ after.held.items)
+    × IsPartWritten splitting part before after old new)
 
--- of a text that was read in part, whole lines, all is written that is written of them alone, and of the rest that was read nothing;
--- whatever comes after those lines, what is written of all begins so
-pub record IsBegun (segmenter : Segmenter) (style : Style) (from to old new : Option (List ℕ)) : Type 0 where
-  pub lines : List ℕ
+-- of a text that was read in part, whole lines or paragraphs, all is written that is written of them alone, and of the rest that was read nothing;
+-- whatever comes after them, what is written of all begins so
+pub record IsBegun (splitting : Splitting) (from to old new : Option (List ℕ)) : Type 0 where
+  pub parts : List ℕ
   pub rest : List ℕ
-  pub whole : AreLines lines
-  pub read : Consumes from to (lines ++ rest)
-  pub written : Appends old new (lines_of style lines (segments_by segmenter lines))
-  pub begins : (more : List ℕ) → (others : List ℕ) × (lines_of style (lines ++ more) (segments_by segmenter (lines ++ more)) ≡ lines_of style lines (segments_by segmenter lines) ++ others)
+  pub whole : AreWhole splitting.preparation.joins parts
+  pub read : Consumes from to (parts ++ rest)
+  pub written : Appends old new (output_for splitting parts)
+  pub begins : (more : List ℕ) → (others : List ℕ) × (output_for splitting (parts ++ more) ≡ output_for splitting parts ++ others)

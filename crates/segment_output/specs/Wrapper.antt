@@ -1,6 +1,7 @@
 -- How a wrapper wraps, and which one is asked for.
 use Rattle.std.specs.Prelude.{◌≡◌, Bool, Option, None, Some, if◌then◌else◌}
 use Rattle.std.specs.Option.{option_map}
+use Rattle.icu_segmenter.specs.Clusters.{owned_cluster_rules}
 use Rattle.icu_segmenter.specs.Lines.{owned_line_rules}
 use Rattle.icu_segmenter.specs.Rules.{Rules}
 use Rattle.icu_segmenter.specs.Rules.Rules.{ByMachine}
@@ -13,21 +14,18 @@ use Rattle.segment_output.specs.declared.segmenter.Engine.TheVariants as engine
 use Rattle.segment_output.specs.declared.wrapper.Width.{Width}
 use Rattle.segment_output.specs.declared.wrapper.Wrapper.{Wrapper}
 
--- how a wrapper wraps, where columns are counted by the clusters of these rules
-abbrev pub wrapping_by : Option Rules → Wrapper → Wrapping
-wrapping_by clusters wrapper = record {
+-- how a wrapper wraps
+abbrev pub wrapping_of : Wrapper → Wrapping
+wrapping_of wrapper = record {
   columns = wrapper.columns;
   lines = owned_line_rules wrapper.lines.lines;
   broken = option_map (λ clusters. owned_line_rules clusters.lines) wrapper.clusters;
-  measure = measure_by clusters;
+  measure = measure_by (option_map owned_cluster_rules wrapper.counted);
 }
 
 -- the clusters by which columns are counted, if they are: those of UAX #29
 abbrev pub counted_clusters : Bool → Option Rules
 counted_clusters by_cluster = if by_cluster then Some (ByMachine cluster_machine) else None
-
-abbrev pub wrapping_of : Wrapper → Wrapping
-wrapping_of wrapper = wrapping_by (counted_clusters wrapper.by_cluster) wrapper
 
 -- a wrapper is that to a width: over Unicode's data, with options of lines and the words of scripts; where words are broken, they are
 -- between clusters

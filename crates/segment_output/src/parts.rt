@@ -1,69 +1,141 @@
-//! Texts that are cut part by part, as they come.
-ghost use Rattle.std.specs.Prelude.{◌≡◌, ◌+◌, ◌++◌, ◌⊎◌, ◌<◌, ◌≤◌, length, take, IfErr, IfOk, IfSome, OnErr, OnOk};
+//! Texts of which is written part by part, as they come.
+ghost use Rattle.std.specs.Prelude.{◌≡◌, ◌+◌, ◌++◌, ◌⊎◌, ◌<◌, ◌≤◌, ⊥, length, take, IfErr, IfOk, IfSome, IsTrue, OnErr, OnOk};
+ghost use Rattle.std.specs.List.{list_all};
 ghost use Rattle.std.specs.Io.{ReadsAtMost};
 ghost use Rattle.std.specs.Io.KnownBytes.{Appends, Consumes, IsAtEnd, Keeps, ReadConsumes};
-ghost use Rattle.icu_segmenter.specs.NearBoundaries.{line_feed};
-ghost use Rattle.icu_segmenter.specs.Rules.{PartsBehind};
+ghost use Rattle.icu_segmenter.specs.Boundaries.{IsCover};
 ghost use Rattle.segment_output.specs.Fault.{IsReadFault};
-ghost use Rattle.segment_output.specs.Output.{lines_of};
-ghost use Rattle.segment_output.specs.Parts.{IsAdded, IsBegun, IsPartWritten};
-ghost use Rattle.segment_output.specs.Segmenter.{boundaries_by, segments_by};
-ghost use Rattle.segment_output.specs.Size.{size_of};
+ghost use Rattle.segment_output.specs.Parts.{AreLines, AreParagraphs, AreWhole, IsAdded, IsBegun, IsPartWritten, MayBeSplit, boundaries_for, count_for, found_for, is_blank, output_for, printed_behind};
+ghost use Rattle.segment_output.specs.Size.{both_sizes, size_of};
 
 use crate::fault::Fault;
 use crate::found::{Found, Size, Tally};
 use crate::output::{Part, Style};
+use crate::preparation::Preparation;
 use crate::segmenter::Segmenter;
+use crate::wrapper::Wrapper;
 use memchr::memrchr;
 use std::alloc::Global;
 use std::io;
 use std::io::{ErrorKind, Read, Write};
+use std::mem;
 
 // So many bytes are read at once, as many as a pipe holds.
 const BLOCK_LEN: usize = 65536;
 
-/// How far a text is cut.
+/// What is written of a text.
+#[derive(Clone, Copy)]
+pub enum Printing<'p> {
+    /// Its segments, in a style.
+    Segments(&'p Segmenter, Style),
+    /// Its wrapped lines.
+    Lines(&'p Wrapper),
+}
+
+/// What is done to a text that comes part by part.
+#[derive(Clone, Copy)]
+pub struct Splitting<'p> {
+    /// What is written.
+    pub printing: Printing<'p>,
+    /// What is done to each part first.
+    pub preparation: Preparation,
+}
+
+/// How far a text is written.
 #[derive(Drop)]
 pub struct Progress {
-    /// What has come and isn't cut: the beginning of a line.
+    /// What has come and isn't written: the beginning of a line, or of a paragraph.
     held: Vec<u8>,
-    /// How large what is cut is.
+    /// How large what is written is, as it came.
     size: Size,
-    /// How many segments they have.
+    /// How many bytes the text has that was made of it.
+    made: usize,
+    /// How many segments that has.
     segments: usize,
 }
 
-/// Writes the segments of what a reader has, by a segmenter that cuts texts part by part behind their line feeds: each time that a
-/// reader gives some bytes, the lines that end with them. It takes memory for the longest line. The errors are those of the reader,
-/// where whole lines of what it gave are written and nothing of the rest, and of the writer.
+impl<'p> Printing<'p> {
+    /// Whether a text may be split behind its line feeds, so that of each part is written what is written of it in the whole. It is so by
+    /// Unicode's machines. Takes no memory.
+    pub fn has_parts(self) -> bool
+        ensures { IsTrue result → MayBeSplit self.entry }
+    {
+        match self {
+            Printing::Segments(segmenter, _) => segmenter.has_parts(),
+            Printing::Lines(wrapper) => wrapper.has_parts(),
+        }
+    }
+
+    // The first boundary of a text is at its start, and the last at its end.
+    fn cover(self, text: &[u8])
+        ensures { IsCover 0 (length text.now) (boundaries_for self.entry text.now) }
+    {
+        match self {
+            Printing::Segments(segmenter, _) => segmenter.cover(text),
+            Printing::Lines(wrapper) => wrapper.cover(text),
+        }
+    }
+
+    /// Writes what is written of a part of a text, before which so many bytes stand, flushes, and says how many segments it has. The errors are
+    /// the writer's, and being out of memory.
+    pub fn print<O: Write>(
+        self,
+        alloc: Global,
+        text: &[u8],
+        before: usize,
+        out: &mut O,
+    ) -> io::Result<usize>
+        ensures { IfOk result (λ count. (count ≡ count_for self.entry text.now)
+            × Appends (O.contents out.old) (O.contents out.new) (printed_behind self.entry before text.now)) }
+    {
+        match self {
+            Printing::Segments(segmenter, style) => {
+                let part = Part {
+                    bytes: text,
+                    before,
+                    style,
+                };
+                segmenter.print_part(alloc, part, out)
+            }
+            Printing::Lines(wrapper) => {
+                wrapper.print(alloc, text, out)?;
+                Ok(0)
+            }
+        }
+    }
+}
+
+/// Writes what is written of a text that a reader has, split behind its line feeds or, where lines are joined, behind its blank lines: each time
+/// that the reader gives some bytes, the lines or paragraphs that end with them. It takes memory for the longest of them. The errors are
+/// those of the reader, where whole lines or paragraphs of what it gave are written and nothing of the rest, and of the writer.
 pub fn print_parts<I: Read, O: Write>(
     alloc: Global,
-    segmenter: &Segmenter,
-    style: Style,
+    splitting: Splitting<'_>,
     input: &mut I,
     out: &mut O,
 ) -> Result<Tally, Fault>
-    requires { PartsBehind (boundaries_by segmenter.now) line_feed }
+    requires { MayBeSplit splitting.entry.printing }
     ensures read_all { OnOk result (IsAtEnd (I.remaining input.new)) }
     ensures written { IfOk result (λ tally. IfSome (I.remaining input.old) (λ bytes.
-        (tally.found.segments ≡ length (segments_by segmenter.now bytes)) × (tally.found.lookups ≡ 0) × (tally.size ≡ size_of bytes)
-        × Appends (O.contents out.old) (O.contents out.new) (lines_of style bytes (segments_by segmenter.now bytes)))) }
+        (tally.found.segments ≡ found_for splitting.entry bytes) × (tally.found.lookups ≡ 0) × (tally.size ≡ size_of bytes)
+        × Appends (O.contents out.old) (O.contents out.new) (output_for splitting.entry bytes))) }
     ensures begun { IfErr result (λ fault. IsReadFault fault → (out.new ≡ out.old)
-        ⊎ IsBegun segmenter.now style (I.remaining input.old) (I.remaining input.new) (O.contents out.old) (O.contents out.new)) }
+        ⊎ IsBegun splitting.entry (I.remaining input.old) (I.remaining input.new) (O.contents out.old) (O.contents out.new)) }
 {
     let mut block = [0u8; BLOCK_LEN];
     let mut progress = Progress {
         held: Vec::new(alloc),
         size: Size { lines: 0, bytes: 0 },
+        made: 0,
         segments: 0,
     };
     'reads: for _ in 0..u64::MAX {
         let len = read_block(input, &mut block)?;
         if len == 0 {
-            return print_last(segmenter, style, &mut progress, out);
+            return print_last(splitting, &mut progress, out);
         }
         let (bytes, _) = block.split_at(len);
-        if let Err(fault) = add_block(segmenter, style, bytes, &mut progress, out) {
+        if let Err(fault) = add_block(splitting, bytes, &mut progress, out) {
             return Err(fault);
         }
     }
@@ -101,27 +173,66 @@ fn read_again<I: Read>(input: &mut I, block: &mut [u8]) -> io::Result<usize>
     Err(io::Error::from(ErrorKind::Interrupted))
 }
 
-// Adds a block that has come: where it has a line feed, all up to its last one is written.
+// Adds a block that has come: all up to the last place where it may be split is written.
 fn add_block<O: Write>(
-    segmenter: &Segmenter,
-    style: Style,
+    splitting: Splitting<'_>,
     block: &[u8],
     progress: &mut Progress,
     out: &mut O,
 ) -> Result<(), Fault>
-    ensures added { OnOk result (IsAdded segmenter.now style block.now progress.old progress.new (out.new ≡ out.old) (O.contents out.old) (O.contents out.new)) }
+    ensures added { OnOk result (IsAdded splitting.entry block.now progress.old progress.new (out.new ≡ out.old) (O.contents out.old) (O.contents out.new)) }
     ensures unwritten { IfErr result (λ fault. IsReadFault fault → out.new ≡ out.old) }
 {
-    let Some(last) = memrchr(b'\n', block) else {
+    let Some(len) = whole_len(splitting.preparation.joins, block) else {
         return hold(block, &mut progress.held);
     };
-    let (lines, rest) = block.split_at(last + 1);
-    hold(lines, &mut progress.held)?;
+    let (whole, rest) = block.split_at(len);
+    hold(whole, &mut progress.held)?;
     let mut next = Vec::new(*progress.held.allocator());
     hold(rest, &mut next)?;
-    print_held(segmenter, style, progress, out)?;
-    progress.held = next;
-    Ok(())
+    let part = mem::replace(&mut progress.held, next);
+    print_part(splitting, part, progress, out)
+}
+
+// How many bytes of a block come before the last place where a text may be split, if it has one.
+fn whole_len(joins: bool, block: &[u8]) -> Option<usize>
+    ensures { IfSome result (λ len. (len ≤ length block.now) × AreWhole joins (take len block.now)) }
+{
+    if joins {
+        paragraphs_len(block)
+    } else {
+        lines_len(block)
+    }
+}
+
+// How many bytes whole lines have.
+fn lines_len(block: &[u8]) -> Option<usize>
+    ensures { IfSome result (λ len. (len ≤ length block.now) × AreLines (take len block.now)) }
+{
+    let last = memrchr(b'\n', block)?;
+    Some(last + 1)
+}
+
+// How many bytes whole paragraphs have: up to the last blank line whose line before has its line feed in the block.
+fn paragraphs_len(block: &[u8]) -> Option<usize>
+    ensures { IfSome result (λ len. (len ≤ length block.now) × AreParagraphs (take len block.now)) }
+{
+    let mut end = memrchr(b'\n', block)?;
+    'lines: loop {
+        let last = memrchr(b'\n', &block[..end])?;
+        if is_blank_line(&block[last + 1..end]) {
+            return Some(end + 1);
+        }
+        end = last;
+    }
+}
+
+// Whether a line, without its line feed, is blank.
+fn is_blank_line(line: &[u8]) -> bool
+    ensures { result ≡ list_all is_blank line.now }
+{
+    line.iter()
+        .all(|byte| *byte == b' ' || *byte == b'\t' || *byte == b'\r')
 }
 
 // Adds bytes to those that are held.
@@ -132,18 +243,19 @@ fn hold(bytes: &[u8], held: &mut Vec<u8>) -> Result<(), Fault>
         .map_err(|_| Fault::MemoryBefore)
 }
 
-// Writes the segments of what is held, which is the text's last part.
+// Writes what is held, which is the text's last part.
 fn print_last<O: Write>(
-    segmenter: &Segmenter,
-    style: Style,
+    splitting: Splitting<'_>,
     progress: &mut Progress,
     out: &mut O,
 ) -> Result<Tally, Fault>
     ensures written { IfOk result (λ tally. (tally.found.segments ≡ progress.new.segments) × (tally.found.lookups ≡ 0) × (tally.size ≡ progress.new.size)
-        × IsPartWritten segmenter.now style progress.old.held.items progress.old progress.new (O.contents out.old) (O.contents out.new)) }
-    ensures only { IfErr result (λ fault. IsReadFault fault → ⊥) }
+        × IsPartWritten splitting.entry progress.old.held.items progress.old progress.new (O.contents out.old) (O.contents out.new)) }
+    ensures unwritten { IfErr result (λ fault. IsReadFault fault → out.new ≡ out.old) }
 {
-    print_held(segmenter, style, progress, out)?;
+    let nothing = Vec::new(*progress.held.allocator());
+    let part = mem::replace(&mut progress.held, nothing);
+    print_part(splitting, part, progress, out)?;
     let found = Found {
         segments: progress.segments,
         lookups: 0,
@@ -154,35 +266,49 @@ fn print_last<O: Write>(
     })
 }
 
-// Writes the segments of what is held, as a part of the text. The errors are the writer's, and being out of memory.
-fn print_held<O: Write>(
-    segmenter: &Segmenter,
-    style: Style,
+// Writes what is written of a part of the text. The errors are the writer's, and being out of memory.
+fn print_part<O: Write>(
+    splitting: Splitting<'_>,
+    part: Vec<u8>,
     progress: &mut Progress,
     out: &mut O,
 ) -> Result<(), Fault>
-    ensures written { OnOk result (IsPartWritten segmenter.now style progress.old.held.items progress.old progress.new (O.contents out.old) (O.contents out.new)) }
+    ensures written { OnOk result (IsPartWritten splitting.entry part.items progress.old progress.new (O.contents out.old) (O.contents out.new)) }
     ensures held { progress.new.held ≡ progress.old.held }
-    ensures only { IfErr result (λ fault. IsReadFault fault → ⊥) }
+    ensures unwritten { IfErr result (λ fault. IsReadFault fault → out.new ≡ out.old) }
 {
-    let alloc = *progress.held.allocator();
-    let bytes = progress.held.as_slice();
-    segmenter.cover(bytes);
-    let part = Part {
-        bytes,
-        before: progress.size.bytes,
-        style,
+    let alloc = *part.allocator();
+    let size = Size::of(part.as_slice());
+    let Ok(text) = splitting.preparation.apply(alloc, part) else {
+        return Err(Fault::MemoryBefore);
     };
-    let count = segmenter
-        .print_part(alloc, part, out)
+    splitting.printing.cover(text.as_slice());
+    let segments = splitting
+        .printing
+        .print(alloc, text.as_slice(), progress.made, out)
         .map_err(Fault::of_writing)?;
-    let Some(size) = progress.size.checked_add(Size::of(bytes)) else {
-        return Err(Fault::MemoryAmid);
-    };
-    let Some(segments) = progress.segments.checked_add(count) else {
-        return Err(Fault::MemoryAmid);
-    };
-    progress.size = size;
-    progress.segments = segments;
-    Ok(())
+    progress.count(size, text.len(), segments)
+}
+
+impl Progress {
+    // Counts a part more. The error is that no `usize` counts all.
+    fn count(&mut self, size: Size, made: usize, segments: usize) -> Result<(), Fault>
+        ensures size { OnOk result (self.new.size ≡ both_sizes self.old.size size) }
+        ensures made { OnOk result (self.new.made ≡ self.old.made + made) }
+        ensures segments { OnOk result (self.new.segments ≡ self.old.segments + segments) }
+        ensures held { self.new.held ≡ self.old.held }
+        ensures only { IfErr result (λ fault. IsReadFault fault → ⊥) }
+    {
+        let (Some(size), Some(made), Some(segments)) = (
+            self.size.checked_add(size),
+            self.made.checked_add(made),
+            self.segments.checked_add(segments),
+        ) else {
+            return Err(Fault::MemoryAmid);
+        };
+        self.size = size;
+        self.made = made;
+        self.segments = segments;
+        Ok(())
+    }
 }

@@ -1,6 +1,6 @@
 //! What is done to a text before its segments or its wrapped lines are found.
 ghost use Rattle.std.specs.Prelude.{◌≡◌, IfOk};
-ghost use Rattle.segment_output.specs.Preparation.{is_unchanged, prepared};
+ghost use Rattle.segment_output.specs.Preparation.{prepared};
 
 use crate::joined::join_lines;
 use crate::tabs::expand_tabs;
@@ -16,13 +16,6 @@ pub struct Preparation {
 }
 
 impl Preparation {
-    /// Whether a text stays as it is.
-    pub fn is_none(self) -> bool
-        ensures { result ≡ is_unchanged self }
-    {
-        self.tabs.is_none() && !self.joins
-    }
-
     /// The text after it. Fails only when out of memory.
     pub fn apply(self, alloc: Global, text: Vec<u8>) -> Result<Vec<u8>, AllocError>
         ensures { IfOk result (λ made. made.items ≡ prepared self text.items) }

@@ -2,7 +2,7 @@
 ghost use Rattle.std.specs.Prelude.{◌≡◌, ◌++◌, OnOk};
 ghost use Rattle.icu_segmenter.specs.Wrapping.{is_trailing_space};
 ghost use Rattle.icu_segmenter.specs.WrappedLines.{utf8_lines_to_come};
-ghost use Rattle.segment_output.specs.Wrapped.{printed_line, printed_lines, without_trailing_space};
+ghost use Rattle.segment_output.specs.Wrapped.{is_signature, printed_line, printed_lines, without_trailing_space};
 
 use icu_segmenter::wrap::WrapUtf8Iterator;
 use std::alloc::AllocError;
@@ -17,12 +17,25 @@ pub fn push_lines(lines: WrapUtf8Iterator<'_, '_>, gathered: &mut Vec<u8>) -> Re
     Ok(())
 }
 
-/// Adds a line. Fails only when out of memory.
+/// Adds a line without its trailing white space, but the space of one that parts a signature off (`-- `), and a line feed. Fails only when
+/// out of memory.
 pub fn push_line(line: &[u8], gathered: &mut Vec<u8>) -> Result<(), AllocError>
     ensures { OnOk result (gathered.new.items ≡ gathered.old.items ++ printed_line line.now) }
 {
-    gathered.extend_from_slice(without_trailing_space(line))?;
+    let shown = if is_signature(line) {
+        b"-- "
+    } else {
+        without_trailing_space(line)
+    };
+    gathered.extend_from_slice(shown)?;
     gathered.extend_from_slice(b"\n")
+}
+
+// Whether this line parts a signature off.
+fn is_signature(line: &[u8]) -> bool
+    ensures { result ≡ is_signature line.now }
+{
+    line == b"-- \n" || line == b"-- \r\n"
 }
 
 /// A line without its trailing white space.

@@ -1,18 +1,23 @@
 //! Lines, wrapped to columns.
-ghost use Rattle.std.specs.Prelude.{◌≡◌, ◌++◌, Some, IfOk, OnOk};
+ghost use Rattle.std.specs.Prelude.{◌≡◌, ◌++◌, length, Some, IfOk, IsTrue, OnOk};
 ghost use Rattle.std.specs.Option.{option_map};
 ghost use Rattle.std.specs.Io.KnownBytes.{Appends};
-ghost use Rattle.icu_segmenter.specs.Clusters.{cluster_rules};
+ghost use Rattle.icu_segmenter.specs.Boundaries.{IsCover};
+ghost use Rattle.icu_segmenter.specs.Clusters.{cluster_rules, owned_cluster_rules};
+ghost use Rattle.icu_segmenter.specs.Decoding.{utf8};
+ghost use Rattle.icu_segmenter.specs.LineBreaks.{line_boundaries_of};
 ghost use Rattle.icu_segmenter.specs.Lines.{owned_line_rules};
+ghost use Rattle.icu_segmenter.specs.NearBoundaries.{line_feed};
+ghost use Rattle.icu_segmenter.specs.Rules.{PartsBehind};
 ghost use Rattle.icu_segmenter.specs.ScriptWords.{script_words};
 ghost use Rattle.icu_segmenter.specs.WrappedLines.{utf8_line_in, utf8_lines_to_come, wrapper_measure, wrapper_rules};
-ghost use Rattle.segment_output.specs.Wrapped.{cluster_lines, printed_lines, shown_as, shown_line, shown_lines, wrapped_output};
-ghost use Rattle.segment_output.specs.Wrapper.{wrapping_by, wrapping_of, IsAskedWrapper};
+ghost use Rattle.segment_output.specs.Wrapped.{EndsLines, cluster_lines, printed_lines, shown_as, shown_line, shown_lines, wrapped_output};
+ghost use Rattle.segment_output.specs.Wrapper.{wrapping_of, IsAskedWrapper};
 
 use crate::machine_lines::MachineLines;
 use crate::output::{LINES_CAPACITY, LINES_LEN, write_lines};
 use crate::wrapped::{push_line, push_lines, without_trailing_space};
-use icu_segmenter::GraphemeClusterSegmenterBorrowed;
+use icu_segmenter::{GraphemeClusterSegmenter, GraphemeClusterSegmenterBorrowed};
 use icu_segmenter::options::{LineBreakOptions, LineBreakStrictness};
 use icu_segmenter::provider::{DataError, Dictionaries};
 use icu_segmenter::wrap::{LineWrapper, WrapUtf8Iterator, WrappedUtf8Line};
@@ -37,8 +42,8 @@ pub struct Width {
 pub struct Wrapper {
     /// The columns that a line has at most.
     columns: usize,
-    /// Whether they are counted by cluster.
-    by_cluster: bool,
+    /// The clusters by which they are counted; by character where there are none.
+    counted: Option<GraphemeClusterSegmenter>,
     /// What finds where a line may end.
     lines: MachineLines,
     /// What finds it in a line that is wider, where such lines are broken: at each cluster.
@@ -51,42 +56,33 @@ impl Wrapper {
     pub fn print<O: Write>(&self, alloc: Global, text: &[u8], out: &mut O) -> io::Result<()>
         ensures { OnOk result (Appends (O.contents out.old) (O.contents out.new) (wrapped_output (wrapping_of self.now) text.now)) }
     {
-        if !self.by_cluster {
-            return self.print_by(alloc, None, text, out);
-        }
-        let Ok(clusters) = grapheme_segmenter(alloc) else {
-            return Err(io::Error::from(AllocError));
-        };
-        self.print_by(alloc, Some(clusters.as_borrowed()), text, out)
+        let counted = self.counted_clusters();
+        let wrapper = self.lines.wrapper(counted);
+        self.print_all(alloc, wrapper.wrap_utf8(text, self.columns), out)
     }
 
-    // The same, where columns are counted by these clusters, or by character where there are none.
-    fn print_by<O: Write>(
-        &self,
-        alloc: Global,
-        clusters: Option<GraphemeClusterSegmenterBorrowed<'_>>,
-        text: &[u8],
-        out: &mut O,
-    ) -> io::Result<()>
-        ensures { OnOk result (Appends (O.contents out.old) (O.contents out.new) (wrapped_output (wrapping_by (option_map cluster_rules clusters.entry) self.now) text.now)) }
+    // The clusters by which columns are counted, if they are.
+    fn counted_clusters(&self) -> Option<GraphemeClusterSegmenterBorrowed<'_>>
+        ensures { option_map cluster_rules result ≡ option_map owned_cluster_rules self.now.counted }
     {
-        let wrapper = self.lines.wrapper(clusters);
-        self.print_all(alloc, clusters, wrapper.wrap_utf8(text, self.columns), out)
+        match &self.counted {
+            Some(clusters) => Some(clusters.as_borrowed()),
+            None => None,
+        }
     }
 
     // Writes each line that comes as it is shown, and flushes.
     fn print_all<O: Write>(
         &self,
         alloc: Global,
-        clusters: Option<GraphemeClusterSegmenterBorrowed<'_>>,
         lines: WrapUtf8Iterator<'_, '_>,
         out: &mut O,
     ) -> io::Result<()>
-        ensures { OnOk result (Appends (O.contents out.old) (O.contents out.new) (shown_lines (wrapping_by (option_map cluster_rules clusters.entry) self.now) (utf8_lines_to_come lines.entry))) }
+        ensures { OnOk result (Appends (O.contents out.old) (O.contents out.new) (shown_lines (wrapping_of self.now) (utf8_lines_to_come lines.entry))) }
     {
         let mut gathered = Vec::with_capacity(alloc, LINES_CAPACITY)?;
         for line in lines {
-            self.push_shown(clusters, line, &mut gathered)?;
+            self.push_shown(line, &mut gathered)?;
             if gathered.len() >= LINES_LEN {
                 write_lines(&mut gathered, out)?;
             }
@@ -98,18 +94,34 @@ impl Wrapper {
     // Adds a line as it is shown.
     fn push_shown(
         &self,
-        counted: Option<GraphemeClusterSegmenterBorrowed<'_>>,
         line: WrappedUtf8Line<'_>,
         gathered: &mut Vec<u8>,
     ) -> Result<(), AllocError>
-        ensures { OnOk result (gathered.new.items ≡ gathered.old.items ++ shown_line (wrapping_by (option_map cluster_rules counted.entry) self.now) (utf8_line_in line.entry)) }
+        ensures { OnOk result (gathered.new.items ≡ gathered.old.items ++ shown_line (wrapping_of self.now) (utf8_line_in line.entry)) }
     {
         match &self.clusters {
             Some(clusters) => {
-                push_broken(line, clusters.wrapper(counted), self.columns, gathered)
+                let wrapper = clusters.wrapper(self.counted_clusters());
+                push_broken(line, wrapper, self.columns, gathered)
             }
             None => push_line(line.bytes(), gathered),
         }
+    }
+
+    /// Whether a text may be wrapped part by part, each behind a line feed: the lines of the parts are those of the whole text. It is so by
+    /// the rules of lines, and not where a line may break before any cluster, since there none must end. Takes no memory.
+    pub fn has_parts(&self) -> bool
+        ensures parts { IsTrue result → PartsBehind (λ bytes. line_boundaries_of (wrapping_of self.now).lines (utf8 bytes)) line_feed }
+        ensures ends { IsTrue result → EndsLines (wrapping_of self.now).lines }
+    {
+        self.lines.has_parts()
+    }
+
+    /// The first place where a line of a text may break is at its start, and the last at its end. Takes no memory.
+    pub fn cover(&self, text: &[u8])
+        ensures { IsCover 0 (length text.now) (line_boundaries_of (wrapping_of self.now).lines (utf8 text.now)) }
+    {
+        self.lines.cover(text);
     }
 }
 
@@ -140,6 +152,11 @@ pub fn wrapper_of(
 ) -> Result<Wrapper, DataError>
     ensures { IfOk result (λ wrapper. IsAskedWrapper width options.entry (script_words dictionaries) wrapper) }
 {
+    let counted = if width.by_cluster {
+        Some(grapheme_segmenter(alloc)?)
+    } else {
+        None
+    };
     let clusters = if width.breaks_words {
         Some(cluster_lines(alloc)?)
     } else {
@@ -147,7 +164,7 @@ pub fn wrapper_of(
     };
     Ok(Wrapper {
         columns: width.columns,
-        by_cluster: width.by_cluster,
+        counted,
         lines: MachineLines::try_new(alloc, options, dictionaries)?,
         clusters,
     })

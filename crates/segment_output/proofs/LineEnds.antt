@@ -1,0 +1,109 @@
+-- By the machine of UAX #14 a line must end at the end of each text.
+use Rattle.std.proofs.Common.{◌≡◌, ℕ, ◌+◌, ◌==◌, ◌⊎◌, inl, inr, Bool, true, false, nat_lt, List, [], ◌∷◌, ◌++◌, length, drop, map, refl, sym, ap, ap₂, subst, ◌∙◌, arith, append-nil}
+use Rattle.std.specs.Prelude.{if◌then◌else◌, ◌↔◌}
+use Rattle.std.specs.List.{Contains}
+use Rattle.std.proofs.lemmas.List.{drop_all, length-map}
+use Rattle.seg_text.specs.declared.boundary.Boundary.{Boundary}
+use Rattle.seg_text.specs.Boundaries.{boundary, boundary_in}
+use Rattle.seg_text.specs.Decoding.{read_utf8, utf8, utf8_items}
+use Rattle.seg_text.specs.Items.{Item, Text, code_points, place_of, rest_after, start_of}
+use Rattle.seg_text.specs.Lemmas.Utf8Stable.{read_utf8-stable}
+use Rattle.seg_machine.specs.Machine.{Machine}
+use Rattle.seg_machine.specs.Pick.{machine_boundaries}
+use Rattle.seg_clusters.proofs.Encoded.{utf8-apart}
+use Rattle.seg_clusters.proofs.SplitItems.{codes-end}
+use Rattle.seg_clusters.specs.Payloads.{Payloads}
+use Rattle.seg_clusters.specs.Spans.{inner_cuts}
+use Rattle.seg_lines.specs.LineBreaks.{LineFinder, LineRules, boundaries_with, joined, line_boundaries_by, with_cut}
+use Rattle.seg_lines.specs.LineBreaks.LineFinder.{ByMachine}
+use Rattle.seg_lines.specs.Lines.{chosen_finder}
+use Rattle.seg_lines.specs.Options.{machine_for}
+use Rattle.seg_line_rules.specs.declared.options.LineBreakStrictness.{LineBreakStrictness}
+use Rattle.seg_line_rules.specs.declared.options.LineBreakStrictness.TheVariants as strictness
+use Rattle.seg_line_rules.specs.declared.options.LineBreakWordOption.{LineBreakWordOption}
+use Rattle.seg_line_rules.specs.declared.options.LineBreakWordOption.TheVariants as words
+use Rattle.icu_segmenter.specs.NearBoundaries.{line_feed}
+use Rattle.icu_segmenter_uax14.specs.Lines.{line_machine, line_tailorings}
+use Rattle.icu_segmenter_uax14.specs.Neighbours.{BreaksWith}
+use Rattle.icu_segmenter_uax14.specs.Tailored.{Tailoring, machine_by}
+use Rattle.icu_segmenter_uax14.specs.Tailored.Tailoring.{Untailored, BreakAll, KeepAll, JaLoose, Loose, JaNormal, Normal, Ja}
+use Rattle.segment_output.specs.Wrapped.{EndsLines, IsByLineMachine}
+use Rattle.segment_output.proofs.WrappedParts.{In, in-from, in-to}
+
+-- ---- cuts leave each boundary where it is
+
+with-keeps : (cut : ℕ) (boundaries : List Boundary) (one : Boundary) → In boundaries one → In (with_cut cut boundaries) one
+with-keeps cut [] one is = absurd is
+with-keeps cut (found ∷ boundaries) one is = on (nat_lt cut found.offset) (cut == found.offset) is
+  where
+    on : (before here : Bool) → In (found ∷ boundaries) one
+        → In (if before then boundary cut 0 ∷ found ∷ boundaries else (if here then found ∷ boundaries else found ∷ with_cut cut boundaries)) one
+    on true here is = inr is
+    on false true is = is
+    on false false (inl is) = inl is
+    on false false (inr is) = inr (with-keeps cut boundaries one is)
+
+joined-keeps : (boundaries : List Boundary) (cuts : List ℕ) (one : Boundary) → In boundaries one → In (joined boundaries cuts) one
+joined-keeps boundaries [] one is = is
+joined-keeps boundaries (cut ∷ cuts) one is = with-keeps cut (joined boundaries cuts) one (joined-keeps boundaries cuts one is)
+
+in-map : (f : Boundary → Boundary) (boundaries : List Boundary) (one : Boundary) → In boundaries one → In (map f boundaries) (f one)
+in-map f [] one is = absurd is
+in-map f (found ∷ boundaries) one (inl is) = inl (ap f is)
+in-map f (found ∷ boundaries) one (inr is) = inr (in-map f boundaries one is)
+
+-- ---- the end of a text is a place behind all its code points
+
+end-place : (items : List Item) (end count : ℕ) → count ≡ length (code_points items) → place_of (drop count items) end ≡ end
+end-place items end count is =
+    let all : length items ≡ count = sym (is ∙ length-map items (λ (item : Item). item.1)) in
+    ap (λ (items : List Item). place_of items end) (drop_all count items (omega (arith, all)))
+
+pub ends-lines : (rules : LineRules) → IsByLineMachine rules.finder
+    → ((tailoring : Tailoring) (before : List ℕ) (last status : ℕ) → BreaksWith tailoring status (before ++ last ∷ []) [] ↔ (status ≡ 1)) → EndsLines rules
+unfolding utf8_items
+ends-lines rules (tailoring, is) law before = in-from _ _ ended
+  where
+    unfolding utf8_items
+    front : (front : List ℕ) × (code_points (utf8_items 0 (before ++ line_feed)) ≡ front ++ 0x0A ∷ [])
+    front = codes-end read_utf8 read_utf8-stable (0x0A ∷ []) 0x0A (utf8-apart 0x0A refl) before
+
+    codes : List ℕ
+    codes = code_points (utf8_items 0 (before ++ line_feed))
+
+    by-machine : In (machine_boundaries (machine_by tailoring) codes) (boundary (length codes) 1)
+    by-machine =
+        rw front.1
+        (subst (λ (cs : List ℕ). In (machine_boundaries (machine_by tailoring) cs) (boundary (length (front.0 ++ 0x0A ∷ [])) 1)) (append-nil (front.0 ++ 0x0A ∷ []))
+        (in-to _ _ ((law tailoring front.0 0x0A 1).1 refl)))
+
+    by-rules : In (line_boundaries_by rules codes) (boundary (length codes) 1)
+    by-rules =
+        subst (λ (finder : LineFinder). In (boundaries_with finder rules.payloads codes) (boundary (length codes) 1)) (sym is)
+        (joined-keeps (machine_boundaries (machine_by tailoring) codes) (inner_cuts (machine_by tailoring) rules.payloads codes) (boundary (length codes) 1) by-machine)
+
+    text : Text
+    text = utf8 (before ++ line_feed)
+
+    here : boundary_in text (boundary (length codes) 1) ≡ boundary (length (before ++ line_feed)) 1
+    here =
+        let end : 0 + length (before ++ line_feed) ≡ length (before ++ line_feed) = omega arith in
+        ap (λ (place : ℕ). boundary place 1) (end-place (utf8_items 0 (before ++ line_feed)) (0 + length (before ++ line_feed)) (length codes) refl ∙ end)
+
+    ended : In (map (boundary_in text) (line_boundaries_by rules codes)) (boundary (length (before ++ line_feed)) 1)
+    ended = subst (In (map (boundary_in text) (line_boundaries_by rules codes))) here (in-map (boundary_in text) (line_boundaries_by rules codes) (boundary (length codes) 1) by-rules)
+
+-- ---- options choose the machine or a tailoring of it, unless lines may break anywhere
+
+pub chosen : (word_option : LineBreakWordOption) (strictness : LineBreakStrictness) (is_ja_or_zh : Bool) → (strictness ≡ strictness.Anywhere → ⊥)
+    → IsByLineMachine (chosen_finder line_machine line_tailorings (machine_for word_option strictness is_ja_or_zh))
+unfolding line_tailorings
+chosen words.BreakAll strictness is_ja_or_zh by_rules = (BreakAll, refl)
+chosen words.KeepAll strictness is_ja_or_zh by_rules = (KeepAll, refl)
+chosen words.Normal strictness.Anywhere is_ja_or_zh by_rules = absurd (by_rules refl)
+chosen words.Normal strictness.Loose true by_rules = (JaLoose, refl)
+chosen words.Normal strictness.Loose false by_rules = (Loose, refl)
+chosen words.Normal strictness.Normal true by_rules = (JaNormal, refl)
+chosen words.Normal strictness.Normal false by_rules = (Normal, refl)
+chosen words.Normal strictness.Strict true by_rules = (Ja, refl)
+chosen words.Normal strictness.Strict false by_rules = (Untailored, refl)
