@@ -4,7 +4,7 @@ use Rattle.std.proofs.KnownBytes.{Appends-trans}
 use Rattle.std.specs.Io.KnownBytes.{Appends}
 use Rattle.segment_output.specs.Fault.{IsBeforeWriting, IsReadFault}
 use Rattle.segment_output.specs.Output.{count_line}
-use Rattle.segment_output.specs.Output.{lines_at}
+use Rattle.segment_output.specs.Output.{Look, lines_at}
 use Rattle.segment_output.specs.Parts.{IsBegun, count_for, found_for, output_for, printed_behind, text_for}
 use Rattle.segment_output.specs.Preparation.{prepared}
 use Rattle.segment_output.specs.Segmenter.{segments_by}
@@ -12,7 +12,7 @@ use Rattle.segment_output.specs.Wrapped.{wrapped_output}
 use Rattle.segment_output.specs.Wrapper.{wrapping_of}
 use Rattle.segment_output.proofs.JoinedCuts.{lines-at_zero}
 use Rattle.segment_output.specs.Size.{size_of}
-use Rattle.segment.specs.Job.{count_by, numbers_of, output_of, printed_by, text_of, work_output, IsBegunBy, IsDoneBy, IsFound, IsPrintingOf, IsTally}
+use Rattle.segment.specs.Job.{count_by, numbers_of, output_of, printed_by, said_by, text_of, work_output, IsBegunBy, IsDoneBy, IsFound, IsPrintingOf, IsTally}
 use Rattle.segment_output.specs.declared.fault.Fault.{Fault}
 use Rattle.segment_output.specs.declared.fault.Fault.TheVariants.{Read, MemoryBefore, Memo, Write, MemoryAmid}
 use Rattle.segment_output.specs.declared.found.Found.{Found}
@@ -38,37 +38,37 @@ count-is (Wrap wrapper) text found is = is.0
 
 module _ (job : Job) (name : Option (List ℕ)) where
   counted : (bytes : List ℕ) (old mid new : Option (List ℕ)) (numbers : Numbers) (tally : Tally) → numbers_of job.work ≡ Some numbers → IsTally job bytes tally
-      → Appends old mid (printed_by job bytes) → Appends mid new (count_line numbers tally.found.segments tally.size name) → Appends old new (output_of job name bytes)
+      → Appends old mid (printed_by job (said_by job name) bytes) → Appends mid new (count_line numbers tally.found.segments tally.size name) → Appends old new (output_of job name bytes)
   counted bytes old mid new numbers tally is are printed after =
       rw is
-      (Appends-trans old mid new (printed_by job bytes) (count_line numbers (count_by job.work (text_of job bytes)) (size_of bytes) name) printed
+      (Appends-trans old mid new (printed_by job (said_by job name) bytes) (count_line numbers (count_by job.work (text_of job bytes)) (size_of bytes) name) printed
       (subst (λ (size : Size). Appends mid new (count_line numbers (count_by job.work (text_of job bytes)) size name)) are.1
       (subst (λ (segments : ℕ). Appends mid new (count_line numbers segments tally.size name)) (count-is job.work (text_of job bytes) tally.found are.0) after)))
 
   -- where it is known what was read
   pub counted-of : (read old mid new : Option (List ℕ)) (numbers : Numbers) (tally : Tally) → numbers_of job.work ≡ Some numbers
-      → IfSome read (λ bytes. IsTally job bytes tally × Appends old mid (printed_by job bytes)) → Appends mid new (count_line numbers tally.found.segments tally.size name)
+      → IfSome read (λ bytes. IsTally job bytes tally × Appends old mid (printed_by job (said_by job name) bytes)) → Appends mid new (count_line numbers tally.found.segments tally.size name)
       → IfSome read (λ bytes. IsTally job bytes tally × Appends old new (output_of job name bytes))
   counted-of None old mid new numbers tally is printed after = tt
   counted-of (Some bytes) old mid new numbers tally is printed after = (printed.0, counted bytes old mid new numbers tally is printed.0 printed.1 after)
 
   -- where they aren't counted
   pub uncounted-of : (read old new : Option (List ℕ)) (tally : Tally) → numbers_of job.work ≡ None
-      → IfSome read (λ bytes. IsTally job bytes tally × Appends old new (printed_by job bytes))
+      → IfSome read (λ bytes. IsTally job bytes tally × Appends old new (printed_by job (said_by job name) bytes))
       → IfSome read (λ bytes. IsTally job bytes tally × Appends old new (output_of job name bytes))
   uncounted-of None old new tally is printed = tt
-  uncounted-of (Some bytes) old new tally is printed = (printed.0, rw (is, append-nil (printed_by job bytes)) printed.1)
+  uncounted-of (Some bytes) old new tally is printed = (printed.0, rw (is, append-nil (printed_by job (said_by job name) bytes)) printed.1)
 
 -- what is read is the whole text
-pub whole-found : (job : Job) (read : Option (List ℕ)) (text seen made shown : List ℕ) (size : Size) (old new : Option (List ℕ)) (found : Found)
+pub whole-found : (job : Job) (file : Option (List ℕ)) (read : Option (List ℕ)) (text seen made shown : List ℕ) (size : Size) (old new : Option (List ℕ)) (found : Found)
     → IfSome read (λ bytes. text ≡ bytes) → seen ≡ text → size ≡ size_of seen → made ≡ text_of job text → shown ≡ made
-    → IsFound job.work shown found × Appends old new (work_output job.work shown)
-    → IfSome read (λ bytes. IsTally job bytes (record { found = found; size = size }) × Appends old new (printed_by job bytes))
-whole-found job None text seen made shown size old new found same is-seen is-size is-made is-shown printed = tt
-whole-found job (Some bytes) text seen made shown size old new found same is-seen is-size is-made is-shown printed =
+    → IsFound job.work shown found × Appends old new (work_output job.work file shown)
+    → IfSome read (λ bytes. IsTally job bytes (record { found = found; size = size }) × Appends old new (printed_by job file bytes))
+whole-found job file None text seen made shown size old new found same is-seen is-size is-made is-shown printed = tt
+whole-found job file (Some bytes) text seen made shown size old new found same is-seen is-size is-made is-shown printed =
     let is : shown ≡ text_of job bytes = is-shown ∙ is-made ∙ ap (λ (text : List ℕ). text_of job text) same in
-    let both : IsFound job.work (text_of job bytes) found × Appends old new (work_output job.work (text_of job bytes)) =
-    subst (λ (text : List ℕ). IsFound job.work text found × Appends old new (work_output job.work text)) is printed in
+    let both : IsFound job.work (text_of job bytes) found × Appends old new (work_output job.work file (text_of job bytes)) =
+    subst (λ (text : List ℕ). IsFound job.work text found × Appends old new (work_output job.work file text)) is printed in
     ((both.0, is-size ∙ ap size_of (is-seen ∙ same)), both.1)
 
 -- what is met before anything is written leaves nothing
@@ -88,38 +88,41 @@ begun-whole P Q (Ok tally) is = tt
 begun-whole P Q (Err fault) is = λ of_reader. inl (is (of-reader fault of_reader))
 
 -- what is written part by part is what is written of the whole
-printed-split : (work : Work) (printing : Printing) (text : List ℕ) → IsPrintingOf work printing → printed_behind printing 0 text ≡ work_output work text
-printed-split (Cut segmenter style Plain) (Segments one how) text (same, is) =
-    ap₂ (λ (segmenter : Segmenter) (style : Style). lines_at style 0 text (segments_by segmenter text)) same is ∙ lines-at_zero style text (segments_by segmenter text)
-printed-split (Cut segmenter style Plain) (Lines one) text is = absurd is
-printed-split (Cut segmenter style Memoised) printing text is = absurd is
-printed-split (Wrap wrapper) (Segments one how) text is = absurd is
-printed-split (Wrap wrapper) (Lines one) text is = ap (λ (wrapper : Wrapper). wrapped_output (wrapping_of wrapper) text) is
+module _ (file : Option (List ℕ)) where
+  pub printed-split : (work : Work) (printing : Printing) (text : List ℕ) → IsPrintingOf work file printing → printed_behind printing 0 text ≡ work_output work file text
+  printed-split (Cut segmenter style Plain) (Segments one how name) text (same, is, named) =
+      ap₂ (λ (segmenter : Segmenter) (look : Look). lines_at look 0 text (segments_by segmenter text)) same
+      (ap₂ (λ (style : Style) (file : Option (List ℕ)). let look : Look = record { style = style; file = file } in look) is named)
+      ∙ lines-at_zero (record { style = style; file = file }) text (segments_by segmenter text)
+  printed-split (Cut segmenter style Plain) (Lines one) text is = absurd is
+  printed-split (Cut segmenter style Memoised) printing text is = absurd is
+  printed-split (Wrap wrapper) (Segments one how name) text is = absurd is
+  printed-split (Wrap wrapper) (Lines one) text is = ap (λ (wrapper : Wrapper). wrapped_output (wrapping_of wrapper) text) is
 
-found-split : (work : Work) (printing : Printing) (text : List ℕ) (found : Found) → IsPrintingOf work printing → found.segments ≡ count_for printing text → found.lookups ≡ 0 → IsFound work text found
-found-split (Cut segmenter style Plain) (Segments one how) text found (same, is) count none = (count ∙ ap (λ (segmenter : Segmenter). length (segments_by segmenter text)) same, none)
-found-split (Cut segmenter style Plain) (Lines one) text found is count none = absurd is
-found-split (Cut segmenter style Memoised) printing text found is count none = absurd is
-found-split (Wrap wrapper) (Segments one how) text found is count none = absurd is
-found-split (Wrap wrapper) (Lines one) text found is count none = (count, none)
+  pub found-split : (work : Work) (printing : Printing) (text : List ℕ) (found : Found) → IsPrintingOf work file printing → found.segments ≡ count_for printing text → found.lookups ≡ 0 → IsFound work text found
+  found-split (Cut segmenter style Plain) (Segments one how name) text found (same, is, named) count none = (count ∙ ap (λ (segmenter : Segmenter). length (segments_by segmenter text)) same, none)
+  found-split (Cut segmenter style Plain) (Lines one) text found is count none = absurd is
+  found-split (Cut segmenter style Memoised) printing text found is count none = absurd is
+  found-split (Wrap wrapper) (Segments one how name) text found is count none = absurd is
+  found-split (Wrap wrapper) (Lines one) text found is count none = (count, none)
 
-pub all-split : (job : Job) (splitting : Splitting) (read old new : Option (List ℕ)) (r : Result Tally Fault) → IsDoneBy job splitting
-    → IfOk r (λ tally. IfSome read (λ bytes. (tally.found.segments ≡ found_for splitting bytes) × (tally.found.lookups ≡ 0) × (tally.size ≡ size_of bytes)
-    × Appends old new (output_for splitting bytes)))
-    → IfOk r (λ tally. IfSome read (λ bytes. IsTally job bytes tally × Appends old new (printed_by job bytes)))
-all-split job splitting read old new (Err fault) done all = tt
-all-split job splitting None old new (Ok tally) done all = tt
-all-split job splitting (Some bytes) old new (Ok tally) (same, is) (count, none, size, written) =
-    let text : text_for splitting bytes ≡ text_of job bytes = ap (λ (preparation : Preparation). prepared preparation bytes) same in (
-      (found-split job.work splitting.printing (text_of job bytes) tally.found is (count ∙ ap (count_for splitting.printing) text) none, size),
-      subst (Appends old new) (ap (printed_behind splitting.printing 0) text ∙ printed-split job.work splitting.printing (text_of job bytes) is) written,
-    )
+  pub all-split : (job : Job) (splitting : Splitting) (read old new : Option (List ℕ)) (r : Result Tally Fault) → IsDoneBy job file splitting
+      → IfOk r (λ tally. IfSome read (λ bytes. (tally.found.segments ≡ found_for splitting bytes) × (tally.found.lookups ≡ 0) × (tally.size ≡ size_of bytes)
+      × Appends old new (output_for splitting bytes)))
+      → IfOk r (λ tally. IfSome read (λ bytes. IsTally job bytes tally × Appends old new (printed_by job file bytes)))
+  all-split job splitting read old new (Err fault) done all = tt
+  all-split job splitting None old new (Ok tally) done all = tt
+  all-split job splitting (Some bytes) old new (Ok tally) (same, is) (count, none, size, written) =
+      let text : text_for splitting bytes ≡ text_of job bytes = ap (λ (preparation : Preparation). prepared preparation bytes) same in (
+        (found-split job.work splitting.printing (text_of job bytes) tally.found is (count ∙ ap (count_for splitting.printing) text) none, size),
+        subst (Appends old new) (ap (printed_behind splitting.printing 0) text ∙ printed-split job.work splitting.printing (text_of job bytes) is) written,
+      )
 
-pub begun-split : (job : Job) (splitting : Splitting) (from to old new : Option (List ℕ)) (P : Type 0) (r : Result Tally Fault) → IsDoneBy job splitting
-    → IfErr r (λ fault. IsReadFault fault → P ⊎ IsBegun splitting from to old new) → IfErr r (λ fault. IsReadFault fault → P ⊎ IsBegunBy job from to old new)
-begun-split job splitting from to old new P (Ok tally) done all = tt
-begun-split job splitting from to old new P (Err fault) done all =
-    λ of_reader. elim (all of_reader) [
-      | inl none ↦ inl none
-      | inr begun ↦ inr (splitting, done, begun)
-    ]
+  pub begun-split : (job : Job) (splitting : Splitting) (from to old new : Option (List ℕ)) (P : Type 0) (r : Result Tally Fault) → IsDoneBy job file splitting
+      → IfErr r (λ fault. IsReadFault fault → P ⊎ IsBegun splitting from to old new) → IfErr r (λ fault. IsReadFault fault → P ⊎ IsBegunBy job file from to old new)
+  begun-split job splitting from to old new P (Ok tally) done all = tt
+  begun-split job splitting from to old new P (Err fault) done all =
+      λ of_reader. elim (all of_reader) [
+        | inl none ↦ inl none
+        | inr begun ↦ inr (splitting, done, begun)
+      ]

@@ -33,10 +33,10 @@ use Rattle.segment_output.specs.declared.parts.Splitting.{Splitting}
 
 -- ---- a text to which the work is done
 
--- what is written of it; how boundaries are found changes nothing
-abbrev pub work_output : Work → List ℕ → List ℕ
-work_output (Cut segmenter style search) text = lines_of style text (segments_by segmenter text)
-work_output (Wrap wrapper) text = wrapped_output (wrapping_of wrapper) text
+-- what is written of it, with the name of its file where that is said; how boundaries are found changes nothing
+abbrev pub work_output : Work → Option (List ℕ) → List ℕ → List ℕ
+work_output (Cut segmenter style search) file text = lines_of (record { style = style; file = file }) text (segments_by segmenter text)
+work_output (Wrap wrapper) file text = wrapped_output (wrapping_of wrapper) text
 
 -- the numbers beside that of the segments, where these are only counted
 abbrev pub numbers_of : Work → Option Numbers
@@ -61,10 +61,10 @@ is_split_by (Cut segmenter style Memoised) = false
 is_split_by (Wrap wrapper) = true
 
 -- what is written part by part is what the work writes
-abbrev pub IsPrintingOf : Work → Printing → Type 0
-IsPrintingOf (Cut segmenter style Plain) (Segments one how) = (one.now ≡ segmenter) × (how ≡ style)
-IsPrintingOf (Wrap wrapper) (Lines one) = one.now ≡ wrapper
-IsPrintingOf work printing = ⊥
+abbrev pub IsPrintingOf : Work → Option (List ℕ) → Printing → Type 0
+IsPrintingOf (Cut segmenter style Plain) file (Segments one how name) = (one.now ≡ segmenter) × (how ≡ style) × (option_map (λ name. name.now) name ≡ file)
+IsPrintingOf (Wrap wrapper) file (Lines one) = one.now ≡ wrapper
+IsPrintingOf work file printing = ⊥
 
 -- ---- some bytes that are read
 
@@ -72,21 +72,25 @@ IsPrintingOf work printing = ⊥
 abbrev pub text_of : Job → List ℕ → List ℕ
 text_of job bytes = prepared job.preparation bytes
 
--- what is written of them
-abbrev pub printed_by : Job → List ℕ → List ℕ
-printed_by job bytes = work_output job.work (text_of job bytes)
+-- of the name of a file what lines say
+abbrev pub said_by : Job → Option (List ℕ) → Option (List ℕ)
+said_by job name = if job.names_files then name else None
+
+-- what is written of them, with the name that is said
+abbrev pub printed_by : Job → Option (List ℕ) → List ℕ → List ℕ
+printed_by job file bytes = work_output job.work file (text_of job bytes)
 
 -- may they be split as they come
 abbrev pub is_split : Job → Bool
 is_split job = is_split_by job.work
 
 -- what is done part by part is what the job does
-abbrev pub IsDoneBy : Job → Splitting → Type 0
-IsDoneBy job splitting = (splitting.preparation ≡ job.preparation) × IsPrintingOf job.work splitting.printing
+abbrev pub IsDoneBy : Job → Option (List ℕ) → Splitting → Type 0
+IsDoneBy job file splitting = (splitting.preparation ≡ job.preparation) × IsPrintingOf job.work file splitting.printing
 
 -- of what a reader gave before it failed whole lines or paragraphs are written, and nothing of the rest
-abbrev pub IsBegunBy : Job → Option (List ℕ) → Option (List ℕ) → Option (List ℕ) → Option (List ℕ) → Type 0
-IsBegunBy job from to old new = (splitting : Splitting) × IsDoneBy job splitting × IsBegun splitting from to old new
+abbrev pub IsBegunBy : Job → Option (List ℕ) → Option (List ℕ) → Option (List ℕ) → Option (List ℕ) → Option (List ℕ) → Type 0
+IsBegunBy job file from to old new = (splitting : Splitting) × IsDoneBy job file splitting × IsBegun splitting from to old new
 
 -- what is found of their text, and how large they are
 abbrev pub IsTally : Job → List ℕ → Tally → Type 0
@@ -94,7 +98,7 @@ IsTally job bytes tally = IsFound job.work (text_of job bytes) tally.found × (t
 
 -- all that is written of some bytes that have a name or none: the segments or the lines of their text, or how many segments it has
 abbrev pub output_of : Job → Option (List ℕ) → List ℕ → List ℕ
-output_of job name bytes = printed_by job bytes ++ option_map_or (λ numbers. count_line numbers (count_by job.work (text_of job bytes)) (size_of bytes) name) (numbers_of job.work) []
+output_of job name bytes = printed_by job (said_by job name) bytes ++ option_map_or (λ numbers. count_line numbers (count_by job.work (text_of job bytes)) (size_of bytes) name) (numbers_of job.work) []
 
 -- how an engine finds boundaries
 abbrev pub search_by : Engine → Search
@@ -119,4 +123,4 @@ IsAskedWork request words abbreviations (Wrap wrapper) =
 
 -- a job is the one that a request asks for
 abbrev pub IsAsked : Request → ScriptWords → Option Words → Job → Type 0
-IsAsked request words abbreviations job = (job.preparation ≡ request.preparation) × IsAskedWork request words abbreviations job.work
+IsAsked request words abbreviations job = (job.preparation ≡ request.preparation) × (job.names_files ≡ false) × IsAskedWork request words abbreviations job.work

@@ -33,4 +33,4 @@ IsWorkByRules rules style (Wrap wrapper) = ⊥
 
 -- and nothing is done to them first
 abbrev pub IsJobByRules : RowRules → Style → Job → Type 0
-IsJobByRules rules style job = (job.preparation ≡ record { tabs = None; joins = false }) × IsWorkByRules rules style job.work
+IsJobByRules rules style job = (job.preparation ≡ record { tabs = None; joins = false }) × (job.names_files ≡ false) × IsWorkByRules rules style job.work

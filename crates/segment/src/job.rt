@@ -3,7 +3,7 @@ ghost use Rattle.std.specs.Prelude.{◌≡◌, IfOk, IfSome};
 ghost use Rattle.std.specs.Option.{is_some, option_map};
 ghost use Rattle.icu_segmenter.specs.Abbreviations.{abbreviations_of};
 ghost use Rattle.icu_segmenter.specs.ScriptWords.{script_words};
-ghost use Rattle.segment.specs.Job.{is_split_by, numbers_of, search_by, AreOptions, IsAsked, IsAskedWork, IsPrintingOf};
+ghost use Rattle.segment.specs.Job.{is_split_by, numbers_of, said_by, search_by, AreOptions, IsAsked, IsAskedWork, IsPrintingOf};
 
 use crate::command::{Request, Task};
 use anyhow::Result;
@@ -32,6 +32,8 @@ pub struct Job {
     pub preparation: Preparation,
     /// And what then.
     pub work: Work,
+    /// Whether objects and offsets say the name of their file.
+    pub names_files: bool,
 }
 
 /// What is done to a text, with all that it takes.
@@ -44,14 +46,14 @@ pub enum Work {
 }
 
 impl Work {
-    /// What is written, where it is of a text part by part what it is of the whole, if that may be split. None where it is found with a memo.
-    pub fn printing(&self) -> Option<Printing<'_>>
-        ensures same { IfSome result (IsPrintingOf self.now) }
+    /// What is written, with this name of a file where lines say it. None where it is found with a memo.
+    pub fn printing<'w>(&'w self, file: Option<&'w str>) -> Option<Printing<'w>>
+        ensures same { IfSome result (IsPrintingOf self.now (option_map (λ name. name.now) file.entry)) }
         ensures always { is_split_by self.now ≡ is_some result }
     {
         match self {
             Work::Cut(segmenter, style, Search::Plain) => {
-                Some(Printing::Segments(segmenter, *style))
+                Some(Printing::Segments(segmenter, *style, file))
             }
             Work::Cut(_, _, Search::Memoised) => None,
             Work::Wrap(wrapper) => Some(Printing::Lines(wrapper)),
@@ -69,6 +71,13 @@ impl Job {
             _ => None,
         }
     }
+
+    /// Of this name of a file what objects and offsets say.
+    pub fn said<'n>(&self, name: Option<&'n str>) -> Option<&'n str>
+        ensures { option_map (λ name. name.now) result ≡ said_by self.now (option_map (λ name. name.now) name.entry) }
+    {
+        if self.names_files { name } else { None }
+    }
 }
 
 /// What a request asks for, with these words where its kind of segments has some. Fails only when out of memory.
@@ -79,6 +88,7 @@ pub fn job_of(alloc: Global, request: &Request, words: Vocabulary) -> Result<Job
     Ok(Job {
         preparation: request.preparation,
         work,
+        names_files: false,
     })
 }
 

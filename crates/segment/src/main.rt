@@ -120,8 +120,7 @@ fn show_machine(rt: &HostRuntime, rules: &OwnRules) -> Result<ExitCode> {
 }
 
 fn cut_by(rt: &HostRuntime, rules: OwnRules, style: Style, matches: &ArgMatches<'_>) -> ExitCode {
-    let job = job_by(rules, style);
-    run_files(rt, &job, matches)
+    run_files(rt, job_by(rules, style), matches)
 }
 
 // Says why a command line can't be followed.
@@ -155,13 +154,13 @@ fn run_words(
     matches: &ArgMatches<'_>,
 ) -> Result<ExitCode> {
     let job = job_of(rt.alloc(), request, words)?;
-    Ok(run_files(rt, &job, matches))
+    Ok(run_files(rt, job, matches))
 }
 
-// Does a job to the files that are named.
-fn run_files(rt: &HostRuntime, job: &Job, matches: &ArgMatches<'_>) -> ExitCode {
-    match matches.get_strs("file") {
-        Some(names) => run_all(rt, job, names),
-        None => run_all(rt, job, &[]),
-    }
+// Does a job to the files that are named; where there are more than one, objects and offsets say which.
+fn run_files(rt: &HostRuntime, job: Job, matches: &ArgMatches<'_>) -> ExitCode {
+    let names = matches.get_strs("file").unwrap_or(&[]);
+    let mut job = job;
+    job.names_files = names.len() > 1;
+    run_all(rt, &job, names)
 }

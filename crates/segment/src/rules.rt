@@ -100,6 +100,7 @@ pub fn job_by(rules: OwnRules, style: Style) -> Job
             joins: false,
         },
         work: Work::Cut(Segmenter::by_machine(machine), style, Search::Plain),
+        names_files: false,
     }
 }
 

@@ -2,13 +2,13 @@
 ghost use Rattle.std.specs.Prelude.{◌≡◌, ◌⊎◌, false, option_map, IfErr, IfOk, IfSome, OnOk};
 ghost use Rattle.std.specs.Io.KnownBytes.{Appends, IsAtEnd};
 ghost use Rattle.segment_output.specs.Fault.{IsBeforeWriting, IsReadFault};
-ghost use Rattle.segment.specs.Job.{is_split, output_of, printed_by, text_of, work_output, IsBegunBy, IsFound, IsTally};
+ghost use Rattle.segment.specs.Job.{is_split, output_of, printed_by, said_by, text_of, work_output, IsBegunBy, IsFound, IsTally};
 
 use crate::job::{Job, Search, Work};
 use segment_output::fault::Fault;
 use segment_output::found::{Found, Size, Tally};
 use segment_output::memo::print_by_memo;
-use segment_output::output::write_count;
+use segment_output::output::{Part, write_count};
 use segment_output::parts::{Splitting, print_parts};
 use std::alloc::Global;
 use std::io::{Read, Write};
@@ -30,9 +30,9 @@ pub fn run<I: Read, O: Write>(
         × Appends (O.contents out.old) (O.contents out.new) (output_of job.now (option_map (λ name. name.now) name.entry) bytes))) }
     ensures unwritten { IfErr result (λ fault. IsBeforeWriting fault → is_split job.now ≡ false → out.new ≡ out.old) }
     ensures begun { IfErr result (λ fault. IsReadFault fault → (out.new ≡ out.old)
-        ⊎ IsBegunBy job.now (I.remaining input.old) (I.remaining input.new) (O.contents out.old) (O.contents out.new)) }
+        ⊎ IsBegunBy job.now (said_by job.now (option_map (λ name. name.now) name.entry)) (I.remaining input.old) (I.remaining input.new) (O.contents out.old) (O.contents out.new)) }
 {
-    let tally = print_job(alloc, job, input, out)?;
+    let tally = print_job(alloc, job, job.said(name), input, out)?;
     let Some(numbers) = job.numbers() else {
         return Ok(tally);
     };
@@ -56,17 +56,18 @@ fn read_text<I: Read>(alloc: Global, input: &mut I) -> Result<Vec<u8>, Fault>
 fn print_job<I: Read, O: Write>(
     alloc: Global,
     job: &Job,
+    file: Option<&str>,
     input: &mut I,
     out: &mut O,
 ) -> Result<Tally, Fault>
     ensures read_all { OnOk result (IsAtEnd (I.remaining input.new)) }
     ensures written { IfOk result (λ tally. IfSome (I.remaining input.old) (λ bytes. IsTally job.now bytes tally
-        × Appends (O.contents out.old) (O.contents out.new) (printed_by job.now bytes))) }
+        × Appends (O.contents out.old) (O.contents out.new) (printed_by job.now (option_map (λ name. name.now) file.entry) bytes))) }
     ensures unwritten { IfErr result (λ fault. IsBeforeWriting fault → is_split job.now ≡ false → out.new ≡ out.old) }
     ensures begun { IfErr result (λ fault. IsReadFault fault → (out.new ≡ out.old)
-        ⊎ IsBegunBy job.now (I.remaining input.old) (I.remaining input.new) (O.contents out.old) (O.contents out.new)) }
+        ⊎ IsBegunBy job.now (option_map (λ name. name.now) file.entry) (I.remaining input.old) (I.remaining input.new) (O.contents out.old) (O.contents out.new)) }
 {
-    if let Some(printing) = job.work.printing()
+    if let Some(printing) = job.work.printing(file)
         && printing.has_parts()
     {
         let splitting = Splitting {
@@ -75,25 +76,26 @@ fn print_job<I: Read, O: Write>(
         };
         return print_parts(alloc, splitting, input, out);
     }
-    print_whole(alloc, job, input, out)
+    print_whole(alloc, job, file, input, out)
 }
 
 // Writes what `print_job` writes, of all that a reader has at once.
 fn print_whole<I: Read, O: Write>(
     alloc: Global,
     job: &Job,
+    file: Option<&str>,
     input: &mut I,
     out: &mut O,
 ) -> Result<Tally, Fault>
     ensures read_all { OnOk result (IsAtEnd (I.remaining input.new)) }
     ensures written { IfOk result (λ tally. IfSome (I.remaining input.old) (λ bytes. IsTally job.now bytes tally
-        × Appends (O.contents out.old) (O.contents out.new) (printed_by job.now bytes))) }
+        × Appends (O.contents out.old) (O.contents out.new) (printed_by job.now (option_map (λ name. name.now) file.entry) bytes))) }
     ensures unwritten { IfErr result (λ fault. IsBeforeWriting fault → out.new ≡ out.old) }
 {
     let text = read_text(alloc, input)?;
     let size = Size::of(text.as_slice());
     let text = prepare(alloc, job, text)?;
-    let found = print_text(alloc, &job.work, text.as_slice(), out)?;
+    let found = print_text(alloc, &job.work, file, text.as_slice(), out)?;
     Ok(Tally { found, size })
 }
 
@@ -111,32 +113,31 @@ fn prepare(alloc: Global, job: &Job, text: Vec<u8>) -> Result<Vec<u8>, Fault>
 fn print_text<O: Write>(
     alloc: Global,
     work: &Work,
+    file: Option<&str>,
     text: &[u8],
     out: &mut O,
 ) -> Result<Found, Fault>
     ensures written { IfOk result (λ found. IsFound work.now text.now found
-        × Appends (O.contents out.old) (O.contents out.new) (work_output work.now text.now)) }
+        × Appends (O.contents out.old) (O.contents out.new) (work_output work.now (option_map (λ name. name.now) file.entry) text.now)) }
     ensures unwritten { IfErr result (λ fault. IsBeforeWriting fault → out.new ≡ out.old) }
 {
-    match work {
-        Work::Cut(segmenter, style, Search::Plain) => {
-            match segmenter.print(alloc, text, *style, out) {
-                Ok(segments) => Ok(Found {
-                    segments,
-                    lookups: 0,
-                }),
-                Err(error) => Err(Fault::of_writing(error)),
-            }
-        }
-        Work::Cut(segmenter, style, Search::Memoised) => {
-            print_by_memo(alloc, segmenter, text, *style, out)
-        }
-        Work::Wrap(wrapper) => match wrapper.print(alloc, text, out) {
-            Ok(()) => Ok(Found {
-                segments: 0,
-                lookups: 0,
-            }),
-            Err(error) => Err(Fault::of_writing(error)),
-        },
+    if let Work::Cut(segmenter, style, Search::Memoised) = work {
+        let part = Part {
+            bytes: text,
+            before: 0,
+            style: *style,
+            file,
+        };
+        return print_by_memo(alloc, segmenter, part, out);
+    }
+    let Some(printing) = work.printing(file) else {
+        unreachable!()
+    };
+    match printing.print(alloc, text, 0, out) {
+        Ok(segments) => Ok(Found {
+            segments,
+            lookups: 0,
+        }),
+        Err(error) => Err(Fault::of_writing(error)),
     }
 }

@@ -3,19 +3,24 @@ use Rattle.std.proofs.Common.{◌≡◌, ◌≢◌, ℕ, suc, false, Option, Lis
 use Rattle.std.specs.Io.KnownBytes.{Appends}
 use Rattle.icu_segmenter.specs.Boundary.{Boundary}
 use Rattle.icu_segmenter.specs.TextSegments.{marked}
-use Rattle.segment_output.specs.Output.{line_at, lines_at, segments}
+use Rattle.segment_output.specs.Output.{Look, later, line_at, line_in, lines_at, segments}
 use Rattle.segment_output.specs.declared.marks.Mark.{Mark}
 use Rattle.segment_output.specs.declared.output.Style.{Style}
 use Rattle.segment_output.specs.declared.output.Style.TheVariants.{Escaped, Raw, ZeroEnded, Json, Offsets, Counted}
 
-same-line : (style : Style) (before : ℕ) (part : List ℕ) (from to : ℕ) (one other : Mark) → style ≢ Json
-    → line_at style before part (record { from = from; to = to; mark = one }) ≡ line_at style before part (record { from = from; to = to; mark = other })
-same-line Escaped before part from to one other bare = refl
-same-line Raw before part from to one other bare = refl
-same-line ZeroEnded before part from to one other bare = refl
-same-line Json before part from to one other bare = absurd (bare refl)
-same-line Offsets before part from to one other bare = refl
-same-line (Counted numbers) before part from to one other bare = refl
+same-line : (look : Look) (before : ℕ) (part : List ℕ) (from to : ℕ) (one other : Mark) → look.style ≢ Json
+    → line_at look before part (record { from = from; to = to; mark = one }) ≡ line_at look before part (record { from = from; to = to; mark = other })
+same-line look before part from to one other bare = on look.style bare
+  where
+    on : (style : Style) → style ≢ Json
+        → line_in style look.file part (record { from = from; to = to; mark = one }) (later before (record { from = from; to = to; mark = one }))
+        ≡ line_in style look.file part (record { from = from; to = to; mark = other }) (later before (record { from = from; to = to; mark = other }))
+    on Escaped bare = refl
+    on Raw bare = refl
+    on ZeroEnded bare = refl
+    on Json bare = absurd (bare refl)
+    on Offsets bare = refl
+    on (Counted numbers) bare = refl
 
 module _ (one other : ℕ → Mark) where
   same-count : (boundaries : List Boundary) → length (segments false (marked one boundaries)) ≡ length (segments false (marked other boundaries))
@@ -23,16 +28,16 @@ module _ (one other : ℕ → Mark) where
   same-count (start ∷ []) = refl
   same-count (start ∷ end ∷ boundaries) = ap suc (same-count (end ∷ boundaries))
 
-  module _ (style : Style) (before : ℕ) (part : List ℕ) (bare : style ≢ Json) where
-    same-lines : (boundaries : List Boundary) → lines_at style before part (segments false (marked one boundaries)) ≡ lines_at style before part (segments false (marked other boundaries))
+  module _ (look : Look) (before : ℕ) (part : List ℕ) (bare : look.style ≢ Json) where
+    same-lines : (boundaries : List Boundary) → lines_at look before part (segments false (marked one boundaries)) ≡ lines_at look before part (segments false (marked other boundaries))
     same-lines [] = refl
     same-lines (start ∷ []) = refl
     same-lines (start ∷ end ∷ boundaries) =
-        ap (λ line. line ++ lines_at style before part (segments false (marked one (end ∷ boundaries)))) (same-line style before part start.offset end.offset (one end.status) (other end.status) bare)
-        ∙ ap (λ lines. line_at style before part (record { from = start.offset; to = end.offset; mark = other end.status }) ++ lines) (same-lines (end ∷ boundaries))
+        ap (λ line. line ++ lines_at look before part (segments false (marked one (end ∷ boundaries)))) (same-line look before part start.offset end.offset (one end.status) (other end.status) bare)
+        ∙ ap (λ lines. line_at look before part (record { from = start.offset; to = end.offset; mark = other end.status }) ++ lines) (same-lines (end ∷ boundaries))
 
     -- so what is printed by some marks is what is printed by others
     pub printed-bare : {E : Type 0} (boundaries : List Boundary) (old new : Option (List ℕ)) (r : Result ℕ E)
-        → IfOk r (λ count. (count ≡ length (segments false (marked one boundaries))) × Appends old new (lines_at style before part (segments false (marked one boundaries))))
-        → IfOk r (λ count. (count ≡ length (segments false (marked other boundaries))) × Appends old new (lines_at style before part (segments false (marked other boundaries))))
+        → IfOk r (λ count. (count ≡ length (segments false (marked one boundaries))) × Appends old new (lines_at look before part (segments false (marked one boundaries))))
+        → IfOk r (λ count. (count ≡ length (segments false (marked other boundaries))) × Appends old new (lines_at look before part (segments false (marked other boundaries))))
     printed-bare boundaries old new r printed = rw (← same-count boundaries, ← same-lines boundaries) printed

@@ -8,22 +8,22 @@ use Rattle.json.specs.Print.{print}
 use Rattle.icu_segmenter.specs.Boundary.{Boundary}
 use Rattle.icu_segmenter.specs.Boundaries.{IsCover, RisesTo, shift_all}
 use Rattle.segment_output.specs.Escapes.{escaped}
-use Rattle.segment_output.specs.Output.{Segment, is_shown, later, line_at, line_of, lines_at, lines_of, object_of}
+use Rattle.segment_output.specs.Output.{Look, Segment, is_shown, later, line_at, line_in, line_of, lines_at, lines_of, object_of}
 use Rattle.segment_output.specs.declared.marks.Mark.{Mark}
 use Rattle.segment_output.specs.declared.output.Style.{Style}
 use Rattle.segment_output.specs.declared.output.Style.TheVariants.{Escaped, Raw, ZeroEnded, Json, Offsets, Counted}
 
 -- ---- boundaries that rise
 
-rises-order : (from end : ℕ) (boundaries : List Boundary) → RisesTo from boundaries end → from ≤ end
+pub rises-order : (from end : ℕ) (boundaries : List Boundary) → RisesTo from boundaries end → from ≤ end
 rises-order from end [] rises = omega (arith, rises)
 rises-order from end (found ∷ boundaries) rises = omega (arith, rises.0, rises-order found.offset end boundaries rises.1)
 
-rises-append : (from mid end : ℕ) (first second : List Boundary) → RisesTo from first mid → RisesTo mid second end → RisesTo from (first ++ second) end
+pub rises-append : (from mid end : ℕ) (first second : List Boundary) → RisesTo from first mid → RisesTo mid second end → RisesTo from (first ++ second) end
 rises-append from mid end [] second rises others = subst (λ (place : ℕ). RisesTo place second end) (sym rises) others
 rises-append from mid end (found ∷ first) second rises others = (rises.0, rises-append found.offset mid end first second rises.1 others)
 
-rises-shift : (n from end : ℕ) (boundaries : List Boundary) → RisesTo from boundaries end → RisesTo (n + from) (shift_all n boundaries) (n + end)
+pub rises-shift : (n from end : ℕ) (boundaries : List Boundary) → RisesTo from boundaries end → RisesTo (n + from) (shift_all n boundaries) (n + end)
 rises-shift n from end [] rises = ap (λ (place : ℕ). n + place) rises
 rises-shift n from end (found ∷ boundaries) rises = (omega (arith, rises.0), rises-shift n found.offset end boundaries rises.1)
 
@@ -98,66 +98,72 @@ slice-back done part from to =
     ap₂ (λ (count : ℕ) (bytes : List ℕ). take count bytes) size
     (sym (drop-drop from (length done) (done ++ part)) ∙ ap (λ (bytes : List ℕ). drop from bytes) (drop-append_seam done part))
 
-line-front : (style : Style) (done more : List ℕ) (segment : Segment) → segment.from ≤ segment.to → segment.to ≤ length done
-    → line_of style (done ++ more) segment ≡ line_of style done segment
-line-front Escaped done more segment order within = ap (λ (bytes : List ℕ). escaped bytes ++ 10 ∷ []) (slice-front done more segment.from segment.to order within)
-line-front Raw done more segment order within = ap (λ (bytes : List ℕ). bytes ++ 10 ∷ []) (slice-front done more segment.from segment.to order within)
-line-front ZeroEnded done more segment order within = ap (λ (bytes : List ℕ). bytes ++ 0 ∷ []) (slice-front done more segment.from segment.to order within)
-line-front Json done more segment order within = ap (λ (bytes : List ℕ). print (object_of bytes segment) ++ 10 ∷ []) (slice-front done more segment.from segment.to order within)
-line-front Offsets done more segment order within = refl
-line-front (Counted numbers) done more segment order within = refl
+line-front : (look : Look) (done more : List ℕ) (segment : Segment) → segment.from ≤ segment.to → segment.to ≤ length done
+    → line_of look (done ++ more) segment ≡ line_of look done segment
+line-front look done more segment order within = on look.style
+  where
+    on : (style : Style) → line_in style look.file (done ++ more) segment segment ≡ line_in style look.file done segment segment
+    on Escaped = ap (λ (bytes : List ℕ). escaped bytes ++ 10 ∷ []) (slice-front done more segment.from segment.to order within)
+    on Raw = ap (λ (bytes : List ℕ). bytes ++ 10 ∷ []) (slice-front done more segment.from segment.to order within)
+    on ZeroEnded = ap (λ (bytes : List ℕ). bytes ++ 0 ∷ []) (slice-front done more segment.from segment.to order within)
+    on Json = ap (λ (bytes : List ℕ). print (object_of look.file bytes segment) ++ 10 ∷ []) (slice-front done more segment.from segment.to order within)
+    on Offsets = refl
+    on (Counted numbers) = refl
 
-line-back : (style : Style) (done part : List ℕ) (segment : Segment) → line_of style (done ++ part) (later (length done) segment) ≡ line_at style (length done) part segment
-line-back Escaped done part segment = ap (λ (bytes : List ℕ). escaped bytes ++ 10 ∷ []) (slice-back done part segment.from segment.to)
-line-back Raw done part segment = ap (λ (bytes : List ℕ). bytes ++ 10 ∷ []) (slice-back done part segment.from segment.to)
-line-back ZeroEnded done part segment = ap (λ (bytes : List ℕ). bytes ++ 0 ∷ []) (slice-back done part segment.from segment.to)
-line-back Json done part segment = ap (λ (bytes : List ℕ). print (object_of bytes (later (length done) segment)) ++ 10 ∷ []) (slice-back done part segment.from segment.to)
-line-back Offsets done part segment = refl
-line-back (Counted numbers) done part segment = refl
+line-back : (look : Look) (done part : List ℕ) (segment : Segment) → line_of look (done ++ part) (later (length done) segment) ≡ line_at look (length done) part segment
+line-back look done part segment = on look.style
+  where
+    on : (style : Style) → line_in style look.file (done ++ part) (later (length done) segment) (later (length done) segment) ≡ line_in style look.file part segment (later (length done) segment)
+    on Escaped = ap (λ (bytes : List ℕ). escaped bytes ++ 10 ∷ []) (slice-back done part segment.from segment.to)
+    on Raw = ap (λ (bytes : List ℕ). bytes ++ 10 ∷ []) (slice-back done part segment.from segment.to)
+    on ZeroEnded = ap (λ (bytes : List ℕ). bytes ++ 0 ∷ []) (slice-back done part segment.from segment.to)
+    on Json = ap (λ (bytes : List ℕ). print (object_of look.file bytes (later (length done) segment)) ++ 10 ∷ []) (slice-back done part segment.from segment.to)
+    on Offsets = refl
+    on (Counted numbers) = refl
 
 lines-kept : (f g : Segment → List ℕ) (is : Bool) (segment : Segment) (segments : List Segment) → f segment ≡ g segment → flat_map f segments ≡ flat_map g segments
     → flat_map f (cond is (segment ∷ segments) segments) ≡ flat_map g (cond is (segment ∷ segments) segments)
 lines-kept f g true segment segments one others = ap₂ (λ (line lines : List ℕ). line ++ lines) one others
 lines-kept f g false segment segments one others = others
 
-lines-front : (style : Style) (alone : Bool) (mark : ℕ → Mark) (done more : List ℕ) (start : ℕ) (boundaries : List Boundary) → RisesTo start boundaries (length done)
-    → lines_of style (done ++ more) (cut_from alone mark start boundaries) ≡ lines_of style done (cut_from alone mark start boundaries)
-lines-front style alone mark done more start [] rises = refl
-lines-front style alone mark done more start (found ∷ boundaries) rises =
+lines-front : (look : Look) (alone : Bool) (mark : ℕ → Mark) (done more : List ℕ) (start : ℕ) (boundaries : List Boundary) → RisesTo start boundaries (length done)
+    → lines_of look (done ++ more) (cut_from alone mark start boundaries) ≡ lines_of look done (cut_from alone mark start boundaries)
+lines-front look alone mark done more start [] rises = refl
+lines-front look alone mark done more start (found ∷ boundaries) rises =
     let order : start ≤ found.offset = omega (arith, rises.0) in
     let within : found.offset ≤ length done = rises-order found.offset (length done) boundaries rises.1 in
-    lines-kept (line_of style (done ++ more)) (line_of style done) (is_shown alone (mark found.status)) (segment_at mark start found) (cut_from alone mark found.offset boundaries)
-    (line-front style done more (segment_at mark start found) order within) (lines-front style alone mark done more found.offset boundaries rises.1)
+    lines-kept (line_of look (done ++ more)) (line_of look done) (is_shown alone (mark found.status)) (segment_at mark start found) (cut_from alone mark found.offset boundaries)
+    (line-front look done more (segment_at mark start found) order within) (lines-front look alone mark done more found.offset boundaries rises.1)
 
-lines-front_all : (style : Style) (alone : Bool) (mark : ℕ → Mark) (done more : List ℕ) (boundaries : List Boundary) → IsCover 0 (length done) boundaries
-    → lines_of style (done ++ more) (cut_all alone mark boundaries) ≡ lines_of style done (cut_all alone mark boundaries)
-lines-front_all style alone mark done more [] covers = absurd covers
-lines-front_all style alone mark done more (x ∷ boundaries) covers =
-    lines-front style alone mark done more x.offset boundaries (subst (λ (place : ℕ). RisesTo place boundaries (length done)) (sym covers.0) covers.1)
+lines-front_all : (look : Look) (alone : Bool) (mark : ℕ → Mark) (done more : List ℕ) (boundaries : List Boundary) → IsCover 0 (length done) boundaries
+    → lines_of look (done ++ more) (cut_all alone mark boundaries) ≡ lines_of look done (cut_all alone mark boundaries)
+lines-front_all look alone mark done more [] covers = absurd covers
+lines-front_all look alone mark done more (x ∷ boundaries) covers =
+    lines-front look alone mark done more x.offset boundaries (subst (λ (place : ℕ). RisesTo place boundaries (length done)) (sym covers.0) covers.1)
 
-lines-back : (style : Style) (done part : List ℕ) (segments : List Segment)
-    → lines_of style (done ++ part) (map (later (length done)) segments) ≡ lines_at style (length done) part segments
-lines-back style done part [] = refl
-lines-back style done part (segment ∷ segments) = ap₂ (λ (line lines : List ℕ). line ++ lines) (line-back style done part segment) (lines-back style done part segments)
+lines-back : (look : Look) (done part : List ℕ) (segments : List Segment)
+    → lines_of look (done ++ part) (map (later (length done)) segments) ≡ lines_at look (length done) part segments
+lines-back look done part [] = refl
+lines-back look done part (segment ∷ segments) = ap₂ (λ (line lines : List ℕ). line ++ lines) (line-back look done part segment) (lines-back look done part segments)
 
 -- the places of the first part are those of the whole text
-line-at_zero : (style : Style) (text : List ℕ) (segment : Segment) → line_at style 0 text segment ≡ line_of style text segment
-line-at_zero style text segment =
+line-at_zero : (look : Look) (text : List ℕ) (segment : Segment) → line_at look 0 text segment ≡ line_of look text segment
+line-at_zero look text segment =
     let starts : 0 + segment.from ≡ segment.from = omega arith in
     let ends : 0 + segment.to ≡ segment.to = omega arith in
     rw (starts, ends) refl
 
-pub lines-at_zero : (style : Style) (text : List ℕ) (segments : List Segment) → lines_at style 0 text segments ≡ lines_of style text segments
-lines-at_zero style text [] = refl
-lines-at_zero style text (segment ∷ segments) = ap₂ (λ (line lines : List ℕ). line ++ lines) (line-at_zero style text segment) (lines-at_zero style text segments)
+pub lines-at_zero : (look : Look) (text : List ℕ) (segments : List Segment) → lines_at look 0 text segments ≡ lines_of look text segments
+lines-at_zero look text [] = refl
+lines-at_zero look text (segment ∷ segments) = ap₂ (λ (line lines : List ℕ). line ++ lines) (line-at_zero look text segment) (lines-at_zero look text segments)
 
-module _ (style : Style) (alone : Bool) (mark : ℕ → Mark) (done part : List ℕ) (first second : List Boundary) (covers : IsCover 0 (length done) first) where
+module _ (look : Look) (alone : Bool) (mark : ℕ → Mark) (done part : List ℕ) (first second : List Boundary) (covers : IsCover 0 (length done) first) where
   pub lines-begin : (more : List Boundary)
-      → lines_of style (done ++ part) (cut_all alone mark (first ++ more)) ≡ lines_of style done (cut_all alone mark first) ++ lines_of style (done ++ part) (cut_from alone mark (length done) more)
+      → lines_of look (done ++ part) (cut_all alone mark (first ++ more)) ≡ lines_of look done (cut_all alone mark first) ++ lines_of look (done ++ part) (cut_from alone mark (length done) more)
   lines-begin more =
-      ap (λ (segments : List Segment). lines_of style (done ++ part) segments) (cut-begins alone mark (length done) first more covers)
-      ∙ flat_map-append (line_of style (done ++ part)) (cut_all alone mark first) (cut_from alone mark (length done) more)
-      ∙ ap (λ (lines : List ℕ). lines ++ lines_of style (done ++ part) (cut_from alone mark (length done) more)) (lines-front_all style alone mark done part first covers)
+      ap (λ (segments : List Segment). lines_of look (done ++ part) segments) (cut-begins alone mark (length done) first more covers)
+      ∙ flat_map-append (line_of look (done ++ part)) (cut_all alone mark first) (cut_from alone mark (length done) more)
+      ∙ ap (λ (lines : List ℕ). lines ++ lines_of look (done ++ part) (cut_from alone mark (length done) more)) (lines-front_all look alone mark done part first covers)
 
   module _ (cover : IsCover 0 (length part) second) where
     abbrev all : List Boundary
@@ -166,11 +172,11 @@ module _ (style : Style) (alone : Bool) (mark : ℕ → Mark) (done part : List 
     joined : cut_all alone mark all ≡ cut_all alone mark first ++ map (later (length done)) (cut_all alone mark second)
     joined = cut-joined alone mark (length done) (length part) first second covers cover
 
-    pub lines-joined : lines_of style (done ++ part) (cut_all alone mark all) ≡ lines_of style done (cut_all alone mark first) ++ lines_at style (length done) part (cut_all alone mark second)
+    pub lines-joined : lines_of look (done ++ part) (cut_all alone mark all) ≡ lines_of look done (cut_all alone mark first) ++ lines_at look (length done) part (cut_all alone mark second)
     lines-joined =
-        ap (λ (segments : List Segment). lines_of style (done ++ part) segments) joined
-        ∙ flat_map-append (line_of style (done ++ part)) (cut_all alone mark first) (map (later (length done)) (cut_all alone mark second))
-        ∙ ap₂ (λ (lines others : List ℕ). lines ++ others) (lines-front_all style alone mark done part first covers) (lines-back style done part (cut_all alone mark second))
+        ap (λ (segments : List Segment). lines_of look (done ++ part) segments) joined
+        ∙ flat_map-append (line_of look (done ++ part)) (cut_all alone mark first) (map (later (length done)) (cut_all alone mark second))
+        ∙ ap₂ (λ (lines others : List ℕ). lines ++ others) (lines-front_all look alone mark done part first covers) (lines-back look done part (cut_all alone mark second))
 
     pub count-joined : length (cut_all alone mark all) ≡ length (cut_all alone mark first) + length (cut_all alone mark second)
     count-joined =

@@ -1,4 +1,5 @@
 pub mod BareLines
+pub mod BareObjects
 pub mod Escaping
 pub mod Fields
 pub mod FoundByMemo

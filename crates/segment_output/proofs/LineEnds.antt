@@ -34,14 +34,14 @@ use Rattle.segment_output.proofs.WrappedParts.{In, in-from, in-to}
 
 with-keeps : (cut : ℕ) (boundaries : List Boundary) (one : Boundary) → In boundaries one → In (with_cut cut boundaries) one
 with-keeps cut [] one is = absurd is
-with-keeps cut (found ∷ boundaries) one is = on (nat_lt cut found.offset) (cut == found.offset) is
+with-keeps cut (found ∷ boundaries) one is = on (nat_lt cut found.offset) (cut == found.offset) is (with-keeps cut boundaries one)
   where
-    on : (before here : Bool) → In (found ∷ boundaries) one
+    on : (before here : Bool) → In (found ∷ boundaries) one → (In boundaries one → In (with_cut cut boundaries) one)
         → In (if before then boundary cut 0 ∷ found ∷ boundaries else (if here then found ∷ boundaries else found ∷ with_cut cut boundaries)) one
-    on true here is = inr is
-    on false true is = is
-    on false false (inl is) = inl is
-    on false false (inr is) = inr (with-keeps cut boundaries one is)
+    on true here is later = inr is
+    on false true is later = is
+    on false false (inl is) later = inl is
+    on false false (inr is) later = inr (later is)
 
 joined-keeps : (boundaries : List Boundary) (cuts : List ℕ) (one : Boundary) → In boundaries one → In (joined boundaries cuts) one
 joined-keeps boundaries [] one is = is
@@ -61,10 +61,9 @@ end-place items end count is =
 
 pub ends-lines : (rules : LineRules) → IsByLineMachine rules.finder
     → ((tailoring : Tailoring) (before : List ℕ) (last status : ℕ) → BreaksWith tailoring status (before ++ last ∷ []) [] ↔ (status ≡ 1)) → EndsLines rules
-unfolding utf8_items
+unfolding utf8_items lib.Utf8.encode
 ends-lines rules (tailoring, is) law before = in-from _ _ ended
   where
-    unfolding utf8_items
     front : (front : List ℕ) × (code_points (utf8_items 0 (before ++ line_feed)) ≡ front ++ 0x0A ∷ [])
     front = codes-end read_utf8 read_utf8-stable (0x0A ∷ []) 0x0A (utf8-apart 0x0A refl) before
 
@@ -75,7 +74,7 @@ ends-lines rules (tailoring, is) law before = in-from _ _ ended
     by-machine =
         rw front.1
         (subst (λ (cs : List ℕ). In (machine_boundaries (machine_by tailoring) cs) (boundary (length (front.0 ++ 0x0A ∷ [])) 1)) (append-nil (front.0 ++ 0x0A ∷ []))
-        (in-to _ _ ((law tailoring front.0 0x0A 1).1 refl)))
+        (in-to (machine_boundaries (machine_by tailoring) ((front.0 ++ 0x0A ∷ []) ++ [])) (boundary (length (front.0 ++ 0x0A ∷ [])) 1) ((law tailoring front.0 0x0A 1).1 refl)))
 
     by-rules : In (line_boundaries_by rules codes) (boundary (length codes) 1)
     by-rules =
@@ -95,11 +94,11 @@ ends-lines rules (tailoring, is) law before = in-from _ _ ended
 
 -- ---- options choose the machine or a tailoring of it, unless lines may break anywhere
 
-pub chosen : (word_option : LineBreakWordOption) (strictness : LineBreakStrictness) (is_ja_or_zh : Bool) → (strictness ≡ strictness.Anywhere → ⊥)
-    → IsByLineMachine (chosen_finder line_machine line_tailorings (machine_for word_option strictness is_ja_or_zh))
+pub chosen : (word_option : LineBreakWordOption) (how : LineBreakStrictness) (is_ja_or_zh : Bool) → (how ≡ strictness.Anywhere → ⊥)
+    → IsByLineMachine (chosen_finder line_machine line_tailorings (machine_for word_option how is_ja_or_zh))
 unfolding line_tailorings
-chosen words.BreakAll strictness is_ja_or_zh by_rules = (BreakAll, refl)
-chosen words.KeepAll strictness is_ja_or_zh by_rules = (KeepAll, refl)
+chosen words.BreakAll how is_ja_or_zh by_rules = (BreakAll, refl)
+chosen words.KeepAll how is_ja_or_zh by_rules = (KeepAll, refl)
 chosen words.Normal strictness.Anywhere is_ja_or_zh by_rules = absurd (by_rules refl)
 chosen words.Normal strictness.Loose true by_rules = (JaLoose, refl)
 chosen words.Normal strictness.Loose false by_rules = (Loose, refl)

@@ -5,10 +5,8 @@ use Rattle.std.specs.Io.KnownBytes.{Appends}
 use Rattle.icu_segmenter.specs.Boundary.{Boundary}
 use Rattle.icu_segmenter.specs.TextSegments.{marked}
 use Rattle.icu_segmenter.proofs.Callers.{given-is_left}
-use Rattle.segment_output.specs.Output.{Segment, lines_at, lines_of, segments}
+use Rattle.segment_output.specs.Output.{Segment, segments}
 use Rattle.segment_output.specs.declared.marks.Mark.{Mark}
-use Rattle.segment_output.specs.declared.output.Style.{Style}
-use Rattle.segment_output.proofs.JoinedCuts.{lines-at_zero}
 
 -- these are the segments between all that was left
 pub lines-are_left : {S A E : Type 0} (left : S → List A) (cut : List A → List Segment) (lines : List Segment → List ℕ)
@@ -25,9 +23,3 @@ pub all-printed : {E : Type 0} (alone : Bool) (mark : ℕ → Mark) (lines : Lis
     → IfOk r (λ count. (count ≡ length (segments alone (marked mark all))) × Appends old new (lines (segments alone (marked mark all))))
 all-printed alone mark lines left all old new r is printed =
     subst (λ (all : List Boundary). IfOk r (λ count. (count ≡ length (segments alone (marked mark all))) × Appends old new (lines (segments alone (marked mark all))))) is printed
-
--- a whole text is a part before which nothing stands
-pub printed-whole : (style : Style) (before : ℕ) (text : List ℕ) (found : List Segment) (P : Type 0) (old new : Option (List ℕ)) → before ≡ 0
-    → P × Appends old new (lines_at style before text found) → P × Appends old new (lines_of style text found)
-printed-whole style before text found P old new none (p, printed) =
-    (p, subst (Appends old new) (ap (λ (before : ℕ). lines_at style before text found) none ∙ lines-at_zero style text found) printed)

@@ -16,15 +16,14 @@ use Rattle.icu_segmenter.specs.Decoding.{utf8}
 use Rattle.icu_segmenter.specs.LineBreaks.{line_boundaries_of}
 use Rattle.icu_segmenter.specs.WrappedLines.{wrapped_text}
 use Rattle.segment_output.specs.Fault.{IsReadFault}
-use Rattle.segment_output.specs.Output.{Segment, is_shown, lines_at, lines_of, segment_between, segments}
-use Rattle.segment_output.specs.Parts.{AreLines, AreWhole, IsAdded, IsBegun, IsPartWritten, MayBeSplit, boundaries_for, count_for, found_for, output_for, printed_behind, text_for}
+use Rattle.segment_output.specs.Output.{Look, Segment, is_shown, lines_at, lines_of, segment_between, segments}
+use Rattle.segment_output.specs.Parts.{AreLines, AreWhole, IsAdded, IsBegun, IsPartWritten, MayBeSplit, boundaries_for, count_for, found_for, look_by, output_for, printed_behind, text_for}
 use Rattle.segment_output.specs.Segmenter.{boundaries_by, has_words_alone, mark_by, segments_by}
 use Rattle.segment_output.specs.Size.{both_sizes, size_of}
 use Rattle.segment_output.specs.declared.fault.Fault.{Fault}
 use Rattle.segment_output.specs.declared.found.Size.{Size}
 use Rattle.segment_output.specs.declared.found.Tally.{Tally}
 use Rattle.segment_output.specs.declared.marks.Mark.{Mark}
-use Rattle.segment_output.specs.declared.output.Style.{Style}
 use Rattle.segment_output.specs.declared.parts.Printing.{Printing}
 use Rattle.segment_output.specs.declared.parts.Printing.TheVariants.{Segments, Lines}
 use Rattle.segment_output.specs.declared.parts.Progress.{Progress}
@@ -64,7 +63,7 @@ cuts-are segmenter bytes = segments-cut (has_words_alone segmenter) (mark_by seg
 
 -- ---- the segments of lines, and of what comes after them
 
-module _ (segmenter : Segmenter) (style : Style) (parts : PartsBehind (boundaries_by segmenter) line_feed) where
+module _ (segmenter : Segmenter) (look : Look) (parts : PartsBehind (boundaries_by segmenter) line_feed) where
   boundaries-are : (done part : List ℕ) → AreLines done
       → boundaries_by segmenter (done ++ part) ≡ boundaries_by segmenter done ++ shift_all (length done) (drop 1 (boundaries_by segmenter part))
   boundaries-are done part (before, is) =
@@ -78,24 +77,24 @@ module _ (segmenter : Segmenter) (style : Style) (parts : PartsBehind (boundarie
 
   module _ (done part : List ℕ) (lines : AreLines done) (covers : IsCover 0 (length done) (boundaries_by segmenter done)) where
     all-begins : (others : List ℕ)
-        × (lines_of style (done ++ part) (segments_by segmenter (done ++ part)) ≡ lines_of style done (segments_by segmenter done) ++ others)
+        × (lines_of look (done ++ part) (segments_by segmenter (done ++ part)) ≡ lines_of look done (segments_by segmenter done) ++ others)
     all-begins = (
-      lines_of style (done ++ part) (cut_from (has_words_alone segmenter) (mark_by segmenter) (length done) (shift_all (length done) (drop 1 (boundaries_by segmenter part)))),
+      lines_of look (done ++ part) (cut_from (has_words_alone segmenter) (mark_by segmenter) (length done) (shift_all (length done) (drop 1 (boundaries_by segmenter part)))),
       rw (cuts-after done part lines, cuts-are segmenter done)
-          (lines-begin style (has_words_alone segmenter) (mark_by segmenter) done part (boundaries_by segmenter done) [] covers (shift_all (length done) (drop 1 (boundaries_by segmenter part)))),
+          (lines-begin look (has_words_alone segmenter) (mark_by segmenter) done part (boundaries_by segmenter done) [] covers (shift_all (length done) (drop 1 (boundaries_by segmenter part)))),
     )
 
     module _ (cover : IsCover 0 (length part) (boundaries_by segmenter part)) where
-      all-lines : lines_of style (done ++ part) (segments_by segmenter (done ++ part))
-          ≡ lines_of style done (segments_by segmenter done) ++ lines_at style (length done) part (segments_by segmenter part)
+      all-lines : lines_of look (done ++ part) (segments_by segmenter (done ++ part))
+          ≡ lines_of look done (segments_by segmenter done) ++ lines_at look (length done) part (segments_by segmenter part)
       all-lines =
           rw (cuts-after done part lines, cuts-are segmenter done, cuts-are segmenter part)
-          (lines-joined style (has_words_alone segmenter) (mark_by segmenter) done part (boundaries_by segmenter done) (boundaries_by segmenter part) covers cover)
+          (lines-joined look (has_words_alone segmenter) (mark_by segmenter) done part (boundaries_by segmenter done) (boundaries_by segmenter part) covers cover)
 
       all-count : length (segments_by segmenter (done ++ part)) ≡ length (segments_by segmenter done) + length (segments_by segmenter part)
       all-count =
           rw (cuts-after done part lines, cuts-are segmenter done, cuts-are segmenter part)
-          (count-joined style (has_words_alone segmenter) (mark_by segmenter) done part (boundaries_by segmenter done) (boundaries_by segmenter part) covers cover)
+          (count-joined look (has_words_alone segmenter) (mark_by segmenter) done part (boundaries_by segmenter done) (boundaries_by segmenter part) covers cover)
 
       all-cover : IsCover 0 (length (done ++ part)) (boundaries_by segmenter (done ++ part))
       all-cover =
@@ -121,29 +120,29 @@ wrapped-more wrapper done part parts ends (before, is) cover =
 
 printed-begins : (printing : Printing) (done part : List ℕ) → MayBeSplit printing → AreLines done → IsKnown printing done
     → (others : List ℕ) × (printed_behind printing 0 (done ++ part) ≡ printed_behind printing 0 done ++ others)
-printed-begins (Segments segmenter style) done part splits lines covers =
-    let begins = all-begins segmenter.now style splits done part lines covers in (
+printed-begins (Segments segmenter style file) done part splits lines covers =
+    let begins = all-begins segmenter.now (look_by style file) splits done part lines covers in (
       begins.0,
-      lines-at_zero style (done ++ part) (segments_by segmenter.now (done ++ part)) ∙ begins.1
-          ∙ ap (λ (front : List ℕ). front ++ begins.0) (sym (lines-at_zero style done (segments_by segmenter.now done))),
+      lines-at_zero (look_by style file) (done ++ part) (segments_by segmenter.now (done ++ part)) ∙ begins.1
+          ∙ ap (λ (front : List ℕ). front ++ begins.0) (sym (lines-at_zero (look_by style file) done (segments_by segmenter.now done))),
     )
 printed-begins (Lines wrapper) done part splits lines covers =
     (wrapped_output (wrapping_of wrapper.now) part, wrapped-more wrapper.now done part splits.0 splits.1 lines covers)
 
 printed-more : (printing : Printing) (done part : List ℕ) → MayBeSplit printing → AreLines done → IsKnown printing done → IsKnown printing part
     → printed_behind printing 0 (done ++ part) ≡ printed_behind printing 0 done ++ printed_behind printing (length done) part
-printed-more (Segments segmenter style) done part splits lines covers cover =
-    lines-at_zero style (done ++ part) (segments_by segmenter.now (done ++ part)) ∙ all-lines segmenter.now style splits done part lines covers cover
-    ∙ ap (λ (front : List ℕ). front ++ lines_at style (length done) part (segments_by segmenter.now part)) (sym (lines-at_zero style done (segments_by segmenter.now done)))
+printed-more (Segments segmenter style file) done part splits lines covers cover =
+    lines-at_zero (look_by style file) (done ++ part) (segments_by segmenter.now (done ++ part)) ∙ all-lines segmenter.now (look_by style file) splits done part lines covers cover
+    ∙ ap (λ (front : List ℕ). front ++ lines_at (look_by style file) (length done) part (segments_by segmenter.now part)) (sym (lines-at_zero (look_by style file) done (segments_by segmenter.now done)))
 printed-more (Lines wrapper) done part splits lines covers cover = wrapped-more wrapper.now done part splits.0 splits.1 lines covers
 
 count-more : (printing : Printing) (done part : List ℕ) → MayBeSplit printing → AreLines done → IsKnown printing done → IsKnown printing part
     → count_for printing (done ++ part) ≡ count_for printing done + count_for printing part
-count-more (Segments segmenter style) done part splits lines covers cover = all-count segmenter.now style splits done part lines covers cover
+count-more (Segments segmenter style file) done part splits lines covers cover = all-count segmenter.now (look_by style file) splits done part lines covers cover
 count-more (Lines wrapper) done part splits lines covers cover = refl
 
 known-more : (printing : Printing) (done part : List ℕ) → MayBeSplit printing → AreLines done → IsKnown printing done → IsKnown printing part → IsKnown printing (done ++ part)
-known-more (Segments segmenter style) done part splits lines covers cover = all-cover segmenter.now style splits done part lines covers cover
+known-more (Segments segmenter style file) done part splits lines covers cover = all-cover segmenter.now (look_by style file) splits done part lines covers cover
 known-more (Lines wrapper) done part splits (before, is) covers cover =
     let find : List ℕ → List Boundary = boundaries_for (Lines wrapper) in
     let boundaries : find (done ++ part) ≡ find done ++ shift_all (length done) (drop 1 (find part)) =

@@ -36,7 +36,7 @@ count place items = prefix_len (λ (item : Item). nat_lt item.0 place) items
 -- where others follow that begin no earlier
 count-front : (place : ℕ) (items others : List Item) (end : ℕ) → place ≤ place_of others end → count place (items ++ others) ≡ count place items
 count-front place [] [] end later = refl
-count-front place [] (other ∷ others) end later = rw (le-ltb place other.0 later) refl
+count-front place [] (other ∷ others) end later = rw (le-ltb other.0 place later) refl
 count-front place (item ∷ items) others end later = on (nat_lt item.0 place) (count-front place items others end later)
   where
     on : (b : Bool) → count place (items ++ others) ≡ count place items → cond b (1 + count place (items ++ others)) 0 ≡ cond b (1 + count place items) 0
@@ -50,7 +50,7 @@ count-later before place (item ∷ items) = on (nat_lt item.0 place) refl (count
     on : (b : Bool) → nat_lt item.0 place ≡ b → count (before + place) (later_items before items) ≡ count place items
         → cond (nat_lt (before + item.0) (before + place)) (1 + count (before + place) (later_items before items)) 0 ≡ cond b (1 + count place items) 0
     on true is same = rw (lt-ltb (before + item.0) (before + place) (omega (arith, ltb-true item.0 place is))) (ap (λ (n : ℕ). 1 + n) same)
-    on false is same = rw (le-ltb (before + place) (before + item.0) (omega (arith, ltb-false item.0 place is))) refl
+    on false is same = rw (le-ltb (before + item.0) (before + place) (omega (arith, ltb-false item.0 place is))) refl
 
 count-within : (place : ℕ) (items : List Item) → count place items ≤ length items
 count-within place items = prefix_len-le-length (λ (item : Item). nat_lt item.0 place) items
@@ -135,7 +135,7 @@ module _ (measure : Measure) where
       taken (suc n) (item ∷ items) few = ap (λ (k : ℕ). suc k) (taken n items (omega (arith, few)))
 
   -- the last of them ends where a line must
-  EndsLine : List Segment → Type 0
+  abbrev EndsLine : List Segment → Type 0
   EndsLine segments = (some : List Segment) × (last : Segment) × (segments ≡ some ++ last ∷ []) × (last.is_mandatory ≡ true)
 
   segments-last : (text : Text) (boundaries : List Boundary) (end : ℕ) → EndsLine (segments_from measure text (boundaries ++ boundary end 1 ∷ []))
@@ -144,7 +144,7 @@ module _ (measure : Measure) where
   segments-last text (found ∷ boundaries) end =
       let later = segments-last (rest_from found.offset text) boundaries end in
       let first : Segment = segment_of measure (characters_before found.offset text) (found.status == 1) in
-      (first ∷ later.0, later.1.0, ap (λ (segments : List Segment). first ∷ segments) later.1.1.0, later.1.1.1)
+      (first ∷ later.0, later.1, ap (λ (segments : List Segment). first ∷ segments) later.2, later.3)
 
 -- ---- lines end where they must
 
@@ -298,9 +298,9 @@ module _ (measure : Measure) (limit : ℕ) where
       let last : EndsLine measure first =
       subst (λ (boundaries : List Boundary). EndsLine measure (segments_from measure (with_items n items) boundaries)) (sym ended.1) (segments-last measure (with_items n items) ended.0 n) in
       let lines : wrapped_lines limit (first ++ second) ≡ wrapped_lines limit first ++ wrapped_lines limit second =
-      ap (λ (segments : List Segment). wrapped_lines limit (segments ++ second)) last.1.1.0
-      ∙ wrapped-split limit last.0 last.1.0 second last.1.1.1
-      ∙ ap (λ (segments : List Segment). wrapped_lines limit segments ++ wrapped_lines limit second) (sym last.1.1.0) in
+      ap (λ (segments : List Segment). wrapped_lines limit (segments ++ second)) last.2
+      ∙ wrapped-split limit last.0 last.1 second last.3
+      ∙ ap (λ (segments : List Segment). wrapped_lines limit segments ++ wrapped_lines limit second) (sym last.2) in
       ap (λ (segments : List Segment). text_lines (units ++ more) (with_items end (items ++ behind)) (wrapped_lines limit segments)) segments
       ∙ ap (λ (lines : List Line). text_lines (units ++ more) (with_items end (items ++ behind)) lines) lines
       ∙ text_lines-front units more items behind n end (wrapped_lines limit first) (wrapped_lines limit second) rises seam refl
@@ -312,7 +312,7 @@ module _ (measure : Measure) (limit : ℕ) where
     done = before ++ line_feed
 
     split-items : utf8_items 0 (done ++ more) ≡ utf8_items 0 done ++ later_items (length done) (utf8_items 0 more)
-    unfolding utf8_items
+    unfolding utf8_items lib.Utf8.encode
     split-items = items-split read_utf8 read_utf8-stable (0x0A ∷ []) 0x0A (utf8-apart 0x0A refl) before more
 
     from-start : (bytes : List ℕ) → utf8 bytes ≡ with_items (length bytes) (utf8_items 0 bytes)

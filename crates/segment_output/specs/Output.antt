@@ -1,6 +1,7 @@
 -- What is written of a text: each of its segments on a line of its own, or how many there are.
 use Rattle.std.specs.Prelude.{ℕ, ◌+◌, Bool, false, not, ◌||◌, Option, None, Some, List, [], ◌∷◌, ◌++◌, if◌then◌else◌, codes, drop, map, filter, decimal}
 use Rattle.std.specs.List.{flat_map, slice_range, zip}
+use Rattle.std.specs.Option.{option_map}
 use Rattle.std.specs.Str.Lossy.{utf8_lossy}
 use Rattle.json.specs.Print.{print}
 use Rattle.json.specs.Token.{Token, begin_object, end_object, key, string, number, boolean}
@@ -12,6 +13,7 @@ use Rattle.segment_output.specs.declared.marks.Mark.{Mark}
 use Rattle.segment_output.specs.declared.marks.Mark.TheVariants.{Unmarked, Word, Line}
 use Rattle.segment_output.specs.declared.found.Size.{Size}
 use Rattle.segment_output.specs.declared.output.Numbers.{Numbers}
+use Rattle.segment_output.specs.declared.output.Part.{Part}
 use Rattle.segment_output.specs.declared.output.Style.{Style}
 use Rattle.segment_output.specs.declared.output.Style.TheVariants.{Escaped, Raw, ZeroEnded, Json, Offsets, Counted}
 
@@ -52,11 +54,16 @@ mark_tokens Unmarked = []
 mark_tokens (Word kind) = key (codes "type") ∷ string (type_word kind) ∷ []
 mark_tokens (Line is_mandatory) = key (codes "mandatory") ∷ boolean is_mandatory ∷ []
 
+-- the name of the file that a text is in, where it is said
+abbrev pub file_tokens : Option (List ℕ) → List Token
+file_tokens None = []
+file_tokens (Some name) = key (codes "file") ∷ string name ∷ []
+
 -- the object of a text, with U+FFFD for what is ill-formed, and of its places
-abbrev pub object_of : List ℕ → Segment → List Token
-object_of text segment =
+abbrev pub object_of : Option (List ℕ) → List ℕ → Segment → List Token
+object_of file text segment =
     begin_object
-    ∷ key (codes "text") ∷ string (utf8_lossy text)
+    ∷ file_tokens file ++ key (codes "text") ∷ string (utf8_lossy text)
     ∷ key (codes "begin") ∷ number (decimal segment.from)
     ∷ key (codes "end") ∷ number (decimal segment.to)
     ∷ mark_tokens segment.mark ++ end_object ∷ []
@@ -67,31 +74,48 @@ object_of text segment =
 abbrev pub units_of : List ℕ → Segment → List ℕ
 units_of text segment = slice_range text segment.from segment.to
 
+-- how segments are written: in a style, and where objects and places name a file, with that name
+pub record Look : Type 0 where
+  pub style : Style
+  pub file : Option (List ℕ)
+
+-- the end of a line: a name after a space, if there is one, and a line feed
+abbrev pub line_end : Option (List ℕ) → List ℕ
+line_end None = 10 ∷ []
+line_end (Some name) = 32 ∷ name ++ 10 ∷ []
+
 -- the line of a segment, where the second is what is shown of its places; where segments are only counted, it has none
-abbrev pub line_with : Style → List ℕ → Segment → Segment → List ℕ
-line_with Escaped text segment shown = escaped (units_of text segment) ++ 10 ∷ []
-line_with Raw text segment shown = units_of text segment ++ 10 ∷ []
-line_with ZeroEnded text segment shown = units_of text segment ++ 0 ∷ []
-line_with Json text segment shown = print (object_of (units_of text segment) shown) ++ 10 ∷ []
-line_with Offsets text segment shown = decimal shown.from ++ 32 ∷ decimal shown.to ++ 10 ∷ []
-line_with (Counted numbers) text segment shown = []
+abbrev pub line_in : Style → Option (List ℕ) → List ℕ → Segment → Segment → List ℕ
+line_in Escaped file text segment shown = escaped (units_of text segment) ++ 10 ∷ []
+line_in Raw file text segment shown = units_of text segment ++ 10 ∷ []
+line_in ZeroEnded file text segment shown = units_of text segment ++ 0 ∷ []
+line_in Json file text segment shown = print (object_of file (units_of text segment) shown) ++ 10 ∷ []
+line_in Offsets file text segment shown = decimal shown.from ++ 32 ∷ decimal shown.to ++ line_end file
+line_in (Counted numbers) file text segment shown = []
 
-abbrev pub line_of : Style → List ℕ → Segment → List ℕ
-line_of style text segment = line_with style text segment segment
+abbrev pub line_with : Look → List ℕ → Segment → Segment → List ℕ
+line_with look text segment shown = line_in look.style look.file text segment shown
 
-abbrev pub lines_of : Style → List ℕ → List Segment → List ℕ
-lines_of style text segments = flat_map (line_of style text) segments
+abbrev pub line_of : Look → List ℕ → Segment → List ℕ
+line_of look text segment = line_with look text segment segment
+
+abbrev pub lines_of : Look → List ℕ → List Segment → List ℕ
+lines_of look text segments = flat_map (line_of look text) segments
 
 -- the segment so much later
 abbrev pub later : ℕ → Segment → Segment
 later before segment = record { from = before + segment.from; to = before + segment.to; mark = segment.mark }
 
 -- the line of a segment of a part of a text, before which so many bytes stand: its places are those in the whole text
-abbrev pub line_at : Style → ℕ → List ℕ → Segment → List ℕ
-line_at style before part segment = line_with style part segment (later before segment)
+abbrev pub line_at : Look → ℕ → List ℕ → Segment → List ℕ
+line_at look before part segment = line_with look part segment (later before segment)
 
-abbrev pub lines_at : Style → ℕ → List ℕ → List Segment → List ℕ
-lines_at style before part segments = flat_map (line_at style before part) segments
+abbrev pub lines_at : Look → ℕ → List ℕ → List Segment → List ℕ
+lines_at look before part segments = flat_map (line_at look before part) segments
+
+-- how the segments of a part are written
+abbrev pub look_of : Part → Look
+look_of part = record { style = part.style; file = option_map (λ name. name.now) part.file }
 
 -- the segment that ends at a place, if one begins before it
 abbrev pub ended : Option ℕ → ℕ × Mark → List Segment
@@ -108,10 +132,6 @@ beside is_asked count = if is_asked then 32 ∷ decimal count else []
 abbrev pub counts : Numbers → ℕ → Size → List ℕ
 counts numbers segments size = decimal segments ++ beside numbers.lines size.lines ++ beside numbers.bytes size.bytes
 
--- the name of what they were counted in, if it has one, at the line's end
-abbrev pub line_end : Option (List ℕ) → List ℕ
-line_end None = 10 ∷ []
-line_end (Some name) = 32 ∷ name ++ 10 ∷ []
-
+-- and the name of what they were counted in, if it has one
 abbrev pub count_line : Numbers → ℕ → Size → Option (List ℕ) → List ℕ
 count_line numbers segments size name = counts numbers segments size ++ line_end name

@@ -1,19 +1,22 @@
 -- Texts that come part by part, and what is written of them.
 use Rattle.std.specs.Prelude.{◌≡◌, ◌⊎◌, ℕ, ◌+◌, ◌==◌, ◌||◌, Bool, true, false, Option, List, [], ◌∷◌, ◌++◌, length}
 use Rattle.std.specs.Io.KnownBytes.{Appends, Consumes}
+use Rattle.std.specs.Borrow.{Bor}
 use Rattle.std.specs.List.{list_all}
+use Rattle.std.specs.Option.{option_map}
 use Rattle.icu_segmenter.specs.Boundary.{Boundary}
 use Rattle.icu_segmenter.specs.Boundaries.{IsCover}
 use Rattle.icu_segmenter.specs.Decoding.{utf8}
 use Rattle.icu_segmenter.specs.LineBreaks.{line_boundaries_of}
 use Rattle.icu_segmenter.specs.NearBoundaries.{line_feed}
 use Rattle.icu_segmenter.specs.Rules.{PartsBehind}
-use Rattle.segment_output.specs.Output.{lines_at}
+use Rattle.segment_output.specs.Output.{Look, lines_at}
 use Rattle.segment_output.specs.Preparation.{prepared}
 use Rattle.segment_output.specs.Segmenter.{boundaries_by, segments_by}
 use Rattle.segment_output.specs.Size.{both_sizes, size_of}
 use Rattle.segment_output.specs.Wrapped.{Wrapping, wrapped_output, EndsLines}
 use Rattle.segment_output.specs.Wrapper.{wrapping_of}
+use Rattle.segment_output.specs.declared.output.Style.{Style}
 use Rattle.segment_output.specs.declared.parts.Printing.{Printing}
 use Rattle.segment_output.specs.declared.parts.Printing.TheVariants.{Segments, Lines}
 use Rattle.segment_output.specs.declared.parts.Progress.{Progress}
@@ -42,22 +45,26 @@ AreWhole false bytes = AreLines bytes
 
 -- where its segments or its lines may end
 abbrev pub boundaries_for : Printing → List ℕ → List Boundary
-boundaries_for (Segments segmenter style) bytes = boundaries_by segmenter.now bytes
+boundaries_for (Segments segmenter style file) bytes = boundaries_by segmenter.now bytes
 boundaries_for (Lines wrapper) bytes = line_boundaries_of (wrapping_of wrapper.now).lines (utf8 bytes)
+
+-- how segments are written, with the name of a file, if it is said
+abbrev pub look_by : Style → Option (Bor (List ℕ)) → Look
+look_by style file = record { style = style; file = option_map (λ name. name.now) file }
 
 -- what is written of a text before which so many bytes stand: its segments with their places in all, or its wrapped lines
 abbrev pub printed_behind : Printing → ℕ → List ℕ → List ℕ
-printed_behind (Segments segmenter style) before bytes = lines_at style before bytes (segments_by segmenter.now bytes)
+printed_behind (Segments segmenter style file) before bytes = lines_at (look_by style file) before bytes (segments_by segmenter.now bytes)
 printed_behind (Lines wrapper) before bytes = wrapped_output (wrapping_of wrapper.now) bytes
 
 -- how many segments are counted; lines aren't
 abbrev pub count_for : Printing → List ℕ → ℕ
-count_for (Segments segmenter style) bytes = length (segments_by segmenter.now bytes)
+count_for (Segments segmenter style file) bytes = length (segments_by segmenter.now bytes)
 count_for (Lines wrapper) bytes = 0
 
 -- may a text be split behind its line feeds, so that of each part is written what is written of it in the whole
 abbrev pub MayBeSplit : Printing → Type 0
-MayBeSplit (Segments segmenter style) = PartsBehind (boundaries_by segmenter.now) line_feed
+MayBeSplit (Segments segmenter style file) = PartsBehind (boundaries_by segmenter.now) line_feed
 MayBeSplit (Lines wrapper) = PartsBehind (boundaries_for (Lines wrapper)) line_feed × EndsLines (wrapping_of wrapper.now).lines
 
 -- ---- parts as they come

@@ -1,7 +1,7 @@
 -- Stretches of a text in which each segment is written as it stands.
-use Rattle.std.specs.Prelude.{◌≡◌, ℕ, ◌+◌, ◌<◌, ◌≤◌, true, List, [], ◌∷◌, ◌++◌, length, slice_index_or}
+use Rattle.std.specs.Prelude.{◌≡◌, ℕ, ◌+◌, ◌<◌, ◌≤◌, true, Option, List, [], ◌∷◌, ◌++◌, length, slice_index_or}
 use Rattle.segment_output.specs.Escapes.{is_plain}
-use Rattle.segment_output.specs.Output.{Segment, line_with, units_of}
+use Rattle.segment_output.specs.Output.{Segment, line_in, units_of}
 use Rattle.segment_output.specs.declared.output.Style.{Style}
 use Rattle.segment_output.specs.declared.stretch.Stretch.{Stretch}
 
@@ -13,5 +13,5 @@ ArePlain text from to = (place : ℕ) → from ≤ place → place < to → is_p
 abbrev pub IsStretch : Style → List ℕ → Stretch → Type 0
 IsStretch style text stretch =
     (stretch.from ≤ stretch.to → stretch.to + 16 ≤ length text)
-    × ((segment shown : Segment) → stretch.from ≤ segment.from → segment.from ≤ segment.to → segment.to ≤ stretch.to
-    → line_with style text segment shown ≡ units_of text segment ++ stretch.last ∷ [])
+    × ((file : Option (List ℕ)) (segment shown : Segment) → stretch.from ≤ segment.from → segment.from ≤ segment.to → segment.to ≤ stretch.to
+    → line_in style file text segment shown ≡ units_of text segment ++ stretch.last ∷ [])

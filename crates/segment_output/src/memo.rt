@@ -5,13 +5,13 @@ ghost use Rattle.std.specs.Iterator.{item_count};
 ghost use Rattle.icu_segmenter.specs.TextSegments.{marked};
 ghost use Rattle.segment_output.specs.Fault.{IsBeforeWriting};
 ghost use Rattle.segment_output.specs.Memo.{IsFoundBy, IsPrinted, StepsMemo};
-ghost use Rattle.segment_output.specs.Output.{lines_of, segments};
+ghost use Rattle.segment_output.specs.Output.{lines_at, look_of, segments};
 ghost use Rattle.segment_output.specs.Segmenter.{segments_by};
 
 use crate::fault::Fault;
 use crate::found::Found;
 use crate::marks::{HasMark, Mark};
-use crate::output::{Part, Style, print_segments};
+use crate::output::{Part, print_segments};
 use crate::segmenter::Segmenter;
 use icu_segmenter::memo::{MemoBreakIterator, MemoError};
 use icu_segmenter::options::WordType;
@@ -28,25 +28,20 @@ type Memo<'data, 's> = MemoBreakIterator<
     CountedTransitions<'data>,
 >;
 
-/// Writes just what `Segmenter::print` writes, and flushes, but looks up no configuration of the machine twice: the look-ups are as
+/// Writes just what `Segmenter::print_part` writes, and flushes, but looks up no configuration of the machine twice: the look-ups are as
 /// many as there are different configurations that the scans of the segments look up. The errors are those of `with_memo`, which are met
 /// before anything is written, and `NotNeo` where there are abbreviations; the writer's, and being out of memory.
 pub fn print_by_memo<O: Write>(
     alloc: Global,
     segmenter: &Segmenter,
-    text: &[u8],
-    style: Style,
+    part: Part<'_>,
     out: &mut O,
 ) -> Result<Found, Fault>
-    ensures written { IfOk result (λ found. IsFoundBy segmenter.now text.now found
-        × Appends (O.contents out.old) (O.contents out.new) (lines_of style text.now (segments_by segmenter.now text.now))) }
+    ensures written { IfOk result (λ found. IsFoundBy segmenter.now part.entry.bytes.now found
+        × Appends (O.contents out.old) (O.contents out.new) (lines_at (look_of part.entry) part.entry.before part.entry.bytes.now (segments_by segmenter.now part.entry.bytes.now))) }
     ensures unwritten { IfErr result (λ fault. IsBeforeWriting fault → out.new ≡ out.old) }
 {
-    let part = Part {
-        bytes: text,
-        before: 0,
-        style,
-    };
+    let text = part.bytes;
     match segmenter {
         Segmenter::Clusters(clusters) => {
             let memo = clusters.as_borrowed().segment_utf8(text).with_memo(alloc);
@@ -68,7 +63,7 @@ pub fn print_by_memo<O: Write>(
     }
 }
 
-// Writes the segments of a whole text between the boundaries that a memoised engine has still to give, if there is one, or words alone.
+// Writes the segments of a part of a text between the boundaries that a memoised engine has still to give, if there is one, or words alone.
 // `M` is what their statuses say.
 fn print_memo<M: HasMark, O: Write>(
     alloc: Global,
@@ -77,10 +72,9 @@ fn print_memo<M: HasMark, O: Write>(
     part: Part<'_>,
     out: &mut O,
 ) -> Result<Found, Fault>
-    requires { part.before ≡ 0 }
     ensures written { MatchResult memo.entry
         (λ memo. IfOk result (λ found. IsPrinted memo (segments alone (marked M.by_status memo.coming.left)) found
-        × Appends (O.contents out.old) (O.contents out.new) (lines_of part.entry.style part.entry.bytes.now (segments alone (marked M.by_status memo.coming.left))))) (λ _. IsErr result) }
+        × Appends (O.contents out.old) (O.contents out.new) (lines_at (look_of part.entry) part.entry.before part.entry.bytes.now (segments alone (marked M.by_status memo.coming.left))))) (λ _. IsErr result) }
     ensures unwritten { IfErr result (λ fault. IsBeforeWriting fault → out.new ≡ out.old) }
 {
     let mut places: MemoPlaces<'_, '_, M> = match memo {

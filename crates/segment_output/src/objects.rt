@@ -1,37 +1,151 @@
 //! Segments as objects of JSON.
-ghost use Rattle.std.specs.Prelude.{◌≡◌, ◌++◌, ◌∷◌, [], codes, decimal, OnOk};
+ghost use Rattle.std.specs.Prelude.{◌≡◌, ◌++◌, ◌∷◌, [], codes, decimal, option_map, IfSome, IsTrue, OnOk};
 ghost use Rattle.std.specs.Str.Lossy.{utf8_lossy};
-ghost use Rattle.json.specs.Print.{print};
-ghost use Rattle.json.specs.Token.{key, number, string};
-ghost use Rattle.segment_output.specs.Objects.{Adds};
-ghost use Rattle.segment_output.specs.Output.{mark_tokens, object_of, type_word};
+ghost use Rattle.json.specs.Print.{print, print_from};
+ghost use Rattle.json.specs.Token.{end_object, key, number, string};
+ghost use Rattle.segment_output.specs.Objects.{Adds, AreBare, is_bare, opening};
+ghost use Rattle.segment_output.specs.Output.{file_tokens, mark_tokens, object_of, type_word};
 
 use crate::marks::Mark;
+use crate::output::push_digits;
 use icu_segmenter::options::WordType;
 use json::Writer;
 use std::alloc::{AllocError, Global};
 use std::{mem, str};
 
-/// Adds the object of a segment: its text, with U+FFFD for what is ill-formed, where it begins and ends, and what is said of it.
+/// What is said of a segment beside its text and its places.
+#[derive(Clone, Copy)]
+pub struct Said<'n> {
+    /// What ends there.
+    pub mark: Mark,
+    /// The name of its file, if it is said.
+    pub file: Option<&'n str>,
+}
+
+/// Adds the object of a segment: its text, with U+FFFD for what is ill-formed, where it begins and ends, and what is said of it. Fails only when
+/// out of memory.
 pub fn push_object(
     text: &[u8],
     start: usize,
     end: usize,
-    mark: Mark,
+    said: Said<'_>,
     lines: &mut Vec<u8>,
 ) -> Result<(), AllocError>
-    ensures { OnOk result (lines.new.items ≡ lines.old.items ++ print (object_of text.now (record { from = start; to = end; mark = mark }))) }
+    ensures { OnOk result (lines.new.items ≡ lines.old.items ++ print (object_of (option_map (λ name. name.now) said.entry.file) text.now (record { from = start; to = end; mark = said.entry.mark }))) }
+{
+    if is_bare_text(text) && is_bare_name(said.file) {
+        push_bare(text, start, end, said, lines)
+    } else {
+        push_written(text, start, end, said, lines)
+    }
+}
+
+// Whether a text is well-formed, and nothing in it is escaped in a string.
+fn is_bare_text(text: &[u8]) -> bool
+    ensures { IsTrue result → AreBare text.now }
+{
+    str::from_utf8(text).is_ok() && text.iter().all(|byte| is_bare(*byte))
+}
+
+// Whether nothing is escaped in a name, if there is one.
+fn is_bare_name(name: Option<&str>) -> bool
+    ensures { IsTrue result → IfSome name.entry (λ name. AreBare name.now) }
+{
+    match name {
+        Some(name) => is_bare_text(name.as_bytes()),
+        None => true,
+    }
+}
+
+// Whether a byte stands in a string as it is.
+fn is_bare(byte: u8) -> bool
+    ensures { result ≡ is_bare byte }
+{
+    byte >= b' ' && byte != b'"' && byte != b'\\'
+}
+
+// Adds the object of a text and a name in which nothing is escaped.
+fn push_bare(
+    text: &[u8],
+    start: usize,
+    end: usize,
+    said: Said<'_>,
+    lines: &mut Vec<u8>,
+) -> Result<(), AllocError>
+    requires text { AreBare text.now }
+    requires name { IfSome said.file (λ name. AreBare name.now) }
+    ensures { OnOk result (lines.new.items ≡ lines.old.items ++ print (object_of (option_map (λ name. name.now) said.entry.file) text.now (record { from = start; to = end; mark = said.entry.mark }))) }
+{
+    push_opening(said.file, lines)?;
+    lines.extend_from_slice(text)?;
+    lines.extend_from_slice(b"\",\"begin\":")?;
+    push_digits(start, lines)?;
+    lines.extend_from_slice(b",\"end\":")?;
+    push_digits(end, lines)?;
+    lines.extend_from_slice(ending(said.mark))
+}
+
+// Adds how an object begins, up to its text.
+fn push_opening(file: Option<&str>, lines: &mut Vec<u8>) -> Result<(), AllocError>
+    ensures { OnOk result (lines.new.items ≡ lines.old.items ++ opening (option_map (λ name. name.now) file.entry)) }
+{
+    match file {
+        Some(name) => {
+            lines.extend_from_slice(b"{\"file\":\"")?;
+            lines.extend_from_slice(name.as_bytes())?;
+            lines.extend_from_slice(b"\",\"text\":\"")
+        }
+        None => lines.extend_from_slice(b"{\"text\":\""),
+    }
+}
+
+// How an object ends behind its places.
+fn ending(mark: Mark) -> &'static [u8]
+    ensures { result.now ≡ print_from true (mark_tokens mark ++ end_object ∷ []) }
+{
+    match mark {
+        Mark::Unmarked => b"}",
+        Mark::Word(WordType::None) => b",\"type\":\"none\"}",
+        Mark::Word(WordType::Number) => b",\"type\":\"number\"}",
+        Mark::Word(WordType::Letter) => b",\"type\":\"letter\"}",
+        Mark::Line(true) => b",\"mandatory\":true}",
+        Mark::Line(false) => b",\"mandatory\":false}",
+    }
+}
+
+// Adds an object, in whose strings each byte is escaped that must be.
+fn push_written(
+    text: &[u8],
+    start: usize,
+    end: usize,
+    said: Said<'_>,
+    lines: &mut Vec<u8>,
+) -> Result<(), AllocError>
+    ensures { OnOk result (lines.new.items ≡ lines.old.items ++ print (object_of (option_map (λ name. name.now) said.entry.file) text.now (record { from = start; to = end; mark = said.entry.mark }))) }
 {
     let alloc = *lines.allocator();
     let mut object = Writer::new(mem::replace(lines, Vec::new(alloc)));
     object.begin_object()?;
+    push_file(said.file, &mut object)?;
     push_text(alloc, text, &mut object)?;
     push_place("begin", start, &mut object)?;
     push_place("end", end, &mut object)?;
-    push_mark(mark, &mut object)?;
+    push_mark(said.mark, &mut object)?;
     object.end_object()?;
     *lines = object.into_inner();
     Ok(())
+}
+
+fn push_file(file: Option<&str>, object: &mut Writer) -> Result<(), AllocError>
+    ensures { OnOk result (Adds object.old object.new (file_tokens (option_map (λ name. name.now) file.entry))) }
+{
+    match file {
+        Some(name) => {
+            object.key("file")?;
+            object.string(name)
+        }
+        None => Ok(()),
+    }
 }
 
 fn push_text(alloc: Global, text: &[u8], object: &mut Writer) -> Result<(), AllocError>

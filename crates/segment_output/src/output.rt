@@ -4,7 +4,7 @@ ghost use Rattle.std.specs.Io.KnownBytes.{Appends};
 ghost use Rattle.std.specs.Iterator.{IsFinite, YieldsThen};
 ghost use Rattle.std.specs.List.{slice_range};
 ghost use Rattle.segment_output.specs.Gathered.{AreGathered};
-ghost use Rattle.segment_output.specs.Output.{beside, count_line, counts, line_end, segments, line_at, lines_at};
+ghost use Rattle.segment_output.specs.Output.{beside, count_line, counts, line_end, look_of, segments, line_at, lines_at};
 ghost use Rattle.segment_output.specs.Stretch.{IsStretch};
 ghost use Rattle.segment_output.specs.declared.marks.Mark.{Mark};
 ghost use Rattle.segment_output.specs.declared.output.Style.TheVariants.{Json};
@@ -12,7 +12,7 @@ ghost use Rattle.segment_output.specs.declared.output.Style.TheVariants.{Json};
 use crate::escapes::push_escaped;
 use crate::found::Tally;
 use crate::marks::Mark;
-use crate::objects::push_object;
+use crate::objects::{Said, push_object};
 use crate::stretch::{Stretch, push_short, stretch_after};
 use std::alloc::{AllocError, Global};
 use std::io;
@@ -56,6 +56,8 @@ pub struct Part<'s> {
     pub before: usize,
     /// How its segments are written.
     pub style: Style,
+    /// The name of its file, where objects and offsets say it.
+    pub file: Option<&'s str>,
 }
 
 /// The numbers that stand beside that of the segments, where they are counted.
@@ -90,7 +92,7 @@ pub fn print_segments<N: Iterator<Item = (usize, Mark)>, O: Write>(
     requires ends { IsFinite (N.remaining places.old) }
     ensures { IfOk result (λ count. (given : List (ℕ × Mark)) × YieldsThen N.next_gives places.old given None places.new
         × (count ≡ length (segments alone given))
-        × Appends (O.contents out.old) (O.contents out.new) (lines_at part.entry.style part.entry.before part.entry.bytes.now (segments alone given))) }
+        × Appends (O.contents out.old) (O.contents out.new) (lines_at (look_of part.entry) part.entry.before part.entry.bytes.now (segments alone given))) }
 {
     let mut lines = Vec::with_capacity(alloc, LINES_CAPACITY)?;
     let mut stretch = stretch_after(part.bytes, 0, part.style);
@@ -149,7 +151,7 @@ fn push_long<O: Write>(
     requires { IsStretch part.style part.bytes.now stretch.old }
     ensures stretch { OnOk result (IsStretch part.entry.style part.entry.bytes.now stretch.new) }
     ensures lines { OnOk result (AreGathered (O.contents out.old) (O.contents out.new) lines.new.items
-        (lines.old.items ++ line_at part.entry.style part.entry.before part.entry.bytes.now (record { from = segment.start; to = segment.end; mark = segment.mark }))) }
+        (lines.old.items ++ line_at (look_of part.entry) part.entry.before part.entry.bytes.now (record { from = segment.start; to = segment.end; mark = segment.mark }))) }
 {
     if lines.len() >= LINES_LEN {
         write_lines(lines, out)?;
@@ -167,7 +169,7 @@ fn push_segment(
 ) -> Result<(), AllocError>
     requires { IsStretch part.style part.bytes.now stretch.old }
     ensures stretch { OnOk result (IsStretch part.entry.style part.entry.bytes.now stretch.new) }
-    ensures lines { OnOk result (lines.new.items ≡ lines.old.items ++ line_at part.entry.style part.entry.before part.entry.bytes.now (record { from = segment.start; to = segment.end; mark = segment.mark })) }
+    ensures lines { OnOk result (lines.new.items ≡ lines.old.items ++ line_at (look_of part.entry) part.entry.before part.entry.bytes.now (record { from = segment.start; to = segment.end; mark = segment.mark })) }
 {
     let Segment {
         start,
@@ -235,8 +237,8 @@ fn push_name(name: Option<&str>, line: &mut Vec<u8>) -> Result<(), AllocError>
     line.extend_from_slice(b"\n")
 }
 
-// Adds a number in decimal.
-fn push_digits(number: usize, line: &mut Vec<u8>) -> Result<(), AllocError>
+/// Adds a number in decimal.
+pub(crate) fn push_digits(number: usize, line: &mut Vec<u8>) -> Result<(), AllocError>
     ensures { OnOk result (line.new.items ≡ line.old.items ++ decimal number) }
 {
     let mut digits = [0; NUMBER_LEN];
@@ -258,7 +260,7 @@ pub fn write_lines<O: Write>(lines: &mut Vec<u8>, out: &mut O) -> io::Result<()>
 
 // Adds the line of a segment.
 fn push_line(part: Part<'_>, segment: Segment, lines: &mut Vec<u8>) -> Result<(), AllocError>
-    ensures { OnOk result (lines.new.items ≡ lines.old.items ++ line_at part.entry.style part.entry.before part.entry.bytes.now (record { from = segment.start; to = segment.end; mark = segment.mark })) }
+    ensures { OnOk result (lines.new.items ≡ lines.old.items ++ line_at (look_of part.entry) part.entry.before part.entry.bytes.now (record { from = segment.start; to = segment.end; mark = segment.mark })) }
 {
     let Segment { start, end, mark } = segment;
     let bytes = segment_of(part.bytes, start, end);
@@ -277,12 +279,13 @@ fn push_line(part: Part<'_>, segment: Segment, lines: &mut Vec<u8>) -> Result<()
         }
         Style::Json => {
             let (start, end) = (later(part.before, start)?, later(part.before, end)?);
-            push_object(bytes, start, end, mark, lines)?;
+            push_object(bytes, start, end, Said { mark, file: part.file }, lines)?;
             lines.extend_from_slice(b"\n")
         }
         Style::Offsets => {
             push_number(later(part.before, start)?, b' ', lines)?;
-            push_number(later(part.before, end)?, b'\n', lines)
+            push_digits(later(part.before, end)?, lines)?;
+            push_name(part.file, lines)
         }
         Style::Counted(_) => Ok(()),
     }

@@ -26,8 +26,8 @@ const BLOCK_LEN: usize = 65536;
 /// What is written of a text.
 #[derive(Clone, Copy)]
 pub enum Printing<'p> {
-    /// Its segments, in a style.
-    Segments(&'p Segmenter, Style),
+    /// Its segments, in a style, and where objects and offsets name a file, with that name.
+    Segments(&'p Segmenter, Style, Option<&'p str>),
     /// Its wrapped lines.
     Lines(&'p Wrapper),
 }
@@ -61,7 +61,7 @@ impl<'p> Printing<'p> {
         ensures { IsTrue result → MayBeSplit self.entry }
     {
         match self {
-            Printing::Segments(segmenter, _) => segmenter.has_parts(),
+            Printing::Segments(segmenter, _, _) => segmenter.has_parts(),
             Printing::Lines(wrapper) => wrapper.has_parts(),
         }
     }
@@ -71,7 +71,7 @@ impl<'p> Printing<'p> {
         ensures { IsCover 0 (length text.now) (boundaries_for self.entry text.now) }
     {
         match self {
-            Printing::Segments(segmenter, _) => segmenter.cover(text),
+            Printing::Segments(segmenter, _, _) => segmenter.cover(text),
             Printing::Lines(wrapper) => wrapper.cover(text),
         }
     }
@@ -89,11 +89,12 @@ impl<'p> Printing<'p> {
             × Appends (O.contents out.old) (O.contents out.new) (printed_behind self.entry before text.now)) }
     {
         match self {
-            Printing::Segments(segmenter, style) => {
+            Printing::Segments(segmenter, style, file) => {
                 let part = Part {
                     bytes: text,
                     before,
                     style,
+                    file,
                 };
                 segmenter.print_part(alloc, part, out)
             }

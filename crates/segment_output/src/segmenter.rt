@@ -2,7 +2,7 @@
 ghost use Rattle.std.specs.Prelude.{◌≡◌, length, IfOk, IsTrue};
 ghost use Rattle.std.specs.Option.{option_map};
 ghost use Rattle.std.specs.Io.KnownBytes.{Appends};
-ghost use Rattle.segment_output.specs.Output.{lines_at, lines_of, segments};
+ghost use Rattle.segment_output.specs.Output.{lines_at, look_of, segments};
 ghost use Rattle.icu_segmenter.specs.Abbreviations.{abbreviations_of};
 ghost use Rattle.icu_segmenter.specs.Boundaries.{IsCover};
 ghost use Rattle.icu_segmenter.specs.Clusters.{owned_cluster_rules, owned_sentence_rules};
@@ -16,7 +16,7 @@ ghost use Rattle.icu_segmenter.specs.Words.{owned_word_rules};
 ghost use Rattle.segment_output.specs.Segmenter.{boundaries_by, cluster_rules_by, line_rules_by, line_rules_of, segments_by, sentence_rules_by, suppressed_finder, word_rules_by, IsAskedOf, IsByMachine};
 
 use crate::marks::{Bare, HasMark, Marked};
-use crate::output::{Part, Style, print_segments};
+use crate::output::{Part, print_segments};
 use crate::vocabulary::Vocabulary;
 use icu_segmenter::cursor::{Segmenter as Cursor, SegmenterOf};
 use icu_segmenter::options::LineBreakOptions;
@@ -83,7 +83,7 @@ impl Segmenter {
         out: &mut O,
     ) -> io::Result<usize>
         ensures { IfOk result (λ count. (count ≡ length (segments_by self.now part.entry.bytes.now))
-            × Appends (O.contents out.old) (O.contents out.new) (lines_at part.entry.style part.entry.before part.entry.bytes.now (segments_by self.now part.entry.bytes.now))) }
+            × Appends (O.contents out.old) (O.contents out.new) (lines_at (look_of part.entry) part.entry.before part.entry.bytes.now (segments_by self.now part.entry.bytes.now))) }
     {
         match self {
             Segmenter::Clusters(clusters) => {
@@ -108,25 +108,6 @@ impl Segmenter {
             }
         }
     }
-
-    /// The same of a whole text.
-    pub fn print<O: Write>(
-        &self,
-        alloc: Global,
-        text: &[u8],
-        style: Style,
-        out: &mut O,
-    ) -> io::Result<usize>
-        ensures { IfOk result (λ count. (count ≡ length (segments_by self.now text.now))
-            × Appends (O.contents out.old) (O.contents out.new) (lines_of style text.now (segments_by self.now text.now))) }
-    {
-        let part = Part {
-            bytes: text,
-            before: 0,
-            style,
-        };
-        self.print_part(alloc, part, out)
-    }
 }
 
 // Writes the segments between the boundaries that come, or words alone.
@@ -140,7 +121,7 @@ fn print_breaks<M: HasMark, B: BreakIterator<Mark = M>, O: Write>(
 ) -> io::Result<usize>
     ensures { IfOk result (λ count.
         let found = segments alone (marked (λ status. M.said (B.mark status)) (B.left breaks)) in
-        (count ≡ length found) × Appends (O.contents out.old) (O.contents out.new) (lines_at part.entry.style part.entry.before part.entry.bytes.now found)) }
+        (count ≡ length found) × Appends (O.contents out.old) (O.contents out.new) (lines_at (look_of part.entry) part.entry.before part.entry.bytes.now found)) }
 {
     let mut places = Marked { breaks };
     print_segments(alloc, &mut places, alone, part, out)
@@ -157,7 +138,7 @@ fn print_words<M: HasMark, B: BreakIterator<Mark = M>, O: Write>(
 ) -> io::Result<usize>
     ensures { IfOk result (λ count.
         let found = segments alone (marked (λ status. M.said (B.mark status)) (B.left breaks)) in
-        (count ≡ length found) × Appends (O.contents out.old) (O.contents out.new) (lines_at part.entry.style part.entry.before part.entry.bytes.now found)) }
+        (count ≡ length found) × Appends (O.contents out.old) (O.contents out.new) (lines_at (look_of part.entry) part.entry.before part.entry.bytes.now found)) }
 {
     if part.style.asks_marks(alone) {
         return print_breaks(alloc, breaks, alone, part, out);

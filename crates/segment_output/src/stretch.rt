@@ -1,9 +1,8 @@
 //! Stretches of a text in which each segment is written as it stands.
 ghost use Rattle.std.specs.Prelude.{◌≡◌, ◌+◌, ◌^◌, ◌<◌, ◌≤◌, ◌++◌, ◌∷◌, [], ℕ, true, false, length, slice_range, vec_capacity, vec_len, IsTrue};
-ghost use Rattle.segment_output.specs.Output.{line_at};
+ghost use Rattle.segment_output.specs.Output.{Look, line_at};
 ghost use Rattle.segment_output.specs.Stretch.{ArePlain, IsStretch};
 ghost use Rattle.segment_output.specs.declared.marks.Mark.{Mark};
-ghost use Rattle.segment_output.specs.declared.output.Style.{Style};
 
 use crate::escapes::is_plain;
 use crate::output::Style;
@@ -112,8 +111,8 @@ pub fn push_short(
     lines: &mut Vec<u8>,
 ) -> bool
     requires { stretch.now.from ≤ stretch.now.to → stretch.now.to + 16 ≤ length text.now }
-    ensures short { (style : Style) (before : ℕ) (mark : Mark) → IsStretch style text.now stretch.now → IsTrue result
-        → lines.new.items ≡ lines.old.items ++ line_at style before text.now (record { from = start; to = end; mark = mark }) }
+    ensures short { (look : Look) (before : ℕ) (mark : Mark) → IsStretch look.style text.now stretch.now → IsTrue result
+        → lines.new.items ≡ lines.old.items ++ line_at look before text.now (record { from = start; to = end; mark = mark }) }
     ensures begun { IsTrue result → start + 1 < 2 ^ 64 }
     ensures long { result ≡ false → lines.new.items ≡ lines.old.items }
 {

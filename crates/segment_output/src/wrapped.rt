@@ -35,7 +35,7 @@ pub fn push_line(line: &[u8], gathered: &mut Vec<u8>) -> Result<(), AllocError>
 fn is_signature(line: &[u8]) -> bool
     ensures { result ≡ is_signature line.now }
 {
-    line == b"-- \n" || line == b"-- \r\n"
+    matches!(line, b"-- \n" | b"-- \r\n")
 }
 
 /// A line without its trailing white space.

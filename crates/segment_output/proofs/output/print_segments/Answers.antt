@@ -2,7 +2,7 @@
 use Rattle.std.proofs.Common.{◌≡◌, ℕ, Bool, true, false, List, Option, ◌∷◌, [], ◌++◌, sym, ap, refl, rules, append-nil, ◌∙◌}
 use Rattle.std.specs.Option.{option_map}
 use Rattle.std.proofs.lemmas.Bool.{true≢false}
-use Rattle.segment_output.specs.Output.{ended, line_at, segments}
+use Rattle.segment_output.specs.Output.{look_of, ended, line_at, segments}
 use Rattle.segment_output.specs.declared.marks.Mark.{Mark}
 use Rattle.segment_output.proofs.Gathered.{count-more, gathered-all, gathered-none, gathered-one, gathered-same}
 use Rattle.segment_output.proofs.Segments.{begun, begun-at, begun-not, has-begun, last, last-more, segments-more, segments-same}
@@ -41,8 +41,8 @@ places-preserved-in_ok-count g c =
     segments-more c.args.alone found end (sym c.is_shown.ensures ∙ c.if-not-is_shown.false)
     ∙ ap (λ (start : Option ℕ). segments c.args.alone found ++ ended start end) (sym c.places.invariant.0 ∙ begun-at c.places.has_begun c.places.start is) in (
       last-is c.places.has_begun found end is,
-      gathered-one (line_at c.args.part.style c.args.part.before c.args.part.bytes.now) (segments c.args.alone found) _ _ _ _ _ _ _ more c.places.invariant.1
-          (gathered-same _ _ _ (c.push_short.ensures.short c.args.part.style c.args.part.before c.in-Some.mark c.places.invariant.3 c.if-push_short.true)),
+      gathered-one (line_at (look_of c.args.part) c.args.part.before c.args.part.bytes.now) (segments c.args.alone found) _ _ _ _ _ _ _ more c.places.invariant.1
+          (gathered-same _ _ _ (c.push_short.ensures.short (look_of c.args.part) c.args.part.before c.in-Some.mark c.places.invariant.3 c.if-push_short.true)),
       count-more (segments c.args.alone found) _ _ _ _ more c.places.invariant.2 (search rules),
       c.places.invariant.3,
       never _ c.places.has_begun is,
@@ -57,7 +57,7 @@ places-preserved-in_ok-push_long-in_default-style g c =
     segments-more c.args.alone found end (sym c.is_shown.ensures ∙ c.if-not-is_shown.false)
     ∙ ap (λ (start : Option ℕ). segments c.args.alone found ++ ended start end) (sym c.places.invariant.0 ∙ begun-at c.places.has_begun c.places.start is) in (
       last-is c.places.has_begun found end is,
-      gathered-one (line_at c.args.part.style c.args.part.before c.args.part.bytes.now) (segments c.args.alone found) _ _ _ _ _ _ _ more c.places.invariant.1
+      gathered-one (line_at (look_of c.args.part) c.args.part.before c.args.part.bytes.now) (segments c.args.alone found) _ _ _ _ _ _ _ more c.places.invariant.1
           (rw (← c.push_short.ensures.long c.if-push_short.false) c.in_ok-push_long-in_default-style.ensures.lines),
       count-more (segments c.args.alone found) _ _ _ _ more c.places.invariant.2 (search rules),
       c.in_ok-push_long-in_default-style.ensures.stretch,
@@ -73,7 +73,7 @@ places-preserved-in-Counted g c =
     segments-more c.args.alone found end (sym c.is_shown.ensures ∙ c.if-not-is_shown.false)
     ∙ ap (λ (start : Option ℕ). segments c.args.alone found ++ ended start end) (sym c.places.invariant.0 ∙ begun-at c.places.has_begun c.places.start is) in (
       last-is c.places.has_begun found end is,
-      gathered-one (line_at c.args.part.style c.args.part.before c.args.part.bytes.now) (segments c.args.alone found) _ _ _ _ _ _ _ more c.places.invariant.1
+      gathered-one (line_at (look_of c.args.part) c.args.part.before c.args.part.bytes.now) (segments c.args.alone found) _ _ _ _ _ _ _ more c.places.invariant.1
           (gathered-same _ _ _ (c.push_short.ensures.long c.if-push_short.false ∙ rw c.in-Counted.is (sym (append-nil c.places.lines.items)))),
       count-more (segments c.args.alone found) _ _ _ _ more c.places.invariant.2 (search rules),
       c.places.invariant.3,

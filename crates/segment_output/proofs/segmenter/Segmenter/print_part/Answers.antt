@@ -5,7 +5,7 @@ use Rattle.icu_segmenter.specs.LineBreaks.{LineRules, line_boundaries_of}
 use Rattle.icu_segmenter.specs.Rules.{Rules, boundaries_of}
 use Rattle.icu_segmenter.specs.Decoding.{utf8}
 use Rattle.icu_segmenter.specs.WordRules.{WordRules, type_of, word_boundaries_of}
-use Rattle.segment_output.specs.Output.{lines_at}
+use Rattle.segment_output.specs.Output.{look_of, lines_at}
 use Rattle.segment_output.specs.declared.marks.Mark.TheVariants.{Unmarked, Word, Line}
 use Rattle.segment_output.proofs.Printed.{all-printed}
 use Rattle.segment_output.proofs.segmenter.Segmenter.print_part.Goals as goal
@@ -13,29 +13,29 @@ use Rattle.segment_output.proofs.segmenter.Segmenter.print_part.Goals as goal
 pub returns-in-Clusters : goal.returns-in-Clusters
 returns-in-Clusters g c =
     rw c.in-Clusters.is
-    (all-printed false (λ status. Unmarked) (λ found. lines_at c.args.part.style c.args.part.before c.args.part.bytes.now found) _ _ _ _ _
+    (all-printed false (λ status. Unmarked) (λ found. lines_at (look_of c.args.part) c.args.part.before c.args.part.bytes.now found) _ _ _ _ _
     (c.segment_utf8-places.ensures.boundaries ∙ ap (λ (rules : Rules). boundaries_of rules (utf8 c.args.part.bytes.now)) c.as_borrowed.ensures) c.print_breaks.ensures)
 
 pub returns-in-Words : goal.returns-in-Words
 returns-in-Words g c =
     rw c.in-Words.is
-    (all-printed c.in-Words.alone (λ status. Word (type_of status)) (λ found. lines_at c.args.part.style c.args.part.before c.args.part.bytes.now found) _ _ _ _ _
+    (all-printed c.in-Words.alone (λ status. Word (type_of status)) (λ found. lines_at (look_of c.args.part) c.args.part.before c.args.part.bytes.now found) _ _ _ _ _
     (c.segment_utf8-places-in-Words.ensures.boundaries ∙ ap (λ (rules : WordRules). word_boundaries_of rules (utf8 c.args.part.bytes.now)) c.as_borrowed-in-Words.ensures) c.print_words.ensures)
 
 pub returns-in-Sentences : goal.returns-in-Sentences
 returns-in-Sentences g c =
     rw c.in-Sentences.is
-    (all-printed false (λ status. Unmarked) (λ found. lines_at c.args.part.style c.args.part.before c.args.part.bytes.now found) _ _ _ _ _
+    (all-printed false (λ status. Unmarked) (λ found. lines_at (look_of c.args.part) c.args.part.before c.args.part.bytes.now found) _ _ _ _ _
     (c.segment_utf8-places-in-Sentences.ensures.boundaries ∙ ap (λ (rules : Rules). boundaries_of rules (utf8 c.args.part.bytes.now)) c.as_borrowed-in-Sentences.ensures) c.print_breaks-in-Sentences.ensures)
 
 pub returns-in-Suppressing : goal.returns-in-Suppressing
 returns-in-Suppressing g c =
     rw c.in-Suppressing.is
-    (all-printed false (λ status. Unmarked) (λ found. lines_at c.args.part.style c.args.part.before c.args.part.bytes.now found) _ _ _ _ _
+    (all-printed false (λ status. Unmarked) (λ found. lines_at (look_of c.args.part) c.args.part.before c.args.part.bytes.now found) _ _ _ _ _
     (c.segment_utf8-places-in-Suppressing.ensures.boundaries ∙ ap (λ find. boundaries_in find (utf8 c.args.part.bytes.now)) c.suppressing.ensures) c.print_breaks-in-Suppressing.ensures)
 
 pub returns-in-Lines : goal.returns-in-Lines
 returns-in-Lines g c =
     rw c.in-Lines.is
-    (all-printed false (λ status. Line (status == 1)) (λ found. lines_at c.args.part.style c.args.part.before c.args.part.bytes.now found) _ _ _ _ _
+    (all-printed false (λ status. Line (status == 1)) (λ found. lines_at (look_of c.args.part) c.args.part.before c.args.part.bytes.now found) _ _ _ _ _
     (c.segment_utf8-places-in-Lines.ensures.boundaries ∙ ap (λ (rules : LineRules). line_boundaries_of rules (utf8 c.args.part.bytes.now)) c.as_borrowed-in-Lines.ensures) c.print_breaks-in-Lines.ensures)
