@@ -1,2 +1,3 @@
+mod Lines
 mod Scanning
 mod Merging

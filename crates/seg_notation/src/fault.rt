@@ -1,4 +1,4 @@
-//! What is wrong with a text, and at which line: for callers of `TextRules`, and within this crate.
+//! What is wrong with a text, and where: for callers of `TextRules`, and within this crate.
 
 use std::alloc::{AllocError, AllocFailed};
 use std::fmt::{self, Debug, Display, Formatter};
@@ -6,12 +6,48 @@ use thiserror::Error;
 
 /// Why a text gives no rules.
 #[derive(Clone, Copy, Debug, PartialEq, Error)]
-#[error("line {line}: {fault}")]
+#[error("line {line}, column {column}: {fault}")]
 pub struct TextError {
     /// The number of the line, from 1 on.
     pub line: usize,
+    /// Where the wrong word or sign begins in that line, in characters, from 1 on. Where something is missing at the end of the line, this
+    /// is the column behind its last character that is no blank. `NoRules` and `NoLastRule`, which are faults of the whole text, have 1,
+    /// and `Memory` has any column of the line that was read.
+    pub column: usize,
     /// What is wrong there.
     pub fault: Fault,
+}
+
+impl TextError {
+    /// The word that is wrong: what stands at this line and column of the text that was read, up to a blank or the end of the line. It is
+    /// empty where something is missing at the end of the line, for `NoRules`, `NoLastRule` and `Memory`, which are no word's fault, and in
+    /// another text that has no such place.
+    pub fn word_in<'t>(&self, text: &'t str) -> &'t str {
+        if matches!(
+            self.fault,
+            Fault::NoRules | Fault::NoLastRule | Fault::Memory
+        ) {
+            return "";
+        }
+        let line = self.line.saturating_sub(1);
+        match text.split('\n').nth(line) {
+            Some(line) => word_at(line, self.column),
+            None => "",
+        }
+    }
+}
+
+// What stands at a column of a line up to a blank.
+fn word_at(line: &str, column: usize) -> &str {
+    let mut characters = line.chars();
+    for _ in 1..column {
+        characters.next();
+    }
+    let rest = characters.as_str();
+    match rest.find([' ', '\t', '\r']) {
+        Some(len) => &rest[..len],
+        None => rest,
+    }
 }
 
 /// What is wrong at a line, by what was wanted there.
@@ -98,7 +134,7 @@ pub enum Fault {
     #[error("wanted | or )")]
     NoParenthesis,
     /// A group of two symbols that aren't the same, or that doesn't repeat them.
-    #[error("wanted | or ), or one symbol twice, as in (a a)*")]
+    #[error("wanted | or ), or one symbol twice as in (a a)*; two in turn stand in a row of their own, as Back × Quote")]
     NoPairs,
     /// `*` or `?` without anything before it.
     #[error("wanted a symbol before * or ?")]

@@ -2,19 +2,38 @@
 ghost use Rattle.std.specs.Prelude.{◌≡◌, drop, slice_get, if◌then◌else◌};
 ghost use Rattle.seg_notation.specs.Scanning.{past_blanks, begins_blank, begins_with};
 
-/// What is left of a line.
+/// What is left of a line, and where it is wrong if a fault is found now. A place is how many characters are left from it on.
 #[derive(Clone, Copy)]
 pub(crate) struct Line<'a> {
     rest: &'a [char],
+    // The place behind the last character that was read, blanks aside.
+    end: usize,
+    // The place where a word or a sign was looked for last.
+    token: usize,
 }
 
 impl<'a> Line<'a> {
     /// A line, of which nothing is read.
     pub(crate) fn new(rest: &'a [char]) -> Line<'a> {
-        Line { rest }
+        Line {
+            rest,
+            end: rest.len(),
+            token: rest.len(),
+        }
     }
 
-    /// How many characters are left.
+    /// The place where a word or a sign was looked for last, behind blanks; at the end of the line, and before a comment, that is before
+    /// the blanks. A fault is there.
+    pub(crate) fn token(&self) -> usize {
+        self.token
+    }
+
+    /// Sets that place, for a fault that is found only after more was read.
+    pub(crate) fn go_back_to(&mut self, token: usize) {
+        self.token = token;
+    }
+
+    /// How many characters are left, which is the place of the next.
     pub(crate) fn len(&self) -> usize {
         self.rest.len()
     }
@@ -30,17 +49,34 @@ impl<'a> Line<'a> {
     pub(crate) fn read(&mut self) -> Option<char>
         ensures { self.new.rest.now ≡ drop 1 self.old.rest.now }
     {
+        let is_blank = self.is_before_blank();
         let (first, rest) = self.rest.split_first()?;
         self.rest = rest;
+        if !is_blank {
+            self.end = rest.len();
+        }
         Some(*first)
     }
 
-    /// Reads blanks.
+    /// Reads blanks. What comes next is looked for.
     pub(crate) fn skip_blanks(&mut self)
         ensures { self.new.rest.now ≡ past_blanks self.old.rest.now }
     {
         while self.is_before_blank() {
             self.read();
+        }
+        self.token = if self.is_before_end() {
+            self.end
+        } else {
+            self.rest.len()
+        };
+    }
+
+    // Whether the line ends here, or a `#` comes next.
+    fn is_before_end(&self) -> bool {
+        match self.next() {
+            Some(next) => next == '#',
+            None => true,
         }
     }
 
@@ -119,6 +155,7 @@ impl<'a> Line<'a> {
 
     /// Whether this word comes next, behind blanks; it is read if it does.
     pub(crate) fn takes_word(&mut self, wanted: &str) -> bool {
+        self.skip_blanks();
         let mut ahead = *self;
         let is_next = spells(wanted, ahead.word());
         if is_next {
@@ -127,24 +164,23 @@ impl<'a> Line<'a> {
         is_next
     }
 
-    /// Reads what stands before the next `=` or `}`; all that is left if there is none.
+    /// Reads what stands before the next `=` or `}`, which is looked for; all that is left if there is none.
     pub(crate) fn property(&mut self) -> &'a [char] {
+        self.token = self.rest.len();
         self.cut(property_len(self.rest))
     }
 
     /// Whether nothing is left but blanks, and what follows a `#`. Blanks are read.
     pub(crate) fn is_done(&mut self) -> bool {
         self.skip_blanks();
-        match self.next() {
-            Some(next) => next == '#',
-            None => true,
-        }
+        self.is_before_end()
     }
 
     // Reads so many characters, or all that are left.
     fn cut(&mut self, len: usize) -> &'a [char] {
         let (part, rest) = self.rest.split_at(len.min(self.rest.len()));
         self.rest = rest;
+        self.end = rest.len();
         part
     }
 }

@@ -59,7 +59,12 @@ pub(crate) fn row_of(
     symbols: &Symbols,
     number: usize,
 ) -> Result<OwnRow, Fault> {
+    let start = line.len();
     let left = items_of(alloc, line, symbols, Side::Left)?;
+    if may_be_left_out(left.first()) {
+        line.go_back_to(start);
+        return Err(Fault::NothingBeyond);
+    }
     let Some(verdict) = verdict(line) else {
         return Err(Fault::NoVerdict);
     };
@@ -67,7 +72,7 @@ pub(crate) fn row_of(
     if !line.is_done() {
         return Err(Fault::SecondVerdict);
     }
-    if may_be_left_out(left.first()) || may_be_left_out(right.last()) {
+    if may_be_left_out(right.last()) {
         return Err(Fault::NothingBeyond);
     }
     Ok(OwnRow {
@@ -246,8 +251,11 @@ fn class_of(symbol: Symbol) -> Class {
 
 /// Reads the rule of marks behind its `X`, up to the end of its line.
 pub(crate) fn marks_of(line: &mut Line<'_>, symbols: &Symbols) -> Result<Marks, Fault> {
+    line.skip_blanks();
+    let start = line.len();
     let (marks, count) = item(line, symbols, Side::Left)?;
     if marks & EDGE != 0 {
+        line.go_back_to(start);
         return Err(Fault::OtherEdge);
     }
     if count != Count::Star || !is_treated(line) {

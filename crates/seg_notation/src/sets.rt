@@ -69,6 +69,7 @@ fn property(alloc: Global, line: &mut Line<'_>) -> Result<CodePoints, Fault> {
     if !line.takes_at_once('p') || !line.takes_at_once('{') {
         return Err(Fault::NoTerm);
     }
+    let start = line.len();
     let name = line.property();
     let value = if line.takes_at_once('=') {
         Some(line.property())
@@ -78,7 +79,11 @@ fn property(alloc: Global, line: &mut Line<'_>) -> Result<CodePoints, Fault> {
     if !line.takes_at_once('}') {
         return Err(Fault::NoBrace);
     }
-    Ok(members(alloc, found(alloc, name, value)?)?)
+    let set = found(alloc, name, value);
+    if matches!(set, Err(Fault::UnknownProperty)) {
+        line.go_back_to(start);
+    }
+    Ok(members(alloc, set?)?)
 }
 
 // The code points that a property names.
@@ -144,25 +149,29 @@ fn code_points_of(alloc: Global, ranges: &[(u32, u32)]) -> Result<CodePoints, Fa
 
 // Reads a character within brackets, or a range of them.
 fn range(line: &mut Line<'_>) -> Result<(u32, u32), Fault> {
+    let start = line.len();
     let first = character(line)?;
-    if line.takes_dots() {
-        in_order(first, character(line)?)
-    } else {
-        Ok((first, first))
+    if !line.takes_dots() {
+        return Ok((first, first));
     }
+    let last = character(line)?;
+    line.go_back_to(start);
+    in_order(first, last)
 }
 
 // Reads a code point by its number outside of brackets, or a range of them.
 fn numbers(line: &mut Line<'_>) -> Result<(u32, u32), Fault> {
+    let start = line.len();
     let first = number(line)?;
     if !line.takes_dots() {
         return Ok((first, first));
     }
-    if line.begins_number() {
-        in_order(first, number(line)?)
-    } else {
-        Err(Fault::NoCharacter)
+    if !line.begins_number() {
+        return Err(Fault::NoCharacter);
     }
+    let last = number(line)?;
+    line.go_back_to(start);
+    in_order(first, last)
 }
 
 fn in_order(first: u32, last: u32) -> Result<(u32, u32), Fault> {

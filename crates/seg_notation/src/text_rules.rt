@@ -1,6 +1,8 @@
 //! Rules that were read from a text: the reader of lines, and what a caller gets.
 
 ghost use Rattle.std.specs.Prelude.{◌≡◌, ◌+◌, ◌-◌, ◌^◌, ◌≤◌, ◌==◌, count_by, length, min};
+ghost use Rattle.std.specs.List.{after_first, before_first};
+ghost use Rattle.seg_notation.specs.Lines.{is_end};
 
 use crate::fault::{Fault, TextError};
 use crate::given::rows_of;
@@ -35,33 +37,36 @@ const MAX_ROWS: usize = 255;
 impl TextRules {
     ghost use Rattle.std.specs.Prelude.{IfOk, IfErr};
     ghost use Rattle.seg_rules.specs.Passed.{FindsPlaces};
-    ghost use Rattle.seg_notation.specs.Lines.{IsLineOf};
+    ghost use Rattle.seg_notation.specs.Lines.{IsColumnOf, IsLineOf};
     ghost use Rattle.seg_notation.specs.Texts.{rules_in};
 
     /// Reads rules from a text, whose notation is told at the head of this crate.
     ///
-    /// The error has the first line that is wrong, and what is wrong there: of a text that lacks rules its last line, and the line that
-    /// was read when memory was refused.
+    /// The error has the first line that is wrong, the column, and what is wrong there: of a text that lacks rules its last line, and the
+    /// line that was read when memory was refused.
     pub fn try_from_text(alloc: Global, text: &str) -> Result<TextRules, TextError>
-        ensures { IfErr result (λ error. IsLineOf text.now error.line) }
+        ensures line { IfErr result (λ error. IsLineOf text.now error.line) }
+        ensures column { IfErr result (λ error. IsColumnOf text.now error.line error.column) }
     {
         let ends = line_ends(text);
         let characters = match text.chars().collect::<Vec<char>>(alloc) {
             Ok(characters) => characters,
-            Err(_) => return Err(error_at(0, Fault::Memory)),
+            Err(_) => return Err(error_at(0, 1, Fault::Memory)),
         };
         let mut rules = TextRules::new(alloc);
         let mut rest = characters.as_slice();
         for before in 0..=ends {
             let (line, others) = first_line(rest);
             rest = others;
-            if let Err(fault) = rules.read(alloc, Line::new(line), before.saturating_add(1)) {
-                return Err(error_at(before, fault));
+            let mut unread = Line::new(line);
+            if let Err(fault) = rules.read(alloc, &mut unread, before.saturating_add(1)) {
+                let column = column_of(line, unread.token());
+                return Err(error_at(before, column, fault));
             }
         }
         match rules.check() {
             Ok(()) => Ok(rules),
-            Err(fault) => Err(error_at(ends, fault)),
+            Err(fault) => Err(error_at(ends, 1, fault)),
         }
     }
 
@@ -125,47 +130,50 @@ impl TextRules {
     }
 
     // Reads a line, whose number is given.
-    fn read(&mut self, alloc: Global, line: Line<'_>, number: usize) -> Result<(), Fault> {
-        let mut line = line;
+    fn read(&mut self, alloc: Global, line: &mut Line<'_>, number: usize) -> Result<(), Fault> {
         if line.is_done() {
             return Ok(());
         }
-        let mut ahead = line;
+        let start = line.len();
+        let mut ahead = *line;
         let word = ahead.word();
         if !word.is_empty() && ahead.takes('=') {
-            return self.read_set(alloc, word, ahead, number);
+            *line = ahead;
+            line.go_back_to(start);
+            return self.read_set(alloc, word, line, number);
         }
         if line.takes_word("X") {
             return self.read_marks(line);
         }
-        let row = row_of(alloc, &mut line, &self.symbols, number)?;
+        let row = row_of(alloc, line, &self.symbols, number)?;
+        line.go_back_to(start);
         self.add(row)
     }
 
-    // Reads a set behind its `=`.
+    // Reads a set behind its `=`, whose name is where the line has gone back to.
     fn read_set(
         &mut self,
         alloc: Global,
         word: &[char],
-        line: Line<'_>,
+        line: &mut Line<'_>,
         number: usize,
     ) -> Result<(), Fault> {
-        let mut line = line;
+        let name = line.token();
         if self.has_end || self.has_marks || !self.above.is_empty() {
             return Err(Fault::SetAfterRule);
         }
         self.symbols.check_name(word)?;
-        let points = set_of(alloc, &mut line, &self.symbols)?;
+        let points = set_of(alloc, line, &self.symbols)?;
+        line.go_back_to(name);
         self.symbols.add(alloc, word, number, points)
     }
 
     // Reads the rule of marks behind its `X`.
-    fn read_marks(&mut self, line: Line<'_>) -> Result<(), Fault> {
-        let mut line = line;
+    fn read_marks(&mut self, line: &mut Line<'_>) -> Result<(), Fault> {
         if self.has_marks {
             return Err(Fault::SecondMarks);
         }
-        self.marks = marks_of(&mut line, &self.symbols)?;
+        self.marks = marks_of(line, &self.symbols)?;
         self.has_marks = true;
         Ok(())
     }
@@ -205,13 +213,23 @@ impl TextRules {
 }
 
 // What is wrong in the line after so many ends of lines.
-fn error_at(ends: usize, fault: Fault) -> TextError
-    ensures { result.line ≡ min (ends + 1) (2 ^ 64 - 1) }
+fn error_at(ends: usize, column: usize, fault: Fault) -> TextError
+    ensures line { result.line ≡ min (ends + 1) (2 ^ 64 - 1) }
+    ensures column { result.column ≡ column }
 {
     TextError {
         line: ends.saturating_add(1),
+        column,
         fault,
     }
+}
+
+// The column of the place in a line where so many characters are left.
+fn column_of(line: &[char], left: usize) -> usize
+    ensures some { 1 ≤ result }
+    ensures few { result ≤ length line.now + 1 }
+{
+    line.len().saturating_sub(left).saturating_add(1)
 }
 
 // Adds a rule to those above that of marks, or below it.
@@ -255,11 +273,12 @@ fn line_ends(text: &str) -> usize
 }
 
 // The first line of some, without its end, and what follows it.
-fn first_line(characters: &[char]) -> (&[char], &[char]) {
-    for (index, character) in characters.iter().enumerate() {
-        if *character == '\n' {
-            return (&characters[..index], &characters[index + 1..]);
-        }
+fn first_line(characters: &[char]) -> (&[char], &[char])
+    ensures first { result.0.now ≡ before_first is_end characters.now }
+    ensures others { result.1.now ≡ after_first is_end characters.now }
+{
+    match characters.iter().position(|character| *character == '\n') {
+        Some(index) => (&characters[..index], &characters[index + 1..]),
+        None => (characters, &[]),
     }
-    (characters, &[])
 }

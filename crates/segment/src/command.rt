@@ -99,7 +99,11 @@ const TABS_HELP: &str =
 
 const JOIN_HELP: &str = "Join the lines between blank lines first, each two by a space";
 
-const JSON_HELP: &str = "Write a JSON object for each segment: text, begin, end, type or mandatory";
+const JSON_HELP: &str = "Write a JSON object for each segment: text, begin, end";
+
+const WORD_JSON_HELP: &str = "Write a JSON object for each segment: text, begin, end, type";
+
+const LINE_JSON_HELP: &str = "Write a JSON object for each segment: text, begin, end, mandatory";
 
 const BREAK_WORDS_HELP: &str = "Break what is wider than the columns between clusters";
 
@@ -160,13 +164,13 @@ fn unicode_commands<'a>(alloc: Global) -> Result<Vec<Command<'a>>, AllocError> {
 fn grapheme_command<'a>(alloc: Global) -> Result<Command<'a>, AllocError> {
     let command = Command::new(alloc, "grapheme").about("Writes extended grapheme clusters");
     let command = command.arg(engine_argument(alloc, &ENGINES))?;
-    with_files(alloc, with_styles(alloc, command)?)
+    with_files(alloc, with_styles(alloc, command, JSON_HELP)?)
 }
 
 fn word_command<'a>(alloc: Global) -> Result<Command<'a>, AllocError> {
     let command = Command::new(alloc, "word").about("Writes words, and what stands between them");
     let words = flag(alloc, "words", "Leave out what stands between words");
-    let command = with_styles(alloc, command.arg(words)?)?;
+    let command = with_styles(alloc, command.arg(words)?, WORD_JSON_HELP)?;
     let command = command.arg(engine_argument(alloc, &ENGINES))?;
     with_files(alloc, with_dictionaries(alloc, command)?)
 }
@@ -175,8 +179,8 @@ fn sentence_command<'a>(alloc: Global) -> Result<Command<'a>, AllocError> {
     let command = Command::new(alloc, "sentence").about("Writes sentences");
     let command = command.arg(engine_argument(alloc, &ENGINES))?;
     let command = command.arg(flag(alloc, "join", JOIN_HELP))?;
-    let command = with_abbreviations(alloc, with_styles(alloc, command)?)?;
-    with_files(alloc, command)
+    let command = with_styles(alloc, command, JSON_HELP)?;
+    with_files(alloc, with_abbreviations(alloc, command)?)
 }
 
 // Abbreviations go with the default engine: only its texts are split after line feeds.
@@ -195,7 +199,8 @@ fn line_command<'a>(alloc: Global) -> Result<Command<'a>, AllocError> {
         "Writes what stands between places where a line may end",
     );
     let command = command.arg(engine_argument(alloc, &LINE_ENGINES))?;
-    let command = with_line_options(alloc, with_styles(alloc, command)?)?;
+    let command = with_styles(alloc, command, LINE_JSON_HELP)?;
+    let command = with_line_options(alloc, command)?;
     with_files(alloc, with_dictionaries(alloc, command)?)
 }
 
@@ -205,7 +210,7 @@ fn rules_command<'a>(alloc: Global) -> Result<Command<'a>, AllocError> {
     );
     let command = command.arg(rules_argument(alloc))?;
     let command = command.arg(show_argument(alloc)?)?;
-    with_files(alloc, with_styles(alloc, command)?)
+    with_files(alloc, with_styles(alloc, command, JSON_HELP)?)
 }
 
 fn wrap_command<'a>(alloc: Global, columns: Columns) -> Result<Command<'a>, AllocError> {
@@ -234,12 +239,16 @@ fn with_columns<'a>(
     }
 }
 
-// How segments are written.
-fn with_styles<'a>(alloc: Global, command: Command<'a>) -> Result<Command<'a>, AllocError> {
+// How segments are written. What an object of JSON has is told by the last argument.
+fn with_styles<'a>(
+    alloc: Global,
+    command: Command<'a>,
+    json: &'a str,
+) -> Result<Command<'a>, AllocError> {
     let command = command.arg(flag(alloc, "offsets", OFFSETS_HELP))?;
     let command = command.arg(flag(alloc, "raw", RAW_HELP))?;
     let command = command.arg(null_argument(alloc)?)?;
-    let command = command.arg(json_argument(alloc)?)?;
+    let command = command.arg(json_argument(alloc, json)?)?;
     let command = command.arg(count_argument(alloc)?)?;
     let command = command.arg(number_argument(alloc, "lines", LINES_HELP)?)?;
     command.arg(number_argument(alloc, "bytes", BYTES_HELP)?)
@@ -249,8 +258,8 @@ fn null_argument<'a>(alloc: Global) -> Result<Arg<'a>, AllocError> {
     flag(alloc, "null", NULL_HELP).conflicts_with("offsets")
 }
 
-fn json_argument<'a>(alloc: Global) -> Result<Arg<'a>, AllocError> {
-    let json = flag(alloc, "json", JSON_HELP).conflicts_with("offsets")?;
+fn json_argument<'a>(alloc: Global, help: &'a str) -> Result<Arg<'a>, AllocError> {
+    let json = flag(alloc, "json", help).conflicts_with("offsets")?;
     let json = json.conflicts_with("raw")?;
     json.conflicts_with("null")
 }

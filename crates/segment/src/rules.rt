@@ -12,7 +12,7 @@ use anyhow::{Context, Result, bail};
 use clap::ArgMatches;
 use icu_segmenter::provider::{SegmenterStateMachine, Symbol};
 use seg_compile::compile::{CompileError, Witness};
-use seg_notation::TextRules;
+use seg_notation::{TextError, TextRules};
 use segment_output::output::Style;
 use segment_output::preparation::Preparation;
 use segment_output::segmenter::Segmenter;
@@ -65,17 +65,60 @@ pub fn rules_request_of<'m>(matches: &'m ArgMatches<'_>) -> Result<RulesRequest<
     }
 }
 
-/// The rules in a file. The errors, which name it, are one that can't be read or isn't UTF-8, rules that are wrong, with their line, rules
-/// without a machine, with what shows it, and being out of memory.
+/// The rules in a file. The errors, which name it, are one that can't be read or isn't UTF-8, rules that are wrong, with the line, the
+/// column and the word that is there, rules without a machine, with what shows it, and being out of memory.
 pub fn rules_at<R: AllocGlobal + Files>(rt: &R, path: &str) -> Result<OwnRules> {
     read_rules(rt, path).context(format_args!("{path}"))
 }
 
 fn read_rules<R: AllocGlobal + Files>(rt: &R, path: &str) -> Result<OwnRules> {
     let bytes = fs::read(rt, path)?;
-    let text = text_of(bytes.as_slice())?;
-    let rules = TextRules::try_from_text(rt.alloc(), without_mark(text))?;
-    with_machine(rt.alloc(), rules)
+    let text = without_mark(text_of(bytes.as_slice())?);
+    match TextRules::try_from_text(rt.alloc(), text) {
+        Ok(rules) => with_machine(rt.alloc(), rules),
+        Err(error) => {
+            let fault = with_word(rt.alloc(), text, &error)?;
+            bail!("{fault}")
+        }
+    }
+}
+
+// What is wrong with a text of rules, and the word that is there, if any. Fails only when out of memory.
+fn with_word(alloc: Global, text: &str, error: &TextError) -> Result<String, AllocError> {
+    let word = shown_word(alloc, error.word_in(text))?;
+    if word.is_empty() {
+        return format!(in alloc; "{error}");
+    }
+    let line = error.line;
+    let column = error.column;
+    let fault = error.fault;
+    format!(in alloc; "line {line}, column {column}: '{word}': {fault}")
+}
+
+// Of a longer word as many characters are shown, and two dots.
+const MAX_SHOWN: usize = 40;
+
+// A word, with control characters and separators as escapes. Fails only when out of memory.
+fn shown_word(alloc: Global, word: &str) -> Result<String, AllocError> {
+    let mut shown = String::new(alloc);
+    for (index, character) in word.chars().enumerate() {
+        if index >= MAX_SHOWN {
+            shown.push_str("..")?;
+            break;
+        }
+        push_shown(&mut shown, character)?;
+    }
+    Ok(shown)
+}
+
+fn push_shown(shown: &mut String, character: char) -> Result<(), AllocError> {
+    if !character.is_control() && !matches!(character, '\u{2028}' | '\u{2029}') {
+        return shown.push(character);
+    }
+    for part in character.escape_unicode() {
+        shown.push(part)?;
+    }
+    Ok(())
 }
 
 // Rules with their machine. The errors are rules without one, with the line of a rule and a text that show it, and being out of memory.
