@@ -1,7 +1,9 @@
 -- Objects of texts in which nothing is escaped.
-use Rattle.std.proofs.Common.{◌≡◌, ℕ, ◌==◌, ◌||◌, ◌&&◌, not, cond, nat_lt, Bool, true, false, List, [], ◌∷◌, ◌++◌, codes, decimal, flat_map, IfSome, Option, None, Some, refl, sym, ap, ◌∙◌, append_assoc, eqb-true}
+use Rattle.std.proofs.Common.{◌≡◌, ℕ, ◌==◌, ◌||◌, ◌&&◌, not, cond, nat_lt, Bool, true, false, List, [], ◌∷◌, ◌++◌, codes, decimal, flat_map, IfSome, OnOk, Option, None, Some, Result, Ok, Err, if◌then◌else◌, is_ok, refl, sym, ap, ◌∙◌, append_assoc, eqb-true}
 use Rattle.std.proofs.lemmas.Bool.{true≢false}
+use Rattle.std.specs.Borrow.{Bor}
 use Rattle.std.specs.List.{list_all}
+use Rattle.std.specs.Option.{option_map}
 use Rattle.std.proofs.lemmas.Str.{utf8_lossy-IsUtf8}
 use Rattle.json.specs.Print.{escape, escape_byte, print, print_from, quoted}
 use Rattle.json.specs.Token.{Token, begin_object, end_object, key, string, number}
@@ -65,11 +67,21 @@ bare-object (Some name) text segment named bare =
     rw (utf8_lossy-IsUtf8 text bare.0)
     (named-tokens name text (decimal segment.from) (decimal segment.to) (mark_tokens segment.mark ++ end_object ∷ []) (bare-text name named.1) (bare-text text bare.1))
 
+-- a name that is passed
+pub bare-name : (name : Option (Bor (List ℕ))) → IfSome name (λ name. AreBare name.now) → IfSome (option_map (λ name. name.now) name) AreBare
+bare-name None bare = tt
+bare-name (Some name) bare = bare
+
+-- what is added where there is memory
+pub extended : {X E : Type 0} (r : Result X E) (new all old : List ℕ) → new ≡ (if is_ok r then all else old) → OnOk r (new ≡ all)
+extended (Ok x) new all old is = is
+extended (Err e) new all old is = tt
+
 -- pieces that are added one after another
-pub pieces : (l a b c d e f g l1 l2 l3 l4 l5 l6 l7 : List ℕ) → l1 ≡ l ++ a → l2 ≡ l1 ++ b → l3 ≡ l2 ++ c → l4 ≡ l3 ++ d → l5 ≡ l4 ++ e → l6 ≡ l5 ++ f → l7 ≡ l6 ++ g
-    → l7 ≡ l ++ (a ++ (b ++ (c ++ (d ++ (e ++ (f ++ g))))))
-pieces l a b c d e f g l1 l2 l3 l4 l5 l6 l7 one two three four five six seven =
-    rw (seven, six, five, four, three, two, one,
+pub pieces : (l a b c d e f g l1 l2 l3 l4 l5 l6 : List ℕ) → l1 ≡ l ++ a → l2 ≡ l1 ++ b → l3 ≡ l2 ++ c → l4 ≡ l3 ++ d → l5 ≡ l4 ++ e → l6 ≡ l5 ++ f
+    → l6 ++ g ≡ l ++ (a ++ (b ++ (c ++ (d ++ (e ++ (f ++ g))))))
+pieces l a b c d e f g l1 l2 l3 l4 l5 l6 one two three four five six =
+    rw (six, five, four, three, two, one,
     append_assoc (((((l ++ a) ++ b) ++ c) ++ d) ++ e) f g, append_assoc ((((l ++ a) ++ b) ++ c) ++ d) e (f ++ g), append_assoc (((l ++ a) ++ b) ++ c) d (e ++ (f ++ g)),
     append_assoc ((l ++ a) ++ b) c (d ++ (e ++ (f ++ g))), append_assoc (l ++ a) b (c ++ (d ++ (e ++ (f ++ g)))), append_assoc l a (b ++ (c ++ (d ++ (e ++ (f ++ g))))))
     refl

@@ -1,10 +1,10 @@
 -- By the machine of UAX #14 a line must end at the end of each text.
-use Rattle.std.proofs.Common.{◌≡◌, ℕ, ◌+◌, ◌==◌, ◌⊎◌, inl, inr, Bool, true, false, nat_lt, List, [], ◌∷◌, ◌++◌, length, drop, map, refl, sym, ap, ap₂, subst, ◌∙◌, arith, append-nil}
+use Rattle.std.proofs.Common.{◌≡◌, ℕ, zero, suc, ◌+◌, ◌<◌, ◌==◌, ◌⊎◌, inl, inr, Bool, true, false, nat_lt, List, [], ◌∷◌, ◌++◌, length, drop, map, refl, sym, ap, ap₂, subst, ◌∙◌, arith, append-nil, length-append}
 use Rattle.std.specs.Prelude.{if◌then◌else◌, ◌↔◌}
 use Rattle.std.specs.List.{Contains}
 use Rattle.std.proofs.lemmas.List.{drop_all, length-map}
 use Rattle.seg_text.specs.declared.boundary.Boundary.{Boundary}
-use Rattle.seg_text.specs.Boundaries.{boundary, boundary_in}
+use Rattle.seg_text.specs.Boundaries.{IsCover, RisesTo, boundary, boundary_in}
 use Rattle.seg_text.specs.Decoding.{read_utf8, utf8, utf8_items}
 use Rattle.seg_text.specs.Items.{Item, Text, code_points, place_of, rest_after, start_of}
 use Rattle.seg_text.specs.Lemmas.Utf8Stable.{read_utf8-stable}
@@ -14,21 +14,56 @@ use Rattle.seg_clusters.proofs.Encoded.{utf8-apart}
 use Rattle.seg_clusters.proofs.SplitItems.{codes-end}
 use Rattle.seg_clusters.specs.Payloads.{Payloads}
 use Rattle.seg_clusters.specs.Spans.{inner_cuts}
-use Rattle.seg_lines.specs.LineBreaks.{LineFinder, LineRules, boundaries_with, joined, line_boundaries_by, with_cut}
+use Rattle.seg_lines.specs.LineBreaks.{IsByPairTable, LineFinder, LineRules, boundaries_with, joined, line_boundaries_by, line_boundaries_of, with_cut}
 use Rattle.seg_lines.specs.LineBreaks.LineFinder.{ByMachine}
 use Rattle.seg_lines.specs.Lines.{chosen_finder}
 use Rattle.seg_lines.specs.Options.{machine_for}
-use Rattle.seg_line_rules.specs.declared.options.LineBreakStrictness.{LineBreakStrictness}
-use Rattle.seg_line_rules.specs.declared.options.LineBreakStrictness.TheVariants as strictness
-use Rattle.seg_line_rules.specs.declared.options.LineBreakWordOption.{LineBreakWordOption}
-use Rattle.seg_line_rules.specs.declared.options.LineBreakWordOption.TheVariants as words
+use Rattle.icu_segmenter.specs.declared.options.LineBreakStrictness.{LineBreakStrictness}
+use Rattle.icu_segmenter.specs.declared.options.LineBreakStrictness.TheVariants as strictness
+use Rattle.icu_segmenter.specs.declared.options.LineBreakWordOption.{LineBreakWordOption}
+use Rattle.icu_segmenter.specs.declared.options.LineBreakWordOption.TheVariants as words
+use Rattle.icu_segmenter.specs.LineRules.{style_of}
 use Rattle.icu_segmenter.specs.NearBoundaries.{line_feed}
+use Rattle.icu_segmenter.specs.ScriptWords.{ScriptWords}
+use Rattle.icu_segmenter.specs.declared.options.LineBreakOptions.{LineBreakOptions}
 use Rattle.icu_segmenter_uax14.specs.Lines.{line_machine, line_tailorings}
 use Rattle.icu_segmenter_uax14.specs.Neighbours.{BreaksWith}
 use Rattle.icu_segmenter_uax14.specs.Tailored.{Tailoring, machine_by}
 use Rattle.icu_segmenter_uax14.specs.Tailored.Tailoring.{Untailored, BreakAll, KeepAll, JaLoose, Loose, JaNormal, Normal, Ja}
-use Rattle.segment_output.specs.Wrapped.{EndsLines, IsByLineMachine}
-use Rattle.segment_output.proofs.WrappedParts.{In, in-from, in-to}
+use Rattle.segment_output.specs.Segmenter.{line_rules_by}
+use Rattle.segment_output.specs.Wrapped.{EndsLines, last_status}
+use Rattle.segment_output.specs.declared.segmenter.Engine.TheVariants as engine
+use Rattle.segment_output.proofs.JoinedCuts.{rises-order}
+
+abbrev In : {X : Type 0} → List X → X → Type 0
+In [] x = ⊥
+In (y ∷ ys) x = (y ≡ x) ⊎ In ys x
+
+in-to : {X : Type 0} (xs : List X) (x : X) → Contains xs x → In xs x
+in-to [] x (k, below, is) = absurd (omega (arith, below))
+in-to (y ∷ ys) x (zero, below, is) = inl is
+in-to (y ∷ ys) x (suc k, below, is) = inr (in-to ys x (k, omega (arith, below), is))
+
+-- of boundaries that rise to an end it is the last that is there
+last-there : (from end status : ℕ) (boundaries : List Boundary) → RisesTo from boundaries end → In boundaries (boundary end status) → last_status boundaries ≡ status
+unfolding last_status
+last-there from end status [] rises is = absurd is
+last-there from end status (found ∷ []) rises (inl is) = ap (λ (b : Boundary). b.status) is
+last-there from end status (found ∷ []) rises (inr is) = absurd is
+last-there from end status (found ∷ next ∷ boundaries) rises (inl is) =
+    absurd (omega (arith, ap (λ (b : Boundary). b.offset) is, rises.1.0, rises-order next.offset end boundaries rises.1.1))
+last-there from end status (found ∷ next ∷ boundaries) rises (inr is) = last-there found.offset end status (next ∷ boundaries) rises.1 is
+
+cover-last : (end status : ℕ) (boundaries : List Boundary) → IsCover 0 end boundaries → 0 < end → In boundaries (boundary end status) → last_status boundaries ≡ status
+unfolding last_status
+cover-last end status [] cover some is = absurd cover
+cover-last end status (first ∷ []) (at, rises) some is = absurd (omega (arith, rises, some))
+cover-last end status (first ∷ next ∷ boundaries) (at, rises) some (inl is) = absurd (omega (arith, at, some, ap (λ (b : Boundary). b.offset) is))
+cover-last end status (first ∷ next ∷ boundaries) (at, rises) some (inr is) = last-there 0 end status (next ∷ boundaries) rises is
+
+-- breaks are found by the machine of UAX #14, by a tailoring of it or by none
+abbrev IsByLineMachine : LineFinder → Type 0
+IsByLineMachine finder = (tailoring : Tailoring) × (finder ≡ ByMachine (machine_by tailoring))
 
 -- ---- cuts leave each boundary where it is
 
@@ -59,10 +94,11 @@ end-place items end count is =
     let all : length items ≡ count = sym (is ∙ length-map items (λ (item : Item). item.1)) in
     ap (λ (items : List Item). place_of items end) (drop_all count items (omega (arith, all)))
 
-pub ends-lines : (rules : LineRules) → IsByLineMachine rules.finder
+ends-lines : (rules : LineRules) → IsByLineMachine rules.finder
     → ((tailoring : Tailoring) (before : List ℕ) (last status : ℕ) → BreaksWith tailoring status (before ++ last ∷ []) [] ↔ (status ≡ 1)) → EndsLines rules
 unfolding utf8_items lib.Utf8.encode
-ends-lines rules (tailoring, is) law before = in-from _ _ ended
+ends-lines rules (tailoring, is) law before cover =
+    cover-last (length (before ++ line_feed)) 1 (line_boundaries_of rules (utf8 (before ++ line_feed))) cover (omega (arith, length-append before line_feed)) ended
   where
     front : (front : List ℕ) × (code_points (utf8_items 0 (before ++ line_feed)) ≡ front ++ 0x0A ∷ [])
     front = codes-end read_utf8 read_utf8-stable (0x0A ∷ []) 0x0A (utf8-apart 0x0A refl) before
@@ -94,7 +130,7 @@ ends-lines rules (tailoring, is) law before = in-from _ _ ended
 
 -- ---- options choose the machine or a tailoring of it, unless lines may break anywhere
 
-pub chosen : (word_option : LineBreakWordOption) (how : LineBreakStrictness) (is_ja_or_zh : Bool) → (how ≡ strictness.Anywhere → ⊥)
+chosen : (word_option : LineBreakWordOption) (how : LineBreakStrictness) (is_ja_or_zh : Bool) → (how ≡ strictness.Anywhere → ⊥)
     → IsByLineMachine (chosen_finder line_machine line_tailorings (machine_for word_option how is_ja_or_zh))
 unfolding line_tailorings
 chosen words.BreakAll how is_ja_or_zh by_rules = (BreakAll, refl)
@@ -106,3 +142,28 @@ chosen words.Normal strictness.Normal true by_rules = (JaNormal, refl)
 chosen words.Normal strictness.Normal false by_rules = (Normal, refl)
 chosen words.Normal strictness.Strict true by_rules = (Ja, refl)
 chosen words.Normal strictness.Strict false by_rules = (Untailored, refl)
+
+unpaired : (word_option : LineBreakWordOption) (how : LineBreakStrictness) (is_ja_or_zh : Bool)
+    → IsByPairTable (chosen_finder line_machine line_tailorings (machine_for word_option how is_ja_or_zh)) → ⊥
+unpaired words.BreakAll how is_ja_or_zh paired = paired
+unpaired words.KeepAll how is_ja_or_zh paired = paired
+unpaired words.Normal strictness.Anywhere is_ja_or_zh paired = paired
+unpaired words.Normal strictness.Loose true paired = paired
+unpaired words.Normal strictness.Loose false paired = paired
+unpaired words.Normal strictness.Normal true paired = paired
+unpaired words.Normal strictness.Normal false paired = paired
+unpaired words.Normal strictness.Strict true paired = paired
+unpaired words.Normal strictness.Strict false paired = paired
+
+pub not-paired : (options : LineBreakOptions) (words : ScriptWords) (rules : LineRules) → rules ≡ line_rules_by engine.Neo options words → IsByPairTable rules.finder → ⊥
+not-paired options words rules is paired =
+    unpaired (style_of options).word_option (style_of options).strictness (style_of options).is_ja_or_zh (subst (λ (rules : LineRules). IsByPairTable rules.finder) is paired)
+
+-- so lines by the machine end there with any options but those
+pub chosen-ends : (options : LineBreakOptions) (words : ScriptWords) (rules : LineRules) → rules ≡ line_rules_by engine.Neo options words
+    → ((style_of options).strictness ≡ strictness.Anywhere → ⊥)
+    → ((tailoring : Tailoring) (before : List ℕ) (last status : ℕ) → BreaksWith tailoring status (before ++ last ∷ []) [] ↔ (status ≡ 1)) → EndsLines rules
+chosen-ends options words rules is by_rules law =
+    ends-lines rules
+    (subst (λ (rules : LineRules). IsByLineMachine rules.finder) (sym is) (chosen (style_of options).word_option (style_of options).strictness (style_of options).is_ja_or_zh by_rules))
+    law

@@ -1,12 +1,13 @@
 -- Of a text that is written part by part is written what is written of it as a whole.
-use Rattle.std.proofs.Common.{◌≡◌, ℕ, ◌+◌, ◌<◌, ◌==◌, ◌⊎◌, inl, inr, Bool, true, false, cond, Option, None, Some, List, [], ◌∷◌, ◌++◌, IfErr, IfOk, IfSome, Result, Ok, Err, length, take, drop, map, filter, refl, sym, ap, ap₂, subst, ◌∙◌, arith, append-nil, append_assoc, eqb-true, length-append}
+use Rattle.std.proofs.Common.{◌≡◌, ℕ, ◌+◌, ◌-◌, ◌<◌, ◌==◌, ◌⊎◌, inl, inr, Bool, true, false, cond, Option, None, Some, List, [], ◌∷◌, ◌++◌, IfErr, IfOk, IfSome, OnOk, Result, Ok, Err, length, take, drop, map, filter, refl, sym, ap, ap₂, subst, ◌∙◌, arith, append-nil, append_assoc, eqb-true, length-append}
 use Rattle.std.specs.Prelude.{slice_index}
-use Rattle.std.proofs.lemmas.List.{take-append-drop, take_more}
+use Rattle.std.proofs.Math.Seq.{take-add}
+use Rattle.std.proofs.lemmas.List.{get_or-take, length-take, take-append-drop, take_more}
 use Rattle.std.proofs.lemmas.List.Concat.{flat_map-append}
 use Rattle.std.proofs.lemmas.List.Elements.{filter-append}
 use Rattle.std.proofs.KnownBytes.{Appends-trans, Consumes-trans, Consumes-whole}
 use Rattle.std.specs.Io.KnownBytes.{Appends, Consumes, IsAtEnd, Keeps}
-use Rattle.std.specs.List.{zip}
+use Rattle.std.specs.List.{list_all, zip}
 use Rattle.icu_segmenter.specs.Boundary.{Boundary}
 use Rattle.icu_segmenter.specs.Boundaries.{IsCover, shift_all}
 use Rattle.icu_segmenter.specs.NearBoundaries.{line_feed}
@@ -17,7 +18,7 @@ use Rattle.icu_segmenter.specs.LineBreaks.{line_boundaries_of}
 use Rattle.icu_segmenter.specs.WrappedLines.{wrapped_text}
 use Rattle.segment_output.specs.Fault.{IsReadFault}
 use Rattle.segment_output.specs.Output.{Look, Segment, is_shown, lines_at, lines_of, segment_between, segments}
-use Rattle.segment_output.specs.Parts.{AreLines, AreWhole, IsAdded, IsBegun, IsPartWritten, MayBeSplit, boundaries_for, count_for, found_for, look_by, output_for, printed_behind, text_for}
+use Rattle.segment_output.specs.Parts.{AreLines, AreParagraphs, AreWhole, IsAdded, IsBegun, IsPartWritten, MayBeSplit, boundaries_for, count_for, found_for, is_blank, look_by, output_for, printed_behind, text_for}
 use Rattle.segment_output.specs.Segmenter.{boundaries_by, has_words_alone, mark_by, segments_by}
 use Rattle.segment_output.specs.Size.{both_sizes, size_of}
 use Rattle.segment_output.specs.declared.fault.Fault.{Fault}
@@ -114,7 +115,7 @@ wrapped-more wrapper done part parts ends (before, is) cover =
     subst (λ (done : List ℕ). IsCover 0 (length done) (line_boundaries_of wrapping.lines (utf8 done))
         → wrapped_output wrapping (done ++ part) ≡ wrapped_output wrapping done ++ wrapped_output wrapping part) (sym is)
     (λ cover.
-    ap (shown_lines wrapping) (wrapped-parts wrapping.measure wrapping.columns wrapping.lines parts before part cover (ends before))
+    ap (shown_lines wrapping) (wrapped-parts wrapping.measure wrapping.columns wrapping.lines parts before part cover (ends before cover))
     ∙ flat_map-append (shown_line wrapping) (wrapped_text wrapping.measure wrapping.lines wrapping.columns (before ++ line_feed)) (wrapped_text wrapping.measure wrapping.lines wrapping.columns part))
     cover
 
@@ -321,17 +322,47 @@ pub unless-ok : {P : Type 0} (r : Result Tally Fault) → P → IfErr r (λ faul
 unless-ok (Ok tally) is = tt
 unless-ok (Err fault) is = λ of_reader. is
 
+pub where-read : {P Q : Type 0} (r : Result Tally Fault) → (P → Q) → IfErr r (λ fault. IsReadFault fault → P) → IfErr r (λ fault. IsReadFault fault → Q)
+where-read (Ok tally) leads is = tt
+where-read (Err fault) leads is = λ of_reader. leads (is of_reader)
+
 -- ---- a block that has whole lines or paragraphs
 
 pub last-line : (block : List ℕ) (last : ℕ) → last < length block → (slice_index block last == 0x0A) ≡ true → AreLines (take (last + 1) block)
 last-line block last within is = (take last block, take_more block last 0 within ∙ ap (λ (byte : ℕ). take last block ++ byte ∷ []) (eqb-true _ _ is))
 
-pub added : (splitting : Splitting) (block part whole rest none : List ℕ) (size : ℕ) (before one other after : Progress) (IsUnwritten : Type 0) (old new : Option (List ℕ))
+-- a byte of a beginning
+pub first-bytes : (block : List ℕ) (end last : ℕ) → last < end → slice_index (take end block) last ≡ slice_index block last
+first-bytes block end last within = get_or-take end block last 0 within
+
+pub within-take : (block : List ℕ) (end last : ℕ) → last < length (take end block) → last < end
+within-take block end last within = omega (arith, within, length-take end block)
+
+-- a blank line behind a line feed ends paragraphs
+pub blank-end : (block : List ℕ) (last end : ℕ) → last < end → end < length block → (slice_index block last == 0x0A) ≡ true → (slice_index block end == 0x0A) ≡ true
+    → list_all is_blank (take (end - (last + 1)) (drop (last + 1) block)) ≡ true → AreParagraphs (take (end + 1) block)
+blank-end block last end order within before here blank =
+    let blanks : List ℕ = take (end - (last + 1)) (drop (last + 1) block) in
+    let whole : end ≡ (last + 1) + (end - (last + 1)) = omega (arith, order) in
+    let front : take (last + 1) block ≡ take last block ++ line_feed = take_more block last 0 (omega (arith, order, within)) ∙ ap (λ (byte : ℕ). take last block ++ byte ∷ []) (eqb-true _ _ before) in (
+      take last block,
+      blanks,
+      take_more block end 0 within ∙ ap (λ (byte : ℕ). take end block ++ byte ∷ []) (eqb-true _ _ here)
+          ∙ ap (λ (bytes : List ℕ). bytes ++ line_feed) (ap (λ (n : ℕ). take n block) whole ∙ take-add (last + 1) (end - (last + 1)) block ∙ ap (λ (bytes : List ℕ). bytes ++ blanks) front)
+          ∙ append_assoc (take last block ++ line_feed) blanks line_feed,
+      blank,
+    )
+
+pub where-ok : {X P Q : Type 0} (r : Result X Fault) → (P → Q) → OnOk r P → OnOk r Q
+where-ok (Ok x) leads is = leads is
+where-ok (Err fault) leads is = tt
+
+pub added : (splitting : Splitting) (block part whole rest none : List ℕ) (size : ℕ) (before one after : Progress) (IsUnwritten : Type 0) (old new : Option (List ℕ))
     → AreWhole splitting.preparation.joins (take size block) → whole ≡ take size block → rest ≡ drop size block
     → part ≡ before.held.items ++ whole → none ≡ [] → after.held.items ≡ none ++ rest
     → one.size ≡ before.size → one.made ≡ before.made → one.segments ≡ before.segments
     → IsPartWritten splitting part one after old new → IsAdded splitting block before after IsUnwritten old new
-added splitting block part whole rest none size before one other after IsUnwritten old new is front back part-is none-is held-is at nowhere count written =
+added splitting block part whole rest none size before one after IsUnwritten old new is front back part-is none-is held-is at nowhere count written =
     inr (
       part,
       subst (AreWhole splitting.preparation.joins) (sym part-is) (whole-more splitting.preparation.joins before.held.items whole (subst (AreWhole splitting.preparation.joins) (sym front) is)),

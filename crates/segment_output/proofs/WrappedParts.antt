@@ -1,7 +1,7 @@
 -- The wrapped lines of a text are those of its first lines, where it must end behind them, and then those of the rest.
 use Rattle.std.proofs.Common.{◌≡◌, ℕ, suc, ◌+◌, ◌-◌, ◌<◌, ◌≤◌, ◌==◌, ◌⊎◌, inl, inr, Bool, true, false, cond, nat_lt, zero, List, [], ◌∷◌, ◌++◌, length, take, drop, map, refl, sym, ap, ap₂, subst, ◌∙◌, arith, length-append, append-nil}
 use Rattle.std.specs.Prelude.{if◌then◌else◌}
-use Rattle.std.specs.List.{Contains, flat_map, prefix_len}
+use Rattle.std.specs.List.{flat_map, prefix_len}
 use Rattle.std.proofs.Math.Seq.{drop-append_seam}
 use Rattle.std.proofs.lemmas.Bool.{le-ltb, lt-ltb, ltb-false, ltb-true}
 use Rattle.std.proofs.lemmas.List.{drop-append-le, drop-drop, drop-map, length-drop, length-map, map-append, nil_from_length, take-append-le}
@@ -23,6 +23,7 @@ use Rattle.seg_lines.proofs.Places.{none-left, place-within}
 use Rattle.seg_lines.proofs.SegmentsJoined.{length-of-lines, lines_length, segments_length}
 use Rattle.seg_lines.proofs.Texts.{IsTextOf, utf8-text}
 use Rattle.icu_segmenter.specs.NearBoundaries.{line_feed}
+use Rattle.segment_output.specs.Wrapped.{last_status}
 use Rattle.segment_output.proofs.JoinedCuts.{rises-order}
 
 abbrev with_items : ℕ → List Item → Text
@@ -246,32 +247,13 @@ module _ (units more : List ℕ) where
 
 -- ---- the last boundary
 
-abbrev pub In : {X : Type 0} → List X → X → Type 0
-In [] x = ⊥
-In (y ∷ ys) x = (y ≡ x) ⊎ In ys x
-
-pub in-to : {X : Type 0} (xs : List X) (x : X) → Contains xs x → In xs x
-in-to [] x (k, below, is) = absurd (omega (arith, below))
-in-to (y ∷ ys) x (zero, below, is) = inl is
-in-to (y ∷ ys) x (suc k, below, is) = inr (in-to ys x (k, omega (arith, below), is))
-
-pub in-from : {X : Type 0} (xs : List X) (x : X) → In xs x → Contains xs x
-in-from [] x is = absurd is
-in-from (y ∷ ys) x (inl is) = (0, omega arith, is)
-in-from (y ∷ ys) x (inr is) = let found = in-from ys x is in (suc found.0, omega (arith, found.1), found.2)
-
-last-boundary : (from end status : ℕ) (boundaries : List Boundary) → RisesTo from boundaries end → In boundaries (boundary end status)
-    → (some : List Boundary) × (boundaries ≡ some ++ boundary end status ∷ [])
-last-boundary from end status [] rises is = absurd is
-last-boundary from end status (found ∷ boundaries) rises (inl is) =
-    let at : found.offset ≡ end = ap (λ (b : Boundary). b.offset) is in
-    ([], ap₂ (λ (b : Boundary) (rest : List Boundary). b ∷ rest) is (nothing boundaries (subst (λ (place : ℕ). RisesTo place boundaries end) at rises.1)))
-  where
-    nothing : (boundaries : List Boundary) → RisesTo end boundaries end → boundaries ≡ []
-    nothing [] rises = refl
-    nothing (next ∷ boundaries) rises = absurd (omega (arith, rises.0, rises-order next.offset end boundaries rises.1))
-last-boundary from end status (found ∷ boundaries) rises (inr is) =
-    let later = last-boundary found.offset end status boundaries rises.1 is in
+-- of boundaries that rise to an end, past their beginning, it is there
+last-form : (from end : ℕ) (boundaries : List Boundary) → RisesTo from boundaries end → from < end → (some : List Boundary) × (boundaries ≡ some ++ boundary end (last_status boundaries) ∷ [])
+unfolding last_status
+last-form from end [] rises below = absurd (omega (arith, rises, below))
+last-form from end (found ∷ []) rises below = ([], ap (λ (place : ℕ). boundary place found.status ∷ []) rises.1)
+last-form from end (found ∷ next ∷ boundaries) rises below =
+    let later = last-form found.offset end (next ∷ boundaries) rises.1 (omega (arith, rises.1.0, rises-order next.offset end boundaries rises.1.1)) in
     (found ∷ later.0, ap (λ (rest : List Boundary). found ∷ rest) later.1)
 
 -- ---- all together
@@ -281,10 +263,10 @@ module _ (measure : Measure) (limit : ℕ) where
   lines_in units text boundaries = text_lines units text (wrapped_lines limit (segments_from measure text boundaries))
 
   text-parts : (units more : List ℕ) (items others : List Item) (boundaries later : List Boundary) → IsRising items (length units) → place_of others (length more) ≡ 0
-      → RisesTo 0 boundaries (length units) → In boundaries (boundary (length units) 1)
+      → RisesTo 0 boundaries (length units) → 0 < length units → last_status boundaries ≡ 1
       → lines_in (units ++ more) (with_items (length units + length more) (items ++ later_items (length units) others)) (boundaries ++ shift_all (length units) later)
       ≡ lines_in units (with_items (length units) items) boundaries ++ lines_in more (with_items (length more) others) later
-  text-parts units more items others boundaries later rises begins climbs is =
+  text-parts units more items others boundaries later rises begins climbs some is =
       let n : ℕ = length units in
       let end : ℕ = n + length more in
       let behind : List Item = later_items n others in
@@ -294,9 +276,10 @@ module _ (measure : Measure) (limit : ℕ) where
       let segments : segments_from measure (with_items end (items ++ behind)) (boundaries ++ shift_all n later) ≡ first ++ second =
       segments-front measure items behind n end 0 boundaries (shift_all n later) rises (omega arith) climbs seam
       ∙ ap (λ (segments : List Segment). first ++ segments) (segments-later measure n others (length more) later) in
-      let ended = last-boundary 0 n 1 boundaries climbs is in
+      let ended = last-form 0 n boundaries climbs some in
+      let must : boundaries ≡ ended.0 ++ boundary n 1 ∷ [] = ended.1 ∙ ap (λ (status : ℕ). ended.0 ++ boundary n status ∷ []) is in
       let last : EndsLine measure first =
-      subst (λ (boundaries : List Boundary). EndsLine measure (segments_from measure (with_items n items) boundaries)) (sym ended.1) (segments-last measure (with_items n items) ended.0 n) in
+      subst (λ (boundaries : List Boundary). EndsLine measure (segments_from measure (with_items n items) boundaries)) (sym must) (segments-last measure (with_items n items) ended.0 n) in
       let lines : wrapped_lines limit (first ++ second) ≡ wrapped_lines limit first ++ wrapped_lines limit second =
       ap (λ (segments : List Segment). wrapped_lines limit (segments ++ second)) last.2
       ∙ wrapped-split limit last.0 last.1 second last.3
@@ -331,21 +314,24 @@ module _ (measure : Measure) (limit : ℕ) where
     starts-at : (bytes : List ℕ) → place_of (utf8_items 0 bytes) (length bytes) ≡ 0
     starts-at bytes = ap start_of (sym (from-start bytes)) ∙ (utf8-text bytes).start
 
-    pub wrapped-parts : IsCover 0 (length done) (line_boundaries_of rules (utf8 done)) → Contains (line_boundaries_of rules (utf8 done)) (boundary (length done) 1)
+    pub wrapped-parts : IsCover 0 (length done) (line_boundaries_of rules (utf8 done)) → last_status (line_boundaries_of rules (utf8 done)) ≡ 1
         → wrapped_text measure rules limit (done ++ more) ≡ wrapped_text measure rules limit done ++ wrapped_text measure rules limit more
-    wrapped-parts cover ends = on (line_boundaries_of rules (utf8 done)) refl cover (in-to _ _ ends)
+    unfolding last_status
+    wrapped-parts cover must = on (line_boundaries_of rules (utf8 done)) refl cover must
       where
-        on : (found : List Boundary) → line_boundaries_of rules (utf8 done) ≡ found → IsCover 0 (length done) found → In found (boundary (length done) 1)
+        some : 0 < length done
+        some = omega (arith, length-append before line_feed)
+
+        on : (found : List Boundary) → line_boundaries_of rules (utf8 done) ≡ found → IsCover 0 (length done) found → last_status found ≡ 1
             → wrapped_text measure rules limit (done ++ more) ≡ wrapped_text measure rules limit done ++ wrapped_text measure rules limit more
         on [] same covers is = absurd covers
-        on (first ∷ found) same covers (inl is) =
-            absurd (omega (arith, covers.0, ap (λ (b : Boundary). b.offset) is, length-append before line_feed))
-        on (first ∷ found) same (at, climbs) (inr is) =
+        on (first ∷ []) same (at, climbs) is = absurd (omega (arith, climbs, some))
+        on (first ∷ next ∷ found) same (at, climbs) is =
             let later : List Boundary = drop 1 (line_boundaries_of rules (utf8 more)) in
-            let boundaries : drop 1 (line_boundaries_of rules (utf8 (done ++ more))) ≡ found ++ shift_all (length done) later =
+            let boundaries : drop 1 (line_boundaries_of rules (utf8 (done ++ more))) ≡ (next ∷ found) ++ shift_all (length done) later =
             ap (drop 1) (parts before more ∙ ap (λ (found : List Boundary). found ++ shift_all (length done) later) same) in
             ap₂ (λ (text : Text) (boundaries : List Boundary). lines_in (done ++ more) text boundaries) whole-text boundaries
-            ∙ text-parts done more (utf8_items 0 done) (utf8_items 0 more) found later (rises-in done) (starts-at more) climbs is
+            ∙ text-parts done more (utf8_items 0 done) (utf8_items 0 more) (next ∷ found) later (rises-in done) (starts-at more) climbs some is
             ∙ sym (ap₂ (λ (one other : List TextLine). one ++ other)
             (ap₂ (λ (text : Text) (boundaries : List Boundary). lines_in done text boundaries) (from-start done) (ap (drop 1) same))
             (ap (λ (text : Text). lines_in more text later) (from-start more)))

@@ -1,18 +1,18 @@
 -- What is written of a text whose lines are wrapped.
 use Rattle.std.specs.Prelude.{◌≡◌, ℕ, ◌-◌, ◌==◌, ◌||◌, nat_lt, Bool, Option, None, Some, List, [], ◌∷◌, ◌++◌, length, take, if◌then◌else◌}
 use Rattle.std.specs.Cmp.Lexicographic.{pointwise}
-use Rattle.std.specs.List.{flat_map, suffix_len, Contains}
-use Rattle.icu_segmenter.specs.Boundaries.{boundary}
+use Rattle.std.specs.List.{flat_map, suffix_len}
+use Rattle.icu_segmenter.specs.Boundary.{Boundary}
+use Rattle.icu_segmenter.specs.Boundaries.{IsCover}
 use Rattle.icu_segmenter.specs.Decoding.{utf8}
-use Rattle.icu_segmenter.specs.LineBreaks.{LineFinder, LineRules, line_boundaries_of}
-use Rattle.icu_segmenter.specs.LineBreaks.LineFinder.{ByClusters, ByMachine}
+use Rattle.icu_segmenter.specs.LineBreaks.{LineRules, line_boundaries_of}
+use Rattle.icu_segmenter.specs.LineBreaks.LineFinder.{ByClusters}
 use Rattle.icu_segmenter.specs.NearBoundaries.{line_feed}
 use Rattle.icu_segmenter.specs.Rules.{Rules}
-use Rattle.icu_segmenter.specs.Rules.Rules.{ByMachine as ByClusterMachine}
+use Rattle.icu_segmenter.specs.Rules.Rules.{ByMachine}
 use Rattle.icu_segmenter.specs.ScriptWords.{no_words}
 use Rattle.icu_segmenter.specs.Wrapping.{Measure, TextLine, by_characters, by_clusters, is_trailing_space}
 use Rattle.icu_segmenter.specs.WrappedLines.{wrapped_text}
-use Rattle.icu_segmenter_uax14.specs.Tailored.{Tailoring, machine_by}
 use Rattle.icu_segmenter_uax29.specs.Clusters.{cluster_machine}
 
 -- the bytes of a line without its trailing white space
@@ -45,7 +45,7 @@ measure_by (Some rules) = by_clusters rules
 
 -- lines that may end at each boundary of a cluster
 abbrev pub cluster_lines : LineRules
-cluster_lines = record { finder = ByClusters; payloads = record { words = no_words; clusters = ByClusterMachine cluster_machine } }
+cluster_lines = record { finder = ByClusters; payloads = record { words = no_words; clusters = ByMachine cluster_machine } }
 
 -- the lines that a wrapped line is shown as: where it is wider than the columns, without its trailing white space, wrapped once more, if such lines are broken
 abbrev pub shown_as : Measure → Option LineRules → ℕ → TextLine → List TextLine
@@ -63,10 +63,14 @@ shown_lines wrapping lines = flat_map (shown_line wrapping) lines
 abbrev pub wrapped_output : Wrapping → List ℕ → List ℕ
 wrapped_output wrapping bytes = shown_lines wrapping (wrapped_text wrapping.measure wrapping.lines wrapping.columns bytes)
 
--- breaks are found by the machine of UAX #14, by a tailoring of it or by none
-abbrev pub IsByLineMachine : LineFinder → Type 0
-IsByLineMachine finder = (tailoring : Tailoring) × (finder ≡ ByMachine (machine_by tailoring))
+-- the status of the last of some boundaries
+unfoldable pub last_status : List Boundary → ℕ
+last_status [] = 0
+last_status (found ∷ []) = found.status
+last_status (found ∷ next ∷ boundaries) = last_status (next ∷ boundaries)
 
 -- a line must end behind a line feed with which a text ends
 abbrev pub EndsLines : LineRules → Type 0
-EndsLines rules = (before : List ℕ) → Contains (line_boundaries_of rules (utf8 (before ++ line_feed))) (boundary (length (before ++ line_feed)) 1)
+EndsLines rules =
+    (before : List ℕ) → let text = before ++ line_feed in
+    let boundaries = line_boundaries_of rules (utf8 text) in IsCover 0 (length text) boundaries → last_status boundaries ≡ 1

@@ -5,7 +5,7 @@ ghost use Rattle.icu_segmenter.specs.Clusters.{cluster_rules};
 ghost use Rattle.icu_segmenter.specs.Lines.{owned_line_rules};
 ghost use Rattle.icu_segmenter.specs.LineBreaks.{IsByPairTable};
 ghost use Rattle.icu_segmenter.specs.LineRules.{style_of};
-ghost use Rattle.segment_output.specs.Wrapped.{IsByLineMachine};
+ghost use Rattle.segment_output.specs.Wrapped.{EndsLines};
 
 use crate::segmenter::{Engine, line_segmenter};
 use icu_segmenter::cursor::{Segmenter, SegmenterOf};
@@ -23,7 +23,7 @@ pub struct MachineLines {
     // Whether lines break by the rules of UAX #14, and not before any cluster.
     by_rules: bool,
     ghost by_machine: { IsByPairTable (owned_line_rules lines).finder → ⊥ },
-    ghost follows: { IsTrue by_rules → IsByLineMachine (owned_line_rules lines).finder },
+    ghost ends: { IsTrue by_rules → EndsLines (owned_line_rules lines) },
 }
 
 impl MachineLines {
@@ -35,7 +35,7 @@ impl MachineLines {
     ghost use Rattle.icu_segmenter.specs.ScriptWords.{script_words};
     ghost use Rattle.icu_segmenter.specs.WrappedLines.{wrapper_measure, wrapper_rules};
     ghost use Rattle.segment_output.specs.Segmenter.{line_rules_by};
-    ghost use Rattle.segment_output.specs.Wrapped.{EndsLines, measure_by};
+    ghost use Rattle.segment_output.specs.Wrapped.{measure_by};
 
     /// That of Unicode's data, with these options and dictionaries. Fails only when out of memory.
     pub fn try_new(
@@ -45,6 +45,7 @@ impl MachineLines {
     ) -> Result<Self, DataError>
         ensures { IfOk result (λ lines. owned_line_rules lines.lines ≡ line_rules_by Engine.Neo options.entry (script_words dictionaries)) }
     {
+        mandatory_breaks();
         let by_rules = follows_rules(options);
         let lines = line_segmenter(alloc, Engine::Neo, options, dictionaries)?;
         Ok(MachineLines { lines, by_rules })
@@ -56,7 +57,6 @@ impl MachineLines {
         ensures parts { IsTrue result → PartsBehind (λ bytes. line_boundaries_of (owned_line_rules self.now.lines) (utf8 bytes)) line_feed }
         ensures ends { IsTrue result → EndsLines (owned_line_rules self.now.lines) }
     {
-        mandatory_breaks();
         self.by_rules && self.lines.as_borrowed().parts_behind_line_feeds()
     }
 

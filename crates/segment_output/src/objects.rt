@@ -1,10 +1,12 @@
 //! Segments as objects of JSON.
-ghost use Rattle.std.specs.Prelude.{◌≡◌, ◌++◌, ◌∷◌, [], codes, decimal, option_map, IfSome, IsTrue, OnOk};
+ghost use Rattle.std.specs.Prelude.{◌≡◌, ◌++◌, ◌∷◌, [], codes, decimal, option_map, true, IfSome, IsTrue, OnOk};
+ghost use Rattle.std.specs.List.{list_all};
 ghost use Rattle.std.specs.Str.Lossy.{utf8_lossy};
 ghost use Rattle.json.specs.Print.{print, print_from};
 ghost use Rattle.json.specs.Token.{end_object, key, number, string};
 ghost use Rattle.segment_output.specs.Objects.{Adds, AreBare, is_bare, opening};
 ghost use Rattle.segment_output.specs.Output.{file_tokens, mark_tokens, object_of, type_word};
+ghost use Rattle.segment_output.specs.declared.marks.Mark.TheVariants.{Word, Line};
 
 use crate::marks::Mark;
 use crate::output::push_digits;
@@ -44,7 +46,17 @@ pub fn push_object(
 fn is_bare_text(text: &[u8]) -> bool
     ensures { IsTrue result → AreBare text.now }
 {
-    str::from_utf8(text).is_ok() && text.iter().all(|byte| is_bare(*byte))
+    match str::from_utf8(text) {
+        Ok(_) => are_bare(text),
+        Err(_) => false,
+    }
+}
+
+// Whether each byte stands in a string as it is.
+fn are_bare(text: &[u8]) -> bool
+    ensures { result ≡ list_all is_bare text.now }
+{
+    text.iter().all(|byte| is_bare(*byte))
 }
 
 // Whether nothing is escaped in a name, if there is one.
@@ -105,11 +117,28 @@ fn ending(mark: Mark) -> &'static [u8]
 {
     match mark {
         Mark::Unmarked => b"}",
-        Mark::Word(WordType::None) => b",\"type\":\"none\"}",
-        Mark::Word(WordType::Number) => b",\"type\":\"number\"}",
-        Mark::Word(WordType::Letter) => b",\"type\":\"letter\"}",
-        Mark::Line(true) => b",\"mandatory\":true}",
-        Mark::Line(false) => b",\"mandatory\":false}",
+        Mark::Word(kind) => word_ending(kind),
+        Mark::Line(is_mandatory) => line_ending(is_mandatory),
+    }
+}
+
+fn word_ending(kind: WordType) -> &'static [u8]
+    ensures { result.now ≡ print_from true (mark_tokens (Word kind) ++ end_object ∷ []) }
+{
+    match kind {
+        WordType::None => b",\"type\":\"none\"}",
+        WordType::Number => b",\"type\":\"number\"}",
+        WordType::Letter => b",\"type\":\"letter\"}",
+    }
+}
+
+fn line_ending(is_mandatory: bool) -> &'static [u8]
+    ensures { result.now ≡ print_from true (mark_tokens (Line is_mandatory) ++ end_object ∷ []) }
+{
+    if is_mandatory {
+        b",\"mandatory\":true}"
+    } else {
+        b",\"mandatory\":false}"
     }
 }
 

@@ -1,5 +1,5 @@
 //! Texts of which is written part by part, as they come.
-ghost use Rattle.std.specs.Prelude.{◌≡◌, ◌+◌, ◌++◌, ◌⊎◌, ◌<◌, ◌≤◌, ⊥, length, take, IfErr, IfOk, IfSome, IsTrue, OnErr, OnOk};
+ghost use Rattle.std.specs.Prelude.{◌≡◌, ◌+◌, ◌++◌, ◌⊎◌, ◌<◌, ◌≤◌, length, take, IfErr, IfOk, IfSome, IsTrue, OnErr, OnOk};
 ghost use Rattle.std.specs.List.{list_all};
 ghost use Rattle.std.specs.Io.{ReadsAtMost};
 ghost use Rattle.std.specs.Io.KnownBytes.{Appends, Consumes, IsAtEnd, Keeps, ReadConsumes};
@@ -115,7 +115,7 @@ pub fn print_parts<I: Read, O: Write>(
     input: &mut I,
     out: &mut O,
 ) -> Result<Tally, Fault>
-    requires { MayBeSplit splitting.entry.printing }
+    requires { MayBeSplit splitting.printing }
     ensures read_all { OnOk result (IsAtEnd (I.remaining input.new)) }
     ensures written { IfOk result (λ tally. IfSome (I.remaining input.old) (λ bytes.
         (tally.found.segments ≡ found_for splitting.entry bytes) × (tally.found.lookups ≡ 0) × (tally.size ≡ size_of bytes)
@@ -210,17 +210,23 @@ fn whole_len(joins: bool, block: &[u8]) -> Option<usize>
 fn lines_len(block: &[u8]) -> Option<usize>
     ensures { IfSome result (λ len. (len ≤ length block.now) × AreLines (take len block.now)) }
 {
-    let last = memrchr(b'\n', block)?;
-    Some(last + 1)
+    match memrchr(b'\n', block) {
+        Some(last) => Some(last + 1),
+        None => None,
+    }
 }
 
 // How many bytes whole paragraphs have: up to the last blank line whose line before has its line feed in the block.
 fn paragraphs_len(block: &[u8]) -> Option<usize>
     ensures { IfSome result (λ len. (len ≤ length block.now) × AreParagraphs (take len block.now)) }
 {
-    let mut end = memrchr(b'\n', block)?;
+    let Some(mut end) = memrchr(b'\n', block) else {
+        return None;
+    };
     'lines: loop {
-        let last = memrchr(b'\n', &block[..end])?;
+        let Some(last) = memrchr(b'\n', &block[..end]) else {
+            return None;
+        };
         if is_blank_line(&block[last + 1..end]) {
             return Some(end + 1);
         }

@@ -6,7 +6,7 @@ use Rattle.segment_output.proofs.stretch.stretch_after.Goals as goal
 pub returns-in-Escaped : goal.returns-in-Escaped
 returns-in-Escaped c = (
   c.stretch_to.ensures.room,
-  λ segment shown low ordered high.
+  λ file segment shown low ordered high.
       let some : c.stretch_to.result.from ≤ c.stretch_to.result.to = omega (arith, low, ordered, high) in
       let (from-is, to-is, last-is) = c.stretch_to.ensures.part some in
       rw c.in-Escaped.is (
