@@ -1,8 +1,10 @@
 -- How many segments there are is written after what is printed, where they are only counted.
-use Rattle.std.proofs.Common.{◌≡◌, ℕ, Bool, true, false, Option, None, Some, List, IfErr, IfOk, IfSome, Result, Ok, Err, ◌⊎◌, inl, inr, ap, ap₂, length, subst, refl, ◌∙◌, append-nil}
+use Rattle.std.proofs.Common.{◌≡◌, ℕ, Bool, true, false, Option, None, Some, List, IfErr, IfOk, IfSome, Result, Ok, Err, ◌⊎◌, inl, inr, is_some, sym, ap, ap₂, length, subst, refl, ◌∙◌, append-nil}
+use Rattle.std.proofs.lemmas.Bool.{true≢false}
 use Rattle.std.proofs.KnownBytes.{Appends-trans}
 use Rattle.std.specs.Io.KnownBytes.{Appends}
 use Rattle.segment_output.specs.Fault.{IsBeforeWriting, IsReadFault}
+use Rattle.segment_output.specs.Memo.{IsFoundBy}
 use Rattle.segment_output.specs.Output.{count_line}
 use Rattle.segment_output.specs.Output.{Look, lines_at}
 use Rattle.segment_output.specs.Parts.{IsBegun, count_for, found_for, output_for, printed_behind, text_for}
@@ -12,7 +14,7 @@ use Rattle.segment_output.specs.Wrapped.{wrapped_output}
 use Rattle.segment_output.specs.Wrapper.{wrapping_of}
 use Rattle.segment_output.proofs.JoinedCuts.{lines-at_zero}
 use Rattle.segment_output.specs.Size.{size_of}
-use Rattle.segment.specs.Job.{count_by, numbers_of, output_of, printed_by, said_by, text_of, work_output, IsBegunBy, IsDoneBy, IsFound, IsPrintingOf, IsTally}
+use Rattle.segment.specs.Job.{count_by, is_split_by, numbers_of, output_of, printed_by, said_by, text_of, work_output, IsBegunBy, IsDoneBy, IsFound, IsPrintingOf, IsTally}
 use Rattle.segment_output.specs.declared.fault.Fault.{Fault}
 use Rattle.segment_output.specs.declared.fault.Fault.TheVariants.{Read, MemoryBefore, Memo, Write, MemoryAmid}
 use Rattle.segment_output.specs.declared.found.Found.{Found}
@@ -29,6 +31,7 @@ use Rattle.segment_output.specs.declared.wrapper.Wrapper.{Wrapper}
 use Rattle.segment.specs.declared.job.Job.{Job}
 use Rattle.segment.specs.declared.job.Work.{Work}
 use Rattle.segment.specs.declared.job.Work.TheVariants.{Cut, Wrap}
+use Rattle.segment.specs.declared.job.Search.{Search}
 use Rattle.segment.specs.declared.job.Search.TheVariants.{Plain, Memoised}
 
 count-is : (work : Work) (text : List ℕ) (found : Found) → IsFound work text found → found.segments ≡ count_by work text
@@ -126,3 +129,28 @@ module _ (file : Option (List ℕ)) where
         | inl none ↦ inl none
         | inr begun ↦ inr (splitting, done, begun)
       ]
+
+  -- of a whole text
+  pub whole-split : (work : Work) (printing : Printing) (text : List ℕ) (old new : Option (List ℕ)) (r : Result Found Fault) → IsPrintingOf work file printing
+      → IfOk r (λ found. (found.segments ≡ count_for printing text) × (found.lookups ≡ 0) × Appends old new (printed_behind printing 0 text))
+      → IfOk r (λ found. IsFound work text found × Appends old new (work_output work file text))
+  whole-split work printing text old new (Err fault) is all = tt
+  whole-split work printing text old new (Ok found) is (count, none, written) =
+      (found-split work printing text found is count none, subst (Appends old new) (printed-split work printing text is) written)
+
+  pub memo-written : (segmenter : Segmenter) (style : Style) (search : Search) (text : List ℕ) (old new : Option (List ℕ)) (r : Result Found Fault)
+      → is_split_by (Cut segmenter style search) ≡ false
+      → IfOk r (λ found. IsFoundBy segmenter text found × Appends old new (lines_at (record { style = style; file = file }) 0 text (segments_by segmenter text)))
+      → IfOk r (λ found. IsFound (Cut segmenter style search) text found × Appends old new (work_output (Cut segmenter style search) file text))
+  memo-written segmenter style Plain text old new r split is = absurd (true≢false split)
+  memo-written segmenter style Memoised text old new (Err fault) split is = tt
+  memo-written segmenter style Memoised text old new (Ok found) split (is, written) =
+      (is, subst (Appends old new) (lines-at_zero (record { style = style; file = file }) text (segments_by segmenter text)) written)
+
+-- what has a printing may be split
+pub split-always : (split : Bool) (found : Option Printing) (printing : Printing) → split ≡ is_some found → found ≡ Some printing → split ≡ true
+split-always split found printing always is = always ∙ ap is_some is
+
+pub unwritten-split : (split : Bool) (P : Type 0) (r : Result Tally Fault) → split ≡ true → IfErr r (λ fault. IsBeforeWriting fault → split ≡ false → P)
+unwritten-split split P (Ok tally) is = tt
+unwritten-split split P (Err fault) is = λ before none. absurd (true≢false (sym is ∙ none))

@@ -1,5 +1,5 @@
 -- What a job writes of a text, and which one is asked for.
-use Rattle.std.specs.Prelude.{◌≡◌, ℕ, ◌&&◌, Bool, true, false, Option, None, Some, List, [], ◌++◌, length}
+use Rattle.std.specs.Prelude.{◌≡◌, ℕ, Bool, if◌then◌else◌, true, false, Option, None, Some, List, [], ◌++◌, length}
 use Rattle.std.specs.Option.{option_map, option_map_or}
 use Rattle.icu_segmenter.specs.ScriptWords.{ScriptWords}
 use Rattle.icu_segmenter.specs.WordSets.{Words}

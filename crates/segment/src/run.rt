@@ -2,14 +2,15 @@
 ghost use Rattle.std.specs.Prelude.{◌≡◌, ◌⊎◌, false, option_map, IfErr, IfOk, IfSome, OnOk};
 ghost use Rattle.std.specs.Io.KnownBytes.{Appends, IsAtEnd};
 ghost use Rattle.segment_output.specs.Fault.{IsBeforeWriting, IsReadFault};
-ghost use Rattle.segment.specs.Job.{is_split, output_of, printed_by, said_by, text_of, work_output, IsBegunBy, IsFound, IsTally};
+ghost use Rattle.segment_output.specs.Parts.{count_for, printed_behind};
+ghost use Rattle.segment.specs.Job.{is_split, is_split_by, output_of, printed_by, said_by, text_of, work_output, IsBegunBy, IsFound, IsTally};
 
-use crate::job::{Job, Search, Work};
+use crate::job::{Job, Work};
 use segment_output::fault::Fault;
 use segment_output::found::{Found, Size, Tally};
 use segment_output::memo::print_by_memo;
 use segment_output::output::{Part, write_count};
-use segment_output::parts::{Splitting, print_parts};
+use segment_output::parts::{Printing, Splitting, print_parts};
 use std::alloc::Global;
 use std::io::{Read, Write};
 
@@ -32,7 +33,10 @@ pub fn run<I: Read, O: Write>(
     ensures begun { IfErr result (λ fault. IsReadFault fault → (out.new ≡ out.old)
         ⊎ IsBegunBy job.now (said_by job.now (option_map (λ name. name.now) name.entry)) (I.remaining input.old) (I.remaining input.new) (O.contents out.old) (O.contents out.new)) }
 {
-    let tally = print_job(alloc, job, job.said(name), input, out)?;
+    let tally = match print_job(alloc, job, job.said(name), input, out) {
+        Ok(tally) => tally,
+        Err(fault) => return Err(fault),
+    };
     let Some(numbers) = job.numbers() else {
         return Ok(tally);
     };
@@ -121,23 +125,55 @@ fn print_text<O: Write>(
         × Appends (O.contents out.old) (O.contents out.new) (work_output work.now (option_map (λ name. name.now) file.entry) text.now)) }
     ensures unwritten { IfErr result (λ fault. IsBeforeWriting fault → out.new ≡ out.old) }
 {
-    if let Work::Cut(segmenter, style, Search::Memoised) = work {
-        let part = Part {
-            bytes: text,
-            before: 0,
-            style: *style,
-            file,
-        };
-        return print_by_memo(alloc, segmenter, part, out);
+    match work.printing(file) {
+        Some(printing) => print_plainly(alloc, printing, text, out),
+        None => print_memoised(alloc, work, file, text, out),
     }
-    let Some(printing) = work.printing(file) else {
-        unreachable!()
-    };
+}
+
+// Writes what is written of a whole text without a memo.
+fn print_plainly<O: Write>(
+    alloc: Global,
+    printing: Printing<'_>,
+    text: &[u8],
+    out: &mut O,
+) -> Result<Found, Fault>
+    ensures written { IfOk result (λ found. (found.segments ≡ count_for printing.entry text.now) × (found.lookups ≡ 0)
+        × Appends (O.contents out.old) (O.contents out.new) (printed_behind printing.entry 0 text.now)) }
+    ensures unwritten { IfErr result (λ fault. IsBeforeWriting fault → out.new ≡ out.old) }
+{
     match printing.print(alloc, text, 0, out) {
         Ok(segments) => Ok(Found {
             segments,
             lookups: 0,
         }),
         Err(error) => Err(Fault::of_writing(error)),
+    }
+}
+
+// Writes the segments of a text that are found with a memo.
+fn print_memoised<O: Write>(
+    alloc: Global,
+    work: &Work,
+    file: Option<&str>,
+    text: &[u8],
+    out: &mut O,
+) -> Result<Found, Fault>
+    requires { is_split_by work.now ≡ false }
+    ensures written { IfOk result (λ found. IsFound work.now text.now found
+        × Appends (O.contents out.old) (O.contents out.new) (work_output work.now (option_map (λ name. name.now) file.entry) text.now)) }
+    ensures unwritten { IfErr result (λ fault. IsBeforeWriting fault → out.new ≡ out.old) }
+{
+    match work {
+        Work::Cut(segmenter, style, _) => {
+            let part = Part {
+                bytes: text,
+                before: 0,
+                style: *style,
+                file,
+            };
+            print_by_memo(alloc, segmenter, part, out)
+        }
+        Work::Wrap(_) => unreachable!(),
     }
 }
