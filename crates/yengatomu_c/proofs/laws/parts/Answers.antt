@@ -1,6 +1,7 @@
 use Rattle.std.proofs.Common.{subst}
 use Rattle.icu_segmenter.specs.LineBreaks.{LineRules, LinesResetAfter, line_boundaries_by}
 use Rattle.icu_segmenter.specs.Rules.{PartsTexts, ResetsAfter, Rules, boundaries_by}
+use Rattle.icu_segmenter.specs.Suppression.{without_abbreviated}
 use Rattle.icu_segmenter.specs.WordRules.{WordRules, WordsResetAfter, word_boundaries_by}
 use Rattle.yengatomu_c.proofs.laws.parts.Goals as goal
 
@@ -11,10 +12,6 @@ returns-in-Clusters c =
 pub returns-in-Words : goal.returns-in-Words
 returns-in-Words c =
     rw c.in-Words.is (λ reset. subst (λ (rules : WordRules). WordsResetAfter rules 0x0A → PartsTexts (word_boundaries_by rules) 0x0A) c.as_borrowed-in-Words.ensures c.parts_behind_resets-in-Words.ensures (reset _))
-
-pub returns-in-Sentences : goal.returns-in-Sentences
-returns-in-Sentences c =
-    rw c.in-Sentences.is (λ reset. subst (λ (rules : Rules). ResetsAfter rules 0x0A → PartsTexts (boundaries_by rules) 0x0A) c.as_borrowed-in-Sentences.ensures c.parts_behind_resets-in-Sentences.ensures reset)
 
 pub returns-in-Lines : goal.returns-in-Lines
 returns-in-Lines c =
