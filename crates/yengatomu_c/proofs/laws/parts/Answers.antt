@@ -1,7 +1,6 @@
 use Rattle.std.proofs.Common.{subst}
 use Rattle.icu_segmenter.specs.LineBreaks.{LineRules, LinesResetAfter, line_boundaries_by}
 use Rattle.icu_segmenter.specs.Rules.{PartsTexts, ResetsAfter, Rules, boundaries_by}
-use Rattle.icu_segmenter.specs.Suppression.{without_abbreviated}
 use Rattle.icu_segmenter.specs.WordRules.{WordRules, WordsResetAfter, word_boundaries_by}
 use Rattle.yengatomu_c.proofs.laws.parts.Goals as goal
 
