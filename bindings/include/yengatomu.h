@@ -106,7 +106,7 @@ void yengatomu_close(yengatomu_slot *slot);
 /* Writes the first boundaries above from to out, as many as there is room for, and returns how many: those of the text from there on,
  * taken alone. The last of all is len; a room of len holds them all, and a room of 0 gives 0. Where from is 0, or a boundary and the
  * slot has neither a dictionary nor abbreviations, they are the boundaries of the whole text: so go on from the last one, until 0 is
- * returned. With a dictionary or abbreviations, which may begin before a boundary, go on only from behind a line feed.
+ * returned. With a dictionary or abbreviations go on only from behind a line feed: what they look at may begin before the boundary.
  * 0 where from is len or more, and where the slot is empty. */
 size_t yengatomu_boundaries(yengatomu_slot *slot, const uint8_t *text, size_t len, size_t from, size_t *out, size_t room);
 size_t yengatomu_boundaries_utf16(yengatomu_slot *slot, const uint16_t *text, size_t len, size_t from, size_t *out, size_t room);
@@ -127,8 +127,8 @@ size_t yengatomu_previous_utf16(yengatomu_slot *slot, const uint16_t *text, size
 
 /* Writes where the first lines end that the text from there on is wrapped to, as many as there is room for, and returns how many.
  * A line takes as many segments as fit in the columns, at least one, and ends where it must. Spaces, line feeds and carriage returns
- * at its end take no columns. They are counted by character, or as yengatomu_count_by_cluster says. Go on as with yengatomu_boundaries. 0
- * where from is len or more, where the slot is empty, and of other kinds than lines. */
+ * at its end take no columns. Columns are counted by character, or by cluster (yengatomu_count_by_cluster). Go on as with
+ * yengatomu_boundaries. 0 where from is len or more, where the slot is empty, and of other kinds than lines. */
 size_t yengatomu_wrap(yengatomu_slot *slot, const uint8_t *text, size_t len, size_t from, size_t columns, size_t *ends, size_t room);
 size_t yengatomu_wrap_utf16(yengatomu_slot *slot, const uint16_t *text, size_t len, size_t from, size_t columns, size_t *ends, size_t room);
 /* The same, with how many columns each line takes. It writes as many as both buffers have room for. */
