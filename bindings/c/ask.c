@@ -3,6 +3,8 @@
  *     open KIND STRICTNESS WORD_BREAK CHINESE_OR_JAPANESE      the status
  *     rules FILE                  opens by the rules in a file; the status, and the line of an error
  *     load SCRIPT FILE            the words of a file, one a line; the status
+ *     abbreviations FILE          the same of abbreviations
+ *     by-cluster                  has columns counted by cluster; the status
  *     text FILE, units FILE       takes the text of a file: UTF-8, or UTF-16 in the machine's byte order
  *     hex DIGITS, hex16 DIGITS    the same from digits, two a byte or four a unit; none is the empty text
  *     boundaries ROOM             the boundaries, found in calls with so much room
@@ -175,6 +177,7 @@ static void take_digits(const char *digits, bool as_utf16) {
     take(bytes, as_utf16 ? 2 * count : count, as_utf16);
 }
 
+/* The words of a script, or, where that is 0, abbreviations. */
 static uint32_t load(uint32_t script, const char *path) {
     size_t size, count = 0, at = 0;
     uint8_t *bytes = read_file(path, &size);
@@ -187,7 +190,7 @@ static uint32_t load(uint32_t script, const char *path) {
             at = i + 1;
         }
     }
-    status = yengatomu_load_dictionary(&slot, words, count, script);
+    status = script ? yengatomu_load_dictionary(&slot, words, count, script) : yengatomu_load_abbreviations(&slot, words, count);
     free(words);
     free(bytes);
     return status;
@@ -210,6 +213,10 @@ static bool is_done(char *line) {
         printf("%u\n", yengatomu_open(&slot, a, b, c, d));
     else if (sscanf(line, "load %u %4095s", &a, rest) == 2)
         printf("%u\n", load(a, rest));
+    else if (sscanf(line, "abbreviations %4095s", rest) == 1)
+        printf("%u\n", load(0, rest));
+    else if (!strcmp(line, "by-cluster"))
+        printf("%u\n", yengatomu_count_by_cluster(&slot));
     else if (sscanf(line, "rules %4095s", rest) == 1)
         print_rules(rest);
     else if (sscanf(line, "text %4095s", rest) == 1 || sscanf(line, "units %4095s", rest) == 1) {

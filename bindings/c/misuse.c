@@ -44,6 +44,8 @@ static void check_empty(yengatomu_slot *slot) {
     CHECK(yengatomu_count_words(slot, text, 3) == 0);
     CHECK(yengatomu_count_words_utf16(slot, units, 3) == 0);
     CHECK(yengatomu_load_dictionary(slot, &word, 1, YENGATOMU_THAI) == YENGATOMU_NO_SUCH);
+    CHECK(yengatomu_load_abbreviations(slot, &word, 1) == YENGATOMU_NO_SUCH);
+    CHECK(yengatomu_count_by_cluster(slot) == YENGATOMU_NO_SUCH);
     CHECK(!slot->full);
 }
 
@@ -250,6 +252,88 @@ static void try_dictionaries(void) {
     }
 }
 
+/* Whether a text's segments end there by a slot, in both encodings; 0 stands behind the last. */
+static void check_ends(yengatomu_slot *slot, const char *text, const size_t *wanted) {
+    size_t found[ROOM] = {0}, len = strlen(text), count = yengatomu_boundaries(slot, bytes_of(text), len, 0, found, ROOM), at = 0;
+    uint16_t units[ROOM];
+    for (size_t i = 0; i < len; i++) units[i] = (uint8_t)text[i];
+    for (; wanted[at]; at++) CHECK(found[at] == wanted[at]);
+    CHECK(count == at && yengatomu_count(slot, bytes_of(text), len) == at);
+    CHECK(yengatomu_boundaries_utf16(slot, units, len, 0, found, ROOM) == at && yengatomu_count_utf16(slot, units, len) == at);
+    for (size_t i = 0; i < at; i++) {
+        const size_t before = i ? wanted[i - 1] : 0;
+        CHECK(found[i] == wanted[i]);
+        for (size_t place = before; place < wanted[i]; place++) {
+            CHECK(yengatomu_next(slot, bytes_of(text), len, place) == wanted[i] && yengatomu_next_utf16(slot, units, len, place) == wanted[i]);
+            CHECK(yengatomu_previous(slot, bytes_of(text), len, place + 1) == before && yengatomu_previous_utf16(slot, units, len, place + 1) == before);
+        }
+    }
+}
+
+/* Sentences go on after abbreviations; other kinds, and those that have some, take none. */
+static void try_abbreviations(void) {
+    const yengatomu_word good[] = {{bytes_of("Mr."), 3}, {bytes_of("z. B."), 5}, {bytes_of(""), 0}};
+    const yengatomu_word ill[] = {{bytes_of("Mr."), 3}, {bytes_of("\xc3."), 2}}, feed[] = {{bytes_of("a\nb."), 4}, {bytes_of("Mr."), 3}};
+    for (uint32_t kind = 0; kind < 4; kind++) {
+        yengatomu_slot slot = opened(kind);
+        if (kind != YENGATOMU_SENTENCES) CHECK(yengatomu_load_abbreviations(&slot, good, 3) == YENGATOMU_NO_SUCH);
+        if (kind != YENGATOMU_SENTENCES) CHECK(yengatomu_load_abbreviations(&slot, ill, 2) == YENGATOMU_NO_SUCH);
+        yengatomu_close(&slot);
+    }
+    yengatomu_slot slot = opened(YENGATOMU_SENTENCES);
+    check_ends(&slot, "Mr. Bond. z. B. Jim\nMr. A", (const size_t[]){4, 13, 16, 20, 24, 25, 0});
+    CHECK(yengatomu_load_abbreviations(&slot, ill, 2) == YENGATOMU_WRONG_WORD);
+    CHECK(yengatomu_load_abbreviations(&slot, feed, 2) == YENGATOMU_WRONG_WORD);
+    check_ends(&slot, "Mr. Bond. z. B. Jim\nMr. A", (const size_t[]){4, 13, 16, 20, 24, 25, 0});
+    CHECK(yengatomu_load_abbreviations(&slot, good, 3) == YENGATOMU_OK);
+    check_ends(&slot, "Mr. Bond. z. B. Jim\nMr. A", (const size_t[]){13, 20, 25, 0});
+    check_ends(&slot, "Ask sMr. Bond. Mr.  ", (const size_t[]){9, 15, 20, 0});
+    /* A part alone has lost the abbreviation that begins before it. */
+    check_ends(&slot, "B. Jim", (const size_t[]){3, 6, 0});
+    CHECK(yengatomu_load_abbreviations(&slot, good, 0) == YENGATOMU_NO_SUCH);
+    CHECK(yengatomu_load_abbreviations(&slot, feed, 2) == YENGATOMU_NO_SUCH);
+    CHECK(yengatomu_count_by_cluster(&slot) == YENGATOMU_NO_SUCH);
+    check_empty_text(&slot);
+    check_rests(&slot, "Mr. Bond. z. B. Jim\nMr. \xff\xe0\xb8\xa0 Mr. A");
+    check_room(&slot, "Mr. Bond. z. B. Jim\nMr. \xff\xe0\xb8\xa0 Mr. A");
+    yengatomu_close(&slot);
+    /* No words at all suppress nothing, and count as some. */
+    slot = opened(YENGATOMU_SENTENCES);
+    CHECK(yengatomu_load_abbreviations(&slot, good, 0) == YENGATOMU_OK);
+    check_ends(&slot, "Mr. Bond.", (const size_t[]){4, 9, 0});
+    CHECK(yengatomu_load_abbreviations(&slot, good, 1) == YENGATOMU_NO_SUCH);
+    yengatomu_close(&slot);
+}
+
+/* A family of emoji takes two columns by cluster, and six by character. */
+static void try_columns(void) {
+    static const char family[] = "\xf0\x9f\x91\xa9\xe2\x80\x8d\xf0\x9f\x91\xa9\xe2\x80\x8d\xf0\x9f\x91\xa7 a";
+    static const uint16_t units[] = {0xD83D, 0xDC69, 0x200D, 0xD83D, 0xDC69, 0x200D, 0xD83D, 0xDC67, ' ', 'a'};
+    const size_t len = sizeof family - 1;
+    size_t ends[2], widths[2], places[ROOM];
+    yengatomu_slot slot;
+    for (uint32_t kind = 0; kind < YENGATOMU_LINES; kind++) {
+        slot = opened(kind);
+        CHECK(yengatomu_count_by_cluster(&slot) == YENGATOMU_NO_SUCH);
+        yengatomu_close(&slot);
+    }
+    slot = opened(YENGATOMU_LINES);
+    CHECK(yengatomu_wrap_columns(&slot, bytes_of(family), len, 0, 9, ends, 2, widths, 2) == 1 && ends[0] == len && widths[0] == 8);
+    for (int times = 0; times < 2; times++) {
+        CHECK(yengatomu_count_by_cluster(&slot) == YENGATOMU_OK);
+        CHECK(yengatomu_wrap_columns(&slot, bytes_of(family), len, 0, 4, ends, 2, widths, 2) == 1 && ends[0] == len && widths[0] == 4);
+        CHECK(yengatomu_wrap_columns_utf16(&slot, units, 10, 0, 4, ends, 2, widths, 2) == 1 && ends[0] == 10 && widths[0] == 4);
+        CHECK(yengatomu_wrap(&slot, bytes_of(family), len, 0, 3, ends, 2) == 2 && ends[0] == len - 1 && ends[1] == len);
+        CHECK(yengatomu_wrap_utf16(&slot, units, 10, 0, 3, ends, 2) == 2 && ends[0] == 9 && ends[1] == 10);
+        CHECK(yengatomu_boundaries(&slot, bytes_of(family), len, 0, places, ROOM) == 2 && places[0] == len - 1);
+    }
+    CHECK(yengatomu_load_abbreviations(&slot, &(const yengatomu_word){bytes_of("a"), 1}, 1) == YENGATOMU_NO_SUCH);
+    check_empty_text(&slot);
+    check_rests(&slot, family);
+    check_room(&slot, family);
+    yengatomu_close(&slot);
+}
+
 static const char snake[] = "Letter = \\p{L} + \\p{M} + \\p{Nd}\nLine = [_ -]\nLetter \xc3\x97 Letter\nLine \xc3\x97 Line\n\xc3\xb7\n";
 
 static void check_snake(yengatomu_slot *slot) {
@@ -267,6 +351,7 @@ static void check_snake(yengatomu_slot *slot) {
     CHECK(yengatomu_count(slot, text, 10) == 3 && yengatomu_count_words(slot, text, 10) == 0);
     CHECK(yengatomu_wrap(slot, text, 10, 0, 3, places, ROOM) == 0);
     CHECK(yengatomu_load_dictionary(slot, &word, 1, YENGATOMU_THAI) == YENGATOMU_NO_SUCH);
+    CHECK(yengatomu_load_abbreviations(slot, &word, 1) == YENGATOMU_NO_SUCH && yengatomu_count_by_cluster(slot) == YENGATOMU_NO_SUCH);
 }
 
 /* Rules that are wrong, cut off at each byte, without a machine, and in slots that hold something. */
@@ -353,6 +438,8 @@ int main(int count, char **words) {
     try_texts();
     try_ill_formed();
     try_dictionaries();
+    try_abbreviations();
+    try_columns();
     try_rules();
     if (count > 1 && !strcmp(words[1], "large")) try_large();
     return failed ? 1 : 0;

@@ -164,14 +164,22 @@ static void open_all(kind *kinds, size_t count) {
         {(const uint8_t *)"\xe0\xb9\x84\xe0\xb8\x97\xe0\xb8\xa2", 9},
         {(const uint8_t *)"\xe0\xb8\xa0", 3},
     };
+    static const yengatomu_word abbreviations[] = {{(const uint8_t *)"Mr.", 3}, {(const uint8_t *)"1. a", 4}, {(const uint8_t *)".", 1}};
     for (size_t i = 0; i < count; i++) {
         CHECK(yengatomu_open(&kinds[i].slot, kinds[i].number, (uint32_t)below(4), (uint32_t)below(3), below(2)) == YENGATOMU_OK);
-        if (kinds[i].has_words) CHECK(yengatomu_load_dictionary(&kinds[i].slot, words, 3, YENGATOMU_THAI) == YENGATOMU_OK);
+        if (kinds[i].has_words) {
+            bool of_sentences = kinds[i].number == YENGATOMU_SENTENCES;
+            CHECK((of_sentences ? yengatomu_load_abbreviations(&kinds[i].slot, abbreviations, 3)
+                                : yengatomu_load_dictionary(&kinds[i].slot, words, 3, YENGATOMU_THAI)) == YENGATOMU_OK);
+        }
+        /* (lines with words count columns by cluster, and others by character) */
+        if (kinds[i].has_words && kinds[i].number == YENGATOMU_LINES) CHECK(yengatomu_count_by_cluster(&kinds[i].slot) == YENGATOMU_OK);
     }
 }
 
 int main(int count, char **words) {
-    kind kinds[] = {{0, false, {0}}, {1, false, {0}}, {2, false, {0}}, {3, false, {0}}, {1, true, {0}}, {3, true, {0}}};
+    kind kinds[] = {{0, false, {0}}, {1, false, {0}}, {2, false, {0}}, {3, false, {0}}, {1, true, {0}}, {2, true, {0}}, {3, true, {0}}};
+    const size_t kind_count = sizeof kinds / sizeof *kinds;
     size_t rounds = count == 3 ? strtoul(words[1], NULL, 10) : 0;
     if (!rounds) {
         fprintf(stderr, "usage: random ROUNDS SEED\n");
@@ -179,12 +187,12 @@ int main(int count, char **words) {
     }
     state = strtoul(words[2], NULL, 10) * 2 + 1;
     for (size_t round = 0; round < rounds && failed < 10; round++) {
-        if (round % 100 == 0) open_all(kinds, 6);
-        try_bytes(kinds, 6);
-        try_units(kinds, 6);
+        if (round % 100 == 0) open_all(kinds, kind_count);
+        try_bytes(kinds, kind_count);
+        try_units(kinds, kind_count);
         if (failed) fprintf(stderr, "in round %zu\n", round);
     }
-    for (int i = 0; i < 6; i++) yengatomu_close(&kinds[i].slot);
+    for (size_t i = 0; i < kind_count; i++) yengatomu_close(&kinds[i].slot);
     printf("%zu texts of bytes, and as many of units\n", rounds);
     return failed ? 1 : 0;
 }

@@ -1,4 +1,4 @@
-/* Refuses each growth of open, open_rules and load_dictionary in turn, alone and with all that come behind it. Each must say that it is out of memory, leave no
+/* Refuses each growth of open, open_rules, load_dictionary, load_abbreviations and count_by_cluster in turn, alone and with all that come behind it. Each must say that it is out of memory, leave no
  * block behind, and leave the slot empty, or as it was. The other calls must ask for no memory at all.
  *
  * Link it with -Wl,--wrap=NAME for malloc, calloc, realloc, aligned_alloc, posix_memalign and free. */
@@ -206,6 +206,45 @@ static void refuse_loads(uint32_t kind, uint32_t script) {
     printf("dictionary of kind %u, script %u: %ld growths\n", kind, script, number);
 }
 
+/* What a slot takes beside the words of scripts: abbreviations, or clusters by which columns are counted. */
+static uint32_t take_more(yengatomu_slot *slot, uint32_t kind) {
+    static const yengatomu_word words[] = {{(const uint8_t *)"3.14!", 5}, {(const uint8_t *)"Mr.", 3}};
+    return kind == YENGATOMU_LINES ? yengatomu_count_by_cluster(slot) : yengatomu_load_abbreviations(slot, words, 2);
+}
+
+/* Has a new segmenter take it in the same way. */
+static bool refuse_more(uint32_t kind, long number) {
+    yengatomu_slot slot = {0};
+    size_t before_it[ROOM], count;
+    long before = live, blocks;
+    uint32_t status;
+    CHECK(yengatomu_open(&slot, kind, 0, 0, false) == YENGATOMU_OK);
+    count = found(&slot, before_it);
+    blocks = live;
+    refused = 0;
+    left = number;
+    status = take_more(&slot, kind);
+    left = -1;
+    if (status != YENGATOMU_OK) {
+        CHECK(status == YENGATOMU_NO_MEMORY && refused && live == blocks && finds(&slot, before_it, count));
+        /* (it takes what it was refused) */
+        CHECK(take_more(&slot, kind) == YENGATOMU_OK);
+    }
+    CHECK(growths_of_calls(&slot) == 0);
+    CHECK(found(&slot, (size_t[ROOM]){0}) == (kind == YENGATOMU_LINES ? count : count - 1));
+    yengatomu_close(&slot);
+    CHECK(live == before);
+    return refused;
+}
+
+static void refuse_all_more(uint32_t kind) {
+    long number = 0;
+    for (once = false; refuse_more(kind, number); once = !once) number += once;
+    CHECK(number > 0);
+    once = false;
+    printf("more of kind %u: %ld growths\n", kind, number);
+}
+
 int main(void) {
     long before;
     /* (so that standard output has its buffer, which isn't counted) */
@@ -220,6 +259,8 @@ int main(void) {
         refuse_loads(YENGATOMU_WORDS, script);
         refuse_loads(YENGATOMU_LINES, script);
     }
+    refuse_all_more(YENGATOMU_SENTENCES);
+    refuse_all_more(YENGATOMU_LINES);
     CHECK(live == before);
     return failed ? 1 : 0;
 }

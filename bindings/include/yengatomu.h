@@ -34,7 +34,7 @@ typedef struct yengatomu_slot {
     void *at;
 } yengatomu_slot;
 
-/* A word of a dictionary: UTF-8. */
+/* A word of a dictionary, or an abbreviation: UTF-8. */
 typedef struct yengatomu_word {
     const uint8_t *bytes;
     size_t len;
@@ -49,8 +49,10 @@ enum { YENGATOMU_STRICT, YENGATOMU_NORMAL, YENGATOMU_LOOSE, YENGATOMU_ANYWHERE }
 enum { YENGATOMU_BREAK_NORMAL, YENGATOMU_BREAK_ALL, YENGATOMU_KEEP_ALL };
 /* script */
 enum { YENGATOMU_MYANMAR = 1, YENGATOMU_CHINESE_OR_JAPANESE, YENGATOMU_KHMER, YENGATOMU_LAO, YENGATOMU_THAI };
-/* what open and load_dictionary return */
+/* what open, load_dictionary and count_by_cluster return */
 enum { YENGATOMU_OK, YENGATOMU_NO_MEMORY, YENGATOMU_NO_SUCH, YENGATOMU_NOT_UTF8 };
+/* what load_abbreviations returns beside the first three of these */
+enum { YENGATOMU_WRONG_WORD = 3 };
 /* what open_rules returns beside YENGATOMU_OK and YENGATOMU_NO_MEMORY */
 enum { YENGATOMU_WRONG_RULES = 2, YENGATOMU_NO_MACHINE };
 /* marks of words: what ends at the boundary */
@@ -85,13 +87,26 @@ uint32_t yengatomu_open_rules(yengatomu_slot *slot, const uint8_t *text, size_t 
  * YENGATOMU_NOT_UTF8 where a word is ill-formed. If it isn't YENGATOMU_OK, the slot is as it was. */
 uint32_t yengatomu_load_dictionary(yengatomu_slot *slot, const yengatomu_word *words, size_t count, uint32_t script);
 
+/* Gives a segmenter of sentences the abbreviations after which a sentence goes on: whole words with their full stops, as Mr. or z. B., in any
+ * order. A boundary is left out where the text before it ends with one of them and perhaps spaces, before which neither a letter nor a
+ * digit stands; but not at the end of the text. Upper and lower case differ. A list of no words counts as one. YENGATOMU_NO_SUCH for
+ * another kind, for an empty slot, and where there are abbreviations already: to load others, open the slot anew. YENGATOMU_WRONG_WORD
+ * where a word is ill-formed or has a line feed in it. If it isn't YENGATOMU_OK, the slot is as it was. */
+uint32_t yengatomu_load_abbreviations(yengatomu_slot *slot, const yengatomu_word *words, size_t count);
+
+/* Has a segmenter of lines count the columns of wrapped lines cluster by cluster from now on, and no longer character by character: each
+ * cluster takes the width of its characters together, so that a family of emoji takes two columns. One of more than 128 bytes in UTF-8
+ * takes the sum of the widths of its characters. Where lines may end stays as it is. YENGATOMU_NO_SUCH for another kind or an empty slot.
+ * If it isn't YENGATOMU_OK, the slot is as it was; to count by character again, open it anew. */
+uint32_t yengatomu_count_by_cluster(yengatomu_slot *slot);
+
 /* Frees what the slot holds, and leaves it empty. It may be opened again, or closed again. */
 void yengatomu_close(yengatomu_slot *slot);
 
 /* Writes the first boundaries above from to out, as many as there is room for, and returns how many: those of the text from there on,
  * taken alone. The last of all is len; a room of len holds them all, and a room of 0 gives 0. Where from is 0, or a boundary and the
- * slot has no dictionary, they are the boundaries of the whole text: so go on from the last one, until 0 is returned. With a dictionary
- * go on only from behind a line feed.
+ * slot has neither a dictionary nor abbreviations, they are the boundaries of the whole text: so go on from the last one, until 0 is
+ * returned. With a dictionary or abbreviations go on only from behind a line feed: what they look at may begin before the boundary.
  * 0 where from is len or more, and where the slot is empty. */
 size_t yengatomu_boundaries(yengatomu_slot *slot, const uint8_t *text, size_t len, size_t from, size_t *out, size_t room);
 size_t yengatomu_boundaries_utf16(yengatomu_slot *slot, const uint16_t *text, size_t len, size_t from, size_t *out, size_t room);
@@ -112,8 +127,8 @@ size_t yengatomu_previous_utf16(yengatomu_slot *slot, const uint16_t *text, size
 
 /* Writes where the first lines end that the text from there on is wrapped to, as many as there is room for, and returns how many.
  * A line takes as many segments as fit in the columns, at least one, and ends where it must. Spaces, line feeds and carriage returns
- * at its end take no columns. Go on as with yengatomu_boundaries. 0 where from is len or more, where the slot is empty, and of other
- * kinds than lines. */
+ * at its end take no columns. Columns are counted by character, or by cluster (yengatomu_count_by_cluster). Go on as with
+ * yengatomu_boundaries. 0 where from is len or more, where the slot is empty, and of other kinds than lines. */
 size_t yengatomu_wrap(yengatomu_slot *slot, const uint8_t *text, size_t len, size_t from, size_t columns, size_t *ends, size_t room);
 size_t yengatomu_wrap_utf16(yengatomu_slot *slot, const uint16_t *text, size_t len, size_t from, size_t columns, size_t *ends, size_t room);
 /* The same, with how many columns each line takes. It writes as many as both buffers have room for. */

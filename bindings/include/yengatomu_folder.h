@@ -1,4 +1,4 @@
-/* yengatomu_folder.h: dictionaries from lists in files, for yengatomu.h. It needs the C library alone; its calls are compiled with the program.
+/* yengatomu_folder.h: dictionaries and abbreviations from lists in files, for yengatomu.h. It needs the C library alone; its calls are compiled with the program.
  *
  * A list is a text of UTF-8 with a word a line. White space around a word, a byte order mark at the start and blank lines count for nothing. */
 #ifndef YENGATOMU_FOLDER_H
@@ -9,7 +9,7 @@
 #include <string.h>
 #include <yengatomu.h>
 
-/* what these calls return beside what yengatomu_load_dictionary does: the file can't be read (errno says why); it has no words */
+/* what these calls return beside what yengatomu_load_dictionary and yengatomu_load_abbreviations do: the file can't be read (errno says why); it has no words */
 enum { YENGATOMU_UNREAD = 4, YENGATOMU_NO_WORDS };
 
 /* Reads a file into memory that the caller frees; unless it is YENGATOMU_OK there is none. */
@@ -61,8 +61,8 @@ static inline size_t yengatomu_words_in(const char *list, size_t len, yengatomu_
     return count;
 }
 
-/* Gives a segmenter of words or lines the words of a list in a file, as yengatomu_load_dictionary does. */
-static inline uint32_t yengatomu_load_file(yengatomu_slot *slot, const char *path, uint32_t script) {
+/* Gives a segmenter the words of a list in a file: of a script, or, where that is NULL, abbreviations. */
+static inline uint32_t yengatomu_load_list(yengatomu_slot *slot, const char *path, const uint32_t *script) {
     char *list;
     size_t len, count;
     yengatomu_word *words;
@@ -70,11 +70,35 @@ static inline uint32_t yengatomu_load_file(yengatomu_slot *slot, const char *pat
     if (error != YENGATOMU_OK) return error;
     count = yengatomu_words_in(list, len, NULL);
     words = (yengatomu_word *)malloc(count * sizeof *words + 1);
+    if (words) yengatomu_words_in(list, len, words);
     if (!count) error = YENGATOMU_NO_WORDS;
     else if (!words) error = YENGATOMU_NO_MEMORY;
-    else error = yengatomu_load_dictionary(slot, words, yengatomu_words_in(list, len, words), script);
+    else error = script ? yengatomu_load_dictionary(slot, words, count, *script) : yengatomu_load_abbreviations(slot, words, count);
     free(words);
     free(list);
+    return error;
+}
+
+/* Gives a segmenter of words or lines the words of a list in a file, as yengatomu_load_dictionary does. */
+static inline uint32_t yengatomu_load_file(yengatomu_slot *slot, const char *path, uint32_t script) {
+    return yengatomu_load_list(slot, path, &script);
+}
+
+/* Gives a segmenter of sentences the abbreviations of a list in a file, as yengatomu_load_abbreviations does. */
+static inline uint32_t yengatomu_load_abbreviations_file(yengatomu_slot *slot, const char *path) {
+    return yengatomu_load_list(slot, path, NULL);
+}
+
+/* Gives a segmenter of sentences the abbreviations of a language, as "en": those of abbreviations-en.txt of a folder, as tools/dictionaries
+ * writes it. */
+static inline uint32_t yengatomu_load_language(yengatomu_slot *slot, const char *folder, const char *language) {
+    const size_t room = strlen(folder) + strlen(language) + sizeof "/abbreviations-.txt";
+    char *path = (char *)malloc(room);
+    uint32_t error;
+    if (!path) return YENGATOMU_NO_MEMORY;
+    snprintf(path, room, "%s/abbreviations-%s.txt", folder, language);
+    error = yengatomu_load_abbreviations_file(slot, path);
+    free(path);
     return error;
 }
 

@@ -18,6 +18,7 @@ import yengatomu
 from yengatomu import Kind, Script, Segmenter, Strictness, WordBreak, WordType, _library, _segmenter, options
 
 THAI = ["ภาษา", "ไทย"]
+ABBREVIATIONS = ["Mr.", "z. B.", "3.14.", "é."]
 WHITE = " \t\r\n"
 # `snake`, `_` and `case` of `snake_case`.
 SNAKE = r"""Letter = \p{L} + \p{M} + \p{Nd}
@@ -179,6 +180,33 @@ class Examples(unittest.TestCase):
                 self.assertEqual(list(segmenter.segments("".join(THAI))), THAI)
                 self.assertEqual(list(segmenter.segments("".join(THAI).encode())), [it.encode() for it in THAI])
 
+    def test_abbreviations(self):
+        text = "Mr. Bond. z. B. Jim\nMr. A"
+        for words in (ABBREVIATIONS, [it.encode() for it in ABBREVIATIONS], (it for it in ABBREVIATIONS)):
+            sentences = Segmenter(Kind.SENTENCES)
+            self.assertEqual(sentences.boundaries(text), [0, 4, 13, 16, 20, 24, 25])
+            sentences.load_abbreviations(words)
+            self.assertEqual(sentences.boundaries(text), [0, 13, 20, 25])
+            self.assertEqual(list(sentences.segments(text.encode())), [b"Mr. Bond. z. ", b"B. Jim\n", b"Mr. A"])
+            self.assertEqual((sentences.count(text), sentences.next(text, 4), sentences.previous(text, 20)), (3, 13, 13))
+            self.assertEqual(list(sentences.segments("Ask sMr. Bond. Mr.  ")), ["Ask sMr. ", "Bond. ", "Mr.  "])
+            # Far from a line feed too, where an abbreviation began before the places that a call gave.
+            for more in ("", "👩"):
+                self.assertEqual(list(sentences.segments(f"Yes. Z. z. B. No! {more}" * 3000)), ["Yes. ", "Z. z. ", "B. No! ", *[f"{more}Yes. ", "Z. z. ", "B. No! "] * 2999, *[more][: bool(more)]])
+
+    def test_by_cluster(self):
+        family = "👩\u200d👩\u200d👧 a"
+        lines = Segmenter(Kind.LINES, by_cluster=True)
+        for text, size in ((family, 7), (family.encode(), 20)):
+            self.assertEqual([columns for _, columns in Segmenter(Kind.LINES).wrapped(text, 80)], [8])
+            self.assertEqual([columns for _, columns in Segmenter(Kind.LINES, by_cluster=False).wrapped(text, 80)], [8])
+            self.assertEqual([columns for _, columns in lines.wrapped(text, 80)], [4])
+            self.assertEqual([(len(line), columns) for line, columns in lines.wrapped(text, 3)], [(size - 1, 2), (1, 1)])
+            self.assertEqual(lines.boundaries(text), Segmenter(Kind.LINES).boundaries(text))
+            self.assertEqual(len(yengatomu.wrap(text, 4)), 2)
+            self.assertEqual(len(yengatomu.wrap(text, 4, by_cluster=True)), 1)
+            self.assertEqual(len(yengatomu.wrap(text * 2, 3, by_cluster=True, break_words=True)), 3)
+
     def test_reads_no_further(self):
         """With a dictionary a call reads what it must, not all up to the next run or the end, which would take a millisecond or more here."""
         for kind, text in itertools.product((Kind.WORDS, Kind.LINES), (b"ab " * 300_000, b"ab " * 300_000 + "ภาษาไทย".encode())):
@@ -226,6 +254,8 @@ class Places(unittest.TestCase):
         for kind in (Kind.WORDS, Kind.LINES):
             segmenters.append(Segmenter(kind))
             segmenters[-1].load_dictionary(THAI, Script.THAI)
+        segmenters += [Segmenter(Kind.SENTENCES), Segmenter(Kind.LINES, by_cluster=True)]
+        segmenters[-2].load_abbreviations(ABBREVIATIONS)
         for text in SAMPLES + random_texts(200, 30):
             for segmenter in segmenters:
                 yield segmenter, text
@@ -342,6 +372,20 @@ class Long(unittest.TestCase):
                                 if whole[1] is not None:
                                     self.assertEqual(list(segmenter.wrapped(given, 9)), whole[1])
 
+    def test_many_calls_of_abbreviations(self):
+        it, segmenter = random.Random(3), Segmenter(Kind.SENTENCES)
+        segmenter.load_abbreviations(["A.", "B. A.", "! C!"])
+        for line_feeds in ("", "\n"):
+            for more in ("", "👩"):
+                text = "".join(it.choices(["A. ", "B. ", "C! ", "D. ", *line_feeds, *more], k=1000))
+                for given in (text, text.encode()):
+                    whole = segmenter.boundaries(given)
+                    self.assertEqual(len(whole), segmenter.count(given) + 1)
+                    for room in (1, 7, 100):
+                        with mock.patch.object(_segmenter, "ROOM", room):
+                            self.assertEqual(segmenter.boundaries(given), whole)
+                            self.assertEqual(list(segmenter.spans(given)), list(zip(whole, whole[1:])))
+
     def test_many_calls_of_rules(self):
         snake, text = Segmenter.by_rules(SNAKE), "ab__c-- 👩!" * 50
         for it in (text, text.encode()):
@@ -398,7 +442,7 @@ class Refused(unittest.TestCase):
 
     def test_options_of_other_kinds(self):
         for kind in (Kind.CLUSTERS, Kind.WORDS, Kind.SENTENCES):
-            for option in ({"strictness": Strictness.STRICT}, {"word_break": WordBreak.NORMAL}, {"chinese_or_japanese": False}):
+            for option in ({"strictness": Strictness.STRICT}, {"word_break": WordBreak.NORMAL}, {"chinese_or_japanese": False}, {"by_cluster": False}):
                 (name,) = option
                 self.assertRaisesRegex(ValueError, f"^{name} is an option of LINES, and {kind.name} have none$", Segmenter, kind, **option)
         self.assertRaises(TypeError, Segmenter, Kind.LINES, strict=True)
@@ -417,6 +461,9 @@ class Refused(unittest.TestCase):
                 self.assertRaises(ValueError, segmenter.marked_segments, "a")
                 self.assertRaises(ValueError, segmenter.load_dictionary, THAI, Script.THAI)
                 self.assertRaises(ValueError, segmenter.load_dictionaries, ".")
+            if kind is not Kind.SENTENCES:
+                self.assertRaisesRegex(ValueError, f"^this is a segmenter of {kind.name}, and not of SENTENCES$", segmenter.load_abbreviations, ["Mr."])
+                self.assertRaises(ValueError, segmenter.load_language, ".", "en")
 
     def test_dictionaries(self):
         segmenter = Segmenter(Kind.WORDS)
@@ -436,6 +483,22 @@ class Refused(unittest.TestCase):
         segmenter.load_dictionary(THAI, Script.THAI)
         segmenter.load_dictionary(THAI[:1], Script.THAI)
         self.assertEqual(list(segmenter.segments("".join(THAI))), THAI)
+
+    def test_abbreviations(self):
+        segmenter, text = Segmenter(Kind.SENTENCES), "Mr. Bond. Mr. A"
+        before = segmenter.boundaries(text)
+        for wrong in ("Mr.", b"Mr.", [1], None):
+            self.assertRaises(TypeError, segmenter.load_abbreviations, wrong)
+        for wrong in (["\ud800"], [b"\xc3."]):
+            self.assertRaises(ValueError, segmenter.load_abbreviations, wrong)
+        self.assertRaisesRegex(ValueError, "^a word has a line feed in it: 'z\\\\nB.'$", segmenter.load_abbreviations, ["a", "z\nB."])
+        self.assertEqual(segmenter.boundaries(text), before)
+        segmenter.load_abbreviations(["Mr."])
+        after = segmenter.boundaries(text)
+        self.assertEqual(after, [0, 10, 15])
+        for more in (["Bond."], []):
+            self.assertRaisesRegex(ValueError, "^this segmenter has abbreviations already$", segmenter.load_abbreviations, more)
+        self.assertEqual(segmenter.boundaries(text), after)
 
     def test_rules(self):
         for wrong in (None, 1, ["÷"], bytearray(b"!")):
@@ -459,6 +522,10 @@ class Refused(unittest.TestCase):
             self.assertRaises(MemoryError, Segmenter.by_rules, SNAKE)
         with mock.patch.object(_library, "load_dictionary", return_value=_library.NO_MEMORY):
             self.assertRaises(MemoryError, Segmenter(Kind.WORDS).load_dictionary, THAI, Script.THAI)
+        with mock.patch.object(_library, "load_abbreviations", return_value=_library.NO_MEMORY):
+            self.assertRaises(MemoryError, Segmenter(Kind.SENTENCES).load_abbreviations, ["Mr."])
+        with mock.patch.object(_library, "count_by_cluster", return_value=_library.NO_MEMORY):
+            self.assertRaises(MemoryError, Segmenter, Kind.LINES, by_cluster=True)
 
 
 class Dictionaries(unittest.TestCase):
@@ -515,6 +582,21 @@ class Dictionaries(unittest.TestCase):
         self.assertEqual(it.exception.filename, f"{self.folder}/none")
         self.assertRaises(TypeError, words.load_dictionaries, None)
 
+    def test_languages(self):
+        sentences = Segmenter(Kind.SENTENCES)
+        with self.assertRaises(FileNotFoundError) as it:
+            sentences.load_language(self.folder, "en")
+        self.assertEqual(it.exception.filename, f"{self.folder}/abbreviations-en.txt")
+        self.write("abbreviations-de.txt", b"\xff\n")
+        self.write("abbreviations-fr.txt", b"\xef\xbb\xbf\n \r\n")
+        self.write("abbreviations-en.txt", b"\xef\xbb\xbfMr.\r\n\r\n Mrs. \n")
+        self.assertRaisesRegex(ValueError, "abbreviations-de.txt is no UTF-8", sentences.load_language, self.folder, "de")
+        self.assertRaisesRegex(ValueError, "abbreviations-fr.txt has no words", sentences.load_language, self.folder, "fr")
+        self.assertEqual(sentences.count("Mr. A. Mrs. B"), 4)
+        sentences.load_language(self.folder, "en")
+        self.assertEqual(list(sentences.segments("Mr. A. Mrs. B")), ["Mr. A. ", "Mrs. B"])
+        self.assertRaisesRegex(ValueError, "already", sentences.load_language, self.folder, "en")
+
     def test_wrong_files(self):
         words = Segmenter(Kind.WORDS)
         before = words.boundaries("ภาษาไทย")
@@ -564,6 +646,9 @@ class Lifetimes(unittest.TestCase):
                 Segmenter.by_rules(SNAKE)
                 if kind is Kind.WORDS:
                     segmenter.load_dictionary([f"{it:06}" for it in range(1000)], Script.THAI)
+                if kind is Kind.SENTENCES:
+                    segmenter.load_abbreviations([f"{it:06}." for it in range(1000)])
+            Segmenter(Kind.LINES, by_cluster=True)
 
         make()
         before = pages()

@@ -9,7 +9,7 @@ from yengatomu import Kind, Script, Segmenter, Strictness, WordBreak, WordType, 
 Span = Tuple[int, int, WordType]
 
 strings: List[str] = yengatomu.words("a") + yengatomu.graphemes("a") + yengatomu.sentences("a", join=True) + yengatomu.lines("a")
-strings += yengatomu.wrap("a", 1, tabs=8, join=True, break_words=True)
+strings += yengatomu.wrap("a", 1, tabs=8, join=True, break_words=True, by_cluster=True)
 parts: List[bytes] = yengatomu.words(b"a") + yengatomu.wrap(b"a", 1)
 prepared: str = yengatomu.join_lines(yengatomu.expand_tabs("a", 8))
 places: List[int] = yengatomu.boundaries(b"a", options.Kind.WORDS)
@@ -18,7 +18,10 @@ count: int = yengatomu.count_words("a")
 versions: Tuple[str, str] = yengatomu.version(), yengatomu.unicode_version(Kind.LINES)
 
 words = Segmenter(Kind.WORDS)
-lines = Segmenter(Kind.LINES, strictness=Strictness.LOOSE, word_break=WordBreak.KEEP_ALL, chinese_or_japanese=True)
+lines = Segmenter(Kind.LINES, strictness=Strictness.LOOSE, word_break=WordBreak.KEEP_ALL, chinese_or_japanese=True, by_cluster=True)
+sentences = Segmenter(Kind.SENTENCES)
+sentences.load_abbreviations(["Mr.", b"Mrs."])
+sentences.load_language(Path("dictionaries"), "en")
 scripts: List[Script] = words.load_dictionaries(Path("dictionaries")) + lines.load_dictionaries("dictionaries")
 with open("thai.txt", encoding="utf-8") as thai:
     words.load_dictionary(thai, Script.THAI)

@@ -9,8 +9,8 @@
 A text is `str`, and then places are its own indices, or `bytes` of UTF-8, which may be ill-formed. What is ill-formed counts as U+FFFD, and so does a
 surrogate that stands alone in a `str`. Segments are slices of the text as it was given. Anything else is a TypeError.
 
-The functions of this module use a segmenter of each kind and thread, without options and dictionaries; `Segmenter` has both, and `Segmenter.by_rules` one
-by rules of your own. What they are asked is in `yengatomu.options`, and here too:
+The functions of this module use segmenters of each thread, without dictionaries and abbreviations; `Segmenter` has both, and options of lines, and
+`Segmenter.by_rules` makes one by rules of your own. What they are asked is in `yengatomu.options`, and here too:
 
     Kind         CLUSTERS, WORDS, SENTENCES, LINES
     Strictness   STRICT, NORMAL, LOOSE, ANYWHERE
@@ -70,12 +70,16 @@ def lines(text: _t.AnyStr) -> _t.List[_t.AnyStr]:
 
 
 def wrap(
-    text: _t.AnyStr, columns: int, *, tabs: _t.Optional[int] = 8, join: bool = False, break_words: bool = False
+    text: _t.AnyStr, columns: int, *, tabs: _t.Optional[int] = 8, join: bool = False, break_words: bool = False, by_cluster: bool = False
 ) -> _t.List[_t.AnyStr]:
-    """Returns the lines that it is wrapped to, as by `Segmenter.wrap`, first by `expand_tabs` (with `tabs` columns; not if None), then, if asked, by `join_lines`."""
+    """Returns the lines that it is wrapped to, as by `Segmenter.wrap`, first by `expand_tabs` (with `tabs` columns; not if None), then, if asked, by `join_lines`.
+
+    `by_cluster` counts columns by cluster, as a `Segmenter` with that option does; but tabs are expanded by character.
+    """
     if tabs is not None:
         text = _segmenter.expanded(text, _segmenter.size(tabs, "tabs", 1))
-    return list(_of(Kind.LINES).wrap(_texts.joined(text) if join else text, columns, break_words=break_words))
+    lines = _segmenter.kept.of_lines(Strictness.STRICT, True) if by_cluster else _of(Kind.LINES)
+    return list(lines.wrap(_texts.joined(text) if join else text, columns, break_words=break_words))
 
 
 def join_lines(text: _t.AnyStr) -> _t.AnyStr:

@@ -9,7 +9,7 @@ import os
 from typing import Any, Callable, Optional
 
 NAME = "libyengatomu.so.0"
-# What open and load_dictionary return.
+# What open, load_dictionary and count_by_cluster return; load_abbreviations has the last one also where a word has a line feed in it.
 OK, NO_MEMORY, NO_SUCH, NOT_UTF8 = range(4)
 # What open_rules returns beside OK and NO_MEMORY.
 WRONG_RULES, NO_MACHINE = 2, 3
@@ -57,6 +57,8 @@ def _call(name: str, result: Optional[type], *arguments: Any) -> Callable[..., i
 open_slot = _call("open", _U32, _SLOT, _U32, _U32, _U32, ctypes.c_bool)
 open_rules = _call("open_rules", _U32, _SLOT, _TEXT, _SIZE, ctypes.POINTER(_SIZE))
 load_dictionary = _call("load_dictionary", _U32, _SLOT, _ARRAY, _SIZE, _U32)
+load_abbreviations = _call("load_abbreviations", _U32, _SLOT, _ARRAY, _SIZE)
+count_by_cluster = _call("count_by_cluster", _U32, _SLOT)
 _call("close", None, _SLOT)
 boundaries = _call("boundaries", _SIZE, _SLOT, _TEXT, _SIZE, _SIZE, _ARRAY, _SIZE)
 boundaries_utf16 = _call("boundaries_utf16", _SIZE, _SLOT, _TEXT, _SIZE, _SIZE, _ARRAY, _SIZE)

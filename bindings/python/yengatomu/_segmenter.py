@@ -62,10 +62,22 @@ def listed_in(words: Iterable[Union[str, bytes]]) -> List[bytes]:
             word = word[1:]
         word = word.strip(_WHITE_SPACE)
         if "\n" in word:
-            raise ValueError(f"a word of the dictionary has a line feed in it: {word[:40]!r}")
+            raise ValueError(f"a word has a line feed in it: {word[:40]!r}")
         if word:
             found.append(word.encode())
     return found
+
+
+def _list_at(path: str) -> List[bytes]:
+    """Returns the words of a list in a file. ValueError where it is no UTF-8 or has none."""
+    with open(path, "rb") as it:
+        try:
+            listed = listed_in(it)
+        except UnicodeDecodeError as error:
+            raise ValueError(f"{path} is no UTF-8") from error
+    if not listed:
+        raise ValueError(f"{path} has no words")
+    return listed
 
 
 class _Room:
@@ -82,9 +94,10 @@ class _Room:
 class Segmenter:
     """Finds the boundaries of a kind, over Unicode's data.
 
-    Only LINES have options: how strictly they break, which is STRICT where nothing is given, whether within words, and whether their texts are Chinese or
-    Japanese. ValueError where another kind is given one. Threads may share a segmenter, and wait for one another then. To make one takes about a
-    millisecond, so keep it. Texts are str or bytes; anything else is a TypeError.
+    Only LINES have options: how strictly they break, which is STRICT where nothing is given, whether within words, whether their texts are Chinese or
+    Japanese, and whether `wrap` counts columns by cluster, where it would count them by character. ValueError where another kind is given one. Threads
+    may share a segmenter, and wait for one another then. To make one takes about a millisecond, so keep it. Texts are str or bytes; anything else is a
+    TypeError.
     """
 
     def __init__(
@@ -94,9 +107,11 @@ class Segmenter:
         strictness: Optional[Strictness] = None,
         word_break: Optional[WordBreak] = None,
         chinese_or_japanese: Optional[bool] = None,
+        by_cluster: Optional[bool] = None,
     ) -> None:
         kind = Kind(kind)
-        for name, given in (("strictness", strictness), ("word_break", word_break), ("chinese_or_japanese", chinese_or_japanese)):
+        options = {"strictness": strictness, "word_break": word_break, "chinese_or_japanese": chinese_or_japanese, "by_cluster": by_cluster}
+        for name, given in options.items():
             if given is not None and kind is not Kind.LINES:
                 raise ValueError(f"{name} is an option of LINES, and {kind.name} have none")
         self._begin(kind)
@@ -107,9 +122,12 @@ class Segmenter:
             raise MemoryError
         if status != _library.OK:
             raise ValueError("no such kind or option")
+        if by_cluster and _library.count_by_cluster(self._at) != _library.OK:
+            raise MemoryError
+        self._by_cluster = bool(by_cluster)
 
     def _begin(self, kind: Kind) -> None:
-        self._kind, self._has_words = kind, False
+        self._kind, self._has_words, self._by_cluster = kind, False, False
         self._lock, self._slot = threading.Lock(), _library.Slot()
         self._at = ctypes.c_void_p(ctypes.addressof(self._slot))
         # What calls write to, by what is said beside places.
@@ -152,7 +170,7 @@ class Segmenter:
             raise TypeError("a dictionary is of many words, and this is one str or bytes")
         script = Script(script)
         self._must_take_words()
-        self._load(listed_in(words), script)
+        self._load_script(listed_in(words), script)
 
     def load_dictionaries(self, folder: Union[str, "os.PathLike[str]"]) -> List[Script]:
         """Loads thai.txt, lao.txt, khmer.txt, myanmar.txt and (of WORDS) cj.txt of a folder, as many as there are, and returns their scripts.
@@ -161,7 +179,7 @@ class Segmenter:
         file, where one is no UTF-8 or has no words; and nothing is loaded then.
         """
         self._must_take_words()
-        folder, found = os.fspath(folder), {}
+        folder = os.fspath(folder)
         os.stat(folder)
         paths = {script: os.path.join(folder, f"{name}.txt") for name, script in _LISTS.items()}
         there = {script: path for script, path in paths.items() if os.path.exists(path)}
@@ -169,30 +187,51 @@ class Segmenter:
             raise FileNotFoundError(errno.ENOENT, "There is no thai.txt, lao.txt, khmer.txt, myanmar.txt or cj.txt in it", folder)
         if self._kind is Kind.LINES:
             there.pop(Script.CHINESE_OR_JAPANESE, None)
-        for script, path in there.items():
-            with open(path, "rb") as it:
-                try:
-                    found[script] = listed_in(it)
-                except UnicodeDecodeError as error:
-                    raise ValueError(f"{path} is no UTF-8") from error
-            if not found[script]:
-                raise ValueError(f"{path} has no words")
+        found = {script: _list_at(path) for script, path in there.items()}
         for script, listed in found.items():
-            self._load(listed, script)
+            self._load_script(listed, script)
         return list(found)
 
-    def _load(self, listed: List[bytes], script: Script) -> None:
+    def load_abbreviations(self, words: Iterable[Union[str, bytes]]) -> None:
+        """Gives SENTENCES the abbreviations after which a sentence goes on, as "Mr.": whole words with their full stops, whose upper and lower case differ.
+
+        A boundary is left out where the text before it ends with one and perhaps spaces, before which neither a letter nor a digit stands; but not at the
+        end of the text. `words` may be an open file, as of `load_dictionary`. ValueError where a word has a line feed in it or is ill-formed, where there
+        are some already, and of other kinds.
+        """
+        if isinstance(words, (str, bytes)):
+            raise TypeError("abbreviations are many words, and this is one str or bytes")
+        self._must_be(Kind.SENTENCES)
+        self._abbreviate(listed_in(words))
+
+    def load_language(self, folder: Union[str, "os.PathLike[str]"], language: str) -> None:
+        """Gives SENTENCES the abbreviations of a language, as "en": those of abbreviations-en.txt of a folder, as tools/dictionaries writes it.
+
+        FileNotFoundError, with the file, where it isn't there; ValueError, with the file, where it is no UTF-8 or has no words; and as `load_abbreviations`.
+        """
+        self._must_be(Kind.SENTENCES)
+        self._abbreviate(_list_at(os.path.join(os.fspath(folder), f"abbreviations-{language}.txt")))
+
+    def _abbreviate(self, listed: List[bytes]) -> None:
+        if self._load(_library.load_abbreviations, listed) != _library.OK:
+            raise ValueError("this segmenter has abbreviations already")
+
+    def _load(self, call: _Call, listed: List[bytes], *options: int) -> int:
+        """Has a call take words, and returns its status, but for that of no memory."""
         whole, sizes = b"".join(listed), array("Q", map(len, listed))
         # Of each word where it begins and its length, as the structure yengatomu_word has them. (There is one more, so that no array is empty.)
         words = array("Q", bytes(16 * (len(listed) + 1)))
         words[0::2] = array("Q", accumulate(sizes, initial=ctypes.cast(ctypes.c_char_p(whole), ctypes.c_void_p).value or 0))
         words[1:-1:2] = sizes
         with self._lock:
-            status = _library.load_dictionary(self._at, words.buffer_info()[0], len(listed), script)
+            status = call(self._at, words.buffer_info()[0], len(listed), *options)
             self._has_words = self._has_words or status == _library.OK
         if status == _library.NO_MEMORY:
             raise MemoryError
-        if status != _library.OK:
+        return status
+
+    def _load_script(self, listed: List[bytes], script: Script) -> None:
+        if self._load(_library.load_dictionary, listed, script) != _library.OK:
             raise ValueError("a word is no UTF-8, or there is no such script")
 
     def boundaries(self, text: Union[str, bytes]) -> List[int]:
@@ -258,7 +297,8 @@ class Segmenter:
     def wrap(self, text: AnyStr, columns: int, *, break_words: bool = False) -> Iterator[AnyStr]:
         """Returns the lines that a text is wrapped to, without the spaces, line feeds and carriage returns at their ends.
 
-        A line takes as many segments as fit in the columns, at least one, and ends where it must. Wide characters take two columns, and marks none.
+        A line takes as many segments as fit in the columns, at least one, and ends where it must. Wide characters take two columns, and marks none; of a
+        segmenter with `by_cluster` each cluster takes the width of its characters together, as a family of emoji two.
         `break_words` breaks what is wider than the columns between clusters. ValueError of another kind than LINES, and where `columns` is below 1.
         """
         white = white_of(text)
@@ -269,7 +309,7 @@ class Segmenter:
         self._must_be(Kind.LINES)
         most = size(columns, "columns", 1)
         lines = self._lines(text, units_of(text), most)
-        return _broken(lines, most) if break_words else lines
+        return _broken(lines, most, self._by_cluster) if break_words else lines
 
     def _lines(self, text: AnyStr, it: Units, columns: int) -> Iterator[Tuple[AnyStr, int]]:
         start = 0
@@ -317,7 +357,7 @@ class Segmenter:
             yield starts, ends, marks
 
     def _places(self, it: Units) -> Iterator["array[int]"]:
-        """Yields all boundaries above 0, some at a time. With a dictionary the library goes on only from behind a line feed, so there is more room while there is none."""
+        """Yields all boundaries above 0, some at a time. With words the library goes on only from behind a line feed, so there is more room while there is none."""
         room, start = min(it[1], ROOM), 0
         while start < it[1]:
             places = self._ended(it, start, room)
@@ -386,14 +426,14 @@ _NO_MARKS = array("B")
 _START = ctypes.c_size_t(0)
 
 
-def _broken(lines: Iterator[Tuple[AnyStr, int]], columns: int) -> Iterator[Tuple[AnyStr, int]]:
+def _broken(lines: Iterator[Tuple[AnyStr, int]], columns: int, by_cluster: bool) -> Iterator[Tuple[AnyStr, int]]:
     """Yields lines, and those that are wider than the columns in parts, cut between clusters. What isn't counted at a line's end stays with its last part."""
     for line, width in lines:
         if width <= columns:
             yield line, width
             continue
         counted = line.rstrip(white_of(line))
-        parts = list(kept.anywhere().wrapped(counted, columns))
+        parts = list(kept.of_lines(Strictness.ANYWHERE, by_cluster).wrapped(counted, columns))
         last, width = parts.pop()
         yield from parts
         yield last + line[len(counted) :], width
@@ -429,7 +469,8 @@ class _Kept(threading.local):
     """The segmenters of a thread, so that no two threads wait for one another. Each is made when it is first asked for."""
 
     def __init__(self) -> None:
-        self.made: List[Optional[Segmenter]] = [None] * (len(Kind) + 1)
+        self.made: List[Optional[Segmenter]] = [None] * len(Kind)
+        self.lines: Dict[Tuple[Strictness, bool], Segmenter] = {}
 
     def of(self, kind: Kind) -> Segmenter:
         """Returns that of a kind, without options."""
@@ -438,11 +479,11 @@ class _Kept(threading.local):
             found = self.made[kind] = Segmenter(kind)
         return found
 
-    def anywhere(self) -> Segmenter:
-        """Returns that of lines which may end at each cluster."""
-        found = self.made[-1]
+    def of_lines(self, strictness: Strictness, by_cluster: bool) -> Segmenter:
+        """Returns that of lines with these options."""
+        found = self.lines.get((strictness, by_cluster))
         if found is None:
-            found = self.made[-1] = Segmenter(Kind.LINES, strictness=Strictness.ANYWHERE)
+            found = self.lines[strictness, by_cluster] = Segmenter(Kind.LINES, strictness=strictness, by_cluster=by_cluster)
         return found
 
 

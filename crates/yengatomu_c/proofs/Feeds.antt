@@ -3,13 +3,15 @@ use Rattle.std.proofs.Common.{◌≡◌, ℕ, ◌==◌, Bool, true, false, not, 
 use Rattle.std.specs.Prelude.{Option, Some, None, IfSome}
 use Rattle.std.specs.Option.{is_some, option_map_or}
 use Rattle.ucd_table.proofs.TrieCheck.{all_below, all_below-at}
+use Rattle.icu_segmenter.specs.Boundaries.{HasRestart}
 use Rattle.icu_segmenter.specs.LineBreaks.{LinesResetAfter, lines_with_words}
 use Rattle.icu_segmenter.specs.Machine.{Machine, MachineTailoring, replaced, step, symbol_and_script, symbol_count, tailoring, with_tailoring}
-use Rattle.icu_segmenter.specs.Rules.{IsLastState, IsReset, ResetsAfter}
+use Rattle.icu_segmenter.specs.Rules.{IsLastState, IsReset, ResetsAfter, Rules}
 use Rattle.icu_segmenter.specs.Rules.Rules.{ByMachine}
 use Rattle.icu_segmenter.specs.ScriptWords.{ScriptWords, words_in}
 use Rattle.icu_segmenter.specs.Spans.{IsOutsideRuns, if_worded}
 use Rattle.icu_segmenter.specs.Table.{value_of}
+use Rattle.icu_segmenter.specs.WordSets.{Words as Abbreviations}
 use Rattle.icu_segmenter.specs.declared.options.LineBreakStrictness.{LineBreakStrictness}
 use Rattle.icu_segmenter.specs.declared.options.LineBreakStrictness.TheVariants as strictness
 use Rattle.icu_segmenter.specs.declared.options.LineBreakWordOption.{LineBreakWordOption}
@@ -20,7 +22,9 @@ use Rattle.icu_segmenter_uax14.specs.Lines.{line_machine, line_tailorings, tailo
 use Rattle.icu_segmenter_uax29.specs.Clusters.{cluster_machine}
 use Rattle.icu_segmenter_uax29.specs.Sentences.{sentence_machine}
 use Rattle.icu_segmenter_uax29.specs.TypedWords.{typed_word_machine}
-use Rattle.yengatomu_c.specs.Finders.{Finder, LineFeedsReset}
+use Rattle.yengatomu_c.specs.Abbreviated.{with_abbreviations}
+use Rattle.yengatomu_c.specs.Columns.{counted_by}
+use Rattle.yengatomu_c.specs.Finders.{Finder, LineFeedsReset, find_by}
 use Rattle.yengatomu_c.specs.Finders.Finder.{Clusters as ByClusters, Words as ByWords, Sentences as BySentences, Lines as ByLines}
 use Rattle.yengatomu_c.specs.Loaded.{with_dictionary}
 use Rattle.yengatomu_c.specs.Options.{finder_asked, line_rules_for}
@@ -153,5 +157,24 @@ feeds-reset (Lines options) = lines options.strictness options.word_option optio
 pub feeds-kept : (finder : Finder) (words : ScriptWords) → LineFeedsReset finder → LineFeedsReset (with_dictionary finder words)
 feeds-kept (ByClusters rules) words reset = reset
 feeds-kept (ByWords rules) words reset = reset
-feeds-kept (BySentences rules) words reset = reset
-feeds-kept (ByLines rules) words reset = reset
+feeds-kept (BySentences rules abbreviations) words reset = reset
+feeds-kept (ByLines rules clusters) words reset = reset
+
+-- nor do abbreviations, or how columns are counted
+pub feeds-abbreviated : (finder : Finder) (abbreviations : Abbreviations) → LineFeedsReset finder → LineFeedsReset (with_abbreviations finder abbreviations)
+feeds-abbreviated (ByClusters rules) abbreviations reset = reset
+feeds-abbreviated (ByWords rules) abbreviations reset = reset
+feeds-abbreviated (BySentences rules before) abbreviations reset = reset
+feeds-abbreviated (ByLines rules clusters) abbreviations reset = reset
+
+pub feeds-counted : (finder : Finder) (clusters : Rules) → LineFeedsReset finder → LineFeedsReset (counted_by clusters finder)
+feeds-counted (ByClusters rules) clusters reset = reset
+feeds-counted (ByWords rules) clusters reset = reset
+feeds-counted (BySentences rules abbreviations) clusters reset = reset
+feeds-counted (ByLines rules before) clusters reset = reset
+
+pub restart-counted : (finder : Finder) (clusters : Rules) → HasRestart (find_by finder) → HasRestart (find_by (counted_by clusters finder))
+restart-counted (ByClusters rules) clusters restart = restart
+restart-counted (ByWords rules) clusters restart = restart
+restart-counted (BySentences rules abbreviations) clusters restart = restart
+restart-counted (ByLines rules before) clusters restart = restart

@@ -5,3 +5,4 @@ mod Lines
 mod Marked
 mod ReadWords
 mod Feeds
+mod Nearest

@@ -1,6 +1,8 @@
 pub mod Owned
 pub mod Marks
 pub mod Loaded
+pub mod Abbreviated
+pub mod Columns
 pub mod Versions
 pub mod Words
 pub mod Wrapped

@@ -34,15 +34,15 @@ only named.Thai words = record no_words { th = Some words }
 abbrev pub takes_words : Finder → Bool
 takes_words (Clusters rules) = false
 takes_words (Words rules) = true
-takes_words (Sentences rules) = false
-takes_words (Lines rules) = true
+takes_words (Sentences rules abbreviations) = false
+takes_words (Lines rules clusters) = true
 
 -- .. of which they have none yet
 abbrev pub with_dictionary : Finder → ScriptWords → Finder
 with_dictionary (Clusters rules) words = Clusters rules
 with_dictionary (Words rules) words = Words (with_words rules (filled rules.payloads.words words))
-with_dictionary (Sentences rules) words = Sentences rules
-with_dictionary (Lines rules) words = Lines (lines_with_words rules (filled rules.payloads.words (without_ja words)))
+with_dictionary (Sentences rules abbreviations) words = Sentences rules abbreviations
+with_dictionary (Lines rules clusters) words = Lines (lines_with_words rules (filled rules.payloads.words (without_ja words))) clusters
 
 abbrev pub AreUtf8 : List (Bor (List ℕ)) → Type 0
 AreUtf8 words = All (λ (word : Bor (List ℕ)). IsUtf8 word.now) words

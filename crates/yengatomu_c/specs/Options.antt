@@ -44,12 +44,13 @@ numbered_line_rules strictness word_break is_chinese_or_japanese =
     option_and_then (λ strictness. option_map (λ word_option. line_rules_for strictness word_option is_chinese_or_japanese) (slice_get word_options word_break))
     (slice_get strictnesses strictness)
 
--- what a segmenter of a kind finds boundaries by, over Unicode's data: lines by rules that may not be there
+-- what a segmenter of a kind finds boundaries by, over Unicode's data, without abbreviations, columns counted by character: lines by rules that may
+-- not be there
 abbrev pub finder_of_kind : Kind → Option LineRules → Option Finder
 finder_of_kind kind.Clusters lines = Some (Clusters (ByMachine cluster_machine))
 finder_of_kind kind.Words lines = Some (Words (machine_words typed_word_machine cluster_table no_words))
-finder_of_kind kind.Sentences lines = Some (Sentences (ByMachine sentence_machine))
-finder_of_kind kind.Lines lines = option_map Lines lines
+finder_of_kind kind.Sentences lines = Some (Sentences (ByMachine sentence_machine) None)
+finder_of_kind kind.Lines lines = option_map (λ lines. Lines lines None) lines
 
 -- .. of the kind of a number; none where there is no such kind or, for lines, no such option
 abbrev pub numbered_finder : ℕ → ℕ → ℕ → Bool → Option Finder
@@ -60,8 +61,8 @@ numbered_finder kind strictness word_break is_chinese_or_japanese =
 abbrev pub finder_asked : Request → Finder
 finder_asked asked.Clusters = Clusters (ByMachine cluster_machine)
 finder_asked asked.Words = Words (machine_words typed_word_machine cluster_table no_words)
-finder_asked asked.Sentences = Sentences (ByMachine sentence_machine)
-finder_asked (asked.Lines style) = Lines (line_rules_for style.strictness style.word_option style.is_chinese_or_japanese)
+finder_asked asked.Sentences = Sentences (ByMachine sentence_machine) None
+finder_asked (asked.Lines style) = Lines (line_rules_for style.strictness style.word_option style.is_chinese_or_japanese) None
 
 -- What `open` says: 0 where there is such a finder, by which the slot finds boundaries now; 1 where there is one, but no memory;
 -- 2 where there is none. In both cases nothing is held.

@@ -10,5 +10,5 @@ use Rattle.yengatomu_c.specs.Finders.Finder.{Clusters, Words, Sentences, Lines}
 abbrev pub word_count : Finder → (List ℕ → Text) → List ℕ → ℕ
 word_count (Clusters rules) decode units = 0
 word_count (Words rules) decode units = length (words_of (segments_of type_of units (word_boundaries_of rules (decode units))))
-word_count (Sentences rules) decode units = 0
-word_count (Lines rules) decode units = 0
+word_count (Sentences rules abbreviations) decode units = 0
+word_count (Lines rules clusters) decode units = 0

@@ -1,9 +1,10 @@
 -- Where wrapped lines end.
-use Rattle.std.specs.Prelude.{◌≡◌, ℕ, ◌+◌, ◌-◌, ◌^◌, List, [], ◌∷◌, MatchOption, Option, drop, length, map, min}
+use Rattle.std.specs.Prelude.{◌≡◌, ℕ, ◌+◌, ◌-◌, ◌^◌, List, [], ◌∷◌, MatchOption, Option, None, Some, drop, length, map, min}
 use Rattle.icu_segmenter.specs.Items.{Text}
 use Rattle.icu_segmenter.specs.LineBreaks.{LineFinder}
 use Rattle.icu_segmenter.specs.LineBreaks.LineFinder.{ByClusters, ByPlaces, ByTable, ByTurns, ByMachine}
-use Rattle.icu_segmenter.specs.Wrapping.{TextLine, by_characters}
+use Rattle.icu_segmenter.specs.Rules.{Rules}
+use Rattle.icu_segmenter.specs.Wrapping.{Measure, TextLine, by_characters, by_clusters}
 use Rattle.icu_segmenter.specs.WrappedLines.{wrapped_units}
 use Rattle.yengatomu_c.specs.Finders.{Finder}
 use Rattle.yengatomu_c.specs.Finders.Finder.{Clusters, Words, Sentences, Lines}
@@ -16,12 +17,17 @@ if_by_machine (ByTable rules) lines = []
 if_by_machine (ByTurns rules) lines = []
 if_by_machine (ByMachine m) lines = lines
 
+-- how columns are counted: by the clusters of some rules, or by character where there are none
+abbrev pub measure_by : Option Rules → Measure
+measure_by None = by_characters
+measure_by (Some clusters) = by_clusters clusters
+
 -- the lines that a text that stands in some units, which this decodes, is wrapped to from one place on; other kinds have none
 abbrev pub wrapped_behind : Finder → (List ℕ → Text) → ℕ → List ℕ → ℕ → List TextLine
-wrapped_behind (Lines rules) decode columns units from = if_by_machine rules.finder (wrapped_units decode by_characters rules columns (drop from units))
+wrapped_behind (Lines rules clusters) decode columns units from = if_by_machine rules.finder (wrapped_units decode (measure_by clusters) rules columns (drop from units))
 wrapped_behind (Clusters rules) decode columns units from = []
 wrapped_behind (Words rules) decode columns units from = []
-wrapped_behind (Sentences rules) decode columns units from = []
+wrapped_behind (Sentences rules abbreviations) decode columns units from = []
 
 -- where lines end that stand one after another from a place on
 unfoldable pub ends_from : ℕ → List TextLine → List ℕ

@@ -70,7 +70,7 @@ fn dictionary_of(alloc: Global, words: &[&[u8]]) -> Result<DictionaryBreakData, 
     }
 }
 
-fn texts_of<'w>(alloc: Global, words: &[&'w [u8]]) -> Result<Vec<&'w str>, Refusal>
+pub fn texts_of<'w>(alloc: Global, words: &[&'w [u8]]) -> Result<Vec<&'w str>, Refusal>
     ensures texts { IfOk result (λ texts. (code_points_of_each texts.items ≡ code_points_of_each words.now) × AreUtf8 words.now) }
     ensures rejected { IfErr result (λ why. (why ≡ Refusal.Memory) ⊎ ((why ≡ Refusal.NotUtf8) × (AreUtf8 words.now → ⊥))) }
 {

@@ -9,10 +9,13 @@ ghost use Rattle.yengatomu_c.specs.Finders.{GoesOnAt, LineFeedsReset, find_by, f
 
 use crate::segmenter::Segmenter;
 use crate::slot::Slot;
+use crate::suppressing::Suppressing;
+use icu_segmenter::cursor::SegmenterOf;
 use icu_segmenter::laws;
+use icu_segmenter::suppress::laws::parts_behind_line_feeds;
 use std::alloc::Global;
 
-/// Law: where line feeds reset, a caller may go on wherever a line of the text begins, also with dictionaries: all boundaries of the text are
+/// Law: where line feeds reset, a caller may go on wherever a line of the text begins, also with dictionaries and abbreviations: all boundaries of the text are
 /// some, the place, and those of the rest.
 pub fn lines_go_on(alloc: Global, slot: &mut Slot, text: &[u8], from: usize)
     ensures kept { finder_in slot.new ≡ finder_in slot.old }
@@ -60,8 +63,11 @@ fn parts(segmenter: &Segmenter)
     match segmenter {
         Segmenter::Clusters(s) => laws::grapheme::parts_behind_resets(s.as_borrowed(), '\n'),
         Segmenter::Words(s) => laws::word::parts_behind_resets(s.as_borrowed(), '\n'),
-        Segmenter::Sentences(s) => laws::sentence::parts_behind_resets(s.as_borrowed(), '\n'),
-        Segmenter::Lines(s) => laws::line::parts_behind_resets(s.as_borrowed(), '\n'),
+        Segmenter::Sentences(s, known) => match known.as_ref() {
+            None => laws::sentence::parts_behind_resets(s.as_borrowed(), '\n'),
+            Some(a) => parts_behind_line_feeds(a, s.as_borrowed()),
+        },
+        Segmenter::Lines(s, _) => laws::line::parts_behind_resets(s.as_borrowed(), '\n'),
     }
 }
 
@@ -76,10 +82,13 @@ fn cover(segmenter: &Segmenter, text: &[u8])
         Segmenter::Words(s) => {
             let _ = s.as_borrowed().segment_utf8(text);
         }
-        Segmenter::Sentences(s) => {
-            let _ = s.as_borrowed().segment_utf8(text);
-        }
-        Segmenter::Lines(s) => {
+        Segmenter::Sentences(s, known) => match known.as_ref() {
+            None => {
+                let _ = s.as_borrowed().segment_utf8(text);
+            },
+            Some(a) => Suppressing::of(s, a).cover(text),
+        },
+        Segmenter::Lines(s, _) => {
             let _ = s.as_borrowed().segment_utf8(text);
         }
     }
@@ -95,10 +104,13 @@ fn cover_utf16(segmenter: &Segmenter, text: &[u16])
         Segmenter::Words(s) => {
             let _ = s.as_borrowed().segment_utf16(text);
         }
-        Segmenter::Sentences(s) => {
-            let _ = s.as_borrowed().segment_utf16(text);
-        }
-        Segmenter::Lines(s) => {
+        Segmenter::Sentences(s, known) => match known.as_ref() {
+            None => {
+                let _ = s.as_borrowed().segment_utf16(text);
+            },
+            Some(a) => Suppressing::of(s, a).cover(text),
+        },
+        Segmenter::Lines(s, _) => {
             let _ = s.as_borrowed().segment_utf16(text);
         }
     }

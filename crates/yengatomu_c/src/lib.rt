@@ -16,7 +16,9 @@ ghost use Rattle.yengatomu_c.specs.Options.{IsOpened, numbered_finder};
 ghost use Rattle.yengatomu_c.specs.Words.{word_count};
 ghost use Rattle.yengatomu_c.specs.Wrapped.{ends_from, widths_of, wrapped_behind};
 
+mod abbreviations;
 mod buffers;
+mod columns;
 mod dictionary;
 mod handle;
 pub mod laws;
@@ -25,6 +27,7 @@ mod request;
 mod rules;
 mod segmenter;
 mod slot;
+mod suppressing;
 mod texts;
 mod utf16;
 mod versions;
@@ -118,8 +121,8 @@ pub extern "C" fn yengatomu_close(alloc: Global, slot: &mut Slot)
 }
 
 /// Writes the first boundaries behind `from`, as many as there is room for, and returns how many: those of the text from there on, taken
-/// alone. They are those of the whole text where `from` is one of its boundaries and the slot has no dictionary; with one, where a line begins
-/// (`laws::lines_go_on`). 0 where the slot is empty.
+/// alone. They are those of the whole text where `from` is one of its boundaries and the slot has neither a dictionary nor abbreviations; with
+/// these, where a line begins (`laws::lines_go_on`). 0 where the slot is empty.
 #[unsafe(no_mangle)]
 pub extern "C" fn yengatomu_boundaries(
     alloc: Global,

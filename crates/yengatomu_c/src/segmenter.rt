@@ -2,7 +2,11 @@
 
 ghost use Rattle.std.specs.Prelude.{◌≡◌, IfOk, IfErr};
 ghost use Rattle.icu_segmenter.specs.Boundaries.{HasRestart};
+ghost use Rattle.icu_segmenter.specs.Abbreviations.{abbreviations_of};
+ghost use Rattle.icu_segmenter.specs.Clusters.{owned_cluster_rules};
 ghost use Rattle.icu_segmenter.specs.Lines.{owned_line_rules};
+ghost use Rattle.yengatomu_c.specs.Abbreviated.{takes_abbreviations, with_abbreviations};
+ghost use Rattle.yengatomu_c.specs.Columns.{counted_by, has_columns};
 ghost use Rattle.yengatomu_c.specs.Finders.{find_by, finder_of};
 ghost use Rattle.icu_segmenter.specs.ScriptWords.{script_words};
 ghost use Rattle.yengatomu_c.specs.Loaded.{takes_words, with_dictionary};
@@ -11,6 +15,7 @@ ghost use Rattle.yengatomu_c.specs.Options.{finder_asked, line_rules_for};
 use crate::request::{LineOptions, Request};
 use icu_segmenter::options::{LanguageIdentifier, LineBreakOptions};
 use icu_segmenter::provider::{DataError, Dictionaries};
+use icu_segmenter::suppress::Abbreviations;
 use icu_segmenter::{
     GraphemeClusterSegmenter, LineSegmenter, SentenceSegmenter, WordSegmenter, laws,
 };
@@ -20,10 +25,14 @@ use std::alloc::{AllocError, Global};
 /// A segmenter of one kind.
 #[derive(Drop)]
 pub enum Segmenter {
+    /// Of grapheme clusters.
     Clusters(GraphemeClusterSegmenter),
+    /// Of words.
     Words(WordSegmenter),
-    Sentences(SentenceSegmenter),
-    Lines(LineSegmenter),
+    /// Of sentences, and the abbreviations after which they go on, if there are some.
+    Sentences(SentenceSegmenter, Option<Abbreviations>),
+    /// Of lines, and the clusters by which their columns are counted: by character where there are none.
+    Lines(LineSegmenter, Option<GraphemeClusterSegmenter>),
 }
 
 impl Segmenter {
@@ -59,8 +68,8 @@ impl Segmenter {
         ensures { result ≡ takes_words (finder_of self.now) }
     {
         match self {
-            Segmenter::Words(_) | Segmenter::Lines(_) => true,
-            Segmenter::Clusters(_) | Segmenter::Sentences(_) => false,
+            Segmenter::Words(_) | Segmenter::Lines(_, _) => true,
+            Segmenter::Clusters(_) | Segmenter::Sentences(_, _) => false,
         }
     }
 
@@ -70,8 +79,49 @@ impl Segmenter {
     {
         match self {
             Segmenter::Words(words) => words.load_dictionary(dictionaries),
-            Segmenter::Lines(lines) => lines.load_dictionary(dictionaries),
-            Segmenter::Clusters(_) | Segmenter::Sentences(_) => {}
+            Segmenter::Lines(lines, _) => lines.load_dictionary(dictionaries),
+            Segmenter::Clusters(_) | Segmenter::Sentences(_, _) => {}
+        }
+    }
+
+    /// Whether it takes abbreviations: it is one of sentences that has none yet.
+    pub fn takes_abbreviations(&self) -> bool
+        ensures { result ≡ takes_abbreviations (finder_of self.now) }
+    {
+        match self {
+            Segmenter::Sentences(_, None) => true,
+            Segmenter::Sentences(_, Some(_)) => false,
+            Segmenter::Clusters(_) | Segmenter::Words(_) | Segmenter::Lines(_, _) => false,
+        }
+    }
+
+    /// Takes these abbreviations in the place of those that it has, if it is one of sentences.
+    pub fn take_abbreviations(&mut self, abbreviations: Abbreviations)
+        ensures { finder_of self.new ≡ with_abbreviations (finder_of self.old) (abbreviations_of abbreviations) }
+    {
+        match self {
+            Segmenter::Sentences(_, known) => *known = Some(abbreviations),
+            Segmenter::Clusters(_) | Segmenter::Words(_) | Segmenter::Lines(_, _) => {}
+        }
+    }
+
+    /// Whether it counts columns: it is one of lines.
+    pub fn has_columns(&self) -> bool
+        ensures { result ≡ has_columns (finder_of self.now) }
+    {
+        match self {
+            Segmenter::Lines(_, _) => true,
+            Segmenter::Clusters(_) | Segmenter::Words(_) | Segmenter::Sentences(_, _) => false,
+        }
+    }
+
+    /// Counts columns by these clusters from now on, if it is one of lines.
+    pub fn count_by(&mut self, clusters: GraphemeClusterSegmenter)
+        ensures { finder_of self.new ≡ counted_by (owned_cluster_rules clusters) (finder_of self.old) }
+    {
+        match self {
+            Segmenter::Lines(_, counted) => *counted = Some(clusters),
+            Segmenter::Clusters(_) | Segmenter::Words(_) | Segmenter::Sentences(_, _) => {}
         }
     }
 }
@@ -103,7 +153,7 @@ fn sentences(alloc: Global) -> Result<Segmenter, DataError>
 {
     let sentences = sentence_segmenter(alloc)?;
     laws::sentence::restart(sentences.as_borrowed());
-    Ok(Segmenter::Sentences(sentences))
+    Ok(Segmenter::Sentences(sentences, None))
 }
 
 fn lines(alloc: Global, options: LineOptions) -> Result<Segmenter, DataError>
@@ -113,7 +163,7 @@ fn lines(alloc: Global, options: LineOptions) -> Result<Segmenter, DataError>
 {
     let lines = line_segmenter_by(alloc, options)?;
     laws::line::restart(lines.as_borrowed());
-    Ok(Segmenter::Lines(lines))
+    Ok(Segmenter::Lines(lines, None))
 }
 
 fn line_segmenter_by(alloc: Global, options: LineOptions) -> Result<LineSegmenter, DataError>

@@ -9,6 +9,7 @@ ghost use Rattle.yengatomu_c.specs.Words.{word_count};
 
 use crate::buffers;
 use crate::segmenter::Segmenter;
+use crate::suppressing::Suppressing;
 use icu_segmenter::cursor::BoundaryCursor;
 
 /// What is left of some units from a place on: nothing where it is past their end.
@@ -29,8 +30,11 @@ pub fn boundaries(segmenter: &Segmenter, text: &[u8], from: usize, places: &mut 
     match segmenter {
         Segmenter::Clusters(s) => buffers::fill(s.as_borrowed().segment_utf8(rest), from, places),
         Segmenter::Words(s) => buffers::fill(s.as_borrowed().segment_utf8(rest), from, places),
-        Segmenter::Sentences(s) => buffers::fill(s.as_borrowed().segment_utf8(rest), from, places),
-        Segmenter::Lines(s) => buffers::fill(s.as_borrowed().segment_utf8(rest), from, places),
+        Segmenter::Sentences(s, known) => match known.as_ref() {
+            None => buffers::fill(s.as_borrowed().segment_utf8(rest), from, places),
+            Some(a) => buffers::fill(Suppressing::of(s, a).segment_utf8(rest), from, places),
+        },
+        Segmenter::Lines(s, _) => buffers::fill(s.as_borrowed().segment_utf8(rest), from, places),
     }
 }
 
@@ -52,10 +56,20 @@ pub fn marked_boundaries(
         Segmenter::Words(s) => {
             buffers::fill_marked(s.as_borrowed().segment_utf8(rest), from, places, marks)
         }
-        Segmenter::Sentences(s) => {
-            buffers::fill_marked(s.as_borrowed().segment_utf8(rest), from, places, marks)
-        }
-        Segmenter::Lines(s) => {
+        Segmenter::Sentences(s, known) => match known.as_ref() {
+            None => {
+                buffers::fill_marked(s.as_borrowed().segment_utf8(rest), from, places, marks)
+            },
+            Some(a) => {
+                buffers::fill_marked(
+                    Suppressing::of(s, a).segment_utf8(rest),
+                    from,
+                    places,
+                    marks,
+                )
+            },
+        },
+        Segmenter::Lines(s, _) => {
             buffers::fill_marked(s.as_borrowed().segment_utf8(rest), from, places, marks)
         }
     }
@@ -69,10 +83,13 @@ pub fn next(segmenter: &Segmenter, text: &[u8], place: usize) -> Option<usize>
             place,
         ),
         Segmenter::Words(s) => BoundaryCursor::of_utf8(s.as_borrowed(), text).next_boundary(place),
-        Segmenter::Sentences(s) => BoundaryCursor::of_utf8(s.as_borrowed(), text).next_boundary(
+        Segmenter::Sentences(s, known) => match known.as_ref() {
+            None => BoundaryCursor::of_utf8(s.as_borrowed(), text).next_boundary(place),
+            Some(a) => BoundaryCursor::of_utf8(Suppressing::of(s, a), text).next_boundary(place),
+        },
+        Segmenter::Lines(s, _) => BoundaryCursor::of_utf8(s.as_borrowed(), text).next_boundary(
             place,
         ),
-        Segmenter::Lines(s) => BoundaryCursor::of_utf8(s.as_borrowed(), text).next_boundary(place),
     }
 }
 
@@ -86,10 +103,13 @@ pub fn previous(segmenter: &Segmenter, text: &[u8], place: usize) -> Option<usiz
         Segmenter::Words(s) => BoundaryCursor::of_utf8(s.as_borrowed(), text).previous_boundary(
             place,
         ),
-        Segmenter::Sentences(s) => BoundaryCursor::of_utf8(s.as_borrowed(), text).previous_boundary(
-            place,
-        ),
-        Segmenter::Lines(s) => BoundaryCursor::of_utf8(s.as_borrowed(), text).previous_boundary(
+        Segmenter::Sentences(s, known) => match known.as_ref() {
+            None => BoundaryCursor::of_utf8(s.as_borrowed(), text).previous_boundary(place),
+            Some(a) => BoundaryCursor::of_utf8(Suppressing::of(s, a), text).previous_boundary(
+                place,
+            ),
+        },
+        Segmenter::Lines(s, _) => BoundaryCursor::of_utf8(s.as_borrowed(), text).previous_boundary(
             place,
         ),
     }
@@ -101,8 +121,11 @@ pub fn count(segmenter: &Segmenter, text: &[u8]) -> usize
     match segmenter {
         Segmenter::Clusters(s) => buffers::count(s.as_borrowed().segment_utf8(text)),
         Segmenter::Words(s) => buffers::count(s.as_borrowed().segment_utf8(text)),
-        Segmenter::Sentences(s) => buffers::count(s.as_borrowed().segment_utf8(text)),
-        Segmenter::Lines(s) => buffers::count(s.as_borrowed().segment_utf8(text)),
+        Segmenter::Sentences(s, known) => match known.as_ref() {
+            None => buffers::count(s.as_borrowed().segment_utf8(text)),
+            Some(a) => buffers::count(Suppressing::of(s, a).segment_utf8(text)),
+        },
+        Segmenter::Lines(s, _) => buffers::count(s.as_borrowed().segment_utf8(text)),
     }
 }
 
@@ -111,6 +134,6 @@ pub fn count_words(segmenter: &Segmenter, text: &[u8]) -> usize
 {
     match segmenter {
         Segmenter::Words(s) => buffers::count_words(s.as_borrowed().segment_utf8(text)),
-        Segmenter::Clusters(_) | Segmenter::Sentences(_) | Segmenter::Lines(_) => 0,
+        Segmenter::Clusters(_) | Segmenter::Sentences(_, _) | Segmenter::Lines(_, _) => 0,
     }
 }

@@ -13,6 +13,7 @@ mod wrapped;
 use crate::buffers;
 use crate::segmenter::Segmenter;
 use crate::slot::Slot;
+use crate::suppressing::Suppressing;
 use crate::texts::rest_of;
 use std::alloc::Global;
 
@@ -45,8 +46,11 @@ fn boundaries(segmenter: &Segmenter, text: &[u16], from: usize, places: &mut [us
     match segmenter {
         Segmenter::Clusters(s) => buffers::fill(s.as_borrowed().segment_utf16(rest), from, places),
         Segmenter::Words(s) => buffers::fill(s.as_borrowed().segment_utf16(rest), from, places),
-        Segmenter::Sentences(s) => buffers::fill(s.as_borrowed().segment_utf16(rest), from, places),
-        Segmenter::Lines(s) => buffers::fill(s.as_borrowed().segment_utf16(rest), from, places),
+        Segmenter::Sentences(s, known) => match known.as_ref() {
+            None => buffers::fill(s.as_borrowed().segment_utf16(rest), from, places),
+            Some(a) => buffers::fill(Suppressing::of(s, a).segment_utf16(rest), from, places),
+        },
+        Segmenter::Lines(s, _) => buffers::fill(s.as_borrowed().segment_utf16(rest), from, places),
     }
 }
 
@@ -91,10 +95,20 @@ fn marked_boundaries(
         Segmenter::Words(s) => {
             buffers::fill_marked(s.as_borrowed().segment_utf16(rest), from, places, marks)
         }
-        Segmenter::Sentences(s) => {
-            buffers::fill_marked(s.as_borrowed().segment_utf16(rest), from, places, marks)
-        }
-        Segmenter::Lines(s) => {
+        Segmenter::Sentences(s, known) => match known.as_ref() {
+            None => {
+                buffers::fill_marked(s.as_borrowed().segment_utf16(rest), from, places, marks)
+            },
+            Some(a) => {
+                buffers::fill_marked(
+                    Suppressing::of(s, a).segment_utf16(rest),
+                    from,
+                    places,
+                    marks,
+                )
+            },
+        },
+        Segmenter::Lines(s, _) => {
             buffers::fill_marked(s.as_borrowed().segment_utf16(rest), from, places, marks)
         }
     }
@@ -121,8 +135,11 @@ fn count(segmenter: &Segmenter, text: &[u16]) -> usize
     match segmenter {
         Segmenter::Clusters(s) => buffers::count(s.as_borrowed().segment_utf16(text)),
         Segmenter::Words(s) => buffers::count(s.as_borrowed().segment_utf16(text)),
-        Segmenter::Sentences(s) => buffers::count(s.as_borrowed().segment_utf16(text)),
-        Segmenter::Lines(s) => buffers::count(s.as_borrowed().segment_utf16(text)),
+        Segmenter::Sentences(s, known) => match known.as_ref() {
+            None => buffers::count(s.as_borrowed().segment_utf16(text)),
+            Some(a) => buffers::count(Suppressing::of(s, a).segment_utf16(text)),
+        },
+        Segmenter::Lines(s, _) => buffers::count(s.as_borrowed().segment_utf16(text)),
     }
 }
 
@@ -146,6 +163,6 @@ fn count_words(segmenter: &Segmenter, text: &[u16]) -> usize
 {
     match segmenter {
         Segmenter::Words(s) => buffers::count_words(s.as_borrowed().segment_utf16(text)),
-        Segmenter::Clusters(_) | Segmenter::Sentences(_) | Segmenter::Lines(_) => 0,
+        Segmenter::Clusters(_) | Segmenter::Sentences(_, _) | Segmenter::Lines(_, _) => 0,
     }
 }

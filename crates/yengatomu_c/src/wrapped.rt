@@ -76,14 +76,18 @@ pub fn ends_and_widths(
     }
 }
 
-/// The wrapper by a segmenter of lines, if it is one by a machine.
+/// The wrapper by a segmenter of lines, if it is one by a machine. It counts columns as the segmenter says.
 pub fn wrapper_of(segmenter: &Segmenter) -> Option<LineWrapper<'_>>
     ensures { MatchOption result ((decode : List ℕ → Text) (columns : ℕ) (units : List ℕ) (from : ℕ) → wrapped_behind (finder_of segmenter.now) decode columns units from ≡ [])
         (λ wrapper. (decode : List ℕ → Text) (columns : ℕ) (units : List ℕ) (from : ℕ) → wrapped_behind (finder_of segmenter.now) decode columns units from ≡ wrapped_units decode (wrapper_measure wrapper) (wrapper_rules wrapper) columns (drop from units)) }
 {
     match segmenter {
-        Segmenter::Lines(lines) => LineWrapper::new(lines.as_borrowed()).ok(),
-        Segmenter::Clusters(_) | Segmenter::Words(_) | Segmenter::Sentences(_) => None,
+        Segmenter::Lines(lines, None) => LineWrapper::new(lines.as_borrowed()).ok(),
+        Segmenter::Lines(lines, Some(clusters)) => {
+            let wrapper = LineWrapper::new(lines.as_borrowed()).ok()?;
+            Some(wrapper.by_cluster(clusters.as_borrowed()))
+        }
+        Segmenter::Clusters(_) | Segmenter::Words(_) | Segmenter::Sentences(_, _) => None,
     }
 }
 

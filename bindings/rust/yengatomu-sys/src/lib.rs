@@ -33,7 +33,7 @@ impl yengatomu_slot {
     pub const EMPTY: Self = Self { full: false, at: ptr::null_mut() };
 }
 
-/// A word of a dictionary: UTF-8.
+/// A word of a dictionary, or an abbreviation: UTF-8.
 #[repr(C)]
 #[derive(Clone, Copy, Debug)]
 pub struct yengatomu_word {
@@ -83,10 +83,12 @@ pub const YENGATOMU_THAI: u32 = 5;
 pub const YENGATOMU_OK: u32 = 0;
 /// Result: out of memory.
 pub const YENGATOMU_NO_MEMORY: u32 = 1;
-/// Result: there is no such kind, option or script, or the segmenter takes none.
+/// Result: there is no such kind, option or script, or the segmenter takes no such thing.
 pub const YENGATOMU_NO_SUCH: u32 = 2;
 /// Result: a word isn't UTF-8.
 pub const YENGATOMU_NOT_UTF8: u32 = 3;
+/// Result of abbreviations: one isn't UTF-8, or has a line feed in it.
+pub const YENGATOMU_WRONG_WORD: u32 = 3;
 
 /// Result of rules: the text isn't UTF-8, or its rules are wrong.
 pub const YENGATOMU_WRONG_RULES: u32 = 2;
@@ -123,12 +125,21 @@ extern "C" {
     /// as it was.
     pub fn yengatomu_load_dictionary(slot: *mut yengatomu_slot, words: *const yengatomu_word, count: usize, script: u32) -> u32;
 
+    /// Gives a segmenter of sentences the abbreviations after which a sentence goes on. `YENGATOMU_NO_SUCH` for another kind, for an empty
+    /// slot, and where there are some already; `YENGATOMU_WRONG_WORD` where one is ill-formed or has a line feed in it. If it isn't
+    /// `YENGATOMU_OK`, the slot is as it was.
+    pub fn yengatomu_load_abbreviations(slot: *mut yengatomu_slot, words: *const yengatomu_word, count: usize) -> u32;
+
+    /// Has a segmenter of lines count the columns of wrapped lines by cluster from now on, and no longer by character. `YENGATOMU_NO_SUCH`
+    /// for another kind or an empty slot. If it isn't `YENGATOMU_OK`, the slot is as it was.
+    pub fn yengatomu_count_by_cluster(slot: *mut yengatomu_slot) -> u32;
+
     /// Frees what the slot holds, and leaves it empty. It may be opened or closed again.
     pub fn yengatomu_close(slot: *mut yengatomu_slot);
 
     /// Writes the first boundaries above `from` to `out`, as many as there is room for, and returns how many: those of the text from
-    /// there on, taken alone. Its last is `len`. Go on from the last one, until 0 is returned; with a dictionary only from behind a line
-    /// feed. 0 where `from` is `len` or more, and where the slot is empty.
+    /// there on, taken alone. Its last is `len`. Go on from the last one, until 0 is returned; with a dictionary or abbreviations only from
+    /// behind a line feed. 0 where `from` is `len` or more, and where the slot is empty.
     pub fn yengatomu_boundaries(slot: *mut yengatomu_slot, text: *const u8, len: usize, from: usize, out: *mut usize, room: usize)
         -> usize;
 

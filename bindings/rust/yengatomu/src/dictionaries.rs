@@ -1,4 +1,4 @@
-//! Words of dictionaries, and lists of them in files.
+//! Words of dictionaries and abbreviations, and lists of them in files.
 use std::path::{Path, PathBuf};
 use std::{error, fmt, fs, io};
 
@@ -32,11 +32,7 @@ pub(crate) fn listed<W: AsRef<[u8]>>(words: &[W]) -> Result<Vec<&str>, Error> {
 
 /// The texts of the lists in a folder, each with its script; of lines without that of Chinese and Japanese, of which they take none.
 pub(crate) fn lists_in(folder: &Path, of_lines: bool) -> Result<Vec<(String, Script)>, DictionaryError> {
-    let unreadable = |path: &Path| {
-        let path = path.to_owned();
-        |error| DictionaryError::Unreadable(path, error)
-    };
-    fs::metadata(folder).map_err(unreadable(folder))?;
+    fs::metadata(folder).map_err(|error| DictionaryError::Unreadable(folder.to_owned(), error))?;
     let mut is_there = false;
     let mut found = Vec::new();
     for (name, script) in LISTS {
@@ -48,19 +44,28 @@ pub(crate) fn lists_in(folder: &Path, of_lines: bool) -> Result<Vec<(String, Scr
         if of_lines && script == Script::ChineseOrJapanese {
             continue;
         }
-        let Ok(text) = String::from_utf8(fs::read(&path).map_err(unreadable(&path))?) else {
-            return Err(DictionaryError::NotUtf8(path));
-        };
-        if text.trim_start_matches(MARK).trim().is_empty() {
-            return Err(DictionaryError::NoWords(path));
-        }
-        found.push((text, script));
+        found.push((list_at(&path)?, script));
     }
     if is_there {
         Ok(found)
     } else {
         Err(DictionaryError::NoLists(folder.to_owned()))
     }
+}
+
+/// The text of a list.
+fn list_at(path: &Path) -> Result<String, DictionaryError> {
+    let bytes = fs::read(path).map_err(|error| DictionaryError::Unreadable(path.to_owned(), error))?;
+    let text = String::from_utf8(bytes).map_err(|_| DictionaryError::NotUtf8(path.to_owned()))?;
+    if text.trim_start_matches(MARK).trim().is_empty() {
+        return Err(DictionaryError::NoWords(path.to_owned()));
+    }
+    Ok(text)
+}
+
+/// The text of the list of a language's abbreviations in a folder.
+pub(crate) fn abbreviations_in(folder: &Path, language: &str) -> Result<String, DictionaryError> {
+    list_at(&folder.join(format!("abbreviations-{language}.txt")))
 }
 
 /// Why a folder's lists of words weren't loaded.
@@ -75,7 +80,7 @@ pub enum DictionaryError {
     NotUtf8(PathBuf),
     /// A list has no words.
     NoWords(PathBuf),
-    /// The library took no words: out of memory.
+    /// The library took no words: out of memory, or it has abbreviations already.
     Library(Error),
 }
 

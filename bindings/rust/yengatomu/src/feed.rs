@@ -21,7 +21,7 @@ pub(crate) trait Ask<'t>: Copy {
     fn up_to(self, end: usize) -> Self;
 
     /// Whether the answer goes on only from behind a line feed.
-    fn has_dictionary(&self) -> bool;
+    fn has_words(&self) -> bool;
 
     /// Writes the first places above `from`, as many as both buffers have room for, and returns how many. The last of all is the end.
     fn ask(&self, from: usize, places: &mut [usize], more: &mut [Self::More]) -> usize;
@@ -34,7 +34,7 @@ fn is_behind_line_feed<S: ?Sized + Slice>(text: &S, place: usize) -> bool {
 
 /// All places above the one that it begins at, with a buffer of those to come.
 ///
-/// It goes on from the last place in the buffer. With a dictionary that has to be behind a line feed, so the buffer keeps only what is up to
+/// It goes on from the last place in the buffer. With a dictionary or abbreviations that has to be behind a line feed, so the buffer keeps only what is up to
 /// the last such place, and doubles where it has none.
 #[derive(Clone)]
 pub(crate) struct Feed<'t, A: Ask<'t>> {
@@ -86,7 +86,7 @@ impl<'t, A: Ask<'t>> Feed<'t, A> {
             let count = self.ask.ask(self.from, &mut self.places, &mut self.more);
             let found = &self.places[..count];
             let is_all = count < room || found.last() == Some(&len);
-            if is_all || !self.ask.has_dictionary() {
+            if is_all || !self.ask.has_words() {
                 self.filled = count;
                 break;
             }
@@ -245,8 +245,8 @@ impl<'t, S: ?Sized + Slice> Ask<'t> for Ends<'_, 't, S> {
         Self { text: self.text.split(end).0, ..self }
     }
 
-    fn has_dictionary(&self) -> bool {
-        self.slot.has_dictionary()
+    fn has_words(&self) -> bool {
+        self.slot.has_words()
     }
 
     #[inline]
@@ -268,8 +268,8 @@ impl<'t, S: ?Sized + Slice> Ask<'t> for Marks<'_, 't, S> {
         Self { text: self.text.split(end).0, ..self }
     }
 
-    fn has_dictionary(&self) -> bool {
-        self.slot.has_dictionary()
+    fn has_words(&self) -> bool {
+        self.slot.has_words()
     }
 
     #[inline]
@@ -291,8 +291,8 @@ impl<'t, S: ?Sized + Slice> Ask<'t> for Wraps<'_, 't, S> {
         Self { text: self.text.split(end).0, ..self }
     }
 
-    fn has_dictionary(&self) -> bool {
-        self.slot.has_dictionary()
+    fn has_words(&self) -> bool {
+        self.slot.has_words()
     }
 
     #[inline]

@@ -1,7 +1,7 @@
 //! The iterators that segmenters return.
 //!
-//! Each asks the library for up to 256 places at a time. With a dictionary it asks for whole lines, up to their line feeds, since the library can't
-//! begin in the middle of one.
+//! Each asks the library for up to 256 places at a time. With a dictionary or abbreviations it asks for whole lines, up to their line feeds, since
+//! the library can't begin in the middle of one.
 use std::fmt;
 use std::iter::FusedIterator;
 use std::marker::PhantomData;

@@ -150,6 +150,53 @@ impl SentenceSegmenter {
     pub fn new() -> Result<Self, Error> {
         Self::open(LineOptions::default())
     }
+
+    /// Takes abbreviations, after which a sentence goes on: whole words with their full stops, as `Mr.` or `z. B.`, in any order. Upper and
+    /// lower case differ. White space around an abbreviation, as a line end, isn't part of it, and blank ones are left out; so they may be lines
+    /// of a file.
+    ///
+    /// A boundary is left out where the text before it ends with an abbreviation and perhaps spaces, before which neither a letter nor a digit
+    /// stands; but not at the end of the text. The program `segment` has the same with `--abbreviations`.
+    ///
+    /// ```
+    /// use yengatomu::SentenceSegmenter;
+    ///
+    /// let mut sentences = SentenceSegmenter::new().unwrap();
+    /// sentences.load_abbreviations(&["Mr.", "Mrs."]).unwrap();
+    /// assert!(sentences.segments("Mr. Smith went. He left.").eq(["Mr. Smith went. ", "He left."]));
+    /// ```
+    ///
+    /// With abbreviations, iterators segment a whole line at a time, up to its line feed.
+    ///
+    /// # Errors
+    ///
+    /// [`Error::OutOfMemory`]; [`Error::NotUtf8`] where an abbreviation isn't UTF-8; [`Error::LineFeed`] where one has a line feed in it;
+    /// [`Error::HasAbbreviations`] where the segmenter has taken some before. It is then as before.
+    pub fn load_abbreviations<W: AsRef<[u8]>>(&mut self, words: &[W]) -> Result<(), Error> {
+        self.slot.load_abbreviations(&dictionaries::listed(words)?)
+    }
+
+    /// Takes the abbreviations of a language, as `en`: those of `abbreviations-en.txt` of a folder, as `tools/dictionaries` of the repository writes
+    /// it, in UTF-8, an abbreviation a line.
+    ///
+    /// ```no_run
+    /// use yengatomu::{DictionaryError, SentenceSegmenter};
+    ///
+    /// # fn main() -> Result<(), DictionaryError> {
+    /// let mut sentences = SentenceSegmenter::new()?;
+    /// sentences.load_language("/usr/share/dict/scripts", "en")?;
+    /// # Ok(())
+    /// # }
+    /// ```
+    ///
+    /// # Errors
+    ///
+    /// [`DictionaryError`] with the list where that isn't there or can't be read, isn't UTF-8 or has no words; and as
+    /// [`load_abbreviations`](Self::load_abbreviations). The segmenter is then as before.
+    pub fn load_language(&mut self, folder: impl AsRef<Path>, language: &str) -> Result<(), DictionaryError> {
+        let text = dictionaries::abbreviations_in(folder.as_ref(), language)?;
+        Ok(self.load_abbreviations(&text.lines().collect::<Vec<_>>())?)
+    }
 }
 
 impl WordSegmenter {
@@ -209,11 +256,32 @@ impl LineSegmenter {
         Self::open(options)
     }
 
+    /// Counts the columns of wrapped lines cluster by cluster from now on, and no longer character by character, as the program `segment` with
+    /// `--by-cluster`: each cluster takes the width of its characters together. One of more than 128 bytes in UTF-8 takes the sum of the widths of
+    /// its characters. Where lines may break stays as it is.
+    ///
+    /// ```
+    /// use yengatomu::{LineOptions, LineSegmenter};
+    ///
+    /// let mut lines = LineSegmenter::new(LineOptions::default()).unwrap();
+    /// let columns = |lines: &LineSegmenter| lines.wrap("👩\u{200d}👩\u{200d}👧", 80).map(|line| line.columns).sum::<usize>();
+    /// assert_eq!(columns(&lines), 6);
+    /// lines.count_by_cluster().unwrap();
+    /// assert_eq!(columns(&lines), 2);
+    /// ```
+    ///
+    /// # Errors
+    ///
+    /// [`Error::OutOfMemory`]: the segmenter is then as before.
+    pub fn count_by_cluster(&mut self) -> Result<(), Error> {
+        self.slot.count_by_cluster()
+    }
+
     /// Wraps a text to columns: the lines, each with its place and the columns that it takes.
     ///
     /// A line takes as many segments as fit in the columns, at least one, and ends where it must. So a word that is wider than the columns
     /// stands alone, and sticks out. Spaces, line feeds and carriage returns at a line's end stay in its text, and take no columns. Wide
-    /// characters, as ideographs, take two columns, and marks none.
+    /// characters, as ideographs, take two columns, and marks none; [`count_by_cluster`](Self::count_by_cluster) counts clusters instead.
     ///
     /// ```
     /// use yengatomu::{LineOptions, LineSegmenter};
@@ -459,10 +527,7 @@ impl<K: Kind> Segmenter<K> {
 
 impl<K: Kind> fmt::Debug for Segmenter<K> {
     fn fmt(&self, f: &mut fmt::Formatter<'_>) -> fmt::Result {
-        f.debug_struct("Segmenter")
-            .field("kind", &kind::name::<K>())
-            .field("has_dictionary", &self.slot.has_dictionary())
-            .finish_non_exhaustive()
+        f.debug_struct("Segmenter").field("kind", &kind::name::<K>()).field("has_words", &self.slot.has_words()).finish_non_exhaustive()
     }
 }
 

@@ -114,16 +114,18 @@ pub struct Line<'t, S: ?Sized> {
     pub columns: usize,
 }
 
-/// Why a segmenter wasn't made, or took no dictionary.
+/// Why a segmenter wasn't made, or took no words.
 #[derive(Clone, Copy, Debug, PartialEq, Eq, Hash)]
 #[non_exhaustive]
 pub enum Error {
     /// Out of memory.
     OutOfMemory,
-    /// A word of a dictionary isn't UTF-8.
+    /// A word of a dictionary, or an abbreviation, isn't UTF-8.
     NotUtf8,
-    /// A word of a dictionary has a line feed in it.
+    /// A word of a dictionary, or an abbreviation, has a line feed in it.
     LineFeed,
+    /// The segmenter has abbreviations already.
+    HasAbbreviations,
     /// A line of rules is wrong: its number, from 1 on.
     WrongRules(usize),
     /// Rules are too large, or need to know too much of the text to be followed: the line of a rule that shows it, if one does.
@@ -136,8 +138,9 @@ impl fmt::Display for Error {
     fn fmt(&self, f: &mut fmt::Formatter<'_>) -> fmt::Result {
         match self {
             Self::OutOfMemory => f.write_str("out of memory"),
-            Self::NotUtf8 => f.write_str("a word of the dictionary isn't UTF-8"),
-            Self::LineFeed => f.write_str("a word of the dictionary has a line feed in it"),
+            Self::NotUtf8 => f.write_str("a word isn't UTF-8"),
+            Self::LineFeed => f.write_str("a word has a line feed in it"),
+            Self::HasAbbreviations => f.write_str("the segmenter has abbreviations already"),
             Self::WrongRules(line) => write!(f, "line {line} of the rules is wrong"),
             Self::NoMachine(Some(line)) => write!(f, "the rules can't be followed, as line {line} shows"),
             Self::NoMachine(None) => f.write_str("the rules can't be followed"),

@@ -48,7 +48,8 @@ impl LineSegmenter {
     /// The text in which each tab is the spaces up to the next multiple of so many columns of its line, at least one, as by `expand` and by the
     /// program `segment` with `--tabs`. Lines end with line feeds. For 0 columns there are no spaces.
     ///
-    /// The columns are those of [`wrap`](Self::wrap): of wide characters two, of marks none. So it takes a segmenter of lines, of any options.
+    /// The columns are those of [`wrap`](Self::wrap): of wide characters two, of marks none; or by cluster, where the segmenter counts so, which the
+    /// program doesn't. So it takes a segmenter of lines, of any options.
     ///
     /// ```
     /// use yengatomu::{LineOptions, LineSegmenter};

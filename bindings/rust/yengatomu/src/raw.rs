@@ -8,7 +8,7 @@ use crate::{Error, LineOptions, Script};
 /// A slot that holds a segmenter.
 pub(crate) struct Slot {
     slot: UnsafeCell<sys::yengatomu_slot>,
-    has_dictionary: bool,
+    has_words: bool,
 }
 
 // What makes the calls below sound, each over a slot that `open` has filled:
@@ -29,13 +29,18 @@ fn done(result: u32) -> Result<(), Error> {
     }
 }
 
+/// Words as the library takes them: where each begins, and its length.
+fn words_of(words: &[&str]) -> Vec<sys::yengatomu_word> {
+    words.iter().map(|word| sys::yengatomu_word { bytes: word.as_ptr(), len: word.len() }).collect()
+}
+
 impl Slot {
     pub(crate) fn open(kind: u32, options: LineOptions) -> Result<Self, Error> {
         let LineOptions { strictness, word_break, chinese_or_japanese } = options;
         let mut slot = sys::yengatomu_slot::EMPTY;
         // SAFETY: the slot began empty.
         done(unsafe { sys::yengatomu_open(&mut slot, kind, strictness as u32, word_break as u32, chinese_or_japanese) })?;
-        Ok(Self { slot: UnsafeCell::new(slot), has_dictionary: false })
+        Ok(Self { slot: UnsafeCell::new(slot), has_words: false })
     }
 
     pub(crate) fn open_rules(rules: &str) -> Result<Self, Error> {
@@ -44,27 +49,37 @@ impl Slot {
         match unsafe { sys::yengatomu_open_rules(&mut slot, rules.as_ptr(), rules.len(), &mut line) } {
             sys::YENGATOMU_WRONG_RULES => Err(Error::WrongRules(line)),
             sys::YENGATOMU_NO_MACHINE => Err(Error::NoMachine((line > 0).then_some(line))),
-            result => done(result).map(|()| Self { slot: UnsafeCell::new(slot), has_dictionary: false }),
+            result => done(result).map(|()| Self { slot: UnsafeCell::new(slot), has_words: false }),
         }
     }
 
-    pub(crate) fn load_dictionary<W: AsRef<[u8]>>(&mut self, words: &[W], script: Script) -> Result<(), Error> {
-        let words: Vec<_> = words
-            .iter()
-            .map(|word| {
-                let bytes = word.as_ref();
-                sys::yengatomu_word { bytes: bytes.as_ptr(), len: bytes.len() }
-            })
-            .collect();
+    pub(crate) fn load_dictionary(&mut self, words: &[&str], script: Script) -> Result<(), Error> {
+        let words = words_of(words);
         // SAFETY: above; the words are borrowed until the call returns, which keeps no pointer to them.
         done(unsafe { sys::yengatomu_load_dictionary(self.slot.get(), words.as_ptr(), words.len(), script as u32) })?;
-        self.has_dictionary = true;
+        self.has_words = true;
         Ok(())
     }
 
-    /// Whether boundaries go on only from behind a line feed.
-    pub(crate) fn has_dictionary(&self) -> bool {
-        self.has_dictionary
+    pub(crate) fn load_abbreviations(&mut self, words: &[&str]) -> Result<(), Error> {
+        let words = words_of(words);
+        // SAFETY: above; the words are borrowed until the call returns, which keeps no pointer to them.
+        match unsafe { sys::yengatomu_load_abbreviations(self.slot.get(), words.as_ptr(), words.len()) } {
+            sys::YENGATOMU_NO_SUCH => return Err(Error::HasAbbreviations),
+            result => done(result)?,
+        }
+        self.has_words = true;
+        Ok(())
+    }
+
+    pub(crate) fn count_by_cluster(&mut self) -> Result<(), Error> {
+        // SAFETY: above.
+        done(unsafe { sys::yengatomu_count_by_cluster(self.slot.get()) })
+    }
+
+    /// Whether it has a dictionary or abbreviations: then boundaries go on only from behind a line feed.
+    pub(crate) fn has_words(&self) -> bool {
+        self.has_words
     }
 }
 

@@ -90,7 +90,7 @@ impl<'a> Ask<'a> for Ends<'a> {
         Self { text: &self.text[..end], ..self }
     }
 
-    fn has_dictionary(&self) -> bool {
+    fn has_words(&self) -> bool {
         false
     }
 

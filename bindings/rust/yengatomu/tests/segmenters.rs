@@ -24,6 +24,8 @@ impl Random {
 
 const PARTS: &str = "a|b|Z| |  |é|e\u{301}|'|.|! |3|3.14|can't|-|\u{200d}|🇻|🇳|👨‍👩‍👧|东|京|ภาษา|ไทย|ก|ข|क्|ष|\u{ad}|\u{1100}\u{1161}";
 const THAI: [&str; 5] = ["ภาษา", "ไทย", "กข", "ขก", "กขก"];
+/// Abbreviations, of which some may begin in the sentence before.
+const ABBREVIATIONS: [&str; 6] = ["a.", "Z.", "3.14.", "! Z!", "é!", "ก!"];
 
 /// A text of so many parts, with a line feed after about one in `per_line`, none for 0.
 fn text(random: &mut Random, parts: usize, per_line: usize) -> String {
@@ -80,13 +82,16 @@ fn ill_formed_utf16(text: &str) -> Vec<u16> {
 struct Whole(yengatomu_slot);
 
 impl Whole {
-    fn open(kind: u32, dictionary: bool) -> Self {
+    fn open(kind: u32, has_words: bool) -> Self {
         let mut slot = yengatomu_slot::EMPTY;
+        let of = |word: &str| yengatomu_word { bytes: word.as_ptr(), len: word.len() };
+        let (words, abbreviations) = (THAI.map(of), ABBREVIATIONS.map(of));
         // SAFETY: the slot began empty, and words are borrowed from constants.
         unsafe {
             assert_eq!(yengatomu_open(&mut slot, kind, 0, 0, false), YENGATOMU_OK);
-            if dictionary {
-                let words = THAI.map(|word| yengatomu_word { bytes: word.as_ptr(), len: word.len() });
+            if has_words && kind == YENGATOMU_SENTENCES {
+                assert_eq!(yengatomu_load_abbreviations(&mut slot, abbreviations.as_ptr(), abbreviations.len()), YENGATOMU_OK);
+            } else if has_words {
                 assert_eq!(yengatomu_load_dictionary(&mut slot, words.as_ptr(), words.len(), YENGATOMU_THAI), YENGATOMU_OK);
             }
         }
@@ -224,6 +229,12 @@ fn with_thai<K: kind::Marked>(mut segmenter: Segmenter<K>) -> Segmenter<K> {
     segmenter
 }
 
+fn with_abbreviations() -> SentenceSegmenter {
+    let mut sentences = SentenceSegmenter::new().unwrap();
+    sentences.load_abbreviations(&ABBREVIATIONS).unwrap();
+    sentences
+}
+
 fn lines() -> LineSegmenter {
     LineSegmenter::new(LineOptions::default()).unwrap()
 }
@@ -246,6 +257,11 @@ fn words_with_a_dictionary() {
 #[test]
 fn sentences() {
     agree_in_each_encoding(&SentenceSegmenter::new().unwrap(), Whole::open(YENGATOMU_SENTENCES, false));
+}
+
+#[test]
+fn sentences_with_abbreviations() {
+    agree_in_each_encoding(&with_abbreviations(), Whole::open(YENGATOMU_SENTENCES, true));
 }
 
 #[test]
@@ -361,6 +377,7 @@ fn nearest() {
     nearest_places(&WordSegmenter::new().unwrap());
     nearest_places(&with_thai(WordSegmenter::new().unwrap()));
     nearest_places(&SentenceSegmenter::new().unwrap());
+    nearest_places(&with_abbreviations());
     nearest_places(&lines());
     nearest_places(&with_thai(lines()));
 }
@@ -482,6 +499,54 @@ fn dictionaries() {
     assert!(words.segments("ภาษาไทย").eq(["ภาษา", "ไทย"]));
 }
 
+#[test]
+fn abbreviations() {
+    let mut sentences = SentenceSegmenter::new().unwrap();
+    let text = "Mr. Bond. z. B. Jim\nMr. A";
+    assert!(sentences.boundaries(text).eq([0, 4, 13, 16, 20, 24, 25]));
+    assert_eq!(sentences.load_abbreviations(&[b"\xff".as_slice(), b"Mr."]), Err(Error::NotUtf8));
+    assert_eq!(sentences.load_abbreviations(&["a\nb."]), Err(Error::LineFeed));
+    assert!(sentences.boundaries(text).eq([0, 4, 13, 16, 20, 24, 25]));
+    sentences.load_abbreviations(&["\u{feff}z. B.\r", "", " Mr. "]).unwrap();
+    assert!(sentences.boundaries(text).eq([0, 13, 20, 25]));
+    assert!(sentences.segments(text).rev().eq(["Mr. A", "B. Jim\n", "Mr. Bond. z. "]));
+    assert!(sentences.segments(text.as_bytes()).map(<[u8]>::len).eq([13, 7, 5]));
+    assert_eq!((sentences.count(text), sentences.next_boundary(text, 4), sentences.previous_boundary(text, 20)), (3, Some(13), Some(13)));
+    assert_eq!(sentences.load_abbreviations(&["Jim"]), Err(Error::HasAbbreviations));
+    assert_eq!(Error::HasAbbreviations.to_string(), "the segmenter has abbreviations already");
+    assert!(sentences.boundaries(text).eq([0, 13, 20, 25]));
+    assert_eq!(format!("{sentences:?}"), "Segmenter { kind: \"Sentence\", has_words: true, .. }");
+    // Far from a line feed too, where an abbreviation began before the places that a call gave.
+    let text = "Yes. Z. z. B. No! ".repeat(400);
+    assert!(sentences.segments(&text).eq(["Yes. ", "Z. z. ", "B. No! "].repeat(400)));
+}
+
+#[test]
+fn columns_by_cluster() {
+    let family = "👩\u{200d}👩\u{200d}👧 a";
+    let mut segmenter = lines();
+    let columns = |segmenter: &LineSegmenter| segmenter.wrap(family, 80).map(|line| line.columns).collect::<Vec<_>>();
+    assert_eq!(columns(&segmenter), [8]);
+    for _ in 0..2 {
+        segmenter.count_by_cluster().unwrap();
+        assert_eq!(columns(&segmenter), [4]);
+    }
+    assert!(segmenter.wrap(family, 3).map(|line| line.text).eq([&family[..family.len() - 1], "a"]));
+    let units: Vec<u16> = family.encode_utf16().collect();
+    assert!(segmenter.wrap(&units, 3).map(|line| line.columns).eq([2, 1]));
+    assert!(segmenter.segments(family).eq(lines().segments(family)));
+    // With a dictionary too, whichever came first.
+    for mut segmenter in [with_thai(segmenter), with_thai(lines())] {
+        segmenter.count_by_cluster().unwrap();
+        for text in texts() {
+            assert!(segmenter.segments(&text).eq(with_thai(lines()).segments(&text)));
+            let ends: usize = segmenter.wrap(&text, 9).map(|line| line.text.len()).sum();
+            assert_eq!(ends, text.len());
+        }
+        assert_eq!(columns(&segmenter), [4]);
+    }
+}
+
 /// Lines of a file, with their ends or without; and the text of one.
 #[test]
 fn dictionaries_of_lines() {
@@ -492,7 +557,7 @@ fn dictionaries_of_lines() {
         assert!(words.segments("ภาษาไทย").eq(["ภาษา", "ไทย"]));
         assert_eq!(words.load_dictionary(&[text], Script::Lao), Err(Error::LineFeed));
     }
-    assert_eq!(Error::LineFeed.to_string(), "a word of the dictionary has a line feed in it");
+    assert_eq!(Error::LineFeed.to_string(), "a word has a line feed in it");
 }
 
 #[test]
@@ -515,7 +580,7 @@ fn folders_of_dictionaries() {
     told(words.load_dictionaries(&folder).unwrap_err(), "lao.txt", "it has no words");
     // So nothing of it was loaded.
     assert_eq!(words.count("ภาษา"), WordSegmenter::new().unwrap().count("ภาษา"));
-    assert_eq!(format!("{words:?}"), "Segmenter { kind: \"Word\", has_dictionary: false, .. }");
+    assert_eq!(format!("{words:?}"), "Segmenter { kind: \"Word\", has_words: false, .. }");
     std::fs::remove_file(folder.join("lao.txt")).unwrap();
 
     write("cj.txt", "\u{feff}東京\n".as_bytes());
@@ -525,6 +590,19 @@ fn folders_of_dictionaries() {
     let mut lines = lines();
     assert_eq!(lines.load_dictionaries(&folder).unwrap(), [Script::Thai]);
     assert!(lines.segments("ภาษาไทย").eq(["ภาษา", "ไทย"]));
+
+    let mut sentences = SentenceSegmenter::new().unwrap();
+    let missing = sentences.load_language(&folder, "de").unwrap_err();
+    assert!(matches!(missing, DictionaryError::Unreadable(path, _) if path == folder.join("abbreviations-de.txt")));
+    write("abbreviations-de.txt", b"\xff\n");
+    told(sentences.load_language(&folder, "de").unwrap_err(), "abbreviations-de.txt", "it isn't UTF-8");
+    write("abbreviations-de.txt", b"\r\n \n");
+    told(sentences.load_language(&folder, "de").unwrap_err(), "abbreviations-de.txt", "it has no words");
+    assert_eq!(sentences.count("Mr. A"), 2);
+    sentences.load_language(&folder, "en").unwrap();
+    assert_eq!(sentences.count("Mr. A"), 1);
+    let again = sentences.load_language(&folder, "en").unwrap_err();
+    assert_eq!(again.to_string(), "the segmenter has abbreviations already");
     std::fs::remove_dir_all(&folder).unwrap();
 }
 
@@ -541,7 +619,7 @@ fn rules() {
     assert_eq!(snake.count("snake_case"), 3);
     assert_eq!((snake.previous_boundary("snake_case", 6), snake.next_boundary("snake_case", 6)), (Some(5), Some(10)));
     assert!(snake.is_boundary("snake_case", 5) && !snake.is_boundary("snake_case", 4));
-    assert_eq!(format!("{snake:?}"), "Segmenter { kind: \"Rule\", has_dictionary: false, .. }");
+    assert_eq!(format!("{snake:?}"), "Segmenter { kind: \"Rule\", has_words: false, .. }");
     // They begin anew at each boundary, also where no line feed stands before it.
     let text = "ab__c-- d!".repeat(500);
     assert!(snake.segments(&text).eq(["ab", "__", "c", "--", " ", "d", "!"].repeat(500)));
@@ -586,14 +664,14 @@ fn versions() {
 #[test]
 fn shown() {
     let words = WordSegmenter::new().unwrap();
-    assert_eq!(format!("{words:?}"), "Segmenter { kind: \"Word\", has_dictionary: false, .. }");
+    assert_eq!(format!("{words:?}"), "Segmenter { kind: \"Word\", has_words: false, .. }");
     let mut segments = words.segments("to be");
     segments.next();
     assert_eq!(segments.rest(), " be");
     assert_eq!(format!("{segments:?}"), "Segments { pieces: Pieces { start: 2, left: 3 }, .. }");
     assert_eq!(Error::OutOfMemory.to_string(), "out of memory");
     let error: Box<dyn std::error::Error + Send + Sync> = Box::new(Error::NotUtf8);
-    assert_eq!(error.to_string(), "a word of the dictionary isn't UTF-8");
+    assert_eq!(error.to_string(), "a word isn't UTF-8");
     assert_eq!(WordType::Number as u8, YENGATOMU_NUMBER);
 }
 

@@ -8,6 +8,7 @@ ghost use Rattle.yengatomu_c.specs.Finders.{finder_in, finder_of, places_in};
 use crate::NONE;
 use crate::segmenter::Segmenter;
 use crate::slot::Slot;
+use crate::suppressing::Suppressing;
 use icu_segmenter::cursor::BoundaryCursor;
 use std::alloc::Global;
 
@@ -39,10 +40,13 @@ fn next(segmenter: &Segmenter, text: &[u16], place: usize) -> Option<usize>
             place,
         ),
         Segmenter::Words(s) => BoundaryCursor::of_utf16(s.as_borrowed(), text).next_boundary(place),
-        Segmenter::Sentences(s) => BoundaryCursor::of_utf16(s.as_borrowed(), text).next_boundary(
+        Segmenter::Sentences(s, known) => match known.as_ref() {
+            None => BoundaryCursor::of_utf16(s.as_borrowed(), text).next_boundary(place),
+            Some(a) => BoundaryCursor::of_utf16(Suppressing::of(s, a), text).next_boundary(place),
+        },
+        Segmenter::Lines(s, _) => BoundaryCursor::of_utf16(s.as_borrowed(), text).next_boundary(
             place,
         ),
-        Segmenter::Lines(s) => BoundaryCursor::of_utf16(s.as_borrowed(), text).next_boundary(place),
     }
 }
 
@@ -76,11 +80,13 @@ fn previous(segmenter: &Segmenter, text: &[u16], place: usize) -> Option<usize>
         Segmenter::Words(s) => BoundaryCursor::of_utf16(s.as_borrowed(), text).previous_boundary(
             place,
         ),
-        Segmenter::Sentences(s) => BoundaryCursor::of_utf16(
-            s.as_borrowed(),
-            text,
-        ).previous_boundary(place),
-        Segmenter::Lines(s) => BoundaryCursor::of_utf16(s.as_borrowed(), text).previous_boundary(
+        Segmenter::Sentences(s, known) => match known.as_ref() {
+            None => BoundaryCursor::of_utf16(s.as_borrowed(), text).previous_boundary(place),
+            Some(a) => BoundaryCursor::of_utf16(Suppressing::of(s, a), text).previous_boundary(
+                place,
+            ),
+        },
+        Segmenter::Lines(s, _) => BoundaryCursor::of_utf16(s.as_borrowed(), text).previous_boundary(
             place,
         ),
     }

@@ -12,10 +12,6 @@ pub returns-in-Words : goal.returns-in-Words
 returns-in-Words c =
     rw c.in-Words.is (λ reset. subst (λ (rules : WordRules). WordsResetAfter rules 0x0A → PartsTexts (word_boundaries_by rules) 0x0A) c.as_borrowed-in-Words.ensures c.parts_behind_resets-in-Words.ensures (reset _))
 
-pub returns-in-Sentences : goal.returns-in-Sentences
-returns-in-Sentences c =
-    rw c.in-Sentences.is (λ reset. subst (λ (rules : Rules). ResetsAfter rules 0x0A → PartsTexts (boundaries_by rules) 0x0A) c.as_borrowed-in-Sentences.ensures c.parts_behind_resets-in-Sentences.ensures reset)
-
 pub returns-in-Lines : goal.returns-in-Lines
 returns-in-Lines c =
     rw c.in-Lines.is (λ reset. subst (λ (rules : LineRules). LinesResetAfter rules 0x0A → PartsTexts (line_boundaries_by rules) 0x0A) c.as_borrowed-in-Lines.ensures c.parts_behind_resets-in-Lines.ensures (reset _))

@@ -1,7 +1,7 @@
 use Rattle.std.proofs.Common.{ℕ, ◌+◌, List, ap, ap₂, map, subst, ◌∙◌}
 use Rattle.std.specs.Prelude.{◌==◌, drop, if◌then◌else◌, length, min}
 use Rattle.icu_segmenter.specs.Boundary.{Boundary}
-use Rattle.icu_segmenter.specs.Boundaries.{offsets}
+use Rattle.icu_segmenter.specs.Boundaries.{boundaries_in, offsets}
 use Rattle.icu_segmenter.specs.Decoding.{utf8}
 use Rattle.icu_segmenter.specs.LineBreaks.{LineRules, line_boundaries_of}
 use Rattle.icu_segmenter.specs.WordRules.{WordRules, type_of, word_boundaries_of}
@@ -32,3 +32,17 @@ returns-in-Lines-clause-marks c =
     (subst (λ (found : List Boundary). TakesFirst (min (length c.args.places.now) (length c.args.marks.now)) (map (λ (one : Boundary). if one.status == 1 then 1 else 0) (drop 1 found)) c.args.marks.now c.fill_marked-in-Lines.new.marks c.fill_marked-in-Lines.result)
     (c.segment_utf8-in-Lines.ensures.boundaries ∙ ap₂ (λ (rules : LineRules) (units : List ℕ). line_boundaries_of rules (utf8 units)) c.as_borrowed-in-Lines.ensures c.rest_of-rest.ensures.rest)
     c.fill_marked-in-Lines.ensures.marks)
+
+pub returns-in-Some-clause-places : goal.returns-in-Some-clause-places
+returns-in-Some-clause-places c =
+    rw (c.in-Sentences.is, ← c.in-Some.ensures.value)
+    (subst (λ (found : List Boundary). TakesFirst (min (length c.args.places.now) (length c.args.marks.now)) (map (λ place. c.args.from + place) (offsets (drop 1 found))) c.args.places.now c.fill_marked-in-Some.new.places c.fill_marked-in-Some.result)
+    (c.segment_utf8-in-Some.ensures.left ∙ ap₂ (λ (find : List ℕ → List Boundary) (units : List ℕ). boundaries_in find (utf8 units)) c.of.ensures c.rest_of-rest.ensures.rest)
+    c.fill_marked-in-Some.ensures.places)
+
+pub returns-in-Some-clause-marks : goal.returns-in-Some-clause-marks
+returns-in-Some-clause-marks c =
+    rw (c.in-Sentences.is, ← c.in-Some.ensures.value)
+    (subst (λ (found : List Boundary). TakesFirst (min (length c.args.places.now) (length c.args.marks.now)) (map (λ (one : Boundary). 0) (drop 1 found)) c.args.marks.now c.fill_marked-in-Some.new.marks c.fill_marked-in-Some.result)
+    (c.segment_utf8-in-Some.ensures.left ∙ ap₂ (λ (find : List ℕ → List Boundary) (units : List ℕ). boundaries_in find (utf8 units)) c.of.ensures c.rest_of-rest.ensures.rest)
+    c.fill_marked-in-Some.ensures.marks)
