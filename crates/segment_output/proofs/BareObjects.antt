@@ -81,7 +81,18 @@ extended (Err e) new all old is = tt
 pub pieces : (l a b c d e f g l1 l2 l3 l4 l5 l6 : List ℕ) → l1 ≡ l ++ a → l2 ≡ l1 ++ b → l3 ≡ l2 ++ c → l4 ≡ l3 ++ d → l5 ≡ l4 ++ e → l6 ≡ l5 ++ f
     → l6 ++ g ≡ l ++ (a ++ (b ++ (c ++ (d ++ (e ++ (f ++ g))))))
 pieces l a b c d e f g l1 l2 l3 l4 l5 l6 one two three four five six =
-    rw (six, five, four, three, two, one,
-    append_assoc (((((l ++ a) ++ b) ++ c) ++ d) ++ e) f g, append_assoc ((((l ++ a) ++ b) ++ c) ++ d) e (f ++ g), append_assoc (((l ++ a) ++ b) ++ c) d (e ++ (f ++ g)),
-    append_assoc ((l ++ a) ++ b) c (d ++ (e ++ (f ++ g))), append_assoc (l ++ a) b (c ++ (d ++ (e ++ (f ++ g)))), append_assoc l a (b ++ (c ++ (d ++ (e ++ (f ++ g))))))
+    rw (
+      six,
+      five,
+      four,
+      three,
+      two,
+      one,
+      append_assoc (((((l ++ a) ++ b) ++ c) ++ d) ++ e) f g,
+      append_assoc ((((l ++ a) ++ b) ++ c) ++ d) e (f ++ g),
+      append_assoc (((l ++ a) ++ b) ++ c) d (e ++ (f ++ g)),
+      append_assoc ((l ++ a) ++ b) c (d ++ (e ++ (f ++ g))),
+      append_assoc (l ++ a) b (c ++ (d ++ (e ++ (f ++ g)))),
+      append_assoc l a (b ++ (c ++ (d ++ (e ++ (f ++ g))))),
+    )
     refl

@@ -113,7 +113,7 @@ wrapped-more : (wrapper : Wrapper) (done part : List ℕ) → PartsBehind (λ by
 wrapped-more wrapper done part parts ends (before, is) cover =
     let wrapping : Wrapping = wrapping_of wrapper in
     subst (λ (done : List ℕ). IsCover 0 (length done) (line_boundaries_of wrapping.lines (utf8 done))
-        → wrapped_output wrapping (done ++ part) ≡ wrapped_output wrapping done ++ wrapped_output wrapping part) (sym is)
+    → wrapped_output wrapping (done ++ part) ≡ wrapped_output wrapping done ++ wrapped_output wrapping part) (sym is)
     (λ cover.
     ap (shown_lines wrapping) (wrapped-parts wrapping.measure wrapping.columns wrapping.lines parts before part cover (ends before cover))
     ∙ flat_map-append (shown_line wrapping) (wrapped_text wrapping.measure wrapping.lines wrapping.columns (before ++ line_feed)) (wrapped_text wrapping.measure wrapping.lines wrapping.columns part))

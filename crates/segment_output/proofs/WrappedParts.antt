@@ -239,7 +239,7 @@ module _ (units more : List ℕ) where
       let to : place_of (drop n (later_items (length units) items)) (length units + end) ≡ length units + place_of (drop n items) end =
       ap (λ (items : List Item). place_of items (length units + end)) rest ∙ later-place (length units) end (drop n items) in
       let stands : between (place_of (later_items (length units) items) (length units + end)) (place_of (drop n (later_items (length units) items)) (length units + end)) (units ++ more)
-          ≡ between (place_of items end) (place_of (drop n items) end) more =
+      ≡ between (place_of items end) (place_of (drop n items) end) more =
       ap₂ (λ (from to : ℕ). between from to (units ++ more)) (later-place (length units) end items) to
       ∙ between-back units more (place_of items end) (place_of (drop n items) end) in
       ap₂ (λ (units' : List ℕ) (lines' : List TextLine). let first : TextLine = record { units = units'; columns = line.columns; is_mandatory = line.is_mandatory } in first ∷ lines') stands

@@ -279,7 +279,16 @@ fn push_line(part: Part<'_>, segment: Segment, lines: &mut Vec<u8>) -> Result<()
         }
         Style::Json => {
             let (start, end) = (later(part.before, start)?, later(part.before, end)?);
-            push_object(bytes, start, end, Said { mark, file: part.file }, lines)?;
+            push_object(
+                bytes,
+                start,
+                end,
+                Said {
+                    mark,
+                    file: part.file,
+                },
+                lines,
+            )?;
             lines.extend_from_slice(b"\n")
         }
         Style::Offsets => {

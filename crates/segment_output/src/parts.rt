@@ -16,9 +16,8 @@ use crate::segmenter::Segmenter;
 use crate::wrapper::Wrapper;
 use memchr::memrchr;
 use std::alloc::Global;
-use std::io;
 use std::io::{ErrorKind, Read, Write};
-use std::mem;
+use std::{io, mem};
 
 // So many bytes are read at once, as many as a pipe holds.
 const BLOCK_LEN: usize = 65536;
