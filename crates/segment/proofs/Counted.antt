@@ -1,5 +1,5 @@
 -- How many segments there are is written after what is printed, where they are only counted.
-use Rattle.std.proofs.Common.{◌≡◌, ℕ, Bool, true, false, Option, None, Some, List, IfErr, IfOk, IfSome, Result, Ok, Err, ◌⊎◌, inl, inr, is_some, sym, ap, ap₂, length, subst, refl, ◌∙◌, append-nil}
+use Rattle.std.proofs.Common.{◌≡◌, ℕ, Bool, true, false, Option, None, Some, List, IfErr, IfOk, IfSome, Result, Ok, Err, ◌⊎◌, inl, inr, is_some, sym, ap, ap₂, length, subst, ◌∙◌, append-nil}
 use Rattle.std.proofs.lemmas.Bool.{true≢false}
 use Rattle.std.proofs.KnownBytes.{Appends-trans}
 use Rattle.std.specs.Io.KnownBytes.{Appends}

@@ -1,11 +1,11 @@
 -- Objects of texts in which nothing is escaped.
-use Rattle.std.proofs.Common.{◌≡◌, ℕ, ◌==◌, ◌||◌, ◌&&◌, not, cond, nat_lt, Bool, true, false, List, [], ◌∷◌, ◌++◌, codes, decimal, flat_map, IfSome, OnOk, Option, None, Some, Result, Ok, Err, if◌then◌else◌, is_ok, refl, sym, ap, ◌∙◌, append_assoc, eqb-true}
+use Rattle.std.proofs.Common.{◌≡◌, ℕ, ◌==◌, ◌&&◌, not, nat_lt, Bool, true, false, List, [], ◌∷◌, ◌++◌, codes, decimal, IfSome, OnOk, Option, None, Some, Result, Ok, Err, if◌then◌else◌, is_ok, refl, sym, ap, ◌∙◌, append_assoc, eqb-true}
 use Rattle.std.proofs.lemmas.Bool.{true≢false}
 use Rattle.std.specs.Borrow.{Bor}
 use Rattle.std.specs.List.{list_all}
 use Rattle.std.specs.Option.{option_map}
 use Rattle.std.proofs.lemmas.Str.{utf8_lossy-IsUtf8}
-use Rattle.json.specs.Print.{escape, escape_byte, print, print_from, quoted}
+use Rattle.json.specs.Print.{escape, escape_byte, print, print_from}
 use Rattle.json.specs.Token.{Token, begin_object, end_object, key, string, number}
 use Rattle.segment_output.specs.Objects.{AreBare, is_bare, opening}
 use Rattle.segment_output.specs.Output.{Segment, mark_tokens, object_of}

@@ -1,18 +1,16 @@
 -- By the machine of UAX #14 a line must end at the end of each text.
-use Rattle.std.proofs.Common.{◌≡◌, ℕ, zero, suc, ◌+◌, ◌<◌, ◌==◌, ◌⊎◌, inl, inr, Bool, true, false, nat_lt, List, [], ◌∷◌, ◌++◌, length, drop, map, refl, sym, ap, ap₂, subst, ◌∙◌, arith, append-nil, length-append}
+use Rattle.std.proofs.Common.{◌≡◌, ℕ, zero, suc, ◌+◌, ◌<◌, ◌==◌, ◌⊎◌, inl, inr, Bool, true, false, nat_lt, List, [], ◌∷◌, ◌++◌, length, drop, map, refl, sym, ap, subst, ◌∙◌, arith, append-nil, length-append}
 use Rattle.std.specs.Prelude.{if◌then◌else◌, ◌↔◌}
 use Rattle.std.specs.List.{Contains}
 use Rattle.std.proofs.lemmas.List.{drop_all, length-map}
 use Rattle.seg_text.specs.declared.boundary.Boundary.{Boundary}
 use Rattle.seg_text.specs.Boundaries.{IsCover, RisesTo, boundary, boundary_in}
 use Rattle.seg_text.specs.Decoding.{read_utf8, utf8, utf8_items}
-use Rattle.seg_text.specs.Items.{Item, Text, code_points, place_of, rest_after, start_of}
+use Rattle.seg_text.specs.Items.{Item, Text, code_points, place_of}
 use Rattle.seg_text.specs.Lemmas.Utf8Stable.{read_utf8-stable}
-use Rattle.seg_machine.specs.Machine.{Machine}
 use Rattle.seg_machine.specs.Pick.{machine_boundaries}
 use Rattle.seg_clusters.proofs.Encoded.{utf8-apart}
 use Rattle.seg_clusters.proofs.SplitItems.{codes-end}
-use Rattle.seg_clusters.specs.Payloads.{Payloads}
 use Rattle.seg_clusters.specs.Spans.{inner_cuts}
 use Rattle.seg_lines.specs.LineBreaks.{IsByPairTable, LineFinder, LineRules, boundaries_with, joined, line_boundaries_by, line_boundaries_of, with_cut}
 use Rattle.seg_lines.specs.LineBreaks.LineFinder.{ByMachine}

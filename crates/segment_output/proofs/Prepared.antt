@@ -1,5 +1,5 @@
 -- A text that is split behind whole lines, or whole paragraphs where lines are joined, is prepared part by part.
-use Rattle.std.proofs.Common.{◌≡◌, ℕ, zero, suc, ◌+◌, ◌-◌, ◌%◌, ◌≤◌, ◌==◌, ◌||◌, ◌&&◌, not, Bool, true, false, cond, Option, None, Some, All, List, [], ◌∷◌, ◌++◌, take, drop, filter, length, length-append, reverse, refl, sym, ap, ap₂, subst, ◌∙◌, append-nil, append_assoc, arith, eqb-true}
+use Rattle.std.proofs.Common.{◌≡◌, ℕ, zero, suc, ◌+◌, ◌-◌, ◌%◌, ◌≤◌, ◌==◌, ◌||◌, ◌&&◌, not, Bool, true, false, cond, Option, None, Some, List, [], ◌∷◌, ◌++◌, take, drop, filter, length, length-append, reverse, refl, sym, ap, ap₂, subst, ◌∙◌, append-nil, append_assoc, arith, eqb-true}
 use Rattle.std.specs.Prelude.{if◌then◌else◌, replicate, slice_index}
 use Rattle.std.specs.Option.{option_map_or}
 use Rattle.std.specs.List.{list_all, prefix_len, starts_with, suffix_len}
@@ -10,7 +10,7 @@ use Rattle.std.proofs.lemmas.List.Elements.{filter-append}
 use Rattle.std.proofs.lemmas.List.Sums.{prefix_len-le-length, suffix_len-le-length}
 use Rattle.icu_segmenter.specs.NearBoundaries.{line_feed}
 use Rattle.icu_segmenter.specs.Wrapping.{bytes_columns}
-use Rattle.segment_output.specs.Joined.{are_joined, behind_space, is_apart, is_white_space, joined, joined_after, joined_space, line_behind, space_of}
+use Rattle.segment_output.specs.Joined.{behind_space, is_apart, is_white_space, joined, joined_after, joined_space, line_behind, space_of}
 use Rattle.segment_output.specs.Parts.{AreLines, AreParagraphs, AreWhole, is_blank}
 use Rattle.segment_output.specs.Preparation.{prepared}
 use Rattle.segment_output.specs.Size.{line_feeds}

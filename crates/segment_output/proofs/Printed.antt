@@ -1,5 +1,5 @@
 -- What is printed of an iterator that says what it has left.
-use Rattle.std.proofs.Common.{◌≡◌, ℕ, Bool, List, None, Option, Result, Ok, Err, IfOk, length, ap, subst, ◌∙◌}
+use Rattle.std.proofs.Common.{◌≡◌, ℕ, Bool, List, None, Option, Result, Ok, Err, IfOk, length, subst}
 use Rattle.std.specs.Iterator.{YieldsFirst, YieldsThen}
 use Rattle.std.specs.Io.KnownBytes.{Appends}
 use Rattle.icu_segmenter.specs.Boundary.{Boundary}

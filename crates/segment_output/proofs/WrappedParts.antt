@@ -1,27 +1,26 @@
 -- The wrapped lines of a text are those of its first lines, where it must end behind them, and then those of the rest.
-use Rattle.std.proofs.Common.{◌≡◌, ℕ, suc, ◌+◌, ◌-◌, ◌<◌, ◌≤◌, ◌==◌, ◌⊎◌, inl, inr, Bool, true, false, cond, nat_lt, zero, List, [], ◌∷◌, ◌++◌, length, take, drop, map, refl, sym, ap, ap₂, subst, ◌∙◌, arith, length-append, append-nil}
+use Rattle.std.proofs.Common.{◌≡◌, ℕ, suc, ◌+◌, ◌-◌, ◌<◌, ◌≤◌, ◌==◌, Bool, true, false, cond, nat_lt, zero, List, [], ◌∷◌, ◌++◌, length, take, drop, refl, sym, ap, ap₂, subst, ◌∙◌, arith, length-append}
 use Rattle.std.specs.Prelude.{if◌then◌else◌}
-use Rattle.std.specs.List.{flat_map, prefix_len}
+use Rattle.std.specs.List.{prefix_len}
 use Rattle.std.proofs.Math.Seq.{drop-append_seam}
 use Rattle.std.proofs.lemmas.Bool.{le-ltb, lt-ltb, ltb-false, ltb-true}
 use Rattle.std.proofs.lemmas.List.{drop-append-le, drop-drop, drop-map, length-drop, length-map, map-append, nil_from_length, take-append-le}
-use Rattle.std.proofs.lemmas.List.Concat.{flat_map-append}
 use Rattle.std.proofs.lemmas.List.Sums.{prefix_len-le-length}
 use Rattle.seg_text.specs.declared.boundary.Boundary.{Boundary}
-use Rattle.seg_text.specs.Boundaries.{IsCover, RisesTo, boundary, boundary_in, shift, shift_all}
+use Rattle.seg_text.specs.Boundaries.{IsCover, RisesTo, boundary, shift_all}
 use Rattle.seg_text.specs.Decoding.{read_utf8, utf8, utf8_items}
-use Rattle.seg_text.specs.Items.{IsRising, Item, Text, code_points, items_by, place_of, rest_after, start_of}
+use Rattle.seg_text.specs.Items.{IsRising, Item, Text, code_points, place_of, start_of}
 use Rattle.seg_text.specs.Lemmas.Utf8Stable.{read_utf8-stable}
 use Rattle.seg_text.proofs.Places.{IsRising-drop}
 use Rattle.seg_clusters.proofs.Encoded.{utf8-apart}
-use Rattle.seg_clusters.proofs.SplitItems.{codes-end, items-split, later-codes, later-place, later_items}
+use Rattle.seg_clusters.proofs.SplitItems.{items-split, later-codes, later-place, later_items}
 use Rattle.seg_clusters.specs.Rules.{PartsBehind}
 use Rattle.seg_lines.specs.LineBreaks.{LineRules, line_boundaries_of}
-use Rattle.seg_lines.specs.Wrapping.{Line, Measure, Segment, TextLine, as_one, between, characters_before, count_before, ends_before, line_of, lines_from, rest_from, segment_of, segments_from, segments_of, text_lines, wrapped_lines}
+use Rattle.seg_lines.specs.Wrapping.{Line, Measure, Segment, TextLine, as_one, between, characters_before, ends_before, line_of, lines_from, rest_from, segment_of, segments_from, text_lines, wrapped_lines}
 use Rattle.seg_lines.specs.WrappedLines.{wrapped_text}
 use Rattle.seg_lines.proofs.Places.{none-left, place-within}
 use Rattle.seg_lines.proofs.SegmentsJoined.{length-of-lines, lines_length, segments_length}
-use Rattle.seg_lines.proofs.Texts.{IsTextOf, utf8-text}
+use Rattle.seg_lines.proofs.Texts.{utf8-text}
 use Rattle.icu_segmenter.specs.NearBoundaries.{line_feed}
 use Rattle.segment_output.specs.Wrapped.{last_status}
 use Rattle.segment_output.proofs.JoinedCuts.{rises-order}

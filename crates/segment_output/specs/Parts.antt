@@ -1,5 +1,5 @@
 -- Texts that come part by part, and what is written of them.
-use Rattle.std.specs.Prelude.{◌≡◌, ◌⊎◌, ℕ, ◌+◌, ◌==◌, ◌||◌, Bool, true, false, Option, List, [], ◌∷◌, ◌++◌, length}
+use Rattle.std.specs.Prelude.{◌≡◌, ◌⊎◌, ℕ, ◌+◌, ◌==◌, ◌||◌, Bool, true, false, Option, List, ◌++◌, length}
 use Rattle.std.specs.Io.KnownBytes.{Appends, Consumes}
 use Rattle.std.specs.Borrow.{Bor}
 use Rattle.std.specs.List.{list_all}
@@ -14,7 +14,7 @@ use Rattle.segment_output.specs.Output.{Look, lines_at}
 use Rattle.segment_output.specs.Preparation.{prepared}
 use Rattle.segment_output.specs.Segmenter.{boundaries_by, segments_by}
 use Rattle.segment_output.specs.Size.{both_sizes, size_of}
-use Rattle.segment_output.specs.Wrapped.{Wrapping, wrapped_output, EndsLines}
+use Rattle.segment_output.specs.Wrapped.{wrapped_output, EndsLines}
 use Rattle.segment_output.specs.Wrapper.{wrapping_of}
 use Rattle.segment_output.specs.declared.output.Style.{Style}
 use Rattle.segment_output.specs.declared.parts.Printing.{Printing}

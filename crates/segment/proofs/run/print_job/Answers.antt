@@ -1,6 +1,6 @@
 -- A text that has parts is written part by part, and any other is read first.
 use Rattle.std.proofs.Common.{refl, option_map}
-use Rattle.segment.proofs.Counted.{all-split, begun-split, begun-whole, split-always, unwritten-split, unwritten-whole}
+use Rattle.segment.proofs.Counted.{all-split, begun-split, split-always, unwritten-split}
 use Rattle.segment.proofs.run.print_job.Goals as goal
 
 pub returns-clause-written : goal.returns-clause-written

@@ -1,5 +1,5 @@
 -- After what is printed comes how many segments there are.
-use Rattle.std.proofs.Common.{◌≡◌, ◌⊎◌, ℕ, List, Option, IfErr, IfOk, IfSome, option_map, subst, sym}
+use Rattle.std.proofs.Common.{◌≡◌, ◌⊎◌, ℕ, List, Option, IfSome, option_map, subst, sym}
 use Rattle.std.specs.Io.KnownBytes.{Appends}
 use Rattle.segment.specs.Job.{IsBegunBy, IsTally, printed_by}
 use Rattle.segment.proofs.Counted.{counted-of, uncounted-of}

@@ -1,5 +1,5 @@
 -- Between two line feeds stands nothing or what is blank.
-use Rattle.std.proofs.Common.{ℕ, ◌+◌, ◌<◌, ◌==◌, true, ◌≡◌, arith, ap, sym, ◌∙◌}
+use Rattle.std.proofs.Common.{ℕ, ◌<◌, ◌==◌, arith, ap, sym, ◌∙◌}
 use Rattle.segment_output.proofs.SplitText.{blank-end, first-bytes, within-take}
 use Rattle.segment_output.proofs.parts.paragraphs_len.Goals as goal
 
