@@ -1,0 +1,82 @@
+/* How far a call reads: behind what it may read stands a page that can't be read. The text that is passed goes on over that page, so a call that reads
+ * on to the next run, or to the end, ends the program. A call may read AHEAD bytes beyond the last boundary that it gives, and the run that it cuts. */
+#define _DEFAULT_SOURCE
+#include "check.h"
+#include <string.h>
+#include <sys/mman.h>
+#include <unistd.h>
+#include <yengatomu.h>
+
+enum { PAGE = 4096, READABLE = 2 * PAGE, UNREADABLE = 1 << 20, ROOM = 64 };
+
+/* What rules look ahead, in bytes: two characters, each with a mark. */
+enum { AHEAD = 16 };
+
+static const char THAI[] = "\xe0\xb8\xa0\xe0\xb8\xb2\xe0\xb8\xa9\xe0\xb8\xb2\xe0\xb9\x84\xe0\xb8\x97\xe0\xb8\xa2";
+static const char FIRST[] = "\xe0\xb8\xa0\xe0\xb8\xb2\xe0\xb8\xa9\xe0\xb8\xb2";
+
+/* A segmenter with a list of Thai words. */
+static yengatomu_slot opened(uint32_t kind) {
+    const yengatomu_word words[] = {{(const uint8_t *)FIRST, sizeof FIRST - 1}, {(const uint8_t *)THAI + sizeof FIRST - 1, sizeof THAI - sizeof FIRST}};
+    yengatomu_slot slot = {0};
+    CHECK(yengatomu_open(&slot, kind, 0, 0, false) == YENGATOMU_OK);
+    CHECK(yengatomu_load_dictionary(&slot, words, 2, YENGATOMU_THAI) == YENGATOMU_OK);
+    return slot;
+}
+
+/* The last READABLE bytes that can be read, filled with a text that comes again and again and ends right there, but for some bytes at the start. */
+static uint8_t *text_of(uint8_t *start, const char *again) {
+    const size_t len = strlen(again);
+    memset(start, 'x', READABLE);
+    for (size_t end = READABLE; end >= len; end -= len) memcpy(start + end - len, again, len);
+    return start;
+}
+
+/* Gives all boundaries that stand at least so many bytes before the page that can't be read: by many calls, by one, one by one and back. */
+static void try_boundaries(yengatomu_slot *slot, const uint8_t *text, size_t behind) {
+    const size_t len = READABLE + UNREADABLE, last = READABLE - behind;
+    size_t from = 0, count = 0, places[ROOM], *all = block(READABLE * sizeof *all);
+    uint8_t *marks = block(READABLE);
+    for (size_t place = 0; (place = yengatomu_next(slot, text, len, place)) <= last; count++) {
+        CHECK(place != YENGATOMU_NONE);
+        all[count] = from = place;
+    }
+    CHECK(count > READABLE / 64);
+    CHECK(yengatomu_previous(slot, text, len, all[count - 1]) == all[count - 2]);
+    CHECK(yengatomu_boundaries(slot, text, len, 0, all, count) == count && all[count - 1] == from);
+    CHECK(yengatomu_marked_boundaries(slot, text, len, 0, all, count, marks, count) == count && all[count - 1] == from);
+    CHECK(yengatomu_boundaries(slot, text, len, 0, places, ROOM) == ROOM && !memcmp(places, all, sizeof places));
+    free(all);
+    free(marks);
+}
+
+/* .. all ends of wrapped lines. */
+static void try_lines(yengatomu_slot *slot, const uint8_t *text, size_t columns, size_t behind) {
+    const size_t len = READABLE + UNREADABLE;
+    size_t *ends = block(READABLE * sizeof *ends), *widths = block(READABLE * sizeof *widths), count = 0;
+    while (yengatomu_wrap(slot, text, len, count ? ends[count - 1] : 0, columns, ends + count, 1) == 1 && ends[count] <= READABLE - behind - columns) count++;
+    CHECK(count > READABLE / 256);
+    CHECK(yengatomu_wrap_columns(slot, text, len, 0, columns, ends, count, widths, count) == count);
+    free(ends);
+    free(widths);
+}
+
+int main(void) {
+    uint8_t *start = mmap(NULL, READABLE + UNREADABLE, PROT_READ | PROT_WRITE, MAP_PRIVATE | MAP_ANONYMOUS, -1, 0);
+    static const char *const plain[] = {"ab ", "ab, 3.14 can't ", "ab \n", "\xc3\xa9 e\xcc\x81 ", "\xe6\x97\xa5\xe6\x9c\xac "};
+    char mixed[64];
+    snprintf(mixed, sizeof mixed, "ab %s ", THAI);
+    if (start == MAP_FAILED || mprotect(start + READABLE, UNREADABLE, PROT_NONE)) return 2;
+    for (uint32_t kind = YENGATOMU_WORDS; kind <= YENGATOMU_LINES; kind += YENGATOMU_LINES - YENGATOMU_WORDS) {
+        yengatomu_slot slot = opened(kind);
+        for (size_t i = 0; i < sizeof plain / sizeof *plain; i++) {
+            try_boundaries(&slot, text_of(start, plain[i]), AHEAD + strlen(plain[i]));
+            if (kind == YENGATOMU_LINES) try_lines(&slot, start, 20, AHEAD + 4 * strlen(plain[i]));
+        }
+        /* the run that is cut, and what comes before it */
+        try_boundaries(&slot, text_of(start, mixed), AHEAD + 2 * strlen(mixed));
+        if (kind == YENGATOMU_LINES) try_lines(&slot, start, 20, AHEAD + 4 * strlen(mixed));
+        yengatomu_close(&slot);
+    }
+    return failed != 0;
+}
