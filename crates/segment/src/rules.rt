@@ -77,21 +77,22 @@ fn read_rules<R: AllocGlobal + Files>(rt: &R, path: &str) -> Result<OwnRules> {
     match TextRules::try_from_text(rt.alloc(), text) {
         Ok(rules) => with_machine(rt.alloc(), rules),
         Err(error) => {
-            let place = place_of(rt.alloc(), text, &error)?;
-            Err(error.fault).context(place)
+            let fault = with_word(rt.alloc(), text, &error)?;
+            bail!("{fault}")
         }
     }
 }
 
-// Where a text of rules is wrong, and the word that is there, if any. Fails only when out of memory.
-fn place_of(alloc: Global, text: &str, error: &TextError) -> Result<String, AllocError> {
+// What is wrong with a text of rules, and the word that is there, if any. Fails only when out of memory.
+fn with_word(alloc: Global, text: &str, error: &TextError) -> Result<String, AllocError> {
     let word = shown_word(alloc, error.word_in(text))?;
+    if word.is_empty() {
+        return format!(in alloc; "{error}");
+    }
     let line = error.line;
     let column = error.column;
-    if word.is_empty() {
-        return format!(in alloc; "line {line}, column {column}");
-    }
-    format!(in alloc; "line {line}, column {column}: '{word}'")
+    let fault = error.fault;
+    format!(in alloc; "line {line}, column {column}: '{word}': {fault}")
 }
 
 // Of a longer word as many characters are shown, and two dots.
