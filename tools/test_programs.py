@@ -7,8 +7,8 @@ tools/rows/PROGRAM.rows has a row a line: the words after the program's name, wh
 and what it must say on standard error, or how that begins where it has no line feed at its end. Texts are Python literals, bytes are written b"..". A line
 `writes: WORDS, FILE` has it write what a file of the repository holds, `file: NAME, TEXT` makes a file that words may name, `file: NAME, TEXT, COUNT, REST` one that has the text so often, and then the rest, `copies: FOLDER` makes all files of a folder of the repository, and `devices: WORDS, READ, WRITE` has the program run with a standard input that can't be read and a
 standard output that takes nothing, and says what it must complain of; with `unread: WORDS, STATUS, COMPLAINT` it has the first, and mustn't see it.
-`comes: WORDS, TEXT, WANTED, REST, WANTED` has the first text written while the rest hasn't come. `repeated: WORDS, MORE, TEXT, COUNT, REST` has the text so
-often, and then the rest, and asks whether the same is written with more words. `parts: WORDS, TEXT, COUNT, REST` has
+`comes: WORDS, TEXT, WANTED, REST, WANTED` has the first text written while the rest hasn't come. `pieces: WORDS, TEXT, COUNT, REST` has the text so
+often, and then the rest, and asks whether the same is written where it comes in small pieces. `parts: WORDS, TEXT, COUNT, REST` has
 such a text split after line feeds, and asks whether the outputs of the parts are that of the whole. `small: MEGABYTES, ROW` has a row's program take no
 more memory, and what it reads and must write come so often as a last number says. `set: NAME=VALUE, ROW` has a row's program find that
 in its environment. Other lines say nothing. Each row is asked of what either compiler built.
@@ -30,6 +30,8 @@ from dataclasses import dataclass, field
 BUILDS = ("", ".by-rattle")
 # How long the parts of a text are at least, but the last one.
 PART = 100_000
+# How many bytes come at once where a text comes in pieces.
+PIECE = 1021
 
 
 @dataclass
@@ -98,14 +100,36 @@ class Comes(Row):
 
 
 @dataclass
-class Repeated(Row):
-    """A run that must write of much text what it writes with more words."""
-
-    more: list = field(default_factory=list)
+class Pieces(Row):
+    """A run that must write of a text that comes in small pieces what it writes of the file that holds it."""
 
     def fault(self, program, folder):
-        one, other = (subprocess.run([program, *words], input=self.given, capture_output=True, cwd=folder, timeout=60, check=True).stdout for words in (self.words, self.words + self.more))
-        return None if one == other else f"{shlex.join(self.words)}: {len(one)} bytes, and with {shlex.join(self.more)} {len(other)}"
+        with tempfile.TemporaryFile() as file:
+            file.write(self.given)
+            file.seek(0)
+            whole = subprocess.run([program, *self.words], stdin=file, capture_output=True, cwd=folder, timeout=60, check=True).stdout
+        pieces = written_of([program, *self.words], [self.given[at : at + PIECE] for at in range(0, len(self.given), PIECE)], folder)
+        return None if whole == pieces else f"{shlex.join(self.words)}: {len(whole)} bytes, and of pieces {len(pieces)}"
+
+
+def written_of(command, pieces, folder):
+    """Returns what a command writes where each piece of what it reads comes as one."""
+    with subprocess.Popen(command, cwd=folder, stdin=subprocess.PIPE, stdout=subprocess.PIPE, bufsize=0) as ran:
+        killer = threading.Timer(60, ran.kill)
+        killer.start()
+        writer = threading.Thread(target=write_each, args=(ran.stdin, pieces))
+        writer.start()
+        written = b"".join(iter(lambda: ran.stdout.read(1 << 16), b""))
+        writer.join()
+        killer.cancel()
+    return written
+
+
+def write_each(pipe, pieces):
+    """Writes pieces to a pipe, one call each, and closes it."""
+    for it in pieces:
+        pipe.write(it)
+    pipe.close()
 
 
 @dataclass
@@ -156,7 +180,7 @@ def read(path, folder_as_input, full):
     with open(path, encoding="utf-8") as it:
         for number, line in enumerate(it, 1):
             kind, said = ("row", line) if line.startswith(('"', "'")) else line.partition(": ")[::2]
-            if kind not in ("row", "writes", "file", "copies", "devices", "unread", "comes", "repeated", "parts", "small", "set"):
+            if kind not in ("row", "writes", "file", "copies", "devices", "unread", "comes", "pieces", "parts", "small", "set"):
                 continue
             place, fields = f"{os.path.basename(path)}:{number}", ast.literal_eval(f"({said.strip()},)")
             if kind == "file":
@@ -176,12 +200,10 @@ def read(path, folder_as_input, full):
             elif kind == "comes":
                 words, given, wanted, later, wanted_later = map(as_bytes, fields)
                 found.rows.append(Comes(place, shlex.split(words.decode()), given, wanted, later=later, wanted_later=wanted_later))
-            elif kind == "repeated":
-                words, more, text, count, rest = fields
-                found.rows.append(Repeated(place, shlex.split(words), as_bytes(text) * count + as_bytes(rest), more=shlex.split(more)))
-            elif kind == "parts":
+            elif kind in ("pieces", "parts"):
                 words, text, count, rest = fields
-                found.rows.append(Parts(place, shlex.split(words), as_bytes(text) * count + as_bytes(rest)))
+                made = Pieces if kind == "pieces" else Parts
+                found.rows.append(made(place, shlex.split(words), as_bytes(text) * count + as_bytes(rest)))
             elif kind == "small":
                 megabytes, words, given, wanted, count, *rest = fields
                 status, complaint = rest or (0, "")

@@ -19,7 +19,7 @@ use Rattle.segment_output.specs.declared.segmenter.Kind.TheVariants as kind
 use Rattle.segment.specs.declared.command.Request.{Request}
 use Rattle.segment.specs.declared.command.Task.{Task}
 use Rattle.segment.specs.declared.command.Task.TheVariants.{Cut, Wrap}
-use Rattle.segment_output.specs.declared.preparation.Preparation.{Preparation}
+use Rattle.segment_text.specs.declared.preparation.Preparation.{Preparation}
 use Rattle.segment_output.specs.declared.wrapper.Width.{Width}
 use Rattle.segment_output.specs.declared.output.Numbers.{Numbers}
 use Rattle.segment_output.specs.declared.output.Style.{Style}
@@ -62,7 +62,6 @@ abbrev pub engine_word : Engine → List ℕ
 engine_word engine.Neo = codes "neo"
 engine_word engine.Classic = codes "classic"
 engine_word engine.Seventeen = codes "17"
-engine_word engine.Memo = codes "memo"
 
 -- an engine is the one with this word, and neo where there is none
 abbrev pub IsEngine : Option (List ℕ) → Engine → Type 0
@@ -150,17 +149,10 @@ values_of found id = option_map_or raw_values (matched_of found id) []
 abbrev pub ArePaired : Found → Type 0
 ArePaired found = length (values_of found (codes "dictionary")) ≡ length (values_of found (codes "script"))
 
--- a memo goes without dictionaries
-abbrev pub HasMemoAlone : Found → Type 0
-HasMemoAlone found =
-    first_value found (codes "engine") ≡ Some (codes "memo")
-    → (matched_of found (codes "script") ≡ None) × (first_value found (codes "dictionaries") ≡ None)
-
 -- a request is what the word of a kind and its arguments ask for
 abbrev pub IsRequest : List ℕ → Found → Request → Type 0
 IsRequest word found request =
     ArePaired found
-    × HasMemoAlone found
     × IsPreparation word found request.preparation
     × IsTask word found request.task
     × IsChoice strictness_word (first_value found (codes "strictness")) request.strictness

@@ -4,28 +4,23 @@ use Rattle.std.specs.Option.{option_map, option_map_or}
 use Rattle.icu_segmenter.specs.ScriptWords.{ScriptWords}
 use Rattle.icu_segmenter.specs.WordSets.{Words}
 use Rattle.icu_segmenter.specs.declared.options.LineBreakOptions.{LineBreakOptions}
-use Rattle.segment_output.specs.Memo.{IsFoundBy}
 use Rattle.segment_output.specs.Output.{count_line, lines_of}
 use Rattle.segment_output.specs.Parts.{IsBegun}
-use Rattle.segment_output.specs.Preparation.{prepared}
+use Rattle.segment_text.specs.Preparation.{prepared}
 use Rattle.segment_output.specs.Segmenter.{segments_by, IsAskedOf}
-use Rattle.segment_output.specs.Size.{size_of}
+use Rattle.segment_text.specs.Size.{size_of}
 use Rattle.segment_output.specs.Wrapped.{wrapped_output}
 use Rattle.segment_output.specs.Wrapper.{wrapping_of, IsAskedWrapper}
 use Rattle.segment_output.specs.declared.segmenter.Engine.{Engine}
-use Rattle.segment_output.specs.declared.segmenter.Engine.TheVariants as engine
 use Rattle.segment_output.specs.declared.segmenter.Kind.{Kind}
 use Rattle.segment.specs.declared.command.Request.{Request}
 use Rattle.segment.specs.declared.command.Task.TheVariants as task
 use Rattle.segment_output.specs.declared.wrapper.Width.{Width}
-use Rattle.segment_output.specs.declared.found.Found.{Found}
 use Rattle.segment_output.specs.declared.found.Tally.{Tally}
 use Rattle.segment_output.specs.declared.output.Numbers.{Numbers}
 use Rattle.segment.specs.declared.job.Job.{Job}
 use Rattle.segment.specs.declared.job.Work.{Work}
 use Rattle.segment.specs.declared.job.Work.TheVariants.{Cut, Wrap}
-use Rattle.segment.specs.declared.job.Search.{Search}
-use Rattle.segment.specs.declared.job.Search.TheVariants.{Plain, Memoised}
 use Rattle.segment_output.specs.declared.output.Style.TheVariants.{Counted}
 use Rattle.segment_output.specs.declared.parts.Printing.{Printing}
 use Rattle.segment_output.specs.declared.parts.Printing.TheVariants.{Segments, Lines}
@@ -33,36 +28,24 @@ use Rattle.segment_output.specs.declared.parts.Splitting.{Splitting}
 
 -- ---- a text to which the work is done
 
--- what is written of it, with the name of its file where that is said; how boundaries are found changes nothing
+-- what is written of it, with the name of its file where that is said
 abbrev pub work_output : Work → Option (List ℕ) → List ℕ → List ℕ
-work_output (Cut segmenter style search) file text = lines_of (record { style = style; file = file }) text (segments_by segmenter text)
+work_output (Cut segmenter style) file text = lines_of (record { style = style; file = file }) text (segments_by segmenter text)
 work_output (Wrap wrapper) file text = wrapped_output (wrapping_of wrapper) text
 
 -- the numbers beside that of the segments, where these are only counted
 abbrev pub numbers_of : Work → Option Numbers
-numbers_of (Cut segmenter (Counted numbers) search) = Some numbers
+numbers_of (Cut segmenter (Counted numbers)) = Some numbers
 numbers_of work = None
 
 -- how many segments there are
 abbrev pub count_by : Work → List ℕ → ℕ
-count_by (Cut segmenter style search) text = length (segments_by segmenter text)
+count_by (Cut segmenter style) text = length (segments_by segmenter text)
 count_by (Wrap wrapper) text = 0
-
--- what is found of it
-abbrev pub IsFound : Work → List ℕ → Found → Type 0
-IsFound (Cut segmenter style Plain) text found = (found.segments ≡ length (segments_by segmenter text)) × (found.lookups ≡ 0)
-IsFound (Cut segmenter style Memoised) text found = IsFoundBy segmenter text found
-IsFound (Wrap wrapper) text found = (found.segments ≡ 0) × (found.lookups ≡ 0)
-
--- may it be split as it comes
-abbrev pub is_split_by : Work → Bool
-is_split_by (Cut segmenter style Plain) = true
-is_split_by (Cut segmenter style Memoised) = false
-is_split_by (Wrap wrapper) = true
 
 -- what is written part by part is what the work writes
 abbrev pub IsPrintingOf : Work → Option (List ℕ) → Printing → Type 0
-IsPrintingOf (Cut segmenter style Plain) file (Segments one how name) = (one.now ≡ segmenter) × (how ≡ style) × (option_map (λ name. name.now) name ≡ file)
+IsPrintingOf (Cut segmenter style) file (Segments one how name) = (one.now ≡ segmenter) × (how ≡ style) × (option_map (λ name. name.now) name ≡ file)
 IsPrintingOf (Wrap wrapper) file (Lines one) = one.now ≡ wrapper
 IsPrintingOf work file printing = ⊥
 
@@ -80,10 +63,6 @@ said_by job name = if job.names_files then name else None
 abbrev pub printed_by : Job → Option (List ℕ) → List ℕ → List ℕ
 printed_by job file bytes = work_output job.work file (text_of job bytes)
 
--- may they be split as they come
-abbrev pub is_split : Job → Bool
-is_split job = is_split_by job.work
-
 -- what is done part by part is what the job does
 abbrev pub IsDoneBy : Job → Option (List ℕ) → Splitting → Type 0
 IsDoneBy job file splitting = (splitting.preparation ≡ job.preparation) × IsPrintingOf job.work file splitting.printing
@@ -92,20 +71,13 @@ IsDoneBy job file splitting = (splitting.preparation ≡ job.preparation) × IsP
 abbrev pub IsBegunBy : Job → Option (List ℕ) → Option (List ℕ) → Option (List ℕ) → Option (List ℕ) → Option (List ℕ) → Type 0
 IsBegunBy job file from to old new = (splitting : Splitting) × IsDoneBy job file splitting × IsBegun splitting from to old new
 
--- what is found of their text, and how large they are
+-- how many segments their text has, and how large they are
 abbrev pub IsTally : Job → List ℕ → Tally → Type 0
-IsTally job bytes tally = IsFound job.work (text_of job bytes) tally.found × (tally.size ≡ size_of bytes)
+IsTally job bytes tally = (tally.segments ≡ count_by job.work (text_of job bytes)) × (tally.size ≡ size_of bytes)
 
 -- all that is written of some bytes that have a name or none: the segments or the lines of their text, or how many segments it has
 abbrev pub output_of : Job → Option (List ℕ) → List ℕ → List ℕ
 output_of job name bytes = printed_by job (said_by job name) bytes ++ option_map_or (λ numbers. count_line numbers (count_by job.work (text_of job bytes)) (size_of bytes) name) (numbers_of job.work) []
-
--- how an engine finds boundaries
-abbrev pub search_by : Engine → Search
-search_by engine.Neo = Plain
-search_by engine.Classic = Plain
-search_by engine.Seventeen = Plain
-search_by engine.Memo = Memoised
 
 -- options of lines are those of a request
 abbrev pub AreOptions : Request → LineBreakOptions → Type 0
@@ -115,8 +87,8 @@ AreOptions request options =
 
 -- work is the one that a request asks for, with the words of scripts, and abbreviations, if there are some
 abbrev pub IsAskedWork : Request → ScriptWords → Option Words → Work → Type 0
-IsAskedWork request words abbreviations (Cut segmenter style search) =
-    (kind : Kind) × (engine : Engine) × (request.task ≡ task.Cut kind style engine) × (search ≡ search_by engine)
+IsAskedWork request words abbreviations (Cut segmenter style) =
+    (kind : Kind) × (engine : Engine) × (request.task ≡ task.Cut kind style engine)
     × ((options : LineBreakOptions) × AreOptions request options × IsAskedOf kind engine options words abbreviations segmenter)
 IsAskedWork request words abbreviations (Wrap wrapper) =
     (width : Width) × (request.task ≡ task.Wrap width) × ((options : LineBreakOptions) × AreOptions request options × IsAskedWrapper width options words wrapper)

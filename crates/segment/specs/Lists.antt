@@ -2,7 +2,6 @@
 use Rattle.std.specs.Prelude.{◌≡◌, ℕ, Option, None, List, ◌++◌, codes, IfSome}
 use Rattle.icu_segmenter.specs.ScriptWords.{ScriptWords, no_words}
 use Rattle.icu_segmenter.specs.WordSets.{Words}
-use Rattle.segment_output.specs.declared.segmenter.Engine.TheVariants as engine
 use Rattle.segment_output.specs.declared.segmenter.Kind.{Kind}
 use Rattle.segment_output.specs.declared.segmenter.Kind.TheVariants as kind
 use Rattle.segment.specs.declared.command.Task.{Task}
@@ -17,12 +16,9 @@ choice_of (kind.Words alone) = All
 choice_of kind.Sentences = Nothing
 choice_of kind.Lines = WithoutCj
 
--- and those that a task takes: a memo goes without them
+-- and those that a task takes
 abbrev pub choice_by : Task → Choice
-choice_by (Cut kind style engine.Neo) = choice_of kind
-choice_by (Cut kind style engine.Classic) = choice_of kind
-choice_by (Cut kind style engine.Seventeen) = choice_of kind
-choice_by (Cut kind style engine.Memo) = Nothing
+choice_by (Cut kind style engine) = choice_of kind
 choice_by (Wrap width) = WithoutCj
 
 -- a script's words are those of the list that bears its name, where these are known

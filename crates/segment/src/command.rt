@@ -6,16 +6,16 @@ ghost use Rattle.std.specs.Str.{str_to_ascii_lowercase};
 ghost use Rattle.icu_segmenter.specs.declared.provider.ComplexScript.{ComplexScript as AnyScript};
 ghost use Rattle.clap.specs.Matches.{found_of};
 ghost use Rattle.segment_output.specs.declared.segmenter.Kind.{Kind as AnyKind};
-ghost use Rattle.segment.specs.Command.{is_alone, kind_word, language_part, strictness_word, word_break_word, ArePaired, HasMemoAlone, HasScriptWord, IsChoice, IsEngine, IsRequest, IsStyle, IsTask, IsWidth, AreColumns, AreNumbers, AreTabs, IsPreparation};
+ghost use Rattle.segment.specs.Command.{is_alone, kind_word, language_part, strictness_word, word_break_word, ArePaired, HasScriptWord, IsChoice, IsEngine, IsRequest, IsStyle, IsTask, IsWidth, AreColumns, AreNumbers, AreTabs, IsPreparation};
 
 use anyhow::{Context, Result, bail, ensure};
 use clap::{Arg, ArgAction, ArgMatches, Command, value_parser};
 use icu_segmenter::options::{LanguageIdentifier, LineBreakStrictness, LineBreakWordOption};
 use icu_segmenter::provider::ComplexScript;
 use segment_output::output::{Numbers, Style};
-use segment_output::preparation::Preparation;
 use segment_output::segmenter::{Engine, Kind};
 use segment_output::wrapper::Width;
+use segment_text::preparation::Preparation;
 use std::alloc::{AllocError, Global};
 
 /// What is done to a text.
@@ -71,9 +71,9 @@ const DEFAULT_COLUMNS: usize = 80;
 // Of tabs before lines are wrapped, where the command line says nothing.
 const DEFAULT_TABS: usize = 8;
 
-const ENGINES: [&str; 3] = ["neo", "classic", "memo"];
+const ENGINES: [&str; 2] = ["neo", "classic"];
 
-const LINE_ENGINES: [&str; 4] = ["neo", "classic", "17", "memo"];
+const LINE_ENGINES: [&str; 3] = ["neo", "classic", "17"];
 
 const STRICTNESSES: [&str; 4] = ["loose", "normal", "strict", "anywhere"];
 
@@ -102,6 +102,10 @@ const JOIN_HELP: &str = "Join the lines between blank lines first, each two by a
 const JSON_HELP: &str = "Write a JSON object for each segment: text, begin, end";
 
 const WORD_JSON_HELP: &str = "Write a JSON object for each segment: text, begin, end, type";
+
+const RULES_JSON_HELP: &str = "Write a JSON object for each segment: text, begin, end, status";
+
+const TOKENS_HELP: &str = "Leave out segments that end where a rule with ! breaks";
 
 const LINE_JSON_HELP: &str = "Write a JSON object for each segment: text, begin, end, mandatory";
 
@@ -209,8 +213,9 @@ fn rules_command<'a>(alloc: Global) -> Result<Command<'a>, AllocError> {
         "Writes what stands between places where rules of your own break",
     );
     let command = command.arg(rules_argument(alloc))?;
+    let command = command.arg(flag(alloc, "tokens", TOKENS_HELP))?;
     let command = command.arg(show_argument(alloc)?)?;
-    with_files(alloc, with_styles(alloc, command, JSON_HELP)?)
+    with_files(alloc, with_styles(alloc, command, RULES_JSON_HELP)?)
 }
 
 fn wrap_command<'a>(alloc: Global, columns: Columns) -> Result<Command<'a>, AllocError> {
@@ -334,7 +339,8 @@ fn rules_argument<'a>(alloc: Global) -> Arg<'a> {
 
 fn show_argument<'a>(alloc: Global) -> Result<Arg<'a>, AllocError> {
     let show = without_segments(flag(alloc, "show-machine", SHOW_HELP))?;
-    show.conflicts_with("count")?.conflicts_with("file")
+    let show = show.conflicts_with("count")?;
+    show.conflicts_with("tokens")?.conflicts_with("file")
 }
 
 fn width_argument<'a>(alloc: Global) -> Arg<'a> {
@@ -378,7 +384,7 @@ fn choice<'a>(alloc: Global, name: &'a str, values: &'a [&'a str], help: &'a str
 }
 
 /// What the arguments of a kind of segments ask for. The errors are a word that isn't a kind, lines or tabs without columns, a language that
-/// isn't one, a dictionary without a script or beside a memo, and a script that is named twice.
+/// isn't one, a dictionary without a script, and a script that is named twice.
 pub fn request_of(kind: &str, matches: &ArgMatches<'_>) -> Result<Request>
     ensures { IfOk result (IsRequest kind.now (found_of matches.now)) }
 {
@@ -392,22 +398,11 @@ pub fn request_of(kind: &str, matches: &ArgMatches<'_>) -> Result<Request>
     })
 }
 
-// The error is a dictionary without a script or beside a memo, or a script that is named twice.
+// The error is a dictionary without a script, or a script that is named twice.
 fn check_dictionaries(matches: &ArgMatches<'_>) -> Result<()>
-    ensures { OnOk result (ArePaired (found_of matches.now) × HasMemoAlone (found_of matches.now)) }
+    ensures { OnOk result (ArePaired (found_of matches.now)) }
 {
     let scripts = matches.get_strs("script");
-    let folder = matches.get_str("dictionaries");
-    check_memo(
-        matches.get_str("engine"),
-        scripts.is_some(),
-        "--dictionary <FILE>",
-    )?;
-    check_memo(
-        matches.get_str("engine"),
-        folder.is_some(),
-        "--dictionaries <FOLDER>",
-    )?;
     ensure!(
         count_of(matches.get_strs("dictionary")) == count_of(scripts),
         "each '--dictionary <FILE>' needs a '--script <script>' of its own"
@@ -415,18 +410,6 @@ fn check_dictionaries(matches: &ArgMatches<'_>) -> Result<()>
     match scripts {
         Some(scripts) => check_scripts(scripts),
         None => Ok(()),
-    }
-}
-
-// The error is a memo beside dictionaries, which an argument names.
-fn check_memo(engine: Option<&str>, has_dictionaries: bool, argument: &str) -> Result<()>
-    ensures { OnOk result (option_map (λ text. text.now) engine.entry ≡ Some (codes "memo") → has_dictionaries ≡ false) }
-{
-    match engine {
-        Some("memo") if has_dictionaries => {
-            bail!("the argument '--engine memo' cannot be used with '{argument}'")
-        }
-        _ => Ok(()),
     }
 }
 
@@ -557,7 +540,6 @@ fn engine_of(word: Option<&str>) -> Result<Engine>
         None | Some("neo") => Ok(Engine::Neo),
         Some("classic") => Ok(Engine::Classic),
         Some("17") => Ok(Engine::Seventeen),
-        Some("memo") => Ok(Engine::Memo),
         Some(_) => bail!("no such engine"),
     }
 }

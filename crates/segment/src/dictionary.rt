@@ -27,7 +27,7 @@ pub fn dictionaries_of<R: AllocGlobal + Files + Env>(
     Ok(dictionaries)
 }
 
-// Those of the folder that the command line names, or the environment.
+// The dictionaries of the folder that the command line names, or the environment.
 fn more_dictionaries<R: AllocGlobal + Files + Env>(
     rt: &R,
     choice: Choice,

@@ -2,10 +2,10 @@
 
 use crate::job::Job;
 use crate::run::run;
-use icu_segmenter::memo::MemoError;
 use segment_output::fault::Fault;
-use segment_output::found::{Found, Size, Tally};
+use segment_output::found::Tally;
 use segment_output::output::write_count;
+use segment_text::size::Size;
 use std::io::ErrorKind;
 use std::process::ExitCode;
 use std::{fs, io};
@@ -68,10 +68,7 @@ fn try_run_all(rt: &HostRuntime, job: &Job, names: &[&str]) -> io::Result<Totals
 fn no_totals() -> Totals {
     Totals {
         tally: Tally {
-            found: Found {
-                segments: 0,
-                lookups: 0,
-            },
+            segments: 0,
             size: Size { lines: 0, bytes: 0 },
         },
         has_failed: false,
@@ -81,10 +78,7 @@ fn no_totals() -> Totals {
 // What was found in two files.
 fn both(one: Tally, other: Tally) -> Tally {
     Tally {
-        found: Found {
-            segments: one.found.segments.saturating_add(other.found.segments),
-            lookups: one.found.lookups.saturating_add(other.found.lookups),
-        },
+        segments: one.segments.saturating_add(other.segments),
         size: Size {
             lines: one.size.lines.saturating_add(other.size.lines),
             bytes: one.size.bytes.saturating_add(other.size.bytes),
@@ -102,14 +96,10 @@ fn add_file(
     match run_file(rt, job, name) {
         Ok(tally) => totals.tally = both(totals.tally, tally),
         Err(Fault::Write(error)) => return Err(error),
-        Err(Fault::MemoryBefore | Fault::MemoryAmid | Fault::Memo(MemoError::Memory)) => {
+        Err(Fault::MemoryBefore | Fault::MemoryAmid) => {
             return Err(io::Error::from(ErrorKind::OutOfMemory));
         }
         Err(Fault::Read(error)) => {
-            totals.has_failed = true;
-            complain(rt, shown_name(name), &error);
-        }
-        Err(Fault::Memo(error)) => {
             totals.has_failed = true;
             complain(rt, shown_name(name), &error);
         }

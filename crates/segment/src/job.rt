@@ -1,29 +1,20 @@
 //! What a request asks for, with all that it takes.
-ghost use Rattle.std.specs.Prelude.{◌≡◌, IfOk, IfSome};
-ghost use Rattle.std.specs.Option.{is_some, option_map};
+ghost use Rattle.std.specs.Prelude.{◌≡◌, IfOk};
+ghost use Rattle.std.specs.Option.{option_map};
 ghost use Rattle.icu_segmenter.specs.Abbreviations.{abbreviations_of};
 ghost use Rattle.icu_segmenter.specs.ScriptWords.{script_words};
-ghost use Rattle.segment.specs.Job.{is_split_by, numbers_of, said_by, search_by, AreOptions, IsAsked, IsAskedWork, IsPrintingOf};
+ghost use Rattle.segment.specs.Job.{numbers_of, said_by, AreOptions, IsAsked, IsAskedWork, IsPrintingOf};
 
 use crate::command::{Request, Task};
 use anyhow::Result;
 use icu_segmenter::options::LineBreakOptions;
 use segment_output::output::{Numbers, Style};
 use segment_output::parts::Printing;
-use segment_output::preparation::Preparation;
-use segment_output::segmenter::{Engine, Segmenter, segmenter_of};
+use segment_output::segmenter::{Segmenter, segmenter_of};
 use segment_output::vocabulary::Vocabulary;
 use segment_output::wrapper::{Wrapper, wrapper_of};
+use segment_text::preparation::Preparation;
 use std::alloc::Global;
-
-/// How the boundaries of a text are found.
-#[derive(Clone, Copy, Debug, PartialEq, Eq)]
-pub enum Search {
-    /// Without memory.
-    Plain,
-    /// With a memo, by which no configuration is looked up twice.
-    Memoised,
-}
 
 /// What is done to a text.
 #[derive(Drop)]
@@ -39,24 +30,20 @@ pub struct Job {
 /// What is done to a text, with all that it takes.
 #[derive(Drop)]
 pub enum Work {
-    /// It is cut into segments: by what, how they are written, and how the boundaries are found.
-    Cut(Segmenter, Style, Search),
+    /// It is cut into segments: by what, and how they are written.
+    Cut(Segmenter, Style),
     /// Its lines are wrapped.
     Wrap(Wrapper),
 }
 
 impl Work {
-    /// What is written, with this name of a file where lines say it. None where it is found with a memo.
-    pub fn printing<'w>(&'w self, file: Option<&'w str>) -> Option<Printing<'w>>
-        ensures same { IfSome result (IsPrintingOf self.now (option_map (λ name. name.now) file.entry)) }
-        ensures always { is_split_by self.now ≡ is_some result }
+    /// What is written, with this name of a file where lines say it.
+    pub fn printing<'w>(&'w self, file: Option<&'w str>) -> Printing<'w>
+        ensures { IsPrintingOf self.now (option_map (λ name. name.now) file.entry) result }
     {
         match self {
-            Work::Cut(segmenter, style, Search::Plain) => {
-                Some(Printing::Segments(segmenter, *style, file))
-            }
-            Work::Cut(_, _, Search::Memoised) => None,
-            Work::Wrap(wrapper) => Some(Printing::Lines(wrapper)),
+            Work::Cut(segmenter, style) => Printing::Segments(segmenter, *style, file),
+            Work::Wrap(wrapper) => Printing::Lines(wrapper),
         }
     }
 }
@@ -67,7 +54,7 @@ impl Job {
         ensures { result ≡ numbers_of self.now.work }
     {
         match &self.work {
-            Work::Cut(_, Style::Counted(numbers), _) => Some(*numbers),
+            Work::Cut(_, Style::Counted(numbers)) => Some(*numbers),
             _ => None,
         }
     }
@@ -98,7 +85,7 @@ fn work_of(alloc: Global, request: &Request, words: Vocabulary) -> Result<Work>
     match request.task {
         Task::Cut(kind, style, engine) => {
             let segmenter = segmenter_of(alloc, kind, engine, options_of(request), words)?;
-            Ok(Work::Cut(segmenter, style, search_by(engine)))
+            Ok(Work::Cut(segmenter, style))
         }
         Task::Wrap(width) => {
             let Vocabulary {
@@ -108,15 +95,6 @@ fn work_of(alloc: Global, request: &Request, words: Vocabulary) -> Result<Work>
             let wrapper = wrapper_of(alloc, width, options_of(request), dictionaries)?;
             Ok(Work::Wrap(wrapper))
         }
-    }
-}
-
-fn search_by(engine: Engine) -> Search
-    ensures { result ≡ search_by engine }
-{
-    match engine {
-        Engine::Memo => Search::Memoised,
-        _ => Search::Plain,
     }
 }
 

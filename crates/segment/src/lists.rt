@@ -8,12 +8,12 @@ ghost use Rattle.segment.specs.Lists.{choice_by, AreListed};
 use crate::command::Task;
 use anyhow::Result;
 use icu_segmenter::provider::{Dictionaries, DictionaryBreakData};
-use segment_output::segmenter::{Engine, Kind};
+use segment_output::segmenter::Kind;
 
 /// Which lists are read.
 #[derive(Clone, Copy, Debug, PartialEq, Eq)]
 pub enum Choice {
-    /// None: there are no words in what is found, or a memo goes without them.
+    /// None: there are no words in what is found.
     Nothing,
     /// All but that of Chinese and Japanese, of which lines take none.
     WithoutCj,
@@ -36,7 +36,6 @@ pub fn choice_by(task: Task) -> Choice
     ensures { result ≡ choice_by task }
 {
     match task {
-        Task::Cut(_, _, Engine::Memo) => Choice::Nothing,
         Task::Cut(Kind::Words { .. }, _, _) => Choice::All,
         Task::Cut(Kind::Lines, _, _) => Choice::WithoutCj,
         Task::Cut(_, _, _) => Choice::Nothing,

@@ -23,7 +23,6 @@ use dictionary::dictionaries_of;
 use files::run_all;
 use job::{Job, job_of};
 use rules::{OwnRules, RulesRequest, job_by, rules_at, rules_request_of};
-use segment_output::output::Style;
 use segment_output::vocabulary::Vocabulary;
 use std::env;
 use std::process::ExitCode;
@@ -94,8 +93,9 @@ fn follow_rules(rt: &HostRuntime, matches: &ArgMatches<'_>) -> Result<ExitCode> 
     };
     match rules_at(rt, request.path) {
         Ok(rules) => run_rules(rt, request, rules, matches),
-        Err(error) => {
-            eprintln!(rt; "segment: {error:#}")?;
+        Err(fault) => {
+            let path = request.path;
+            eprintln!(rt; "segment: {path}: {fault}")?;
             Ok(ExitCode::from(USAGE_STATUS))
         }
     }
@@ -111,7 +111,7 @@ fn run_rules(
     if request.shows_machine {
         return show_machine(rt, &rules);
     }
-    Ok(cut_by(rt, rules, request.style, matches))
+    Ok(cut_by(rt, request, rules, matches))
 }
 
 fn show_machine(rt: &HostRuntime, rules: &OwnRules) -> Result<ExitCode> {
@@ -119,8 +119,13 @@ fn show_machine(rt: &HostRuntime, rules: &OwnRules) -> Result<ExitCode> {
     Ok(ExitCode::SUCCESS)
 }
 
-fn cut_by(rt: &HostRuntime, rules: OwnRules, style: Style, matches: &ArgMatches<'_>) -> ExitCode {
-    run_files(rt, job_by(rules, style), matches)
+fn cut_by(
+    rt: &HostRuntime,
+    request: RulesRequest<'_>,
+    rules: OwnRules,
+    matches: &ArgMatches<'_>,
+) -> ExitCode {
+    run_files(rt, job_by(rules, request.tokens, request.style), matches)
 }
 
 // Says why a command line can't be followed.

@@ -6,19 +6,19 @@ ghost use Rattle.seg_rules.specs.Passed.{FindsPlaces};
 ghost use Rattle.segment.specs.Rules.{IsJobByRules, IsRulesRequest};
 
 use crate::command::style_of;
-use crate::job::{Job, Search, Work};
+use crate::job::{Job, Work};
 use crate::words::{text_of, without_mark};
-use anyhow::{Context, Result, bail};
+use anyhow::{Result, bail};
 use clap::ArgMatches;
 use icu_segmenter::provider::{SegmenterStateMachine, Symbol};
 use seg_compile::compile::{CompileError, Witness};
 use seg_notation::{TextError, TextRules};
 use segment_output::output::Style;
-use segment_output::preparation::Preparation;
 use segment_output::segmenter::Segmenter;
+use segment_text::preparation::Preparation;
 use std::alloc::{AllocError, Global};
-use std::fs;
 use std::rt::Files;
+use std::{fmt, fs};
 
 /// What a command line with rules asks for.
 #[derive(Clone, Copy)]
@@ -27,6 +27,8 @@ pub struct RulesRequest<'m> {
     pub path: &'m str,
     /// How segments are written.
     pub style: Style,
+    /// Whether those segments are left out which end at a boundary of status 1.
+    pub tokens: bool,
     /// Whether the machine is shown, and no text is cut.
     pub shows_machine: bool,
 }
@@ -59,27 +61,48 @@ pub fn rules_request_of<'m>(matches: &'m ArgMatches<'_>) -> Result<RulesRequest<
         Some(path) => Ok(RulesRequest {
             path,
             style: style_of(matches),
+            tokens: matches.get_flag("tokens"),
             shows_machine: matches.get_flag("show-machine"),
         }),
         None => bail!("no file of rules is named"),
     }
 }
 
-/// The rules in a file. The errors, which name it, are one that can't be read or isn't UTF-8, rules that are wrong, with the line, the
-/// column and the word that is there, rules without a machine, with what shows it, and being out of memory.
-pub fn rules_at<R: AllocGlobal + Files>(rt: &R, path: &str) -> Result<OwnRules> {
-    read_rules(rt, path).context(format_args!("{path}"))
+/// Why no text is cut by rules.
+#[derive(Drop)]
+pub enum RulesFault {
+    /// Their file can't be read or isn't UTF-8, or out of memory.
+    Unread(anyhow::Error),
+    /// What is wrong with them.
+    Wrong(String),
 }
 
-fn read_rules<R: AllocGlobal + Files>(rt: &R, path: &str) -> Result<OwnRules> {
+impl fmt::Display for RulesFault {
+    fn fmt<W: fmt::Write>(&self, f: &mut fmt::Formatter<W>) -> fmt::Result {
+        match self {
+            RulesFault::Unread(error) => write!(f, "{error:#}"),
+            RulesFault::Wrong(text) => f.write_str(text.as_str()),
+        }
+    }
+}
+
+/// The rules in a file. The faults are one that can't be read or isn't UTF-8, rules that are wrong, with the line, the column and the word
+/// that is there, rules without a machine, with what shows it, and being out of memory.
+pub fn rules_at<R: AllocGlobal + Files>(rt: &R, path: &str) -> Result<OwnRules, RulesFault> {
+    match read_rules(rt, path) {
+        Ok(Ok(rules)) => Ok(rules),
+        Ok(Err(wrong)) => Err(RulesFault::Wrong(wrong)),
+        Err(error) => Err(RulesFault::Unread(error)),
+    }
+}
+
+// The rules in a file, or what is wrong with them, apart from the errors of reading them.
+fn read_rules<R: AllocGlobal + Files>(rt: &R, path: &str) -> Result<Result<OwnRules, String>> {
     let bytes = fs::read(rt, path)?;
     let text = without_mark(text_of(bytes.as_slice())?);
     match TextRules::try_from_text(rt.alloc(), text) {
         Ok(rules) => with_machine(rt.alloc(), rules),
-        Err(error) => {
-            let fault = with_word(rt.alloc(), text, &error)?;
-            bail!("{fault}")
-        }
+        Err(error) => Ok(Err(with_word(rt.alloc(), text, &error)?)),
     }
 }
 
@@ -121,20 +144,17 @@ fn push_shown(shown: &mut String, character: char) -> Result<(), AllocError> {
     Ok(())
 }
 
-// Rules with their machine. The errors are rules without one, with the line of a rule and a text that show it, and being out of memory.
-fn with_machine(alloc: Global, rules: TextRules) -> Result<OwnRules> {
+// Rules with their machine, or why they have none, with the line of a rule and a text that show it. Fails only when out of memory.
+fn with_machine(alloc: Global, rules: TextRules) -> Result<Result<OwnRules, String>> {
     match rules.compile(alloc) {
-        Ok(machine) => Ok(OwnRules { rules, machine }),
-        Err(error) => {
-            let said = complaint(alloc, &rules, &error)?;
-            bail!("{said}")
-        }
+        Ok(machine) => Ok(Ok(OwnRules { rules, machine })),
+        Err(error) => Ok(Err(complaint(alloc, &rules, &error)?)),
     }
 }
 
-/// The job of rules: texts are cut where they break.
-pub fn job_by(rules: OwnRules, style: Style) -> Job
-    ensures { IsJobByRules (rules_in rules.rules) style result }
+/// The job of rules: texts are cut where they break, and tokens alone are shown or all segments.
+pub fn job_by(rules: OwnRules, tokens: bool, style: Style) -> Job
+    ensures { IsJobByRules (rules_in rules.rules) tokens style result }
 {
     let OwnRules { rules: _, machine } = rules;
     Job {
@@ -142,7 +162,7 @@ pub fn job_by(rules: OwnRules, style: Style) -> Job
             tabs: None,
             joins: false,
         },
-        work: Work::Cut(Segmenter::by_machine(machine), style, Search::Plain),
+        work: Work::Cut(Segmenter::Ruled(machine, tokens), style),
         names_files: false,
     }
 }

@@ -3,7 +3,7 @@ ghost use Rattle.std.specs.Prelude.{◌≡◌, map, IfOk};
 ghost use Rattle.segment.specs.Words.{words_in};
 
 use anyhow::{Result, bail};
-use segment_output::found::line_feeds;
+use segment_text::size::line_feeds;
 use std::alloc::{AllocError, Global};
 
 /// The text that a file's bytes are. The error is ill-formed UTF-8, with its line.

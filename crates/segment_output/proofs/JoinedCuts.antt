@@ -7,7 +7,7 @@ use Rattle.std.specs.List.{flat_map, slice_range}
 use Rattle.json.specs.Print.{print}
 use Rattle.icu_segmenter.specs.Boundary.{Boundary}
 use Rattle.icu_segmenter.specs.Boundaries.{IsCover, RisesTo, shift_all}
-use Rattle.segment_output.specs.Escapes.{escaped}
+use Rattle.segment_text.specs.Escapes.{escaped}
 use Rattle.segment_output.specs.Output.{Look, Segment, is_shown, later, line_at, line_in, line_of, lines_at, lines_of, object_of}
 use Rattle.segment_output.specs.declared.marks.Mark.{Mark}
 use Rattle.segment_output.specs.declared.output.Style.{Style}

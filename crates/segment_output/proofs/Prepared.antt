@@ -10,13 +10,13 @@ use Rattle.std.proofs.lemmas.List.Elements.{filter-append}
 use Rattle.std.proofs.lemmas.List.Sums.{prefix_len-le-length, suffix_len-le-length}
 use Rattle.icu_segmenter.specs.NearBoundaries.{line_feed}
 use Rattle.icu_segmenter.specs.Wrapping.{bytes_columns}
-use Rattle.segment_output.specs.Joined.{behind_space, is_apart, is_white_space, joined, joined_after, joined_space, line_behind, space_of}
+use Rattle.segment_text.specs.Joined.{behind_space, is_apart, is_white_space, joined, joined_after, joined_space, line_behind, space_of}
 use Rattle.segment_output.specs.Parts.{AreLines, AreParagraphs, AreWhole, is_blank}
-use Rattle.segment_output.specs.Preparation.{prepared}
-use Rattle.segment_output.specs.Size.{line_feeds}
-use Rattle.segment_output.specs.Tabs.{expanded, expanded_after, tab_spaces}
-use Rattle.segment_output.specs.declared.preparation.Preparation.{Preparation}
-use Rattle.segment_output.proofs.Words.{spaced}
+use Rattle.segment_text.specs.Preparation.{prepared}
+use Rattle.segment_text.specs.Size.{line_feeds}
+use Rattle.segment_text.specs.Tabs.{expanded, expanded_after, tab_spaces}
+use Rattle.segment_text.specs.declared.preparation.Preparation.{Preparation}
+use Rattle.segment_text.proofs.Words.{spaced}
 
 -- ---- tabs
 

@@ -20,9 +20,9 @@ use Rattle.segment_output.specs.Fault.{IsReadFault}
 use Rattle.segment_output.specs.Output.{Look, Segment, is_shown, lines_at, lines_of, segment_between, segments}
 use Rattle.segment_output.specs.Parts.{AreLines, AreParagraphs, AreWhole, IsAdded, IsBegun, IsPartWritten, MayBeSplit, boundaries_for, count_for, found_for, is_blank, look_by, output_for, printed_behind, text_for}
 use Rattle.segment_output.specs.Segmenter.{boundaries_by, has_words_alone, mark_by, segments_by}
-use Rattle.segment_output.specs.Size.{both_sizes, size_of}
+use Rattle.segment_text.specs.Size.{both_sizes, size_of}
 use Rattle.segment_output.specs.declared.fault.Fault.{Fault}
-use Rattle.segment_output.specs.declared.found.Size.{Size}
+use Rattle.segment_text.specs.declared.size.Size.{Size}
 use Rattle.segment_output.specs.declared.found.Tally.{Tally}
 use Rattle.segment_output.specs.declared.marks.Mark.{Mark}
 use Rattle.segment_output.specs.declared.parts.Printing.{Printing}
@@ -278,11 +278,11 @@ module _ (splitting : Splitting) (splits : MayBeSplit splitting.printing) where
     -- the last read gives nothing
     pub all-found : (from mid now : Option (List ℕ)) (read : List ℕ) (before after : Progress) (old out new : O) (r : Result Tally Fault) → IsUnderWay splitting contents from mid before old out
         → Consumes mid now read → read ≡ [] → IsAtEnd now
-        → IfOk r (λ tally. (tally.found.segments ≡ after.segments) × (tally.found.lookups ≡ 0) × (tally.size ≡ after.size) × IsPartWritten splitting before.held.items before after (contents out) (contents new))
-        → IfOk r (λ tally. IfSome from (λ bytes. (tally.found.segments ≡ found_for splitting bytes) × (tally.found.lookups ≡ 0) × (tally.size ≡ size_of bytes)
+        → IfOk r (λ tally. (tally.segments ≡ after.segments) × (tally.size ≡ after.size) × IsPartWritten splitting before.held.items before after (contents out) (contents new))
+        → IfOk r (λ tally. IfSome from (λ bytes. (tally.segments ≡ found_for splitting bytes) × (tally.size ≡ size_of bytes)
         × Appends (contents old) (contents new) (output_for splitting bytes)))
     all-found from mid now read before after old out new (Err fault) way more none end printed = tt
-    all-found from mid now read before after old out new (Ok tally) (done, taken, cut) more none end (count, lookups, size, written) =
+    all-found from mid now read before after old out new (Ok tally) (done, taken, cut) more none end (count, size, written) =
         counted from (all-written from now before after old out new (done, all, cut) end written)
       where
         all : Consumes from now (done ++ before.held.items)
@@ -291,10 +291,10 @@ module _ (splitting : Splitting) (splits : MayBeSplit splitting.printing) where
 
         counted : (from : Option (List ℕ))
             → IfSome from (λ bytes. (after.segments ≡ found_for splitting bytes) × (after.size ≡ size_of bytes) × Appends (contents old) (contents new) (output_for splitting bytes))
-            → IfSome from (λ bytes. (tally.found.segments ≡ found_for splitting bytes) × (tally.found.lookups ≡ 0) × (tally.size ≡ size_of bytes)
+            → IfSome from (λ bytes. (tally.segments ≡ found_for splitting bytes) × (tally.size ≡ size_of bytes)
             × Appends (contents old) (contents new) (output_for splitting bytes))
         counted None is = tt
-        counted (Some bytes) (is, large, appends) = (count ∙ is, lookups, size ∙ large, appends)
+        counted (Some bytes) (is, large, appends) = (count ∙ is, size ∙ large, appends)
 
     -- the reader fails, or memory for what it gave runs out
     pub begun : (from mid now : Option (List ℕ)) (more : List ℕ) (progress : Progress) (old out new : O) → IsUnderWay splitting contents from mid progress old out → Consumes mid now more → new ≡ out

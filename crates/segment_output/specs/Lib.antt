@@ -1,15 +1,9 @@
-pub mod Escapes
 pub mod Fault
 pub mod Gathered
-pub mod Joined
-pub mod Memo
 pub mod Objects
 pub mod Output
 pub mod Parts
-pub mod Preparation
 pub mod Segmenter
-pub mod Size
 pub mod Stretch
-pub mod Tabs
 pub mod Wrapped
 pub mod Wrapper

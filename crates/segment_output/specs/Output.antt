@@ -8,10 +8,10 @@ use Rattle.json.specs.Token.{Token, begin_object, end_object, key, string, numbe
 use Rattle.icu_segmenter.specs.WordRules.{is_word_like}
 use Rattle.icu_segmenter.specs.declared.options.WordType.{WordType}
 use Rattle.icu_segmenter.specs.declared.options.WordType.TheVariants as word
-use Rattle.segment_output.specs.Escapes.{escaped}
+use Rattle.segment_text.specs.Escapes.{escaped}
 use Rattle.segment_output.specs.declared.marks.Mark.{Mark}
-use Rattle.segment_output.specs.declared.marks.Mark.TheVariants.{Unmarked, Word, Line}
-use Rattle.segment_output.specs.declared.found.Size.{Size}
+use Rattle.segment_output.specs.declared.marks.Mark.TheVariants.{Unmarked, Word, Line, Rule}
+use Rattle.segment_text.specs.declared.size.Size.{Size}
 use Rattle.segment_output.specs.declared.output.Numbers.{Numbers}
 use Rattle.segment_output.specs.declared.output.Part.{Part}
 use Rattle.segment_output.specs.declared.output.Style.{Style}
@@ -23,11 +23,12 @@ pub record Segment : Type 0 where
   pub to : ℕ
   pub mark : Mark
 
--- is it a word
+-- is it a word, or by rules of the caller's own what ends at a boundary without status 1
 abbrev pub is_word : Mark → Bool
 is_word Unmarked = false
 is_word (Word kind) = is_word_like kind
 is_word (Line is_mandatory) = false
+is_word (Rule is_marked) = not is_marked
 
 -- is it shown: all are, or words alone
 abbrev pub is_shown : Bool → Mark → Bool
@@ -48,11 +49,12 @@ type_word word.None = codes "none"
 type_word word.Number = codes "number"
 type_word word.Letter = codes "letter"
 
--- what is said of a segment: of words their type, and of lines whether the line must end there
+-- what is said of a segment: of words their type, of lines whether the line must end there, and by rules of the caller's own a status
 abbrev pub mark_tokens : Mark → List Token
 mark_tokens Unmarked = []
 mark_tokens (Word kind) = key (codes "type") ∷ string (type_word kind) ∷ []
 mark_tokens (Line is_mandatory) = key (codes "mandatory") ∷ boolean is_mandatory ∷ []
+mark_tokens (Rule is_marked) = key (codes "status") ∷ number (decimal (if is_marked then 1 else 0)) ∷ []
 
 -- the name of the file that a text is in, where it is said
 abbrev pub file_tokens : Option (List ℕ) → List Token

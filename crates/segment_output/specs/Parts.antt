@@ -11,9 +11,9 @@ use Rattle.icu_segmenter.specs.LineBreaks.{line_boundaries_of}
 use Rattle.icu_segmenter.specs.NearBoundaries.{line_feed}
 use Rattle.icu_segmenter.specs.Rules.{PartsBehind}
 use Rattle.segment_output.specs.Output.{Look, lines_at}
-use Rattle.segment_output.specs.Preparation.{prepared}
+use Rattle.segment_text.specs.Preparation.{prepared}
 use Rattle.segment_output.specs.Segmenter.{boundaries_by, segments_by}
-use Rattle.segment_output.specs.Size.{both_sizes, size_of}
+use Rattle.segment_text.specs.Size.{both_sizes, size_of}
 use Rattle.segment_output.specs.Wrapped.{wrapped_output, EndsLines}
 use Rattle.segment_output.specs.Wrapper.{wrapping_of}
 use Rattle.segment_output.specs.declared.output.Style.{Style}

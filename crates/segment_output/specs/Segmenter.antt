@@ -5,6 +5,7 @@ use Rattle.icu_segmenter.specs.Boundaries.{boundaries_in}
 use Rattle.icu_segmenter.specs.Boundary.{Boundary}
 use Rattle.icu_segmenter.specs.Clusters.{owned_cluster_rules, owned_sentence_rules}
 use Rattle.icu_segmenter.specs.LineBreaks.{LineRules, line_boundaries_of, table_lines, turn_lines, lines_with_words}
+use Rattle.icu_segmenter.specs.LineBreaks.LineFinder.{ByClusters}
 use Rattle.icu_segmenter.specs.LineRules.{style_of}
 use Rattle.icu_segmenter.specs.Lines.{chosen_rules, owned_line_rules, without_ja}
 use Rattle.icu_segmenter.specs.Machine.{Machine}
@@ -31,9 +32,9 @@ use Rattle.segment_output.specs.declared.segmenter.Engine.TheVariants as engine
 use Rattle.segment_output.specs.declared.segmenter.Kind.{Kind}
 use Rattle.segment_output.specs.declared.segmenter.Kind.TheVariants as kind
 use Rattle.segment_output.specs.declared.marks.Mark.{Mark}
-use Rattle.segment_output.specs.declared.marks.Mark.TheVariants.{Unmarked, Word, Line}
+use Rattle.segment_output.specs.declared.marks.Mark.TheVariants.{Unmarked, Word, Line, Rule}
 use Rattle.segment_output.specs.declared.segmenter.Segmenter.{Segmenter}
-use Rattle.segment_output.specs.declared.segmenter.Segmenter.TheVariants.{Clusters, Words, Sentences, Suppressing, Lines}
+use Rattle.segment_output.specs.declared.segmenter.Segmenter.TheVariants.{Clusters, Words, Sentences, Suppressing, Lines, Ruled}
 
 -- how sentences are found in a list of code points by some rules, where they go on after abbreviations
 abbrev pub suppressed_finder : Rules → WordSet → List ℕ → List Boundary
@@ -46,26 +47,29 @@ boundaries_by (Words words alone) bytes = word_boundaries_of (owned_word_rules w
 boundaries_by (Sentences sentences) bytes = boundaries_of (owned_sentence_rules sentences) (utf8 bytes)
 boundaries_by (Suppressing sentences abbreviations) bytes = boundaries_in (suppressed_finder (owned_sentence_rules sentences) (abbreviations_of abbreviations)) (utf8 bytes)
 boundaries_by (Lines lines) bytes = line_boundaries_of (owned_line_rules lines) (utf8 bytes)
+boundaries_by (Ruled machine alone) bytes = boundaries_of (ByMachine machine) (utf8 bytes)
 
--- what their statuses say of the segments that end there: of words their type, of lines whether a line must end there, and of others nothing
+-- what their statuses say of the segments that end there: of words their type, of lines whether a line must end there, by rules of the caller's
+-- own whether they are 1, and of others nothing
 abbrev pub mark_by : Segmenter → ℕ → Mark
 mark_by (Words words alone) = λ status. Word (type_of status)
 mark_by (Lines lines) = λ status. Line (status == 1)
+mark_by (Ruled machine alone) = λ status. Rule (status == 1)
 mark_by segmenter = λ status. Unmarked
 
--- are words alone shown
+-- are words alone shown, or by rules of the caller's own what ends at boundaries without status 1
 abbrev pub has_words_alone : Segmenter → Bool
 has_words_alone (Words words alone) = alone
+has_words_alone (Ruled machine alone) = alone
 has_words_alone segmenter = false
 
 -- the segments of such bytes
 abbrev pub segments_by : Segmenter → List ℕ → List Segment
 segments_by segmenter bytes = segments (has_words_alone segmenter) (marked (mark_by segmenter) (boundaries_by segmenter bytes))
 
--- a segmenter's boundaries are those of a machine; nothing is said of its segments, and all are shown
-abbrev pub IsByMachine : Machine → Segmenter → Type 0
-IsByMachine machine (Clusters clusters) = owned_cluster_rules clusters ≡ ByMachine machine
-IsByMachine machine segmenter = ⊥
+-- where a line may end anywhere: at each boundary of a machine, with its status
+abbrev pub anywhere_by : Machine → LineRules
+anywhere_by machine = record { finder = ByClusters; payloads = record { words = no_words; clusters = ByMachine machine } }
 
 -- ---- the rules of each engine, over Unicode's data
 
@@ -73,27 +77,23 @@ abbrev pub cluster_rules_by : Engine → Rules
 cluster_rules_by engine.Neo = ByMachine cluster_machine
 cluster_rules_by engine.Classic = ByTable cluster_table None
 cluster_rules_by engine.Seventeen = ByTable cluster_table None
-cluster_rules_by engine.Memo = ByMachine cluster_machine
 
 abbrev pub sentence_rules_by : Engine → Rules
 sentence_rules_by engine.Neo = ByMachine sentence_machine
 sentence_rules_by engine.Classic = ByTable sentence_table None
 sentence_rules_by engine.Seventeen = ByTable sentence_table None
-sentence_rules_by engine.Memo = ByMachine sentence_machine
 
 -- with the words of scripts
 abbrev pub word_rules_by : Engine → ScriptWords → WordRules
 word_rules_by engine.Neo words = machine_words typed_word_machine cluster_table words
 word_rules_by engine.Classic words = table_words word_table None cluster_table words
 word_rules_by engine.Seventeen words = table_words word_table None cluster_table words
-word_rules_by engine.Memo words = machine_words typed_word_machine cluster_table words
 
 -- as options choose them
 abbrev pub line_rules_of : Engine → LineBreakOptions → LineRules
 line_rules_of engine.Neo options = chosen_rules line_machine line_tailorings cluster_machine (machine_choice options)
 line_rules_of engine.Classic options = table_lines (record { table = line_table; style = style_of options }) cluster_table no_words
 line_rules_of engine.Seventeen options = turn_lines (record { table = line_17_table; style = style_of options }) cluster_table no_words
-line_rules_of engine.Memo options = chosen_rules line_machine line_tailorings cluster_machine (machine_choice options)
 
 abbrev pub line_rules_by : Engine → LineBreakOptions → ScriptWords → LineRules
 line_rules_by engine options words = lines_with_words (line_rules_of engine options) (without_ja words)
@@ -107,3 +107,4 @@ IsAskedOf asked engine options words abbreviations (Sentences sentences) =
 IsAskedOf asked engine options words abbreviations (Suppressing sentences known) =
     (asked ≡ kind.Sentences) × (abbreviations ≡ Some (abbreviations_of known)) × (owned_sentence_rules sentences ≡ sentence_rules_by engine)
 IsAskedOf asked engine options words abbreviations (Lines lines) = (asked ≡ kind.Lines) × (owned_line_rules lines ≡ line_rules_by engine options words)
+IsAskedOf asked engine options words abbreviations (Ruled machine alone) = ⊥

@@ -1,6 +1,6 @@
 -- Stretches of a text in which each segment is written as it stands.
 use Rattle.std.specs.Prelude.{◌≡◌, ℕ, ◌+◌, ◌<◌, ◌≤◌, true, Option, List, [], ◌∷◌, ◌++◌, length, slice_index_or}
-use Rattle.segment_output.specs.Escapes.{is_plain}
+use Rattle.segment_text.specs.Escapes.{is_plain}
 use Rattle.segment_output.specs.Output.{Segment, line_in, units_of}
 use Rattle.segment_output.specs.declared.output.Style.{Style}
 use Rattle.segment_output.specs.declared.stretch.Stretch.{Stretch}

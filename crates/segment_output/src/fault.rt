@@ -1,7 +1,6 @@
 //! What ends a run early.
-ghost use Rattle.segment_output.specs.Fault.{IsBeforeWriting, IsReadFault};
+ghost use Rattle.segment_output.specs.Fault.{IsReadFault};
 
-use icu_segmenter::memo::MemoError;
 use std::io;
 use std::io::ErrorKind;
 
@@ -12,8 +11,6 @@ pub enum Fault {
     Read(io::Error),
     /// Out of memory before anything of what was read is written.
     MemoryBefore,
-    /// The memoised engine can't be had for the text.
-    Memo(MemoError),
     /// The output took not all.
     Write(io::Error),
     /// Out of memory while what was read is written, or more segments, lines or bytes than a `usize` counts.
@@ -33,8 +30,7 @@ impl Fault {
 
     /// What an error of writing means, or of the memory that it takes.
     pub fn of_writing(error: io::Error) -> Fault
-        ensures unread { IsReadFault result → ⊥ }
-        ensures late { IsBeforeWriting result → ⊥ }
+        ensures { IsReadFault result → ⊥ }
     {
         match error.kind() {
             ErrorKind::OutOfMemory => Fault::MemoryAmid,

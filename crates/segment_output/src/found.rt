@@ -1,62 +1,11 @@
-//! What was found of a text, and how large it is.
-ghost use Rattle.std.specs.Prelude.{◌≡◌, ◌≤◌, IfSome, length};
-ghost use Rattle.segment_output.specs.Size.{both_sizes, line_feeds, size_of};
+//! What was found of a text.
+use segment_text::size::Size;
 
-use memchr::memchr_iter;
-
-/// What was found of a text.
-#[derive(Clone, Copy, Debug, PartialEq, Eq)]
-pub struct Found {
-    /// How many segments; 0 where lines are wrapped.
-    pub segments: usize,
-    /// By how many look-ups of transitions; 0 by the engine that doesn't count them.
-    pub lookups: usize,
-}
-
-/// How large a text is.
-#[derive(Clone, Copy, Debug, PartialEq, Eq)]
-pub struct Size {
-    /// Its line feeds.
-    pub lines: usize,
-    /// Its bytes.
-    pub bytes: usize,
-}
-
-/// What was found of a text that was read, and how large it is.
+/// What was found of a text, and how large it is.
 #[derive(Clone, Copy, Debug, PartialEq, Eq)]
 pub struct Tally {
-    /// What was found.
-    pub found: Found,
+    /// How many segments; 0 where lines are wrapped.
+    pub segments: usize,
     /// How large the text is.
     pub size: Size,
-}
-
-impl Size {
-    /// That of a text.
-    pub fn of(text: &[u8]) -> Self
-        ensures { result ≡ size_of text.now }
-    {
-        Size {
-            lines: line_feeds(text),
-            bytes: text.len(),
-        }
-    }
-
-    /// That of a text and of another behind it. None where no `usize` counts it.
-    pub fn checked_add(self, other: Size) -> Option<Self>
-        ensures { IfSome result (λ both. both ≡ both_sizes self other) }
-    {
-        let lines = self.lines.checked_add(other.lines)?;
-        let bytes = self.bytes.checked_add(other.bytes)?;
-        Some(Size { lines, bytes })
-    }
-}
-
-/// How many line feeds a text has.
-pub fn line_feeds(text: &[u8]) -> usize
-    ensures value { result ≡ line_feeds text.now }
-    ensures most { result ≤ length text.now }
-{
-    // Line feeds are few, so each is searched for: `Memchr::count` would look at every byte.
-    Iterator::count(memchr_iter(b'\n', text))
 }

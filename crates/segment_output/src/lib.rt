@@ -2,20 +2,16 @@
 //! and its wrapped lines.
 #![tactic(auto)]
 
-mod escapes;
 pub mod fault;
 pub mod found;
-pub mod joined;
 mod machine_lines;
 pub mod marks;
-pub mod memo;
 mod objects;
 pub mod output;
 pub mod parts;
-pub mod preparation;
 pub mod segmenter;
+mod short_object;
 mod stretch;
-pub mod tabs;
 pub mod vocabulary;
 mod wrapped;
 pub mod wrapper;

@@ -37,7 +37,7 @@ impl MachineLines {
     ghost use Rattle.segment_output.specs.Segmenter.{line_rules_by};
     ghost use Rattle.segment_output.specs.Wrapped.{measure_by};
 
-    /// That of Unicode's data, with these options and dictionaries. Fails only when out of memory.
+    /// The segmenter of lines by Unicode's machine, with these options and dictionaries. Fails only when out of memory.
     pub fn try_new(
         alloc: Global,
         options: LineBreakOptions<'_>,

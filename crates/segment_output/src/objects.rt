@@ -1,12 +1,12 @@
 //! Segments as objects of JSON.
-ghost use Rattle.std.specs.Prelude.{◌≡◌, ◌++◌, ◌∷◌, [], codes, decimal, option_map, true, IfSome, IsTrue, OnOk};
+ghost use Rattle.std.specs.Prelude.{◌≡◌, ◌≤◌, ◌++◌, ◌∷◌, [], codes, decimal, length, option_map, true, IfSome, IsTrue, OnOk};
 ghost use Rattle.std.specs.List.{list_all};
 ghost use Rattle.std.specs.Str.Lossy.{utf8_lossy};
 ghost use Rattle.json.specs.Print.{print, print_from};
 ghost use Rattle.json.specs.Token.{end_object, key, number, string};
 ghost use Rattle.segment_output.specs.Objects.{Adds, AreBare, is_bare, opening};
 ghost use Rattle.segment_output.specs.Output.{file_tokens, mark_tokens, object_of, type_word};
-ghost use Rattle.segment_output.specs.declared.marks.Mark.TheVariants.{Word, Line};
+ghost use Rattle.segment_output.specs.declared.marks.Mark.TheVariants.{Word, Line, Rule};
 
 use crate::marks::Mark;
 use crate::output::push_digits;
@@ -42,10 +42,13 @@ pub fn push_object(
     }
 }
 
-// Whether a text is well-formed, and nothing in it is escaped in a string.
-fn is_bare_text(text: &[u8]) -> bool
+/// Whether a text is well-formed, and nothing in it is escaped in a string.
+pub fn is_bare_text(text: &[u8]) -> bool
     ensures { IsTrue result → AreBare text.now }
 {
+    if text.is_ascii() {
+        return are_bare(text);
+    }
     match str::from_utf8(text) {
         Ok(_) => are_bare(text),
         Err(_) => false,
@@ -111,19 +114,22 @@ fn push_opening(file: Option<&str>, lines: &mut Vec<u8>) -> Result<(), AllocErro
     }
 }
 
-// How an object ends behind its places.
-fn ending(mark: Mark) -> &'static [u8]
-    ensures { result.now ≡ print_from true (mark_tokens mark ++ end_object ∷ []) }
+/// How an object ends behind its places.
+pub fn ending(mark: Mark) -> &'static [u8]
+    ensures most { length result.now ≤ 19 }
+    ensures value { result.now ≡ print_from true (mark_tokens mark ++ end_object ∷ []) }
 {
     match mark {
         Mark::Unmarked => b"}",
         Mark::Word(kind) => word_ending(kind),
         Mark::Line(is_mandatory) => line_ending(is_mandatory),
+        Mark::Rule(is_marked) => rule_ending(is_marked),
     }
 }
 
 fn word_ending(kind: WordType) -> &'static [u8]
-    ensures { result.now ≡ print_from true (mark_tokens (Word kind) ++ end_object ∷ []) }
+    ensures most { length result.now ≤ 19 }
+    ensures value { result.now ≡ print_from true (mark_tokens (Word kind) ++ end_object ∷ []) }
 {
     match kind {
         WordType::None => b",\"type\":\"none\"}",
@@ -133,12 +139,24 @@ fn word_ending(kind: WordType) -> &'static [u8]
 }
 
 fn line_ending(is_mandatory: bool) -> &'static [u8]
-    ensures { result.now ≡ print_from true (mark_tokens (Line is_mandatory) ++ end_object ∷ []) }
+    ensures most { length result.now ≤ 19 }
+    ensures value { result.now ≡ print_from true (mark_tokens (Line is_mandatory) ++ end_object ∷ []) }
 {
     if is_mandatory {
         b",\"mandatory\":true}"
     } else {
         b",\"mandatory\":false}"
+    }
+}
+
+fn rule_ending(is_marked: bool) -> &'static [u8]
+    ensures most { length result.now ≤ 19 }
+    ensures value { result.now ≡ print_from true (mark_tokens (Rule is_marked) ++ end_object ∷ []) }
+{
+    if is_marked {
+        b",\"status\":1}"
+    } else {
+        b",\"status\":0}"
     }
 }
 
@@ -207,6 +225,7 @@ fn push_mark(mark: Mark, object: &mut Writer) -> Result<(), AllocError>
             object.key("mandatory")?;
             object.boolean(is_mandatory)
         }
+        Mark::Rule(is_marked) => push_place("status", usize::from(is_marked), object),
     }
 }
 

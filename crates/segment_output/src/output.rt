@@ -1,5 +1,5 @@
 //! How segments are written.
-ghost use Rattle.std.specs.Prelude.{◌≡◌, ◌≢◌, ◌+◌, ◌++◌, ◌∷◌, [], ℕ, false, List, None, length, decimal, option_map, IfOk, OnOk};
+ghost use Rattle.std.specs.Prelude.{◌≡◌, ◌≢◌, ◌+◌, ◌++◌, ◌∷◌, [], ℕ, false, List, None, length, decimal, option_map, IfOk, IsTrue, OnOk};
 ghost use Rattle.std.specs.Io.KnownBytes.{Appends};
 ghost use Rattle.std.specs.Iterator.{IsFinite, YieldsThen};
 ghost use Rattle.std.specs.List.{slice_range};
@@ -9,11 +9,12 @@ ghost use Rattle.segment_output.specs.Stretch.{IsStretch};
 ghost use Rattle.segment_output.specs.declared.marks.Mark.{Mark};
 ghost use Rattle.segment_output.specs.declared.output.Style.TheVariants.{Json};
 
-use crate::escapes::push_escaped;
 use crate::found::Tally;
 use crate::marks::Mark;
 use crate::objects::{Said, push_object};
+use crate::short_object::{put_object, short_text};
 use crate::stretch::{Stretch, push_short, stretch_after};
+use segment_text::escapes::push_escaped;
 use std::alloc::{AllocError, Global};
 use std::io;
 use std::io::Write;
@@ -110,7 +111,7 @@ pub fn print_segments<N: Iterator<Item = (usize, Mark)>, O: Write>(
             let segment = Segment { start, end, mark };
             match part.style {
                 Style::Counted(_) => {}
-                _ => push_long(part, segment, &mut stretch, &mut lines, out)?,
+                _ => push_apart(part, segment, &mut stretch, &mut lines, out)?,
             }
         } else {
             has_begun = true;
@@ -136,6 +137,51 @@ struct Segment {
     start: usize,
     end: usize,
     mark: Mark,
+}
+
+// Adds the line of a segment, and writes what was gathered before, where it is much; an object that is short at once. The errors are the
+// writer's, and being out of memory.
+#[inline(always)]
+fn push_apart<O: Write>(
+    part: Part<'_>,
+    segment: Segment,
+    stretch: &mut Stretch,
+    lines: &mut Vec<u8>,
+    out: &mut O,
+) -> io::Result<()>
+    requires { IsStretch part.style part.bytes.now stretch.old }
+    ensures stretch { OnOk result (IsStretch part.entry.style part.entry.bytes.now stretch.new) }
+    ensures lines { OnOk result (AreGathered (O.contents out.old) (O.contents out.new) lines.new.items
+        (lines.old.items ++ line_at (look_of part.entry) part.entry.before part.entry.bytes.now (record { from = segment.start; to = segment.end; mark = segment.mark }))) }
+{
+    if let Style::Json = part.style {
+        if push_short_object(part, segment, lines) {
+            return Ok(());
+        }
+    }
+    push_long(part, segment, stretch, lines, out)
+}
+
+// Adds the line of a segment as an object, where it is a short one and there is room for it.
+#[inline(never)]
+fn push_short_object(part: Part<'_>, segment: Segment, lines: &mut Vec<u8>) -> bool
+    requires { part.style ≡ Json }
+    ensures short { IsTrue result → lines.new.items ≡ lines.old.items ++ line_at (look_of part.entry) part.entry.before part.entry.bytes.now (record { from = segment.start; to = segment.end; mark = segment.mark }) }
+    ensures long { result ≡ false → lines.new.items ≡ lines.old.items }
+{
+    if part.file.is_some() {
+        return false;
+    }
+    let Ok(start) = later(part.before, segment.start) else {
+        return false;
+    };
+    let Ok(end) = later(part.before, segment.end) else {
+        return false;
+    };
+    match short_text(part.bytes, segment.start, segment.end) {
+        Some(text) => put_object(text, start, end, segment.mark, lines),
+        None => false,
+    }
 }
 
 // Adds the line of a segment, and writes what was gathered before, where it is much. The errors are the writer's, and being out of memory.
@@ -197,7 +243,7 @@ pub fn write_count<O: Write>(
     name: Option<&str>,
     out: &mut O,
 ) -> io::Result<()>
-    ensures { OnOk result (Appends (O.contents out.old) (O.contents out.new) (count_line numbers tally.found.segments tally.size (option_map (λ name. name.now) name.entry))) }
+    ensures { OnOk result (Appends (O.contents out.old) (O.contents out.new) (count_line numbers tally.segments tally.size (option_map (λ name. name.now) name.entry))) }
 {
     let mut line = Vec::new(alloc);
     push_counts(numbers, tally, &mut line)?;
@@ -208,9 +254,9 @@ pub fn write_count<O: Write>(
 
 // Adds how many segments there are, and the numbers beside.
 fn push_counts(numbers: Numbers, tally: Tally, line: &mut Vec<u8>) -> Result<(), AllocError>
-    ensures { OnOk result (line.new.items ≡ line.old.items ++ counts numbers tally.found.segments tally.size) }
+    ensures { OnOk result (line.new.items ≡ line.old.items ++ counts numbers tally.segments tally.size) }
 {
-    push_digits(tally.found.segments, line)?;
+    push_digits(tally.segments, line)?;
     push_beside(numbers.lines, tally.size.lines, line)?;
     push_beside(numbers.bytes, tally.size.bytes, line)
 }

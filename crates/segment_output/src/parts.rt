@@ -6,15 +6,16 @@ ghost use Rattle.std.specs.Io.KnownBytes.{Appends, Consumes, IsAtEnd, Keeps, Rea
 ghost use Rattle.icu_segmenter.specs.Boundaries.{IsCover};
 ghost use Rattle.segment_output.specs.Fault.{IsReadFault};
 ghost use Rattle.segment_output.specs.Parts.{AreLines, AreParagraphs, AreWhole, IsAdded, IsBegun, IsPartWritten, MayBeSplit, boundaries_for, count_for, found_for, is_blank, output_for, printed_behind};
-ghost use Rattle.segment_output.specs.Size.{both_sizes, size_of};
+ghost use Rattle.segment_text.specs.Size.{both_sizes, size_of};
 
 use crate::fault::Fault;
-use crate::found::{Found, Size, Tally};
+use crate::found::Tally;
 use crate::output::{Part, Style};
-use crate::preparation::Preparation;
 use crate::segmenter::Segmenter;
 use crate::wrapper::Wrapper;
 use memchr::memrchr;
+use segment_text::preparation::Preparation;
+use segment_text::size::Size;
 use std::alloc::Global;
 use std::io::{ErrorKind, Read, Write};
 use std::{io, mem};
@@ -117,7 +118,7 @@ pub fn print_parts<I: Read, O: Write>(
     requires { MayBeSplit splitting.printing }
     ensures read_all { OnOk result (IsAtEnd (I.remaining input.new)) }
     ensures written { IfOk result (λ tally. IfSome (I.remaining input.old) (λ bytes.
-        (tally.found.segments ≡ found_for splitting.entry bytes) × (tally.found.lookups ≡ 0) × (tally.size ≡ size_of bytes)
+        (tally.segments ≡ found_for splitting.entry bytes) × (tally.size ≡ size_of bytes)
         × Appends (O.contents out.old) (O.contents out.new) (output_for splitting.entry bytes))) }
     ensures begun { IfErr result (λ fault. IsReadFault fault → (out.new ≡ out.old)
         ⊎ IsBegun splitting.entry (I.remaining input.old) (I.remaining input.new) (O.contents out.old) (O.contents out.new)) }
@@ -255,19 +256,15 @@ fn print_last<O: Write>(
     progress: &mut Progress,
     out: &mut O,
 ) -> Result<Tally, Fault>
-    ensures written { IfOk result (λ tally. (tally.found.segments ≡ progress.new.segments) × (tally.found.lookups ≡ 0) × (tally.size ≡ progress.new.size)
+    ensures written { IfOk result (λ tally. (tally.segments ≡ progress.new.segments) × (tally.size ≡ progress.new.size)
         × IsPartWritten splitting.entry progress.old.held.items progress.old progress.new (O.contents out.old) (O.contents out.new)) }
     ensures unwritten { IfErr result (λ fault. IsReadFault fault → out.new ≡ out.old) }
 {
     let nothing = Vec::new(*progress.held.allocator());
     let part = mem::replace(&mut progress.held, nothing);
     print_part(splitting, part, progress, out)?;
-    let found = Found {
-        segments: progress.segments,
-        lookups: 0,
-    };
     Ok(Tally {
-        found,
+        segments: progress.segments,
         size: progress.size,
     })
 }

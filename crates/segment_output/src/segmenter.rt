@@ -6,24 +6,30 @@ ghost use Rattle.segment_output.specs.Output.{lines_at, look_of, segments};
 ghost use Rattle.icu_segmenter.specs.Abbreviations.{abbreviations_of};
 ghost use Rattle.icu_segmenter.specs.Boundaries.{IsCover};
 ghost use Rattle.icu_segmenter.specs.Clusters.{owned_cluster_rules, owned_sentence_rules};
-ghost use Rattle.icu_segmenter.specs.Lines.{owned_line_rules};
+ghost use Rattle.icu_segmenter.specs.Lines.{line_rules, owned_line_rules};
 ghost use Rattle.icu_segmenter.specs.NearBoundaries.{line_feed};
 ghost use Rattle.icu_segmenter.specs.Rules.{PartsBehind};
 ghost use Rattle.icu_segmenter.specs.ScriptWords.{script_words};
 ghost use Rattle.icu_segmenter.specs.Suppressing.{suppressing_finder};
 ghost use Rattle.icu_segmenter.specs.TextSegments.{marked};
 ghost use Rattle.icu_segmenter.specs.Words.{owned_word_rules};
-ghost use Rattle.segment_output.specs.Segmenter.{boundaries_by, cluster_rules_by, line_rules_by, line_rules_of, segments_by, sentence_rules_by, suppressed_finder, word_rules_by, IsAskedOf, IsByMachine};
+ghost use Rattle.segment_output.specs.Segmenter.{anywhere_by, boundaries_by, cluster_rules_by, line_rules_by, line_rules_of, segments_by, sentence_rules_by, suppressed_finder, word_rules_by, IsAskedOf};
+ghost use Rattle.segment_output.specs.declared.marks.Mark.TheVariants.{Rule};
 
-use crate::marks::{Bare, HasMark, Marked};
+use crate::marks::{Bare, HasMark, Marked, Ruled};
 use crate::output::{Part, print_segments};
 use crate::vocabulary::Vocabulary;
 use icu_segmenter::cursor::{Segmenter as Cursor, SegmenterOf};
-use icu_segmenter::options::LineBreakOptions;
-use icu_segmenter::provider::{DataError, Dictionaries, SegmenterStateMachine};
+use icu_segmenter::options::{LineBreakOptions, LineBreakStrictness};
+use icu_segmenter::provider::{
+    DataError, Dictionaries, LineTailoringsBorrowed, SegmenterStateMachine,
+};
 use icu_segmenter::segments::BreakIterator;
 use icu_segmenter::suppress::{Abbreviations, SuppressingSegmenter};
-use icu_segmenter::{GraphemeClusterSegmenter, LineSegmenter, SentenceSegmenter, WordSegmenter};
+use icu_segmenter::{
+    GraphemeClusterSegmenter, LineSegmenter, LineSegmenterBorrowed, SentenceSegmenter,
+    WordSegmenter,
+};
 use icu_segmenter_data::classic;
 use std::alloc::Global;
 use std::io;
@@ -54,8 +60,6 @@ pub enum Engine {
     Classic,
     /// A pair table, and of lines that of the rules of the engine 17.
     Seventeen,
-    /// The state machine, of which no configuration is looked up twice.
-    Memo,
 }
 
 /// A segmenter with data of its own.
@@ -71,6 +75,8 @@ pub enum Segmenter {
     Suppressing(SentenceSegmenter, Abbreviations),
     /// Of lines.
     Lines(LineSegmenter),
+    /// Of what a machine of the caller's own finds, and whether that is shown alone which ends at a boundary without status 1.
+    Ruled(SegmenterStateMachine, bool),
 }
 
 impl Segmenter {
@@ -106,6 +112,10 @@ impl Segmenter {
                 let places = lines.as_borrowed().segment_utf8(part.bytes);
                 print_breaks(alloc, places, false, part, out)
             }
+            Segmenter::Ruled(machine, alone) => {
+                let places = anywhere(machine).segment_utf8(part.bytes);
+                print_ruled(alloc, places, *alone, part, out)
+            }
         }
     }
 }
@@ -127,7 +137,7 @@ fn print_breaks<M: HasMark, B: BreakIterator<Mark = M>, O: Write>(
     print_segments(alloc, &mut places, alone, part, out)
 }
 
-// The same of words, whose types are worked out only where they are asked for.
+// Writes the segments between the boundaries of words that come, or words alone. Their types are worked out only where they are asked for.
 #[inline(always)]
 fn print_words<M: HasMark, B: BreakIterator<Mark = M>, O: Write>(
     alloc: Global,
@@ -147,6 +157,23 @@ fn print_words<M: HasMark, B: BreakIterator<Mark = M>, O: Write>(
     print_segments(alloc, &mut places, false, part, out)
 }
 
+// Writes the segments between the boundaries that come by rules of the caller's own, or those alone that end at one without status 1.
+#[inline(always)]
+fn print_ruled<B: BreakIterator<Mark = bool>, O: Write>(
+    alloc: Global,
+    breaks: B,
+    alone: bool,
+    part: Part<'_>,
+    out: &mut O,
+) -> io::Result<usize>
+    ensures { IfOk result (λ count.
+        let found = segments alone (marked (λ status. Rule (B.mark status)) (B.left breaks)) in
+        (count ≡ length found) × Appends (O.contents out.old) (O.contents out.new) (lines_at (look_of part.entry) part.entry.before part.entry.bytes.now found)) }
+{
+    let mut places = Ruled { breaks };
+    print_segments(alloc, &mut places, alone, part, out)
+}
+
 impl Segmenter {
     /// Whether a text may be cut part by part, each behind a line feed: each has the boundaries that it has in the whole text. It is so
     /// by Unicode's machines. Takes no memory.
@@ -161,6 +188,7 @@ impl Segmenter {
                 suppressing(sentences, abbreviations).parts_behind_line_feeds()
             }
             Segmenter::Lines(lines) => lines.as_borrowed().parts_behind_line_feeds(),
+            Segmenter::Ruled(machine, _) => anywhere(machine).parts_behind_line_feeds(),
         }
     }
 
@@ -176,6 +204,7 @@ impl Segmenter {
                 let_go(suppressing(sentences, abbreviations).segment_utf8(text))
             }
             Segmenter::Lines(lines) => lines.as_borrowed().cover(text),
+            Segmenter::Ruled(machine, _) => anywhere(machine).cover(text),
         }
     }
 }
@@ -196,16 +225,24 @@ fn suppressing<'data>(
 // Drops an iterator. Of the boundaries that abbreviations leave, that is proved in generic code alone.
 fn let_go<B: BreakIterator>(_breaks: B) {}
 
-impl Segmenter {
-    /// A segmenter of what a machine finds, which may be the caller's own. Takes no memory.
-    pub fn by_machine(machine: SegmenterStateMachine) -> Self
-        ensures { IsByMachine machine result }
-    {
-        let Ok(clusters) = GraphemeClusterSegmenter::try_new_neo(machine) else {
-            unreachable!()
-        };
-        Segmenter::Clusters(clusters)
-    }
+// What finds the boundaries of a machine of the caller's own, with their statuses: where a line may end anywhere, those of clusters are its
+// breaks, and the machine may stand for that of clusters.
+fn anywhere(machine: &SegmenterStateMachine) -> LineSegmenterBorrowed<'_>
+    ensures { line_rules result ≡ anywhere_by machine.now }
+{
+    let options = LineBreakOptions {
+        strictness: Some(LineBreakStrictness::Anywhere),
+        word_option: None,
+        content_locale: None,
+    };
+    let lines = LineSegmenterBorrowed::new_neo_for_non_complex_scripts(
+        machine,
+        LineTailoringsBorrowed::default(),
+        machine,
+        options,
+    );
+    let Ok(lines) = lines else { unreachable!() };
+    lines
 }
 
 /// The segmenter of a kind by an engine, with these options of lines and these words where its kind has some. Fails only when out of memory.
@@ -246,7 +283,7 @@ fn cluster_segmenter(alloc: Global, engine: Engine) -> Result<GraphemeClusterSeg
     ensures { IfOk result (λ clusters. owned_cluster_rules clusters ≡ cluster_rules_by engine) }
 {
     match engine {
-        Engine::Neo | Engine::Memo => icu_segmenter_data::grapheme_segmenter(alloc),
+        Engine::Neo => icu_segmenter_data::grapheme_segmenter(alloc),
         Engine::Classic | Engine::Seventeen => classic::grapheme_segmenter(alloc),
     }
 }
@@ -255,7 +292,7 @@ fn sentence_segmenter(alloc: Global, engine: Engine) -> Result<SentenceSegmenter
     ensures { IfOk result (λ sentences. owned_sentence_rules sentences ≡ sentence_rules_by engine) }
 {
     match engine {
-        Engine::Neo | Engine::Memo => icu_segmenter_data::sentence_segmenter(alloc),
+        Engine::Neo => icu_segmenter_data::sentence_segmenter(alloc),
         Engine::Classic | Engine::Seventeen => classic::sentence_segmenter(alloc),
     }
 }
@@ -268,7 +305,7 @@ fn word_segmenter(
     ensures { IfOk result (λ words. owned_word_rules words ≡ word_rules_by engine (script_words dictionaries)) }
 {
     let mut words = match engine {
-        Engine::Neo | Engine::Memo => icu_segmenter_data::word_segmenter(alloc)?,
+        Engine::Neo => icu_segmenter_data::word_segmenter(alloc)?,
         Engine::Classic | Engine::Seventeen => classic::word_segmenter(alloc)?,
     };
     words.load_dictionary(dictionaries);
@@ -289,7 +326,7 @@ pub fn line_segmenter(
     Ok(lines)
 }
 
-// The same without dictionaries.
+// The segmenter of lines of an engine, without words.
 fn lines_without_words(
     alloc: Global,
     engine: Engine,
@@ -298,7 +335,7 @@ fn lines_without_words(
     ensures { IfOk result (λ lines. (owned_line_rules lines ≡ line_rules_of engine options.entry)) }
 {
     match engine {
-        Engine::Neo | Engine::Memo => icu_segmenter_data::line_segmenter(alloc, options),
+        Engine::Neo => icu_segmenter_data::line_segmenter(alloc, options),
         Engine::Classic => classic::line_segmenter(alloc, options),
         Engine::Seventeen => classic::line_17_segmenter(alloc, options),
     }

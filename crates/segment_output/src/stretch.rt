@@ -4,8 +4,8 @@ ghost use Rattle.segment_output.specs.Output.{Look, line_at};
 ghost use Rattle.segment_output.specs.Stretch.{ArePlain, IsStretch};
 ghost use Rattle.segment_output.specs.declared.marks.Mark.{Mark};
 
-use crate::escapes::is_plain;
 use crate::output::Style;
+use segment_text::escapes::is_plain;
 
 // So many bytes are copied, and looked at, at once.
 const SHORT_LEN: usize = 16;
@@ -21,14 +21,14 @@ pub struct Stretch {
     pub last: u8,
 }
 
-/// None.
+/// None. Since no segment ends behind it, the next isn't looked for.
 #[inline(always)]
 pub fn no_stretch() -> Stretch
-    ensures { (result.from ≡ 1) × (result.to ≡ 0) }
+    ensures { result.to < result.from }
 {
     Stretch {
-        from: 1,
-        to: 0,
+        from: usize::MAX,
+        to: usize::MAX - 1,
         last: b'\n',
     }
 }
@@ -74,7 +74,7 @@ fn plain_end(text: &[u8], from: usize) -> usize
     to
 }
 
-// The same by whole runs.
+// How far from a place on there are whole runs in which no byte is escaped, or begins more bytes that may be.
 fn plain_runs_end(text: &[u8], from: usize) -> usize
     requires { from ≤ length text.now }
     ensures high { result ≤ length text.now }

@@ -6,7 +6,7 @@ use icu_segmenter::suppress::Abbreviations;
 /// The words that a segmenter knows.
 #[derive(Drop)]
 pub struct Vocabulary {
-    /// Those of scripts without spaces.
+    /// The words of scripts without spaces.
     pub dictionaries: Dictionaries,
     /// Abbreviations, after which a sentence goes on, if there are some.
     pub abbreviations: Option<Abbreviations>,

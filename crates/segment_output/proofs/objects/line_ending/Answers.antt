@@ -3,10 +3,10 @@ use Rattle.std.proofs.Common.{refl}
 use Rattle.json.specs.Print.{escape_byte, print_from}
 use Rattle.segment_output.proofs.objects.line_ending.Goals as goal
 
-pub returns-then-is_mandatory : goal.returns-then-is_mandatory
+pub returns-then-is_mandatory-clause-value : goal.returns-then-is_mandatory-clause-value
 unfolding print_from escape_byte
-returns-then-is_mandatory c = rw c.if-is_mandatory.true refl
+returns-then-is_mandatory-clause-value c = rw c.if-is_mandatory.true refl
 
-pub returns-else-is_mandatory : goal.returns-else-is_mandatory
+pub returns-else-is_mandatory-clause-value : goal.returns-else-is_mandatory-clause-value
 unfolding print_from escape_byte
-returns-else-is_mandatory c = rw c.if-is_mandatory.false refl
+returns-else-is_mandatory-clause-value c = rw c.if-is_mandatory.false refl

@@ -14,7 +14,7 @@ returns c =
     let text : List ℕ = c.args.text.now in
     let last : List ℕ = print_from true (mark_tokens c.args.said.mark ++ end_object ∷ []) in
     subst (λ (items : List ℕ). OnOk c.extend_from_slice-4.result (c.extend_from_slice-4.new.self.items ≡ items))
-    (ap (λ (ending : List ℕ). c.push_digits-2.new.line.items ++ ending) c.ending.ensures
+    (ap (λ (ending : List ℕ). c.push_digits-2.new.line.items ++ ending) c.ending.ensures.value
     ∙ pieces c.args.lines.now.items (opening file) text (codes "\",\"begin\":") (decimal c.args.start) (codes ",\"end\":") (decimal c.args.end) last _ _ _ _ _ _
     c.in_ok-push_opening.ensures c.in_ok-extend_from_slice.ensures.items c.in_ok-extend_from_slice-2.ensures.items c.in_ok-push_digits.ensures
     c.in_ok-extend_from_slice-3.ensures.items c.in_ok-push_digits-2.ensures

@@ -3,14 +3,14 @@ use Rattle.std.proofs.Common.{refl}
 use Rattle.json.specs.Print.{escape_byte, print_from}
 use Rattle.segment_output.proofs.objects.word_ending.Goals as goal
 
-pub returns-in-None : goal.returns-in-None
+pub returns-in-None-clause-value : goal.returns-in-None-clause-value
 unfolding print_from escape_byte
-returns-in-None c = rw c.in-None.is refl
+returns-in-None-clause-value c = rw c.in-None.is refl
 
-pub returns-in-Number : goal.returns-in-Number
+pub returns-in-Number-clause-value : goal.returns-in-Number-clause-value
 unfolding print_from escape_byte
-returns-in-Number c = rw c.in-Number.is refl
+returns-in-Number-clause-value c = rw c.in-Number.is refl
 
-pub returns-in-Letter : goal.returns-in-Letter
+pub returns-in-Letter-clause-value : goal.returns-in-Letter-clause-value
 unfolding print_from escape_byte
-returns-in-Letter c = rw c.in-Letter.is refl
+returns-in-Letter-clause-value c = rw c.in-Letter.is refl

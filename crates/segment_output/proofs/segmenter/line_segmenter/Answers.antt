@@ -6,14 +6,13 @@ use Rattle.icu_segmenter.specs.ScriptWords.{ScriptWords, filled, no_words, scrip
 use Rattle.icu_segmenter.specs.declared.options.LineBreakOptions.{LineBreakOptions}
 use Rattle.segment_output.specs.Segmenter.{line_rules_of}
 use Rattle.segment_output.specs.declared.segmenter.Engine.{Engine}
-use Rattle.segment_output.specs.declared.segmenter.Engine.TheVariants.{Neo, Classic, Seventeen, Memo}
+use Rattle.segment_output.specs.declared.segmenter.Engine.TheVariants.{Neo, Classic, Seventeen}
 use Rattle.segment_output.proofs.segmenter.line_segmenter.Goals as goal
 
 had-none : (engine : Engine) (options : LineBreakOptions) → (line_rules_of engine options).payloads.words ≡ no_words
 had-none Neo options = refl
 had-none Classic options = refl
 had-none Seventeen options = refl
-had-none Memo options = refl
 
 pub returns : goal.returns
 returns c =

@@ -6,7 +6,7 @@ use Rattle.icu_segmenter.specs.Rules.{Rules, boundaries_of}
 use Rattle.icu_segmenter.specs.Decoding.{utf8}
 use Rattle.icu_segmenter.specs.WordRules.{WordRules, type_of, word_boundaries_of}
 use Rattle.segment_output.specs.Output.{look_of, lines_at}
-use Rattle.segment_output.specs.declared.marks.Mark.TheVariants.{Unmarked, Word, Line}
+use Rattle.segment_output.specs.declared.marks.Mark.TheVariants.{Unmarked, Word, Line, Rule}
 use Rattle.segment_output.proofs.Printed.{all-printed}
 use Rattle.segment_output.proofs.segmenter.Segmenter.print_part.Goals as goal
 
@@ -39,3 +39,9 @@ returns-in-Lines g c =
     rw c.in-Lines.is
     (all-printed false (λ status. Line (status == 1)) (λ found. lines_at (look_of c.args.part) c.args.part.before c.args.part.bytes.now found) _ _ _ _ _
     (c.segment_utf8-places-in-Lines.ensures.boundaries ∙ ap (λ (rules : LineRules). line_boundaries_of rules (utf8 c.args.part.bytes.now)) c.as_borrowed-in-Lines.ensures) c.print_breaks-in-Lines.ensures)
+
+pub returns-in-Ruled : goal.returns-in-Ruled
+returns-in-Ruled g c =
+    rw c.in-Ruled.is
+    (all-printed c.in-Ruled.alone (λ status. Rule (status == 1)) (λ found. lines_at (look_of c.args.part) c.args.part.before c.args.part.bytes.now found) _ _ _ _ _
+    (c.segment_utf8-places-in-Ruled.ensures.boundaries ∙ ap (λ (rules : LineRules). line_boundaries_of rules (utf8 c.args.part.bytes.now)) c.anywhere.ensures) c.print_ruled.ensures)

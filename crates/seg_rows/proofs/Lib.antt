@@ -1,0 +1,5 @@
+pub mod Entries
+pub mod Underway
+pub mod Reading
+pub mod Filling
+pub mod Counting

@@ -1,0 +1,159 @@
+-- What is read by rows, item by item, and by a scan.
+use Rattle.std.proofs.Common.{◌≡◌, ◌≢◌, ℕ, ◌+◌, ◌*◌, ◌/◌, ◌<◌, ◌≤◌, Option, Some, None, true, List, [], ◌∷◌, length, slice_index, IsSome, refl, ap, subst, arith, suc, drop, sym, ◌∙◌}
+use Rattle.seg_text.specs.declared.boundary.Boundary.{Boundary}
+use Rattle.seg_text.specs.Boundaries.{IsCover, boundary, boundaries_in, boundary_in, later_boundaries}
+use Rattle.seg_text.specs.Items.{Item, Text, IsRising, code_points, place_of, rest_after, start_of}
+use Rattle.seg_machine.specs.Machine.{Machine, state_at, step, symbol_and_script, symbols_of}
+use Rattle.seg_machine.specs.MachineFaults.{IsChecked}
+use Rattle.seg_machine.specs.Pick.{acceptance_status, machine_boundaries, machine_stretch, pick}
+use Rattle.seg_machine.specs.Scan.{IsSymbolAhead}
+use Rattle.std.proofs.lemmas.List.{drop_all}
+use Rattle.std.specs.Option.{option_map_or}
+use Rattle.seg_text.proofs.Places.{IsRising-drop, place_of-drop-lt}
+use Rattle.seg_text.proofs.Covers.{covers}
+use Rattle.seg_machine.proofs.Segmentations.{machine-within}
+use Rattle.seg_machine.proofs.Engine.{gives-next}
+use Rattle.seg_machine.proofs.Scanned.{begins-end, begins-next, none-less, one-less, pick-some}
+use Rattle.seg_rows.specs.Rows.{AreRows, end_status, slow}
+use Rattle.seg_rows.specs.Underway.{IsNextEntry, IsStuck}
+use Rattle.seg_rows.proofs.Underway.{stops-at}
+use Rattle.seg_rows.proofs.Entries.{entry-ascii, entry-wide}
+
+pub item-ahead : (m : Machine) (old new : Text) (item : Item) (symbol : ℕ) → IsChecked m → old.items ≡ item ∷ new.items → new.end ≡ old.end
+    → symbol ≡ (symbol_and_script m item.1).0 → IsSymbolAhead m old symbol new
+item-ahead m old new item symbol checked is end same = record {
+  below = rw same (checked.text_symbols item.1).1;
+  begins = λ state here. begins-next m old new item symbol is end same state;
+  left = one-less old new item is end;
+}
+
+end-ahead : (m : Machine) (old new : Text) → IsChecked m → old.items ≡ [] → new.items ≡ [] → new.end ≡ old.end → IsSymbolAhead m old 0 new
+end-ahead m old new checked none left end = record {
+  below = omega (arith, checked.text_symbols 0);
+  begins = λ state here. begins-end m checked old new none left end state here;
+  left = none-less old new none left end;
+}
+
+fewer : (old new : Text) (item : Item) → old.items ≡ item ∷ new.items → length new.items < length old.items
+fewer old new item is = rw is (omega arith)
+
+pub next-ascii : (m : Machine) (entries : List ℕ) (row state : ℕ) (old new : Text) (item : Item) → IsChecked m → AreRows m entries
+    → row ≡ state * 256 → state < length m.states → item.1 < 128 → old.items ≡ item ∷ new.items → new.end ≡ old.end
+    → IsNextEntry m old (row / 256) (slice_index entries (row + item.1)) new
+next-ascii m entries row state old new item checked rows is within below read end =
+    let entry = entry-ascii m entries row state item.1 rows is within below in
+    record {
+      symbol = (symbol_and_script m item.1).0;
+      ahead = item-ahead m old new item (symbol_and_script m item.1).0 checked read end refl;
+      says = λ fast. entry;
+      known = λ some few. entry;
+      less = λ fast. fewer old new item read;
+    }
+
+pub next-wide : (m : Machine) (entries : List ℕ) (row state : ℕ) (old new : Text) (item : Item) (symbol : ℕ) → IsChecked m → AreRows m entries
+    → row ≡ state * 256 → state < length m.states → symbol < 128 → old.items ≡ item ∷ new.items → new.end ≡ old.end
+    → symbol ≡ (symbol_and_script m item.1).0
+    → IsNextEntry m old (row / 256) (slice_index entries (row + 128 + symbol)) new
+next-wide m entries row state old new item symbol checked rows is within below read end same =
+    let ahead = item-ahead m old new item symbol checked read end same in
+    let entry = entry-wide m entries row state symbol rows is within below ahead.below in
+    record {
+      symbol = symbol;
+      ahead = ahead;
+      says = λ fast. entry;
+      known = λ some few. entry;
+      less = λ fast. fewer old new item read;
+    }
+
+pub next-slow : (m : Machine) (row : ℕ) (old new : Text) (item : Item) (symbol : ℕ) → IsChecked m → old.items ≡ item ∷ new.items → new.end ≡ old.end
+    → symbol ≡ (symbol_and_script m item.1).0 → 128 ≤ symbol → IsNextEntry m old (row / 256) slow new
+next-slow m row old new item symbol checked read end same many = record {
+  symbol = symbol;
+  ahead = item-ahead m old new item symbol checked read end same;
+  says = λ fast. absurd (fast refl);
+  known = λ some few. absurd (omega (arith, few, many));
+  less = λ fast. absurd (fast refl);
+}
+
+pub next-end : (m : Machine) (row : ℕ) (old new : Text) → IsChecked m → old.items ≡ [] → new.items ≡ [] → new.end ≡ old.end
+    → IsNextEntry m old (row / 256) slow new
+next-end m row old new checked none left end = record {
+  symbol = 0;
+  ahead = end-ahead m old new checked none left end;
+  says = λ fast. absurd (fast refl);
+  known = λ some few. absurd (some none);
+  less = λ fast. absurd (fast refl);
+}
+
+some-boundary : (found : Option Boundary) → IsSome found → (p : Boundary) × (found ≡ Some p)
+some-boundary None some = cc
+some-boundary (Some p) some = (p, refl)
+
+-- the first two boundaries of a text: its start, and the end of its first segment
+pub record Leads (m : Machine) (text : Text) (found : List Boundary) : Type 0 where
+  pub p : Boundary
+  pub picks : pick m (symbols_of m (code_points text.items)) ≡ Some p
+  pub later : List Boundary
+  pub are : found ≡ boundary (start_of text) 0 ∷ boundary_in text p ∷ later
+
+pub leads : (m : Machine) (text : Text) → IsChecked m → text.items ≢ [] → Leads m text (boundaries_in (machine_boundaries m) text)
+leads m text checked some =
+    let found = some-boundary (pick m (symbols_of m (code_points text.items))) (pick-some m checked text.items some) in
+    let left = rest_after found.0.offset text in
+    let next = gives-next m text left true 0 found.0.status (start_of left) refl some (found.0, found.1, refl, refl) refl in
+    record {
+      p = found.0;
+      picks = found.1;
+      later = boundaries_in (later_boundaries (machine_stretch m)) left;
+      are = ap (λ (later : List Boundary). boundary (start_of text) 0 ∷ later) next.steps.1;
+    }
+
+pub no-end : (all rest later : List Boundary) (start end first : Boundary) → all ≡ start ∷ end ∷ later → all ≡ first ∷ rest → rest ≡ [] → ⊥
+no-end all rest later start end first are is none = cc
+
+pub the-end : (all rest others later : List Boundary) (start end first second : Boundary) → all ≡ start ∷ end ∷ later → all ≡ first ∷ rest → rest ≡ second ∷ others → second ≡ end
+the-end all rest others later start end first second are is then = cc
+
+-- the same of a text that is the same
+pub from-same : (m : Machine) (old first : Text) (state entry : ℕ) (new : Text) → first ≡ old → IsNextEntry m first state entry new → IsNextEntry m old state entry new
+from-same m old first state entry new same next = subst (λ (text : Text). IsNextEntry m text state entry new) same next
+
+pub some-items : (items later : List Item) (item : Item) → items ≡ item ∷ later → items ≢ []
+some-items items later item is none = cc
+
+-- a text whose place is its end is at its end
+nothing-left : (items : List Item) (end : ℕ) → IsRising items end → place_of items end ≡ end → items ≡ []
+nothing-left [] end rises here = refl
+nothing-left (item ∷ items) end rises here =
+    let all : drop (suc (length items)) (item ∷ items) ≡ [] = drop_all (suc (length items)) (item ∷ items) (omega arith) in
+    let later : item.0 < end = subst (λ (left : List Item). item.0 < place_of left end) all (place_of-drop-lt item items end (suc (length items)) rises (omega arith)) in
+    absurd (omega (arith, later, here))
+
+ending : (m : Machine) (at state status : ℕ) → at ≡ state → end_status m at ≡ Some status → (step m state 0 ≡ None) × (acceptance_status (state_at m state) ≡ Some status)
+unfolding end_status
+ending m at state status here is = on (step m at 0) refl is
+  where
+    on : (found : Option ℕ) → step m at 0 ≡ found → option_map_or {T = ℕ} {U = Option ℕ} (λ next. None) found (acceptance_status (state_at m at)) ≡ Some status
+        → (step m state 0 ≡ None) × (acceptance_status (state_at m state) ≡ Some status)
+    on None stops is = subst (λ (s : ℕ). (step m s 0 ≡ None) × (acceptance_status (state_at m s) ≡ Some status)) here (stops, is)
+    on (Some next) leads is = cc
+
+-- at the end of the text, where the state accepts and the end leads nowhere, the segment ends
+pub ends-there : (m : Machine) (text : Text) (row place status : ℕ) → IsChecked m → IsRising text.items text.end → IsStuck m text row place → place ≡ text.end
+    → end_status m (row / 256) ≡ Some status
+    → (p : Boundary) × (pick m (symbols_of m (code_points text.items)) ≡ Some p) × (place ≡ start_of (rest_after p.offset text)) × (status ≡ p.status)
+ends-there m text row place status checked rises (left, under, stands) at-end is =
+    let here : row / 256 ≡ under.state = omega (arith, under.row_is) in
+    let says = ending m (row / 256) under.state status here is in
+    let order : IsRising left.items left.end = rw under.scanned.rest (IsRising-drop text.items text.end (length under.scanned.entered) rises) in
+    let same : text.end ≡ left.end = ap (λ (t : Text). t.end) (sym under.scanned.rest) in
+    let none : left.items ≡ [] = nothing-left left.items left.end order (sym stands ∙ at-end ∙ same) in
+    let (p, picks, status-is, rest) =
+    stops-at m text left left row 0 status status rises under (end-ahead m left left checked none none refl) says.0 says.1 refl in
+    (p, picks, stands ∙ ap start_of rest, status-is)
+
+pub cover-of : (m : Machine) (first text : Text) → IsChecked m → IsRising first.items first.end → first ≡ text
+    → IsCover (start_of text) text.end (boundaries_in (machine_boundaries m) first)
+cover-of m first text checked rises same =
+    subst (λ (t : Text). IsCover (start_of t) t.end (boundaries_in (machine_boundaries m) first)) same
+    (covers (machine_stretch m) (machine-within m checked) first rises)

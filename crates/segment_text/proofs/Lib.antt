@@ -1,0 +1,4 @@
+pub mod Escaping
+pub mod Fields
+pub mod LineFeeds
+pub mod Words

@@ -1,0 +1,5 @@
+pub mod Escapes
+pub mod Joined
+pub mod Preparation
+pub mod Size
+pub mod Tabs
