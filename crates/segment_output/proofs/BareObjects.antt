@@ -29,7 +29,7 @@ module _ (byte : ℕ) (bare : is_bare byte ≡ true) where
   unfolding escape_byte
   bare-byte = rw (apart 34 refl, apart 92 refl, apart 8 refl, apart 12 refl, apart 10 refl, apart 13 refl, apart 9 refl, high) refl
 
-both : (one other : Bool) → (one && other) ≡ true → (one ≡ true) × (other ≡ true)
+pub both : (one other : Bool) → (one && other) ≡ true → (one ≡ true) × (other ≡ true)
 both true other are = (refl, are)
 both false other are = absurd (true≢false (sym are))
 

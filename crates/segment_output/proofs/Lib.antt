@@ -1,5 +1,6 @@
 pub mod BareLines
 pub mod BareObjects
+pub mod BareStretches
 pub mod Gathered
 pub mod JoinedCuts
 pub mod LineEnds

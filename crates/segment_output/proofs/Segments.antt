@@ -1,5 +1,6 @@
 -- One boundary more ends one segment more, if it is shown.
-use Rattle.std.proofs.Common.{◌≡◌, ℕ, ◌+◌, ◌^◌, ◌<◌, arith, Bool, true, false, Option, None, Some, List, [], ◌∷◌, ◌++◌, drop, map, filter, refl, ap, ◌∙◌, append-nil}
+use Rattle.std.proofs.Common.{◌≡◌, ℕ, ◌+◌, ◌^◌, ◌<◌, arith, Bool, true, false, Option, None, Some, List, [], ◌∷◌, ◌++◌, drop, map, filter, refl, sym, ap, ◌∙◌, append-nil}
+use Rattle.std.proofs.lemmas.Option.{none-some}
 use Rattle.std.proofs.lemmas.List.{map-append}
 use Rattle.std.proofs.lemmas.List.Elements.{filter-append}
 use Rattle.std.specs.List.{zip}
@@ -67,6 +68,10 @@ module _ (alone : Bool) where
   is-left_out None end is = refl
   is-left_out (Some start) end is = rw is refl
 
+  none-before : (start : Option (ℕ × Mark)) (end : ℕ × Mark) → option_map (λ boundary. boundary.0) start ≡ None → shown (with_last start end) ≡ []
+  none-before None end none = refl
+  none-before (Some start) end none = absurd (none-some start.0 (sym none))
+
   module _ (boundaries : List (ℕ × Mark)) (end : ℕ × Mark) where
     more-is : segments alone (boundaries ++ end ∷ []) ≡ segments alone boundaries ++ shown (with_last (last boundaries) end)
     more-is = ap shown (neighbours-more boundaries end) ∙ shown-append (neighbours boundaries) (with_last (last boundaries) end)
@@ -78,3 +83,7 @@ module _ (alone : Bool) where
     pub segments-same : is_shown alone end.1 ≡ false → segments alone (boundaries ++ end ∷ []) ≡ segments alone boundaries
     segments-same is =
         more-is ∙ ap (λ more. segments alone boundaries ++ more) (is-left_out (last boundaries) end is) ∙ append-nil (segments alone boundaries)
+
+    pub segments-first : option_map (λ boundary. boundary.0) (last boundaries) ≡ None → segments alone (boundaries ++ end ∷ []) ≡ segments alone boundaries
+    segments-first none =
+        more-is ∙ ap (λ more. segments alone boundaries ++ more) (none-before (last boundaries) end none) ∙ append-nil (segments alone boundaries)

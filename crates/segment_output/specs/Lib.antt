@@ -1,3 +1,4 @@
+pub mod BareStretch
 pub mod Fault
 pub mod Gathered
 pub mod Objects

@@ -1,5 +1,5 @@
 //! Segments as objects of JSON.
-ghost use Rattle.std.specs.Prelude.{◌≡◌, ◌≤◌, ◌++◌, ◌∷◌, [], codes, decimal, length, option_map, true, IfSome, IsTrue, OnOk};
+ghost use Rattle.std.specs.Prelude.{◌≡◌, ◌≤◌, ◌++◌, ◌∷◌, [], codes, decimal, length, option_map, take, true, IfSome, IsTrue, OnOk};
 ghost use Rattle.std.specs.List.{list_all};
 ghost use Rattle.std.specs.Str.Lossy.{utf8_lossy};
 ghost use Rattle.json.specs.Print.{print, print_from};
@@ -24,8 +24,8 @@ pub struct Said<'n> {
     pub file: Option<&'n str>,
 }
 
-/// Adds the object of a segment: its text, with U+FFFD for what is ill-formed, where it begins and ends, and what is said of it. Fails only when
-/// out of memory.
+/// Adds the object of a segment and a line feed: its text, with U+FFFD for what is ill-formed, where it begins and ends, and what is said of it.
+/// Fails only when out of memory.
 pub fn push_object(
     text: &[u8],
     start: usize,
@@ -33,7 +33,7 @@ pub fn push_object(
     said: Said<'_>,
     lines: &mut Vec<u8>,
 ) -> Result<(), AllocError>
-    ensures { OnOk result (lines.new.items ≡ lines.old.items ++ print (object_of (option_map (λ name. name.now) said.entry.file) text.now (record { from = start; to = end; mark = said.entry.mark }))) }
+    ensures { OnOk result (lines.new.items ≡ lines.old.items ++ (print (object_of (option_map (λ name. name.now) said.entry.file) text.now (record { from = start; to = end; mark = said.entry.mark })) ++ 10 ∷ [])) }
 {
     if is_bare_text(text) && is_bare_name(said.file) {
         push_bare(text, start, end, said, lines)
@@ -72,14 +72,15 @@ fn is_bare_name(name: Option<&str>) -> bool
     }
 }
 
-// Whether a byte stands in a string as it is.
-fn is_bare(byte: u8) -> bool
+/// Whether a byte stands in a string as it is.
+#[inline(always)]
+pub fn is_bare(byte: u8) -> bool
     ensures { result ≡ is_bare byte }
 {
     byte >= b' ' && byte != b'"' && byte != b'\\'
 }
 
-// Adds the object of a text and a name in which nothing is escaped.
+// Adds the object of a text and a name in which nothing is escaped, and a line feed.
 fn push_bare(
     text: &[u8],
     start: usize,
@@ -89,7 +90,7 @@ fn push_bare(
 ) -> Result<(), AllocError>
     requires text { AreBare text.now }
     requires name { IfSome said.file (λ name. AreBare name.now) }
-    ensures { OnOk result (lines.new.items ≡ lines.old.items ++ print (object_of (option_map (λ name. name.now) said.entry.file) text.now (record { from = start; to = end; mark = said.entry.mark }))) }
+    ensures { OnOk result (lines.new.items ≡ lines.old.items ++ (print (object_of (option_map (λ name. name.now) said.entry.file) text.now (record { from = start; to = end; mark = said.entry.mark })) ++ 10 ∷ [])) }
 {
     push_opening(said.file, lines)?;
     lines.extend_from_slice(text)?;
@@ -97,7 +98,8 @@ fn push_bare(
     push_digits(start, lines)?;
     lines.extend_from_slice(b",\"end\":")?;
     push_digits(end, lines)?;
-    lines.extend_from_slice(ending(said.mark))
+    let (ending, len) = ending(said.mark);
+    lines.extend_from_slice(&ending[..len])
 }
 
 // Adds how an object begins, up to its text.
@@ -114,53 +116,64 @@ fn push_opening(file: Option<&str>, lines: &mut Vec<u8>) -> Result<(), AllocErro
     }
 }
 
-/// How an object ends behind its places.
-pub fn ending(mark: Mark) -> &'static [u8]
-    ensures most { length result.now ≤ 19 }
-    ensures value { result.now ≡ print_from true (mark_tokens mark ++ end_object ∷ []) }
+/// How an object ends behind its places, and a line feed: so many bytes of a piece. All pieces are of one length, so that they are copied alike.
+#[inline(always)]
+pub fn ending(mark: Mark) -> (&'static [u8], usize)
+    ensures short { result.1 ≤ length result.0.now }
+    ensures most { length result.0.now ≡ 20 }
+    ensures value { take result.1 result.0.now ≡ print_from true (mark_tokens mark ++ end_object ∷ []) ++ 10 ∷ [] }
 {
     match mark {
-        Mark::Unmarked => b"}",
+        Mark::Unmarked => (b"}\n                  ", 2),
         Mark::Word(kind) => word_ending(kind),
         Mark::Line(is_mandatory) => line_ending(is_mandatory),
         Mark::Rule(is_marked) => rule_ending(is_marked),
     }
 }
 
-fn word_ending(kind: WordType) -> &'static [u8]
-    ensures most { length result.now ≤ 19 }
-    ensures value { result.now ≡ print_from true (mark_tokens (Word kind) ++ end_object ∷ []) }
+// Of words.
+#[inline(always)]
+fn word_ending(kind: WordType) -> (&'static [u8], usize)
+    ensures short { result.1 ≤ length result.0.now }
+    ensures most { length result.0.now ≡ 20 }
+    ensures value { take result.1 result.0.now ≡ print_from true (mark_tokens (Word kind) ++ end_object ∷ []) ++ 10 ∷ [] }
 {
     match kind {
-        WordType::None => b",\"type\":\"none\"}",
-        WordType::Number => b",\"type\":\"number\"}",
-        WordType::Letter => b",\"type\":\"letter\"}",
+        WordType::None => (b",\"type\":\"none\"}\n    ", 16),
+        WordType::Number => (b",\"type\":\"number\"}\n  ", 18),
+        WordType::Letter => (b",\"type\":\"letter\"}\n  ", 18),
     }
 }
 
-fn line_ending(is_mandatory: bool) -> &'static [u8]
-    ensures most { length result.now ≤ 19 }
-    ensures value { result.now ≡ print_from true (mark_tokens (Line is_mandatory) ++ end_object ∷ []) }
+// Of lines.
+#[inline(always)]
+fn line_ending(is_mandatory: bool) -> (&'static [u8], usize)
+    ensures short { result.1 ≤ length result.0.now }
+    ensures most { length result.0.now ≡ 20 }
+    ensures value { take result.1 result.0.now ≡ print_from true (mark_tokens (Line is_mandatory) ++ end_object ∷ []) ++ 10 ∷ [] }
 {
     if is_mandatory {
-        b",\"mandatory\":true}"
+        (b",\"mandatory\":true}\n ", 19)
     } else {
-        b",\"mandatory\":false}"
+        (b",\"mandatory\":false}\n", 20)
     }
 }
 
-fn rule_ending(is_marked: bool) -> &'static [u8]
-    ensures most { length result.now ≤ 19 }
-    ensures value { result.now ≡ print_from true (mark_tokens (Rule is_marked) ++ end_object ∷ []) }
+// Of boundaries by rules of the caller's own.
+#[inline(always)]
+fn rule_ending(is_marked: bool) -> (&'static [u8], usize)
+    ensures short { result.1 ≤ length result.0.now }
+    ensures most { length result.0.now ≡ 20 }
+    ensures value { take result.1 result.0.now ≡ print_from true (mark_tokens (Rule is_marked) ++ end_object ∷ []) ++ 10 ∷ [] }
 {
     if is_marked {
-        b",\"status\":1}"
+        (b",\"status\":1}\n       ", 13)
     } else {
-        b",\"status\":0}"
+        (b",\"status\":0}\n       ", 13)
     }
 }
 
-// Adds an object, in whose strings each byte is escaped that must be.
+// Adds an object, in whose strings each byte is escaped that must be, and a line feed.
 fn push_written(
     text: &[u8],
     start: usize,
@@ -168,7 +181,7 @@ fn push_written(
     said: Said<'_>,
     lines: &mut Vec<u8>,
 ) -> Result<(), AllocError>
-    ensures { OnOk result (lines.new.items ≡ lines.old.items ++ print (object_of (option_map (λ name. name.now) said.entry.file) text.now (record { from = start; to = end; mark = said.entry.mark }))) }
+    ensures { OnOk result (lines.new.items ≡ lines.old.items ++ (print (object_of (option_map (λ name. name.now) said.entry.file) text.now (record { from = start; to = end; mark = said.entry.mark })) ++ 10 ∷ [])) }
 {
     let alloc = *lines.allocator();
     let mut object = Writer::new(mem::replace(lines, Vec::new(alloc)));
@@ -180,7 +193,7 @@ fn push_written(
     push_mark(said.mark, &mut object)?;
     object.end_object()?;
     *lines = object.into_inner();
-    Ok(())
+    lines.extend_from_slice(b"\n")
 }
 
 fn push_file(file: Option<&str>, object: &mut Writer) -> Result<(), AllocError>

@@ -11,8 +11,8 @@ ghost use Rattle.segment_output.specs.declared.output.Style.TheVariants.{Json};
 
 use crate::found::Tally;
 use crate::marks::Mark;
+use crate::object_lines::print_objects;
 use crate::objects::{Said, push_object};
-use crate::short_object::{put_object, short_text};
 use crate::stretch::{Stretch, push_short, stretch_after};
 use segment_text::escapes::push_escaped;
 use std::alloc::{AllocError, Global};
@@ -95,6 +95,26 @@ pub fn print_segments<N: Iterator<Item = (usize, Mark)>, O: Write>(
         × (count ≡ length (segments alone given))
         × Appends (O.contents out.old) (O.contents out.new) (lines_at (look_of part.entry) part.entry.before part.entry.bytes.now (segments alone given))) }
 {
+    match part.style {
+        Style::Json => print_objects(alloc, places, alone, part, out),
+        _ => print_lines(alloc, places, alone, part, out),
+    }
+}
+
+// Writes the segments of a part in any style.
+fn print_lines<N: Iterator<Item = (usize, Mark)>, O: Write>(
+    alloc: Global,
+    places: &mut N,
+    alone: bool,
+    part: Part<'_>,
+    out: &mut O,
+) -> io::Result<usize>
+    requires can { N.can_next places.old }
+    requires ends { IsFinite (N.remaining places.old) }
+    ensures { IfOk result (λ count. (given : List (ℕ × Mark)) × YieldsThen N.next_gives places.old given None places.new
+        × (count ≡ length (segments alone given))
+        × Appends (O.contents out.old) (O.contents out.new) (lines_at (look_of part.entry) part.entry.before part.entry.bytes.now (segments alone given))) }
+{
     let mut lines = Vec::with_capacity(alloc, LINES_CAPACITY)?;
     let mut stretch = stretch_after(part.bytes, 0, part.style);
     let mut count: usize = 0;
@@ -111,7 +131,7 @@ pub fn print_segments<N: Iterator<Item = (usize, Mark)>, O: Write>(
             let segment = Segment { start, end, mark };
             match part.style {
                 Style::Counted(_) => {}
-                _ => push_apart(part, segment, &mut stretch, &mut lines, out)?,
+                _ => push_long(part, segment, &mut stretch, &mut lines, out)?,
             }
         } else {
             has_begun = true;
@@ -123,65 +143,23 @@ pub fn print_segments<N: Iterator<Item = (usize, Mark)>, O: Write>(
     Ok(count)
 }
 
-// One segment more. The error is one that no `usize` counts.
+/// One segment more. The error is one that no `usize` counts.
 #[inline(always)]
-fn one_more(count: usize) -> Result<usize, AllocError>
+pub fn one_more(count: usize) -> Result<usize, AllocError>
     ensures { IfOk result (λ more. more ≡ count + 1) }
 {
     count.checked_add(1).ok_or(AllocError)
 }
 
-// A segment: where it begins, where it ends, and what is said of it.
+/// A segment of a part.
 #[derive(Clone, Copy)]
-struct Segment {
-    start: usize,
-    end: usize,
-    mark: Mark,
-}
-
-// Adds the line of a segment, and writes what was gathered before, where it is much; an object that is short at once. The errors are the
-// writer's, and being out of memory.
-#[inline(always)]
-fn push_apart<O: Write>(
-    part: Part<'_>,
-    segment: Segment,
-    stretch: &mut Stretch,
-    lines: &mut Vec<u8>,
-    out: &mut O,
-) -> io::Result<()>
-    requires { IsStretch part.style part.bytes.now stretch.old }
-    ensures stretch { OnOk result (IsStretch part.entry.style part.entry.bytes.now stretch.new) }
-    ensures lines { OnOk result (AreGathered (O.contents out.old) (O.contents out.new) lines.new.items
-        (lines.old.items ++ line_at (look_of part.entry) part.entry.before part.entry.bytes.now (record { from = segment.start; to = segment.end; mark = segment.mark }))) }
-{
-    if let Style::Json = part.style {
-        if push_short_object(part, segment, lines) {
-            return Ok(());
-        }
-    }
-    push_long(part, segment, stretch, lines, out)
-}
-
-// Adds the line of a segment as an object, where it is a short one and there is room for it.
-#[inline(never)]
-fn push_short_object(part: Part<'_>, segment: Segment, lines: &mut Vec<u8>) -> bool
-    requires { part.style ≡ Json }
-    ensures short { IsTrue result → lines.new.items ≡ lines.old.items ++ line_at (look_of part.entry) part.entry.before part.entry.bytes.now (record { from = segment.start; to = segment.end; mark = segment.mark }) }
-    ensures long { result ≡ false → lines.new.items ≡ lines.old.items }
-{
-    if part.file.is_some() {
-        return false;
-    }
-    let Ok(start) = later(part.before, segment.start) else {
-        return false;
-    };
-    let Ok(end) = later(part.before, segment.end) else {
-        return false;
-    };
-    match short_text(part.bytes, segment.start, segment.end) {
-        Some(text) => put_object(text, start, end, segment.mark, lines),
-        None => false,
-    }
+pub struct Segment {
+    /// Where it begins.
+    pub start: usize,
+    /// Where it ends.
+    pub end: usize,
+    /// What is said of it.
+    pub mark: Mark,
 }
 
 // Adds the line of a segment, and writes what was gathered before, where it is much. The errors are the writer's, and being out of memory.
@@ -304,8 +282,8 @@ pub fn write_lines<O: Write>(lines: &mut Vec<u8>, out: &mut O) -> io::Result<()>
     Ok(())
 }
 
-// Adds the line of a segment.
-fn push_line(part: Part<'_>, segment: Segment, lines: &mut Vec<u8>) -> Result<(), AllocError>
+/// Adds the line of a segment.
+pub fn push_line(part: Part<'_>, segment: Segment, lines: &mut Vec<u8>) -> Result<(), AllocError>
     ensures { OnOk result (lines.new.items ≡ lines.old.items ++ line_at (look_of part.entry) part.entry.before part.entry.bytes.now (record { from = segment.start; to = segment.end; mark = segment.mark })) }
 {
     let Segment { start, end, mark } = segment;
@@ -334,8 +312,7 @@ fn push_line(part: Part<'_>, segment: Segment, lines: &mut Vec<u8>) -> Result<()
                     file: part.file,
                 },
                 lines,
-            )?;
-            lines.extend_from_slice(b"\n")
+            )
         }
         Style::Offsets => {
             push_number(later(part.before, start)?, b' ', lines)?;
@@ -346,9 +323,9 @@ fn push_line(part: Part<'_>, segment: Segment, lines: &mut Vec<u8>) -> Result<()
     }
 }
 
-// A place so many bytes later. The error is one that no `usize` counts.
+/// A place so many bytes later. The error is one that no `usize` counts.
 #[inline(always)]
-fn later(before: usize, place: usize) -> Result<usize, AllocError>
+pub fn later(before: usize, place: usize) -> Result<usize, AllocError>
     ensures { IfOk result (λ later. later ≡ before + place) }
 {
     before.checked_add(place).ok_or(AllocError)

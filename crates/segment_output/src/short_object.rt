@@ -1,11 +1,11 @@
-//! Objects of short texts, which are put together apart and added at once.
-ghost use Rattle.std.specs.Prelude.{◌≡◌, ◌+◌, ◌≤◌, ◌++◌, ◌∷◌, [], false, true, None, length, take, decimal, slice_range, IfSome, IsTrue};
+//! Objects of short texts, of pieces that are copied to where they belong.
+ghost use Rattle.std.specs.Prelude.{◌≡◌, ◌+◌, ◌≤◌, ◌++◌, ◌∷◌, [], None, length, take, decimal, slice_range, IfSome};
 ghost use Rattle.json.specs.Print.{print};
 ghost use Rattle.segment_output.specs.Objects.{AreBare};
 ghost use Rattle.segment_output.specs.Output.{object_of};
 
 use crate::marks::Mark;
-use crate::objects::{ending, is_bare_text};
+use crate::objects::ending;
 
 // So many bytes of a text are copied at once.
 const TEXT_LEN: usize = 16;
@@ -13,8 +13,8 @@ const TEXT_LEN: usize = 16;
 // The longest number has 20 digits.
 const DIGITS_LEN: usize = 20;
 
-// Room for an object with a text and two numbers of the greatest length.
-const OBJECT_LEN: usize = 112;
+/// Room for such an object with numbers of the greatest length, and a line feed.
+pub const OBJECT_LEN: usize = 112;
 
 /// A text of at most 16 bytes, and what stands behind it.
 #[derive(Clone, Copy)]
@@ -40,39 +40,13 @@ pub fn short_text(text: &[u8], start: usize, end: usize) -> Option<ShortText>
     Some(ShortText { bytes, len })
 }
 
-/// Adds the object of a segment, in which no file is named, and a line feed, where nothing in its text is escaped and there is room for it.
+/// Puts the object of a segment, in which no file is named, and a line feed at the beginning of a buffer, and returns how many bytes they have.
 #[inline(always)]
-pub fn put_object(
-    text: ShortText,
-    start: usize,
-    end: usize,
-    mark: Mark,
-    lines: &mut Vec<u8>,
-) -> bool
-    requires { text.len ≤ 16 }
-    ensures short { IsTrue result → lines.new.items ≡ lines.old.items ++ (print (object_of None (take text.len text.bytes) (record { from = start; to = end; mark = mark })) ++ 10 ∷ []) }
-    ensures long { result ≡ false → lines.new.items ≡ lines.old.items }
-{
-    if !is_bare_text(&text.bytes[..text.len]) || lines.capacity() - lines.len() < OBJECT_LEN {
-        return false;
-    }
-    let mut object = [0; OBJECT_LEN];
-    let len = put_pieces(text, start, end, mark, &mut object);
-    let before = lines.len();
-    let Ok(()) = lines.extend_from_slice(&object) else {
-        unreachable!()
-    };
-    lines.truncate(before + len);
-    true
-}
-
-// Puts the pieces of an object and a line feed into a buffer, and returns how many bytes they have.
-#[inline(always)]
-fn put_pieces(text: ShortText, start: usize, end: usize, mark: Mark, object: &mut [u8]) -> usize
+pub fn put_pieces(text: ShortText, start: usize, end: usize, mark: Mark, object: &mut [u8]) -> usize
     requires short { text.len ≤ 16 }
     requires bare { AreBare (take text.len text.bytes) }
-    requires room { length object.old ≡ 112 }
-    ensures len { length object.new ≡ 112 }
+    requires room { 112 ≤ length object.old }
+    ensures len { length object.new ≡ length object.old }
     ensures most { result ≤ 112 }
     ensures pieces { take result object.new ≡ print (object_of None (take text.len text.bytes) (record { from = start; to = end; mark = mark })) ++ 10 ∷ [] }
 {
@@ -82,9 +56,8 @@ fn put_pieces(text: ShortText, start: usize, end: usize, mark: Mark, object: &mu
     let at = put_number(start, at, object);
     let at = put(b",\"end\":", 7, at, object);
     let at = put_number(end, at, object);
-    let ending = ending(mark);
-    let at = put(ending, ending.len(), at, object);
-    put(b"\n", 1, at, object)
+    let (ending, len) = ending(mark);
+    put(ending, len, at, object)
 }
 
 // Puts the first bytes of a piece at a place of a buffer, and returns where they end. What stands there behind them may change, so that all

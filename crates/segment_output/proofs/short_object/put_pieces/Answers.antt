@@ -1,5 +1,5 @@
 -- The pieces are the object and a line feed.
-use Rattle.std.proofs.Common.{◌++◌, ◌∷◌, [], List, ℕ, true, None, codes, decimal, take, take_all, ap, sym, ◌∙◌, arith}
+use Rattle.std.proofs.Common.{◌++◌, ◌∷◌, [], List, ℕ, true, None, codes, decimal, take, ap, sym, ◌∙◌, append_assoc}
 use Rattle.json.specs.Print.{print_from}
 use Rattle.json.specs.Token.{end_object}
 use Rattle.segment_output.specs.Output.{Segment, mark_tokens}
@@ -11,10 +11,11 @@ returns-clause-pieces c =
     let segment : Segment = record { from = c.args.start; to = c.args.end; mark = c.args.mark } in
     let text : List ℕ = take c.args.text.len c.args.text.bytes in
     let last : List ℕ = print_from true (mark_tokens c.args.mark ++ end_object ∷ []) in
-    let more = c.put-at-5.ensures.pieces ∙ ap (λ (ending : List ℕ). take c.put_number-at-2.result c.put_number-at-2.new.object ++ ending) (take_all _ c.ending-ending.result.now (omega arith) ∙ c.ending-ending.ensures.value) in
+    let before : List ℕ = take c.put_number-at-2.result c.put_number-at-2.new.object in
     c.put.ensures.pieces
+    ∙ ap (λ (ending : List ℕ). before ++ ending) c.ending-len.ensures.value
+    ∙ sym (append_assoc before last (10 ∷ []))
     ∙ ap (λ (object : List ℕ). object ++ 10 ∷ [])
-    (more
-    ∙ pieces [] (codes "{\"text\":\"") text (codes "\",\"begin\":") (decimal c.args.start) (codes ",\"end\":") (decimal c.args.end) last _ _ _ _ _ _
+    (pieces [] (codes "{\"text\":\"") text (codes "\",\"begin\":") (decimal c.args.start) (codes ",\"end\":") (decimal c.args.end) last _ _ _ _ _ _
     c.put-at.ensures.pieces c.put-at-2.ensures.pieces c.put-at-3.ensures.pieces c.put_number-at.ensures.pieces c.put-at-4.ensures.pieces c.put_number-at-2.ensures.pieces
     ∙ sym (bare-object None text segment tt c.requires.bare))

@@ -6,7 +6,7 @@ use Rattle.segment_output.specs.Gathered.{AreGathered}
 use Rattle.segment_output.specs.Output.{look_of, segments, lines_at}
 use Rattle.segment_output.specs.Stretch.{IsStretch}
 use Rattle.segment_output.proofs.Segments.{begun, last}
-use Rattle.segment_output.proofs.output.print_segments.Given as goal
+use Rattle.segment_output.proofs.output.print_lines.Given as goal
 
 abbrev pub invariant-places : goal.invariant-places
 invariant-places g l =

@@ -6,7 +6,7 @@ use Rattle.segment_output.specs.Output.{look_of, ended, line_at, segments}
 use Rattle.segment_output.specs.declared.marks.Mark.{Mark}
 use Rattle.segment_output.proofs.Gathered.{count-more, gathered-all, gathered-none, gathered-one, gathered-same}
 use Rattle.segment_output.proofs.Segments.{begun, begun-at, begun-not, has-begun, last, last-more, segments-more, segments-same}
-use Rattle.segment_output.proofs.output.print_segments.Goals as goal
+use Rattle.segment_output.proofs.output.print_lines.Goals as goal
 
 -- the place of the last boundary
 last-is : (has_begun : Bool) (boundaries : List (ℕ × Mark)) (end : ℕ × Mark) → has_begun ≡ true
@@ -48,8 +48,8 @@ places-preserved-in_ok-count g c =
       never _ c.places.has_begun is,
     )
 
-pub places-preserved-in_ok-push_apart-in_default-style : goal.places-preserved-in_ok-push_apart-in_default-style
-places-preserved-in_ok-push_apart-in_default-style g c =
+pub places-preserved-in_ok-push_long-in_default-style : goal.places-preserved-in_ok-push_long-in_default-style
+places-preserved-in_ok-push_long-in_default-style g c =
     let found = c.places.yielded in
     let end : ℕ × Mark = (c.in-Some.end, c.in-Some.mark) in
     let is = c.if-has_begun.true in
@@ -58,9 +58,9 @@ places-preserved-in_ok-push_apart-in_default-style g c =
     ∙ ap (λ (start : Option ℕ). segments c.args.alone found ++ ended start end) (sym c.places.invariant.0 ∙ begun-at c.places.has_begun c.places.start is) in (
       last-is c.places.has_begun found end is,
       gathered-one (line_at (look_of c.args.part) c.args.part.before c.args.part.bytes.now) (segments c.args.alone found) _ _ _ _ _ _ _ more c.places.invariant.1
-          (rw (← c.push_short.ensures.long c.if-push_short.false) c.in_ok-push_apart-in_default-style.ensures.lines),
+          (rw (← c.push_short.ensures.long c.if-push_short.false) c.in_ok-push_long-in_default-style.ensures.lines),
       count-more (segments c.args.alone found) _ _ _ _ more c.places.invariant.2 (search rules),
-      c.in_ok-push_apart-in_default-style.ensures.stretch,
+      c.in_ok-push_long-in_default-style.ensures.stretch,
       never _ c.places.has_begun is,
     )
 

@@ -1,0 +1,198 @@
+//! Segments as objects of JSON, a line each.
+ghost use Rattle.std.specs.Prelude.{◌≡◌, ◌+◌, ◌≤◌, ◌++◌, ◌∷◌, [], ℕ, false, List, drop, length, take, true, IfOk, IfSome, IsTrue, OnOk};
+ghost use Rattle.std.specs.Io.KnownBytes.{Appends};
+ghost use Rattle.std.specs.Iterator.{IsFinite, YieldsThen};
+ghost use Rattle.std.specs.List.{list_all, slice_range};
+ghost use Rattle.segment_output.specs.BareStretch.{IsBareStretch};
+ghost use Rattle.segment_output.specs.Gathered.{AreGathered};
+ghost use Rattle.segment_output.specs.Objects.{AreBare, is_bare};
+ghost use Rattle.segment_output.specs.Output.{look_of, segments, line_at, lines_at};
+ghost use Rattle.segment_output.specs.declared.marks.Mark.{Mark};
+ghost use Rattle.segment_output.specs.declared.output.Style.TheVariants.{Json};
+
+use crate::marks::Mark;
+use crate::objects::is_bare;
+use crate::output::{Part, Segment, later, one_more, push_line};
+use crate::page::Page;
+use crate::short_object::{ShortText, short_text};
+use std::alloc::Global;
+use std::io::Write;
+use std::{io, str};
+
+// So many bytes are looked at, at once, for what is escaped.
+const STRETCH_LEN: usize = 256;
+
+// A stretch of a part of a text in which nothing is escaped.
+#[derive(Clone, Copy)]
+struct BareStretch<'s> {
+    from: usize,
+    text: &'s str,
+}
+
+// Objects on their way: the page that they stand on, a line that is put together apart, and where nothing is escaped.
+#[derive(Drop)]
+struct Objects<'s> {
+    page: Page,
+    line: Vec<u8>,
+    stretch: BareStretch<'s>,
+}
+
+/// Writes the segments of a part between each two places that come as objects, each with the mark of what ends there, or words alone, flushes, and
+/// says how many there were. The errors are the writer's, and being out of memory, also where there are more segments, or bytes in all, than a
+/// `usize` counts.
+pub fn print_objects<N: Iterator<Item = (usize, Mark)>, O: Write>(
+    alloc: Global,
+    places: &mut N,
+    alone: bool,
+    part: Part<'_>,
+    out: &mut O,
+) -> io::Result<usize>
+    requires json { part.style ≡ Json }
+    requires can { N.can_next places.old }
+    requires ends { IsFinite (N.remaining places.old) }
+    ensures { IfOk result (λ count. (given : List (ℕ × Mark)) × YieldsThen N.next_gives places.old given None places.new
+        × (count ≡ length (segments alone given))
+        × Appends (O.contents out.old) (O.contents out.new) (lines_at (look_of part.entry) part.entry.before part.entry.bytes.now (segments alone given))) }
+{
+    let mut objects = Objects {
+        page: Page::try_new(alloc)?,
+        line: Vec::new(alloc),
+        stretch: BareStretch { from: 0, text: "" },
+    };
+    let mut count: usize = 0;
+    let mut start = 0;
+    let mut has_begun = false;
+    'places: while let Some((end, mark)) = places.next() {
+        if !has_begun {
+            has_begun = true;
+        } else if mark.is_shown(alone) {
+            count = one_more(count)?;
+            let segment = Segment { start, end, mark };
+            if !put_short(part, segment, objects.stretch, &mut objects.page) {
+                put_other(part, segment, &mut objects, out)?;
+            }
+        }
+        start = end;
+    }
+    objects.page.write(out)?;
+    out.flush()?;
+    Ok(count)
+}
+
+// Adds the object of a segment, where it stands in the stretch, is a short one, names no file, and there is room for it.
+#[inline(always)]
+fn put_short(part: Part<'_>, segment: Segment, stretch: BareStretch<'_>, page: &mut Page) -> bool
+    requires json { part.style ≡ Json }
+    requires stretch { IsBareStretch part.bytes.now stretch }
+    ensures added { IsTrue result → page.new ≡ page.old ++ line_at (look_of part.entry) part.entry.before part.entry.bytes.now (record { from = segment.start; to = segment.end; mark = segment.mark }) }
+    ensures not { result ≡ false → page.new ≡ page.old }
+{
+    if part.file.is_some() {
+        return false;
+    }
+    let Some(text) = bare_text(part.bytes, segment.start, segment.end, stretch) else {
+        return false;
+    };
+    let Ok(start) = later(part.before, segment.start) else {
+        return false;
+    };
+    let Ok(end) = later(part.before, segment.end) else {
+        return false;
+    };
+    page.put_object(text, start, end, segment.mark)
+}
+
+// What stands between two places, where that is short, and in the stretch.
+#[inline(always)]
+fn bare_text(text: &[u8], start: usize, end: usize, stretch: BareStretch<'_>) -> Option<ShortText>
+    requires { IsBareStretch text.now stretch }
+    ensures { IfSome result (λ short. (short.len ≤ 16) × ((take short.len short.bytes ≡ slice_range text.now start end) × AreBare (slice_range text.now start end))) }
+{
+    let from = start.checked_sub(stretch.from)?;
+    let to = end.checked_sub(stretch.from)?;
+    let _bare = stretch.text.get(from..to)?;
+    short_text(text, start, end)
+}
+
+// Adds the object of a segment that doesn't stand in the stretch, isn't a short one, or has no room on the page, and finds the next stretch.
+#[inline(never)]
+fn put_other<'s, O: Write>(
+    part: Part<'s>,
+    segment: Segment,
+    objects: &mut Objects<'s>,
+    out: &mut O,
+) -> io::Result<()>
+    requires json { part.style ≡ Json }
+    ensures stretch { OnOk result (IsBareStretch part.entry.bytes.now objects.new.stretch) }
+    ensures lines { OnOk result (AreGathered (O.contents out.old) (O.contents out.new) objects.new.page
+        (objects.old.page ++ line_at (look_of part.entry) part.entry.before part.entry.bytes.now (record { from = segment.start; to = segment.end; mark = segment.mark }))) }
+{
+    objects.stretch = stretch_after(part.bytes, segment.start);
+    if put_short(part, segment, objects.stretch, &mut objects.page) {
+        return Ok(());
+    }
+    objects.line.clear();
+    push_line(part, segment, &mut objects.line)?;
+    put_line(objects.line.as_slice(), &mut objects.page, out)
+}
+
+// Adds a line, and writes what was gathered before, where there is no room for it. The errors are the writer's.
+fn put_line<O: Write>(line: &[u8], page: &mut Page, out: &mut O) -> io::Result<()>
+    ensures { OnOk result (AreGathered (O.contents out.old) (O.contents out.new) page.new (page.old ++ line.now)) }
+{
+    if page.put(line) {
+        return Ok(());
+    }
+    page.write(out)?;
+    if page.put(line) {
+        return Ok(());
+    }
+    out.write_all(line)
+}
+
+// The stretch that begins at a place.
+fn stretch_after<'s>(text: &'s [u8], from: usize) -> BareStretch<'s>
+    ensures { IsBareStretch text.now result }
+{
+    let near = near(text, from);
+    BareStretch {
+        from,
+        text: well_formed(&near[..bare_len(near)]),
+    }
+}
+
+// What stands at a place of a text, as far as it is looked at.
+fn near<'s>(text: &'s [u8], from: usize) -> &'s [u8]
+    ensures { (len : ℕ) × (result.now ≡ take len (drop from text.now)) }
+{
+    if from >= text.len() {
+        return &[];
+    }
+    let to = text.len().min(from.saturating_add(STRETCH_LEN));
+    &text[from..to]
+}
+
+// How many bytes a text begins with of which none is escaped.
+fn bare_len(text: &[u8]) -> usize
+    ensures few { result ≤ length text.now }
+    ensures bare { list_all is_bare (take result text.now) ≡ true }
+{
+    let mut len = 0;
+    while len < text.len() && is_bare(text[len]) {
+        len += 1;
+    }
+    len
+}
+
+// The well-formed UTF-8 that some bytes begin with.
+fn well_formed(bytes: &[u8]) -> &str
+    ensures { (len : ℕ) × (result.now ≡ take len bytes.now) }
+{
+    match str::from_utf8(bytes) {
+        Ok(text) => text,
+        Err(fault) => {
+            let begin = bytes.get(..fault.valid_up_to()).unwrap_or(&[]);
+            str::from_utf8(begin).unwrap_or("")
+        }
+    }
+}
