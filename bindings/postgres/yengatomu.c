@@ -16,9 +16,9 @@ PG_MODULE_MAGIC;
 /* The types of tokens. ts_headline knows types by the numbers that the default parser gives them. */
 enum { WORD = 2, BLANK = 12, NUMBER = 22 };
 
-/* The setting yengatomu.dictionaries, and whether this session has read it. */
+/* The setting yengatomu.dictionaries; and the folder that this session has read, "" for none, or NULL as long as it has read none. */
+static char *setting = NULL;
 static char *folder = NULL;
-static bool is_read = false;
 
 /* The segmenters of this session by their kinds. Each is opened when it is first needed, and stays. */
 static yengatomu_slot slots[YENGATOMU_LINES + 1];
@@ -35,7 +35,7 @@ typedef struct pieces {
 /* Refuses to set what this session has read already: texts would be cut in two ways. */
 static bool may_set(char **value, void **extra, GucSource source) {
     (void)extra;
-    if (!is_read || source == PGC_S_TEST || !strcmp(*value, folder ? folder : "")) return true;
+    if (!folder || source == PGC_S_TEST || !strcmp(*value, folder)) return true;
     GUC_check_errdetail("This session has read the dictionaries already. Set it at the start of a session.");
     return false;
 }
@@ -44,7 +44,7 @@ PGDLLEXPORT void _PG_init(void);
 
 void _PG_init(void) {
     DefineCustomStringVariable("yengatomu.dictionaries", "Folder with lists of words for scripts that are written without spaces.",
-                               "A session reads it once. Empty for none.", &folder, "", PGC_SUSET, 0, may_set, NULL, NULL);
+                               "A session reads it once. Empty for none.", &setting, "", PGC_SUSET, 0, may_set, NULL, NULL);
     MarkGUCPrefixReserved("yengatomu");
 }
 
@@ -54,32 +54,47 @@ static void must_be_utf8(void) {
                 errdetail("The encoding of this database is %s.", GetDatabaseEncodingName()));
 }
 
-static void no_memory(void) { ereport(ERROR, errcode(ERRCODE_OUT_OF_MEMORY), errmsg("out of memory"), errdetail("yengatomu can't open a segmenter.")); }
+static bool takes_words(uint32_t kind) { return kind == YENGATOMU_WORDS || kind == YENGATOMU_LINES; }
 
-/* Gives a segmenter the dictionaries of the folder, or leaves it empty and ends with an error. */
-static void load(yengatomu_slot *slot) {
-    uint32_t status;
-    int why;
-    errno = 0;
-    status = yengatomu_load_folder(slot, folder);
-    why = errno;
-    if (status == YENGATOMU_OK) return;
-    yengatomu_close(slot);
-    if (status == YENGATOMU_NO_MEMORY) no_memory();
-    ereport(ERROR, errcode(ERRCODE_CONFIG_FILE_ERROR), errmsg("yengatomu can't read the dictionaries of \"%s\"", folder),
+/* Ends with what is wrong with a folder of dictionaries. */
+static void refuse(const char *from, uint32_t status, int why) {
+    if (status == YENGATOMU_NO_MEMORY) ereport(ERROR, errcode(ERRCODE_OUT_OF_MEMORY), errmsg("out of memory"), errdetail("yengatomu can't open a segmenter."));
+    ereport(ERROR, errcode(ERRCODE_CONFIG_FILE_ERROR), errmsg("yengatomu can't read the dictionaries of \"%s\"", from),
             errdetail("%s.", status == YENGATOMU_UNREAD ? strerror(why) : status == YENGATOMU_NO_WORDS ? "A list has no words" : "A list isn't UTF-8"));
 }
 
-static bool has_dictionary(uint32_t kind) { return (kind == YENGATOMU_WORDS || kind == YENGATOMU_LINES) && folder && *folder; }
+/* Opens a segmenter of a kind, by the dictionaries of a folder unless that is "". At a fault it is empty. */
+static uint32_t open_by(yengatomu_slot *made, uint32_t kind, const char *from) {
+    uint32_t status = yengatomu_open(made, kind, YENGATOMU_STRICT, YENGATOMU_BREAK_NORMAL, false);
+    errno = 0;
+    if (status == YENGATOMU_OK && *from) status = yengatomu_load_folder(made, from);
+    if (status != YENGATOMU_OK) {
+        const int why = errno;
+        yengatomu_close(made);
+        errno = why;
+    }
+    return status;
+}
 
+/* The segmenter of a kind. That of words or lines has the dictionaries of the folder which the session has read, or else of the setting, which it then
+ * has read. */
 static yengatomu_slot *slot_of(uint32_t kind) {
-    yengatomu_slot *const slot = &slots[kind];
+    const char *const from = !takes_words(kind) ? "" : folder ? folder : setting ? setting : "";
+    yengatomu_slot made = {0};
+    char *kept = folder;
+    uint32_t status;
     must_be_utf8();
-    if (slot->full) return slot;
-    if (yengatomu_open(slot, kind, YENGATOMU_STRICT, YENGATOMU_BREAK_NORMAL, false) != YENGATOMU_OK) no_memory();
-    if (has_dictionary(kind)) load(slot);
-    if (kind == YENGATOMU_WORDS || kind == YENGATOMU_LINES) is_read = true;
-    return slot;
+    if (slots[kind].full) return &slots[kind];
+    if (takes_words(kind) && !folder) kept = MemoryContextStrdup(TopMemoryContext, from);
+    status = open_by(&made, kind, from);
+    if (status != YENGATOMU_OK) {
+        const int why = errno;
+        if (kept != folder) pfree(kept);
+        refuse(from, status, why);
+    }
+    folder = kept;
+    slots[kind] = made;
+    return &slots[kind];
 }
 
 /* Pieces. */
@@ -100,7 +115,7 @@ static pieces *begin(uint32_t kind, const char *text, size_t len, size_t columns
     it->over.slot = slot_of(kind);
     it->over.text = (const uint8_t *)text;
     it->over.len = len;
-    it->over.by_line = has_dictionary(kind);
+    it->over.by_line = takes_words(kind) && *folder;
     it->over.columns = columns;
     widen(it, WALK_ROOM);
     return it;
