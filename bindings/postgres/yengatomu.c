@@ -60,7 +60,9 @@ static bool takes_words(uint32_t kind) { return kind == YENGATOMU_WORDS || kind 
 static void refuse(const char *from, uint32_t status, int why) {
     if (status == YENGATOMU_NO_MEMORY) ereport(ERROR, errcode(ERRCODE_OUT_OF_MEMORY), errmsg("out of memory"), errdetail("yengatomu can't open a segmenter."));
     ereport(ERROR, errcode(ERRCODE_CONFIG_FILE_ERROR), errmsg("yengatomu can't read the dictionaries of \"%s\"", from),
-            errdetail("%s.", status == YENGATOMU_UNREAD ? strerror(why) : status == YENGATOMU_NO_WORDS ? "A list has no words" : "A list isn't UTF-8"));
+            errdetail("%s.", status == YENGATOMU_UNREAD     ? strerror(why)
+                             : status == YENGATOMU_NO_WORDS ? "A list has no words"
+                                                            : "A list isn't UTF-8"));
 }
 
 /* Opens a segmenter of a kind, by the dictionaries of a folder unless that is "". At a fault it is empty. */
@@ -139,9 +141,7 @@ PG_FUNCTION_INFO_V1(yengatomu_parser_token);
 PG_FUNCTION_INFO_V1(yengatomu_parser_end);
 PG_FUNCTION_INFO_V1(yengatomu_parser_types);
 
-Datum yengatomu_parser_start(PG_FUNCTION_ARGS) {
-    PG_RETURN_POINTER(begin(YENGATOMU_WORDS, (const char *)PG_GETARG_POINTER(0), (size_t)PG_GETARG_INT32(1), 0));
-}
+Datum yengatomu_parser_start(PG_FUNCTION_ARGS) { PG_RETURN_POINTER(begin(YENGATOMU_WORDS, (const char *)PG_GETARG_POINTER(0), (size_t)PG_GETARG_INT32(1), 0)); }
 
 Datum yengatomu_parser_token(PG_FUNCTION_ARGS) {
     static const int types[] = {BLANK, NUMBER, WORD};
@@ -167,7 +167,8 @@ Datum yengatomu_parser_end(PG_FUNCTION_ARGS) {
 }
 
 Datum yengatomu_parser_types(PG_FUNCTION_ARGS) {
-    static const LexDescr types[] = {{WORD, "word", "Word with a letter"}, {NUMBER, "number", "Number"}, {BLANK, "blank", "What is no word: spaces, punctuation, symbols"}};
+    static const LexDescr types[] = {
+        {WORD, "word", "Word with a letter"}, {NUMBER, "number", "Number"}, {BLANK, "blank", "What is no word: spaces, punctuation, symbols"}};
     LexDescr *const found = palloc0((lengthof(types) + 1) * sizeof *found);
     (void)fcinfo;
     for (int i = 0; i < (int)lengthof(types); i++) {
@@ -197,7 +198,8 @@ static void begin_call(FunctionCallInfo fcinfo, uint32_t kind, size_t columns) {
 static text *text_of(const walk *over, const piece *found) {
     const char *const start = (const char *)over->text + found->start;
     size_t len = found->end - found->start;
-    if (over->columns) while (len && (start[len - 1] == ' ' || start[len - 1] == '\n' || start[len - 1] == '\r')) len--;
+    if (over->columns)
+        while (len && (start[len - 1] == ' ' || start[len - 1] == '\n' || start[len - 1] == '\r')) len--;
     return cstring_to_text_with_len(start, (int)len);
 }
 

@@ -53,7 +53,8 @@ static void *sqlite_malloc(int size) { return is_refused() ? NULL : real.xMalloc
 static void *sqlite_realloc(void *at, int size) { return is_refused() ? NULL : real.xRealloc(at, size); }
 
 static const char create[] = "CREATE VIRTUAL TABLE pages USING fts5(body, tokenize = \"yengatomu dictionaries '%q' unicode61 remove_diacritics 2\")";
-static const char insert[] = "INSERT INTO pages VALUES('na\xc3\xafve \xe0\xb8\xa0\xe0\xb8\xb2\xe0\xb8\xa9\xe0\xb8\xb2\xe0\xb9\x84\xe0\xb8\x97\xe0\xb8\xa2 can''t ' || hex(zeroblob(2000)))";
+static const char insert[] = "INSERT INTO pages VALUES('na\xc3\xafve \xe0\xb8\xa0\xe0\xb8\xb2\xe0\xb8\xa9\xe0\xb8\xb2\xe0\xb9\x84\xe0\xb8\x97\xe0\xb8\xa2 "
+                             "can''t ' || hex(zeroblob(2000)))";
 static const char find[] = "SELECT highlight(pages, 0, '[', ']') LIKE '[na%' AND bm25(pages) < 0 FROM pages('naive OR \"can''t\" OR x*') ORDER BY rank LIMIT 1";
 static const char check[] = "INSERT INTO pages(pages) VALUES('integrity-check')";
 

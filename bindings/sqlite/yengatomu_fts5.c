@@ -260,12 +260,8 @@ static fts5_api *api_of(sqlite3 *db) {
     return found;
 }
 
-#ifdef _WIN32
-__declspec(dllexport)
-#else
-__attribute__((visibility("default")))
-#endif
-int sqlite3_yengatomufts_init(sqlite3 *db, char **error, const sqlite3_api_routines *routines) {
+/* What SQLite calls when it loads the extension. */
+__attribute__((visibility("default"))) int sqlite3_yengatomufts_init(sqlite3 *db, char **error, const sqlite3_api_routines *routines) {
     static fts5_tokenizer calls = {create_tokenizer, delete_tokenizer, tokenize};
     fts5_api *api;
     connection *it;
