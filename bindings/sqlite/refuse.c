@@ -60,6 +60,40 @@ static const char check[] = "INSERT INTO pages(pages) VALUES('integrity-check')"
 
 static int run(sqlite3 *db, const char *sql) { return sqlite3_exec(db, sql, NULL, NULL, NULL); }
 
+/* A tokenizer that gives each part between apostrophes, and its first byte as a synonym of it. */
+static int tokenize_initials(Fts5Tokenizer *given, void *context, int flags, const char *text, int len,
+                             int (*give)(void *context, int flags, const char *token, int len, int start, int end)) {
+    int status = SQLITE_OK, start = 0;
+    (void)given;
+    (void)flags;
+    for (int at = 0; status == SQLITE_OK && at <= len; at++) {
+        if (at < len && text[at] != '\'') continue;
+        if (at > start) status = give(context, 0, text + start, at - start, start, at);
+        if (at > start && status == SQLITE_OK) status = give(context, FTS5_TOKEN_COLOCATED, text + start, 1, start, at);
+        start = at + 1;
+    }
+    return status;
+}
+
+static int create_initials(void *given, const char **words, int count, Fts5Tokenizer **made) {
+    (void)words;
+    (void)count;
+    *made = given;
+    return SQLITE_OK;
+}
+
+static void delete_initials(Fts5Tokenizer *given) { (void)given; }
+
+/* Makes a table by that tokenizer. */
+static int open_initials(sqlite3 *db) {
+    static fts5_tokenizer calls = {create_initials, delete_initials, tokenize_initials};
+    fts5_api *const api = api_of(db);
+    const int status = api ? api->xCreateTokenizer(api, "initials", &calls, &calls, NULL) : SQLITE_NOMEM;
+    return status == SQLITE_OK ? run(db, "CREATE VIRTUAL TABLE others USING fts5(body, tokenize = \"yengatomu initials\");"
+                                         "INSERT INTO others VALUES('word can''t other')")
+                               : status;
+}
+
 /* The number that a statement returns, or -1. */
 static int number(sqlite3 *db, const char *sql, int *status) {
     sqlite3_stmt *it;
@@ -92,9 +126,14 @@ static bool refuse_open(const char *folder, long count) {
     left = count;
     status = open_pages(&db, folder);
     if (status == SQLITE_OK) status = run(db, insert);
+    if (status == SQLITE_OK) status = open_initials(db);
     left = -1;
     CHECK(status == SQLITE_OK || refused);
-    if (status == SQLITE_OK) CHECK(number(db, find, &status) == 1 && status == SQLITE_OK);
+    if (status == SQLITE_OK) {
+        CHECK(number(db, find, &status) == 1 && status == SQLITE_OK);
+        CHECK(number(db, "SELECT count(*) FROM others('w + cant + o') WHERE others MATCH 'word + cant + other'", &status) == 1 && status == SQLITE_OK);
+        CHECK(number(db, "SELECT count(*) FROM others('c OR t OR can')", &status) == 0 && status == SQLITE_OK);
+    }
     CHECK(sqlite3_close(db) == SQLITE_OK);
     CHECK(live == 0 && sqlite3_memory_used() == 0);
     return refused;

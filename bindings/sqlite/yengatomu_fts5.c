@@ -190,8 +190,8 @@ static int give_synonyms(const task *it, const piece *word) {
     return status;
 }
 
-/* Gives a word as one token, and its synonyms if it has one part. What the tokenizer behind gives nothing of is a token as it stands, so that letters
- * are found which are newer than its tables. */
+/* Gives a word as one token, and its synonyms if it has one part. What the tokenizer behind gives nothing of is a token as it stands, so that words are
+ * found whose letters are symbols to it. */
 static int give_word(task *it, const char *text, const piece *word) {
     const int len = (int)(word->end - word->start);
     int status;
