@@ -167,8 +167,9 @@ Datum yengatomu_parser_end(PG_FUNCTION_ARGS) {
 }
 
 Datum yengatomu_parser_types(PG_FUNCTION_ARGS) {
-    static const LexDescr types[] = {
-        {WORD, "word", "Word with a letter"}, {NUMBER, "number", "Number"}, {BLANK, "blank", "What is no word: spaces, punctuation, symbols"}};
+    static const LexDescr types[] = {{WORD, "word", "Word whose last letter or digit is a letter"},
+                                     {NUMBER, "number", "Number, or word whose last letter or digit is a digit"},
+                                     {BLANK, "blank", "What is no word: spaces, punctuation, symbols"}};
     LexDescr *const found = palloc0((lengthof(types) + 1) * sizeof *found);
     (void)fcinfo;
     for (int i = 0; i < (int)lengthof(types); i++) {

@@ -1,17 +1,22 @@
 /* refuse FOLDER [STEP]: refuses each allocation of SQLite, of the tokenizer and of the library in turn, alone and with all that come behind it; with STEP
  * only each of so many. FOLDER has dictionaries. There must be an error or the right answer, no row lost, no index that is wrong, and no block left.
  *
- * Compile it with -DSQLITE_CORE, so that the tokenizer is a part of it, and link it with -Wl,--wrap=NAME for malloc, calloc, realloc and free. */
+ * Compile it with -DSQLITE_CORE, so that the tokenizer is a part of it, and link it with -Wl,--wrap=NAME for malloc, calloc, realloc, aligned_alloc,
+ * posix_memalign and free. */
 #include "yengatomu_fts5.c"
 #include "../c/check.h"
 
 void *__real_malloc(size_t size);
 void *__real_calloc(size_t count, size_t size);
 void *__real_realloc(void *at, size_t size);
+void *__real_aligned_alloc(size_t alignment, size_t size);
+int __real_posix_memalign(void **at, size_t alignment, size_t size);
 void __real_free(void *at);
 void *__wrap_malloc(size_t size);
 void *__wrap_calloc(size_t count, size_t size);
 void *__wrap_realloc(void *at, size_t size);
+void *__wrap_aligned_alloc(size_t alignment, size_t size);
+int __wrap_posix_memalign(void **at, size_t alignment, size_t size);
 void __wrap_free(void *at);
 
 static sqlite3_mem_methods real;
@@ -38,10 +43,17 @@ static void *held(void *at) {
 
 void *__wrap_malloc(size_t size) { return is_refused() ? NULL : held(__real_malloc(size)); }
 void *__wrap_calloc(size_t count, size_t size) { return is_refused() ? NULL : held(__real_calloc(count, size)); }
+void *__wrap_aligned_alloc(size_t alignment, size_t size) { return is_refused() ? NULL : held(__real_aligned_alloc(alignment, size)); }
 
 void *__wrap_realloc(void *at, size_t size) {
     if (is_refused()) return NULL;
     return at ? __real_realloc(at, size) : held(__real_realloc(at, size));
+}
+
+int __wrap_posix_memalign(void **at, size_t alignment, size_t size) {
+    const int status = is_refused() ? 12 : __real_posix_memalign(at, alignment, size);
+    live += !status;
+    return status;
 }
 
 void __wrap_free(void *at) {
