@@ -113,7 +113,8 @@ def main(words):
         print(__doc__, file=sys.stderr)
         return 2
     lib = os.path.realpath(os.environ.get("YENGATOMU_LIB_DIR") or f"{tests.BINDINGS}/lib")
-    with tempfile.TemporaryDirectory(prefix="search-") as room:
+    os.umask(0o022)
+    with tempfile.TemporaryDirectory(prefix="search-", dir="/tmp") as room:
         os.chmod(room, 0o755)
         suite = tests.Suite(lib, os.path.realpath(words[0]) if words else ROOT, room)
         try:
