@@ -219,10 +219,11 @@ static int give_words(task *it, walk *over) {
 static int widen(walk *it, size_t room, void **block) {
     sqlite3_free(*block);
     *block = sqlite3_malloc64(room * (sizeof *it->ends + sizeof *it->marks));
+    if (!*block) return SQLITE_NOMEM;
     it->ends = *block;
     it->marks = (uint8_t *)(it->ends + room);
     it->room = room;
-    return *block ? SQLITE_OK : SQLITE_NOMEM;
+    return SQLITE_OK;
 }
 
 static int tokenize(Fts5Tokenizer *given, void *context, int flags, const char *text, int len,
@@ -233,7 +234,7 @@ static int tokenize(Fts5Tokenizer *given, void *context, int flags, const char *
     uint8_t marks[WALK_ROOM];
     void *block = NULL;
     int status = SQLITE_OK;
-    walk over = {.slot = &by->words->slot, .text = (const uint8_t *)text, .len = text ? (size_t)len : 0, .by_line = *by->words->folder};
+    walk over = {.slot = &by->words->slot, .text = (const uint8_t *)(text ? text : ""), .len = text ? (size_t)len : 0, .by_line = *by->words->folder};
     over.ends = ends;
     over.marks = marks;
     over.room = WALK_ROOM;
