@@ -12,11 +12,14 @@
  * A text is UTF-8, which may be ill-formed: places are bytes from its start. Calls that end in _utf16 take UTF-16, which may be
  * ill-formed too: there places are 16-bit units. In UTF-8 what is ill-formed counts as U+FFFD, as Unicode's Table 3-7
  * splits it; in UTF-16 a surrogate that stands alone counts as itself.
- * No call keeps a pointer, writes but to the slot and the buffers it is handed, aborts, or takes a lock.
+ * No call keeps a pointer, writes but to the buffers and the slot (unless const) that it is handed, aborts, or takes a lock.
  *
  * What a caller owes:
  * - A slot begins as zero bytes, and nobody but these calls writes to it. It may be moved, but not copied and used twice.
- * - A slot serves one call at a time. Different slots may be used by different threads, and a slot may pass from one to another.
+ * - Calls that take a const slot read it: any number of threads may make them at once on one slot, also on an empty one.
+ * - Calls that take a slot without const change it. While one of them runs, no other call may use the slot. To open, load or close a
+ *   slot while another thread reads it is the caller's fault, and no call notices; nor may it be moved meanwhile.
+ * - A slot may be opened by one thread, used by others and closed by another again, as long as these happen one after another.
  * - Each length is that of the array in front of it, in its own elements. No array is NULL, not even one of length 0.
  * - Buffers overlap neither one another nor the text. What error points to is one of one element. */
 #ifndef YENGATOMU_H
@@ -108,41 +111,42 @@ void yengatomu_close(yengatomu_slot *slot);
  * slot has neither a dictionary nor abbreviations, they are the boundaries of the whole text: so go on from the last one, until 0 is
  * returned. With a dictionary or abbreviations go on only from behind a line feed: what they look at may begin before the boundary.
  * 0 where from is len or more, and where the slot is empty. */
-size_t yengatomu_boundaries(yengatomu_slot *slot, const uint8_t *text, size_t len, size_t from, size_t *out, size_t room);
-size_t yengatomu_boundaries_utf16(yengatomu_slot *slot, const uint16_t *text, size_t len, size_t from, size_t *out, size_t room);
+size_t yengatomu_boundaries(const yengatomu_slot *slot, const uint8_t *text, size_t len, size_t from, size_t *out, size_t room);
+size_t yengatomu_boundaries_utf16(const yengatomu_slot *slot, const uint16_t *text, size_t len, size_t from, size_t *out, size_t room);
 
 /* The same, with a mark for each: of words YENGATOMU_NO_WORD and so on, of lines YENGATOMU_MAY_BREAK or YENGATOMU_MUST_BREAK, of
  * others 0. It writes as many as both buffers have room for. */
-size_t yengatomu_marked_boundaries(yengatomu_slot *slot, const uint8_t *text, size_t len, size_t from, size_t *out, size_t room,
+size_t yengatomu_marked_boundaries(const yengatomu_slot *slot, const uint8_t *text, size_t len, size_t from, size_t *out, size_t room,
                                    uint8_t *marks, size_t marks_room);
-size_t yengatomu_marked_boundaries_utf16(yengatomu_slot *slot, const uint16_t *text, size_t len, size_t from, size_t *out, size_t room,
-                                         uint8_t *marks, size_t marks_room);
+size_t yengatomu_marked_boundaries_utf16(const yengatomu_slot *slot, const uint16_t *text, size_t len, size_t from, size_t *out,
+                                         size_t room, uint8_t *marks, size_t marks_room);
 
 /* The nearest boundary above the place, which may be inside a character; and the nearest below it, which may be past the end.
  * YENGATOMU_NONE where there is none, and where the slot is empty. */
-size_t yengatomu_next(yengatomu_slot *slot, const uint8_t *text, size_t len, size_t place);
-size_t yengatomu_next_utf16(yengatomu_slot *slot, const uint16_t *text, size_t len, size_t place);
-size_t yengatomu_previous(yengatomu_slot *slot, const uint8_t *text, size_t len, size_t place);
-size_t yengatomu_previous_utf16(yengatomu_slot *slot, const uint16_t *text, size_t len, size_t place);
+size_t yengatomu_next(const yengatomu_slot *slot, const uint8_t *text, size_t len, size_t place);
+size_t yengatomu_next_utf16(const yengatomu_slot *slot, const uint16_t *text, size_t len, size_t place);
+size_t yengatomu_previous(const yengatomu_slot *slot, const uint8_t *text, size_t len, size_t place);
+size_t yengatomu_previous_utf16(const yengatomu_slot *slot, const uint16_t *text, size_t len, size_t place);
 
 /* Writes where the first lines end that the text from there on is wrapped to, as many as there is room for, and returns how many.
  * A line takes as many segments as fit in the columns, at least one, and ends where it must. Spaces, line feeds and carriage returns
  * at its end take no columns. Columns are counted by character, or by cluster (yengatomu_count_by_cluster). Go on as with
  * yengatomu_boundaries. 0 where from is len or more, where the slot is empty, and of other kinds than lines. */
-size_t yengatomu_wrap(yengatomu_slot *slot, const uint8_t *text, size_t len, size_t from, size_t columns, size_t *ends, size_t room);
-size_t yengatomu_wrap_utf16(yengatomu_slot *slot, const uint16_t *text, size_t len, size_t from, size_t columns, size_t *ends, size_t room);
+size_t yengatomu_wrap(const yengatomu_slot *slot, const uint8_t *text, size_t len, size_t from, size_t columns, size_t *ends, size_t room);
+size_t yengatomu_wrap_utf16(const yengatomu_slot *slot, const uint16_t *text, size_t len, size_t from, size_t columns, size_t *ends,
+                            size_t room);
 /* The same, with how many columns each line takes. It writes as many as both buffers have room for. */
-size_t yengatomu_wrap_columns(yengatomu_slot *slot, const uint8_t *text, size_t len, size_t from, size_t columns, size_t *ends, size_t room,
-                              size_t *widths, size_t widths_room);
-size_t yengatomu_wrap_columns_utf16(yengatomu_slot *slot, const uint16_t *text, size_t len, size_t from, size_t columns, size_t *ends,
+size_t yengatomu_wrap_columns(const yengatomu_slot *slot, const uint8_t *text, size_t len, size_t from, size_t columns, size_t *ends,
+                              size_t room, size_t *widths, size_t widths_room);
+size_t yengatomu_wrap_columns_utf16(const yengatomu_slot *slot, const uint16_t *text, size_t len, size_t from, size_t columns, size_t *ends,
                                     size_t room, size_t *widths, size_t widths_room);
 
 /* How many segments the text has: one less than it has boundaries. 0 where the slot is empty. */
-size_t yengatomu_count(yengatomu_slot *slot, const uint8_t *text, size_t len);
-size_t yengatomu_count_utf16(yengatomu_slot *slot, const uint16_t *text, size_t len);
+size_t yengatomu_count(const yengatomu_slot *slot, const uint8_t *text, size_t len);
+size_t yengatomu_count_utf16(const yengatomu_slot *slot, const uint16_t *text, size_t len);
 /* How many of them are words, of letters or numbers. 0 of other kinds than words. */
-size_t yengatomu_count_words(yengatomu_slot *slot, const uint8_t *text, size_t len);
-size_t yengatomu_count_words_utf16(yengatomu_slot *slot, const uint16_t *text, size_t len);
+size_t yengatomu_count_words(const yengatomu_slot *slot, const uint8_t *text, size_t len);
+size_t yengatomu_count_words_utf16(const yengatomu_slot *slot, const uint16_t *text, size_t len);
 
 /* Versions as 10,000 times the major number, 100 times the minor one and the update: of this library, and of the Unicode data by which
  * a kind is segmented (0 for no such kind). The data of each kind are of 18.0 (180000). So are the rules, those of UAX #29; but the rules

@@ -680,6 +680,34 @@ class Threads(unittest.TestCase):
         wanted = [it.boundaries(text) for it in shared]
         self.run_ten(lambda: self.assertEqual([it.boundaries(text) for it in shared], wanted))
 
+    def test_shared_with_words(self):
+        words, lines, sentences = Segmenter(Kind.WORDS), Segmenter(Kind.LINES, by_cluster=True), Segmenter(Kind.SENTENCES)
+        words.load_dictionary(THAI, Script.THAI)
+        lines.load_dictionary(THAI, Script.THAI)
+        sentences.load_abbreviations(["Mr."])
+        text = "".join(random_texts(40, 100)) + "\nMr. Fox ภาษาไทย\n"
+
+        def found():
+            places = [it.boundaries(text) + [it.count(text), it.next(text, 50), it.previous(text, 50)] for it in (words, lines, sentences)]
+            return places, list(words.word_spans(text)), words.count_words(text), list(lines.wrapped(text, 20)), list(words.words(text[-20:]))
+
+        wanted = found()
+        self.run_ten(lambda: self.assertEqual(found(), wanted))
+
+    def test_loaded_while_it_is_read(self):
+        words, text = Segmenter(Kind.WORDS), "ภาษาไทย a b\n" * 500
+        plain = words.boundaries(text)
+        loaded = Segmenter(Kind.WORDS)
+        loaded.load_dictionary(THAI, Script.THAI)
+        cut = loaded.boundaries(text)
+
+        def one():
+            self.assertIn(words.boundaries(text), (plain, cut))
+            words.load_dictionary(THAI, Script.THAI)
+            self.assertEqual(words.boundaries(text), cut)
+
+        self.run_ten(one)
+
     def test_own(self):
         text = "".join(random_texts(40, 100))
         wanted = yengatomu.words(text), yengatomu.graphemes(text), yengatomu.wrap(text, 20)

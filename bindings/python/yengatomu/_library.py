@@ -1,7 +1,7 @@
 """The calls of yengatomu.h.
 
-They are called by `ctypes.CDLL`, which lets other threads run meanwhile. So each segmenter has a lock of its own, since a slot serves one call at a time;
-`ctypes.PyDLL` would need none while there is a global lock, but would stop all other threads during a call, and keep two from segmenting side by side.
+They are called by `ctypes.CDLL`, which lets other threads run meanwhile. Any number of threads may read one slot at once, without a lock; what changes a
+slot is called only while no other thread knows of it.
 """
 
 import ctypes
@@ -36,6 +36,11 @@ class Slot(ctypes.Structure):
     """Holds a segmenter or nothing. What it holds is freed with it."""
 
     _fields_ = [("full", ctypes.c_bool), ("at", ctypes.c_void_p)]
+
+    def __init__(self) -> None:
+        super().__init__()
+        # Its address, as calls take it; and whether it has a dictionary or abbreviations.
+        self.here, self.has_words = ctypes.c_void_p(ctypes.addressof(self)), False
 
     def __del__(self, close: Callable[..., Any] = _library.yengatomu_close, address: Callable[[Any], int] = ctypes.addressof) -> None:
         close(address(self))

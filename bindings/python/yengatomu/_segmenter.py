@@ -91,12 +91,34 @@ class _Room:
         self.whole = ctypes.c_size_t(size)
 
 
+class _Load:
+    """Words, and the call that loads them."""
+
+    def __init__(self, call: _Call, listed: List[bytes], *options: int) -> None:
+        whole, sizes = b"".join(listed), array("Q", map(len, listed))
+        # Of each word where it begins and its length, as the structure yengatomu_word has them. (There is one more, so that no array is empty.)
+        words = array("Q", bytes(16 * (len(listed) + 1)))
+        words[0::2] = array("Q", accumulate(sizes, initial=ctypes.cast(ctypes.c_char_p(whole), ctypes.c_void_p).value or 0))
+        words[1:-1:2] = sizes
+        self._call, self._options, self._count = call, options, len(listed)
+        self._whole, self._words = whole, words
+
+    def into(self, slot: _library.Slot) -> None:
+        """Loads them into a slot that has none of their script."""
+        status = self._call(slot.here, self._words.buffer_info()[0], self._count, *self._options)
+        if status == _library.NO_MEMORY:
+            raise MemoryError
+        if status != _library.OK:
+            raise ValueError("a word is no UTF-8, or there is no such script")
+        slot.has_words = True
+
+
 class Segmenter:
     """Finds the boundaries of a kind, over Unicode's data.
 
     Only LINES have options: how strictly they break, which is STRICT where nothing is given, whether within words, whether their texts are Chinese or
     Japanese, and whether `wrap` counts columns by cluster, where it would count them by character. ValueError where another kind is given one. Threads
-    may share a segmenter, and wait for one another then. To make one takes about a millisecond, so keep it. Texts are str or bytes; anything else is a
+    may share a segmenter, and none waits for another. To make one takes about a millisecond, so keep it. Texts are str or bytes; anything else is a
     TypeError.
     """
 
@@ -117,23 +139,32 @@ class Segmenter:
         self._begin(kind)
         chosen = Strictness.STRICT if strictness is None else Strictness(strictness)
         within = WordBreak.NORMAL if word_break is None else WordBreak(word_break)
-        status = _library.open_slot(self._at, kind, chosen, within, bool(chinese_or_japanese))
+        self._options, self._by_cluster = (kind, chosen, within, bool(chinese_or_japanese)), bool(by_cluster)
+        self._slot = self._opened()
+
+    def _begin(self, kind: Kind) -> None:
+        self._kind, self._by_cluster = kind, False
+        # What calls read. It isn't changed, since other threads may read it, but replaced; a call that reads keeps it until it returns.
+        self._slot = _library.Slot()
+        # What was loaded, by script, and abbreviations by None; and the lock of those who load.
+        self._loads: Dict[Optional[Script], _Load] = {}
+        self._loading = threading.Lock()
+        # What calls write to, by what is said beside places: those that no call has just now.
+        self._rooms: Dict[str, List[_Room]] = {"B": [], "Q": []}
+        # The text that was asked about last, and its units.
+        self._last: Tuple[Union[str, bytes], Units] = b"", units_of(b"")
+
+    def _opened(self) -> _library.Slot:
+        """Opens a slot of this kind, with these options."""
+        slot = _library.Slot()
+        status = _library.open_slot(slot.here, *self._options)
         if status == _library.NO_MEMORY:
             raise MemoryError
         if status != _library.OK:
             raise ValueError("no such kind or option")
-        if by_cluster and _library.count_by_cluster(self._at) != _library.OK:
+        if self._by_cluster and _library.count_by_cluster(slot.here) != _library.OK:
             raise MemoryError
-        self._by_cluster = bool(by_cluster)
-
-    def _begin(self, kind: Kind) -> None:
-        self._kind, self._has_words, self._by_cluster = kind, False, False
-        self._lock, self._slot = threading.Lock(), _library.Slot()
-        self._at = ctypes.c_void_p(ctypes.addressof(self._slot))
-        # What calls write to, by what is said beside places.
-        self._rooms: Dict[str, _Room] = {}
-        # The text that was asked about last, and its units.
-        self._last: Tuple[Union[str, bytes], Units] = b"", units_of(b"")
+        return slot
 
     @classmethod
     def by_rules(cls, rules: Union[str, bytes]) -> "Segmenter":
@@ -146,7 +177,7 @@ class Segmenter:
         encoded, line = rules.encode() if isinstance(rules, str) else rules, _library.Line()
         made = cls.__new__(cls)
         made._begin(Kind.CLUSTERS)
-        status = _library.open_rules(made._at, encoded, len(encoded), line)
+        status = _library.open_rules(made._slot.here, encoded, len(encoded), line)
         if status == _library.NO_MEMORY:
             raise MemoryError
         if status == _library.WRONG_RULES:
@@ -170,7 +201,7 @@ class Segmenter:
             raise TypeError("a dictionary is of many words, and this is one str or bytes")
         script = Script(script)
         self._must_take_words()
-        self._load_script(listed_in(words), script)
+        self._load({script: _Load(_library.load_dictionary, listed_in(words), script)})
 
     def load_dictionaries(self, folder: Union[str, "os.PathLike[str]"]) -> List[Script]:
         """Loads thai.txt, lao.txt, khmer.txt, myanmar.txt and (of WORDS) cj.txt of a folder, as many as there are, and returns their scripts.
@@ -188,8 +219,7 @@ class Segmenter:
         if self._kind is Kind.LINES:
             there.pop(Script.CHINESE_OR_JAPANESE, None)
         found = {script: _list_at(path) for script, path in there.items()}
-        for script, listed in found.items():
-            self._load_script(listed, script)
+        self._load({script: _Load(_library.load_dictionary, listed, script) for script, listed in found.items()})
         return list(found)
 
     def load_abbreviations(self, words: Iterable[Union[str, bytes]]) -> None:
@@ -213,26 +243,20 @@ class Segmenter:
         self._abbreviate(_list_at(os.path.join(os.fspath(folder), f"abbreviations-{language}.txt")))
 
     def _abbreviate(self, listed: List[bytes]) -> None:
-        if self._load(_library.load_abbreviations, listed) != _library.OK:
-            raise ValueError("this segmenter has abbreviations already")
+        self._load({None: _Load(_library.load_abbreviations, listed)})
 
-    def _load(self, call: _Call, listed: List[bytes], *options: int) -> int:
-        """Has a call take words, and returns its status, but for that of no memory."""
-        whole, sizes = b"".join(listed), array("Q", map(len, listed))
-        # Of each word where it begins and its length, as the structure yengatomu_word has them. (There is one more, so that no array is empty.)
-        words = array("Q", bytes(16 * (len(listed) + 1)))
-        words[0::2] = array("Q", accumulate(sizes, initial=ctypes.cast(ctypes.c_char_p(whole), ctypes.c_void_p).value or 0))
-        words[1:-1:2] = sizes
-        with self._lock:
-            status = call(self._at, words.buffer_info()[0], len(listed), *options)
-            self._has_words = self._has_words or status == _library.OK
-        if status == _library.NO_MEMORY:
-            raise MemoryError
-        return status
-
-    def _load_script(self, listed: List[bytes], script: Script) -> None:
-        if self._load(_library.load_dictionary, listed, script) != _library.OK:
-            raise ValueError("a word is no UTF-8, or there is no such script")
+    def _load(self, loads: Dict[Optional[Script], _Load]) -> None:
+        """Loads what it has none of yet, all of it or nothing. It goes into another slot, with what was loaded before, which then takes the slot's place."""
+        with self._loading:
+            if None in loads and None in self._loads:
+                raise ValueError("this segmenter has abbreviations already")
+            both = {**loads, **self._loads}
+            if len(both) == len(self._loads):
+                return
+            slot = self._opened()
+            for it in both.values():
+                it.into(slot)
+            self._slot, self._loads = slot, both
 
     def boundaries(self, text: Union[str, bytes]) -> List[int]:
         """Returns where a text may be cut, from 0 to its length."""
@@ -272,16 +296,14 @@ class Segmenter:
 
     def count(self, text: Union[str, bytes]) -> int:
         """Returns how many segments a text has."""
-        units, length, is_wide, _ = units_of(text)
-        with self._lock:
-            return _COUNT[is_wide](self._at, units, length)
+        slot, (units, length, is_wide, _) = self._slot, units_of(text)
+        return _COUNT[is_wide](slot.here, units, length)
 
     def count_words(self, text: Union[str, bytes]) -> int:
         """Returns how many words it has. ValueError of another kind than WORDS."""
         self._must_be(Kind.WORDS)
-        units, length, is_wide, _ = units_of(text)
-        with self._lock:
-            return _COUNT_WORDS[is_wide](self._at, units, length)
+        slot, (units, length, is_wide, _) = self._slot, units_of(text)
+        return _COUNT_WORDS[is_wide](slot.here, units, length)
 
     def next(self, text: Union[str, bytes], place: int) -> Optional[int]:
         """Returns the nearest boundary above a place, which may be inside a character of bytes. None where there is none, ValueError for a place below 0.
@@ -334,16 +356,15 @@ class Segmenter:
         units, length, is_wide, seconds = it
         if length > ROOM:
             return chain.from_iterable(starmap(show, self._chunks(it, has_marks)))
-        marks = _NO_MARKS
-        with self._lock:
-            room = self._room(length, "B")
-            # (what is made already is handed over the quickest)
-            if has_marks:
-                count = _MARKED_BOUNDARIES[is_wide](self._at, units, length, _START, room.at, room.whole, room.beside_at, room.whole)
-                marks = room.beside[:count]
-            else:
-                count = _BOUNDARIES[is_wide](self._at, units, length, _START, room.at, room.whole)
-            places = room.places[:count]
+        slot, room, marks = self._slot, self._room(length, "B"), _NO_MARKS
+        # (what is made already is handed over the quickest)
+        if has_marks:
+            count = _MARKED_BOUNDARIES[is_wide](slot.here, units, length, _START, room.at, room.whole, room.beside_at, room.whole)
+            marks = room.beside[:count]
+        else:
+            count = _BOUNDARIES[is_wide](slot.here, units, length, _START, room.at, room.whole)
+        places = room.places[:count]
+        self._rooms["B"].append(room)
         ends = indices(seconds, places) if seconds else places.tolist()
         return show([0, *ends], ends, marks)
 
@@ -358,10 +379,10 @@ class Segmenter:
 
     def _places(self, it: Units) -> Iterator["array[int]"]:
         """Yields all boundaries above 0, some at a time. With words the library goes on only from behind a line feed, so there is more room while there is none."""
-        room, start = min(it[1], ROOM), 0
+        slot, room, start = self._slot, min(it[1], ROOM), 0
         while start < it[1]:
-            places = self._ended(it, start, room)
-            if self._has_words and places[-1] < it[1]:
+            places = self._ended(slot, it, start, room)
+            if slot.has_words and places[-1] < it[1]:
                 del places[up_to_line_feed(it, places) :]
                 if not places:
                     room *= 4
@@ -371,10 +392,10 @@ class Segmenter:
 
     def _found(self, call: _Call, it: Units, code: str, *options: int) -> Iterator[Tuple["array[int]", "array[int]"]]:
         """Yields what a call finds, places and what it writes beside them, likewise."""
-        room, start = min(it[1], ROOM), 0
+        slot, room, start = self._slot, min(it[1], ROOM), 0
         while start < it[1]:
-            places, beside = self._asked(call, it, start, room, code, *options)
-            if self._has_words and places[-1] < it[1]:
+            places, beside = self._asked(slot, call, it, start, room, code, *options)
+            if slot.has_words and places[-1] < it[1]:
                 count = up_to_line_feed(it, places)
                 if not count:
                     room *= 4
@@ -383,27 +404,33 @@ class Segmenter:
             start = places[-1]
             yield places, beside
 
-    def _ended(self, it: Units, start: int, size: int) -> "array[int]":
+    def _ended(self, slot: _library.Slot, it: Units, start: int, size: int) -> "array[int]":
         """Returns the first boundaries above a place, at most so many."""
-        with self._lock:
-            room = self._room(size, "B")
-            return room.places[: _BOUNDARIES[it[2]](self._at, it[0], it[1], start, room.at, size)]
+        room = self._room(size, "B")
+        places = room.places[: _BOUNDARIES[it[2]](slot.here, it[0], it[1], start, room.at, size)]
+        if room.size == ROOM:
+            self._rooms["B"].append(room)
+        return places
 
-    def _asked(self, call: _Call, it: Units, start: int, size: int, code: str, *options: int) -> Tuple["array[int]", "array[int]"]:
+    def _asked(
+        self, slot: _library.Slot, call: _Call, it: Units, start: int, size: int, code: str, *options: int
+    ) -> Tuple["array[int]", "array[int]"]:
         """Returns the first places that a call finds, at most so many, and what it writes beside them."""
-        with self._lock:
-            room = self._room(size, code)
-            count = call(self._at, it[0], it[1], start, *options, room.at, size, room.beside_at, size)
-            return room.places[:count], room.beside[:count]
+        room = self._room(size, code)
+        count = call(slot.here, it[0], it[1], start, *options, room.at, size, room.beside_at, size)
+        found = room.places[:count], room.beside[:count]
+        if room.size == ROOM:
+            self._rooms[code].append(room)
+        return found
 
     def _room(self, size: int, code: str) -> _Room:
-        """Returns arrays for so many places: those that are kept, unless they are too small. It is called with the lock held."""
-        room = self._rooms.get(code)
-        if room is None or room.size < size:
-            room = _Room(max(size, ROOM), code)
-            if size <= ROOM:
-                self._rooms[code] = room
-        return room
+        """Returns arrays for so many places, which no other call has until they are given back: kept ones, unless that is too many."""
+        if size > ROOM:
+            return _Room(size, code)
+        try:
+            return self._rooms[code].pop()
+        except IndexError:
+            return _Room(ROOM, code)
 
     def _near(self, calls: Tuple[_Call, _Call], text: Union[str, bytes], place: int) -> Optional[int]:
         place = size(place, "place")
@@ -417,8 +444,8 @@ class Segmenter:
         at = place
         if seconds and isinstance(text, str):
             at = min(place + len(PAIR.findall(text, 0, min(place, len(text)))), _library.NONE)
-        with self._lock:
-            found = calls[is_wide](self._at, units, length, at)
+        slot = self._slot
+        found = calls[is_wide](slot.here, units, length, at)
         return None if found == _library.NONE else indices(seconds, array("Q", [found]))[0]
 
 

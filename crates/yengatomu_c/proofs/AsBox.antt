@@ -1,4 +1,4 @@
--- A handle and its parts own what a box at the same types owns.
+-- Parts own what a box at the same types owns.
 use mir.Syntax.{impl, tnil, dnil}
 use mathlib.Core.List.{[]}
 use denote.Signature.{Slot, plain}

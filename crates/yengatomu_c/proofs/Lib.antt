@@ -5,4 +5,6 @@ mod Lines
 mod Marked
 mod ReadWords
 mod Feeds
+pub mod Shapes
+pub mod Loans
 mod Nearest

@@ -55,7 +55,7 @@ finder_of (held.Lines lines clusters) = Lines (owned_line_rules lines) (option_m
 
 -- what the slot's segmenter finds boundaries by, if it holds one
 abbrev pub finder_in : Slot → Option Finder
-finder_in slot = option_map finder_of slot.handle.held
+finder_in slot = option_map finder_of slot.handle.holds.held
 
 -- The boundaries of a text that stands in some units, which this decodes.
 

@@ -9,3 +9,4 @@ pub mod Wrapped
 pub mod Finders
 pub mod ByRules
 pub mod Options
+pub mod Lent

@@ -1,6 +1,6 @@
 //! Abbreviations that a caller loads.
 
-ghost use Rattle.std.specs.Prelude.{◌≡◌, ◌⊎◌, IfErr, IfOk, IfSome};
+ghost use Rattle.std.specs.Prelude.{◌≡◌, ◌⊎◌, IfErr, IfOk, IfSome, false};
 ghost use Rattle.icu_segmenter.specs.Abbreviations.{abbreviations_of};
 ghost use Rattle.icu_segmenter.specs.WordSets.{IsSameSet, code_points_of_each};
 ghost use Rattle.yengatomu_c.specs.Abbreviated.{AreLoaded, CanAbbreviate, HasTaken, IsWhy};
@@ -35,6 +35,7 @@ pub extern "C" fn yengatomu_load_abbreviations(
     slot: &mut Slot,
     words: &[&[u8]],
 ) -> u32
+    requires own { slot.old.handle.holds.lent ≡ false }
     ensures loaded { AreLoaded words.now (finder_in slot.old) (finder_in slot.new) result }
     ensures feeds { IfSome (finder_in slot.old) LineFeedsReset → IfSome (finder_in slot.new) LineFeedsReset }
 {

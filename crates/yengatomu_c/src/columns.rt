@@ -25,6 +25,7 @@ pub enum Refusal {
 /// character. 0 where it does, 1 when out of memory, 2 where the slot holds no lines; in these cases the slot is as it was.
 #[unsafe(no_mangle)]
 pub extern "C" fn yengatomu_count_by_cluster(alloc: Global, slot: &mut Slot) -> u32
+    requires own { slot.old.handle.holds.lent ≡ false }
     ensures counted { IsCounted (finder_in slot.old) (finder_in slot.new) result }
     ensures restart { IfSome (finder_in slot.old) (λ finder. HasRestart (find_by finder)) → IfSome (finder_in slot.new) (λ finder. HasRestart (find_by finder)) }
     ensures feeds { IfSome (finder_in slot.old) LineFeedsReset → IfSome (finder_in slot.new) LineFeedsReset }

@@ -1,5 +1,7 @@
 //! What C holds of a segmenter: its box behind a pointer, or nothing.
-ghost use Rattle.std.specs.Prelude.{◌≡◌, Option, Some, None, true};
+
+ghost use Rattle.std.specs.Prelude.{◌≡◌, Bool, Option, Some, None, true, false};
+ghost use denote.RawPtr.{Ptr};
 ghost use Rattle.yengatomu_c.specs.declared.segmenter.Segmenter.{Segmenter};
 ghost use Rattle.yengatomu_c.specs.Owned.{owned, held_coded, is_held};
 
@@ -8,45 +10,66 @@ use crate::segmenter::Segmenter;
 use std::alloc::Global;
 use std::marker::Model;
 
+/// What owns the box, unless that is lent. It has no bytes.
+#[repr(C)]
+#[derive(Drop)]
+pub struct Holds {
+    alloc: Global,
+    pub ghost at: { Ptr },
+    pub ghost held: { Option Segmenter } by { held_coded },
+    pub ghost lent: { Bool },
+}
+
+impl Model for Holds {
+    ghost also_owns = { λ h. owned h.alloc h.at h.lent h.held };
+}
+
+unsafe impl Send for Holds {}
+
+unsafe impl Sync for Holds {}
+
+/// A box behind a pointer, or nothing. `&` to it reads the pointer alone.
 #[repr(C)]
 #[derive(Drop)]
 pub struct Handle {
-    at: *mut u8,
-    alloc: Global,
-    pub ghost held: { Option Segmenter } by { held_coded },
-}
-
-impl Model for Handle {
-    ghost also_owns = { λ h. owned h.alloc h.at h.held };
+    pub(crate) at: *mut u8,
+    pub(crate) holds: Holds,
+    ghost same: { at ≡ holds.at },
 }
 
 unsafe impl Send for Handle {}
 
+unsafe impl Sync for Handle {}
+
 impl Handle {
+    /// That of nothing.
     pub fn empty(alloc: Global) -> Handle
-        ensures { result.held ≡ None }
+        ensures { (result.holds.held ≡ None) × (result.holds.lent ≡ false) }
     {
         Handle {
             at: std::ptr::null_mut(),
-            alloc,
+            holds: Holds { alloc },
         }
     }
 
+    /// That of a box.
     pub fn of_parts(parts: Parts<Segmenter, Global>) -> Handle
-        ensures { result.held ≡ Some parts.value }
+        ensures { (result.holds.held ≡ Some parts.value) × (result.holds.lent ≡ false) }
     {
         let Parts { ptr, alloc } = parts;
         Handle {
             at: ptr as *mut u8,
-            alloc,
+            holds: Holds { alloc },
         }
     }
 
+    /// The box, which mustn't be lent.
     pub fn into_parts(self) -> Parts<Segmenter, Global>
-        requires { is_held self.held ≡ true }
-        ensures { self.held ≡ Some result.value }
+        requires { (is_held self.holds.held ≡ true) × (self.holds.lent ≡ false) }
+        ensures { self.holds.held ≡ Some result.value }
     {
-        let Handle { at, alloc } = self;
+        let Handle { at, holds } = self;
+        let Holds { alloc } = holds;
         Parts {
             ptr: at as *mut Segmenter,
             alloc,

@@ -1,6 +1,6 @@
 //! Laws of the boundaries that slots give. They do nothing, and no call of C makes them.
 
-ghost use Rattle.std.specs.Prelude.{◌≡◌, IfSome, length, take};
+ghost use Rattle.std.specs.Prelude.{◌≡◌, IfSome, false, length, take};
 ghost use Rattle.icu_segmenter.specs.Boundaries.{IsCover, boundaries_in};
 ghost use Rattle.icu_segmenter.specs.Decoding.{utf8, utf16};
 ghost use Rattle.icu_segmenter.specs.NearBoundaries.{BeginsLine};
@@ -18,6 +18,7 @@ use std::alloc::Global;
 /// Law: where line feeds reset, a caller may go on wherever a line of the text begins, also with dictionaries and abbreviations: all boundaries of the text are
 /// some, the place, and those of the rest.
 pub fn lines_go_on(alloc: Global, slot: &mut Slot, text: &[u8], from: usize)
+    requires own { slot.old.handle.holds.lent ≡ false }
     ensures kept { finder_in slot.new ≡ finder_in slot.old }
     ensures goes_on { IfSome (finder_in slot.old) (λ finder. LineFeedsReset finder → BeginsLine text.now from → GoesOnAt finder utf8 text.now from) }
 {
@@ -30,6 +31,7 @@ pub fn lines_go_on(alloc: Global, slot: &mut Slot, text: &[u8], from: usize)
 
 /// Law: the same of UTF-16.
 pub fn lines_go_on_utf16(alloc: Global, slot: &mut Slot, text: &[u16], from: usize)
+    requires own { slot.old.handle.holds.lent ≡ false }
     ensures kept { finder_in slot.new ≡ finder_in slot.old }
     ensures goes_on { IfSome (finder_in slot.old) (λ finder. LineFeedsReset finder → BeginsLine text.now from → GoesOnAt finder utf16 text.now from) }
 {

@@ -1,16 +1,20 @@
 //! Text boundaries for C: clusters, words, sentences and lines over Unicode's data, of possibly ill-formed UTF-8 and, in `utf16`, UTF-16.
 //!
-//! bindings/include/yengatomu.h declares these calls, and says what a caller in C owes: no prover looks at it. `alloc` is passed by
-//! nobody there, since it has no bytes.
+//! bindings/include/yengatomu.h declares these calls, and says what a caller in C owes: no prover looks at it. `alloc` and `loan` are passed
+//! by nobody there, since they have no bytes.
+//!
+//! A call that reads takes a shared slot and a loan of what it holds, and gives the loan back, so any number of them may run at once. A call
+//! that changes a slot takes it alone, while nothing of it is lent.
 #![tactic(auto)]
 
-ghost use Rattle.std.specs.Prelude.{◌≡◌, ◌+◌, ◌-◌, ◌^◌, ℕ, [], Contains, IfSome, None, Option, length, min, unwrap_or};
+ghost use Rattle.std.specs.Prelude.{◌≡◌, ◌+◌, ◌-◌, ◌^◌, ℕ, [], Contains, IfSome, None, Option, false, length, min, unwrap_or};
 ghost use Rattle.icu_segmenter.specs.Boundaries.{HasRestart};
 ghost use Rattle.icu_segmenter.specs.Decoding.{utf8};
 ghost use Rattle.icu_segmenter.specs.NearBoundaries.{IsNearestAbove, IsNearestBelow};
 ghost use Rattle.icu_segmenter.specs.Filled.{IsFilled, TakesFirst};
 ghost use Rattle.yengatomu_c.specs.ByRules.{IsOpenedByRules};
 ghost use Rattle.yengatomu_c.specs.Finders.{GoesOnAt, LineFeedsReset, find_by, finder_in, marks_behind, places_behind, places_in};
+ghost use Rattle.yengatomu_c.specs.Lent.{IsLentBy};
 ghost use Rattle.yengatomu_c.specs.Loaded.{IsLoaded, numbered_script};
 ghost use Rattle.yengatomu_c.specs.Options.{IsOpened, numbered_finder};
 ghost use Rattle.yengatomu_c.specs.Words.{word_count};
@@ -22,6 +26,7 @@ mod columns;
 mod dictionary;
 mod handle;
 pub mod laws;
+mod loan;
 mod parts;
 mod request;
 mod rules;
@@ -35,11 +40,22 @@ mod wrapped;
 
 use dictionary::Refusal;
 use icu_segmenter::provider::DataError;
+use loan::Loan;
 use request::{LineNumbers, requested};
 use rules::Complaint;
 use segmenter::Segmenter;
 use slot::Slot;
 use std::alloc::Global;
+
+/// What a call that reads gives: a number, which is all that C sees, and the loan.
+#[repr(C)]
+#[derive(Drop)]
+pub struct Found {
+    /// How many there are, or a place.
+    pub count: usize,
+    /// The loan that the call was given.
+    pub loan: Loan,
+}
 
 /// No boundary.
 const NONE: usize = usize::MAX;
@@ -56,6 +72,7 @@ pub extern "C" fn yengatomu_open(
     word_break: u32,
     is_chinese_or_japanese: bool,
 ) -> u32
+    requires own { slot.old.handle.holds.lent ≡ false }
     ensures opened { IsOpened (numbered_finder kind strictness word_break is_chinese_or_japanese) (finder_in slot.new) result }
     ensures restart { IfSome (finder_in slot.new) (λ finder. HasRestart (find_by finder)) }
     ensures feeds { IfSome (finder_in slot.new) LineFeedsReset }
@@ -90,6 +107,7 @@ pub extern "C" fn yengatomu_open_rules(
     text: &[u8],
     error: &mut usize,
 ) -> u32
+    requires own { slot.old.handle.holds.lent ≡ false }
     ensures opened { IsOpenedByRules text.now (finder_in slot.new) error.new result }
     ensures restart { IfSome (finder_in slot.new) (λ finder. HasRestart (find_by finder)) }
 {
@@ -115,7 +133,9 @@ pub extern "C" fn yengatomu_open_rules(
 /// Frees what the slot holds, which is then empty.
 #[unsafe(no_mangle)]
 pub extern "C" fn yengatomu_close(alloc: Global, slot: &mut Slot)
-    ensures { finder_in slot.new ≡ None }
+    requires own { slot.old.handle.holds.lent ≡ false }
+    ensures empty { finder_in slot.new ≡ None }
+    ensures still_own { slot.new.handle.holds.lent ≡ false }
 {
     let _ = slot.take(alloc);
 }
@@ -125,160 +145,195 @@ pub extern "C" fn yengatomu_close(alloc: Global, slot: &mut Slot)
 /// these, where a line begins (`laws::lines_go_on`). 0 where the slot is empty.
 #[unsafe(no_mangle)]
 pub extern "C" fn yengatomu_boundaries(
-    alloc: Global,
-    slot: &mut Slot,
+    slot: &Slot,
+    loan: Loan,
     text: &[u8],
     from: usize,
     places: &mut [usize],
-) -> usize
-    ensures kept { finder_in slot.new ≡ finder_in slot.old }
-    ensures empty { finder_in slot.old ≡ None → IsFilled [] places.old places.new result }
-    ensures given { IfSome (finder_in slot.old) (λ finder. IsFilled (places_behind finder utf8 text.now from) places.old places.new result) }
-    ensures whole { IfSome (finder_in slot.old) (λ finder. HasRestart (find_by finder) → Contains (places_in finder utf8 text.now) from → GoesOnAt finder utf8 text.now from) }
+) -> Found
+    requires lent { IsLentBy slot.now loan }
+    ensures back { result.loan ≡ loan }
+    ensures empty { finder_in slot.now ≡ None → IsFilled [] places.old places.new result.count }
+    ensures given { IfSome (finder_in slot.now) (λ finder. IsFilled (places_behind finder utf8 text.now from) places.old places.new result.count) }
+    ensures whole { IfSome (finder_in slot.now) (λ finder. HasRestart (find_by finder) → Contains (places_in finder utf8 text.now) from → GoesOnAt finder utf8 text.now from) }
 {
-    let Some(segmenter) = slot.take(alloc) else {
-        return 0;
-    };
-    let written = texts::boundaries(&segmenter, text, from, places);
-    slot.put(segmenter);
-    written
+    match slot.lend(loan) {
+        Ok(lease) => {
+            let written = texts::boundaries(lease.get(), text, from, places);
+            Found {
+                count: written,
+                loan: lease.back(),
+            }
+        }
+        Err(loan) => Found { count: 0, loan },
+    }
 }
 
 /// The same with a mark beside each: of words 0 no word, 1 a number, 2 letters; of lines 1 where the line must end there; of others 0.
 /// As many as both buffers have room for.
 #[unsafe(no_mangle)]
 pub extern "C" fn yengatomu_marked_boundaries(
-    alloc: Global,
-    slot: &mut Slot,
+    slot: &Slot,
+    loan: Loan,
     text: &[u8],
     from: usize,
     places: &mut [usize],
     marks: &mut [u8],
-) -> usize
-    ensures kept { finder_in slot.new ≡ finder_in slot.old }
-    ensures empty { finder_in slot.old ≡ None → (result ≡ 0) × (places.new ≡ places.old) × (marks.new ≡ marks.old) }
-    ensures places { IfSome (finder_in slot.old) (λ finder. TakesFirst (min (length places.old) (length marks.old)) (places_behind finder utf8 text.now from) places.old places.new result) }
-    ensures marks { IfSome (finder_in slot.old) (λ finder. TakesFirst (min (length places.old) (length marks.old)) (marks_behind finder utf8 text.now from) marks.old marks.new result) }
+) -> Found
+    requires lent { IsLentBy slot.now loan }
+    ensures back { result.loan ≡ loan }
+    ensures empty { finder_in slot.now ≡ None → (result.count ≡ 0) × (places.new ≡ places.old) × (marks.new ≡ marks.old) }
+    ensures places { IfSome (finder_in slot.now) (λ finder. TakesFirst (min (length places.old) (length marks.old)) (places_behind finder utf8 text.now from) places.old places.new result.count) }
+    ensures marks { IfSome (finder_in slot.now) (λ finder. TakesFirst (min (length places.old) (length marks.old)) (marks_behind finder utf8 text.now from) marks.old marks.new result.count) }
 {
-    let Some(segmenter) = slot.take(alloc) else {
-        return 0;
-    };
-    let written = texts::marked_boundaries(&segmenter, text, from, places, marks);
-    slot.put(segmenter);
-    written
+    match slot.lend(loan) {
+        Ok(lease) => {
+            let written = texts::marked_boundaries(lease.get(), text, from, places, marks);
+            Found {
+                count: written,
+                loan: lease.back(),
+            }
+        }
+        Err(loan) => Found { count: 0, loan },
+    }
 }
 
 /// The nearest boundary above a place, which may be inside a character. SIZE_MAX where there is none, and where the slot is empty.
 #[unsafe(no_mangle)]
-pub extern "C" fn yengatomu_next(alloc: Global, slot: &mut Slot, text: &[u8], place: usize) -> usize
-    ensures kept { finder_in slot.new ≡ finder_in slot.old }
-    ensures empty { finder_in slot.old ≡ None → result ≡ 2 ^ 64 - 1 }
-    ensures nearest { IfSome (finder_in slot.old) (λ finder. (found : Option ℕ) × IsNearestAbove (places_in finder utf8 text.now) place found × (result ≡ unwrap_or found (2 ^ 64 - 1))) }
+pub extern "C" fn yengatomu_next(slot: &Slot, loan: Loan, text: &[u8], place: usize) -> Found
+    requires lent { IsLentBy slot.now loan }
+    ensures back { result.loan ≡ loan }
+    ensures empty { finder_in slot.now ≡ None → result.count ≡ 2 ^ 64 - 1 }
+    ensures nearest { IfSome (finder_in slot.now) (λ finder. (found : Option ℕ) × IsNearestAbove (places_in finder utf8 text.now) place found × (result.count ≡ unwrap_or found (2 ^ 64 - 1))) }
 {
-    let Some(segmenter) = slot.take(alloc) else {
-        return NONE;
-    };
-    let found = texts::next(&segmenter, text, place);
-    slot.put(segmenter);
-    found.unwrap_or(NONE)
+    match slot.lend(loan) {
+        Ok(lease) => {
+            let found = texts::next(lease.get(), text, place);
+            Found {
+                count: found.unwrap_or(NONE),
+                loan: lease.back(),
+            }
+        }
+        Err(loan) => Found { count: NONE, loan },
+    }
 }
 
 /// The nearest boundary below a place, which may be inside a character, or past the end. SIZE_MAX where there is none, and where the slot is
 /// empty.
 #[unsafe(no_mangle)]
-pub extern "C" fn yengatomu_previous(
-    alloc: Global,
-    slot: &mut Slot,
-    text: &[u8],
-    place: usize,
-) -> usize
-    ensures kept { finder_in slot.new ≡ finder_in slot.old }
-    ensures empty { finder_in slot.old ≡ None → result ≡ 2 ^ 64 - 1 }
-    ensures nearest { IfSome (finder_in slot.old) (λ finder. (found : Option ℕ) × IsNearestBelow (places_in finder utf8 text.now) place found × (result ≡ unwrap_or found (2 ^ 64 - 1))) }
+pub extern "C" fn yengatomu_previous(slot: &Slot, loan: Loan, text: &[u8], place: usize) -> Found
+    requires lent { IsLentBy slot.now loan }
+    ensures back { result.loan ≡ loan }
+    ensures empty { finder_in slot.now ≡ None → result.count ≡ 2 ^ 64 - 1 }
+    ensures nearest { IfSome (finder_in slot.now) (λ finder. (found : Option ℕ) × IsNearestBelow (places_in finder utf8 text.now) place found × (result.count ≡ unwrap_or found (2 ^ 64 - 1))) }
 {
-    let Some(segmenter) = slot.take(alloc) else {
-        return NONE;
-    };
-    let found = texts::previous(&segmenter, text, place);
-    slot.put(segmenter);
-    found.unwrap_or(NONE)
+    match slot.lend(loan) {
+        Ok(lease) => {
+            let found = texts::previous(lease.get(), text, place);
+            Found {
+                count: found.unwrap_or(NONE),
+                loan: lease.back(),
+            }
+        }
+        Err(loan) => Found { count: NONE, loan },
+    }
 }
 
 /// Writes where the first lines end that the text from a place on is wrapped to, as many as there is room for, and returns how many. 0 of
 /// other kinds, and where the slot is empty.
 #[unsafe(no_mangle)]
 pub extern "C" fn yengatomu_wrap(
-    alloc: Global,
-    slot: &mut Slot,
+    slot: &Slot,
+    loan: Loan,
     text: &[u8],
     from: usize,
     columns: usize,
     ends: &mut [usize],
-) -> usize
-    ensures kept { finder_in slot.new ≡ finder_in slot.old }
-    ensures empty { finder_in slot.old ≡ None → IsFilled [] ends.old ends.new result }
-    ensures lines { IfSome (finder_in slot.old) (λ finder. IsFilled (ends_from from (wrapped_behind finder utf8 columns text.now from)) ends.old ends.new result) }
+) -> Found
+    requires lent { IsLentBy slot.now loan }
+    ensures back { result.loan ≡ loan }
+    ensures empty { finder_in slot.now ≡ None → IsFilled [] ends.old ends.new result.count }
+    ensures lines { IfSome (finder_in slot.now) (λ finder. IsFilled (ends_from from (wrapped_behind finder utf8 columns text.now from)) ends.old ends.new result.count) }
 {
-    let Some(segmenter) = slot.take(alloc) else {
-        return 0;
-    };
-    let written = wrapped::ends(&segmenter, text, from, columns, ends);
-    slot.put(segmenter);
-    written
+    match slot.lend(loan) {
+        Ok(lease) => {
+            let written = wrapped::ends(lease.get(), text, from, columns, ends);
+            Found {
+                count: written,
+                loan: lease.back(),
+            }
+        }
+        Err(loan) => Found { count: 0, loan },
+    }
 }
 
 /// The same with how many columns each line takes. As many as both buffers have room for.
 #[unsafe(no_mangle)]
 pub extern "C" fn yengatomu_wrap_columns(
-    alloc: Global,
-    slot: &mut Slot,
+    slot: &Slot,
+    loan: Loan,
     text: &[u8],
     from: usize,
     columns: usize,
     ends: &mut [usize],
     widths: &mut [usize],
-) -> usize
-    ensures kept { finder_in slot.new ≡ finder_in slot.old }
-    ensures empty { finder_in slot.old ≡ None → (result ≡ 0) × (ends.new ≡ ends.old) × (widths.new ≡ widths.old) }
-    ensures lines { IfSome (finder_in slot.old) (λ finder. TakesFirst (min (length ends.old) (length widths.old)) (ends_from from (wrapped_behind finder utf8 columns text.now from)) ends.old ends.new result) }
-    ensures widths { IfSome (finder_in slot.old) (λ finder. TakesFirst (min (length ends.old) (length widths.old)) (widths_of (wrapped_behind finder utf8 columns text.now from)) widths.old widths.new result) }
+) -> Found
+    requires lent { IsLentBy slot.now loan }
+    ensures back { result.loan ≡ loan }
+    ensures empty { finder_in slot.now ≡ None → (result.count ≡ 0) × (ends.new ≡ ends.old) × (widths.new ≡ widths.old) }
+    ensures lines { IfSome (finder_in slot.now) (λ finder. TakesFirst (min (length ends.old) (length widths.old)) (ends_from from (wrapped_behind finder utf8 columns text.now from)) ends.old ends.new result.count) }
+    ensures widths { IfSome (finder_in slot.now) (λ finder. TakesFirst (min (length ends.old) (length widths.old)) (widths_of (wrapped_behind finder utf8 columns text.now from)) widths.old widths.new result.count) }
 {
-    let Some(segmenter) = slot.take(alloc) else {
-        return 0;
-    };
-    let written = wrapped::ends_and_widths(&segmenter, text, from, columns, ends, widths);
-    slot.put(segmenter);
-    written
+    match slot.lend(loan) {
+        Ok(lease) => {
+            let written = wrapped::ends_and_widths(lease.get(), text, from, columns, ends, widths);
+            Found {
+                count: written,
+                loan: lease.back(),
+            }
+        }
+        Err(loan) => Found { count: 0, loan },
+    }
 }
 
 /// How many segments the text has. 0 where the slot is empty.
 #[unsafe(no_mangle)]
-pub extern "C" fn yengatomu_count(alloc: Global, slot: &mut Slot, text: &[u8]) -> usize
-    ensures kept { finder_in slot.new ≡ finder_in slot.old }
-    ensures empty { finder_in slot.old ≡ None → result ≡ 0 }
-    ensures count { IfSome (finder_in slot.old) (λ finder. result + 1 ≡ length (places_in finder utf8 text.now)) }
+pub extern "C" fn yengatomu_count(slot: &Slot, loan: Loan, text: &[u8]) -> Found
+    requires lent { IsLentBy slot.now loan }
+    ensures back { result.loan ≡ loan }
+    ensures empty { finder_in slot.now ≡ None → result.count ≡ 0 }
+    ensures count { IfSome (finder_in slot.now) (λ finder. result.count + 1 ≡ length (places_in finder utf8 text.now)) }
 {
-    let Some(segmenter) = slot.take(alloc) else {
-        return 0;
-    };
-    let count = texts::count(&segmenter, text);
-    slot.put(segmenter);
-    count
+    match slot.lend(loan) {
+        Ok(lease) => {
+            let count = texts::count(lease.get(), text);
+            Found {
+                count,
+                loan: lease.back(),
+            }
+        }
+        Err(loan) => Found { count: 0, loan },
+    }
 }
 
 /// How many words the text has, of letters or numbers. 0 of other kinds, and where the slot is empty.
 #[unsafe(no_mangle)]
-pub extern "C" fn yengatomu_count_words(alloc: Global, slot: &mut Slot, text: &[u8]) -> usize
-    ensures kept { finder_in slot.new ≡ finder_in slot.old }
-    ensures empty { finder_in slot.old ≡ None → result ≡ 0 }
-    ensures count { IfSome (finder_in slot.old) (λ finder. result ≡ word_count finder utf8 text.now) }
+pub extern "C" fn yengatomu_count_words(slot: &Slot, loan: Loan, text: &[u8]) -> Found
+    requires lent { IsLentBy slot.now loan }
+    ensures back { result.loan ≡ loan }
+    ensures empty { finder_in slot.now ≡ None → result.count ≡ 0 }
+    ensures count { IfSome (finder_in slot.now) (λ finder. result.count ≡ word_count finder utf8 text.now) }
 {
-    let Some(segmenter) = slot.take(alloc) else {
-        return 0;
-    };
-    let count = texts::count_words(&segmenter, text);
-    slot.put(segmenter);
-    count
+    match slot.lend(loan) {
+        Ok(lease) => {
+            let count = texts::count_words(lease.get(), text);
+            Found {
+                count,
+                loan: lease.back(),
+            }
+        }
+        Err(loan) => Found { count: 0, loan },
+    }
 }
 
 /// Gives a segmenter of words or lines the words of a script, if it has none of that script yet: of 1 Myanmar, 2 Chinese or Japanese, 3 Khmer,
@@ -291,6 +346,7 @@ pub extern "C" fn yengatomu_load_dictionary(
     words: &[&[u8]],
     script: u32,
 ) -> u32
+    requires own { slot.old.handle.holds.lent ≡ false }
     ensures loaded { IsLoaded words.now (numbered_script script) (finder_in slot.old) (finder_in slot.new) result }
     ensures feeds { IfSome (finder_in slot.old) LineFeedsReset → IfSome (finder_in slot.new) LineFeedsReset }
 {

@@ -4,39 +4,45 @@ ghost use Rattle.std.specs.Prelude.{◌≡◌, ◌+◌, ◌<◌, ◌^◌, [], Co
 ghost use Rattle.icu_segmenter.specs.Boundaries.{HasRestart};
 ghost use Rattle.icu_segmenter.specs.Decoding.{utf16};
 ghost use Rattle.icu_segmenter.specs.Filled.{IsFilled, TakesFirst};
+ghost use Rattle.yengatomu_c.specs.Lent.{IsLentBy};
 ghost use Rattle.yengatomu_c.specs.Finders.{GoesOnAt, find_by, finder_in, finder_of, marks_behind, places_behind, places_in};
 ghost use Rattle.yengatomu_c.specs.Words.{word_count};
 
 mod near;
 mod wrapped;
 
-use crate::buffers;
+use crate::loan::Loan;
 use crate::segmenter::Segmenter;
 use crate::slot::Slot;
 use crate::suppressing::Suppressing;
 use crate::texts::rest_of;
-use std::alloc::Global;
+use crate::{Found, buffers};
 
 /// `yengatomu_boundaries` of UTF-16.
 #[unsafe(no_mangle)]
 pub extern "C" fn yengatomu_boundaries_utf16(
-    alloc: Global,
-    slot: &mut Slot,
+    slot: &Slot,
+    loan: Loan,
     text: &[u16],
     from: usize,
     places: &mut [usize],
-) -> usize
-    ensures kept { finder_in slot.new ≡ finder_in slot.old }
-    ensures empty { finder_in slot.old ≡ None → IsFilled [] places.old places.new result }
-    ensures given { IfSome (finder_in slot.old) (λ finder. IsFilled (places_behind finder utf16 text.now from) places.old places.new result) }
-    ensures whole { IfSome (finder_in slot.old) (λ finder. HasRestart (find_by finder) → Contains (places_in finder utf16 text.now) from → GoesOnAt finder utf16 text.now from) }
+) -> Found
+    requires lent { IsLentBy slot.now loan }
+    ensures back { result.loan ≡ loan }
+    ensures empty { finder_in slot.now ≡ None → IsFilled [] places.old places.new result.count }
+    ensures given { IfSome (finder_in slot.now) (λ finder. IsFilled (places_behind finder utf16 text.now from) places.old places.new result.count) }
+    ensures whole { IfSome (finder_in slot.now) (λ finder. HasRestart (find_by finder) → Contains (places_in finder utf16 text.now) from → GoesOnAt finder utf16 text.now from) }
 {
-    let Some(segmenter) = slot.take(alloc) else {
-        return 0;
-    };
-    let written = boundaries(&segmenter, text, from, places);
-    slot.put(segmenter);
-    written
+    match slot.lend(loan) {
+        Ok(lease) => {
+            let written = boundaries(lease.get(), text, from, places);
+            Found {
+                count: written,
+                loan: lease.back(),
+            }
+        }
+        Err(loan) => Found { count: 0, loan },
+    }
 }
 
 fn boundaries(segmenter: &Segmenter, text: &[u16], from: usize, places: &mut [usize]) -> usize
@@ -57,24 +63,29 @@ fn boundaries(segmenter: &Segmenter, text: &[u16], from: usize, places: &mut [us
 /// `yengatomu_marked_boundaries` of UTF-16.
 #[unsafe(no_mangle)]
 pub extern "C" fn yengatomu_marked_boundaries_utf16(
-    alloc: Global,
-    slot: &mut Slot,
+    slot: &Slot,
+    loan: Loan,
     text: &[u16],
     from: usize,
     places: &mut [usize],
     marks: &mut [u8],
-) -> usize
-    ensures kept { finder_in slot.new ≡ finder_in slot.old }
-    ensures empty { finder_in slot.old ≡ None → (result ≡ 0) × (places.new ≡ places.old) × (marks.new ≡ marks.old) }
-    ensures places { IfSome (finder_in slot.old) (λ finder. TakesFirst (min (length places.old) (length marks.old)) (places_behind finder utf16 text.now from) places.old places.new result) }
-    ensures marks { IfSome (finder_in slot.old) (λ finder. TakesFirst (min (length places.old) (length marks.old)) (marks_behind finder utf16 text.now from) marks.old marks.new result) }
+) -> Found
+    requires lent { IsLentBy slot.now loan }
+    ensures back { result.loan ≡ loan }
+    ensures empty { finder_in slot.now ≡ None → (result.count ≡ 0) × (places.new ≡ places.old) × (marks.new ≡ marks.old) }
+    ensures places { IfSome (finder_in slot.now) (λ finder. TakesFirst (min (length places.old) (length marks.old)) (places_behind finder utf16 text.now from) places.old places.new result.count) }
+    ensures marks { IfSome (finder_in slot.now) (λ finder. TakesFirst (min (length places.old) (length marks.old)) (marks_behind finder utf16 text.now from) marks.old marks.new result.count) }
 {
-    let Some(segmenter) = slot.take(alloc) else {
-        return 0;
-    };
-    let written = marked_boundaries(&segmenter, text, from, places, marks);
-    slot.put(segmenter);
-    written
+    match slot.lend(loan) {
+        Ok(lease) => {
+            let written = marked_boundaries(lease.get(), text, from, places, marks);
+            Found {
+                count: written,
+                loan: lease.back(),
+            }
+        }
+        Err(loan) => Found { count: 0, loan },
+    }
 }
 
 fn marked_boundaries(
@@ -116,17 +127,22 @@ fn marked_boundaries(
 
 /// `yengatomu_count` of UTF-16.
 #[unsafe(no_mangle)]
-pub extern "C" fn yengatomu_count_utf16(alloc: Global, slot: &mut Slot, text: &[u16]) -> usize
-    ensures kept { finder_in slot.new ≡ finder_in slot.old }
-    ensures empty { finder_in slot.old ≡ None → result ≡ 0 }
-    ensures count { IfSome (finder_in slot.old) (λ finder. result + 1 ≡ length (places_in finder utf16 text.now)) }
+pub extern "C" fn yengatomu_count_utf16(slot: &Slot, loan: Loan, text: &[u16]) -> Found
+    requires lent { IsLentBy slot.now loan }
+    ensures back { result.loan ≡ loan }
+    ensures empty { finder_in slot.now ≡ None → result.count ≡ 0 }
+    ensures count { IfSome (finder_in slot.now) (λ finder. result.count + 1 ≡ length (places_in finder utf16 text.now)) }
 {
-    let Some(segmenter) = slot.take(alloc) else {
-        return 0;
-    };
-    let count = count(&segmenter, text);
-    slot.put(segmenter);
-    count
+    match slot.lend(loan) {
+        Ok(lease) => {
+            let count = count(lease.get(), text);
+            Found {
+                count,
+                loan: lease.back(),
+            }
+        }
+        Err(loan) => Found { count: 0, loan },
+    }
 }
 
 fn count(segmenter: &Segmenter, text: &[u16]) -> usize
@@ -145,17 +161,22 @@ fn count(segmenter: &Segmenter, text: &[u16]) -> usize
 
 /// `yengatomu_count_words` of UTF-16.
 #[unsafe(no_mangle)]
-pub extern "C" fn yengatomu_count_words_utf16(alloc: Global, slot: &mut Slot, text: &[u16]) -> usize
-    ensures kept { finder_in slot.new ≡ finder_in slot.old }
-    ensures empty { finder_in slot.old ≡ None → result ≡ 0 }
-    ensures count { IfSome (finder_in slot.old) (λ finder. result ≡ word_count finder utf16 text.now) }
+pub extern "C" fn yengatomu_count_words_utf16(slot: &Slot, loan: Loan, text: &[u16]) -> Found
+    requires lent { IsLentBy slot.now loan }
+    ensures back { result.loan ≡ loan }
+    ensures empty { finder_in slot.now ≡ None → result.count ≡ 0 }
+    ensures count { IfSome (finder_in slot.now) (λ finder. result.count ≡ word_count finder utf16 text.now) }
 {
-    let Some(segmenter) = slot.take(alloc) else {
-        return 0;
-    };
-    let count = count_words(&segmenter, text);
-    slot.put(segmenter);
-    count
+    match slot.lend(loan) {
+        Ok(lease) => {
+            let count = count_words(lease.get(), text);
+            Found {
+                count,
+                loan: lease.back(),
+            }
+        }
+        Err(loan) => Found { count: 0, loan },
+    }
 }
 
 fn count_words(segmenter: &Segmenter, text: &[u16]) -> usize

@@ -8,11 +8,13 @@
 //! What every call asks of its caller:
 //!
 //! - A slot begins as [`yengatomu_slot::EMPTY`], and only these calls write to it. It may be moved, but not copied and used twice.
-//! - A slot serves one call at a time. Different slots may be used by different threads, and a slot may pass from one to another.
+//! - Calls that take a `*const` slot read it: any number of threads may make them at once on one slot, also on an empty one.
+//! - Calls that take a `*mut` slot change it. While one of them runs, no other call may use the slot, nor may it be moved.
+//! - A slot may be opened by one thread, used by others and closed by another again, as long as these happen one after another.
 //! - Each length is that of the array before it, in elements. No array is null, not even an empty one.
 //! - Buffers overlap neither one another nor the text.
 //!
-//! No call keeps a pointer, calls back, unwinds, aborts, or writes but to the slot and the buffers it is given.
+//! No call keeps a pointer, calls back, unwinds, aborts, or writes but to a `*mut` slot and the buffers it is given.
 #![no_std]
 #![deny(missing_docs)]
 #![allow(non_camel_case_types)]
@@ -140,12 +142,18 @@ extern "C" {
     /// Writes the first boundaries above `from` to `out`, as many as there is room for, and returns how many: those of the text from
     /// there on, taken alone. Its last is `len`. Go on from the last one, until 0 is returned; with a dictionary or abbreviations only from
     /// behind a line feed. 0 where `from` is `len` or more, and where the slot is empty.
-    pub fn yengatomu_boundaries(slot: *mut yengatomu_slot, text: *const u8, len: usize, from: usize, out: *mut usize, room: usize)
-        -> usize;
+    pub fn yengatomu_boundaries(
+        slot: *const yengatomu_slot,
+        text: *const u8,
+        len: usize,
+        from: usize,
+        out: *mut usize,
+        room: usize,
+    ) -> usize;
 
     /// [`yengatomu_boundaries`] of UTF-16; places are 16-bit units.
     pub fn yengatomu_boundaries_utf16(
-        slot: *mut yengatomu_slot,
+        slot: *const yengatomu_slot,
         text: *const u16,
         len: usize,
         from: usize,
@@ -155,7 +163,7 @@ extern "C" {
 
     /// [`yengatomu_boundaries`] with a mark for each; 0 of clusters and sentences. It writes as many as both buffers have room for.
     pub fn yengatomu_marked_boundaries(
-        slot: *mut yengatomu_slot,
+        slot: *const yengatomu_slot,
         text: *const u8,
         len: usize,
         from: usize,
@@ -167,7 +175,7 @@ extern "C" {
 
     /// [`yengatomu_marked_boundaries`] of UTF-16; places are 16-bit units.
     pub fn yengatomu_marked_boundaries_utf16(
-        slot: *mut yengatomu_slot,
+        slot: *const yengatomu_slot,
         text: *const u16,
         len: usize,
         from: usize,
@@ -179,23 +187,23 @@ extern "C" {
 
     /// The nearest boundary above the place, which may be inside a character. `YENGATOMU_NONE` where there is none, and where the slot is
     /// empty.
-    pub fn yengatomu_next(slot: *mut yengatomu_slot, text: *const u8, len: usize, place: usize) -> usize;
+    pub fn yengatomu_next(slot: *const yengatomu_slot, text: *const u8, len: usize, place: usize) -> usize;
 
     /// [`yengatomu_next`] of UTF-16; places are 16-bit units.
-    pub fn yengatomu_next_utf16(slot: *mut yengatomu_slot, text: *const u16, len: usize, place: usize) -> usize;
+    pub fn yengatomu_next_utf16(slot: *const yengatomu_slot, text: *const u16, len: usize, place: usize) -> usize;
 
     /// The nearest boundary below the place, which may be past the end. `YENGATOMU_NONE` where there is none, and where the slot is
     /// empty.
-    pub fn yengatomu_previous(slot: *mut yengatomu_slot, text: *const u8, len: usize, place: usize) -> usize;
+    pub fn yengatomu_previous(slot: *const yengatomu_slot, text: *const u8, len: usize, place: usize) -> usize;
 
     /// [`yengatomu_previous`] of UTF-16; places are 16-bit units.
-    pub fn yengatomu_previous_utf16(slot: *mut yengatomu_slot, text: *const u16, len: usize, place: usize) -> usize;
+    pub fn yengatomu_previous_utf16(slot: *const yengatomu_slot, text: *const u16, len: usize, place: usize) -> usize;
 
     /// Writes where the first lines end that the text from `from` on is wrapped to, as many as there is room for, and returns how many.
     /// A line takes as many segments as fit in the columns, at least one, and ends where it must. Spaces, line feeds and carriage returns
     /// at its end take no columns. 0 of other kinds than lines.
     pub fn yengatomu_wrap(
-        slot: *mut yengatomu_slot,
+        slot: *const yengatomu_slot,
         text: *const u8,
         len: usize,
         from: usize,
@@ -206,7 +214,7 @@ extern "C" {
 
     /// [`yengatomu_wrap`] of UTF-16; places are 16-bit units.
     pub fn yengatomu_wrap_utf16(
-        slot: *mut yengatomu_slot,
+        slot: *const yengatomu_slot,
         text: *const u16,
         len: usize,
         from: usize,
@@ -217,7 +225,7 @@ extern "C" {
 
     /// [`yengatomu_wrap`], with how many columns each line takes. It writes as many as both buffers have room for.
     pub fn yengatomu_wrap_columns(
-        slot: *mut yengatomu_slot,
+        slot: *const yengatomu_slot,
         text: *const u8,
         len: usize,
         from: usize,
@@ -230,7 +238,7 @@ extern "C" {
 
     /// [`yengatomu_wrap_columns`] of UTF-16; places are 16-bit units.
     pub fn yengatomu_wrap_columns_utf16(
-        slot: *mut yengatomu_slot,
+        slot: *const yengatomu_slot,
         text: *const u16,
         len: usize,
         from: usize,
@@ -242,16 +250,16 @@ extern "C" {
     ) -> usize;
 
     /// How many segments the text has: one less than it has boundaries. 0 where the slot is empty.
-    pub fn yengatomu_count(slot: *mut yengatomu_slot, text: *const u8, len: usize) -> usize;
+    pub fn yengatomu_count(slot: *const yengatomu_slot, text: *const u8, len: usize) -> usize;
 
     /// [`yengatomu_count`] of UTF-16.
-    pub fn yengatomu_count_utf16(slot: *mut yengatomu_slot, text: *const u16, len: usize) -> usize;
+    pub fn yengatomu_count_utf16(slot: *const yengatomu_slot, text: *const u16, len: usize) -> usize;
 
     /// How many segments are words, of letters or numbers. 0 of other kinds than words.
-    pub fn yengatomu_count_words(slot: *mut yengatomu_slot, text: *const u8, len: usize) -> usize;
+    pub fn yengatomu_count_words(slot: *const yengatomu_slot, text: *const u8, len: usize) -> usize;
 
     /// [`yengatomu_count_words`] of UTF-16.
-    pub fn yengatomu_count_words_utf16(slot: *mut yengatomu_slot, text: *const u16, len: usize) -> usize;
+    pub fn yengatomu_count_words_utf16(slot: *const yengatomu_slot, text: *const u16, len: usize) -> usize;
 
     /// The version of the library: 10,000 times the major number, 100 times the minor one and the update.
     pub fn yengatomu_version() -> u32;

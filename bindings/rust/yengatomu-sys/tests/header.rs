@@ -132,20 +132,20 @@ fn opens_and_closes() {
     let mut out = [0usize; 4];
     // SAFETY: the slot began empty and is only used here; each length is that of its array.
     unsafe {
-        assert_eq!(yengatomu_boundaries(&mut slot, text.as_ptr(), 2, 0, out.as_mut_ptr(), 4), 0, "of an empty slot");
+        assert_eq!(yengatomu_boundaries(&slot, text.as_ptr(), 2, 0, out.as_mut_ptr(), 4), 0, "of an empty slot");
         assert_eq!(yengatomu_open(&mut slot, 4, 0, 0, false), YENGATOMU_NO_SUCH);
         assert_eq!(yengatomu_open(&mut slot, YENGATOMU_CLUSTERS, 0, 0, false), YENGATOMU_OK);
-        assert_eq!(yengatomu_boundaries(&mut slot, text.as_ptr(), 2, 0, out.as_mut_ptr(), 4), 2);
+        assert_eq!(yengatomu_boundaries(&slot, text.as_ptr(), 2, 0, out.as_mut_ptr(), 4), 2);
         assert_eq!(out[..2], [1, 2]);
         let (rules, mut line) = ("A = [a]\nA × A\n÷", 7);
         assert_eq!(yengatomu_open_rules(&mut slot, rules.as_ptr(), rules.len(), &mut line), YENGATOMU_OK);
         assert_eq!(line, 0);
-        assert_eq!(yengatomu_count(&mut slot, text.as_ptr(), 2), 2);
+        assert_eq!(yengatomu_count(&slot, text.as_ptr(), 2), 2);
         assert_eq!(yengatomu_open_rules(&mut slot, rules.as_ptr(), rules.len() - 2, &mut line), YENGATOMU_WRONG_RULES);
         assert_eq!(line, 3);
         yengatomu_close(&mut slot);
         yengatomu_close(&mut slot);
-        assert_eq!(yengatomu_count(&mut slot, text.as_ptr(), 2), 0, "of an empty slot");
+        assert_eq!(yengatomu_count(&slot, text.as_ptr(), 2), 0, "of an empty slot");
         assert_eq!(yengatomu_unicode_version(4), 0);
         assert_ne!(yengatomu_unicode_version(YENGATOMU_LINES), 0);
         assert_ne!(yengatomu_version(), 0);

@@ -38,19 +38,29 @@
 //!
 //! # Threads
 //!
-//! A segmenter may move to another thread, but two threads can't use one at the same time: it is `Send` and not `Sync`. Make one for each
-//! thread.
+//! A segmenter is `Send` and `Sync`: any number of threads may segment by one at the same time, and none waits for another. So a program may
+//! have one of a kind, as a `static`:
 //!
 //! ```
-//! # use yengatomu::SentenceSegmenter;
-//! let sentences = SentenceSegmenter::new().unwrap();
-//! std::thread::spawn(move || sentences.count("One. Two.")).join().unwrap();
+//! use std::sync::LazyLock;
+//! use yengatomu::SentenceSegmenter;
+//!
+//! static SENTENCES: LazyLock<SentenceSegmenter> = LazyLock::new(|| SentenceSegmenter::new().unwrap());
+//!
+//! std::thread::scope(|scope| {
+//!     for text in ["One. Two.", "Three. Four."] {
+//!         scope.spawn(move || assert_eq!(SENTENCES.count(text), 2));
+//!     }
+//! });
 //! ```
 //!
-//! ```compile_fail,E0277
-//! # use yengatomu::SentenceSegmenter;
-//! let sentences = SentenceSegmenter::new().unwrap();
-//! std::thread::scope(|scope| scope.spawn(|| sentences.count("One. Two.")).join().unwrap());
+//! What changes a segmenter, as [`load_dictionary`](Segmenter::load_dictionary), takes `&mut self`, so it must be done before others use it.
+//!
+//! ```compile_fail,E0596
+//! # use std::sync::LazyLock;
+//! # use yengatomu::{Script, WordSegmenter};
+//! # static WORDS: LazyLock<WordSegmenter> = LazyLock::new(|| WordSegmenter::new().unwrap());
+//! WORDS.load_dictionary(&["ภาษา"], Script::Thai).unwrap();
 //! ```
 //!
 //! # In the place of unicode-segmentation
@@ -97,26 +107,25 @@ pub use text::{Slice, Text, Unit};
 /// `new` reads Unicode's data anew, which takes about a millisecond (the example `open` measures it), so make a segmenter once and keep it.
 ///
 /// There is no `Clone`: the library has no call that copies what a segmenter holds, and to make it anew would take as long as `new` and the
-/// dictionaries did, and may fail. All calls that segment take `&self`, so within a thread an [`Rc`](std::rc::Rc) shares a segmenter, and its clones
-/// take no time:
+/// dictionaries did, and may fail. All calls that segment take `&self`, so an [`Arc`](std::sync::Arc) shares a segmenter, between threads too, and its
+/// clones take no time:
 ///
 /// ```
-/// use std::rc::Rc;
+/// use std::sync::Arc;
 /// use yengatomu::WordSegmenter;
 ///
 /// #[derive(Clone)]
 /// struct Index {
-///     words: Rc<WordSegmenter>,
+///     words: Arc<WordSegmenter>,
 /// }
 ///
-/// let index = Index { words: Rc::new(WordSegmenter::new().unwrap()) };
+/// let index = Index { words: Arc::new(WordSegmenter::new().unwrap()) };
 /// assert_eq!(index.clone().words.count_words("to be"), 2);
 /// ```
-///
-/// Threads share one as an `Arc<Mutex<WordSegmenter>>`, and wait for one another then, or each makes its own, as in a `thread_local!`.
 pub struct Segmenter<K: Kind> {
     slot: Slot,
-    kind: PhantomData<K>,
+    // (it holds no `K`, so it is `Send` and `Sync` for any)
+    kind: PhantomData<fn() -> K>,
 }
 
 /// Segments texts into extended grapheme clusters.

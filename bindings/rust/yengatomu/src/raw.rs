@@ -1,24 +1,26 @@
 //! The calls of the C library, made safe. All unsafe code of this crate is here.
-use std::cell::UnsafeCell;
-
 use yengatomu_sys as sys;
 
 use crate::{Error, LineOptions, Script};
 
 /// A slot that holds a segmenter.
 pub(crate) struct Slot {
-    slot: UnsafeCell<sys::yengatomu_slot>,
+    slot: sys::yengatomu_slot,
     has_words: bool,
 }
 
 // What makes the calls below sound, each over a slot that `open` has filled:
-// - A slot serves one call at a time. `Slot` isn't `Sync`, since it has an `UnsafeCell`, so its calls come from one thread; and none
-//   calls back, so each has returned before the next one. No reference into the cell is ever made.
-// - A slot isn't copied: `Slot` is no `Copy` or `Clone`, and its cell is private.
+// - A call that changes a slot has it alone: it is made of `&mut Slot`, or in `drop`. Calls that read take `&Slot`, and write to no slot.
+// - A slot isn't copied: `Slot` is no `Copy` or `Clone`, and what it has is private. It is moved only while nothing borrows it.
 // - Lengths are those of slices, whose pointers are never null. Buffers are `&mut`, so they overlap nothing.
 
-// SAFETY: a slot may pass from one thread to another, as yengatomu.h says.
+// SAFETY: a slot may be opened, used and closed by different threads one after another, as yengatomu.h says; what its pointer leads to is its
+// own.
 unsafe impl Send for Slot {}
+
+// SAFETY: of a `&Slot` only calls that read are made, which any number of threads may make at once, as yengatomu.h says; those that change a
+// slot take `&mut Slot`.
+unsafe impl Sync for Slot {}
 
 fn done(result: u32) -> Result<(), Error> {
     match result {
@@ -40,7 +42,7 @@ impl Slot {
         let mut slot = sys::yengatomu_slot::EMPTY;
         // SAFETY: the slot began empty.
         done(unsafe { sys::yengatomu_open(&mut slot, kind, strictness as u32, word_break as u32, chinese_or_japanese) })?;
-        Ok(Self { slot: UnsafeCell::new(slot), has_words: false })
+        Ok(Self { slot, has_words: false })
     }
 
     pub(crate) fn open_rules(rules: &str) -> Result<Self, Error> {
@@ -49,14 +51,14 @@ impl Slot {
         match unsafe { sys::yengatomu_open_rules(&mut slot, rules.as_ptr(), rules.len(), &mut line) } {
             sys::YENGATOMU_WRONG_RULES => Err(Error::WrongRules(line)),
             sys::YENGATOMU_NO_MACHINE => Err(Error::NoMachine((line > 0).then_some(line))),
-            result => done(result).map(|()| Self { slot: UnsafeCell::new(slot), has_words: false }),
+            result => done(result).map(|()| Self { slot, has_words: false }),
         }
     }
 
     pub(crate) fn load_dictionary(&mut self, words: &[&str], script: Script) -> Result<(), Error> {
         let words = words_of(words);
         // SAFETY: above; the words are borrowed until the call returns, which keeps no pointer to them.
-        done(unsafe { sys::yengatomu_load_dictionary(self.slot.get(), words.as_ptr(), words.len(), script as u32) })?;
+        done(unsafe { sys::yengatomu_load_dictionary(&mut self.slot, words.as_ptr(), words.len(), script as u32) })?;
         self.has_words = true;
         Ok(())
     }
@@ -64,7 +66,7 @@ impl Slot {
     pub(crate) fn load_abbreviations(&mut self, words: &[&str]) -> Result<(), Error> {
         let words = words_of(words);
         // SAFETY: above; the words are borrowed until the call returns, which keeps no pointer to them.
-        match unsafe { sys::yengatomu_load_abbreviations(self.slot.get(), words.as_ptr(), words.len()) } {
+        match unsafe { sys::yengatomu_load_abbreviations(&mut self.slot, words.as_ptr(), words.len()) } {
             sys::YENGATOMU_NO_SUCH => return Err(Error::HasAbbreviations),
             result => done(result)?,
         }
@@ -74,7 +76,7 @@ impl Slot {
 
     pub(crate) fn count_by_cluster(&mut self) -> Result<(), Error> {
         // SAFETY: above.
-        done(unsafe { sys::yengatomu_count_by_cluster(self.slot.get()) })
+        done(unsafe { sys::yengatomu_count_by_cluster(&mut self.slot) })
     }
 
     /// Whether it has a dictionary or abbreviations: then boundaries go on only from behind a line feed.
@@ -86,7 +88,7 @@ impl Slot {
 impl Drop for Slot {
     fn drop(&mut self) {
         // SAFETY: above; nothing uses the slot any more.
-        unsafe { sys::yengatomu_close(self.slot.get()) }
+        unsafe { sys::yengatomu_close(&mut self.slot) }
     }
 }
 
@@ -112,7 +114,7 @@ macro_rules! calls {
             #[inline]
             fn boundaries(slot: &Slot, text: &[Self], from: usize, out: &mut [usize]) -> usize {
                 // SAFETY: above.
-                unsafe { sys::$boundaries(slot.slot.get(), text.as_ptr(), text.len(), from, out.as_mut_ptr(), out.len()) }
+                unsafe { sys::$boundaries(&slot.slot, text.as_ptr(), text.len(), from, out.as_mut_ptr(), out.len()) }
             }
 
             #[inline]
@@ -120,7 +122,7 @@ macro_rules! calls {
                 // SAFETY: above.
                 unsafe {
                     sys::$marked_boundaries(
-                        slot.slot.get(),
+                        &slot.slot,
                         text.as_ptr(),
                         text.len(),
                         from,
@@ -134,29 +136,29 @@ macro_rules! calls {
 
             fn count(slot: &Slot, text: &[Self]) -> usize {
                 // SAFETY: above.
-                unsafe { sys::$count(slot.slot.get(), text.as_ptr(), text.len()) }
+                unsafe { sys::$count(&slot.slot, text.as_ptr(), text.len()) }
             }
 
             fn count_words(slot: &Slot, text: &[Self]) -> usize {
                 // SAFETY: above.
-                unsafe { sys::$count_words(slot.slot.get(), text.as_ptr(), text.len()) }
+                unsafe { sys::$count_words(&slot.slot, text.as_ptr(), text.len()) }
             }
 
             fn next(slot: &Slot, text: &[Self], from: usize) -> Option<usize> {
                 // SAFETY: above.
-                place(unsafe { sys::$next(slot.slot.get(), text.as_ptr(), text.len(), from) })
+                place(unsafe { sys::$next(&slot.slot, text.as_ptr(), text.len(), from) })
             }
 
             fn previous(slot: &Slot, text: &[Self], from: usize) -> Option<usize> {
                 // SAFETY: above.
-                place(unsafe { sys::$previous(slot.slot.get(), text.as_ptr(), text.len(), from) })
+                place(unsafe { sys::$previous(&slot.slot, text.as_ptr(), text.len(), from) })
             }
 
             fn wrap(slot: &Slot, text: &[Self], from: usize, columns: usize, ends: &mut [usize], widths: &mut [usize]) -> usize {
                 // SAFETY: above.
                 unsafe {
                     sys::$wrap(
-                        slot.slot.get(),
+                        &slot.slot,
                         text.as_ptr(),
                         text.len(),
                         from,

@@ -5,8 +5,8 @@ use std::sync::Arc;
 
 use yengatomu::kind::{self, Kind};
 use yengatomu::{
-    join_lines, DictionaryError, Error, GraphemeSegmenter, LineBreak, LineOptions, LineSegmenter, Script, Segmenter, SentenceSegmenter,
-    Slice, Strictness, Text, WordBreak, WordSegmenter, WordType,
+    join_lines, DictionaryError, Error, GraphemeSegmenter, LineBreak, LineOptions, LineSegmenter, RuleSegmenter, Script, Segmenter,
+    SentenceSegmenter, Slice, Strictness, Text, WordBreak, WordSegmenter, WordType,
 };
 use yengatomu_sys::*;
 
@@ -98,38 +98,37 @@ impl Whole {
         Self(slot)
     }
 
-    fn boundaries(&mut self, text: &[u8]) -> Vec<usize> {
+    fn boundaries(&self, text: &[u8]) -> Vec<usize> {
         let mut found = vec![0; text.len() + 2];
         // SAFETY: each length is that of its array.
-        let count = unsafe { yengatomu_boundaries(&mut self.0, text.as_ptr(), text.len(), 0, found[1..].as_mut_ptr(), text.len() + 1) };
+        let count = unsafe { yengatomu_boundaries(&self.0, text.as_ptr(), text.len(), 0, found[1..].as_mut_ptr(), text.len() + 1) };
         found.truncate(count + 1);
         found
     }
 
-    fn boundaries_utf16(&mut self, text: &[u16]) -> Vec<usize> {
+    fn boundaries_utf16(&self, text: &[u16]) -> Vec<usize> {
         let mut found = vec![0; text.len() + 2];
         // SAFETY: each length is that of its array.
-        let count =
-            unsafe { yengatomu_boundaries_utf16(&mut self.0, text.as_ptr(), text.len(), 0, found[1..].as_mut_ptr(), text.len() + 1) };
+        let count = unsafe { yengatomu_boundaries_utf16(&self.0, text.as_ptr(), text.len(), 0, found[1..].as_mut_ptr(), text.len() + 1) };
         found.truncate(count + 1);
         found
     }
 
-    fn marks(&mut self, text: &[u8]) -> Vec<u8> {
+    fn marks(&self, text: &[u8]) -> Vec<u8> {
         let room = text.len() + 1;
         let (mut found, mut marks) = (vec![0; room], vec![0; room]);
         // SAFETY: each length is that of its array.
         let count = unsafe {
-            yengatomu_marked_boundaries(&mut self.0, text.as_ptr(), text.len(), 0, found.as_mut_ptr(), room, marks.as_mut_ptr(), room)
+            yengatomu_marked_boundaries(&self.0, text.as_ptr(), text.len(), 0, found.as_mut_ptr(), room, marks.as_mut_ptr(), room)
         };
         marks.truncate(count);
         marks
     }
 
-    fn wrap(&mut self, text: &[u8], columns: usize) -> Vec<usize> {
+    fn wrap(&self, text: &[u8], columns: usize) -> Vec<usize> {
         let mut ends = vec![0; text.len() + 1];
         // SAFETY: each length is that of its array.
-        let count = unsafe { yengatomu_wrap(&mut self.0, text.as_ptr(), text.len(), 0, columns, ends.as_mut_ptr(), ends.len()) };
+        let count = unsafe { yengatomu_wrap(&self.0, text.as_ptr(), text.len(), 0, columns, ends.as_mut_ptr(), ends.len()) };
         ends.truncate(count);
         ends
     }
@@ -201,7 +200,7 @@ where
     assert_eq!((all.size_hint(), all.next(), all.next()), ((0, Some(0)), None, None));
 }
 
-fn agree_in_each_encoding<K: Kind>(segmenter: &Segmenter<K>, mut whole: Whole) {
+fn agree_in_each_encoding<K: Kind>(segmenter: &Segmenter<K>, whole: Whole) {
     for text in texts() {
         let boundaries = whole.boundaries(text.as_bytes());
         assert_eq!(boundaries[0], 0);
@@ -281,7 +280,7 @@ fn marks_of_words() {
         if dictionary {
             segmenter = with_thai(segmenter);
         }
-        let mut whole = Whole::open(YENGATOMU_WORDS, dictionary);
+        let whole = Whole::open(YENGATOMU_WORDS, dictionary);
         for text in texts() {
             let marks: Vec<_> = segmenter.marked_segments(&text).map(|(_, _, word_type)| word_type as u8).collect();
             assert_eq!(marks, whole.marks(text.as_bytes()));
@@ -304,7 +303,7 @@ fn marks_of_words() {
 fn marks_of_lines() {
     for dictionary in [false, true] {
         let segmenter = if dictionary { with_thai(lines()) } else { lines() };
-        let mut whole = Whole::open(YENGATOMU_LINES, dictionary);
+        let whole = Whole::open(YENGATOMU_LINES, dictionary);
         for text in texts() {
             let found: Vec<_> = segmenter.marked_segments(&text).collect();
             let marks: Vec<_> = found.iter().map(|&(_, _, mark)| u8::from(mark == LineBreak::Mandatory)).collect();
@@ -318,7 +317,7 @@ fn marks_of_lines() {
 fn wrapped_lines() {
     for dictionary in [false, true] {
         let segmenter = if dictionary { with_thai(lines()) } else { lines() };
-        let mut whole = Whole::open(YENGATOMU_LINES, dictionary);
+        let whole = Whole::open(YENGATOMU_LINES, dictionary);
         for text in texts() {
             for columns in [0, 1, 7, 30, usize::MAX] {
                 let found: Vec<_> = segmenter.wrap(&text, columns).collect();
@@ -675,13 +674,37 @@ fn shown() {
     assert_eq!(WordType::Number as u8, YENGATOMU_NUMBER);
 }
 
-/// Segmenters may move to other threads.
+/// Ten threads segment a text by one segmenter at once.
+fn shared<K: Kind>(segmenter: &Segmenter<K>, text: &str) {
+    let wanted: Vec<_> = segmenter.boundaries(text).collect();
+    std::thread::scope(|scope| {
+        for _ in 0..10 {
+            scope.spawn(|| {
+                assert!(segmenter.boundaries(text).eq(wanted.iter().copied()));
+                assert_eq!(segmenter.count(text), wanted.len() - 1);
+                assert_eq!(segmenter.next_boundary(text, 0), wanted.get(1).copied());
+                assert_eq!(segmenter.previous_boundary(text, text.len()), wanted.iter().rev().nth(1).copied());
+            });
+        }
+    });
+}
+
+/// Segmenters may move to other threads, and be shared between them.
 #[test]
 fn threads() {
-    fn is_send<T: Send>(_: &T) {}
+    fn is_shared<T: Send + Sync>() {}
+    is_shared::<GraphemeSegmenter>();
+    is_shared::<WordSegmenter>();
+    is_shared::<SentenceSegmenter>();
+    is_shared::<LineSegmenter>();
+    is_shared::<RuleSegmenter>();
     let words = with_thai(WordSegmenter::new().unwrap());
-    is_send(&words);
     let text = texts().concat();
+    shared(&words, &text);
+    shared(&GraphemeSegmenter::new().unwrap(), &text);
+    shared(&SentenceSegmenter::new().unwrap(), &text);
+    shared(&with_thai(LineSegmenter::new(LineOptions::default()).unwrap()), &text);
+    shared(&RuleSegmenter::by_rules("A = [a]\nA × A\n÷").unwrap(), &text);
     let here = words.count(&text);
     let handles: Vec<_> = (0..4)
         .map(|_| {

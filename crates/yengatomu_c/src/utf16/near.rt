@@ -3,33 +3,34 @@
 ghost use Rattle.std.specs.Prelude.{◌≡◌, ◌-◌, ◌^◌, ℕ, IfSome, None, Option, unwrap_or};
 ghost use Rattle.icu_segmenter.specs.Decoding.{utf16};
 ghost use Rattle.icu_segmenter.specs.NearBoundaries.{IsNearestAbove, IsNearestBelow};
+ghost use Rattle.yengatomu_c.specs.Lent.{IsLentBy};
 ghost use Rattle.yengatomu_c.specs.Finders.{finder_in, finder_of, places_in};
 
-use crate::NONE;
+use crate::loan::Loan;
 use crate::segmenter::Segmenter;
 use crate::slot::Slot;
 use crate::suppressing::Suppressing;
+use crate::{Found, NONE};
 use icu_segmenter::cursor::BoundaryCursor;
-use std::alloc::Global;
 
 /// `yengatomu_next` of UTF-16.
 #[unsafe(no_mangle)]
-pub extern "C" fn yengatomu_next_utf16(
-    alloc: Global,
-    slot: &mut Slot,
-    text: &[u16],
-    place: usize,
-) -> usize
-    ensures kept { finder_in slot.new ≡ finder_in slot.old }
-    ensures empty { finder_in slot.old ≡ None → result ≡ 2 ^ 64 - 1 }
-    ensures nearest { IfSome (finder_in slot.old) (λ finder. (found : Option ℕ) × IsNearestAbove (places_in finder utf16 text.now) place found × (result ≡ unwrap_or found (2 ^ 64 - 1))) }
+pub extern "C" fn yengatomu_next_utf16(slot: &Slot, loan: Loan, text: &[u16], place: usize) -> Found
+    requires lent { IsLentBy slot.now loan }
+    ensures back { result.loan ≡ loan }
+    ensures empty { finder_in slot.now ≡ None → result.count ≡ 2 ^ 64 - 1 }
+    ensures nearest { IfSome (finder_in slot.now) (λ finder. (found : Option ℕ) × IsNearestAbove (places_in finder utf16 text.now) place found × (result.count ≡ unwrap_or found (2 ^ 64 - 1))) }
 {
-    let Some(segmenter) = slot.take(alloc) else {
-        return NONE;
-    };
-    let found = next(&segmenter, text, place);
-    slot.put(segmenter);
-    found.unwrap_or(NONE)
+    match slot.lend(loan) {
+        Ok(lease) => {
+            let found = next(lease.get(), text, place);
+            Found {
+                count: found.unwrap_or(NONE),
+                loan: lease.back(),
+            }
+        }
+        Err(loan) => Found { count: NONE, loan },
+    }
 }
 
 fn next(segmenter: &Segmenter, text: &[u16], place: usize) -> Option<usize>
@@ -53,21 +54,26 @@ fn next(segmenter: &Segmenter, text: &[u16], place: usize) -> Option<usize>
 /// `yengatomu_previous` of UTF-16.
 #[unsafe(no_mangle)]
 pub extern "C" fn yengatomu_previous_utf16(
-    alloc: Global,
-    slot: &mut Slot,
+    slot: &Slot,
+    loan: Loan,
     text: &[u16],
     place: usize,
-) -> usize
-    ensures kept { finder_in slot.new ≡ finder_in slot.old }
-    ensures empty { finder_in slot.old ≡ None → result ≡ 2 ^ 64 - 1 }
-    ensures nearest { IfSome (finder_in slot.old) (λ finder. (found : Option ℕ) × IsNearestBelow (places_in finder utf16 text.now) place found × (result ≡ unwrap_or found (2 ^ 64 - 1))) }
+) -> Found
+    requires lent { IsLentBy slot.now loan }
+    ensures back { result.loan ≡ loan }
+    ensures empty { finder_in slot.now ≡ None → result.count ≡ 2 ^ 64 - 1 }
+    ensures nearest { IfSome (finder_in slot.now) (λ finder. (found : Option ℕ) × IsNearestBelow (places_in finder utf16 text.now) place found × (result.count ≡ unwrap_or found (2 ^ 64 - 1))) }
 {
-    let Some(segmenter) = slot.take(alloc) else {
-        return NONE;
-    };
-    let found = previous(&segmenter, text, place);
-    slot.put(segmenter);
-    found.unwrap_or(NONE)
+    match slot.lend(loan) {
+        Ok(lease) => {
+            let found = previous(lease.get(), text, place);
+            Found {
+                count: found.unwrap_or(NONE),
+                loan: lease.back(),
+            }
+        }
+        Err(loan) => Found { count: NONE, loan },
+    }
 }
 
 fn previous(segmenter: &Segmenter, text: &[u16], place: usize) -> Option<usize>

@@ -14,8 +14,8 @@ returns-in-Ok c =
         finder_of c.deref_mut.result.now,
         finder_of c.load-loaded.new.segmenter,
         ap (option_map finder_of) c.in-Some.ensures.taken ∙ ap (λ (segmenter : Segmenter). Some (finder_of segmenter)) (sym c.deref_mut.ensures.value),
-        ap (option_map finder_of) c.put.ensures,
+        ap (option_map finder_of) c.put.ensures.0,
         c.in-Ok.ensures.loaded,
       );
-      feeds = λ reset. rw (c.put.ensures, new) (feeds-abbreviated _ _ (rw c.deref_mut.ensures.value (rw c.in-Some.ensures.taken at reset)));
+      feeds = λ reset. rw (c.put.ensures.0, new) (feeds-abbreviated _ _ (rw c.deref_mut.ensures.value (rw c.in-Some.ensures.taken at reset)));
     }

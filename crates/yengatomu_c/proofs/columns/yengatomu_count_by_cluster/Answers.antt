@@ -14,8 +14,8 @@ returns-in-Ok c =
         finder_of c.deref_mut.result.now,
         ap (option_map finder_of) c.in-Some.ensures.taken ∙ ap (λ (segmenter : Segmenter). Some (finder_of segmenter)) (sym c.deref_mut.ensures.value),
         has,
-        ap (option_map finder_of) c.put.ensures ∙ ap (λ (finder : Finder). Some finder) new,
+        ap (option_map finder_of) c.put.ensures.0 ∙ ap (λ (finder : Finder). Some finder) new,
       );
-      restart = λ restart. rw (c.put.ensures, new) (restart-counted _ _ (rw c.deref_mut.ensures.value (rw c.in-Some.ensures.taken at restart)));
-      feeds = λ reset. rw (c.put.ensures, new) (feeds-counted _ _ (rw c.deref_mut.ensures.value (rw c.in-Some.ensures.taken at reset)));
+      restart = λ restart. rw (c.put.ensures.0, new) (restart-counted _ _ (rw c.deref_mut.ensures.value (rw c.in-Some.ensures.taken at restart)));
+      feeds = λ reset. rw (c.put.ensures.0, new) (feeds-counted _ _ (rw c.deref_mut.ensures.value (rw c.in-Some.ensures.taken at reset)));
     }
