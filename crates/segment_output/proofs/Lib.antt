@@ -5,10 +5,10 @@ pub mod Gathered
 pub mod JoinedCuts
 pub mod LineEnds
 pub mod MarkedPlaces
+pub mod Pieces
 pub mod Prepared
 pub mod Printed
 pub mod Segments
-pub mod ShortObjects
 pub mod ShownLines
 pub mod ShownWide
 pub mod SplitText

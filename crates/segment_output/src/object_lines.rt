@@ -1,5 +1,5 @@
 //! Segments as objects of JSON, a line each.
-ghost use Rattle.std.specs.Prelude.{◌≡◌, ◌+◌, ◌≤◌, ◌++◌, ◌∷◌, [], ℕ, false, List, drop, length, take, true, IfOk, IfSome, IsTrue, OnOk};
+ghost use Rattle.std.specs.Prelude.{◌≡◌, ◌+◌, ◌<◌, ◌≤◌, ◌++◌, ◌∷◌, [], ℕ, false, List, drop, length, take, true, IfOk, IfSome, IsTrue, OnOk};
 ghost use Rattle.std.specs.Io.KnownBytes.{Appends};
 ghost use Rattle.std.specs.Iterator.{IsFinite, YieldsThen};
 ghost use Rattle.std.specs.List.{list_all, slice_range};
@@ -11,13 +11,14 @@ ghost use Rattle.segment_output.specs.declared.marks.Mark.{Mark};
 ghost use Rattle.segment_output.specs.declared.output.Style.TheVariants.{Json};
 
 use crate::marks::Mark;
+use crate::object_pieces::{Copied, text_between};
 use crate::objects::is_bare;
 use crate::output::{Part, Segment, later, one_more, push_line};
 use crate::page::Page;
-use crate::short_object::{ShortText, short_text};
+use simdutf8::compat::from_utf8;
 use std::alloc::Global;
+use std::io;
 use std::io::Write;
-use std::{io, str};
 
 // So many bytes are looked at, at once, for what is escaped.
 const STRETCH_LEN: usize = 256;
@@ -79,7 +80,7 @@ pub fn print_objects<N: Iterator<Item = (usize, Mark)>, O: Write>(
     Ok(count)
 }
 
-// Adds the object of a segment, where it stands in the stretch, is a short one, names no file, and there is room for it.
+// Adds the object of a segment, where it stands in the stretch, no file is named, and there is room for it.
 #[inline(always)]
 fn put_short(part: Part<'_>, segment: Segment, stretch: BareStretch<'_>, page: &mut Page) -> bool
     requires json { part.style ≡ Json }
@@ -102,19 +103,24 @@ fn put_short(part: Part<'_>, segment: Segment, stretch: BareStretch<'_>, page: &
     page.put_object(text, start, end, segment.mark)
 }
 
-// What stands between two places, where that is short, and in the stretch.
+// What stands between two places, where that is in the stretch.
 #[inline(always)]
-fn bare_text(text: &[u8], start: usize, end: usize, stretch: BareStretch<'_>) -> Option<ShortText>
+fn bare_text<'t>(
+    text: &'t [u8],
+    start: usize,
+    end: usize,
+    stretch: BareStretch<'_>,
+) -> Option<Copied<'t>>
     requires { IsBareStretch text.now stretch }
-    ensures { IfSome result (λ short. (short.len ≤ 16) × ((take short.len short.bytes ≡ slice_range text.now start end) × AreBare (slice_range text.now start end))) }
+    ensures { IfSome result (λ copied. ((copied.len ≤ length copied.bytes.now) × ((length copied.bytes.now ≤ 256) × (take copied.len copied.bytes.now ≡ slice_range text.now start end))) × AreBare (slice_range text.now start end)) }
 {
     let from = start.checked_sub(stretch.from)?;
     let to = end.checked_sub(stretch.from)?;
     let _bare = stretch.text.get(from..to)?;
-    short_text(text, start, end)
+    text_between(text, start, end)
 }
 
-// Adds the object of a segment that doesn't stand in the stretch, isn't a short one, or has no room on the page, and finds the next stretch.
+// Adds the object of a segment that doesn't stand in the stretch, or has no room on the page, and finds the next stretch.
 #[inline(never)]
 fn put_other<'s, O: Write>(
     part: Part<'s>,
@@ -168,8 +174,26 @@ fn near<'s>(text: &'s [u8], from: usize) -> &'s [u8]
     if from >= text.len() {
         return &[];
     }
-    let to = text.len().min(from.saturating_add(STRETCH_LEN));
+    if text.len() - from <= STRETCH_LEN {
+        return &text[from..];
+    }
+    let to = back_in_character(
+        text,
+        back_in_character(text, back_in_character(text, from + STRETCH_LEN)),
+    );
     &text[from..to]
+}
+
+// A place, or the one before it where a character goes on there.
+fn back_in_character(text: &[u8], place: usize) -> usize
+    requires { (0 < place) × (place < length text.now) }
+    ensures { (result ≤ place) × (place ≤ result + 1) }
+{
+    if text[place] & 0xC0 == 0x80 {
+        place - 1
+    } else {
+        place
+    }
 }
 
 // How many bytes a text begins with of which none is escaped.
@@ -188,11 +212,11 @@ fn bare_len(text: &[u8]) -> usize
 fn well_formed(bytes: &[u8]) -> &str
     ensures { (len : ℕ) × (result.now ≡ take len bytes.now) }
 {
-    match str::from_utf8(bytes) {
+    match from_utf8(bytes) {
         Ok(text) => text,
         Err(fault) => {
             let begin = bytes.get(..fault.valid_up_to()).unwrap_or(&[]);
-            str::from_utf8(begin).unwrap_or("")
+            from_utf8(begin).unwrap_or("")
         }
     }
 }

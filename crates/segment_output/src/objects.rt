@@ -12,6 +12,7 @@ use crate::marks::Mark;
 use crate::output::push_digits;
 use icu_segmenter::options::WordType;
 use json::Writer;
+use simdutf8::basic::from_utf8;
 use std::alloc::{AllocError, Global};
 use std::{mem, str};
 
@@ -49,7 +50,7 @@ pub fn is_bare_text(text: &[u8]) -> bool
     if text.is_ascii() {
         return are_bare(text);
     }
-    match str::from_utf8(text) {
+    match from_utf8(text) {
         Ok(_) => are_bare(text),
         Err(_) => false,
     }

@@ -1,12 +1,12 @@
 //! Lines that are gathered on a page.
-ghost use Rattle.std.specs.Prelude.{◌≡◌, ◌≤◌, ◌++◌, ◌∷◌, [], false, None, take, IfOk, IsTrue, OnOk};
+ghost use Rattle.std.specs.Prelude.{◌≡◌, ◌≤◌, ◌++◌, ◌∷◌, [], false, None, length, take, IfOk, IsTrue, OnOk};
 ghost use Rattle.std.specs.Io.KnownBytes.{Appends};
 ghost use Rattle.json.specs.Print.{print};
 ghost use Rattle.segment_output.specs.Objects.{AreBare};
 ghost use Rattle.segment_output.specs.Output.{object_of};
 
 use crate::marks::Mark;
-use crate::short_object::{OBJECT_LEN, ShortText, put_pieces};
+use crate::object_pieces::{Copied, OBJECT_LEN, put_pieces};
 use std::alloc::{AllocError, Global};
 use std::io;
 use std::io::Write;
@@ -44,10 +44,10 @@ impl Page {
 
     /// Adds the object of a segment, in which no file is named, and a line feed, where there is room for it.
     #[inline(always)]
-    pub fn put_object(&mut self, text: ShortText, start: usize, end: usize, mark: Mark) -> bool
-        requires short { text.len ≤ 16 }
-        requires bare { AreBare (take text.len text.bytes) }
-        ensures added { IsTrue result → self.new ≡ self.old ++ (print (object_of None (take text.len text.bytes) (record { from = start; to = end; mark = mark })) ++ 10 ∷ []) }
+    pub fn put_object(&mut self, text: Copied<'_>, start: usize, end: usize, mark: Mark) -> bool
+        requires short { (text.len ≤ length text.bytes.now) × (length text.bytes.now ≤ 256) }
+        requires bare { AreBare (take text.len text.bytes.now) }
+        ensures added { IsTrue result → self.new ≡ self.old ++ (print (object_of None (take text.entry.len text.entry.bytes.now) (record { from = start; to = end; mark = mark })) ++ 10 ∷ []) }
         ensures full { result ≡ false → self.new ≡ self.old }
     {
         let used = self.used;

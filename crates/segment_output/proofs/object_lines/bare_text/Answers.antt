@@ -16,4 +16,4 @@ returns c =
     subst (λ (place : ℕ). AreBare (slice_range c.args.text.now place c.args.end)) start
     (subst (λ (place : ℕ). AreBare (slice_range c.args.text.now (c.args.stretch.from + c.in_ok-from.from) place)) end
     (bare-part c.args.text.now c.args.stretch.text.now c.in_ok-_bare._bare.now c.args.stretch.from c.in_ok-from.from c.in_ok-to.to c.requires.0 is ordered within c.requires.1 utf8)) in
-    found-and c.short_text.result (λ short are. (are.0, (are.1, bare))) c.short_text.ensures
+    found-and c.text_between.result (λ copied are. (are, bare)) c.text_between.ensures

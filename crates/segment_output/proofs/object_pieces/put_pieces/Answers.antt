@@ -4,12 +4,12 @@ use Rattle.json.specs.Print.{print_from}
 use Rattle.json.specs.Token.{end_object}
 use Rattle.segment_output.specs.Output.{Segment, mark_tokens}
 use Rattle.segment_output.proofs.BareObjects.{bare-object, pieces}
-use Rattle.segment_output.proofs.short_object.put_pieces.Goals as goal
+use Rattle.segment_output.proofs.object_pieces.put_pieces.Goals as goal
 
 pub returns-clause-pieces : goal.returns-clause-pieces
 returns-clause-pieces c =
     let segment : Segment = record { from = c.args.start; to = c.args.end; mark = c.args.mark } in
-    let text : List ℕ = take c.args.text.len c.args.text.bytes in
+    let text : List ℕ = take c.args.text.len c.args.text.bytes.now in
     let last : List ℕ = print_from true (mark_tokens c.args.mark ++ end_object ∷ []) in
     let before : List ℕ = take c.put_number-at-2.result c.put_number-at-2.new.object in
     c.put.ensures.pieces
@@ -17,5 +17,5 @@ returns-clause-pieces c =
     ∙ sym (append_assoc before last (10 ∷ []))
     ∙ ap (λ (object : List ℕ). object ++ 10 ∷ [])
     (pieces [] (codes "{\"text\":\"") text (codes "\",\"begin\":") (decimal c.args.start) (codes ",\"end\":") (decimal c.args.end) last _ _ _ _ _ _
-    c.put-at.ensures.pieces c.put-at-2.ensures.pieces c.put-at-3.ensures.pieces c.put_number-at.ensures.pieces c.put-at-4.ensures.pieces c.put_number-at-2.ensures.pieces
+    c.put-at.ensures.pieces c.put_text-at.ensures.pieces c.put-at-2.ensures.pieces c.put_number-at.ensures.pieces c.put-at-3.ensures.pieces c.put_number-at-2.ensures.pieces
     ∙ sym (bare-object None text segment tt c.requires.bare))
