@@ -15,7 +15,7 @@ use Rattle.segment_text.specs.Size.{size_of}
 use Rattle.segment.specs.Job.{count_by, numbers_of, output_of, printed_by, said_by, text_of, work_output, IsBegunBy, IsDoneBy, IsPrintingOf, IsTally}
 use Rattle.segment_output.specs.declared.fault.Fault.{Fault}
 use Rattle.segment_text.specs.declared.size.Size.{Size}
-use Rattle.segment_output.specs.declared.found.Tally.{Tally}
+use Rattle.segment_text.specs.declared.size.Tally.{Tally}
 use Rattle.segment_output.specs.declared.output.Numbers.{Numbers}
 use Rattle.segment_output.specs.declared.output.Style.{Style}
 use Rattle.segment_output.specs.declared.parts.Printing.{Printing}

@@ -16,7 +16,7 @@ use Rattle.segment_output.specs.declared.segmenter.Kind.{Kind}
 use Rattle.segment.specs.declared.command.Request.{Request}
 use Rattle.segment.specs.declared.command.Task.TheVariants as task
 use Rattle.segment_output.specs.declared.wrapper.Width.{Width}
-use Rattle.segment_output.specs.declared.found.Tally.{Tally}
+use Rattle.segment_text.specs.declared.size.Tally.{Tally}
 use Rattle.segment_output.specs.declared.output.Numbers.{Numbers}
 use Rattle.segment.specs.declared.job.Job.{Job}
 use Rattle.segment.specs.declared.job.Work.{Work}

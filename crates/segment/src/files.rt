@@ -3,9 +3,8 @@
 use crate::job::Job;
 use crate::run::run;
 use segment_output::fault::Fault;
-use segment_output::found::Tally;
 use segment_output::output::write_count;
-use segment_text::size::Size;
+use segment_text::size::{Size, Tally};
 use std::io::ErrorKind;
 use std::process::ExitCode;
 use std::{fs, io};

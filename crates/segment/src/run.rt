@@ -8,10 +8,9 @@ ghost use Rattle.segment.specs.Job.{output_of, printed_by, said_by, IsBegunBy, I
 
 use crate::job::Job;
 use segment_output::fault::Fault;
-use segment_output::found::Tally;
 use segment_output::output::write_count;
 use segment_output::parts::{Splitting, print_parts};
-use segment_text::size::Size;
+use segment_text::size::{Size, Tally};
 use std::alloc::Global;
 use std::io::{Read, Write};
 

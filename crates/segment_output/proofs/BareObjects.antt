@@ -7,7 +7,9 @@ use Rattle.std.specs.Option.{option_map}
 use Rattle.std.proofs.lemmas.Str.{utf8_lossy-IsUtf8}
 use Rattle.json.specs.Print.{escape, escape_byte, print, print_from}
 use Rattle.json.specs.Token.{Token, begin_object, end_object, key, string, number}
-use Rattle.segment_output.specs.Objects.{AreBare, is_bare, opening}
+use Rattle.segment_text.specs.Bare.{AreBare, is_bare}
+use Rattle.segment_text.proofs.BareStretches.{both}
+use Rattle.segment_output.specs.Objects.{opening}
 use Rattle.segment_output.specs.Output.{Segment, mark_tokens, object_of}
 
 module _ (byte : ℕ) (bare : is_bare byte ≡ true) where
@@ -28,10 +30,6 @@ module _ (byte : ℕ) (bare : is_bare byte ≡ true) where
   bare-byte : escape_byte byte ≡ byte ∷ []
   unfolding escape_byte
   bare-byte = rw (apart 34 refl, apart 92 refl, apart 8 refl, apart 12 refl, apart 10 refl, apart 13 refl, apart 9 refl, high) refl
-
-pub both : (one other : Bool) → (one && other) ≡ true → (one ≡ true) × (other ≡ true)
-both true other are = (refl, are)
-both false other are = absurd (true≢false (sym are))
 
 pub bare-text : (text : List ℕ) → list_all is_bare text ≡ true → escape text ≡ text
 bare-text [] are = refl

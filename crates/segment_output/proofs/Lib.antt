@@ -1,6 +1,5 @@
 pub mod BareLines
 pub mod BareObjects
-pub mod BareStretches
 pub mod Gathered
 pub mod JoinedCuts
 pub mod LineEnds

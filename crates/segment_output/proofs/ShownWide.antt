@@ -4,7 +4,8 @@ use Rattle.std.proofs.lemmas.Bool.{le-ltb, lt-ltb}
 use Rattle.icu_segmenter.specs.LineBreaks.{LineRules}
 use Rattle.icu_segmenter.specs.Wrapping.{Measure, TextLine}
 use Rattle.icu_segmenter.specs.WrappedLines.{wrapped_text}
-use Rattle.segment_output.specs.Wrapped.{printed_line, printed_lines, shown_as, without_trailing_space}
+use Rattle.segment_text.specs.Trimmed.{printed_line, without_trailing_space}
+use Rattle.segment_output.specs.Wrapped.{printed_lines, shown_as}
 
 pub one-line : (line : TextLine) → printed_lines (line ∷ []) ≡ printed_line line.units
 one-line line = append-nil (printed_line line.units)

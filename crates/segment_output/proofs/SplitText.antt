@@ -23,7 +23,7 @@ use Rattle.segment_output.specs.Segmenter.{boundaries_by, has_words_alone, mark_
 use Rattle.segment_text.specs.Size.{both_sizes, size_of}
 use Rattle.segment_output.specs.declared.fault.Fault.{Fault}
 use Rattle.segment_text.specs.declared.size.Size.{Size}
-use Rattle.segment_output.specs.declared.found.Tally.{Tally}
+use Rattle.segment_text.specs.declared.size.Tally.{Tally}
 use Rattle.segment_output.specs.declared.marks.Mark.{Mark}
 use Rattle.segment_output.specs.declared.parts.Printing.{Printing}
 use Rattle.segment_output.specs.declared.parts.Printing.TheVariants.{Segments, Lines}

@@ -3,8 +3,7 @@ use Rattle.std.proofs.Common.{◌≡◌, ℕ, suc, ◌+◌, ◌-◌, ◌<◌, �
 use Rattle.std.specs.List.{slice_range}
 use Rattle.std.proofs.Math.Seq.{take-add}
 use Rattle.std.proofs.lemmas.List.{drop_at, get_or-take, get_or-drop, length-take, take_at, take-take}
-use Rattle.segment_text.specs.Escapes.{escaped, is_plain}
-use Rattle.segment_output.specs.Stretch.{ArePlain}
+use Rattle.segment_text.specs.Escapes.{ArePlain, escaped, is_plain}
 use Rattle.segment_text.proofs.Escaping.{escaped-none, escaped-nothing, plain-none}
 
 all-plain : (bytes : List ℕ) → ((place : ℕ) → place < length bytes → is_plain (slice_index_or bytes place 0) ≡ true) → escaped bytes ≡ bytes

@@ -1,4 +1,3 @@
-pub mod BareStretch
 pub mod Fault
 pub mod Gathered
 pub mod Objects

@@ -1,13 +1,8 @@
 -- Stretches of a text in which each segment is written as it stands.
-use Rattle.std.specs.Prelude.{◌≡◌, ℕ, ◌+◌, ◌<◌, ◌≤◌, true, Option, List, [], ◌∷◌, ◌++◌, length, slice_index_or}
-use Rattle.segment_text.specs.Escapes.{is_plain}
+use Rattle.std.specs.Prelude.{◌≡◌, ℕ, ◌+◌, ◌≤◌, Option, List, [], ◌∷◌, ◌++◌, length}
 use Rattle.segment_output.specs.Output.{Segment, line_in, units_of}
 use Rattle.segment_output.specs.declared.output.Style.{Style}
 use Rattle.segment_output.specs.declared.stretch.Stretch.{Stretch}
-
--- no byte of a text between two places is escaped or begins more bytes that may be
-abbrev pub ArePlain : List ℕ → ℕ → ℕ → Type 0
-ArePlain text from to = (place : ℕ) → from ≤ place → place < to → is_plain (slice_index_or text place 0) ≡ true
 
 -- each segment of a stretch is written as it stands, and a byte behind it; and 16 bytes stand behind a stretch
 abbrev pub IsStretch : Style → List ℕ → Stretch → Type 0

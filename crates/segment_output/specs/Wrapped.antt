@@ -1,7 +1,6 @@
 -- What is written of a text whose lines are wrapped.
-use Rattle.std.specs.Prelude.{◌≡◌, ℕ, ◌-◌, ◌==◌, ◌||◌, nat_lt, Bool, Option, None, Some, List, [], ◌∷◌, ◌++◌, length, take, if◌then◌else◌}
-use Rattle.std.specs.Cmp.Lexicographic.{pointwise}
-use Rattle.std.specs.List.{flat_map, suffix_len}
+use Rattle.std.specs.Prelude.{◌≡◌, ℕ, nat_lt, Option, None, Some, List, [], ◌∷◌, ◌++◌, length, if◌then◌else◌}
+use Rattle.std.specs.List.{flat_map}
 use Rattle.icu_segmenter.specs.Boundary.{Boundary}
 use Rattle.icu_segmenter.specs.Boundaries.{IsCover}
 use Rattle.icu_segmenter.specs.Decoding.{utf8}
@@ -11,23 +10,12 @@ use Rattle.icu_segmenter.specs.NearBoundaries.{line_feed}
 use Rattle.icu_segmenter.specs.Rules.{Rules}
 use Rattle.icu_segmenter.specs.Rules.Rules.{ByMachine}
 use Rattle.icu_segmenter.specs.ScriptWords.{no_words}
-use Rattle.icu_segmenter.specs.Wrapping.{Measure, TextLine, by_characters, by_clusters, is_trailing_space}
+use Rattle.icu_segmenter.specs.Wrapping.{Measure, TextLine, by_characters, by_clusters}
 use Rattle.icu_segmenter.specs.WrappedLines.{wrapped_text}
+use Rattle.segment_text.specs.Trimmed.{printed_line, without_trailing_space}
 use Rattle.icu_segmenter_uax29.specs.Clusters.{cluster_machine}
 
--- the bytes of a line without its trailing white space
-abbrev pub without_trailing_space : List ℕ → List ℕ
-without_trailing_space bytes = take (length bytes - suffix_len is_trailing_space bytes) bytes
-
--- the line that parts a signature off (`-- `), which keeps its space
-abbrev pub is_signature : List ℕ → Bool
-is_signature bytes =
-    pointwise (◌==◌) bytes (0x2D ∷ 0x2D ∷ 0x20 ∷ 0x0A ∷ []) || pointwise (◌==◌) bytes (0x2D ∷ 0x2D ∷ 0x20 ∷ 0x0D ∷ 0x0A ∷ [])
-
--- a line without its trailing white space, and a line feed
-abbrev pub printed_line : List ℕ → List ℕ
-printed_line bytes = (if is_signature bytes then 0x2D ∷ 0x2D ∷ 0x20 ∷ [] else without_trailing_space bytes) ++ 10 ∷ []
-
+-- the lines of a text, each without its trailing white space, and a line feed
 abbrev pub printed_lines : List TextLine → List ℕ
 printed_lines lines = flat_map (λ line. printed_line line.units) lines
 

@@ -3,7 +3,6 @@
 #![tactic(auto)]
 
 pub mod fault;
-pub mod found;
 mod machine_lines;
 pub mod marks;
 mod object_lines;
@@ -15,5 +14,4 @@ pub mod parts;
 pub mod segmenter;
 mod stretch;
 pub mod vocabulary;
-mod wrapped;
 pub mod wrapper;

@@ -2,33 +2,21 @@
 ghost use Rattle.std.specs.Prelude.{◌≡◌, ◌+◌, ◌<◌, ◌≤◌, ◌++◌, ◌∷◌, [], ℕ, false, List, drop, length, take, true, IfOk, IfSome, IsTrue, OnOk};
 ghost use Rattle.std.specs.Io.KnownBytes.{Appends};
 ghost use Rattle.std.specs.Iterator.{IsFinite, YieldsThen};
-ghost use Rattle.std.specs.List.{list_all, slice_range};
-ghost use Rattle.segment_output.specs.BareStretch.{IsBareStretch};
+ghost use Rattle.std.specs.List.{slice_range};
+ghost use Rattle.segment_text.specs.Bare.{AreBare, IsBareStretch};
 ghost use Rattle.segment_output.specs.Gathered.{AreGathered};
-ghost use Rattle.segment_output.specs.Objects.{AreBare, is_bare};
 ghost use Rattle.segment_output.specs.Output.{look_of, segments, line_at, lines_at};
 ghost use Rattle.segment_output.specs.declared.marks.Mark.{Mark};
 ghost use Rattle.segment_output.specs.declared.output.Style.TheVariants.{Json};
 
 use crate::marks::Mark;
 use crate::object_pieces::{Copied, text_between};
-use crate::objects::is_bare;
 use crate::output::{Part, Segment, later, one_more, push_line};
 use crate::page::Page;
-use simdutf8::compat::from_utf8;
+use segment_text::bare::{BareStretch, bare_stretch_after};
 use std::alloc::Global;
 use std::io;
 use std::io::Write;
-
-// So many bytes are looked at, at once, for what is escaped.
-const STRETCH_LEN: usize = 256;
-
-// A stretch of a part of a text in which nothing is escaped.
-#[derive(Clone, Copy)]
-struct BareStretch<'s> {
-    from: usize,
-    text: &'s str,
-}
 
 // Objects on their way: the page that they stand on, a line that is put together apart, and where nothing is escaped.
 #[derive(Drop)]
@@ -133,7 +121,7 @@ fn put_other<'s, O: Write>(
     ensures lines { OnOk result (AreGathered (O.contents out.old) (O.contents out.new) objects.new.page
         (objects.old.page ++ line_at (look_of part.entry) part.entry.before part.entry.bytes.now (record { from = segment.start; to = segment.end; mark = segment.mark }))) }
 {
-    objects.stretch = stretch_after(part.bytes, segment.start);
+    objects.stretch = bare_stretch_after(part.bytes, segment.start);
     if put_short(part, segment, objects.stretch, &mut objects.page) {
         return Ok(());
     }
@@ -154,69 +142,4 @@ fn put_line<O: Write>(line: &[u8], page: &mut Page, out: &mut O) -> io::Result<(
         return Ok(());
     }
     out.write_all(line)
-}
-
-// The stretch that begins at a place.
-fn stretch_after<'s>(text: &'s [u8], from: usize) -> BareStretch<'s>
-    ensures { IsBareStretch text.now result }
-{
-    let near = near(text, from);
-    BareStretch {
-        from,
-        text: well_formed(&near[..bare_len(near)]),
-    }
-}
-
-// What stands at a place of a text, as far as it is looked at.
-fn near<'s>(text: &'s [u8], from: usize) -> &'s [u8]
-    ensures { (len : ℕ) × (result.now ≡ take len (drop from text.now)) }
-{
-    if from >= text.len() {
-        return &[];
-    }
-    if text.len() - from <= STRETCH_LEN {
-        return &text[from..];
-    }
-    let to = back_in_character(
-        text,
-        back_in_character(text, back_in_character(text, from + STRETCH_LEN)),
-    );
-    &text[from..to]
-}
-
-// A place, or the one before it where a character goes on there.
-fn back_in_character(text: &[u8], place: usize) -> usize
-    requires { (0 < place) × (place < length text.now) }
-    ensures { (result ≤ place) × (place ≤ result + 1) }
-{
-    if text[place] & 0xC0 == 0x80 {
-        place - 1
-    } else {
-        place
-    }
-}
-
-// How many bytes a text begins with of which none is escaped.
-fn bare_len(text: &[u8]) -> usize
-    ensures few { result ≤ length text.now }
-    ensures bare { list_all is_bare (take result text.now) ≡ true }
-{
-    let mut len = 0;
-    while len < text.len() && is_bare(text[len]) {
-        len += 1;
-    }
-    len
-}
-
-// The well-formed UTF-8 that some bytes begin with.
-fn well_formed(bytes: &[u8]) -> &str
-    ensures { (len : ℕ) × (result.now ≡ take len bytes.now) }
-{
-    match from_utf8(bytes) {
-        Ok(text) => text,
-        Err(fault) => {
-            let begin = bytes.get(..fault.valid_up_to()).unwrap_or(&[]);
-            from_utf8(begin).unwrap_or("")
-        }
-    }
 }

@@ -1,10 +1,10 @@
 //! Segments as objects of JSON.
 ghost use Rattle.std.specs.Prelude.{◌≡◌, ◌≤◌, ◌++◌, ◌∷◌, [], codes, decimal, length, option_map, take, true, IfSome, IsTrue, OnOk};
-ghost use Rattle.std.specs.List.{list_all};
 ghost use Rattle.std.specs.Str.Lossy.{utf8_lossy};
 ghost use Rattle.json.specs.Print.{print, print_from};
 ghost use Rattle.json.specs.Token.{end_object, key, number, string};
-ghost use Rattle.segment_output.specs.Objects.{Adds, AreBare, is_bare, opening};
+ghost use Rattle.segment_text.specs.Bare.{AreBare};
+ghost use Rattle.segment_output.specs.Objects.{Adds, opening};
 ghost use Rattle.segment_output.specs.Output.{file_tokens, mark_tokens, object_of, type_word};
 ghost use Rattle.segment_output.specs.declared.marks.Mark.TheVariants.{Word, Line, Rule};
 
@@ -12,7 +12,7 @@ use crate::marks::Mark;
 use crate::output::push_digits;
 use icu_segmenter::options::WordType;
 use json::Writer;
-use simdutf8::basic::from_utf8;
+use segment_text::bare::is_bare_text;
 use std::alloc::{AllocError, Global};
 use std::{mem, str};
 
@@ -43,26 +43,6 @@ pub fn push_object(
     }
 }
 
-/// Whether a text is well-formed, and nothing in it is escaped in a string.
-pub fn is_bare_text(text: &[u8]) -> bool
-    ensures { IsTrue result → AreBare text.now }
-{
-    if text.is_ascii() {
-        return are_bare(text);
-    }
-    match from_utf8(text) {
-        Ok(_) => are_bare(text),
-        Err(_) => false,
-    }
-}
-
-// Whether each byte stands in a string as it is.
-fn are_bare(text: &[u8]) -> bool
-    ensures { result ≡ list_all is_bare text.now }
-{
-    text.iter().all(|byte| is_bare(*byte))
-}
-
 // Whether nothing is escaped in a name, if there is one.
 fn is_bare_name(name: Option<&str>) -> bool
     ensures { IsTrue result → IfSome name.entry (λ name. AreBare name.now) }
@@ -71,14 +51,6 @@ fn is_bare_name(name: Option<&str>) -> bool
         Some(name) => is_bare_text(name.as_bytes()),
         None => true,
     }
-}
-
-/// Whether a byte stands in a string as it is.
-#[inline(always)]
-pub fn is_bare(byte: u8) -> bool
-    ensures { result ≡ is_bare byte }
-{
-    byte >= b' ' && byte != b'"' && byte != b'\\'
 }
 
 // Adds the object of a text and a name in which nothing is escaped, and a line feed.

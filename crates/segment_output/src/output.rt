@@ -9,12 +9,12 @@ ghost use Rattle.segment_output.specs.Stretch.{IsStretch};
 ghost use Rattle.segment_output.specs.declared.marks.Mark.{Mark};
 ghost use Rattle.segment_output.specs.declared.output.Style.TheVariants.{Json};
 
-use crate::found::Tally;
 use crate::marks::Mark;
 use crate::object_lines::print_objects;
 use crate::objects::{Said, push_object};
 use crate::stretch::{Stretch, push_short, stretch_after};
 use segment_text::escapes::push_escaped;
+use segment_text::size::Tally;
 use std::alloc::{AllocError, Global};
 use std::io;
 use std::io::Write;

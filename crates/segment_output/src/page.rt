@@ -2,7 +2,7 @@
 ghost use Rattle.std.specs.Prelude.{◌≡◌, ◌≤◌, ◌++◌, ◌∷◌, [], false, None, length, take, IfOk, IsTrue, OnOk};
 ghost use Rattle.std.specs.Io.KnownBytes.{Appends};
 ghost use Rattle.json.specs.Print.{print};
-ghost use Rattle.segment_output.specs.Objects.{AreBare};
+ghost use Rattle.segment_text.specs.Bare.{AreBare};
 ghost use Rattle.segment_output.specs.Output.{object_of};
 
 use crate::marks::Mark;

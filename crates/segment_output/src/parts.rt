@@ -9,13 +9,12 @@ ghost use Rattle.segment_output.specs.Parts.{AreLines, AreParagraphs, AreWhole, 
 ghost use Rattle.segment_text.specs.Size.{both_sizes, size_of};
 
 use crate::fault::Fault;
-use crate::found::Tally;
 use crate::output::{Part, Style};
 use crate::segmenter::Segmenter;
 use crate::wrapper::Wrapper;
 use memchr::memrchr;
 use segment_text::preparation::Preparation;
-use segment_text::size::Size;
+use segment_text::size::{Size, Tally};
 use std::alloc::Global;
 use std::io::{ErrorKind, Read, Write};
 use std::{io, mem};

@@ -1,13 +1,13 @@
 //! Stretches of a text in which each segment is written as it stands.
 ghost use Rattle.std.specs.Prelude.{◌≡◌, ◌+◌, ◌^◌, ◌<◌, ◌≤◌, ◌++◌, ◌∷◌, [], ℕ, true, false, length, slice_range, vec_capacity, vec_len, IsTrue};
 ghost use Rattle.segment_output.specs.Output.{Look, line_at};
-ghost use Rattle.segment_output.specs.Stretch.{ArePlain, IsStretch};
+ghost use Rattle.segment_output.specs.Stretch.{IsStretch};
 ghost use Rattle.segment_output.specs.declared.marks.Mark.{Mark};
 
 use crate::output::Style;
-use segment_text::escapes::is_plain;
+use segment_text::escapes::plain_end;
 
-// So many bytes are copied, and looked at, at once.
+// So many bytes are copied at once.
 const SHORT_LEN: usize = 16;
 
 /// A stretch of a text in which each segment is written as it stands, and a byte behind it.
@@ -58,46 +58,6 @@ fn stretch_to(text: &[u8], from: usize, to: usize, last: u8) -> Stretch
         },
         None => no_stretch(),
     }
-}
-
-// How far from a place on no byte is escaped, or begins more bytes that may be.
-fn plain_end(text: &[u8], from: usize) -> usize
-    ensures { ArePlain text.now from result }
-{
-    if from >= text.len() {
-        return from;
-    }
-    let mut to = plain_runs_end(text, from);
-    while to < text.len() && is_plain(text[to]) {
-        to += 1;
-    }
-    to
-}
-
-// How far from a place on there are whole runs in which no byte is escaped, or begins more bytes that may be.
-fn plain_runs_end(text: &[u8], from: usize) -> usize
-    requires { from ≤ length text.now }
-    ensures high { result ≤ length text.now }
-    ensures plain { ArePlain text.now from result }
-{
-    let mut to = from;
-    while text.len() - to >= SHORT_LEN && is_plain_run(text, to) {
-        to += SHORT_LEN;
-    }
-    to
-}
-
-// Whether no byte of the run at a place is escaped, or begins more bytes that may be.
-#[inline(always)]
-fn is_plain_run(text: &[u8], from: usize) -> bool
-    requires { from + 16 ≤ length text.now }
-    ensures { IsTrue result → ArePlain text.now from (from + 16) }
-{
-    let mut plain = true;
-    for offset in 0..SHORT_LEN {
-        plain &= is_plain(text[from + offset]);
-    }
-    plain
 }
 
 /// Adds the line of a segment, where it is a short one in the stretch and there is room for it. No such segment begins at the last place that

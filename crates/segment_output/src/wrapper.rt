@@ -16,12 +16,12 @@ ghost use Rattle.segment_output.specs.Wrapper.{wrapping_of, IsAskedWrapper};
 
 use crate::machine_lines::MachineLines;
 use crate::output::{LINES_CAPACITY, LINES_LEN, write_lines};
-use crate::wrapped::{push_line, push_lines, without_trailing_space};
 use icu_segmenter::options::{LineBreakOptions, LineBreakStrictness};
 use icu_segmenter::provider::{DataError, Dictionaries};
 use icu_segmenter::wrap::{LineWrapper, WrapUtf8Iterator, WrappedUtf8Line};
 use icu_segmenter::{GraphemeClusterSegmenter, GraphemeClusterSegmenterBorrowed};
 use icu_segmenter_data::grapheme_segmenter;
+use segment_text::trimmed::{push_line, without_trailing_space};
 use std::alloc::{AllocError, Global};
 use std::io;
 use std::io::Write;
@@ -180,4 +180,14 @@ fn cluster_lines(alloc: Global) -> Result<MachineLines, DataError>
         content_locale: None,
     };
     MachineLines::try_new(alloc, options, Dictionaries::none())
+}
+
+// Adds each line that comes, without its trailing white space, and a line feed after it. Fails only when out of memory.
+fn push_lines(lines: WrapUtf8Iterator<'_, '_>, gathered: &mut Vec<u8>) -> Result<(), AllocError>
+    ensures { OnOk result (gathered.new.items ≡ gathered.old.items ++ printed_lines (utf8_lines_to_come lines.entry)) }
+{
+    for line in lines {
+        push_line(line.bytes(), gathered)?;
+    }
+    Ok(())
 }

@@ -1,3 +1,4 @@
+pub mod BareStretches
 pub mod Escaping
 pub mod Fields
 pub mod LineFeeds

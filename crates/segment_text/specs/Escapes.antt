@@ -1,5 +1,5 @@
 -- Characters that are written as escapes, in texts in UTF-8: control characters, separators of lines and paragraphs, and backslashes.
-use Rattle.std.specs.Prelude.{ℕ, ◌+◌, ◌/◌, ◌%◌, ◌==◌, ◌&&◌, ◌||◌, not, nat_le, nat_lt, Bool, Option, None, Some, List, [], ◌∷◌, ◌++◌, codes, if◌then◌else◌}
+use Rattle.std.specs.Prelude.{◌≡◌, ℕ, ◌<◌, ◌≤◌, ◌+◌, ◌/◌, ◌%◌, ◌==◌, ◌&&◌, ◌||◌, not, nat_le, nat_lt, Bool, true, slice_index_or, Option, None, Some, List, [], ◌∷◌, ◌++◌, codes, if◌then◌else◌}
 
 -- the digit of a number below 16
 abbrev pub hex_digit : ℕ → ℕ
@@ -58,3 +58,7 @@ escaped (first ∷ second ∷ third ∷ bytes) =
     if are_control first second then escape_of second ++ escaped (third ∷ bytes) else
     if are_separator first second third then escape_of (0x1F80 + third) ++ escaped bytes else
     first ∷ escaped (second ∷ third ∷ bytes)
+
+-- no byte of a text between two places is escaped or begins more bytes that may be
+abbrev pub ArePlain : List ℕ → ℕ → ℕ → Type 0
+ArePlain text from to = (place : ℕ) → from ≤ place → place < to → is_plain (slice_index_or text place 0) ≡ true

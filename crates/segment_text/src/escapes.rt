@@ -1,8 +1,11 @@
 //! Escapes of control characters, of separators of lines and paragraphs, and of backslashes.
-ghost use Rattle.std.specs.Prelude.{◌≡◌, ◌<◌, ◌≤◌, ◌++◌, length, take, drop, MatchOption, OnOk};
-ghost use Rattle.segment_text.specs.Escapes.{are_control, are_separator, control_of, escape_of, escaped, hex_digit, hex_digits, is_escaped, is_plain, separator_of};
+ghost use Rattle.std.specs.Prelude.{◌≡◌, ◌+◌, ◌<◌, ◌≤◌, ◌++◌, length, take, drop, MatchOption, IsTrue, OnOk};
+ghost use Rattle.segment_text.specs.Escapes.{ArePlain, are_control, are_separator, control_of, escape_of, escaped, hex_digit, hex_digits, is_escaped, is_plain, separator_of};
 
 use std::alloc::AllocError;
+
+// So many bytes are looked at, at once.
+const RUN_LEN: usize = 16;
 
 /// Adds bytes in UTF-8 to some lines, with control characters, separators and backslashes as escapes, and all else as it is. Fails
 /// only when out of memory.
@@ -163,4 +166,44 @@ fn hex_digit(number: u16) -> u8
     } else {
         b'a' + (number - 10) as u8
     }
+}
+
+/// How far from a place on no byte is escaped, or begins more bytes that may be.
+pub fn plain_end(text: &[u8], from: usize) -> usize
+    ensures { ArePlain text.now from result }
+{
+    if from >= text.len() {
+        return from;
+    }
+    let mut to = plain_runs_end(text, from);
+    while to < text.len() && is_plain(text[to]) {
+        to += 1;
+    }
+    to
+}
+
+// How far from a place on there are whole runs in which no byte is escaped, or begins more bytes that may be.
+fn plain_runs_end(text: &[u8], from: usize) -> usize
+    requires { from ≤ length text.now }
+    ensures high { result ≤ length text.now }
+    ensures plain { ArePlain text.now from result }
+{
+    let mut to = from;
+    while text.len() - to >= RUN_LEN && is_plain_run(text, to) {
+        to += RUN_LEN;
+    }
+    to
+}
+
+// Whether no byte of the run at a place is escaped, or begins more bytes that may be.
+#[inline(always)]
+fn is_plain_run(text: &[u8], from: usize) -> bool
+    requires { from + 16 ≤ length text.now }
+    ensures { IsTrue result → ArePlain text.now from (from + 16) }
+{
+    let mut plain = true;
+    for offset in 0..RUN_LEN {
+        plain &= is_plain(text[from + offset]);
+    }
+    plain
 }

@@ -13,6 +13,15 @@ pub struct Size {
     pub bytes: usize,
 }
 
+/// What was found of a text, and how large it is.
+#[derive(Clone, Copy, Debug, PartialEq, Eq)]
+pub struct Tally {
+    /// How many segments; 0 where lines are wrapped.
+    pub segments: usize,
+    /// How large the text is.
+    pub size: Size,
+}
+
 impl Size {
     /// How large a text is.
     pub fn of(text: &[u8]) -> Self

@@ -1,8 +1,8 @@
 -- A part of the stretch.
 use Rattle.std.proofs.Common.{◌≡◌, ℕ, ◌+◌, ◌≤◌, subst, arith, rules, IsUtf8}
 use Rattle.std.specs.List.{slice_range}
-use Rattle.segment_output.specs.Objects.{AreBare}
-use Rattle.segment_output.proofs.BareStretches.{bare-part, found-and}
+use Rattle.segment_text.specs.Bare.{AreBare}
+use Rattle.segment_text.proofs.BareStretches.{bare-part, found-and}
 use Rattle.segment_output.proofs.object_lines.bare_text.Goals as goal
 
 pub returns : goal.returns

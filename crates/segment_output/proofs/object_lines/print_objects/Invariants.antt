@@ -1,7 +1,7 @@
 -- What has been written so far, and then what stands on the page, is the lines of the segments between the places so far.
 use Rattle.std.proofs.Common.{◌≡◌, length}
 use Rattle.std.specs.Option.{option_map}
-use Rattle.segment_output.specs.BareStretch.{IsBareStretch}
+use Rattle.segment_text.specs.Bare.{IsBareStretch}
 use Rattle.segment_output.specs.Gathered.{AreGathered}
 use Rattle.segment_output.specs.Output.{look_of, segments, lines_at}
 use Rattle.segment_output.proofs.Segments.{begun, last}

@@ -2,7 +2,8 @@
 use Rattle.std.proofs.Common.{◌≡◌, ◌++◌, ◌<◌, ◌≤◌, ℕ, List, Some, OnOk, arith, sym, ap, subst, ◌∙◌}
 use Rattle.icu_segmenter.specs.Wrapping.{TextLine}
 use Rattle.icu_segmenter.specs.WrappedLines.{utf8_line_in, utf8_lines_to_come, wrapped_text, wrapper_measure, wrapper_rules}
-use Rattle.segment_output.specs.Wrapped.{printed_line, printed_lines, shown_as, without_trailing_space}
+use Rattle.segment_text.specs.Trimmed.{printed_line, without_trailing_space}
+use Rattle.segment_output.specs.Wrapped.{printed_lines, shown_as}
 use Rattle.segment_output.proofs.ShownWide.{shown-narrow, shown-wide}
 use Rattle.segment_output.proofs.wrapper.push_broken.Goals as goal
 
