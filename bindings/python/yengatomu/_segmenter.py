@@ -428,9 +428,11 @@ class Segmenter:
         if size > ROOM:
             return _Room(size, code)
         try:
-            return self._rooms[code].pop()
+            room = self._rooms[code].pop()
         except IndexError:
             return _Room(ROOM, code)
+        # (smaller ones are left where a test had another ROOM)
+        return room if room.size >= size else _Room(ROOM, code)
 
     def _near(self, calls: Tuple[_Call, _Call], text: Union[str, bytes], place: int) -> Optional[int]:
         place = size(place, "place")
