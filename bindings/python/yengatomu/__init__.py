@@ -9,7 +9,7 @@
 A text is `str`, and then places are its own indices, or `bytes` of UTF-8, which may be ill-formed. What is ill-formed counts as U+FFFD, and so does a
 surrogate that stands alone in a `str`. Segments are slices of the text as it was given. Anything else is a TypeError.
 
-The functions of this module use segmenters of each thread, without dictionaries and abbreviations; `Segmenter` has both, and options of lines, and
+The functions of this module use segmenters that all threads share, without dictionaries and abbreviations; `Segmenter` has both, and options of lines, and
 `Segmenter.by_rules` makes one by rules of your own. What they are asked is in `yengatomu.options`, and here too:
 
     Kind         CLUSTERS, WORDS, SENTENCES, LINES
@@ -31,7 +31,7 @@ from .options import WordBreak as WordBreak
 from .options import WordType as WordType
 
 Segmenter.__module__ = __name__
-_of = _segmenter.kept.of
+_of = _segmenter.kept
 
 
 def boundaries(text: _t.Union[str, bytes], kind: Kind) -> _t.List[int]:
@@ -78,7 +78,7 @@ def wrap(
     """
     if tabs is not None:
         text = _segmenter.expanded(text, _segmenter.size(tabs, "tabs", 1))
-    lines = _segmenter.kept.of_lines(Strictness.STRICT, True) if by_cluster else _of(Kind.LINES)
+    lines = _of(Kind.LINES, None, True) if by_cluster else _of(Kind.LINES)
     return list(lines.wrap(_texts.joined(text) if join else text, columns, break_words=break_words))
 
 

@@ -1,7 +1,8 @@
-"""What segments texts: `Segmenter`, and the segmenters that a thread keeps."""
+"""What segments texts: `Segmenter`, and the segmenters that are kept."""
 
 import ctypes
 import errno
+import functools
 import operator
 import os
 import sys
@@ -428,9 +429,11 @@ class Segmenter:
         if size > ROOM:
             return _Room(size, code)
         try:
-            return self._rooms[code].pop()
+            room = self._rooms[code].pop()
         except IndexError:
             return _Room(ROOM, code)
+        # (smaller ones are left where a test had another ROOM)
+        return room if room.size >= size else _Room(ROOM, code)
 
     def _near(self, calls: Tuple[_Call, _Call], text: Union[str, bytes], place: int) -> Optional[int]:
         place = size(place, "place")
@@ -460,7 +463,7 @@ def _broken(lines: Iterator[Tuple[AnyStr, int]], columns: int, by_cluster: bool)
             yield line, width
             continue
         counted = line.rstrip(white_of(line))
-        parts = list(kept.of_lines(Strictness.ANYWHERE, by_cluster).wrapped(counted, columns))
+        parts = list(kept(Kind.LINES, Strictness.ANYWHERE, by_cluster).wrapped(counted, columns))
         last, width = parts.pop()
         yield from parts
         yield last + line[len(counted) :], width
@@ -481,7 +484,7 @@ def _fields(text: AnyStr, tab: AnyStr, line_feed: AnyStr, space: AnyStr, columns
     """
     columns, white = min(columns, sys.maxsize), white_of(text)
     place = width = 0
-    for line, counted in kept.of(Kind.LINES).wrapped(text.replace(tab, line_feed), _library.NONE):
+    for line, counted in kept(Kind.LINES).wrapped(text.replace(tab, line_feed), _library.NONE):
         place += len(line)
         width += counted + line[len(line.rstrip(white)) :].count(space)
         if not line.endswith(line_feed):
@@ -492,26 +495,7 @@ def _fields(text: AnyStr, tab: AnyStr, line_feed: AnyStr, space: AnyStr, columns
         width = 0
 
 
-class _Kept(threading.local):
-    """The segmenters of a thread, so that no two threads wait for one another. Each is made when it is first asked for."""
-
-    def __init__(self) -> None:
-        self.made: List[Optional[Segmenter]] = [None] * len(Kind)
-        self.lines: Dict[Tuple[Strictness, bool], Segmenter] = {}
-
-    def of(self, kind: Kind) -> Segmenter:
-        """Returns that of a kind, without options."""
-        found = self.made[kind]
-        if found is None:
-            found = self.made[kind] = Segmenter(kind)
-        return found
-
-    def of_lines(self, strictness: Strictness, by_cluster: bool) -> Segmenter:
-        """Returns that of lines with these options."""
-        found = self.lines.get((strictness, by_cluster))
-        if found is None:
-            found = self.lines[strictness, by_cluster] = Segmenter(Kind.LINES, strictness=strictness, by_cluster=by_cluster)
-        return found
-
-
-kept = _Kept()
+@functools.lru_cache(maxsize=None)
+def kept(kind: Kind, strictness: Optional[Strictness] = None, by_cluster: Optional[bool] = None) -> Segmenter:
+    """Returns the segmenter of a kind, with these options, that all threads share. It is made when it is first asked for."""
+    return Segmenter(kind, strictness=strictness, by_cluster=by_cluster)

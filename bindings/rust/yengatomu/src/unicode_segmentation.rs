@@ -23,13 +23,13 @@
 //! - From the back, an iterator segments a whole line of the text at a time, up to its line feed, and keeps its boundaries. So the first
 //!   `next_back` takes as long as the last line is.
 //!
-//! Each thread makes one segmenter of a kind when it first needs it, and keeps it. The methods return no errors, so they panic where that
+//! One segmenter of a kind is made when it is first needed, and all threads share it. The methods return no errors, so they panic where that
 //! takes more memory than there is.
-use std::cell::OnceCell;
 use std::iter::{Filter, FusedIterator};
+use std::sync::OnceLock;
 
-use crate::feed::{Ask, Pieces};
-use crate::raw::{Calls, Slot};
+use crate::feed::{Ends, Pieces};
+use crate::raw::Slot;
 use crate::{kind, LineOptions};
 
 mod cursor;
@@ -47,10 +47,8 @@ enum Kind {
     Sentence,
 }
 
-thread_local! {
-    /// The segmenters of this thread, by their kinds.
-    static SLOTS: [OnceCell<Slot>; 3] = const { [const { OnceCell::new() }; 3] };
-}
+/// The segmenters, by their kinds.
+static SLOTS: [OnceLock<Slot>; 3] = [const { OnceLock::new() }; 3];
 
 impl Kind {
     fn open(self) -> Slot {
@@ -62,40 +60,8 @@ impl Kind {
         Slot::open(number, LineOptions::default()).unwrap_or_else(|error| panic!("yengatomu: {error}"))
     }
 
-    fn with<R>(self, mut call: impl FnMut(&Slot) -> R) -> R {
-        match SLOTS.try_with(|slots| call(slots[self as usize].get_or_init(|| self.open()))) {
-            Ok(result) => result,
-            // The thread is ending, and has closed them.
-            Err(_) => call(&self.open()),
-        }
-    }
-}
-
-/// The boundaries of a text, by the segmenter of the thread that asks.
-#[derive(Clone, Copy)]
-struct Ends<'a> {
-    kind: Kind,
-    text: &'a str,
-}
-
-impl<'a> Ask<'a> for Ends<'a> {
-    type Slice = str;
-    type More = ();
-
-    fn text(&self) -> &'a str {
-        self.text
-    }
-
-    fn up_to(self, end: usize) -> Self {
-        Self { text: &self.text[..end], ..self }
-    }
-
-    fn has_words(&self) -> bool {
-        false
-    }
-
-    fn ask(&self, from: usize, places: &mut [usize], _: &mut [()]) -> usize {
-        self.kind.with(|slot| Calls::boundaries(slot, self.text.as_bytes(), from, places))
+    fn slot(self) -> &'static Slot {
+        SLOTS[self as usize].get_or_init(|| self.open())
     }
 }
 
@@ -104,13 +70,13 @@ macro_rules! iterators {
         $(#[$doc])*
         #[derive(Clone, Debug)]
         pub struct $name<'a> {
-            pieces: Pieces<'a, Ends<'a>>,
+            pieces: Pieces<'a, Ends<'static, 'a, str>>,
         }
 
         $(#[$indices_doc])*
         #[derive(Clone, Debug)]
         pub struct $indices<'a> {
-            pieces: Pieces<'a, Ends<'a>>,
+            pieces: Pieces<'a, Ends<'static, 'a, str>>,
         }
 
         iterators!(one $name<'a>, &'a str, |(_, segment, ()): (usize, &'a str, ())| segment);
@@ -119,7 +85,7 @@ macro_rules! iterators {
     (one $name:ident<$a:lifetime>, $item:ty, $make:expr) => {
         impl<$a> $name<$a> {
             fn new(kind: Kind, text: &$a str) -> Self {
-                Self { pieces: Pieces::new(Ends { kind, text }) }
+                Self { pieces: Pieces::new(Ends { slot: kind.slot(), text }) }
             }
 
             /// What is left of the text.

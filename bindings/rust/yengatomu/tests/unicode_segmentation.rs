@@ -286,7 +286,7 @@ fn iterators() {
     assert_eq!(format!("{:?}", "ab".graphemes(true)), "Graphemes { pieces: Pieces { start: 0, left: 2 } }");
 }
 
-/// Iterators may go to other threads, in their midst too; and segmenters of a thread are there while it ends.
+/// Iterators may go to other threads, in their midst too; and a thread may segment while it ends.
 #[test]
 fn threads() {
     let text = "one two ".repeat(500);

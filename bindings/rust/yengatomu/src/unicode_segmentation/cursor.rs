@@ -92,7 +92,7 @@ enum Toward {
 
 /// Whether the text has a boundary at a place above 0.
 fn has_boundary(text: &str, place: usize) -> bool {
-    Kind::Grapheme.with(|slot| Calls::next(slot, text.as_bytes(), place - 1)) == Some(place)
+    Calls::next(Kind::Grapheme.slot(), text.as_bytes(), place - 1) == Some(place)
 }
 
 /// Whether a cluster ends behind a text, before a character.
@@ -377,6 +377,6 @@ impl GraphemeCursor {
 /// Where the first cluster of a text ends that isn't empty.
 fn first_boundary(text: &str) -> usize {
     let mut found = [0];
-    Kind::Grapheme.with(|slot| Calls::boundaries(slot, text.as_bytes(), 0, &mut found));
+    Calls::boundaries(Kind::Grapheme.slot(), text.as_bytes(), 0, &mut found);
     found[0]
 }
