@@ -6,7 +6,7 @@ ghost use Rattle.json.specs.Token.{end_object, key, number, string};
 ghost use Rattle.segment_text.specs.Bare.{AreBare};
 ghost use Rattle.segment_output.specs.Objects.{Adds, opening};
 ghost use Rattle.segment_output.specs.Output.{file_tokens, mark_tokens, object_of, type_word};
-ghost use Rattle.segment_output.specs.declared.marks.Mark.TheVariants.{Word, Line, Rule};
+ghost use Rattle.segment_output.specs.declared.marks.Mark.TheVariants.{Word};
 
 use crate::marks::Mark;
 use crate::output::push_digits;
@@ -99,12 +99,14 @@ pub fn ending(mark: Mark) -> (&'static [u8], usize)
     match mark {
         Mark::Unmarked => (b"}\n                  ", 2),
         Mark::Word(kind) => word_ending(kind),
-        Mark::Line(is_mandatory) => line_ending(is_mandatory),
-        Mark::Rule(is_marked) => rule_ending(is_marked),
+        Mark::Line(true) => (b",\"mandatory\":true}\n ", 19),
+        Mark::Line(false) => (b",\"mandatory\":false}\n", 20),
+        Mark::Rule(true) => (b",\"status\":1}\n       ", 13),
+        Mark::Rule(false) => (b",\"status\":0}\n       ", 13),
     }
 }
 
-// Of words.
+// How the object of a word ends.
 #[inline(always)]
 fn word_ending(kind: WordType) -> (&'static [u8], usize)
     ensures short { result.1 ≤ length result.0.now }
@@ -115,34 +117,6 @@ fn word_ending(kind: WordType) -> (&'static [u8], usize)
         WordType::None => (b",\"type\":\"none\"}\n    ", 16),
         WordType::Number => (b",\"type\":\"number\"}\n  ", 18),
         WordType::Letter => (b",\"type\":\"letter\"}\n  ", 18),
-    }
-}
-
-// Of lines.
-#[inline(always)]
-fn line_ending(is_mandatory: bool) -> (&'static [u8], usize)
-    ensures short { result.1 ≤ length result.0.now }
-    ensures most { length result.0.now ≡ 20 }
-    ensures value { take result.1 result.0.now ≡ print_from true (mark_tokens (Line is_mandatory) ++ end_object ∷ []) ++ 10 ∷ [] }
-{
-    if is_mandatory {
-        (b",\"mandatory\":true}\n ", 19)
-    } else {
-        (b",\"mandatory\":false}\n", 20)
-    }
-}
-
-// Of boundaries by rules of the caller's own.
-#[inline(always)]
-fn rule_ending(is_marked: bool) -> (&'static [u8], usize)
-    ensures short { result.1 ≤ length result.0.now }
-    ensures most { length result.0.now ≡ 20 }
-    ensures value { take result.1 result.0.now ≡ print_from true (mark_tokens (Rule is_marked) ++ end_object ∷ []) ++ 10 ∷ [] }
-{
-    if is_marked {
-        (b",\"status\":1}\n       ", 13)
-    } else {
-        (b",\"status\":0}\n       ", 13)
     }
 }
 
