@@ -1,14 +1,9 @@
 //! What the library finds, some places at a time.
 use std::fmt;
 
+use crate::buffer::{Buffer, LINE_FEED};
 use crate::raw::{Calls, Slot};
 use crate::text::Slice;
-
-/// How many places are asked for at first: few, for a caller who takes but one.
-const FIRST_ROOM: usize = 16;
-/// How many are asked for later.
-const ROOM: usize = 256;
-const LINE_FEED: u8 = b'\n';
 
 /// A question that the library answers with places in a text, each with something more.
 pub(crate) trait Ask<'t>: Copy {
@@ -27,99 +22,45 @@ pub(crate) trait Ask<'t>: Copy {
     fn ask(&self, from: usize, places: &mut [usize], more: &mut [Self::More]) -> usize;
 }
 
-/// Whether a line feed ends at the place, which is above 0.
-fn is_behind_line_feed<S: ?Sized + Slice>(text: &S, place: usize) -> bool {
-    text.units()[place - 1] == LINE_FEED.into()
-}
-
-/// All places above the one that it begins at, with a buffer of those to come.
-///
-/// It goes on from the last place in the buffer. With a dictionary or abbreviations that has to be behind a line feed, so the buffer keeps only what is up to
-/// the last such place, and doubles where it has none.
+/// All places above the one that it begins at, with a [`Buffer`] of those to come.
 #[derive(Clone)]
 pub(crate) struct Feed<'t, A: Ask<'t>> {
     ask: A,
-    places: Vec<usize>,
-    more: Vec<A::More>,
-    at: usize,
-    filled: usize,
-    /// Up to where the buffer goes.
-    from: usize,
+    buffer: Buffer<A::More>,
 }
 
 impl<'t, A: Ask<'t>> Feed<'t, A> {
-    pub(crate) fn new(ask: A, from: usize) -> Self {
-        Self { ask, places: Vec::new(), more: Vec::new(), at: 0, filled: 0, from }
+    pub(crate) fn new(ask: A) -> Self {
+        Self { ask, buffer: Buffer::new(0) }
     }
 
-    pub(crate) fn text(&self) -> &'t A::Slice {
+    fn text(&self) -> &'t A::Slice {
         self.ask.text()
     }
 
     #[inline]
     pub(crate) fn next(&mut self) -> Option<(usize, A::More)> {
-        if self.at == self.filled {
+        if self.buffer.is_empty() {
             self.fill();
-            if self.filled == 0 {
-                return None;
-            }
         }
-        let found = (self.places[self.at], self.more[self.at]);
-        self.at += 1;
-        Some(found)
+        self.buffer.take()
     }
 
     #[inline(never)]
     fn fill(&mut self) {
-        let text = self.ask.text();
-        let len = text.units().len();
-        self.at = 0;
-        self.filled = 0;
-        if self.from >= len {
-            return;
-        }
-        // There are no more places than units.
-        let left = len - self.from;
-        self.make_room((4 * self.places.len()).clamp(FIRST_ROOM, ROOM).min(left));
-        loop {
-            let room = self.places.len();
-            let count = self.ask.ask(self.from, &mut self.places, &mut self.more);
-            let found = &self.places[..count];
-            let is_all = count < room || found.last() == Some(&len);
-            if is_all || !self.ask.has_words() {
-                self.filled = count;
-                break;
-            }
-            match found.iter().rposition(|&place| is_behind_line_feed(text, place)) {
-                Some(last) => {
-                    self.filled = last + 1;
-                    break;
-                }
-                None => self.make_room((2 * room).min(left)),
-            }
-        }
-        if let Some(last) = self.filled.checked_sub(1) {
-            self.from = self.places[last];
-        }
-    }
-
-    fn make_room(&mut self, room: usize) {
-        if room > self.places.len() {
-            self.places.resize(room, 0);
-            self.more.resize(room, A::More::default());
-        }
+        let ask = self.ask;
+        self.buffer.fill(ask.text().units(), ask.has_words(), |from, places, more| ask.ask(from, places, more));
     }
 
     pub(crate) fn size_hint(&self) -> (usize, Option<usize>) {
-        let here = self.filled - self.at;
-        let left = self.text().units().len().saturating_sub(self.from);
-        (here + usize::from(left > 0), Some(here + left))
+        let (low, high) = self.buffer.size_hint(self.text().units().len());
+        (low, Some(high))
     }
 }
 
 impl<'t, A: Ask<'t>> fmt::Debug for Feed<'t, A> {
     fn fmt(&self, f: &mut fmt::Formatter<'_>) -> fmt::Result {
-        f.debug_struct("Feed").field("known", &&self.places[self.at..self.filled]).field("from", &self.from).finish()
+        f.debug_tuple("Feed").field(&self.buffer).finish()
     }
 }
 
@@ -142,7 +83,7 @@ pub(crate) struct Pieces<'t, A: Ask<'t>> {
 
 impl<'t, A: Ask<'t>> Pieces<'t, A> {
     pub(crate) fn new(ask: A) -> Self {
-        Self { ahead: Feed::new(ask, 0), rest: ask.text(), start: 0, behind: Vec::new(), line: 0 }
+        Self { ahead: Feed::new(ask), rest: ask.text(), start: 0, behind: Vec::new(), line: 0 }
     }
 
     /// What is left of the text.
@@ -186,8 +127,7 @@ impl<'t, A: Ask<'t>> Pieces<'t, A> {
         let end = self.start + self.left();
         let units = self.ahead.text().units();
         self.line = units[..end - 1].iter().rposition(|&unit| unit == LINE_FEED.into()).map_or(0, |found| found + 1);
-        let mut feed = Feed::new(self.ahead.ask.up_to(end), self.line);
-        feed.make_room((end - self.line).min(ROOM));
+        let mut feed = Feed { ask: self.ahead.ask.up_to(end), buffer: Buffer::with_room(self.line, end - self.line) };
         while let Some(found) = feed.next() {
             self.behind.push(found);
         }

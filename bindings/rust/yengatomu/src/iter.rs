@@ -170,7 +170,7 @@ pub struct Lines<'s, 't, S: ?Sized + Slice> {
 
 impl<'s, 't, S: ?Sized + Slice> Lines<'s, 't, S> {
     pub(crate) fn new(ask: Wraps<'s, 't, S>) -> Self {
-        Self { feed: Feed::new(ask, 0), rest: ask.text, start: 0 }
+        Self { feed: Feed::new(ask), rest: ask.text, start: 0 }
     }
 
     /// What is left of the text.

@@ -18,7 +18,7 @@ pub trait Marked: Kind {
     /// What is said of a segment.
     type Mark: Copy + std::fmt::Debug + Eq;
 
-    #[doc(hidden)]
+    /// What a mark says that [`fill_marked_boundaries`](crate::Segmenter::fill_marked_boundaries) writes. Of numbers that it never writes, what 0 says.
     fn mark(number: u8) -> Self::Mark;
 }
 

@@ -82,8 +82,10 @@ use crate::iter::{Boundaries, Lines, MarkedSegments, SegmentIndices, Segments, W
 use crate::kind::{Kind, Marked};
 use crate::raw::{Calls, Slot};
 
+mod buffer;
 mod dictionaries;
 mod feed;
+mod fill;
 pub mod iter;
 pub mod kind;
 mod options;
@@ -94,6 +96,8 @@ mod text;
 #[cfg(feature = "unicode-segmentation")]
 pub mod unicode_segmentation;
 
+#[doc(hidden)]
+pub use buffer::Buffer;
 pub use dictionaries::DictionaryError;
 pub use options::{Error, Line, LineBreak, LineOptions, Script, Strictness, WordBreak, WordType};
 pub use prepare::join_lines;
@@ -439,7 +443,7 @@ impl<K: Kind> Segmenter<K> {
     /// ```
     #[inline]
     pub fn boundaries<'t, T: ?Sized + Text>(&self, text: &'t T) -> Boundaries<'_, 't, T::Slice> {
-        Boundaries { feed: Feed::new(Ends { slot: &self.slot, text: text.as_slice() }, 0), is_begun: false }
+        Boundaries { feed: Feed::new(Ends { slot: &self.slot, text: text.as_slice() }), is_begun: false }
     }
 
     /// The segments of a text, from the first to the last or back. Together they are the text.

@@ -273,6 +273,40 @@ fn line_segments_with_a_dictionary() {
     agree_in_each_encoding(&with_thai(lines()), Whole::open(YENGATOMU_LINES, true));
 }
 
+/// All places that calls with so much room fill in.
+fn filled(room: usize, fill: impl Fn(usize, &mut [usize]) -> usize) -> Vec<usize> {
+    let (mut found, mut places) = (vec![0], vec![0; room]);
+    loop {
+        let count = fill(found[found.len() - 1], &mut places);
+        if count == 0 {
+            return found;
+        }
+        found.extend(&places[..count]);
+    }
+}
+
+#[test]
+fn filled_buffers() {
+    let words = WordSegmenter::new().unwrap();
+    for text in texts() {
+        let (bytes, units) = (text.as_bytes(), text.encode_utf16().collect::<Vec<_>>());
+        for room in [1, 7, 1000] {
+            assert!(words.boundaries(&text).eq(filled(room, |from, places| words.fill_boundaries(bytes, from, places))));
+            assert!(words.boundaries(&units).eq(filled(room, |from, places| words.fill_boundaries(&units, from, places))));
+        }
+        let (mut places, mut marks) = (vec![0; bytes.len()], vec![0; bytes.len()]);
+        let count = words.fill_marked_boundaries(bytes, 0, &mut places, &mut marks);
+        let found = places[..count].iter().copied().zip(marks.iter().map(|&mark| <kind::Word as kind::Marked>::mark(mark)));
+        assert!(words.marked_segments(&text).map(|(start, segment, mark)| (start + segment.len(), mark)).eq(found));
+    }
+    let (mut places, mut marks) = ([7; 4], [7; 2]);
+    assert_eq!(words.fill_marked_boundaries(b"a b c", 0, &mut places, &mut marks), 2, "as many as both have room for");
+    assert_eq!((places, marks), ([1, 2, 7, 7], [2, 0]));
+    assert_eq!(words.fill_boundaries(b"a b", 0, &mut []), 0);
+    assert_eq!(words.fill_boundaries(b"a b", 4, &mut places), 0);
+    assert!(!words.has_words() && with_thai(words).has_words());
+}
+
 #[test]
 fn marks_of_words() {
     for dictionary in [false, true] {
