@@ -1,12 +1,13 @@
-/* Ten threads at once find what one thread found before: each in a slot of its own, which it opens or another thread opened; then all in one
- * slot, of each kind, with and without words, and in an empty one. */
+/* threads FILE: ten threads at once find what one thread found before: each in a slot of its own, which it opens or another thread opened; then all
+ * in one slot, of each kind and by rules, with and without words, and in an empty one.
+ * threads FILE write: all in one slot of words, to which one of them writes what it has already. A race detector must report that. */
 #define _POSIX_C_SOURCE 200809L
 #include "check.h"
 #include <pthread.h>
 #include <string.h>
 #include <yengatomu.h>
 
-enum { THREADS = 10, ROUNDS = 3, ROOM = 4096 };
+enum { THREADS = 10, ROUNDS = 2, ROOM = 4096 };
 
 static const uint8_t *text;
 static uint16_t *units;
@@ -17,6 +18,7 @@ typedef struct task {
     pthread_t thread;
     yengatomu_slot own;
     const yengatomu_slot *slot;
+    yengatomu_slot *written;
     uint32_t kind;
     bool opens;
     uint64_t wanted, found;
@@ -25,7 +27,7 @@ typedef struct task {
 /* Sums of what the calls find that read a slot. */
 
 static uint64_t sum_of_bytes(const yengatomu_slot *slot) {
-    size_t places[ROOM], widths[ROOM], from = 0, count;
+    size_t places[ROOM] = {0}, widths[ROOM], from = 0, count;
     uint8_t marks[ROOM];
     uint64_t sum = yengatomu_count(slot, text, len) * 31 + yengatomu_count_words(slot, text, len);
     while ((count = yengatomu_marked_boundaries(slot, text, len, from, places, ROOM, marks, ROOM))) {
@@ -58,6 +60,7 @@ static void *work(void *given) {
     task *it = given;
     pthread_barrier_wait(&all_there);
     for (int round = 0; round < ROUNDS; round++) {
+        if (it->written) it->written->full = true;
         if (it->opens && yengatomu_open(&it->own, it->kind, 0, 0, false) != YENGATOMU_OK) return NULL;
         it->found = sum_of(it->slot);
         if (it->opens) yengatomu_close(&it->own);
@@ -92,8 +95,8 @@ static void try_own(task *tasks) {
     for (int i = 0; i < THREADS; i++) yengatomu_close(&tasks[i].own);
 }
 
-/* All in one slot, whose bytes stay as they are. */
-static void try_shared(task *tasks, const yengatomu_slot *slot) {
+/* All in one slot, whose bytes stay as they are. Returns the sum of what is found in it. */
+static uint64_t try_shared(task *tasks, const yengatomu_slot *slot) {
     yengatomu_slot before;
     uint64_t wanted = sum_of(slot);
     memcpy(&before, slot, sizeof before);
@@ -104,32 +107,67 @@ static void try_shared(task *tasks, const yengatomu_slot *slot) {
     }
     run(tasks);
     CHECK(!memcmp(&before, slot, sizeof before));
+    return wanted;
+}
+
+static yengatomu_word word_of(const char *text) {
+    const yengatomu_word it = {(const uint8_t *)text, strlen(text)};
+    return it;
+}
+
+/* All in one slot of a kind, first without words, and then with some that the text has: it is cut elsewhere. */
+static void try_kind(task *tasks, uint32_t kind) {
+    const yengatomu_word thai[] = {word_of("\xe0\xb8\xa0\xe0\xb8\xb2\xe0\xb8\xa9\xe0\xb8\xb2"), word_of("\xe0\xb9\x84\xe0\xb8\x97\xe0\xb8\xa2")};
+    const yengatomu_word chinese = word_of("\xe8\x9c\x9c\xe8\x9c\x82"), abbreviation = word_of("bi\xe1\xbb\x83n.");
+    yengatomu_slot slot = {0};
+    CHECK(yengatomu_open(&slot, kind, 0, 0, false) == YENGATOMU_OK);
+    const uint64_t plain = try_shared(tasks, &slot);
+    if (kind == YENGATOMU_SENTENCES) CHECK(yengatomu_load_abbreviations(&slot, &abbreviation, 1) == YENGATOMU_OK);
+    if (kind == YENGATOMU_WORDS) CHECK(yengatomu_load_dictionary(&slot, &chinese, 1, YENGATOMU_CHINESE_OR_JAPANESE) == YENGATOMU_OK);
+    if (kind == YENGATOMU_WORDS || kind == YENGATOMU_LINES) CHECK(yengatomu_load_dictionary(&slot, thai, 2, YENGATOMU_THAI) == YENGATOMU_OK);
+    if (kind == YENGATOMU_LINES) CHECK(yengatomu_count_by_cluster(&slot) == YENGATOMU_OK);
+    if (kind != YENGATOMU_CLUSTERS) CHECK(try_shared(tasks, &slot) != plain);
+    yengatomu_close(&slot);
+}
+
+/* All in one slot by rules: two letters `a` stay together. */
+static void try_rules(task *tasks) {
+    const char rules[] = "A = [a]\nA \xc3\x97 A\n\xc3\xb7\n";
+    yengatomu_slot slot = {0};
+    size_t line;
+    CHECK(yengatomu_open_rules(&slot, (const uint8_t *)rules, sizeof rules - 1, &line) == YENGATOMU_OK);
+    try_shared(tasks, &slot);
+    yengatomu_close(&slot);
+}
+
+/* All in one slot, to which one of them writes. */
+static void try_written(task *tasks) {
+    yengatomu_slot slot = {0};
+    CHECK(yengatomu_open(&slot, YENGATOMU_WORDS, 0, 0, false) == YENGATOMU_OK);
+    tasks[0].written = &slot;
+    try_shared(tasks, &slot);
+    yengatomu_close(&slot);
 }
 
 int main(int count, char **words) {
     static task tasks[THREADS];
-    static const yengatomu_word lists[] = {{(const uint8_t *)"\xe0\xb8\xa0\xe0\xb8\xb2\xe0\xb8\xa9\xe0\xb8\xb2", 12}, {(const uint8_t *)"Mr.", 3}};
-    yengatomu_slot slot = {0};
-    if (count != 2) {
-        fprintf(stderr, "usage: threads FILE\n");
+    static const yengatomu_slot empty;
+    if (count != 2 && (count != 3 || strcmp(words[2], "write"))) {
+        fprintf(stderr, "usage: threads FILE [write]\n");
         return 2;
     }
     text = read_file(words[1], &len);
     units = block(len * sizeof *units);
     for (size_t i = 0; i < len; i++) units[i] = text[i];
     CHECK(!pthread_barrier_init(&all_there, NULL, THREADS));
-    try_own(tasks);
-    try_shared(tasks, &slot);
-    for (uint32_t kind = 0; kind < 4; kind++) {
-        CHECK(yengatomu_open(&slot, kind, 0, 0, false) == YENGATOMU_OK);
-        try_shared(tasks, &slot);
-        if (kind == YENGATOMU_CLUSTERS) continue;
-        if (kind == YENGATOMU_SENTENCES) CHECK(yengatomu_load_abbreviations(&slot, &lists[1], 1) == YENGATOMU_OK);
-        else CHECK(yengatomu_load_dictionary(&slot, lists, 1, YENGATOMU_THAI) == YENGATOMU_OK);
-        if (kind == YENGATOMU_LINES) CHECK(yengatomu_count_by_cluster(&slot) == YENGATOMU_OK);
-        try_shared(tasks, &slot);
+    if (count == 3) {
+        try_written(tasks);
+    } else {
+        try_own(tasks);
+        try_shared(tasks, &empty);
+        for (uint32_t kind = 0; kind < 4; kind++) try_kind(tasks, kind);
+        try_rules(tasks);
     }
-    yengatomu_close(&slot);
     pthread_barrier_destroy(&all_there);
     free(units);
     free((void *)text);

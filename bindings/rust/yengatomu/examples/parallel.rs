@@ -1,8 +1,12 @@
-//! Counts the words of files in as many threads as there are processors: cargo run --release --example parallel -- FILE..
+//! Counts the words of a file in so many threads, as many as there are processors if none are named, and says how long that took:
+//! cargo run --release --example parallel -- FILE [THREADS]
 //!
 //! A text may be split behind line feeds: its parts have the words that it has. All threads share one segmenter.
+use std::error::Error;
+use std::num::NonZero;
 use std::sync::LazyLock;
-use std::{env, fs, io, thread};
+use std::time::Instant;
+use std::{env, fs, thread};
 
 use yengatomu::WordSegmenter;
 
@@ -33,10 +37,16 @@ pub fn count_words(words: &WordSegmenter, text: &[u8], threads: usize) -> usize 
     })
 }
 
-fn main() -> io::Result<()> {
-    let threads = thread::available_parallelism()?.get();
-    for file in env::args_os().skip(1) {
-        println!("{} {}", count_words(&WORDS, &fs::read(&file)?, threads), file.to_string_lossy());
-    }
+fn main() -> Result<(), Box<dyn Error>> {
+    let mut given = env::args().skip(1);
+    let text = fs::read(given.next().ok_or("usage: parallel FILE [THREADS]")?)?;
+    let threads: NonZero<usize> = match given.next() {
+        Some(it) => it.parse()?,
+        None => thread::available_parallelism()?,
+    };
+    let words = &*WORDS;
+    let start = Instant::now();
+    let count = count_words(words, &text, threads.get());
+    println!("{count} words in {:.3} s", start.elapsed().as_secs_f64());
     Ok(())
 }
