@@ -64,6 +64,8 @@ enum { YENGATOMU_NO_WORD, YENGATOMU_NUMBER, YENGATOMU_LETTERS };
 enum { YENGATOMU_MAY_BREAK, YENGATOMU_MUST_BREAK };
 /* no boundary */
 #define YENGATOMU_NONE SIZE_MAX
+/* what yengatomu_version returns in the library that comes with this header */
+#define YENGATOMU_VERSION 10000
 
 /* Frees what the slot holds and makes a segmenter of the kind in its place, over Unicode's data. YENGATOMU_NO_SUCH for a number that
  * is none of those above; strictness, word_break and chinese_or_japanese are those of lines, and other kinds don't read them.

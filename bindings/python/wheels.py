@@ -53,8 +53,9 @@ def sum_of(data):
     return "sha256=" + base64.urlsafe_b64encode(hashlib.sha256(data).digest()).rstrip(b"=").decode()
 
 
-def tag():
-    return f"py3-none-{re.sub('[-.]', '_', sysconfig.get_platform())}"
+def tag(settings):
+    """Returns for which Python and machines the wheel is: those that the setting `platform` names, or such as this one."""
+    return f"py3-none-{(settings or {}).get('platform') or re.sub('[-.]', '_', sysconfig.get_platform())}"
 
 
 def build_wheel(wheel_directory, config_settings=None, metadata_directory=None):
@@ -65,10 +66,10 @@ def build_wheel(wheel_directory, config_settings=None, metadata_directory=None):
     files[f"{name}/{LIBRARY}"] = library()
     files[f"{about}/LICENSE"] = read(f"{HERE}/../../LICENSE")
     files[f"{about}/METADATA"] = metadata(said)
-    files[f"{about}/WHEEL"] = f"Wheel-Version: 1.0\nGenerator: {name}\nRoot-Is-Purelib: false\nTag: {tag()}\n".encode()
+    files[f"{about}/WHEEL"] = f"Wheel-Version: 1.0\nGenerator: {name}\nRoot-Is-Purelib: false\nTag: {tag(config_settings)}\n".encode()
     rows = [f"{path},{sum_of(data)},{len(data)}\n" for path, data in files.items()]
     files[f"{about}/RECORD"] = "".join([*rows, f"{about}/RECORD,,\n"]).encode()
-    made = f"{name}-{said['version']}-{tag()}.whl"
+    made = f"{name}-{said['version']}-{tag(config_settings)}.whl"
     with zipfile.ZipFile(os.path.join(wheel_directory, made), "w", zipfile.ZIP_DEFLATED) as it:
         for path, data in files.items():
             # (without the time, so that the same files make the same wheel)

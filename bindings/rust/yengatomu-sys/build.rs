@@ -1,11 +1,12 @@
-//! Links libyengatomu.a, from YENGATOMU_LIB_DIR or else from bindings/lib.
+//! Links libyengatomu.a, from YENGATOMU_LIB_DIR or else from `lib` beside this file, as a release has it, or from bindings/lib.
 use std::path::PathBuf;
 use std::{env, process};
 
 fn main() {
     println!("cargo:rerun-if-env-changed=YENGATOMU_LIB_DIR");
     let here = PathBuf::from(env::var_os("CARGO_MANIFEST_DIR").expect("cargo sets it"));
-    let folder = here.join(env::var_os("YENGATOMU_LIB_DIR").unwrap_or_else(|| "../../lib".into()));
+    let beside = if here.join("lib").is_dir() { "lib" } else { "../../lib" };
+    let folder = here.join(env::var_os("YENGATOMU_LIB_DIR").unwrap_or_else(|| beside.into()));
     let archive = folder.join("libyengatomu.a");
     println!("cargo:rerun-if-changed={}", archive.display());
     if !archive.is_file() {

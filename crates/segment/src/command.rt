@@ -65,6 +65,10 @@ pub fn columns_by(words: &[String]) -> Columns {
     Columns::InPlace
 }
 
+// What the file VERSION says, the versions of Unicode, and the logic that `rt version` names: tools/versions compares them.
+const VERSION: &str =
+    "1.0.0\nUnicode 18.0; lines by the rules of 17.0\nProved in Rattle, logic dac8208d650f15bf";
+
 // Of lines that are wrapped, where the command line says nothing.
 const DEFAULT_COLUMNS: usize = 80;
 
@@ -140,7 +144,7 @@ const FOLDER_HELP: &str = "The folder of such files [env: SEGMENT_DICTIONARIES]"
 pub fn command_line<'a>(alloc: Global, columns: Columns) -> Result<Command<'a>, AllocError> {
     let kinds = kind_commands(alloc, columns)?;
     let command = Command::new(alloc, "segment")
-        .version("1.0.0")
+        .version(VERSION)
         .about(
             "Cuts text (UTF-8) into segments by Unicode's data or by rules of your own, and writes each on a line of its own, or wraps its lines",
         )

@@ -3,15 +3,15 @@
 ghost use Rattle.std.specs.Prelude.{◌≡◌};
 ghost use Rattle.yengatomu_c.specs.Versions.{unicode_version};
 
-/// That of this library.
+/// The version of this library.
 #[unsafe(no_mangle)]
 pub extern "C" fn yengatomu_version() -> u32
-    ensures { result ≡ 100 }
+    ensures { result ≡ 10000 }
 {
-    100
+    10000
 }
 
-/// That of the Unicode data of a kind: those of `icu_segmenter_uax29` and `icu_segmenter_uax14`. 0 for no such kind.
+/// The version of the Unicode data of a kind: those of `icu_segmenter_uax29` and `icu_segmenter_uax14`. 0 for no such kind.
 #[unsafe(no_mangle)]
 pub extern "C" fn yengatomu_unicode_version(kind: u32) -> u32
     ensures { result ≡ unicode_version kind }
