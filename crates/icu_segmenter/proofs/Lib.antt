@@ -1,14 +1,4 @@
-pub mod Callers
-mod Cutting
-mod Whole
-mod Hints
-mod Nearest
-mod Parts
-pub mod Given
-pub mod Filling
-mod Suppressing
-mod Sources
-mod Reading
-mod Texts
-mod Feeds
-mod Exact
+-- Lemmas for callers, passed up from the crate that needs them first.
+pub use Rattle.seg_segments.proofs.Callers
+pub use Rattle.seg_segments.proofs.Given
+pub use Rattle.seg_segments.proofs.Filling

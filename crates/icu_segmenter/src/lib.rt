@@ -5,13 +5,10 @@
 //! encoding of `scaffold`, with no further refusal.
 #![tactic(auto)]
 
-pub mod cursor;
-pub mod segments;
-pub mod suppress;
-
 pub use seg_clusters::grapheme::{GraphemeClusterSegmenter, GraphemeClusterSegmenterBorrowed};
 pub use seg_clusters::sentence::{SentenceSegmenter, SentenceSegmenterBorrowed};
 pub use seg_lines::line::{LineSegmenter, LineSegmenterBorrowed};
+pub use seg_segments::{cursor, segments, suppress};
 pub use seg_text::{indices, scaffold};
 pub use seg_words::word::{WordSegmenter, WordSegmenterBorrowed};
 
@@ -59,7 +56,7 @@ pub mod memo {
 
 /// Lines of a text, wrapped to columns.
 pub mod wrap {
-    pub use seg_lines::wrap::{
+    pub use seg_wrap::wrap::{
         LineWrapper, WrapError, WrapIterator, WrapUtf8Iterator, WrapUtf16Iterator, WrappedLine,
         WrappedUtf8Line, WrappedUtf16Line, utf8_columns,
     };
@@ -93,6 +90,7 @@ pub mod laws {
     pub use seg_clusters::laws::{grapheme, sentence};
     pub use seg_lines::laws as line;
     pub use seg_words::laws as word;
+    pub use seg_wrap::laws as wrap;
 }
 
 /// The options of segmenters, the language of a text, which is one of them, and the types of words.

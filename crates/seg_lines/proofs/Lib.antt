@@ -8,14 +8,4 @@ pub mod NoMandatoryBreak
 pub mod LineLaws
 pub mod Memos
 pub mod SplitLines
-pub mod Places
-pub mod Extents
-pub mod Cells
-pub mod Clusters
-pub mod Greedy
-pub mod Walks
-pub mod Texts
-pub mod Starts
-pub mod SegmentsJoined
-pub mod Given
-pub mod Hints
+pub mod Progress

@@ -1,4 +1,4 @@
-//! Laws of the boundaries of lines, and of wrapped lines. A break is mandatory where its status is 1, so what is said of statuses is said of marks.
+//! Laws of the boundaries of lines. A break is mandatory where its status is 1, so what is said of statuses is said of marks.
 
 ghost use Rattle.std.specs.Prelude.{◌≡◌, ℕ, List};
 ghost use Rattle.seg_text.specs.Boundaries.{AreSameCounted, RestartsIn};
@@ -16,7 +16,6 @@ ghost use Rattle.seg_line_turns.specs.TurnBoundaries.{StartsBear};
 ghost use Rattle.seg_lines.specs.LineBreaks.LineFinder.{ByTable, ByTurns};
 ghost use Rattle.seg_lines.specs.LineBreaks.{HasOneList, LineRules, MayRestart, line_boundaries_by, line_boundaries_of, lines_with_words, LinesResetAfter, HasNoMandatoryBreak, IsByPairTable};
 ghost use Rattle.seg_lines.specs.Lines.{line_rules, lines_left};
-ghost use Rattle.seg_lines.specs.Wrapping.{Segment, HasOneWrapping};
 
 use crate::finder::Finder;
 use crate::line::{LineBreakIterator, LineSegmenterBorrowed};
@@ -132,10 +131,3 @@ pub fn plain_texts(segmenter: LineSegmenterBorrowed<'_>)
     let _ = segmenter;
     turn_laws::plain_texts();
 }
-
-/// Law: the wrapped lines are the one list of lines in which each line is one or more whole segments and together they
-/// are all; a line ends at each segment that is mandatory; a line of more than one segment has at most
-/// the columns; and a line that ends anywhere else than there and at the end of the text would have more with the next segment.
-pub fn wrapped_lines_are_one()
-    ensures { (limit : ℕ) (segments : List Segment) → HasOneWrapping limit segments }
-{}

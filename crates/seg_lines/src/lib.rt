@@ -1,4 +1,4 @@
-//! Lines of texts: where they may be broken, where they must be, and how they are wrapped to columns.
+//! Lines of texts: where they may be broken, and where they must be.
 #![tactic(auto)]
 
 mod boundaries;
@@ -10,4 +10,3 @@ mod memo;
 mod neo_lines;
 pub mod provider;
 mod unmarked;
-pub mod wrap;

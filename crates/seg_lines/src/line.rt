@@ -9,7 +9,7 @@ ghost use Rattle.seg_memo.specs.Memos.{IsMemoRefusal, IsNewMemo};
 ghost use Rattle.seg_data.specs.ScriptWords.{filled, borrowed_words, no_words, script_words};
 ghost use Rattle.seg_line_rules.specs.declared.engines.LineEngine.TheVariants.{Classic, Seventeen};
 ghost use Rattle.seg_line_rules.specs.LineRules.{HasLineTableFault, style_of};
-ghost use Rattle.seg_lines.specs.LineBreaks.{line_boundaries_of, machine_of_lines, table_lines, turn_lines, lines_with_words, LinesResetAfter};
+ghost use Rattle.seg_lines.specs.LineBreaks.{IsByPairTable, line_boundaries_of, machine_of_lines, table_lines, turn_lines, lines_with_words, LinesResetAfter};
 ghost use Rattle.seg_lines.specs.Lines.{line_rules};
 ghost use Rattle.seg_lines.specs.Options.{machine_choice};
 
@@ -397,6 +397,16 @@ impl<'data> LineSegmenterBorrowed<'data> {
         ensures { line_rules self.new ≡ lines_with_words (line_rules self.old) (filled (line_rules self.old).payloads.words (without_ja (borrowed_words dictionaries.entry))) }
     {
         self.payloads.load(borrowed_without_ja(dictionaries));
+    }
+
+    /// Whether a machine finds the breaks, that of lines or that of clusters, and no pair table does: then a break may be mandatory.
+    pub fn is_neo(self) -> bool
+        ensures { IsTrue result ↔ (IsByPairTable (line_rules self.entry).finder → ⊥) }
+    {
+        match self.finder {
+            Finder::Clusters | Finder::Machine(_) => true,
+            Finder::Places | Finder::Table(_) | Finder::Turns(_) => false,
+        }
     }
 
     /// Whether a text may be split after the code point, so that each part has the boundaries that it has alone, with

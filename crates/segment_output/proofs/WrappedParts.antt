@@ -16,11 +16,12 @@ use Rattle.seg_clusters.proofs.Encoded.{utf8-apart}
 use Rattle.seg_clusters.proofs.SplitItems.{items-split, later-codes, later-place, later_items}
 use Rattle.seg_clusters.specs.Rules.{PartsBehind}
 use Rattle.seg_lines.specs.LineBreaks.{LineRules, line_boundaries_of}
-use Rattle.seg_lines.specs.Wrapping.{Line, Measure, Segment, TextLine, as_one, between, characters_before, ends_before, line_of, lines_from, rest_from, segment_of, segments_from, text_lines, wrapped_lines}
-use Rattle.seg_lines.specs.WrappedLines.{wrapped_text}
-use Rattle.seg_lines.proofs.Places.{none-left, place-within}
-use Rattle.seg_lines.proofs.SegmentsJoined.{length-of-lines, lines_length, segments_length}
-use Rattle.seg_lines.proofs.Texts.{utf8-text}
+use Rattle.seg_lines.specs.Between.{between}
+use Rattle.seg_wrap.specs.Wrapping.{Line, Measure, Segment, TextLine, as_one, characters_before, ends_before, line_of, lines_from, rest_from, segment_of, segments_from, text_lines, wrapped_lines}
+use Rattle.seg_wrap.specs.WrappedLines.{wrapped_text}
+use Rattle.seg_wrap.proofs.Places.{none-left, place-within}
+use Rattle.seg_wrap.proofs.SegmentsJoined.{length-of-lines, lines_length, segments_length}
+use Rattle.seg_wrap.proofs.Texts.{utf8-text}
 use Rattle.icu_segmenter.specs.NearBoundaries.{line_feed}
 use Rattle.segment_output.specs.Wrapped.{last_status}
 use Rattle.segment_output.proofs.JoinedCuts.{rises-order}

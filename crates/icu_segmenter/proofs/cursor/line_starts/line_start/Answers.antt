@@ -1,7 +1,0 @@
-use Rattle.std.proofs.Common.{arith, eqb-true, sym, ◌∙◌}
-use Rattle.icu_segmenter.proofs.Parts.{feed-before}
-use Rattle.icu_segmenter.proofs.cursor.line_starts.line_start.Goals as goal
-
-pub returns-else-not-has_line_feed_at-clause-begins : goal.returns-else-not-has_line_feed_at-clause-begins
-returns-else-not-has_line_feed_at-clause-begins g c =
-    feed-before _ _ 0 (omega (arith, c.loop-start-test.true)) c.loop-start.invariant.within (eqb-true _ _ (sym c.has_line_feed_at.ensures ∙ c.if-not-has_line_feed_at.false))

@@ -1,8 +1,0 @@
-use Rattle.std.proofs.Common.{◌≤◌, length}
-use Rattle.icu_segmenter.proofs.cursor.line_starts.line_start.Given as goal
-
-abbrev pub invariant-loop-start : goal.invariant-loop-start
-invariant-loop-start g l = record { order : l.start ≤ l.place; within : l.start ≤ length (g.T.Units.units l.text) }
-
-abbrev pub decreases-loop-start : goal.decreases-loop-start
-decreases-loop-start g l = l.start

@@ -1,7 +1,0 @@
-use Rattle.icu_segmenter.proofs.Parts.{line-part}
-use Rattle.icu_segmenter.proofs.cursor.part_at.Goals as goal
-
-pub returns-clause-part : goal.returns-clause-part
-returns-clause-part g c =
-    line-part g.T.CursorText.decode (g.S.Segmenter.find c.args.segmenter.now) _ _ _ _ c.parts_at-before.ensures.front c.parts_at-before.ensures.back c.line_start-start.ensures.begins
-    (c.requires.parts c.if-not-has_parts.false) c.requires.cover c.cover.ensures c.cover-2.ensures

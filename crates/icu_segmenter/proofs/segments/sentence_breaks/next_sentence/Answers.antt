@@ -1,8 +1,0 @@
-use Rattle.icu_segmenter.proofs.Cutting.{unmarked-next, unmarked-none}
-use Rattle.icu_segmenter.proofs.segments.sentence_breaks.next_sentence.Goals as goal
-
-pub returns-in_err-place : goal.returns-in_err-place
-returns-in_err-place g c = rw c.from_residual.ensures (unmarked-none _ _ c.in_err-place.ensures.steps.0)
-
-pub returns : goal.returns
-returns g c = unmarked-next _ _ _ c.in_ok-place.ensures.steps.0

@@ -1,8 +1,0 @@
-use Rattle.std.proofs.Common.{refl}
-use Rattle.seg_lines.specs.Wrapping.{columns_of}
-use Rattle.seg_lines.specs.Wrapping.{total_of}
-use Rattle.seg_lines.proofs.wrap.extent.Extent.none.Goals as goal
-
-pub returns : goal.returns
-unfolding columns_of total_of
-returns c = refl

@@ -1,0 +1,8 @@
+use Rattle.seg_segments.proofs.Cutting.{place-boundary}
+use Rattle.seg_segments.proofs.segments.units.part_of_str.Goals as goal
+
+pub range-requires-clause-start_boundary : goal.range-requires-clause-start_boundary
+range-requires-clause-start_boundary c some = place-boundary _ _ c.utf8.text c.requires.from
+
+pub range-requires-clause-end_boundary : goal.range-requires-clause-end_boundary
+range-requires-clause-end_boundary c = place-boundary _ _ c.utf8.text c.requires.to

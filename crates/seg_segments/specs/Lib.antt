@@ -1,0 +1,10 @@
+pub mod Suppression
+pub mod InLines
+pub mod Kept
+pub mod Abbreviations
+pub mod TextSegments
+pub mod SegmentsLeft
+pub mod NearBoundaries
+pub mod Filled
+pub mod SuppressedLeft
+pub mod Suppressing

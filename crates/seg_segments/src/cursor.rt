@@ -1,0 +1,176 @@
+//! The boundaries near a place of a text, in both directions, as editors ask for them.
+//!
+//! With the sample data (`bench::clusters`), where U+0301 extends a cluster, `e\u{301}a` has the boundaries 0, 3 and 4:
+//!
+//! ```text
+//! let cursor = BoundaryCursor::new(segmenter, "e\u{301}a");
+//! cursor.next_boundary(0)         Some(3)
+//! cursor.previous_boundary(2)     Some(0)
+//! cursor.is_boundary(1)           false
+//! ```
+
+ghost use Rattle.std.specs.Prelude.{◌≡◌, ◌↔◌, ◌<◌, ◌≤◌, ◌+◌, ◌^◌, ℕ, IsTrue, IfSome, List, Contains, length};
+ghost use Rattle.seg_text.specs.declared.boundary.Boundary.{Boundary};
+ghost use Rattle.seg_text.specs.Boundaries.{IsCover};
+ghost use Rattle.seg_text.specs.Decoding.{utf8, utf16};
+ghost use Rattle.seg_clusters.specs.Rules.{PartsBehind};
+ghost use Rattle.seg_segments.specs.NearBoundaries.{IsNearestAbove, IsNearestBelow, IsPart, boundaries_of_units, boundary_places, line_feed, places_of_units};
+
+mod clusters;
+mod line_starts;
+mod lines;
+mod nearest;
+mod sentences;
+mod suppressed;
+mod texts;
+mod words;
+
+use line_starts::line_start;
+use std::marker::Model;
+pub use texts::CursorText;
+
+/// A segmenter, as cursors ask it.
+pub trait Segmenter: Drop {
+    /// How the boundaries of a list of code points are found.
+    ghost find: { Self → List ℕ → List Boundary };
+
+    /// Whether each text may be split after its line feeds, so that each part has the boundaries that it has alone. If `false`,
+    /// nothing is said.
+    fn parts_behind_line_feeds(&self) -> bool
+        ensures utf8 { IsTrue result → PartsBehind (boundaries_of_units utf8 (find self.now)) line_feed }
+        ensures utf16 { IsTrue result → PartsBehind (boundaries_of_units utf16 (find self.now)) line_feed };
+}
+
+/// A segmenter of texts of one form: of `&[u8]`, possibly ill-formed UTF-8, or of `&[u16]`, possibly ill-formed UTF-16.
+pub trait SegmenterOf<T: CursorText>: Segmenter {
+    /// The first boundary of a text is at its start, and the last at its end. Takes no memory.
+    fn cover(&self, text: T)
+        ensures { IsCover 0 (length (T.units text)) (boundaries_of_units T.decode (Self.find self.now) (T.units text)) };
+
+    /// The nearest boundary of a text above a place, if there is one. Takes no memory.
+    fn nearest_above(&self, text: T, place: usize) -> Option<usize>
+        ensures nearest { IsNearestAbove (places_of_units T.decode (Self.find self.now) (T.units text)) place result }
+        ensures within { IfSome result (λ found. found ≤ length (T.units text)) };
+
+    /// The nearest boundary below it, if there is one.
+    fn nearest_below(&self, text: T, place: usize) -> Option<usize>
+        ensures nearest { IsNearestBelow (places_of_units T.decode (Self.find self.now) (T.units text)) place result }
+        ensures within { IfSome result (λ found. found ≤ length (T.units text)) };
+}
+
+/// A text with the segmenter that finds its boundaries: it answers which are near a place. Places are units from the start: bytes of
+/// UTF-8, 16-bit units of UTF-16.
+///
+/// An answer takes no memory. Where the segmenter's rules part texts behind line feeds, it takes as long as finding the boundaries
+/// from the start of the place's line up to the one above the place; by other rules, from the start of the text.
+#[derive(Drop)]
+pub struct BoundaryCursor<T: CursorText, S: SegmenterOf<T>> {
+    segmenter: S,
+    text: T,
+    has_parts: bool,
+}
+
+impl<T: CursorText, S: SegmenterOf<T>> Model for BoundaryCursor<T, S> {
+    ghost use Rattle.std.specs.Prelude.{ℕ, List, IsTrue, length};
+    ghost use Rattle.seg_text.specs.Boundaries.{IsCover};
+    ghost use Rattle.seg_clusters.specs.Rules.{PartsBehind};
+    ghost use Rattle.seg_segments.specs.NearBoundaries.{boundaries_of_units, line_feed, places_of_units};
+
+    ghost Value = { List ℕ };
+
+    ghost view = { λ s. places_of_units T.decode (S.find s.segmenter) (T.units s.text) };
+
+    ghost invariant = { λ s. IsCover 0 (length (T.units s.text)) (boundaries_of_units T.decode (S.find s.segmenter) (T.units s.text))
+        × (IsTrue s.has_parts → PartsBehind (boundaries_of_units T.decode (S.find s.segmenter)) line_feed) };
+}
+
+impl<'s, S: SegmenterOf<&'s [u8]>> BoundaryCursor<&'s [u8], S> {
+    /// A cursor over a `str`. Takes no memory.
+    pub fn new(segmenter: S, text: &'s str) -> Self
+        ensures { result ≡ boundary_places (S.find segmenter) text.now }
+    {
+        BoundaryCursor::of_utf8(segmenter, text.as_bytes())
+    }
+
+    /// A cursor over possibly ill-formed UTF-8. Takes no memory.
+    pub fn of_utf8(segmenter: S, text: &'s [u8]) -> Self
+        ensures { result ≡ boundary_places (S.find segmenter) text.now }
+    {
+        segmenter.cover(text);
+        BoundaryCursor {
+            has_parts: segmenter.parts_behind_line_feeds(),
+            segmenter,
+            text,
+        }
+    }
+}
+
+impl<'s, S: SegmenterOf<&'s [u16]>> BoundaryCursor<&'s [u16], S> {
+    /// A cursor over possibly ill-formed UTF-16. Takes no memory.
+    pub fn of_utf16(segmenter: S, units: &'s [u16]) -> Self
+        ensures { result ≡ places_of_units utf16 (S.find segmenter) units.now }
+    {
+        segmenter.cover(units);
+        BoundaryCursor {
+            has_parts: segmenter.parts_behind_line_feeds(),
+            segmenter,
+            text: units,
+        }
+    }
+}
+
+impl<T: CursorText, S: SegmenterOf<T>> BoundaryCursor<T, S> {
+    /// Whether a boundary is at the place. There is none inside a character, nor past the end.
+    pub fn is_boundary(&self, place: usize) -> bool
+        ensures { IsTrue result ↔ Contains self.now place }
+    {
+        let _ = &self.text;
+        place == 0 || self.next_boundary(place - 1) == Some(place)
+    }
+
+    /// The nearest boundary above the place, which may be inside a character. None from the end on.
+    pub fn next_boundary(&self, place: usize) -> Option<usize>
+        ensures { IsNearestAbove self.now place result }
+    {
+        let (start, part) = part_at(&self.segmenter, self.text, self.has_parts, place);
+        let found = self.segmenter.nearest_above(part, place - start)?;
+        Some(start + found)
+    }
+
+    /// The nearest boundary below the place, which may be inside a character, or past the end. None at 0.
+    pub fn previous_boundary(&self, place: usize) -> Option<usize>
+        ensures { IsNearestBelow self.now place result }
+    {
+        if place == 0 {
+            return None;
+        }
+        let (start, part) = part_at(&self.segmenter, self.text, self.has_parts, place - 1);
+        let found = self.segmenter.nearest_below(part, place - start)?;
+        Some(start + found)
+    }
+}
+
+/// The part of a text from the last start of a line up to a place on, or the whole text: where it begins, and its units.
+fn part_at<T: CursorText, S: SegmenterOf<T>>(
+    segmenter: &S,
+    text: T,
+    has_parts: bool,
+    place: usize,
+) -> (usize, T)
+    requires cover { IsCover 0 (length (T.units text)) (boundaries_of_units T.decode (S.find segmenter.now) (T.units text)) }
+    requires parts { IsTrue has_parts → PartsBehind (boundaries_of_units T.decode (S.find segmenter.now)) line_feed }
+    ensures order { result.0 ≤ place }
+    ensures fits { result.0 + length (T.units result.1) < 2 ^ 64 }
+    ensures part { IsPart (places_of_units T.decode (S.find segmenter.now) (T.units text)) result.0 (places_of_units T.decode (S.find segmenter.now) (T.units result.1)) }
+{
+    // So each place in the text is a number of this type.
+    let _end = text.len();
+    if !has_parts {
+        return (0, text);
+    }
+    let start = line_start(text, place);
+    let (before, part) = text.parts_at(start);
+    segmenter.cover(before);
+    segmenter.cover(part);
+    (start, part)
+}

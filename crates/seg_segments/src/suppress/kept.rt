@@ -1,0 +1,141 @@
+//! The boundaries that stay.
+
+ghost use Rattle.std.specs.Prelude.{◌≡◌, ◌≤◌, false, length, IfSome};
+ghost use Rattle.std.specs.Iterator.{YieldsFirst};
+ghost use Rattle.seg_text.specs.Boundaries.{offsets, IsCover};
+ghost use Rattle.seg_data.specs.ScriptWords.{words_after};
+ghost use Rattle.seg_segments.specs.TextSegments.{marked};
+ghost use Rattle.seg_segments.specs.Kept.{left_of, AreAscending};
+
+use crate::segments::BreakIterator;
+use crate::suppress::starts::Starts;
+use seg_data::provider::DictionaryCursor;
+use seg_text::cursor::Cursor;
+use seg_text::reach::Reach;
+use std::fmt::Debug;
+use std::marker::Model;
+
+/// Boundaries without those before which a text ends with one of some words.
+#[derive(Drop)]
+#[derive_where(Debug; B: Debug, I: Debug)]
+pub(super) struct Kept<'data, B: BreakIterator, I: Cursor> {
+    breaks: B,
+    starts: Starts<'data, I>,
+}
+
+impl<'data, B: BreakIterator, I: Cursor> Model for Kept<'data, B, I> {
+    ghost use Rattle.std.specs.Prelude.{List};
+    ghost use Rattle.seg_text.specs.declared.boundary.Boundary.{Boundary};
+    ghost use Rattle.seg_text.specs.Boundaries.{offsets};
+    ghost use Rattle.seg_data.specs.ScriptWords.{words_after};
+    ghost use Rattle.seg_segments.specs.Kept.{left_of, AreAscending};
+
+    ghost Value = { List Boundary };
+
+    ghost view = { λ s. left_of (words_after s.starts.words) s.starts.joined (I.text s.starts.rest) (B.left s.breaks) };
+
+    ghost invariant = { λ s. AreAscending (offsets (B.left s.breaks)) };
+}
+
+impl<'data, B: BreakIterator, I: Cursor> Kept<'data, B, I> {
+    /// Those of some boundaries, where the cursor stands at the text's start, by words of which nothing was read.
+    pub(super) fn new(breaks: B, words: DictionaryCursor<'data>, text: I) -> Self
+        requires { AreAscending (offsets (B.left breaks)) }
+        ensures { result ≡ left_of (words_after words.entry) false (I.text text) (B.left breaks) }
+    {
+        Kept {
+            breaks,
+            starts: Starts {
+                words,
+                rest: text,
+                joined: false,
+            },
+        }
+    }
+
+    /// The same boundaries once more, from the same one on.
+    pub(super) fn fork(&self) -> Self
+        ensures { result ≡ self.now }
+    {
+        Kept {
+            breaks: self.breaks.fork(),
+            starts: self.starts.fork(),
+        }
+    }
+
+    /// The next boundary that stays.
+    pub(super) fn next_break(&mut self) -> Option<(usize, B::Mark)>
+        ensures { YieldsFirst (λ left. marked B.mark left) self.old result self.new }
+    {
+        'breaks: loop {
+            let (place, mark) = self.breaks.next_break()?;
+            if self.starts.keeps(place) {
+                return Some((place, mark));
+            }
+        }
+    }
+}
+
+/// The boundaries that stay, with how far they were given: so it is known how many are left at least and at most.
+#[derive(Drop)]
+#[derive_where(Debug; B: Debug, I: Debug)]
+pub(super) struct HintedKept<'data, B: BreakIterator, I: Cursor> {
+    kept: Kept<'data, B, I>,
+    reach: Reach,
+}
+
+impl<'data, B: BreakIterator, I: Cursor> Model for HintedKept<'data, B, I> {
+    ghost use Rattle.std.specs.Prelude.{List};
+    ghost use Rattle.seg_text.specs.declared.boundary.Boundary.{Boundary};
+    ghost use Rattle.seg_text.specs.Boundaries.{AreAhead};
+
+    ghost Value = { List Boundary };
+
+    ghost view = { λ s. s.kept };
+
+    ghost invariant = { λ s. AreAhead s.reach s.kept };
+}
+
+impl<'data, B: BreakIterator, I: Cursor> HintedKept<'data, B, I> {
+    /// Those of a whole text, which has so many units.
+    pub(super) fn new(kept: Kept<'data, B, I>, end: usize) -> Self
+        requires { IsCover 0 end kept }
+        ensures { result ≡ kept.entry }
+    {
+        HintedKept {
+            kept,
+            reach: Reach {
+                started: false,
+                place: 0,
+                end,
+            },
+        }
+    }
+
+    /// The same boundaries once more, from the same one on.
+    pub(super) fn fork(&self) -> Self
+        ensures { result ≡ self.now }
+    {
+        HintedKept {
+            kept: self.kept.fork(),
+            reach: self.reach,
+        }
+    }
+
+    /// The next boundary that stays.
+    pub(super) fn next_break(&mut self) -> Option<(usize, B::Mark)>
+        ensures { YieldsFirst (λ left. marked B.mark left) self.old result self.new }
+    {
+        let (place, mark) = self.kept.next_break()?;
+        self.reach.go_to(place);
+        Some((place, mark))
+    }
+
+    /// How many are left at least and at most.
+    pub(super) fn size_hint(&self) -> (usize, Option<usize>)
+        ensures lower { result.0 ≤ length self.now }
+        ensures upper { IfSome result.1 (λ most. length self.now ≤ most) }
+    {
+        self.reach.size_hint()
+    }
+}

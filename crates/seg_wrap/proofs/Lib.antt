@@ -1,0 +1,11 @@
+pub mod Places
+pub mod Extents
+pub mod Cells
+pub mod Clusters
+pub mod Greedy
+pub mod Walks
+pub mod Texts
+pub mod Starts
+pub mod SegmentsJoined
+pub mod Given
+pub mod Hints

@@ -1,0 +1,8 @@
+use Rattle.seg_wrap.proofs.Hints.{hint-lower, hint-upper}
+use Rattle.seg_wrap.proofs.wrap.WrapIteratorIterator.size_hint.Goals as goal
+
+pub returns-clause-lower : goal.returns-clause-lower
+returns-clause-lower c _ = hint-lower c.args.self.now.text.now c.args.self.now.lines _ c.size_hint.ensures.lower
+
+pub returns-clause-upper : goal.returns-clause-upper
+returns-clause-upper c = hint-upper c.args.self.now.text.now c.args.self.now.lines _ c.size_hint.ensures.upper

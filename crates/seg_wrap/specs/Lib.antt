@@ -1,0 +1,3 @@
+pub mod Wrapping
+pub mod Walk
+pub mod WrappedLines

@@ -1,0 +1,125 @@
+//! Wrapped lines of UTF-16.
+
+ghost use Rattle.std.specs.Prelude.{◌≡◌, ◌≤◌, ⊤, length};
+ghost use Rattle.std.specs.Iterator.{YieldsFirstBy, MakesProgress, item_count};
+ghost use Rattle.seg_text.specs.Items.{start_of};
+ghost use Rattle.seg_text.specs.Decoding.{utf16};
+ghost use Rattle.seg_lines.specs.Between.{between};
+ghost use Rattle.seg_wrap.specs.Wrapping.{rest_from};
+
+use crate::wrap::LineWrapper;
+use crate::wrap::wrapping::Wrapping;
+use seg_lines::line::LineBreakIterator;
+use seg_text::indices::Utf16Indices;
+use seg_text::scaffold::Utf16;
+use std::alloc::AllocError;
+
+impl<'data> LineWrapper<'data> {
+    ghost use Rattle.seg_wrap.specs.WrappedLines.{joined_units, utf16_lines_to_come, wrapped_units, wrapper_measure, wrapper_rules};
+
+    /// The lines of possibly ill-formed UTF-16, each of at most these columns unless it is one segment. A surrogate that stands
+    /// alone is as wide as U+FFFD, and stays as it is in the lines. Takes no memory.
+    pub fn wrap_utf16<'s>(self, units: &'s [u16], columns: usize) -> WrapUtf16Iterator<'data, 's>
+        ensures lines { utf16_lines_to_come result ≡ wrapped_units utf16 (wrapper_measure self.entry) (wrapper_rules self.entry) columns units.now }
+        ensures joined { joined_units (utf16_lines_to_come result) ≡ units.now }
+    {
+        let mut breaks = self.lines.segment_utf16(units);
+        let _start = breaks.next();
+        WrapUtf16Iterator {
+            units,
+            lines: Wrapping::new(breaks, Utf16Indices::new(units), self.setting(columns)),
+        }
+    }
+}
+
+/// A line of possibly ill-formed UTF-16 that was wrapped.
+#[derive(Clone, Copy, Debug)]
+pub struct WrappedUtf16Line<'s> {
+    units: &'s [u16],
+    columns: u128,
+    is_mandatory: bool,
+}
+
+impl<'s> WrappedUtf16Line<'s> {
+    ghost use Rattle.seg_wrap.specs.WrappedLines.{utf16_line_in};
+
+    /// Its 16-bit units, with its trailing white space.
+    pub fn units(&self) -> &'s [u16]
+        ensures { result.now ≡ (utf16_line_in self.now).units }
+    {
+        self.units
+    }
+
+    /// The columns that it takes, without its trailing white space.
+    pub fn columns(&self) -> u128
+        ensures { result ≡ (utf16_line_in self.now).columns }
+    {
+        self.columns
+    }
+
+    /// Whether a line must end there: at a mandatory break.
+    pub fn is_mandatory(&self) -> bool
+        ensures { result ≡ (utf16_line_in self.now).is_mandatory }
+    {
+        self.is_mandatory
+    }
+}
+
+/// The lines of possibly ill-formed UTF-16, wrapped to columns. After None it stays None.
+#[derive(Debug)]
+pub struct WrapUtf16Iterator<'data, 's> {
+    units: &'s [u16],
+    lines: Wrapping<'data, Utf16Indices<'s>, LineBreakIterator<'data, 's, Utf16>>,
+    ghost rest: { lines.text ≡ rest_from (start_of lines.text) (utf16 units.now) },
+}
+
+impl<'data, 's> Drop for WrapUtf16Iterator<'data, 's> {
+    fn drop(self) {
+        let WrapUtf16Iterator { units: _, lines: _ } = self;
+    }
+}
+
+impl<'data, 's> Clone for WrapUtf16Iterator<'data, 's> {
+    ghost is_clone = { λ s r. (r.units ≡ s.units) × (r.lines ≡ s.lines) };
+
+    ghost is_infallible = { λ _. ⊤ };
+
+    fn clone(&self) -> Result<Self, AllocError> {
+        Ok(WrapUtf16Iterator {
+            units: self.units,
+            lines: self.lines.fork(),
+        })
+    }
+}
+
+impl<'data, 's> Iterator for WrapUtf16Iterator<'data, 's> {
+    ghost use Rattle.seg_wrap.specs.WrappedLines.{utf16_line_in, utf16_lines_to_come};
+
+    type Item = WrappedUtf16Line<'s>;
+
+    ghost next_gives = { YieldsFirstBy utf16_line_in utf16_lines_to_come };
+
+    ghost remaining = { item_count utf16_lines_to_come };
+
+    fn next(&mut self) -> Option<WrappedUtf16Line<'s>> {
+        let line = self.lines.next_span()?;
+        Some(WrappedUtf16Line {
+            units: part(self.units, line.start, line.end),
+            columns: line.columns,
+            is_mandatory: line.is_mandatory,
+        })
+    }
+
+    fn size_hint(&self) -> (usize, Option<usize>) {
+        self.lines.size_hint()
+    }
+}
+
+/// The units from one place up to another.
+fn part<'s>(units: &'s [u16], start: usize, end: usize) -> &'s [u16]
+    requires order { start ≤ end }
+    requires within { end ≤ length units.now }
+    ensures { result.now ≡ between start end units.now }
+{
+    &units[start..end]
+}

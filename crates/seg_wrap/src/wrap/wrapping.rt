@@ -1,0 +1,200 @@
+//! Lines, wrapped to columns at any breaks.
+
+ghost use Rattle.std.specs.Prelude.{◌≡◌, ◌≤◌, ◌∷◌, List, length, IfSome};
+ghost use Rattle.seg_wrap.specs.Walk.{AreCuts, GivesLine, IsHeldPiece, IsFirstPiece, IsFirstSegment, line_at, lines_held, measure_of, rest_held, segment_at, segments_held};
+ghost use Rattle.seg_wrap.specs.Wrapping.{Cell, lines_from, rest_from, segments_from, wrapped_lines};
+
+use crate::wrap::breaks::Breaks;
+use crate::wrap::extent::Extent;
+use crate::wrap::measure::Measuring;
+use seg_text::cursor::Cursor;
+use std::marker::Model;
+
+/// A line of a wrapped text, by the places where it begins and ends.
+#[derive(Clone, Copy, Debug)]
+pub(crate) struct Span {
+    /// Where it begins, in units.
+    pub(crate) start: usize,
+    /// Where it ends, in units.
+    pub(crate) end: usize,
+    /// The columns that it takes.
+    pub(crate) columns: u128,
+    /// Whether a line must end there.
+    pub(crate) is_mandatory: bool,
+}
+
+/// A piece of a text that ends where a line may.
+#[derive(Clone, Copy, Debug)]
+struct Piece {
+    end: usize,
+    extent: Extent,
+    is_mandatory: bool,
+}
+
+/// To how many columns lines are wrapped, and how these are counted.
+#[derive(Clone, Copy, Debug)]
+pub(crate) struct Setting<'data> {
+    /// The columns.
+    pub(crate) columns: usize,
+    /// How the characters of a segment are measured.
+    pub(crate) measuring: Measuring<'data>,
+}
+
+/// The lines of a text, wrapped to so many columns.
+#[derive(Debug)]
+pub(crate) struct Wrapping<'data, I: Cursor, B: Breaks> {
+    breaks: B,
+    // The text from the next line on.
+    rest: I,
+    // The text after the first segment of that line.
+    after: I,
+    // That segment.
+    held: Option<Piece>,
+    setting: Setting<'data>,
+}
+
+// Written out, so that it is proved here and not in each program that wraps.
+impl<'data, I: Cursor, B: Breaks> Drop for Wrapping<'data, I, B> {
+    fn drop(self) {
+        let Wrapping {
+            breaks: _,
+            rest: _,
+            after: _,
+            held: _,
+            setting: _,
+        } = self;
+    }
+}
+
+impl<'data, I: Cursor, B: Breaks> Model for Wrapping<'data, I, B> {
+    ghost use Rattle.std.specs.Prelude.{◌≡◌};
+    ghost use Rattle.seg_wrap.specs.Walk.{IsHeldPiece, LinesLeft, lines_held, measure_of, rest_held};
+
+    ghost Value = { LinesLeft };
+
+    ghost view = { λ s. record { text = I.text s.rest; lines = lines_held (measure_of s.setting.measuring) s.setting.columns (I.text s.rest) s.held (B.left s.breaks) } };
+
+    ghost invariant = { λ s. IsHeldPiece (measure_of s.setting.measuring) (I.text s.rest) s.held (B.left s.breaks) × (I.text s.after ≡ rest_held (I.text s.rest) s.held) };
+}
+
+impl<'data, I: Cursor, B: Breaks> Wrapping<'data, I, B> {
+    /// The lines of a text that has these breaks after its start.
+    pub(crate) fn new(mut breaks: B, text: I, setting: Setting<'data>) -> Self
+        requires { AreCuts (I.text text) (B.left breaks) }
+        ensures text { result.text ≡ I.text text }
+        ensures lines { result.lines ≡ wrapped_lines setting.entry.columns (segments_from (measure_of setting.entry.measuring) (I.text text) (B.left breaks)) }
+    {
+        let mut after = text.fork();
+        let held = next_piece(&mut breaks, &mut after, setting.measuring);
+        Wrapping {
+            breaks,
+            rest: text,
+            after,
+            held,
+            setting,
+        }
+    }
+
+    /// The same lines once more, from the same one on. Takes no memory.
+    pub(crate) fn fork(&self) -> Self
+        ensures { result ≡ self.now }
+    {
+        Wrapping {
+            breaks: self.breaks.fork(),
+            rest: self.rest.fork(),
+            after: self.after.fork(),
+            held: self.held,
+            setting: self.setting,
+        }
+    }
+
+    /// How many lines are left at least and at most: that of the segment that is held, and one for each unit behind it.
+    pub(crate) fn size_hint(&self) -> (usize, Option<usize>)
+        ensures lower { result.0 ≤ length self.now.lines }
+        ensures upper { IfSome result.1 (λ most. length self.now.lines ≤ most) }
+    {
+        match &self.held {
+            None => (0, Some(0)),
+            Some(piece) => (1, Some(1 + (self.rest.end() - piece.end))),
+        }
+    }
+
+    /// The next line. None at the end, and from then on.
+    pub(crate) fn next_span(&mut self) -> Option<Span>
+        ensures { GivesLine self.old result self.new }
+    {
+        let first = self.held?;
+        let (line, held) = next_line(
+            &mut self.breaks,
+            &mut self.after,
+            &self.rest,
+            first,
+            self.setting,
+        );
+        let start = self.rest.place();
+        self.rest.seek(line.end);
+        self.held = held;
+        Some(Span {
+            start,
+            end: line.end,
+            columns: line.extent.columns,
+            is_mandatory: line.is_mandatory,
+        })
+    }
+}
+
+/// The piece up to the next break. The cursor goes over it.
+fn next_piece<I: Cursor, B: Breaks>(
+    breaks: &mut B,
+    after: &mut I,
+    measuring: Measuring<'_>,
+) -> Option<Piece>
+    requires { AreCuts (I.text after.old) (B.left breaks.old) }
+    ensures segments { segments_held (measure_of measuring.entry) (I.text after.old) result (B.left breaks.new)
+        ≡ segments_from (measure_of measuring.entry) (I.text after.old) (B.left breaks.old) }
+    ensures held { IsHeldPiece (measure_of measuring.entry) (I.text after.old) result (B.left breaks.new) }
+    ensures after { I.text after.new ≡ rest_held (I.text after.old) result }
+{
+    let found = breaks.next_break()?;
+    let extent = measuring.extent_of(after.up_to(found.end));
+    after.seek(found.end);
+    Some(Piece {
+        end: found.end,
+        extent,
+        is_mandatory: found.is_mandatory,
+    })
+}
+
+/// The line that begins with this piece of a text, and the piece after it. The cursor goes over both. The text itself, `rest`, is
+/// what the contract speaks of.
+fn next_line<I: Cursor, B: Breaks>(
+    breaks: &mut B,
+    after: &mut I,
+    rest: &I,
+    first: Piece,
+    setting: Setting<'_>,
+) -> (Piece, Option<Piece>)
+    requires piece { IsFirstSegment (measure_of setting.measuring) (I.text rest.now) first }
+    requires cuts { AreCuts (rest_from first.end (I.text rest.now)) (B.left breaks.old) }
+    requires at { I.text after.old ≡ rest_from first.end (I.text rest.now) }
+    ensures lines { let measure = measure_of setting.entry.measuring in
+        let limit = setting.entry.columns in
+        lines_from limit (segment_at measure (I.text rest.now) first) (segments_from measure (rest_from first.end (I.text rest.now)) (B.left breaks.old))
+        ≡ line_at (I.text rest.now) result.0 ∷ lines_held measure limit (rest_from result.0.end (I.text rest.now)) result.1 (B.left breaks.new) }
+    ensures piece { (cells : List Cell) × IsFirstPiece (I.text rest.now) cells result.0 }
+    ensures held { IsHeldPiece (measure_of setting.entry.measuring) (rest_from result.0.end (I.text rest.now)) result.1 (B.left breaks.new) }
+    ensures after { I.text after.new ≡ rest_held (rest_from result.0.end (I.text rest.now)) result.1 }
+{
+    let mut line = first;
+    let mut held = next_piece(breaks, after, setting.measuring);
+    'line: while let Some(piece) = held {
+        let extent = line.extent.joined(piece.extent);
+        if line.is_mandatory || (setting.columns as u128) < extent.columns {
+            break 'line;
+        }
+        line = Piece { extent, ..piece };
+        held = next_piece(breaks, after, setting.measuring);
+    }
+    let _text = rest;
+    (line, held)
+}
