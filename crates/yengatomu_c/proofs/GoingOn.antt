@@ -10,7 +10,8 @@ use Rattle.seg_text.specs.Boundaries.{HasRestart, IsCover, RestartsIn, RisesTo, 
 use Rattle.seg_text.specs.Lemmas.Readers.{IsReader, items_by-nil, items_by-cons}
 use Rattle.icu_segmenter.specs.NearBoundaries.{BeginsLine, line_feed}
 use Rattle.icu_segmenter.specs.Rules.{PartsBehind, PartsTexts}
-use Rattle.seg_text.specs.Decoding.{read_utf8, utf8, utf8_items, read_utf16, utf16, utf16_items}
+use Rattle.seg_text.specs.Decoding.{read_latin1, latin1, latin1_items, read_utf8, utf8, utf8_items, read_utf16, utf16, utf16_items}
+use Rattle.seg_text.specs.Lemmas.Rising.{read_latin1-reader}
 use Rattle.seg_text.specs.Lemmas.Utf8Stable.{read_utf8-stable}
 use Rattle.seg_text.specs.Lemmas.Utf16Stable.{read_utf16-stable}
 use Rattle.seg_text.proofs.Cursors.{seek-text}
@@ -180,6 +181,10 @@ behind-utf8 find restart bytes from has = behind-boundaries read_utf8 read_utf8-
 pub behind-utf16 : (find : List ℕ → List Boundary) → HasRestart find → (units : List ℕ) (from : ℕ) → Contains (offsets (boundaries_in find (utf16 units))) from → GoesOn find utf16 units from
 unfolding utf16_items
 behind-utf16 find restart units from has = behind-boundaries read_utf16 read_utf16-stable.reader find restart units from has
+
+pub behind-latin1 : (find : List ℕ → List Boundary) → HasRestart find → (bytes : List ℕ) (from : ℕ) → Contains (offsets (boundaries_in find (latin1 bytes))) from → GoesOn find latin1 bytes from
+unfolding latin1_items
+behind-latin1 find restart bytes from has = behind-boundaries read_latin1 read_latin1-reader find restart bytes from has
 
 -- a line feed is one unit
 

@@ -7,4 +7,3 @@ mod ReadWords
 mod Feeds
 pub mod Shapes
 pub mod Loans
-mod Nearest

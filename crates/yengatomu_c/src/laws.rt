@@ -7,9 +7,8 @@ ghost use Rattle.icu_segmenter.specs.NearBoundaries.{BeginsLine};
 ghost use Rattle.icu_segmenter.specs.Rules.{PartsTexts};
 ghost use Rattle.yengatomu_c.specs.Finders.{GoesOnAt, LineFeedsReset, find_by, finder_in, finder_of};
 
-use crate::segmenter::Segmenter;
+use crate::segmenter::{Segmenter, suppressing};
 use crate::slot::Slot;
-use crate::suppressing::Suppressing;
 use icu_segmenter::cursor::SegmenterOf;
 use icu_segmenter::laws;
 use icu_segmenter::suppress::laws::parts_behind_line_feeds;
@@ -88,7 +87,7 @@ fn cover(segmenter: &Segmenter, text: &[u8])
             None => {
                 let _ = s.as_borrowed().segment_utf8(text);
             },
-            Some(a) => Suppressing::of(s, a).cover(text),
+            Some(a) => suppressing(s, a).cover(text),
         },
         Segmenter::Lines(s, _) => {
             let _ = s.as_borrowed().segment_utf8(text);
@@ -110,7 +109,7 @@ fn cover_utf16(segmenter: &Segmenter, text: &[u16])
             None => {
                 let _ = s.as_borrowed().segment_utf16(text);
             },
-            Some(a) => Suppressing::of(s, a).cover(text),
+            Some(a) => suppressing(s, a).cover(text),
         },
         Segmenter::Lines(s, _) => {
             let _ = s.as_borrowed().segment_utf16(text);

@@ -1,4 +1,4 @@
-//! Text boundaries for C: clusters, words, sentences and lines over Unicode's data, of possibly ill-formed UTF-8 and, in `utf16`, UTF-16.
+//! Text boundaries for C: clusters, words, sentences and lines over Unicode's data, of possibly ill-formed UTF-8 and, in `utf16`, UTF-16, and in `latin1` Latin-1.
 //!
 //! bindings/include/yengatomu.h declares these calls, and says what a caller in C owes: no prover looks at it. `alloc` and `loan` are passed
 //! by nobody there, since they have no bytes.
@@ -25,6 +25,7 @@ mod buffers;
 mod columns;
 mod dictionary;
 mod handle;
+mod latin1;
 pub mod laws;
 mod loan;
 mod parts;
@@ -32,7 +33,6 @@ mod request;
 mod rules;
 mod segmenter;
 mod slot;
-mod suppressing;
 mod texts;
 mod utf16;
 mod versions;

@@ -1,13 +1,15 @@
 //! The segmenter that a slot holds.
 
-ghost use Rattle.std.specs.Prelude.{◌≡◌, IfOk, IfErr};
+ghost use Rattle.std.specs.Prelude.{◌≡◌, Some, IfOk, IfErr};
 ghost use Rattle.icu_segmenter.specs.Boundaries.{HasRestart};
 ghost use Rattle.icu_segmenter.specs.Abbreviations.{abbreviations_of};
-ghost use Rattle.icu_segmenter.specs.Clusters.{owned_cluster_rules};
+ghost use Rattle.icu_segmenter.specs.Clusters.{owned_cluster_rules, owned_sentence_rules};
 ghost use Rattle.icu_segmenter.specs.Lines.{owned_line_rules};
+ghost use Rattle.icu_segmenter.specs.Rules.{boundaries_by};
+ghost use Rattle.icu_segmenter.specs.Suppressing.{suppressing_finder};
 ghost use Rattle.yengatomu_c.specs.Abbreviated.{takes_abbreviations, with_abbreviations};
 ghost use Rattle.yengatomu_c.specs.Columns.{counted_by, has_columns};
-ghost use Rattle.yengatomu_c.specs.Finders.{find_by, finder_of};
+ghost use Rattle.yengatomu_c.specs.Finders.{find_by, finder_of, suppressed_by};
 ghost use Rattle.icu_segmenter.specs.ScriptWords.{script_words};
 ghost use Rattle.yengatomu_c.specs.Loaded.{takes_words, with_dictionary};
 ghost use Rattle.yengatomu_c.specs.Options.{finder_asked, line_rules_for};
@@ -15,7 +17,7 @@ ghost use Rattle.yengatomu_c.specs.Options.{finder_asked, line_rules_for};
 use crate::request::{LineOptions, Request};
 use icu_segmenter::options::{LanguageIdentifier, LineBreakOptions};
 use icu_segmenter::provider::{DataError, Dictionaries};
-use icu_segmenter::suppress::Abbreviations;
+use icu_segmenter::suppress::{Abbreviations, SuppressingSegmenter};
 use icu_segmenter::{
     GraphemeClusterSegmenter, LineSegmenter, SentenceSegmenter, WordSegmenter, laws,
 };
@@ -182,4 +184,17 @@ fn line_segmenter_by(alloc: Global, options: LineOptions) -> Result<LineSegmente
         content_locale,
     };
     line_segmenter(alloc, options)
+}
+
+/// What finds sentences, which go on after these abbreviations.
+pub fn suppressing<'data>(
+    sentences: &'data SentenceSegmenter,
+    abbreviations: &'data Abbreviations,
+) -> SuppressingSegmenter<'data>
+    ensures { suppressing_finder result ≡ suppressed_by (Some (abbreviations_of abbreviations.now)) (boundaries_by (owned_sentence_rules sentences.now)) }
+{
+    SuppressingSegmenter {
+        sentences: sentences.as_borrowed(),
+        abbreviations,
+    }
 }

@@ -8,8 +8,7 @@ ghost use Rattle.yengatomu_c.specs.Finders.{finder_of, marks_behind, places_behi
 ghost use Rattle.yengatomu_c.specs.Words.{word_count};
 
 use crate::buffers;
-use crate::segmenter::Segmenter;
-use crate::suppressing::Suppressing;
+use crate::segmenter::{Segmenter, suppressing};
 use icu_segmenter::cursor::BoundaryCursor;
 
 /// What is left of some units from a place on: nothing where it is past their end.
@@ -32,7 +31,7 @@ pub fn boundaries(segmenter: &Segmenter, text: &[u8], from: usize, places: &mut 
         Segmenter::Words(s) => buffers::fill(s.as_borrowed().segment_utf8(rest), from, places),
         Segmenter::Sentences(s, known) => match known.as_ref() {
             None => buffers::fill(s.as_borrowed().segment_utf8(rest), from, places),
-            Some(a) => buffers::fill(Suppressing::of(s, a).segment_utf8(rest), from, places),
+            Some(a) => buffers::fill(suppressing(s, a).segment_utf8(rest), from, places),
         },
         Segmenter::Lines(s, _) => buffers::fill(s.as_borrowed().segment_utf8(rest), from, places),
     }
@@ -61,12 +60,7 @@ pub fn marked_boundaries(
                 buffers::fill_marked(s.as_borrowed().segment_utf8(rest), from, places, marks)
             },
             Some(a) => {
-                buffers::fill_marked(
-                    Suppressing::of(s, a).segment_utf8(rest),
-                    from,
-                    places,
-                    marks,
-                )
+                buffers::fill_marked(suppressing(s, a).segment_utf8(rest), from, places, marks)
             },
         },
         Segmenter::Lines(s, _) => {
@@ -85,7 +79,7 @@ pub fn next(segmenter: &Segmenter, text: &[u8], place: usize) -> Option<usize>
         Segmenter::Words(s) => BoundaryCursor::of_utf8(s.as_borrowed(), text).next_boundary(place),
         Segmenter::Sentences(s, known) => match known.as_ref() {
             None => BoundaryCursor::of_utf8(s.as_borrowed(), text).next_boundary(place),
-            Some(a) => BoundaryCursor::of_utf8(Suppressing::of(s, a), text).next_boundary(place),
+            Some(a) => BoundaryCursor::of_utf8(suppressing(s, a), text).next_boundary(place),
         },
         Segmenter::Lines(s, _) => BoundaryCursor::of_utf8(s.as_borrowed(), text).next_boundary(
             place,
@@ -105,9 +99,7 @@ pub fn previous(segmenter: &Segmenter, text: &[u8], place: usize) -> Option<usiz
         ),
         Segmenter::Sentences(s, known) => match known.as_ref() {
             None => BoundaryCursor::of_utf8(s.as_borrowed(), text).previous_boundary(place),
-            Some(a) => BoundaryCursor::of_utf8(Suppressing::of(s, a), text).previous_boundary(
-                place,
-            ),
+            Some(a) => BoundaryCursor::of_utf8(suppressing(s, a), text).previous_boundary(place),
         },
         Segmenter::Lines(s, _) => BoundaryCursor::of_utf8(s.as_borrowed(), text).previous_boundary(
             place,
@@ -123,7 +115,7 @@ pub fn count(segmenter: &Segmenter, text: &[u8]) -> usize
         Segmenter::Words(s) => buffers::count(s.as_borrowed().segment_utf8(text)),
         Segmenter::Sentences(s, known) => match known.as_ref() {
             None => buffers::count(s.as_borrowed().segment_utf8(text)),
-            Some(a) => buffers::count(Suppressing::of(s, a).segment_utf8(text)),
+            Some(a) => buffers::count(suppressing(s, a).segment_utf8(text)),
         },
         Segmenter::Lines(s, _) => buffers::count(s.as_borrowed().segment_utf8(text)),
     }

@@ -12,9 +12,8 @@ mod near;
 mod wrapped;
 
 use crate::loan::Loan;
-use crate::segmenter::Segmenter;
+use crate::segmenter::{Segmenter, suppressing};
 use crate::slot::Slot;
-use crate::suppressing::Suppressing;
 use crate::texts::rest_of;
 use crate::{Found, buffers};
 
@@ -54,7 +53,7 @@ fn boundaries(segmenter: &Segmenter, text: &[u16], from: usize, places: &mut [us
         Segmenter::Words(s) => buffers::fill(s.as_borrowed().segment_utf16(rest), from, places),
         Segmenter::Sentences(s, known) => match known.as_ref() {
             None => buffers::fill(s.as_borrowed().segment_utf16(rest), from, places),
-            Some(a) => buffers::fill(Suppressing::of(s, a).segment_utf16(rest), from, places),
+            Some(a) => buffers::fill(suppressing(s, a).segment_utf16(rest), from, places),
         },
         Segmenter::Lines(s, _) => buffers::fill(s.as_borrowed().segment_utf16(rest), from, places),
     }
@@ -111,12 +110,7 @@ fn marked_boundaries(
                 buffers::fill_marked(s.as_borrowed().segment_utf16(rest), from, places, marks)
             },
             Some(a) => {
-                buffers::fill_marked(
-                    Suppressing::of(s, a).segment_utf16(rest),
-                    from,
-                    places,
-                    marks,
-                )
+                buffers::fill_marked(suppressing(s, a).segment_utf16(rest), from, places, marks)
             },
         },
         Segmenter::Lines(s, _) => {
@@ -153,7 +147,7 @@ fn count(segmenter: &Segmenter, text: &[u16]) -> usize
         Segmenter::Words(s) => buffers::count(s.as_borrowed().segment_utf16(text)),
         Segmenter::Sentences(s, known) => match known.as_ref() {
             None => buffers::count(s.as_borrowed().segment_utf16(text)),
-            Some(a) => buffers::count(Suppressing::of(s, a).segment_utf16(text)),
+            Some(a) => buffers::count(suppressing(s, a).segment_utf16(text)),
         },
         Segmenter::Lines(s, _) => buffers::count(s.as_borrowed().segment_utf16(text)),
     }

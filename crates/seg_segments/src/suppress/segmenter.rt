@@ -24,7 +24,8 @@ pub struct SuppressingSegmenter<'data> {
 
 impl<'data> SuppressingSegmenter<'data> {
     ghost use Rattle.seg_segments.specs.Suppressing.{suppressing_finder};
-    ghost use Rattle.seg_segments.specs.SuppressedLeft.{suppressed_left};
+    ghost use Rattle.seg_clusters.specs.Clusters.{sentence_finder, sentences_source};
+    ghost use Rattle.seg_segments.specs.SuppressedLeft.{suppressed_left, suppressed_source, suppressed_words};
 
     /// The boundaries of sentences of a `str` that stay, in bytes. Takes no memory.
     pub fn segment_str<'s>(
@@ -33,6 +34,8 @@ impl<'data> SuppressingSegmenter<'data> {
     ) -> SuppressedBreaks<'data, SentenceBreakIterator<'data, 's, Utf8>, StrCharIndices<'s>>
         ensures boundaries { suppressed_left result ≡ boundaries_in (suppressing_finder self.entry) (utf8 input.now) }
         ensures cover { IsCover 0 (length input.now) (suppressed_left result) }
+        ensures whole { (sentences_source (suppressed_source result)).units ≡ input.now }
+        ensures found { without_abbreviated (suppressed_words result) (boundaries_by (sentence_finder (suppressed_source result))) ≡ suppressing_finder self.entry }
     {
         self.sentences
             .segment_str(input)
@@ -50,6 +53,8 @@ impl<'data> SuppressingSegmenter<'data> {
     >
         ensures boundaries { suppressed_left result ≡ boundaries_in (suppressing_finder self.entry) (utf8 input.now) }
         ensures cover { IsCover 0 (length input.now) (suppressed_left result) }
+        ensures whole { (sentences_source (suppressed_source result)).units ≡ input.now }
+        ensures found { without_abbreviated (suppressed_words result) (boundaries_by (sentence_finder (suppressed_source result))) ≡ suppressing_finder self.entry }
     {
         self.sentences
             .segment_utf8(input)
@@ -63,6 +68,8 @@ impl<'data> SuppressingSegmenter<'data> {
     ) -> SuppressedBreaks<'data, SentenceBreakIterator<'data, 's, Latin1>, Latin1Indices<'s>>
         ensures boundaries { suppressed_left result ≡ boundaries_in (suppressing_finder self.entry) (latin1 input.now) }
         ensures cover { IsCover 0 (length input.now) (suppressed_left result) }
+        ensures whole { (sentences_source (suppressed_source result)).units ≡ input.now }
+        ensures found { without_abbreviated (suppressed_words result) (boundaries_by (sentence_finder (suppressed_source result))) ≡ suppressing_finder self.entry }
     {
         self.sentences
             .segment_latin1(input)
@@ -76,6 +83,8 @@ impl<'data> SuppressingSegmenter<'data> {
     ) -> SuppressedBreaks<'data, SentenceBreakIterator<'data, 's, Utf16>, Utf16Indices<'s>>
         ensures boundaries { suppressed_left result ≡ boundaries_in (suppressing_finder self.entry) (utf16 input.now) }
         ensures cover { IsCover 0 (length input.now) (suppressed_left result) }
+        ensures whole { (sentences_source (suppressed_source result)).units ≡ input.now }
+        ensures found { without_abbreviated (suppressed_words result) (boundaries_by (sentence_finder (suppressed_source result))) ≡ suppressing_finder self.entry }
     {
         self.sentences
             .segment_utf16(input)

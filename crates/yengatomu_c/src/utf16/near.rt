@@ -7,9 +7,8 @@ ghost use Rattle.yengatomu_c.specs.Lent.{IsLentBy};
 ghost use Rattle.yengatomu_c.specs.Finders.{finder_in, finder_of, places_in};
 
 use crate::loan::Loan;
-use crate::segmenter::Segmenter;
+use crate::segmenter::{Segmenter, suppressing};
 use crate::slot::Slot;
-use crate::suppressing::Suppressing;
 use crate::{Found, NONE};
 use icu_segmenter::cursor::BoundaryCursor;
 
@@ -43,7 +42,7 @@ fn next(segmenter: &Segmenter, text: &[u16], place: usize) -> Option<usize>
         Segmenter::Words(s) => BoundaryCursor::of_utf16(s.as_borrowed(), text).next_boundary(place),
         Segmenter::Sentences(s, known) => match known.as_ref() {
             None => BoundaryCursor::of_utf16(s.as_borrowed(), text).next_boundary(place),
-            Some(a) => BoundaryCursor::of_utf16(Suppressing::of(s, a), text).next_boundary(place),
+            Some(a) => BoundaryCursor::of_utf16(suppressing(s, a), text).next_boundary(place),
         },
         Segmenter::Lines(s, _) => BoundaryCursor::of_utf16(s.as_borrowed(), text).next_boundary(
             place,
@@ -88,9 +87,7 @@ fn previous(segmenter: &Segmenter, text: &[u16], place: usize) -> Option<usize>
         ),
         Segmenter::Sentences(s, known) => match known.as_ref() {
             None => BoundaryCursor::of_utf16(s.as_borrowed(), text).previous_boundary(place),
-            Some(a) => BoundaryCursor::of_utf16(Suppressing::of(s, a), text).previous_boundary(
-                place,
-            ),
+            Some(a) => BoundaryCursor::of_utf16(suppressing(s, a), text).previous_boundary(place),
         },
         Segmenter::Lines(s, _) => BoundaryCursor::of_utf16(s.as_borrowed(), text).previous_boundary(
             place,

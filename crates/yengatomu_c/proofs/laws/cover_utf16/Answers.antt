@@ -7,4 +7,4 @@ use Rattle.yengatomu_c.proofs.laws.cover_utf16.Goals as goal
 pub returns-in-Some : goal.returns-in-Some
 returns-in-Some c =
     rw (c.in-Sentences.is, ← c.in-Some.ensures.value)
-    (subst (λ (find : List ℕ → List Boundary). IsCover 0 (length c.args.text.now) (boundaries_in find (utf16 c.args.text.now))) c.of.ensures c.cover.ensures)
+    (subst (λ (find : List ℕ → List Boundary). IsCover 0 (length c.args.text.now) (boundaries_in find (utf16 c.args.text.now))) c.suppressing.ensures c.cover.ensures)

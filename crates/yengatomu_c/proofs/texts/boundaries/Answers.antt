@@ -18,5 +18,5 @@ pub returns-in-Some : goal.returns-in-Some
 returns-in-Some c =
     rw (c.in-Sentences.is, ← c.in-Some.ensures.value)
     (subst (λ (found : List Boundary). IsFilled (map (λ place. c.args.from + place) (offsets (drop 1 found))) c.args.places.now c.fill-in-Some.new.places c.fill-in-Some.result)
-    (c.segment_utf8-in-Some.ensures.left ∙ ap₂ (λ (find : List ℕ → List Boundary) (units : List ℕ). boundaries_in find (utf8 units)) c.of.ensures c.rest_of-rest.ensures.rest)
+    (c.segment_utf8-in-Some.ensures.boundaries ∙ ap₂ (λ (find : List ℕ → List Boundary) (units : List ℕ). boundaries_in find (utf8 units)) c.suppressing.ensures c.rest_of-rest.ensures.rest)
     c.fill-in-Some.ensures)

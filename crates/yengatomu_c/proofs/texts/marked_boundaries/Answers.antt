@@ -37,12 +37,12 @@ pub returns-in-Some-clause-places : goal.returns-in-Some-clause-places
 returns-in-Some-clause-places c =
     rw (c.in-Sentences.is, ← c.in-Some.ensures.value)
     (subst (λ (found : List Boundary). TakesFirst (min (length c.args.places.now) (length c.args.marks.now)) (map (λ place. c.args.from + place) (offsets (drop 1 found))) c.args.places.now c.fill_marked-in-Some.new.places c.fill_marked-in-Some.result)
-    (c.segment_utf8-in-Some.ensures.left ∙ ap₂ (λ (find : List ℕ → List Boundary) (units : List ℕ). boundaries_in find (utf8 units)) c.of.ensures c.rest_of-rest.ensures.rest)
+    (c.segment_utf8-in-Some.ensures.boundaries ∙ ap₂ (λ (find : List ℕ → List Boundary) (units : List ℕ). boundaries_in find (utf8 units)) c.suppressing.ensures c.rest_of-rest.ensures.rest)
     c.fill_marked-in-Some.ensures.places)
 
 pub returns-in-Some-clause-marks : goal.returns-in-Some-clause-marks
 returns-in-Some-clause-marks c =
     rw (c.in-Sentences.is, ← c.in-Some.ensures.value)
     (subst (λ (found : List Boundary). TakesFirst (min (length c.args.places.now) (length c.args.marks.now)) (map (λ (one : Boundary). 0) (drop 1 found)) c.args.marks.now c.fill_marked-in-Some.new.marks c.fill_marked-in-Some.result)
-    (c.segment_utf8-in-Some.ensures.left ∙ ap₂ (λ (find : List ℕ → List Boundary) (units : List ℕ). boundaries_in find (utf8 units)) c.of.ensures c.rest_of-rest.ensures.rest)
+    (c.segment_utf8-in-Some.ensures.boundaries ∙ ap₂ (λ (find : List ℕ → List Boundary) (units : List ℕ). boundaries_in find (utf8 units)) c.suppressing.ensures c.rest_of-rest.ensures.rest)
     c.fill_marked-in-Some.ensures.marks)

@@ -43,5 +43,5 @@ returns-in-Some c =
     record {
       nearest = rw (c.in-Sentences.is, ← c.in-Some.ensures.value)
           (subst (λ (places : List ℕ). IsNearestAbove places c.args.place c.next_boundary-in-Some.result)
-          (c.of_utf8-in-Some.ensures ∙ ap (λ (find : List ℕ → List Boundary). boundary_places find c.args.text.now) c.of.ensures) c.next_boundary-in-Some.ensures);
+          (c.of_utf8-in-Some.ensures ∙ ap (λ (find : List ℕ → List Boundary). boundary_places find c.args.text.now) c.suppressing.ensures) c.next_boundary-in-Some.ensures);
     }

@@ -44,5 +44,5 @@ returns-in-Some c =
     record {
       nearest = rw (c.in-Sentences.is, ← c.in-Some.ensures.value)
           (subst (λ (places : List ℕ). IsNearestAbove places c.args.place c.next_boundary-in-Some.result)
-          (c.of_utf16-in-Some.ensures ∙ ap (λ (find : List ℕ → List Boundary). places_of_units utf16 find c.args.text.now) c.of.ensures) c.next_boundary-in-Some.ensures);
+          (c.of_utf16-in-Some.ensures ∙ ap (λ (find : List ℕ → List Boundary). places_of_units utf16 find c.args.text.now) c.suppressing.ensures) c.next_boundary-in-Some.ensures);
     }

@@ -1,4 +1,4 @@
-use Rattle.std.proofs.Common.{arith}
+use Rattle.std.proofs.Common.{refl, arith}
 use Rattle.seg_text.specs.Decoding.{utf8, utf8_from}
 use Rattle.seg_segments.proofs.Sources.{cover-by, covered-by, found-by, left-by, start-by}
 use Rattle.seg_segments.proofs.suppress.segmenter.SuppressingSegmenter.segment_str.Goals as goal
@@ -15,4 +15,6 @@ pub returns : goal.returns
 returns c = record {
   boundaries = left-by utf8 _ _ _ _ _ _ c.suppressed_by.ensures.boundaries c.segment_str.ensures.source.0 c.segment_str.ensures.source.1;
   cover = covered-by _ _ _ c.suppressed_by.ensures.cover c.segment_str.ensures.source.1;
+  whole = rw (c.suppressed_by.ensures.source.1, c.segment_str.ensures.source.1) refl;
+  found = rw (c.suppressed_by.ensures.source.0, c.suppressed_by.ensures.source.1, c.segment_str.ensures.source.0) refl;
 }

@@ -1,0 +1,6 @@
+use Rattle.yengatomu_c.specs.Finders.{find_by, finder_of}
+use Rattle.yengatomu_c.proofs.GoingOn.{behind-latin1}
+use Rattle.yengatomu_c.proofs.latin1.yengatomu_boundaries_latin1.Goals as goal
+
+pub returns-in-Ok-clause-whole : goal.returns-in-Ok-clause-whole
+returns-in-Ok-clause-whole c = rw c.in-Ok.ensures.0 (λ restart has. behind-latin1 (find_by (finder_of c.in-Ok.lease.segmenter)) restart c.args.text.now c.args.from has)
