@@ -33,7 +33,7 @@ impl Drop for Segmenter {
 }
 
 impl Segmenter {
-    /// The same over borrowed data.
+    /// This segmenter over borrowed data.
     pub fn as_borrowed(&self) -> SegmenterBorrowed<'_> {
         match self {
             Segmenter::Clusters(clusters) => SegmenterBorrowed::Clusters(clusters.as_borrowed()),

@@ -93,7 +93,7 @@ fn written(alloc: Global, characters: &[char]) -> Result<String> {
 }
 
 impl Comparison<'_> {
-    // Those of all texts of up to three characters.
+    // The differences of all texts of up to three characters.
     fn differences(&self, alloc: Global) -> Result<Differences> {
         let mut found = Differences {
             texts: 0,

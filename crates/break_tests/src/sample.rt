@@ -7,7 +7,7 @@ use std::alloc::{AllocError, Global};
 pub struct Sample {
     /// The text.
     pub text: String,
-    /// The same in UTF-16.
+    /// The text in UTF-16.
     pub units: Vec<u16>,
     /// Its boundaries, in bytes of UTF-8.
     pub places: Vec<usize>,

@@ -61,7 +61,7 @@ pub fn boundaries_by_fewer(alloc: Global, text: &[u8]) -> Result<Vec<(usize, u8,
     boundaries_by(alloc, machine.as_borrowed(), &other, text)
 }
 
-// The same, where the machine is read with the transitions of another.
+// The boundaries of a text, where the machine is read with the transitions of another.
 fn boundaries_by(
     alloc: Global,
     machine: TailoredMachineBorrowed<'_>,

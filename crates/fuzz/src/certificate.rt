@@ -46,7 +46,7 @@ macro_rules! configurations {
     };
 }
 
-/// Those of the small machine's certificate.
+/// The numbers of the small machine's certificate.
 pub const NUMBERS: Numbers = Numbers {
     lengths: [5, 4, 8, 1, 4, 5, 6],
     rests: [

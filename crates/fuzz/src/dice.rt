@@ -47,7 +47,7 @@ pub struct Dice {
 }
 
 impl Dice {
-    /// The same numbers for the same seed.
+    /// Random numbers: a seed gives its own each time.
     pub fn new(seed: u64) -> Self {
         Dice {
             rng: Xoshiro256PlusPlus::seed_from_u64(seed),

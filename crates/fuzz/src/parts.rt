@@ -59,7 +59,7 @@ fn rest_behind<U: Whole>(part: U, rest: Option<U>) -> Option<U> {
     rest?.behind(part)
 }
 
-// The same of a part that is to stand at a place of the whole.
+// What a part leaves of what it begins, where it is to stand at a place of the whole.
 fn rest_from<U: Whole>(whole: U, place: usize, part: U, rest: Option<U>) -> Option<U> {
     let rest = rest?;
     if whole.size().saturating_sub(rest.size()) != place {

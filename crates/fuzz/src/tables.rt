@@ -66,7 +66,7 @@ pub struct Numbers {
 }
 
 impl Numbers {
-    /// Those of few classes, of which only words mostly have one of complex code points.
+    /// The numbers of a table of few classes, of which only words mostly have one of complex code points.
     pub fn few(dice: &mut Dice, has_complex: bool) -> Self {
         let plain = dice.below(5).saturating_add(2);
         let complex = if has_complex || dice.comes(SELDOM) {
@@ -85,7 +85,7 @@ impl Numbers {
         }
     }
 
-    /// Those of lines, of so many classes and states.
+    /// The numbers of a table of lines, of so many classes and states.
     pub fn of_lines(dice: &mut Dice, count: u8, complex: u8) -> Self {
         let complex = if dice.comes(SELDOM) {
             dice.byte()

@@ -37,7 +37,7 @@ impl ClusterSegmenter {
         Ok(ClusterSegmenter { segmenter })
     }
 
-    /// The same segmenter over borrowed data, as other calls take one.
+    /// This segmenter over borrowed data, as other calls take one.
     pub fn as_borrowed(&self) -> GraphemeClusterSegmenterBorrowed<'_>
         ensures { cluster_rules result ≡ ByMachine cluster_machine }
     {

@@ -140,7 +140,7 @@ fn end_from<I: Cursor>(ends: &mut Boundaries<'_, I>, end: usize, place: usize) -
 }
 
 impl<'data, D: WordCursor, I: Cursor> DictionaryCuts<'data, D, I> {
-    /// The same cuts once more, from the same one on. Takes no memory.
+    /// What is left of the cuts, once more. Takes no memory.
     pub fn fork(&self) -> Self
         ensures { result ≡ self.now }
     {

@@ -38,7 +38,7 @@ impl Drop for OwnedEngine {
 }
 
 impl OwnedEngine {
-    /// The same, borrowed.
+    /// This engine, borrowed.
     pub fn as_borrowed(&self) -> Engine<'_>
         ensures { rules_of result ≡ owned_rules self.now }
     {
@@ -87,7 +87,7 @@ impl<'data> Engine<'data> {
         }
     }
 
-    /// The same boundaries, where no configuration of the machine is looked up twice. `NotNeo` by a pair table, and otherwise
+    /// The boundaries of a text, where no configuration of the machine is looked up twice. `NotNeo` by a pair table, and otherwise
     /// `TooLarge` where there are more configurations than the greatest `usize`: both without asking for memory. `Memory`
     /// where the one growth was refused.
     pub fn memoised<I: Cursor>(
@@ -115,9 +115,9 @@ pub struct Boundaries<'data, I: Cursor> {
 /// either stays in registers.
 #[derive(Debug, Drop)]
 enum BoundariesBy<'data, I: Cursor> {
-    /// Those of a pair table.
+    /// By a pair table.
     Classic(rule_segmenter_v1::RuleBreakIterator<'data, I>),
-    /// Those of a state machine.
+    /// By a state machine.
     Neo(rule_segmenter_v2::RuleBreakIterator<'data, I>),
 }
 
@@ -141,7 +141,7 @@ impl<'data, I: Cursor> Boundaries<'data, I> {
         }
     }
 
-    /// The same boundaries once more, from the same one on. Takes no memory.
+    /// What is left of the boundaries, once more. Takes no memory.
     pub fn fork(&self) -> Self
         ensures { result ≡ self.now }
     {

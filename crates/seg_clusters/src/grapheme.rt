@@ -155,7 +155,7 @@ impl GraphemeClusterSegmenter {
         })
     }
 
-    /// The same segmenter over borrowed data, which segments texts.
+    /// This segmenter over borrowed data, which segments texts.
     pub fn as_borrowed(&self) -> GraphemeClusterSegmenterBorrowed<'_>
         ensures { cluster_rules result ≡ owned_cluster_rules self.now }
     {

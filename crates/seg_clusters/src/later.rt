@@ -72,7 +72,7 @@ impl<'data, I: Cursor> Iterator for LaterCuts<'data, I> {
 }
 
 impl<'data, I: Cursor> LaterCuts<'data, I> {
-    /// The same cuts once more, from the same one on.
+    /// What is left of the cuts, once more.
     pub(crate) fn fork(&self) -> Self
         ensures { result ≡ self.now }
     {

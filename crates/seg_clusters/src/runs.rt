@@ -109,7 +109,7 @@ impl<'data, I: Cursor> Iterator for RunCuts<'data, I> {
 }
 
 impl<'data, I: Cursor> PieceIterator<'data, I> {
-    /// The same cuts once more, from the same one on. Takes no memory.
+    /// What is left of the cuts, once more. Takes no memory.
     pub(crate) fn fork(&self) -> Self
         ensures { result ≡ self.now }
     {
@@ -121,7 +121,7 @@ impl<'data, I: Cursor> PieceIterator<'data, I> {
 }
 
 impl<'data, I: Cursor> RunCuts<'data, I> {
-    /// The same cuts once more, from the same one on. Takes no memory.
+    /// What is left of the cuts, once more. Takes no memory.
     pub fn fork(&self) -> Self
         ensures { result ≡ self.now }
     {

@@ -112,7 +112,7 @@ impl<I: Cursor> ScriptIterator<I> {
 }
 
 impl<I: Cursor> ScriptIterator<I> {
-    /// The same pieces once more, from the same one on. Takes no memory.
+    /// What is left of the pieces, once more. Takes no memory.
     pub fn fork(&self) -> Self
         ensures { result ≡ self.now }
     {

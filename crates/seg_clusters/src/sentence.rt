@@ -187,7 +187,7 @@ impl SentenceSegmenter {
         })
     }
 
-    /// The same segmenter over borrowed data, which segments texts.
+    /// This segmenter over borrowed data, which segments texts.
     pub fn as_borrowed(&self) -> SentenceSegmenterBorrowed<'_>
         ensures { sentence_rules result ≡ owned_sentence_rules self.now }
     {

@@ -99,7 +99,7 @@ pub fn compile(
     Ok(found.into_machine())
 }
 
-/// The same machine with the certificate by which it passed the check. It fails as `compile` does.
+/// Compiles rules as `compile` does, and gives the certificate by which the machine passed the check. It fails as `compile` does.
 pub fn compile_certified(
     alloc: Global,
     rules: &Rules<'_>,

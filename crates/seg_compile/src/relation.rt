@@ -21,7 +21,7 @@ pub(crate) struct Truth {
 const WORDS: usize = 8;
 
 impl Truth {
-    /// The same as words, in the order in which a certificate has it.
+    /// This truth as words, in the order in which a certificate has it.
     pub(crate) fn words(self) -> [u32; WORDS] {
         [
             u32::from(self.state),

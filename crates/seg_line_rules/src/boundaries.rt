@@ -60,7 +60,7 @@ impl<'data, S: LineSource> TableLines<'data, S> {
         0
     }
 
-    /// The same boundaries once more, from the same one on. Takes no memory.
+    /// What is left of the boundaries, once more. Takes no memory.
     pub fn fork(&self) -> Self
         ensures { result ≡ self.now }
     {

@@ -31,13 +31,13 @@ pub trait PairEngine: Copy {
     /// Which it is.
     const ENGINE: LineEngine;
 
-    /// The same in clauses.
+    /// Which engine it is, in clauses.
     ghost ENGINE: { LineEngine };
 
     /// What the classes and the table alone say between an item with no marks and the next.
     ghost plain: { PairTable → ℕ → ℕ → PlainPair };
 
-    /// The same.
+    /// Looks up what the classes and the table alone say between such items.
     fn plain_pair(table: &RuleBreakData, left: u8, right: u8) -> PlainPair
         requires left { left < table.now.property_count }
         requires right { right < table.now.property_count }

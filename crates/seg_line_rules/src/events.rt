@@ -65,7 +65,7 @@ pub trait LineSource: Drop {
         ensures leads { LeadsToEvent Self.Text.text (unread self.old) result (unread self.new) }
         ensures goes { LeavesLess (unread self.old) (unread self.new) };
 
-    /// The same text once more, from the same place on. Takes no memory.
+    /// What is left of the text, once more. Takes no memory.
     fn fork(&self) -> Self
         ensures { result ≡ self.now };
 }

@@ -76,7 +76,7 @@ impl<'data, I: Cursor> Iterator for InsideCuts<'data, I> {
 }
 
 impl<'data, I: Cursor> InsideCuts<'data, I> {
-    /// The same cuts once more, from the same one on. Takes no memory.
+    /// What is left of the cuts, once more. Takes no memory.
     pub fn fork(&self) -> Self
         ensures { result ≡ self.now }
     {

@@ -59,7 +59,7 @@ impl<E: PairEngine> OwnedLinePairs<E> {
         })
     }
 
-    /// The same, borrowed.
+    /// The table with its options, borrowed.
     pub fn as_borrowed(&self) -> LinePairs<'_, E>
         ensures { rules_by result ≡ owned_rules_by self.now }
     {
@@ -153,7 +153,7 @@ impl<'data, E: PairEngine> LinePairs<'data, E> {
         class_read(E::ENGINE, self.style, self.table.complex_property(), class)
     }
 
-    /// The same where the strictness reads no class, so that the word option alone is asked.
+    /// The class of a code point where the strictness reads no class, so that the word option alone is asked.
     #[inline(always)]
     pub(crate) fn strict_class(self, code_point: u32) -> u8
         requires { is_loose_or_normal (rules_by self).style.strictness ≡ false }
@@ -199,7 +199,7 @@ fn class_read(engine: LineEngine, style: LineStyle, complex: u8, class: u8) -> u
     }
 }
 
-/// The same where the strictness reads no class.
+/// A class as the options read it, where the strictness reads none.
 #[inline(always)]
 fn strict_read(engine: LineEngine, style: LineStyle, complex: u8, class: u8) -> u8
     requires { is_loose_or_normal style.strictness ≡ false }

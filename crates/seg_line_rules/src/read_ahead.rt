@@ -135,7 +135,7 @@ impl<'data, E: PairEngine, I: Cursor> ReadAhead<'data, E, I> {
         Some(passed.next.place)
     }
 
-    /// The same text once more, from the same place on. Takes no memory.
+    /// What is left of the text, once more. Takes no memory.
     pub fn fork(&self) -> Self
         ensures { result ≡ self.now }
     {

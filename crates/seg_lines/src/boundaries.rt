@@ -26,20 +26,20 @@ use seg_text::reach::{BoundarySource, HintedBoundaries};
 /// The boundaries of lines in a text, as places.
 #[derive(Debug, Drop)]
 pub(crate) enum LineBoundaries<'data, I: Cursor> {
-    /// Those of clusters, or of a machine where no script has words.
+    /// The boundaries of clusters, or of a machine where no script has words.
     Plain(engine::Boundaries<'data, I>),
-    /// Those of clusters, without their statuses.
+    /// The boundaries of clusters, without their statuses.
     Unmarked(UnmarkedBoundaries<'data, I>),
-    /// Those of a pair table.
+    /// By a pair table.
     Classic(TableLines<'data, LineEvents<'data, I>>),
-    /// Those of a pair table of the engine 17.
+    /// By a pair table of the engine 17.
     Turns(TableLines<'data, TurnEvents<'data, I>>),
-    /// Those of a machine, joined with the cuts inside runs.
+    /// By a machine, joined with the cuts inside runs.
     Joined(JoinedBoundaries<'data, I>),
 }
 
 impl<'data, I: Cursor> LineBoundaries<'data, I> {
-    /// Those of what is left of a text. Takes no memory.
+    /// The boundaries of what is left of a text. Takes no memory.
     fn new(finder: Finder<'data>, payloads: ComplexPayloadsBorrowed<'data>, text: I) -> Self
         ensures boundaries { (line_remainder_by result).left ≡ boundaries_in (boundaries_with (finder_of finder.entry) (payloads_of payloads.entry)) (I.text text) }
         ensures cover { IsCover (start_of (I.text text)) (I.text text).end (line_remainder_by result).left }

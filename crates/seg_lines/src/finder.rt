@@ -41,7 +41,7 @@ impl Drop for OwnedFinder {
 }
 
 impl OwnedFinder {
-    /// That of a pair table under this strictness.
+    /// What finds breaks by a pair table under this strictness.
     pub(crate) fn of_table(
         strictness: LineBreakStrictness,
         pairs: OwnedLinePairs<ClassicEngine>,
@@ -54,7 +54,7 @@ impl OwnedFinder {
         }
     }
 
-    /// That of a pair table of the engine 17 under this strictness.
+    /// What finds breaks by a pair table of the engine 17 under this strictness.
     pub(crate) fn of_turns(strictness: LineBreakStrictness, pairs: OwnedLinePairs<Engine17>) -> Self
         ensures { owned_finder result ≡ unless_anywhere strictness (ByTurns (owned_rules_by pairs)) }
     {
@@ -64,7 +64,7 @@ impl OwnedFinder {
         }
     }
 
-    /// The same, borrowed.
+    /// This finder, borrowed.
     pub(crate) fn as_borrowed(&self) -> Finder<'_>
         ensures { finder_of result ≡ owned_finder self.now }
     {
@@ -94,7 +94,7 @@ pub(crate) enum Finder<'data> {
 }
 
 impl<'data> Finder<'data> {
-    /// That of a pair table under this strictness.
+    /// What finds breaks by a pair table under this strictness.
     pub(crate) fn of_table(
         strictness: LineBreakStrictness,
         pairs: LinePairs<'data, ClassicEngine>,
@@ -107,7 +107,7 @@ impl<'data> Finder<'data> {
         }
     }
 
-    /// That of a pair table of the engine 17 under this strictness.
+    /// What finds breaks by a pair table of the engine 17 under this strictness.
     pub(crate) fn of_turns(
         strictness: LineBreakStrictness,
         pairs: LinePairs<'data, Engine17>,

@@ -199,8 +199,8 @@ impl LineSegmenter {
         })
     }
 
-    /// The same with the dictionaries of Myanmar, Khmer, Lao and Thai: each piece of a script that has one is cut by its words.
-    /// The faults are the same.
+    /// A segmenter by a pair table with the dictionaries of Myanmar, Khmer, Lao and Thai: each piece of a script that has one is cut by its words.
+    /// The faults are those of `try_new_for_non_complex_scripts`.
     pub fn try_new_dictionary(
         table: RuleBreakData,
         clusters: RuleBreakData,
@@ -275,7 +275,7 @@ impl LineSegmenter {
         self.dictionaries.fill(without_ja(dictionaries));
     }
 
-    /// The same segmenter over borrowed data, which segments texts.
+    /// This segmenter over borrowed data, which segments texts.
     pub fn as_borrowed(&self) -> LineSegmenterBorrowed<'_>
         ensures { line_rules result ≡ owned_line_rules self.now }
     {
@@ -321,8 +321,8 @@ impl<'data> LineSegmenterBorrowed<'data> {
         Self::new_dictionary(table, clusters, DictionariesBorrowed::none(), options)
     }
 
-    /// The same with the dictionaries of Myanmar, Khmer, Lao and Thai: each piece of a script that has one is cut by its words.
-    /// The faults are the same.
+    /// A segmenter by a pair table with the dictionaries of Myanmar, Khmer, Lao and Thai: each piece of a script that has one is cut by its words.
+    /// The faults are those of `new_for_non_complex_scripts`.
     pub fn new_dictionary(
         table: &'data RuleBreakData,
         clusters: &'data RuleBreakData,

@@ -143,7 +143,7 @@ impl<'data, I: Cursor> Iterator for JoinedBoundaries<'data, I> {
 }
 
 impl<'data, I: Cursor> JoinedBoundaries<'data, I> {
-    /// The same boundaries once more, from the same one on. Takes no memory.
+    /// What is left of the boundaries, once more. Takes no memory.
     pub(crate) fn fork(&self) -> Self
         ensures { result ≡ self.now }
     {

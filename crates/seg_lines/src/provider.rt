@@ -9,19 +9,19 @@ use seg_machine::provider::SegmenterStateMachineOverride;
 #[derive(Clone, Copy, Debug, Drop)]
 #[derive_where(Default)]
 pub struct TailoringsOf<T> {
-    /// That of the word option `BreakAll`.
+    /// The tailoring of the word option `BreakAll`.
     pub breakall: Option<T>,
-    /// That of the word option `KeepAll`.
+    /// The tailoring of the word option `KeepAll`.
     pub keepall: Option<T>,
-    /// That of the strictness `Loose` in Japanese or Chinese.
+    /// The tailoring of the strictness `Loose` in Japanese or Chinese.
     pub ja_loose: Option<T>,
-    /// That of the strictness `Loose` in other languages.
+    /// The tailoring of the strictness `Loose` in other languages.
     pub loose: Option<T>,
-    /// That of the strictness `Normal` in Japanese or Chinese.
+    /// The tailoring of the strictness `Normal` in Japanese or Chinese.
     pub ja_normal: Option<T>,
-    /// That of the strictness `Normal` in other languages.
+    /// The tailoring of the strictness `Normal` in other languages.
     pub normal: Option<T>,
-    /// That of the strictness `Strict` in Japanese or Chinese; other languages have none.
+    /// The tailoring of the strictness `Strict` in Japanese or Chinese; other languages have none.
     pub ja: Option<T>,
 }
 
@@ -32,7 +32,7 @@ pub type LineTailorings = TailoringsOf<SegmenterStateMachineOverride>;
 pub type LineTailoringsBorrowed<'data> = TailoringsOf<&'data SegmenterStateMachineOverride>;
 
 impl LineTailorings {
-    /// The same tailorings, borrowed.
+    /// These tailorings, borrowed.
     pub fn as_borrowed(&self) -> LineTailoringsBorrowed<'_>
         ensures { borrowed_tailorings result ≡ self.now }
     {

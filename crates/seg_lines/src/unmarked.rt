@@ -56,7 +56,7 @@ impl<'data, I: Cursor> Iterator for UnmarkedBoundaries<'data, I> {
 }
 
 impl<'data, I: Cursor> UnmarkedBoundaries<'data, I> {
-    /// The same boundaries once more, from the same one on. Takes no memory.
+    /// What is left of the boundaries, once more. Takes no memory.
     pub(crate) fn fork(&self) -> Self
         ensures { result ≡ self.now }
     {

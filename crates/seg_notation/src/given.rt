@@ -7,7 +7,7 @@ use crate::rows::OwnRow;
 use seg_rules::rules::Row;
 use std::alloc::{AllocError, Global};
 
-/// The same rules, as rows.
+/// Rules that were read, as rows.
 pub(crate) fn rows_of(alloc: Global, rules: &[OwnRow]) -> Result<Vec<Row<'_>>, AllocError>
     ensures { IfOk result (λ rows. map given.row_of rows.items ≡ map row_of rules.now) }
 {

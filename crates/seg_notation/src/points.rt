@@ -24,7 +24,7 @@ impl CodePoints {
         }
     }
 
-    /// The same set once more.
+    /// A copy of the set.
     pub(crate) fn copied(&self, alloc: Global) -> Result<CodePoints, AllocError>
         ensures { IfOk result (λ set. set.changes.items ≡ self.now.changes.items) }
     {

@@ -32,7 +32,7 @@ pub(crate) struct Marks {
 }
 
 impl Marks {
-    /// Those of rules without marks.
+    /// What rules have that name no marks.
     pub(crate) const NONE: Marks = Marks {
         marks: 0,
         bare: 0,

@@ -35,7 +35,7 @@ pub record EndsWithAbbreviation (words : Words) (before : List ℕ) : Type 0 whe
   pub apart : IsApart front
   pub spaced : All (λ c. IsTrue (is_space c)) spaces
 
--- The same as a test.
+-- As a test:
 
 -- the code points are one of the words, but not the empty one, and perhaps spaces after it
 unfoldable pub is_word_and_spaces : Words → List ℕ → Bool

@@ -42,7 +42,7 @@ pub trait BreakIterator: Drop + Sized {
     /// a line must end there.
     type Mark: Copy;
 
-    /// The same in clauses.
+    /// What a status says, in clauses.
     ghost mark: { ℕ → Self.Mark };
 
     /// The boundaries that are still to come.
@@ -65,7 +65,7 @@ pub trait BreakIterator: Drop + Sized {
     fn next_break(&mut self) -> Option<(usize, Self::Mark)>
         ensures { YieldsFirst (λ s. marked mark (left s)) self.old result self.new };
 
-    /// The same boundaries once more, from the same one on. Takes no memory and never fails.
+    /// What is left of the boundaries, once more. Takes no memory and never fails.
     fn fork(&self) -> Self
         ensures { result ≡ self.now };
 
@@ -84,7 +84,7 @@ pub trait BreakIterator: Drop + Sized {
         places.len()
     }
 
-    /// The same with what their statuses say.
+    /// Writes the next boundaries with what their statuses say, as `fill` writes their places.
     final fn fill_marked(&mut self, found: &mut [(usize, Self::Mark)]) -> usize
         ensures filled { IsFilled (marked mark (left self.old)) found.old found.new result }
         ensures left { marked mark (left self.new) ≡ drop result (marked mark (left self.old)) }
@@ -196,7 +196,7 @@ impl<B: BreakIterator> Model for MarkedSegments<B> {
 }
 
 impl<B: BreakIterator> MarkedSegments<B> {
-    // The same segments once more, from the same one on.
+    // What is left of the segments, once more.
     fn fork(&self) -> Self
         ensures { result ≡ self.now }
     {

@@ -49,7 +49,7 @@ pub trait SentenceBreaks: BreakIterator {
     fn code_points(&self) -> Self::CodePoints
         ensures { result ≡ start self.now };
 
-    /// The same boundaries, but for those before which the text ends with one of these abbreviations. May be asked as long as no
+    /// These boundaries, but for those before which the text ends with one of these abbreviations. May be asked as long as no
     /// boundary was given. Takes no memory.
     final fn suppressed_by<'data>(
         self,

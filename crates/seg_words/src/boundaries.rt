@@ -22,16 +22,16 @@ use seg_text::reach::{BoundarySource, HintedBoundaries};
 /// The boundaries of words in a text, as places.
 #[derive(Debug, Drop)]
 pub(crate) enum WordBoundaries<'data, I: Cursor> {
-    /// Those of a pair table.
+    /// By a pair table.
     Classic(ClassicBoundaries<'data, I>),
-    /// Those of a state machine.
+    /// By a state machine.
     Neo(RuleBreakIterator<'data, I>),
-    /// Those of a state machine, and dictionaries.
+    /// By a state machine, and dictionaries.
     NeoWithWords(NeoBoundaries<'data, I>),
 }
 
 impl<'data, I: Cursor> WordBoundaries<'data, I> {
-    /// Those of what is left of a text. Takes no memory.
+    /// The boundaries of what is left of a text. Takes no memory.
     fn new(engine: Engine<'data>, payloads: ComplexPayloadsBorrowed<'data>, text: I) -> Self
         ensures boundaries { (word_remainder_by result).left ≡ word_boundaries_of (record { rules = rules_of engine.entry; payloads = payloads_of payloads.entry }) (I.text text) }
         ensures cover { IsCover (start_of (I.text text)) (I.text text).end (word_remainder_by result).left }

@@ -46,7 +46,7 @@ impl<'data, I: Cursor> CutsLeft<'data, I> {
         }
     }
 
-    /// The same cuts once more, from the same one on. Takes no memory.
+    /// What is left of the cuts, once more. Takes no memory.
     fn fork(&self) -> Self
         ensures { result ≡ self.now }
     {
@@ -168,7 +168,7 @@ impl<'data, I: Cursor> Iterator for ClassicBoundaries<'data, I> {
 }
 
 impl<'data, I: Cursor> ClassicBoundaries<'data, I> {
-    /// The same boundaries once more, from the same one on. Takes no memory.
+    /// What is left of the boundaries, once more. Takes no memory.
     pub(crate) fn fork(&self) -> Self
         ensures { result ≡ self.now }
     {

@@ -113,7 +113,7 @@ impl<'data, I: Cursor> Iterator for NeoBoundaries<'data, I> {
 }
 
 impl<'data, I: Cursor> NeoBoundaries<'data, I> {
-    /// The same boundaries once more, from the same one on. Takes no memory.
+    /// What is left of the boundaries, once more. Takes no memory.
     pub(crate) fn fork(&self) -> Self
         ensures { result ≡ self.now }
     {

@@ -159,7 +159,7 @@ impl<'data, 's, Y: RuleBreakType<'s>> WordBreakIterator<'data, 's, Y> {
             .memoised(alloc, self.segmenter.engine, text)
     }
 
-    // The same boundaries once more, from the same one on.
+    // What is left of the boundaries, once more.
     fn fork(&self) -> Self
         ensures { result ≡ self.now }
     {
@@ -308,7 +308,7 @@ impl WordSegmenter {
         })
     }
 
-    /// The same with dictionaries: each piece of a script that has one is cut by its words. The faults are the same.
+    /// A segmenter by a pair table with dictionaries: each piece of a script that has one is cut by its words. The faults are those without dictionaries.
     pub fn try_new_dictionary(
         table: RuleBreakData,
         overriding: Option<RuleBreakDataOverride>,
@@ -358,7 +358,7 @@ impl WordSegmenter {
         })
     }
 
-    /// The same segmenter over borrowed data, which segments texts.
+    /// This segmenter over borrowed data, which segments texts.
     pub fn as_borrowed(&self) -> WordSegmenterBorrowed<'_>
         ensures { word_rules result ≡ owned_word_rules self.now }
     {
@@ -405,7 +405,7 @@ impl<'data> WordSegmenterBorrowed<'data> {
         Self::new_dictionary(table, overriding, clusters, none, options)
     }
 
-    /// The same with dictionaries: each piece of a script that has one is cut by its words. The faults are the same.
+    /// A segmenter by a pair table with dictionaries: each piece of a script that has one is cut by its words. The faults are those without dictionaries.
     pub fn new_dictionary(
         table: &'data RuleBreakData,
         overriding: Option<&'data RuleBreakDataOverride>,

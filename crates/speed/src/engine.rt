@@ -51,9 +51,9 @@ pub const ENGINES: [Engine; 13] = [
 /// Where an engine's data come from.
 #[derive(Clone, Copy)]
 pub enum Data {
-    /// Those of the crate `bench`, written by hand.
+    /// The crate `bench`, written by hand.
     Small,
-    /// Those of Unicode, of the crate `icu_segmenter_data`.
+    /// Unicode, by the crate `icu_segmenter_data`.
     Real,
 }
 

@@ -55,7 +55,7 @@ fn machine_like(
     machine_with(alloc, row, sample, states, moves)
 }
 
-// The same with these states and moves.
+// The machine of a row with these states and moves.
 fn machine_with(
     alloc: Global,
     row: Row<'_>,

@@ -188,7 +188,7 @@ fn rest_of(alloc: Global, text: Text<'_>, taken: usize) -> Result<String> {
     }
 }
 
-// The same in units.
+// What `rest` gives, of a text in units.
 fn rest_in<U: Copy + Into<u32>, E: ReadsUnits<U>>(
     alloc: Global,
     mut text: Indices<'_, U, E>,
@@ -202,7 +202,7 @@ fn rest_in<U: Copy + Into<u32>, E: ReadsUnits<U>>(
     rest_shown(alloc, text.offset(), text.as_slice(), next)
 }
 
-// The same in a str.
+// What `rest` gives, of a str.
 fn rest_in_str(alloc: Global, mut text: StrCharIndices<'_>, taken: usize) -> Result<String> {
     for _taken in 0..taken {
         let _item = text.next();

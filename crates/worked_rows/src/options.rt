@@ -16,7 +16,7 @@ pub struct Options {
 }
 
 impl Options {
-    /// Those of a row: a strictness, a word option and a language, each of which may be `-` for none.
+    /// The options of a row: a strictness, a word option and a language, each of which may be `-` for none.
     pub fn of(row: Row<'_>) -> Result<Self> {
         let mut words = row.part("options").unwrap_or("").split_whitespace();
         let strictness = strictness_of(words.next().unwrap_or("-"))?;
@@ -34,7 +34,7 @@ impl Options {
         self.language.as_ref()
     }
 
-    /// Those of lines.
+    /// The options of lines.
     pub fn of_lines(&self) -> LineBreakOptions<'_> {
         LineBreakOptions {
             strictness: self.strictness,

@@ -60,7 +60,7 @@ pub struct Parts {
     pub cluster_machine: Option<SegmenterStateMachine>,
     /// What takes the place of parts of the machine.
     pub tailoring: Option<SegmenterStateMachineOverride>,
-    /// The same, of lines.
+    /// What takes the place of parts of the machine of lines.
     pub tailorings: LineTailorings,
     /// The pair table.
     pub table: Option<RuleBreakData>,

@@ -48,7 +48,7 @@ pub fn look_ups_by_a_reader(alloc: Global, row: Row<'_>) -> Result<String> {
     look_ups_with(alloc, &base, moves.as_slice(), text.as_str())
 }
 
-// The same by a machine, and by a reader of other moves.
+// What `look_ups_by_a_reader` gives, by a machine, and by a reader of other moves.
 fn look_ups_with(
     alloc: Global,
     base: &SegmenterStateMachine,

@@ -61,7 +61,7 @@ impl<'a> Row<'a> {
         self.part_since(name, "find")
     }
 
-    /// The same, unless a later line of the other name begins anew.
+    /// What the part of this name holds, unless a later line of the other name begins anew.
     pub fn part_since(self, name: &str, anew: &str) -> Option<&'a str> {
         match own_part(self.own, name) {
             Some(words) => Some(words),
@@ -69,7 +69,7 @@ impl<'a> Row<'a> {
         }
     }
 
-    // The same among the lines of settings, of which other rows stand between.
+    // Such a part among the lines of settings, of which other rows stand between.
     fn line_part(self, name: &str, anew: &str) -> Option<&'a str> {
         for line in self.lines.rsplit('\n') {
             if let (Some(part), None) = (line.strip_prefix(self.whose), row_of(line)) {

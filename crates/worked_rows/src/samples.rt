@@ -37,7 +37,7 @@ impl Sample {
         }
     }
 
-    /// The same, borrowed.
+    /// The text, borrowed.
     pub fn text(&self) -> Text<'_> {
         match self {
             Sample::Str(text) => Text::Str(text.as_str()),

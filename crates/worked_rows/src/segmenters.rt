@@ -23,7 +23,7 @@ use std::alloc::{AllocError, Global};
 pub enum Manner {
     /// The boundaries.
     Boundaries,
-    /// Those of its memo, and how many look-ups there were.
+    /// The boundaries by its memo, and how many look-ups there were.
     Memo,
     /// How an iterator is shown.
     Shown,

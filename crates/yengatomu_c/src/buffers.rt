@@ -62,7 +62,7 @@ pub fn fill<B: BreakIterator>(breaks: B, from: usize, places: &mut [usize]) -> u
     places.len()
 }
 
-/// The same with their marks, as many as both buffers have room for.
+/// Writes the first boundaries as `fill` does, with their marks, as many as both buffers have room for.
 pub fn fill_marked<M: Mark, B: BreakIterator<Mark = M>>(
     breaks: B,
     from: usize,

@@ -42,7 +42,7 @@ unsafe impl Send for Handle {}
 unsafe impl Sync for Handle {}
 
 impl Handle {
-    /// That of nothing.
+    /// A handle that holds nothing.
     pub fn empty(alloc: Global) -> Handle
         ensures { (result.holds.held ≡ None) × (result.holds.lent ≡ false) }
     {
@@ -52,7 +52,7 @@ impl Handle {
         }
     }
 
-    /// That of a box.
+    /// A handle that holds a box.
     pub fn of_parts(parts: Parts<Segmenter, Global>) -> Handle
         ensures { (result.holds.held ≡ Some parts.value) × (result.holds.lent ≡ false) }
     {

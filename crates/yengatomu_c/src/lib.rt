@@ -1,4 +1,5 @@
-//! Text boundaries for C: clusters, words, sentences and lines over Unicode's data, of possibly ill-formed UTF-8 and, in `utf16`, UTF-16, and in `latin1` Latin-1.
+//! Text boundaries for C: clusters, words, sentences and lines over Unicode's data, of possibly ill-formed UTF-8 and, in `utf16` and `latin1`, of
+//! UTF-16 and Latin-1.
 //!
 //! bindings/include/yengatomu.h declares these calls, and says what a caller in C owes: no prover looks at it. `alloc` and `loan` are passed
 //! by nobody there, since they have no bytes.
@@ -169,8 +170,8 @@ pub extern "C" fn yengatomu_boundaries(
     }
 }
 
-/// The same with a mark beside each: of words 0 no word, 1 a number, 2 letters; of lines 1 where the line must end there; of others 0.
-/// As many as both buffers have room for.
+/// Writes boundaries as `yengatomu_boundaries` does, with a mark beside each: of words 0 no word, 1 a number, 2 letters; of lines 1 where the line must
+/// end there; of others 0. As many as both buffers have room for.
 #[unsafe(no_mangle)]
 pub extern "C" fn yengatomu_marked_boundaries(
     slot: &Slot,
@@ -267,7 +268,7 @@ pub extern "C" fn yengatomu_wrap(
     }
 }
 
-/// The same with how many columns each line takes. As many as both buffers have room for.
+/// Writes the ends of lines as `yengatomu_wrap` does, with how many columns each takes. As many as both buffers have room for.
 #[unsafe(no_mangle)]
 pub extern "C" fn yengatomu_wrap_columns(
     slot: &Slot,

@@ -15,7 +15,7 @@ use icu_segmenter::wrap::{LineWrapper, WrapUtf8Iterator, WrapUtf16Iterator};
 
 /// Lines that a text is wrapped to, in any encoding.
 pub trait WrappedLines: Drop {
-    /// Those that are still to come.
+    /// The lines that are still to come.
     ghost left: { Self → List TextLine };
 
     /// How many units and how many columns the next line has. None at the end, and from then on.
@@ -110,7 +110,7 @@ pub fn fill<L: WrappedLines>(lines: L, from: usize, ends: &mut [usize]) -> usize
     ends.len()
 }
 
-/// The same with how wide they are, as many as both buffers have room for.
+/// Writes the ends of lines as `fill` does, with how wide they are, as many as both buffers have room for.
 pub fn fill_both<L: WrappedLines>(
     lines: L,
     from: usize,

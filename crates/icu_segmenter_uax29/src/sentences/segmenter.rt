@@ -43,7 +43,7 @@ impl SentenceSegmenter {
         Ok(SentenceSegmenter { segmenter })
     }
 
-    /// The same segmenter over borrowed data, as other calls take one.
+    /// This segmenter over borrowed data, as other calls take one.
     pub fn as_borrowed(&self) -> SentenceSegmenterBorrowed<'_>
         ensures { sentence_rules result ≡ ByMachine sentence_machine }
     {

@@ -14,7 +14,7 @@ pub(super) fn without_ja(dictionaries: Dictionaries) -> Dictionaries
     kept
 }
 
-// The same, borrowed.
+// All but that of Chinese and Japanese, of dictionaries that are borrowed.
 pub(super) fn borrowed_without_ja(
     dictionaries: DictionariesBorrowed<'_>,
 ) -> DictionariesBorrowed<'_>

@@ -27,9 +27,9 @@ pub(crate) enum Tailoring {
 /// A machine that options choose.
 #[derive(Clone, Copy, Debug, PartialEq, Eq)]
 pub(crate) enum MachineChoice {
-    /// That of grapheme clusters.
+    /// The machine of grapheme clusters.
     Clusters,
-    /// That of lines, with a tailoring or as it is.
+    /// The machine of lines, with a tailoring or as it is.
     Lines(Option<Tailoring>),
 }
 

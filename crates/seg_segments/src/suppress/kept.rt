@@ -38,7 +38,7 @@ impl<'data, B: BreakIterator, I: Cursor> Model for Kept<'data, B, I> {
 }
 
 impl<'data, B: BreakIterator, I: Cursor> Kept<'data, B, I> {
-    /// Those of some boundaries, where the cursor stands at the text's start, by words of which nothing was read.
+    /// What is kept of some boundaries, where the cursor stands at the text's start, by words of which nothing was read.
     pub(super) fn new(breaks: B, words: DictionaryCursor<'data>, text: I) -> Self
         requires { AreAscending (offsets (B.left breaks)) }
         ensures { result ≡ left_of (words_after words.entry) false (I.text text) (B.left breaks) }
@@ -53,7 +53,7 @@ impl<'data, B: BreakIterator, I: Cursor> Kept<'data, B, I> {
         }
     }
 
-    /// The same boundaries once more, from the same one on.
+    /// What is left of the boundaries, once more.
     pub(super) fn fork(&self) -> Self
         ensures { result ≡ self.now }
     {
@@ -97,7 +97,7 @@ impl<'data, B: BreakIterator, I: Cursor> Model for HintedKept<'data, B, I> {
 }
 
 impl<'data, B: BreakIterator, I: Cursor> HintedKept<'data, B, I> {
-    /// Those of a whole text, which has so many units.
+    /// What is kept of the boundaries of a whole text, which has so many units.
     pub(super) fn new(kept: Kept<'data, B, I>, end: usize) -> Self
         requires { IsCover 0 end kept }
         ensures { result ≡ kept.entry }
@@ -112,7 +112,7 @@ impl<'data, B: BreakIterator, I: Cursor> HintedKept<'data, B, I> {
         }
     }
 
-    /// The same boundaries once more, from the same one on.
+    /// What is left of the boundaries, once more.
     pub(super) fn fork(&self) -> Self
         ensures { result ≡ self.now }
     {

@@ -42,7 +42,7 @@ impl<'data> SuppressingSegmenter<'data> {
             .suppressed_by(self.abbreviations)
     }
 
-    /// Those of possibly ill-formed UTF-8, in bytes, as `SentenceSegmenterBorrowed::segment_utf8` reads it. Takes no memory.
+    /// The boundaries that stay of possibly ill-formed UTF-8, in bytes, as `SentenceSegmenterBorrowed::segment_utf8` reads it. Takes no memory.
     pub fn segment_utf8<'s>(
         self,
         input: &'s [u8],
@@ -61,7 +61,7 @@ impl<'data> SuppressingSegmenter<'data> {
             .suppressed_by(self.abbreviations)
     }
 
-    /// Those of Latin-1, in bytes. Takes no memory.
+    /// The boundaries that stay of Latin-1, in bytes. Takes no memory.
     pub fn segment_latin1<'s>(
         self,
         input: &'s [u8],
@@ -76,7 +76,7 @@ impl<'data> SuppressingSegmenter<'data> {
             .suppressed_by(self.abbreviations)
     }
 
-    /// Those of possibly ill-formed UTF-16, in 16-bit units, as `SentenceSegmenterBorrowed::segment_utf16` reads it. Takes no memory.
+    /// The boundaries that stay of possibly ill-formed UTF-16, in 16-bit units, as `SentenceSegmenterBorrowed::segment_utf16` reads it. Takes no memory.
     pub fn segment_utf16<'s>(
         self,
         input: &'s [u16],

@@ -34,7 +34,7 @@ pub struct Starts<'data, I: Cursor> {
 }
 
 impl<'data, I: Cursor> Starts<'data, I> {
-    /// The same place of the same text.
+    /// This place of the text, once more.
     pub fn fork(&self) -> Self
         ensures { result ≡ self.now }
     {

@@ -26,7 +26,7 @@ pub(crate) trait Breaks: Drop {
     fn next_break(&mut self) -> Option<Break>
         ensures { ReadsBreak (left self.old) result (left self.new) };
 
-    /// The same breaks once more, from the same one on. Takes no memory and never fails.
+    /// What is left of the breaks, once more. Takes no memory and never fails.
     fn fork(&self) -> Self
         ensures { left result ≡ left self.now };
 }
@@ -42,7 +42,7 @@ fn next_line_break<'s, Y: RuleBreakType<'s>>(
     Some(Break { end, is_mandatory })
 }
 
-// The same lines once more.
+// What is left of the lines, once more.
 fn copy_of<'data, 's, Y: RuleBreakType<'s>>(
     lines: &LineBreakIterator<'data, 's, Y>,
 ) -> LineBreakIterator<'data, 's, Y>

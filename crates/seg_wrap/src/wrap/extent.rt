@@ -39,7 +39,7 @@ pub(crate) struct Extent {
 }
 
 impl Extent {
-    /// That of no cell.
+    /// The columns of no cell.
     pub(crate) fn none() -> Self
         ensures { result ≡ line_extent [] }
     {
@@ -50,7 +50,7 @@ impl Extent {
         }
     }
 
-    /// That of one cell.
+    /// The columns of one cell.
     pub(crate) fn of_cell(width: u128, is_trailing: bool) -> Self
         ensures { result ≡ line_extent (record { width = width; is_trailing = is_trailing } ∷ []) }
     {
@@ -61,7 +61,7 @@ impl Extent {
         }
     }
 
-    /// That of these cells and then the character's.
+    /// The columns of these cells and then the character's.
     fn followed_by(self, code_point: u32) -> Self
         requires room { self.inner_columns + 3 < 2 ^ 128 }
         ensures { result ≡ joined_extents self (line_extent (cell_of code_point ∷ [])) }
@@ -80,7 +80,7 @@ impl Extent {
         }
     }
 
-    /// That of these cells and then others.
+    /// The columns of these cells and then others.
     pub(crate) fn joined(self, after: Extent) -> Self
         requires room { self.inner_columns + after.inner_columns < 2 ^ 128 }
         requires within { after.columns ≤ after.inner_columns }
@@ -97,7 +97,7 @@ impl Extent {
         }
     }
 
-    /// That of the characters that are left of a text.
+    /// The columns of the characters that are left of a text.
     pub(crate) fn of_text<I: Cursor>(mut text: I) -> Self
         requires { (I.text text).end < 2 ^ 64 }
         ensures measured { result ≡ line_extent (by_characters (code_points (I.text text).items)) }

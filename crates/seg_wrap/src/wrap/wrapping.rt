@@ -95,7 +95,7 @@ impl<'data, I: Cursor, B: Breaks> Wrapping<'data, I, B> {
         }
     }
 
-    /// The same lines once more, from the same one on. Takes no memory.
+    /// What is left of the lines, once more. Takes no memory.
     pub(crate) fn fork(&self) -> Self
         ensures { result ≡ self.now }
     {
