@@ -5,10 +5,10 @@ use anyhow::Result;
 use icu_segmenter::options::{LineBreakOptions, SentenceBreakOptions, WordBreakOptions};
 use icu_segmenter::{GraphemeClusterSegmenter, LineSegmenter, SentenceSegmenter, WordSegmenter};
 use icu_segmenter_data::{
-    cluster_table, line_17_table, line_segmenter, line_table, sentence_table, word_segmenter,
-    word_table,
+    cluster_table, grapheme_segmenter, line_17_table, line_segmenter, line_table,
+    sentence_segmenter, sentence_table, word_segmenter, word_table,
 };
-use icu_segmenter_uax29 as uax29;
+use icu_segmenter_uax29::word_machine;
 use std::alloc::Global;
 
 /// What is found, and by which engine.
@@ -26,7 +26,7 @@ pub enum Engine {
     LineTurns,
     /// Grapheme clusters, by the machine that is proved to follow UAX #29.
     ProvedClusters,
-    /// Words, by the machine that is proved to follow UAX #29.
+    /// Words without types, by the machine that is proved to follow UAX #29.
     ProvedWords,
     /// Words with types, by the machine that is proved to follow UAX #29.
     TypedWords,
@@ -107,16 +107,10 @@ impl Engine {
             Engine::SentenceTable => sentence_table_segmenter(alloc),
             Engine::LineTable => line_table_segmenter(alloc),
             Engine::LineTurns => line_17_segmenter(alloc),
-            Engine::ProvedClusters => {
-                Ok(Segmenter::ProvedClusters(uax29::ClusterSegmenter::try_new(alloc)?))
-            }
-            Engine::ProvedWords => {
-                Ok(Segmenter::ProvedWords(uax29::WordSegmenter::try_new(alloc)?))
-            }
+            Engine::ProvedClusters => Ok(Segmenter::Clusters(grapheme_segmenter(alloc)?)),
+            Engine::ProvedWords => plain_word_segmenter(alloc),
             Engine::TypedWords => Ok(Segmenter::Words(word_segmenter(alloc)?)),
-            Engine::ProvedSentences => {
-                Ok(Segmenter::ProvedSentences(uax29::SentenceSegmenter::try_new(alloc)?))
-            }
+            Engine::ProvedSentences => Ok(Segmenter::Sentences(sentence_segmenter(alloc)?)),
             Engine::ProvedLines => {
                 let options = LineBreakOptions::default();
                 Ok(Segmenter::Lines(line_segmenter(alloc, options)?))
@@ -134,6 +128,14 @@ fn word_table_segmenter(alloc: Global) -> Result<Segmenter> {
     let (table, clusters) = (word_table(alloc)?, cluster_table(alloc)?);
     let options = WordBreakOptions::default();
     let segmenter = WordSegmenter::try_new_for_non_complex_scripts(table, None, clusters, options)?;
+    Ok(Segmenter::Words(segmenter))
+}
+
+// Words by the machine that gives them no types.
+fn plain_word_segmenter(alloc: Global) -> Result<Segmenter> {
+    let (machine, clusters) = (word_machine(alloc)?, cluster_table(alloc)?);
+    let options = WordBreakOptions::default();
+    let segmenter = WordSegmenter::try_new_neo_for_non_complex_scripts(machine, clusters, options)?;
     Ok(Segmenter::Words(segmenter))
 }
 

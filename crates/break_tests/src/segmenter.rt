@@ -8,7 +8,6 @@ use icu_segmenter::{
     GraphemeClusterSegmenter, LineSegmenter, LineSegmenterBorrowed, SentenceSegmenter,
     WordSegmenter,
 };
-use icu_segmenter_uax29 as uax29;
 use std::alloc::{AllocError, Global};
 
 /// A segmenter with data of its own.
@@ -23,12 +22,6 @@ pub enum Segmenter {
     Lines(LineSegmenter),
     /// Of lines by a pair table, which doesn't.
     LinesByTable(LineSegmenter),
-    /// Of grapheme clusters, proved to be those of UAX #29.
-    ProvedClusters(uax29::ClusterSegmenter),
-    /// Of words, proved to be those of UAX #29.
-    ProvedWords(uax29::WordSegmenter),
-    /// Of sentences, proved to be those of UAX #29.
-    ProvedSentences(uax29::SentenceSegmenter),
 }
 
 // Written out, so that it is proved here and not in each function that drops one.
@@ -40,9 +33,6 @@ impl Drop for Segmenter {
             Segmenter::Sentences(_) => {}
             Segmenter::Lines(_) => {}
             Segmenter::LinesByTable(_) => {}
-            Segmenter::ProvedClusters(_) => {}
-            Segmenter::ProvedWords(_) => {}
-            Segmenter::ProvedSentences(_) => {}
         }
     }
 }
@@ -50,11 +40,11 @@ impl Drop for Segmenter {
 impl Segmenter {
     ghost use Rattle.std.specs.Option.{option_map};
     ghost use Rattle.icu_segmenter.specs.Decoding.{utf8, utf16};
-    ghost use Rattle.break_tests.specs.Segmenter.{places_by, str_places_by, mandatory_places_by};
+    ghost use Rattle.break_tests.specs.Segmenter.{places_by, mandatory_places_by};
 
     /// The boundaries of a text, in bytes. Fails only when out of memory.
     pub fn places_in_str(&self, alloc: Global, text: &str) -> Result<Vec<usize>, AllocError>
-        ensures { IfOk result (λ found. found.items ≡ str_places_by self.now text.now) }
+        ensures { IfOk result (λ found. found.items ≡ places_by self.now (utf8 text.now)) }
     {
         match self {
             Segmenter::Clusters(clusters) => {
@@ -68,9 +58,6 @@ impl Segmenter {
             Segmenter::LinesByTable(lines) => {
                 lines.as_borrowed().segment_str(text).collect(alloc)
             }
-            Segmenter::ProvedClusters(clusters) => clusters.segment_str(text).collect(alloc),
-            Segmenter::ProvedWords(words) => words.segment_str(text).collect(alloc),
-            Segmenter::ProvedSentences(sentences) => sentences.segment_str(text).collect(alloc),
         }
     }
 
@@ -90,9 +77,6 @@ impl Segmenter {
             Segmenter::LinesByTable(lines) => {
                 lines.as_borrowed().segment_utf8(text).collect(alloc)
             }
-            Segmenter::ProvedClusters(clusters) => clusters.segment_utf8(text).collect(alloc),
-            Segmenter::ProvedWords(words) => words.segment_utf8(text).collect(alloc),
-            Segmenter::ProvedSentences(sentences) => sentences.segment_utf8(text).collect(alloc),
         }
     }
 
@@ -112,9 +96,6 @@ impl Segmenter {
             Segmenter::LinesByTable(lines) => {
                 lines.as_borrowed().segment_utf16(text).collect(alloc)
             }
-            Segmenter::ProvedClusters(clusters) => clusters.segment_utf16(text).collect(alloc),
-            Segmenter::ProvedWords(words) => words.segment_utf16(text).collect(alloc),
-            Segmenter::ProvedSentences(sentences) => sentences.segment_utf16(text).collect(alloc),
         }
     }
 

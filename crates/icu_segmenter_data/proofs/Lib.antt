@@ -1,5 +1,6 @@
 mod ChosenLines
 mod TypedWords
+mod Found
 mod TableTests
 mod Tables
 mod Refusals

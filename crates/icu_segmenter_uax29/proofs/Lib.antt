@@ -10,7 +10,7 @@ mod Boundaries
 mod Waits
 mod Texts
 mod Parts
-mod Segments
+pub mod Segments
 pub mod Faultless
 pub mod MachineTests
 pub mod Scripts

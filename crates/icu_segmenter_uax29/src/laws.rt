@@ -1,4 +1,4 @@
-//! Laws of the machines' boundaries, of every list of code points. So they hold of texts in every encoding, in code points.
+//! Laws of the machines' boundaries, of every list of code points, and so of texts in every encoding.
 ghost use Rattle.std.specs.Prelude.{◌≡◌, ◌⊎◌, ◌↔◌, ℕ, true, List, [], ◌∷◌, ◌++◌, reverse};
 ghost use Rattle.ucd_breaks.specs.GraphemeClusterBreak.{grapheme_cluster_break};
 ghost use Rattle.ucd_breaks.specs.declared.GraphemeClusterBreak.TheVariants.{Cr, Extend, L, Lf, Lv, Lvt, Prepend, RegionalIndicator, SpacingMark, T, V, Zwj};
@@ -16,19 +16,18 @@ ghost use Rattle.seg_machine.specs.Machine.{symbol_and_script, symbols_of};
 ghost use Rattle.seg_machine.specs.Pick.{machine_boundaries};
 ghost use Rattle.seg_rules.specs.Plain.{plain_places};
 ghost use Rattle.icu_segmenter_uax29.specs.ClusterRules.{cluster_rules};
-ghost use Rattle.icu_segmenter_uax29.specs.Clusters.{cluster_machine, clusters};
+ghost use Rattle.icu_segmenter_uax29.specs.Clusters.{FindsClusters, cluster_machine};
 ghost use Rattle.icu_segmenter_uax29.specs.Following.{FollowsRules};
 ghost use Rattle.icu_segmenter_uax29.specs.Neighbours.{IsBoundary, IsJoined, IsSentenceBoundary, IsSentenceJoined, IsWordBoundary, WordsHoldTogether, WordsStayTogether, all_but_line_ends, StayTogether, all_but_controls, EndsInWholeFlags, AllExtend, AllInConjunct};
-ghost use Rattle.icu_segmenter_uax29.specs.Pieces.{piece_bounds};
 ghost use Rattle.icu_segmenter_uax29.specs.Properties.{HasProperties};
 ghost use Rattle.icu_segmenter_uax29.specs.SentenceRules.{sentence_rules};
 ghost use Rattle.icu_segmenter_uax29.specs.SentenceValues.{HasSentenceBreak};
-ghost use Rattle.icu_segmenter_uax29.specs.Sentences.{sentence_machine, sentences};
+ghost use Rattle.icu_segmenter_uax29.specs.Sentences.{FindsSentences, sentence_machine};
 ghost use Rattle.icu_segmenter_uax29.specs.TypedWords.{typed_word_machine};
 ghost use Rattle.icu_segmenter_uax29.specs.WordRules.{word_rules};
 ghost use Rattle.icu_segmenter_uax29.specs.WordTypes.{HasTypedWordBreak, character, typed_ends, word_script, word_type};
 ghost use Rattle.icu_segmenter_uax29.specs.WordValues.{HasWordBreak};
-ghost use Rattle.icu_segmenter_uax29.specs.Words.{word_machine, words};
+ghost use Rattle.icu_segmenter_uax29.specs.Words.{FindsWords, word_machine, words};
 
 use seg_rules::laws::boundaries_are_places;
 
@@ -40,7 +39,7 @@ pub fn symbols_are_properties()
 /// Law: the boundaries of the machine are the start and the ends of the extended grapheme clusters of UAX #29, and no others:
 /// one stands between two parts of a text just where the rules GB1 to GB999 have one.
 pub fn clusters_are_uax29()
-    ensures clusters { (code_points : List ℕ) → offsets (machine_boundaries cluster_machine code_points) ≡ piece_bounds (clusters code_points) }
+    ensures clusters { FindsClusters (machine_boundaries cluster_machine) }
     ensures places { (before after : List ℕ) → IsBoundary before after ↔ (is_grapheme_break true (reverse before) after ≡ true) }
 {}
 
@@ -100,7 +99,7 @@ pub fn sentence_symbols_are_values()
 /// Law: the boundaries of the machine of sentences are the start and the ends of the sentences of UAX #29, and no others: one
 /// stands between two parts of a text just where the rules SB1 to SB998 have one.
 pub fn sentences_are_uax29()
-    ensures sentences { (code_points : List ℕ) → offsets (machine_boundaries sentence_machine code_points) ≡ piece_bounds (sentences code_points) }
+    ensures sentences { FindsSentences (machine_boundaries sentence_machine) }
     ensures places { (before after : List ℕ) → IsSentenceBoundary before after ↔ (is_sentence_break (reverse before) after ≡ true) }
 {}
 
@@ -120,7 +119,7 @@ pub fn word_symbols_are_properties()
 /// Law: the boundaries of the machine of words are the start and the ends of the words of UAX #29, and no others: one stands
 /// between two parts of a text just where the rules WB1 to WB999 have one.
 pub fn words_are_uax29()
-    ensures words { (code_points : List ℕ) → offsets (machine_boundaries word_machine code_points) ≡ piece_bounds (words code_points) }
+    ensures words { FindsWords (machine_boundaries word_machine) }
     ensures places { (before after : List ℕ) → IsWordBoundary before after ↔ (is_word_break (reverse before) after ≡ true) }
 {}
 
@@ -148,7 +147,7 @@ pub fn typed_symbols_have_scripts()
 /// of UAX #29, and the places of the rows of specs/WordRules.antt, and no others.
 pub fn typed_words_are_words()
     ensures same { (code_points : List ℕ) → offsets (machine_boundaries typed_word_machine code_points) ≡ offsets (machine_boundaries word_machine code_points) }
-    ensures words { (code_points : List ℕ) → offsets (machine_boundaries typed_word_machine code_points) ≡ piece_bounds (words code_points) }
+    ensures words { FindsWords (machine_boundaries typed_word_machine) }
     ensures rows { (code_points : List ℕ) → offsets (machine_boundaries typed_word_machine code_points)
         ≡ offsets (start ∷ plain_places word_rules 0 [] (symbols_of word_machine code_points)) }
 {

@@ -13,7 +13,6 @@
 pub mod laws;
 mod machine;
 mod ranges;
-mod segmenter;
 pub mod sentences;
 mod states;
 mod symbols;
@@ -21,6 +20,5 @@ mod transitions;
 pub mod words;
 
 pub use machine::cluster_machine;
-pub use segmenter::ClusterSegmenter;
-pub use sentences::{SentenceSegmenter, sentence_machine};
-pub use words::{WordSegmenter, typed_word_machine, word_machine};
+pub use sentences::sentence_machine;
+pub use words::{typed_word_machine, word_machine};
