@@ -3,6 +3,13 @@ use Rattle.std.specs.Prelude.{ℕ, Option, List, codes, ◌∷◌, [], ◌++◌,
 use Rattle.std.specs.Io.KnownBytes.{Appends}
 use Rattle.textcut.specs.declared.failure.Failure.{Failure}
 use Rattle.textcut.specs.declared.failure.Failure.TheVariants.{Usage, ReadFailed, NotUtf8, WriteFailed, NoMemory}
+use Rattle.textcut.specs.declared.failure.PrintFailure.{PrintFailure}
+use Rattle.textcut.specs.declared.failure.PrintFailure.TheVariants as printing
+
+-- what failed to be printed, as a failure of the run
+abbrev pub failure_of : PrintFailure → Failure
+failure_of printing.WriteFailed = WriteFailed
+failure_of printing.NoMemory = NoMemory
 
 abbrev pub status_of : Failure → ℕ
 status_of Usage = 2

@@ -1,12 +1,11 @@
 //! What ends a run early, and what is said of it.
 ghost use Rattle.std.specs.Prelude.{◌≡◌};
-ghost use Rattle.textcut.specs.Failure.{status_of, message_of, AppendsBeginning};
-ghost use Rattle.textcut.specs.declared.failure.Failure.TheVariants.{NoMemory};
+ghost use Rattle.textcut.specs.Failure.{failure_of, status_of, message_of, AppendsBeginning};
 
 use std::alloc::AllocError;
 use std::io::{ErrorKind, Write};
 
-/// Why nothing, or not all, was printed.
+/// Why a run ended early.
 #[derive(Clone, Copy)]
 pub enum Failure {
     /// The words are no request's.
@@ -22,10 +21,38 @@ pub enum Failure {
 }
 
 impl From<AllocError> for Failure {
-    ghost from_gives = { λ _ failure. failure ≡ NoMemory };
+    ghost from_gives = { λ _ failure. failure ≡ Failure.NoMemory };
 
     fn from(_error: AllocError) -> Failure {
         Failure::NoMemory
+    }
+}
+
+/// Why nothing, or not all, was printed of a text that was read.
+#[derive(Clone, Copy)]
+pub enum PrintFailure {
+    /// The output took not all.
+    WriteFailed,
+    /// Memory ran out.
+    NoMemory,
+}
+
+impl From<AllocError> for PrintFailure {
+    ghost from_gives = { λ _ failure. failure ≡ PrintFailure.NoMemory };
+
+    fn from(_error: AllocError) -> PrintFailure {
+        PrintFailure::NoMemory
+    }
+}
+
+impl From<PrintFailure> for Failure {
+    ghost from_gives = { λ given failure. failure ≡ failure_of given };
+
+    fn from(failure: PrintFailure) -> Failure {
+        match failure {
+            PrintFailure::WriteFailed => Failure::WriteFailed,
+            PrintFailure::NoMemory => Failure::NoMemory,
+        }
     }
 }
 

@@ -25,7 +25,7 @@ ghost use Rattle.textcut.specs.declared.request.Request.{Request as AnyRequest};
 mod tests;
 
 use crate::command::Command;
-use crate::failure::Failure;
+use crate::failure::{Failure, PrintFailure};
 use crate::lines::print_lines;
 use crate::request::{Request, request_of};
 use crate::wrapped::print_wrapped;
@@ -131,7 +131,7 @@ fn print_answer<O: Write>(
     ensures cause { result ≢ Err Failure.Usage × result ≢ Err Failure.ReadFailed }
 {
     match request {
-        Request::Boundaries(command) => print_boundaries(alloc, command, text, out),
+        Request::Boundaries(command) => Ok(print_boundaries(alloc, command, text, out)?),
         Request::Wrapped(columns) => print_wrapped_text(alloc, columns, text, out),
     }
 }
@@ -141,11 +141,10 @@ fn print_boundaries<O: Write>(
     command: Command,
     text: &[u8],
     out: &mut O,
-) -> Result<(), Failure>
+) -> Result<(), PrintFailure>
     ensures printed { OnOk result
         (Appends (O.contents out.old) (O.contents out.new) (lines_of (places_of command text.now))) }
-    ensures unwritten { IsErrOf result Failure.NoMemory → out.new ≡ out.old }
-    ensures cause { result ≢ Err Failure.Usage × result ≢ Err Failure.ReadFailed × result ≢ Err Failure.NotUtf8 }
+    ensures unwritten { IsErrOf result PrintFailure.NoMemory → out.new ≡ out.old }
 {
     match command {
         Command::GraphemeClassic => print_clusters_by_table(alloc, text, out),
@@ -160,11 +159,14 @@ fn print_boundaries<O: Write>(
     }
 }
 
-fn print_clusters_by_table<O: Write>(alloc: Global, text: &[u8], out: &mut O) -> Result<(), Failure>
+fn print_clusters_by_table<O: Write>(
+    alloc: Global,
+    text: &[u8],
+    out: &mut O,
+) -> Result<(), PrintFailure>
     ensures printed { OnOk result
         (Appends (O.contents out.old) (O.contents out.new) (lines_of (places_of Command.GraphemeClassic text.now))) }
-    ensures unwritten { IsErrOf result Failure.NoMemory → out.new ≡ out.old }
-    ensures cause { result ≢ Err Failure.Usage × result ≢ Err Failure.ReadFailed × result ≢ Err Failure.NotUtf8 }
+    ensures unwritten { IsErrOf result PrintFailure.NoMemory → out.new ≡ out.old }
 {
     let table = cluster_table(alloc)?;
     let Ok(segmenter) = GraphemeClusterSegmenterBorrowed::new(&table) else {
@@ -177,11 +179,10 @@ fn print_clusters_by_machine<O: Write>(
     alloc: Global,
     text: &[u8],
     out: &mut O,
-) -> Result<(), Failure>
+) -> Result<(), PrintFailure>
     ensures printed { OnOk result
         (Appends (O.contents out.old) (O.contents out.new) (lines_of (places_of Command.GraphemeNeo text.now))) }
-    ensures unwritten { IsErrOf result Failure.NoMemory → out.new ≡ out.old }
-    ensures cause { result ≢ Err Failure.Usage × result ≢ Err Failure.ReadFailed × result ≢ Err Failure.NotUtf8 }
+    ensures unwritten { IsErrOf result PrintFailure.NoMemory → out.new ≡ out.old }
 {
     let machine = cluster_machine(alloc)?;
     let Ok(segmenter) = GraphemeClusterSegmenterBorrowed::new_neo(&machine) else {
@@ -194,11 +195,10 @@ fn print_sentences_by_table<O: Write>(
     alloc: Global,
     text: &[u8],
     out: &mut O,
-) -> Result<(), Failure>
+) -> Result<(), PrintFailure>
     ensures printed { OnOk result
         (Appends (O.contents out.old) (O.contents out.new) (lines_of (places_of Command.SentenceClassic text.now))) }
-    ensures unwritten { IsErrOf result Failure.NoMemory → out.new ≡ out.old }
-    ensures cause { result ≢ Err Failure.Usage × result ≢ Err Failure.ReadFailed × result ≢ Err Failure.NotUtf8 }
+    ensures unwritten { IsErrOf result PrintFailure.NoMemory → out.new ≡ out.old }
 {
     let table = sentence_table(alloc)?;
     let options = SentenceBreakInvariantOptions::default();
@@ -212,11 +212,10 @@ fn print_sentences_by_machine<O: Write>(
     alloc: Global,
     text: &[u8],
     out: &mut O,
-) -> Result<(), Failure>
+) -> Result<(), PrintFailure>
     ensures printed { OnOk result
         (Appends (O.contents out.old) (O.contents out.new) (lines_of (places_of Command.SentenceNeo text.now))) }
-    ensures unwritten { IsErrOf result Failure.NoMemory → out.new ≡ out.old }
-    ensures cause { result ≢ Err Failure.Usage × result ≢ Err Failure.ReadFailed × result ≢ Err Failure.NotUtf8 }
+    ensures unwritten { IsErrOf result PrintFailure.NoMemory → out.new ≡ out.old }
 {
     let machine = sentence_machine(alloc)?;
     let options = SentenceBreakInvariantOptions::default();
@@ -226,11 +225,14 @@ fn print_sentences_by_machine<O: Write>(
     print_sentences(segmenter, text, out)
 }
 
-fn print_words_by_table<O: Write>(alloc: Global, text: &[u8], out: &mut O) -> Result<(), Failure>
+fn print_words_by_table<O: Write>(
+    alloc: Global,
+    text: &[u8],
+    out: &mut O,
+) -> Result<(), PrintFailure>
     ensures printed { OnOk result
         (Appends (O.contents out.old) (O.contents out.new) (lines_of (places_of Command.WordClassic text.now))) }
-    ensures unwritten { IsErrOf result Failure.NoMemory → out.new ≡ out.old }
-    ensures cause { result ≢ Err Failure.Usage × result ≢ Err Failure.ReadFailed × result ≢ Err Failure.NotUtf8 }
+    ensures unwritten { IsErrOf result PrintFailure.NoMemory → out.new ≡ out.old }
 {
     let table = word_table(alloc)?;
     let clusters = cluster_table(alloc)?;
@@ -245,11 +247,14 @@ fn print_words_by_table<O: Write>(alloc: Global, text: &[u8], out: &mut O) -> Re
     print_words(segmenter, text, out)
 }
 
-fn print_words_by_machine<O: Write>(alloc: Global, text: &[u8], out: &mut O) -> Result<(), Failure>
+fn print_words_by_machine<O: Write>(
+    alloc: Global,
+    text: &[u8],
+    out: &mut O,
+) -> Result<(), PrintFailure>
     ensures printed { OnOk result
         (Appends (O.contents out.old) (O.contents out.new) (lines_of (places_of Command.WordNeo text.now))) }
-    ensures unwritten { IsErrOf result Failure.NoMemory → out.new ≡ out.old }
-    ensures cause { result ≢ Err Failure.Usage × result ≢ Err Failure.ReadFailed × result ≢ Err Failure.NotUtf8 }
+    ensures unwritten { IsErrOf result PrintFailure.NoMemory → out.new ≡ out.old }
 {
     let machine = word_machine(alloc)?;
     let clusters = cluster_table(alloc)?;
@@ -268,11 +273,10 @@ fn print_line_breaks_by_table<O: Write>(
     alloc: Global,
     text: &[u8],
     out: &mut O,
-) -> Result<(), Failure>
+) -> Result<(), PrintFailure>
     ensures printed { OnOk result
         (Appends (O.contents out.old) (O.contents out.new) (lines_of (places_of Command.LineClassic text.now))) }
-    ensures unwritten { IsErrOf result Failure.NoMemory → out.new ≡ out.old }
-    ensures cause { result ≢ Err Failure.Usage × result ≢ Err Failure.ReadFailed × result ≢ Err Failure.NotUtf8 }
+    ensures unwritten { IsErrOf result PrintFailure.NoMemory → out.new ≡ out.old }
 {
     let table = line_table(alloc)?;
     let clusters = cluster_table(alloc)?;
@@ -289,11 +293,10 @@ fn print_line_breaks_by_turns<O: Write>(
     alloc: Global,
     text: &[u8],
     out: &mut O,
-) -> Result<(), Failure>
+) -> Result<(), PrintFailure>
     ensures printed { OnOk result
         (Appends (O.contents out.old) (O.contents out.new) (lines_of (places_of Command.Line17 text.now))) }
-    ensures unwritten { IsErrOf result Failure.NoMemory → out.new ≡ out.old }
-    ensures cause { result ≢ Err Failure.Usage × result ≢ Err Failure.ReadFailed × result ≢ Err Failure.NotUtf8 }
+    ensures unwritten { IsErrOf result PrintFailure.NoMemory → out.new ≡ out.old }
 {
     let table = turn_table(alloc)?;
     let clusters = cluster_table(alloc)?;
@@ -312,11 +315,10 @@ fn print_line_breaks_by_machine<O: Write>(
     alloc: Global,
     text: &[u8],
     out: &mut O,
-) -> Result<(), Failure>
+) -> Result<(), PrintFailure>
     ensures printed { OnOk result
         (Appends (O.contents out.old) (O.contents out.new) (lines_of (places_of Command.LineNeo text.now))) }
-    ensures unwritten { IsErrOf result Failure.NoMemory → out.new ≡ out.old }
-    ensures cause { result ≢ Err Failure.Usage × result ≢ Err Failure.ReadFailed × result ≢ Err Failure.NotUtf8 }
+    ensures unwritten { IsErrOf result PrintFailure.NoMemory → out.new ≡ out.old }
 {
     let lines = lines_by_machine(alloc)?;
     print_line_breaks(lines.as_borrowed(), text, out)
@@ -336,7 +338,8 @@ fn print_wrapped_text<O: Write>(
     ensures cause { result ≢ Err Failure.Usage × result ≢ Err Failure.ReadFailed }
 {
     let text = str::from_utf8(text).map_err(|_| Failure::NotUtf8)?;
-    print_wrapped_str(alloc, columns, text, out)
+    print_wrapped_str(alloc, columns, text, out)?;
+    Ok(())
 }
 
 fn print_wrapped_str<O: Write>(
@@ -344,11 +347,10 @@ fn print_wrapped_str<O: Write>(
     columns: usize,
     text: &str,
     out: &mut O,
-) -> Result<(), Failure>
+) -> Result<(), PrintFailure>
     ensures printed { OnOk result
         (Appends (O.contents out.old) (O.contents out.new) (output_of (Request.Wrapped columns) text.now)) }
-    ensures unwritten { IsErrOf result Failure.NoMemory → out.new ≡ out.old }
-    ensures cause { result ≢ Err Failure.Usage × result ≢ Err Failure.ReadFailed × result ≢ Err Failure.NotUtf8 }
+    ensures unwritten { IsErrOf result PrintFailure.NoMemory → out.new ≡ out.old }
 {
     let lines = lines_by_machine(alloc)?;
     let Ok(wrapper) = LineWrapper::new(lines.as_borrowed()) else {
@@ -357,12 +359,15 @@ fn print_wrapped_str<O: Write>(
     print_wrapped_lines(wrapper.wrap_str(text, columns), out)
 }
 
-fn print_wrapped_lines<O: Write>(lines: WrapIterator<'_, '_>, out: &mut O) -> Result<(), Failure>
+fn print_wrapped_lines<O: Write>(
+    lines: WrapIterator<'_, '_>,
+    out: &mut O,
+) -> Result<(), PrintFailure>
     ensures printed { OnOk result
         (Appends (O.contents out.old) (O.contents out.new) (printed_lines (lines_to_come lines.entry))) }
-    ensures cause { IfErr result (λ failure. failure ≡ Failure.WriteFailed) }
+    ensures cause { IfErr result (λ failure. failure ≡ PrintFailure.WriteFailed) }
 {
-    print_wrapped(lines, out).map_err(|_| Failure::WriteFailed)
+    print_wrapped(lines, out).map_err(|_| PrintFailure::WriteFailed)
 }
 
 // The sample lines by machine, with the sample dictionaries.
@@ -389,10 +394,10 @@ fn print_clusters<O: Write>(
     clusters: GraphemeClusterSegmenterBorrowed<'_>,
     text: &[u8],
     out: &mut O,
-) -> Result<(), Failure>
+) -> Result<(), PrintFailure>
     ensures printed { OnOk result (Appends (O.contents out.old) (O.contents out.new)
         (lines_of (offsets (boundaries_of (cluster_rules clusters.entry) (utf8 text.now))))) }
-    ensures cause { IfErr result (λ failure. failure ≡ Failure.WriteFailed) }
+    ensures cause { IfErr result (λ failure. failure ≡ PrintFailure.WriteFailed) }
 {
     print_numbers(clusters.segment_utf8(text), out)
 }
@@ -401,10 +406,10 @@ fn print_sentences<O: Write>(
     sentences: SentenceSegmenterBorrowed<'_>,
     text: &[u8],
     out: &mut O,
-) -> Result<(), Failure>
+) -> Result<(), PrintFailure>
     ensures printed { OnOk result (Appends (O.contents out.old) (O.contents out.new)
         (lines_of (offsets (boundaries_of (sentence_rules sentences.entry) (utf8 text.now))))) }
-    ensures cause { IfErr result (λ failure. failure ≡ Failure.WriteFailed) }
+    ensures cause { IfErr result (λ failure. failure ≡ PrintFailure.WriteFailed) }
 {
     print_numbers(sentences.segment_utf8(text), out)
 }
@@ -413,10 +418,10 @@ fn print_words<O: Write>(
     words: WordSegmenterBorrowed<'_>,
     text: &[u8],
     out: &mut O,
-) -> Result<(), Failure>
+) -> Result<(), PrintFailure>
     ensures printed { OnOk result (Appends (O.contents out.old) (O.contents out.new)
         (lines_of (offsets (word_boundaries_of (word_rules words.entry) (utf8 text.now))))) }
-    ensures cause { IfErr result (λ failure. failure ≡ Failure.WriteFailed) }
+    ensures cause { IfErr result (λ failure. failure ≡ PrintFailure.WriteFailed) }
 {
     print_numbers(words.segment_utf8(text), out)
 }
@@ -425,10 +430,10 @@ fn print_line_breaks<O: Write>(
     lines: LineSegmenterBorrowed<'_>,
     text: &[u8],
     out: &mut O,
-) -> Result<(), Failure>
+) -> Result<(), PrintFailure>
     ensures printed { OnOk result (Appends (O.contents out.old) (O.contents out.new)
         (lines_of (offsets (line_boundaries_of (line_rules lines.entry) (utf8 text.now))))) }
-    ensures cause { IfErr result (λ failure. failure ≡ Failure.WriteFailed) }
+    ensures cause { IfErr result (λ failure. failure ≡ PrintFailure.WriteFailed) }
 {
     print_numbers(lines.segment_utf8(text), out)
 }
@@ -436,12 +441,12 @@ fn print_line_breaks<O: Write>(
 fn print_numbers<N: Iterator<Item = usize> + Drop, O: Write>(
     numbers: N,
     out: &mut O,
-) -> Result<(), Failure>
+) -> Result<(), PrintFailure>
     requires can { N.can_next numbers }
     requires ends { IsFinite (N.remaining numbers) }
     ensures printed { OnOk result ((given : List ℕ) × Drains N.next_gives numbers given
         × Appends (O.contents out.old) (O.contents out.new) (lines_of given)) }
-    ensures cause { IfErr result (λ failure. failure ≡ Failure.WriteFailed) }
+    ensures cause { IfErr result (λ failure. failure ≡ PrintFailure.WriteFailed) }
 {
-    print_lines(numbers, out).map_err(|_| Failure::WriteFailed)
+    print_lines(numbers, out).map_err(|_| PrintFailure::WriteFailed)
 }
