@@ -1,5 +1,5 @@
 /* What a caller may get wrong or overdo, and what must come of it: numbers that there are none of, rules that are wrong, slots that are empty, opened twice or
- * moved, starts inside a character and past the end, buffers without room, empty and ill-formed texts, and, with the word `large`, a text
+ * moved, starts inside a character and past the end, buffers without room, empty and ill-formed texts, all bytes of Latin-1, and, with the word `large`, a text
  * of 2^33 bytes. Under valgrind it must leave nothing behind. */
 #define _DEFAULT_SOURCE
 #include "check.h"
@@ -28,8 +28,10 @@ static void check_empty(yengatomu_slot *slot) {
     CHECK(!slot->full);
     CHECK(yengatomu_boundaries(slot, text, 3, 0, places, 4) == 0);
     CHECK(yengatomu_boundaries_utf16(slot, units, 3, 0, places, 4) == 0);
+    CHECK(yengatomu_boundaries_latin1(slot, text, 3, 0, places, 4) == 0);
     CHECK(yengatomu_marked_boundaries(slot, text, 3, 0, places, 4, marks, 4) == 0);
     CHECK(yengatomu_marked_boundaries_utf16(slot, units, 3, 0, places, 4, marks, 4) == 0);
+    CHECK(yengatomu_marked_boundaries_latin1(slot, text, 3, 0, places, 4, marks, 4) == 0);
     CHECK(yengatomu_wrap(slot, text, 3, 0, 1, places, 4) == 0);
     CHECK(yengatomu_wrap_columns(slot, text, 3, 0, 1, places, 4, widths, 4) == 0);
     CHECK(yengatomu_wrap_utf16(slot, units, 3, 0, 1, places, 4) == 0);
@@ -134,22 +136,32 @@ static void check_rests(yengatomu_slot *slot, const char *given) {
     }
 }
 
-/* No more is written than there is room for. */
-static void check_room(yengatomu_slot *slot, const char *text) {
-    size_t len = strlen(text), all[ROOM], some[ROOM], widths[ROOM], count = yengatomu_boundaries(slot, bytes_of(text), len, 0, all, ROOM);
+/* Calls that write the boundaries of bytes, in UTF-8 or Latin-1. */
+typedef size_t boundaries_of(const yengatomu_slot *slot, const uint8_t *text, size_t len, size_t from, size_t *out, size_t room);
+typedef size_t marked_of(const yengatomu_slot *slot, const uint8_t *text, size_t len, size_t from, size_t *out, size_t room, uint8_t *marks, size_t marks_room);
+
+static void check_room_of(yengatomu_slot *slot, const char *text, boundaries_of *boundaries, marked_of *marked) {
+    size_t len = strlen(text), all[ROOM], some[ROOM], count = boundaries(slot, bytes_of(text), len, 0, all, ROOM);
     uint8_t marks[ROOM];
     for (size_t room = 0; room <= count; room++) {
         memset(some, 0xA5, sizeof some);
-        CHECK(yengatomu_boundaries(slot, bytes_of(text), len, 0, some, room) == room);
+        CHECK(boundaries(slot, bytes_of(text), len, 0, some, room) == room);
         CHECK(!memcmp(some, all, room * sizeof *all) && some[room] == SIZE_MAX / 0xFF * 0xA5);
         for (size_t marks_room = 0; marks_room <= count; marks_room++) {
             size_t least = room < marks_room ? room : marks_room;
             memset(some, 0xA5, sizeof some);
             memset(marks, 0xA5, sizeof marks);
-            CHECK(yengatomu_marked_boundaries(slot, bytes_of(text), len, 0, some, room, marks, marks_room) == least);
+            CHECK(marked(slot, bytes_of(text), len, 0, some, room, marks, marks_room) == least);
             CHECK(!memcmp(some, all, least * sizeof *all) && some[least] == SIZE_MAX / 0xFF * 0xA5 && marks[least] == 0xA5);
         }
     }
+}
+
+/* No more is written than there is room for. */
+static void check_room(yengatomu_slot *slot, const char *text) {
+    size_t len = strlen(text), all[ROOM], some[ROOM], widths[ROOM], count;
+    check_room_of(slot, text, yengatomu_boundaries, yengatomu_marked_boundaries);
+    check_room_of(slot, text, yengatomu_boundaries_latin1, yengatomu_marked_boundaries_latin1);
     CHECK(yengatomu_wrap(slot, bytes_of(text), len, 0, 3, some, 0) == 0);
     CHECK(yengatomu_wrap_columns(slot, bytes_of(text), len, 0, 3, some, ROOM, widths, 0) == 0);
     count = yengatomu_wrap_columns(slot, bytes_of(text), len, 0, 3, all, ROOM, widths, ROOM);
@@ -169,8 +181,10 @@ static void check_empty_text(yengatomu_slot *slot) {
     uint8_t marks[1];
     CHECK(yengatomu_boundaries(slot, text, 0, 0, places, 1) == 0);
     CHECK(yengatomu_boundaries_utf16(slot, units, 0, 0, places, 1) == 0);
+    CHECK(yengatomu_boundaries_latin1(slot, text, 0, 0, places, 1) == 0);
     CHECK(yengatomu_marked_boundaries(slot, text, 0, 0, places, 1, marks, 1) == 0);
     CHECK(yengatomu_marked_boundaries_utf16(slot, units, 0, 0, places, 1, marks, 1) == 0);
+    CHECK(yengatomu_marked_boundaries_latin1(slot, text, 0, 0, places, 1, marks, 1) == 0);
     CHECK(yengatomu_wrap(slot, text, 0, 0, 80, places, 1) == 0);
     CHECK(yengatomu_wrap_columns(slot, text, 0, 0, 80, places, 1, widths, 1) == 0);
     CHECK(yengatomu_wrap_utf16(slot, units, 0, 0, 80, places, 1) == 0);
@@ -252,13 +266,15 @@ static void try_dictionaries(void) {
     }
 }
 
-/* Whether a text's segments end there by a slot, in both encodings; 0 stands behind the last. */
+/* Whether a text's segments end there by a slot, in each encoding; 0 stands behind the last. The text is ASCII. */
 static void check_ends(yengatomu_slot *slot, const char *text, const size_t *wanted) {
     size_t found[ROOM] = {0}, len = strlen(text), count = yengatomu_boundaries(slot, bytes_of(text), len, 0, found, ROOM), at = 0;
     uint16_t units[ROOM];
     for (size_t i = 0; i < len; i++) units[i] = (uint8_t)text[i];
     for (; wanted[at]; at++) CHECK(found[at] == wanted[at]);
     CHECK(count == at && yengatomu_count(slot, bytes_of(text), len) == at);
+    CHECK(yengatomu_boundaries_latin1(slot, bytes_of(text), len, 0, found, ROOM) == at);
+    for (size_t i = 0; i < at; i++) CHECK(found[i] == wanted[i]);
     CHECK(yengatomu_boundaries_utf16(slot, units, len, 0, found, ROOM) == at && yengatomu_count_utf16(slot, units, len) == at);
     for (size_t i = 0; i < at; i++) {
         const size_t before = i ? wanted[i - 1] : 0;
@@ -305,6 +321,51 @@ static void try_abbreviations(void) {
     yengatomu_close(&slot);
 }
 
+/* In Latin-1 each byte is a code point: from each place on and past the end its calls say what those of UTF-16 say of the same code points. */
+static void check_latin1(const yengatomu_slot *slot, const uint8_t *given, size_t len) {
+    size_t found[ROOM], wanted[ROOM];
+    uint8_t *text = block(len), marks[ROOM], wanted_marks[ROOM];
+    uint16_t *units = block(2 * len);
+    memcpy(text, given, len);
+    for (size_t i = 0; i < len; i++) units[i] = given[i];
+    for (size_t from = 0; from <= len + 1; from++) {
+        const size_t count = yengatomu_boundaries_utf16(slot, units, len, from, wanted, ROOM);
+        CHECK((count > 0) == (from < len));
+        CHECK(yengatomu_boundaries_latin1(slot, text, len, from, found, ROOM) == count && !memcmp(found, wanted, count * sizeof *wanted));
+        CHECK(yengatomu_marked_boundaries_utf16(slot, units, len, from, wanted, ROOM, wanted_marks, ROOM) == count);
+        CHECK(yengatomu_marked_boundaries_latin1(slot, text, len, from, found, ROOM, marks, ROOM) == count);
+        CHECK(!memcmp(found, wanted, count * sizeof *wanted) && !memcmp(marks, wanted_marks, count));
+    }
+    CHECK(yengatomu_boundaries_latin1(slot, text, len, SIZE_MAX, found, ROOM) == 0);
+    CHECK(yengatomu_marked_boundaries_latin1(slot, text, len, SIZE_MAX, found, ROOM, marks, ROOM) == 0);
+    free(text);
+    free(units);
+}
+
+/* All bytes up and down, and words between them; by each kind, and with words of its own. These are UTF-8, and are found in Latin-1. */
+static void try_latin1(void) {
+    static const char mixed[] = "Il co\xfbte 3,50 \xa3\xa0! Voir \xe9t. 3, Mr. \xc9. Soft\xadly,\r\n\xabOui.\xbb C'est \xe0 lui.\x85\xff";
+    const yengatomu_word abbreviations[] = {{bytes_of("Mr."), 3}, {bytes_of("\xc3\xa9t."), 4}}, thai = {bytes_of("\xe0\xb8\xa0"), 3};
+    uint8_t up[ROOM], down[ROOM];
+    size_t places[ROOM];
+    for (size_t i = 0; i < ROOM; i++) down[ROOM - 1 - i] = up[i] = (uint8_t)i;
+    for (uint32_t kind = 0; kind < 4; kind++) {
+        yengatomu_slot slot = opened(kind);
+        for (int has_words = 0; has_words < 2; has_words++) {
+            check_latin1(&slot, up, ROOM);
+            check_latin1(&slot, down, ROOM);
+            check_latin1(&slot, bytes_of(mixed), sizeof mixed - 1);
+            if (kind == YENGATOMU_SENTENCES) {
+                CHECK(yengatomu_boundaries_latin1(&slot, bytes_of("Un \xe9t. Oui."), 11, 0, places, ROOM) == (has_words ? 1 : 2));
+                if (!has_words) CHECK(yengatomu_load_abbreviations(&slot, abbreviations, 2) == YENGATOMU_OK);
+            } else {
+                CHECK(yengatomu_load_dictionary(&slot, &thai, 1, YENGATOMU_THAI) == (kind ? YENGATOMU_OK : YENGATOMU_NO_SUCH));
+            }
+        }
+        yengatomu_close(&slot);
+    }
+}
+
 /* A family of emoji takes two columns by cluster, and six by character. */
 static void try_columns(void) {
     static const char family[] = "\xf0\x9f\x91\xa9\xe2\x80\x8d\xf0\x9f\x91\xa9\xe2\x80\x8d\xf0\x9f\x91\xa7 a";
@@ -346,6 +407,7 @@ static void check_snake(yengatomu_slot *slot) {
     CHECK(slot->full);
     CHECK(yengatomu_boundaries(slot, text, 10, 0, places, ROOM) == 3 && !memcmp(places, wanted, sizeof wanted));
     CHECK(yengatomu_boundaries_utf16(slot, units, 10, 0, places, ROOM) == 3 && !memcmp(places, wanted, sizeof wanted));
+    CHECK(yengatomu_boundaries_latin1(slot, text, 10, 0, places, ROOM) == 3 && !memcmp(places, wanted, sizeof wanted));
     CHECK(yengatomu_marked_boundaries(slot, text, 10, 0, places, ROOM, marks, ROOM) == 3 && !memcmp(marks, "\0\0\0", 3));
     CHECK(yengatomu_next(slot, text, 10, 0) == 5 && yengatomu_previous(slot, text, 10, 10) == 6);
     CHECK(yengatomu_count(slot, text, 10) == 3 && yengatomu_count_words(slot, text, 10) == 0);
@@ -439,6 +501,7 @@ int main(int count, char **words) {
     try_ill_formed();
     try_dictionaries();
     try_abbreviations();
+    try_latin1();
     try_columns();
     try_rules();
     if (count > 1 && !strcmp(words[1], "large")) try_large();

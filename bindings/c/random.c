@@ -1,6 +1,6 @@
 /* Random texts: what the calls say of them must agree.
  *
- *     random ROUNDS SEED      so many texts of at most 60 bytes, and as many of 16-bit units
+ *     random ROUNDS SEED      so many texts of at most 60 bytes, and as many of 16-bit units, and of Latin-1
  *
  * A text is of random bytes and of pieces that rules look at, whole and cut off. Texts and buffers are blocks of just their size, so that
  * valgrind sees any access beyond them. */
@@ -30,6 +30,9 @@ static const char *const pieces[] = {
 
 /* The same in UTF-16, and surrogates alone. */
 static const uint16_t units_of[] = {'a', '1', '.', ' ', '\n', '\r', 0x301, 0x200D, 0x2019, 0xE20, 0xE34, 0x915, 0x94D, 0x1100, 0x1161, 0xAC00, 0x4E00, 0x3002, 0xD83C, 0xDDFB, 0xDDF3, 0xD83D, 0xDC69, 0xFFFD, 0xFE0F};
+
+/* Bytes of Latin-1 that rules look at; others come from all of them. */
+static const uint8_t latin1[] = "aZe19.,!?'\"()-:  \t\r\n\x85\xa0\xa3\xab\xad\xb7\xbb\xbf\xc9\xd7\xe9\xff";
 
 typedef struct kind {
     uint32_t number;
@@ -158,18 +161,55 @@ static void try_units(kind *kinds, size_t count) {
     free(text);
 }
 
+/* What the calls of Latin-1 say, from any place on and with any room, is what those of UTF-16 say of the same code points. */
+static void try_latin1(kind *kinds, size_t count) {
+    const size_t len = below(41), from = below(2) ? 0 : below(len + 2), room = below(2) ? len : below(len + 1), marks_room = below(2) ? room : below(len + 1);
+    uint8_t *text = block(len), *marks = block(marks_room), *same_marks = block(marks_room);
+    uint16_t *units = block(2 * len);
+    size_t *places = block(room * sizeof *places), *same = block(room * sizeof *same);
+    for (size_t i = 0; i < len; i++) {
+        const char *piece = below(8) ? NULL : below(2) ? "Mr. " : "\xe9. ";
+        if (piece && i + strlen(piece) <= len) {
+            memcpy(text + i, piece, strlen(piece));
+            i += strlen(piece) - 1;
+        } else {
+            text[i] = below(4) ? latin1[below(sizeof latin1 - 1)] : (uint8_t)(below(2) ? 0xC0 + below(64) : below(256));
+        }
+    }
+    for (size_t i = 0; i < len; i++) units[i] = text[i];
+    for (size_t i = 0; i < count; i++) {
+        const yengatomu_slot *slot = &kinds[i].slot;
+        size_t found = yengatomu_boundaries_utf16(slot, units, len, from, places, room);
+        CHECK(yengatomu_boundaries_latin1(slot, text, len, from, same, room) == found && !memcmp(places, same, found * sizeof *places));
+        found = yengatomu_marked_boundaries_utf16(slot, units, len, from, places, room, marks, marks_room);
+        CHECK(yengatomu_marked_boundaries_latin1(slot, text, len, from, same, room, same_marks, marks_room) == found);
+        CHECK(!memcmp(places, same, found * sizeof *places) && !memcmp(marks, same_marks, found));
+    }
+    free(text);
+    free(marks);
+    free(same_marks);
+    free(units);
+    free(places);
+    free(same);
+}
+
 static void open_all(kind *kinds, size_t count) {
     static const yengatomu_word words[] = {
         {(const uint8_t *)"\xe0\xb8\xa0\xe0\xb8\xb2\xe0\xb8\xa9\xe0\xb8\xb2", 12},
         {(const uint8_t *)"\xe0\xb9\x84\xe0\xb8\x97\xe0\xb8\xa2", 9},
         {(const uint8_t *)"\xe0\xb8\xa0", 3},
     };
-    static const yengatomu_word abbreviations[] = {{(const uint8_t *)"Mr.", 3}, {(const uint8_t *)"1. a", 4}, {(const uint8_t *)".", 1}};
+    static const yengatomu_word abbreviations[] = {
+        {(const uint8_t *)"Mr.", 3},
+        {(const uint8_t *)"1. a", 4},
+        {(const uint8_t *)".", 1},
+        {(const uint8_t *)"\xc3\xa9.", 3},
+    };
     for (size_t i = 0; i < count; i++) {
         CHECK(yengatomu_open(&kinds[i].slot, kinds[i].number, (uint32_t)below(4), (uint32_t)below(3), below(2)) == YENGATOMU_OK);
         if (kinds[i].has_words) {
             bool of_sentences = kinds[i].number == YENGATOMU_SENTENCES;
-            CHECK((of_sentences ? yengatomu_load_abbreviations(&kinds[i].slot, abbreviations, 3)
+            CHECK((of_sentences ? yengatomu_load_abbreviations(&kinds[i].slot, abbreviations, 4)
                                 : yengatomu_load_dictionary(&kinds[i].slot, words, 3, YENGATOMU_THAI)) == YENGATOMU_OK);
         }
         /* (lines with words count columns by cluster, and others by character) */
@@ -190,9 +230,10 @@ int main(int count, char **words) {
         if (round % 100 == 0) open_all(kinds, kind_count);
         try_bytes(kinds, kind_count);
         try_units(kinds, kind_count);
+        try_latin1(kinds, kind_count);
         if (failed) fprintf(stderr, "in round %zu\n", round);
     }
     for (size_t i = 0; i < kind_count; i++) yengatomu_close(&kinds[i].slot);
-    printf("%zu texts of bytes, and as many of units\n", rounds);
+    printf("%zu texts of bytes, and as many of units, and of Latin-1\n", rounds);
     return failed ? 1 : 0;
 }

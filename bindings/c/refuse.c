@@ -74,8 +74,10 @@ static long growths_of_calls(yengatomu_slot *slot) {
     left = 0;
     yengatomu_boundaries(slot, bytes, len, 0, places, ROOM);
     yengatomu_boundaries_utf16(slot, units, UNITS, 0, places, ROOM);
+    yengatomu_boundaries_latin1(slot, bytes, len, 0, places, ROOM);
     yengatomu_marked_boundaries(slot, bytes, len, 0, places, ROOM, marks, ROOM);
     yengatomu_marked_boundaries_utf16(slot, units, UNITS, 0, places, ROOM, marks, ROOM);
+    yengatomu_marked_boundaries_latin1(slot, bytes, len, 0, places, ROOM, marks, ROOM);
     yengatomu_wrap(slot, bytes, len, 0, 5, places, ROOM);
     yengatomu_wrap_columns(slot, bytes, len, 0, 5, places, ROOM, widths, ROOM);
     for (size_t place = 0; place <= len; place++) {

@@ -54,7 +54,16 @@ static uint64_t sum_of_units(const yengatomu_slot *slot) {
     return sum * 31 + yengatomu_next_utf16(slot, units, len, len / 3) * 3 + yengatomu_previous_utf16(slot, units, len, len / 3);
 }
 
-static uint64_t sum_of(const yengatomu_slot *slot) { return sum_of_bytes(slot) * 31 + sum_of_units(slot); }
+static uint64_t sum_of_latin1(const yengatomu_slot *slot) {
+    size_t places[ROOM], count;
+    uint8_t marks[ROOM];
+    uint64_t sum = yengatomu_boundaries_latin1(slot, text, len, len / 2, places, ROOM);
+    count = yengatomu_marked_boundaries_latin1(slot, text, len, 0, places, ROOM, marks, ROOM);
+    for (size_t i = 0; i < count; i++) sum = sum * 31 + places[i] * 3 + marks[i];
+    return sum;
+}
+
+static uint64_t sum_of(const yengatomu_slot *slot) { return (sum_of_bytes(slot) * 31 + sum_of_units(slot)) * 31 + sum_of_latin1(slot); }
 
 static void *work(void *given) {
     task *it = given;

@@ -11,7 +11,8 @@
  *
  * A text is UTF-8, which may be ill-formed: places are bytes from its start. Calls that end in _utf16 take UTF-16, which may be
  * ill-formed too: there places are 16-bit units. In UTF-8 what is ill-formed counts as U+FFFD, as Unicode's Table 3-7
- * splits it; in UTF-16 a surrogate that stands alone counts as itself.
+ * splits it; in UTF-16 a surrogate that stands alone counts as itself. Calls that end in _latin1 take Latin-1: each byte is a code
+ * point, and places are bytes.
  * No call keeps a pointer, writes but to the buffers and the slot (unless const) that it is handed, aborts, or takes a lock.
  *
  * What a caller owes:
@@ -115,6 +116,7 @@ void yengatomu_close(yengatomu_slot *slot);
  * 0 where from is len or more, and where the slot is empty. */
 size_t yengatomu_boundaries(const yengatomu_slot *slot, const uint8_t *text, size_t len, size_t from, size_t *out, size_t room);
 size_t yengatomu_boundaries_utf16(const yengatomu_slot *slot, const uint16_t *text, size_t len, size_t from, size_t *out, size_t room);
+size_t yengatomu_boundaries_latin1(const yengatomu_slot *slot, const uint8_t *text, size_t len, size_t from, size_t *out, size_t room);
 
 /* The same, with a mark for each: of words YENGATOMU_NO_WORD and so on, of lines YENGATOMU_MAY_BREAK or YENGATOMU_MUST_BREAK, of
  * others 0. It writes as many as both buffers have room for. */
@@ -122,6 +124,8 @@ size_t yengatomu_marked_boundaries(const yengatomu_slot *slot, const uint8_t *te
                                    uint8_t *marks, size_t marks_room);
 size_t yengatomu_marked_boundaries_utf16(const yengatomu_slot *slot, const uint16_t *text, size_t len, size_t from, size_t *out,
                                          size_t room, uint8_t *marks, size_t marks_room);
+size_t yengatomu_marked_boundaries_latin1(const yengatomu_slot *slot, const uint8_t *text, size_t len, size_t from, size_t *out,
+                                          size_t room, uint8_t *marks, size_t marks_room);
 
 /* The nearest boundary above the place, which may be inside a character; and the nearest below it, which may be past the end.
  * YENGATOMU_NONE where there is none, and where the slot is empty. */

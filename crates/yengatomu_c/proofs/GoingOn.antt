@@ -193,3 +193,6 @@ feeds-utf8 find parts = subst (PartsBehind (λ bytes. boundaries_in find (utf8 b
 
 pub feeds-utf16 : (find : List ℕ → List Boundary) → PartsTexts find 0x0A → PartsBehind (λ units. boundaries_in find (utf16 units)) line_feed
 feeds-utf16 find parts = parts.in_utf16
+
+pub feeds-latin1 : (find : List ℕ → List Boundary) → PartsTexts find 0x0A → PartsBehind (λ bytes. boundaries_in find (latin1 bytes)) line_feed
+feeds-latin1 find parts = parts.in_latin1 (omega arith)

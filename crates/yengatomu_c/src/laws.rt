@@ -2,7 +2,7 @@
 
 ghost use Rattle.std.specs.Prelude.{◌≡◌, IfSome, false, length, take};
 ghost use Rattle.icu_segmenter.specs.Boundaries.{IsCover, boundaries_in};
-ghost use Rattle.icu_segmenter.specs.Decoding.{utf8, utf16};
+ghost use Rattle.icu_segmenter.specs.Decoding.{latin1, utf8, utf16};
 ghost use Rattle.icu_segmenter.specs.NearBoundaries.{BeginsLine};
 ghost use Rattle.icu_segmenter.specs.Rules.{PartsTexts};
 ghost use Rattle.yengatomu_c.specs.Finders.{GoesOnAt, LineFeedsReset, find_by, finder_in, finder_of};
@@ -11,6 +11,7 @@ use crate::segmenter::{Segmenter, suppressing};
 use crate::slot::Slot;
 use icu_segmenter::cursor::SegmenterOf;
 use icu_segmenter::laws;
+use icu_segmenter::segments::BreakIterator;
 use icu_segmenter::suppress::laws::parts_behind_line_feeds;
 use std::alloc::Global;
 
@@ -28,7 +29,7 @@ pub fn lines_go_on(alloc: Global, slot: &mut Slot, text: &[u8], from: usize)
     slot.put(segmenter);
 }
 
-/// Law: the same of UTF-16.
+/// Law: a caller may so go on in UTF-16.
 pub fn lines_go_on_utf16(alloc: Global, slot: &mut Slot, text: &[u16], from: usize)
     requires own { slot.old.handle.holds.lent ≡ false }
     ensures kept { finder_in slot.new ≡ finder_in slot.old }
@@ -38,6 +39,19 @@ pub fn lines_go_on_utf16(alloc: Global, slot: &mut Slot, text: &[u16], from: usi
         return;
     };
     goes_on_utf16(&segmenter, text, from);
+    slot.put(segmenter);
+}
+
+/// Law: a caller may so go on in Latin-1.
+pub fn lines_go_on_latin1(alloc: Global, slot: &mut Slot, text: &[u8], from: usize)
+    requires own { slot.old.handle.holds.lent ≡ false }
+    ensures kept { finder_in slot.new ≡ finder_in slot.old }
+    ensures goes_on { IfSome (finder_in slot.old) (λ finder. LineFeedsReset finder → BeginsLine text.now from → GoesOnAt finder latin1 text.now from) }
+{
+    let Some(segmenter) = slot.take(alloc) else {
+        return;
+    };
+    goes_on_latin1(&segmenter, text, from);
     slot.put(segmenter);
 }
 
@@ -55,6 +69,14 @@ fn goes_on_utf16(segmenter: &Segmenter, text: &[u16], from: usize)
     parts(segmenter);
     cover_utf16(segmenter, text);
     cover_utf16(segmenter, front_of(text, from));
+}
+
+fn goes_on_latin1(segmenter: &Segmenter, text: &[u8], from: usize)
+    ensures { LineFeedsReset (finder_of segmenter.now) → BeginsLine text.now from → GoesOnAt (finder_of segmenter.now) latin1 text.now from }
+{
+    parts(segmenter);
+    cover_latin1(segmenter, text);
+    cover_latin1(segmenter, front_of(text, from));
 }
 
 // Law: where line feeds reset, texts may be split after them.
@@ -116,6 +138,31 @@ fn cover_utf16(segmenter: &Segmenter, text: &[u16])
         }
     }
 }
+
+fn cover_latin1(segmenter: &Segmenter, text: &[u8])
+    ensures { IsCover 0 (length text.now) (boundaries_in (find_by (finder_of segmenter.now)) (latin1 text.now)) }
+{
+    match segmenter {
+        Segmenter::Clusters(s) => {
+            let _ = s.as_borrowed().segment_latin1(text);
+        }
+        Segmenter::Words(s) => {
+            let _ = s.as_borrowed().segment_latin1(text);
+        }
+        Segmenter::Sentences(s, known) => match known.as_ref() {
+            None => {
+                let _ = s.as_borrowed().segment_latin1(text);
+            },
+            Some(a) => let_go(suppressing(s, a).segment_latin1(text)),
+        },
+        Segmenter::Lines(s, _) => {
+            let _ = s.as_borrowed().segment_latin1(text);
+        }
+    }
+}
+
+// Drops an iterator. Of the boundaries that abbreviations leave, that is proved in generic code alone.
+fn let_go<B: BreakIterator>(_breaks: B) {}
 
 // The first units, or all where there are fewer.
 fn front_of<T>(units: &[T], count: usize) -> &[T]

@@ -3,7 +3,7 @@ use std::path::Path;
 use std::sync::OnceLock;
 
 use yengatomu::kind::Marked;
-use yengatomu::{Error, GraphemeSegmenter, LineOptions, LineSegmenter, Script, Segmenter, SentenceSegmenter, Unit, WordSegmenter};
+use yengatomu::{Error, GraphemeSegmenter, LineOptions, LineSegmenter, Script, Segmenter, SentenceSegmenter, WordSegmenter};
 
 use crate::dictionaries::{DictionaryError, ListError};
 use crate::encoding::Encoding;
@@ -21,7 +21,7 @@ pub(crate) trait Finder: 'static + Sized {
     fn shared(options: Self::Options) -> &'static OnceLock<Self>;
 
     /// Writes the first boundaries above `from`, as many as both buffers have room for, with their marks if it has some, and returns how many.
-    fn fill<U: Unit>(&self, text: &[U], from: usize, places: &mut [usize], marks: &mut [u8]) -> usize;
+    fn fill<Y: Encoding>(&self, text: &[Y::Unit], from: usize, places: &mut [usize], marks: &mut [u8]) -> usize;
 
     /// Whether boundaries go on only from behind a line feed.
     fn has_words(&self) -> bool;
@@ -42,8 +42,8 @@ macro_rules! without_marks {
             }
 
             #[inline]
-            fn fill<U: Unit>(&self, text: &[U], from: usize, places: &mut [usize], _: &mut [u8]) -> usize {
-                self.fill_boundaries(text, from, places)
+            fn fill<Y: Encoding>(&self, text: &[Y::Unit], from: usize, places: &mut [usize], _: &mut [u8]) -> usize {
+                Y::fill(self, text, from, places)
             }
 
             fn has_words(&self) -> bool {
@@ -68,8 +68,8 @@ impl Finder for WordSegmenter {
     }
 
     #[inline]
-    fn fill<U: Unit>(&self, text: &[U], from: usize, places: &mut [usize], marks: &mut [u8]) -> usize {
-        self.fill_marked_boundaries(text, from, places, marks)
+    fn fill<Y: Encoding>(&self, text: &[Y::Unit], from: usize, places: &mut [usize], marks: &mut [u8]) -> usize {
+        Y::fill_marked(self, text, from, places, marks)
     }
 
     fn has_words(&self) -> bool {
@@ -96,8 +96,8 @@ impl Finder for LineSegmenter {
     }
 
     #[inline]
-    fn fill<U: Unit>(&self, text: &[U], from: usize, places: &mut [usize], marks: &mut [u8]) -> usize {
-        self.fill_marked_boundaries(text, from, places, marks)
+    fn fill<Y: Encoding>(&self, text: &[Y::Unit], from: usize, places: &mut [usize], marks: &mut [u8]) -> usize {
+        Y::fill_marked(self, text, from, places, marks)
     }
 
     fn has_words(&self) -> bool {

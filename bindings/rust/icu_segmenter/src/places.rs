@@ -1,5 +1,4 @@
 //! The boundaries of a text, some at a time.
-use std::borrow::Cow;
 use std::fmt;
 
 use yengatomu::Buffer;
@@ -10,7 +9,7 @@ use crate::held::Finder;
 /// The boundaries of a text, 0 first, with a [`Buffer`] of those to come.
 pub(crate) struct Places<'data, 's, F: Finder, Y: Encoding> {
     finder: &'data F,
-    text: Cow<'s, [Y::Asked]>,
+    text: &'s [Y::Unit],
     is_begun: bool,
     /// The mark of the boundary that was given last; 0 before the first, at it, and behind the last.
     mark: u8,
@@ -19,7 +18,7 @@ pub(crate) struct Places<'data, 's, F: Finder, Y: Encoding> {
 
 impl<'data, 's, F: Finder, Y: Encoding> Places<'data, 's, F, Y> {
     pub(crate) fn new(finder: &'data F, text: &'s [Y::Unit]) -> Self {
-        Self { finder, text: Y::asked(text), is_begun: false, mark: 0, buffer: Buffer::new(0) }
+        Self { finder, text, is_begun: false, mark: 0, buffer: Buffer::new(0) }
     }
 
     /// The mark of the boundary that was given last.
@@ -44,8 +43,8 @@ impl<'data, 's, F: Finder, Y: Encoding> Places<'data, 's, F, Y> {
 
     #[inline(never)]
     fn fill(&mut self) {
-        let Self { finder, text, buffer, .. } = self;
-        buffer.fill(text, finder.has_words(), |from, places, marks| finder.fill(text, from, places, marks));
+        let (finder, text) = (self.finder, self.text);
+        self.buffer.fill(text, finder.has_words(), |from, places, marks| finder.fill::<Y>(text, from, places, marks));
     }
 
     pub(crate) fn size_hint(&self) -> (usize, Option<usize>) {
@@ -58,7 +57,7 @@ impl<'data, 's, F: Finder, Y: Encoding> Places<'data, 's, F, Y> {
 // A derived one would ask that F and Y are Clone.
 impl<F: Finder, Y: Encoding> Clone for Places<'_, '_, F, Y> {
     fn clone(&self) -> Self {
-        Self { text: self.text.clone(), buffer: self.buffer.clone(), ..*self }
+        Self { buffer: self.buffer.clone(), ..*self }
     }
 }
 

@@ -1,5 +1,6 @@
 //! The encodings, as types: they tell iterators how a text is written.
-use std::borrow::Cow;
+use yengatomu::kind::{Kind, Marked};
+use yengatomu::Segmenter;
 
 use crate::encoding::Encoding;
 
@@ -38,37 +39,26 @@ encodings! {
 
 impl Encoding for Utf8 {
     type Unit = u8;
-    type Asked = u8;
-
-    fn asked(text: &[u8]) -> Cow<'_, [u8]> {
-        text.into()
-    }
 }
 
 impl Encoding for PotentiallyIllFormedUtf8 {
     type Unit = u8;
-    type Asked = u8;
-
-    fn asked(text: &[u8]) -> Cow<'_, [u8]> {
-        text.into()
-    }
 }
 
 impl Encoding for Utf16 {
     type Unit = u16;
-    type Asked = u16;
-
-    fn asked(text: &[u16]) -> Cow<'_, [u16]> {
-        text.into()
-    }
 }
 
-// The library knows no Latin-1. Its code points are as many 16-bit units of UTF-16.
 impl Encoding for Latin1 {
     type Unit = u8;
-    type Asked = u16;
 
-    fn asked(text: &[u8]) -> Cow<'_, [u16]> {
-        text.iter().copied().map(u16::from).collect()
+    #[inline]
+    fn fill<K: Kind>(segmenter: &Segmenter<K>, text: &[u8], from: usize, places: &mut [usize]) -> usize {
+        segmenter.fill_boundaries_latin1(text, from, places)
+    }
+
+    #[inline]
+    fn fill_marked<K: Marked>(segmenter: &Segmenter<K>, text: &[u8], from: usize, places: &mut [usize], marks: &mut [u8]) -> usize {
+        segmenter.fill_marked_boundaries_latin1(text, from, places, marks)
     }
 }

@@ -148,6 +148,15 @@ fn a_long_line_is_segmented_whole() {
 }
 
 #[test]
+fn a_long_line_of_latin1_is_segmented_whole() {
+    let text = [b"caf\xe9 ".repeat(1000), b"\n".to_vec(), b"1 ".repeat(500)].concat();
+    let before = (0..1000).flat_map(|word| [5 * word, 5 * word + 4]);
+    let behind = (0..500).flat_map(|word| [5001 + 2 * word, 5002 + 2 * word]);
+    let stated = before.chain([5000]).chain(behind).chain([6001]);
+    assert!(words().as_borrowed().segment_latin1(&text).eq(stated));
+}
+
+#[test]
 fn lists_that_cannot_be_taken() {
     let mut words = WordSegmenter::try_new_dictionary(Default::default()).unwrap();
     let folder = Path::new(env!("CARGO_TARGET_TMPDIR")).join("no-lists");

@@ -234,6 +234,7 @@ fn a_text_of_many_buffers() {
     let stated: Vec<_> = (0..1000).flat_map(|line| [6 * line, 6 * line + 2, 6 * line + 3, 6 * line + 5]).chain([6000]).collect();
     let words = WordSegmenter::new_auto(Default::default());
     assert!(words.segment_str(&text).eq(stated.iter().copied()));
+    assert!(words.segment_latin1(text.as_bytes()).eq(stated.iter().copied()));
     let mut places = words.segment_str(&text);
     assert_eq!(places.nth(700), Some(stated[700]));
     let clone = places.clone();

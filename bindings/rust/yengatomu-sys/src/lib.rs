@@ -161,6 +161,16 @@ extern "C" {
         room: usize,
     ) -> usize;
 
+    /// [`yengatomu_boundaries`] of Latin-1: each byte is a code point; places are bytes.
+    pub fn yengatomu_boundaries_latin1(
+        slot: *const yengatomu_slot,
+        text: *const u8,
+        len: usize,
+        from: usize,
+        out: *mut usize,
+        room: usize,
+    ) -> usize;
+
     /// [`yengatomu_boundaries`] with a mark for each; 0 of clusters and sentences. It writes as many as both buffers have room for.
     pub fn yengatomu_marked_boundaries(
         slot: *const yengatomu_slot,
@@ -177,6 +187,18 @@ extern "C" {
     pub fn yengatomu_marked_boundaries_utf16(
         slot: *const yengatomu_slot,
         text: *const u16,
+        len: usize,
+        from: usize,
+        out: *mut usize,
+        room: usize,
+        marks: *mut u8,
+        marks_room: usize,
+    ) -> usize;
+
+    /// [`yengatomu_marked_boundaries`] of Latin-1: each byte is a code point; places are bytes.
+    pub fn yengatomu_marked_boundaries_latin1(
+        slot: *const yengatomu_slot,
+        text: *const u8,
         len: usize,
         from: usize,
         out: *mut usize,

@@ -193,6 +193,32 @@ calls!(
     yengatomu_wrap_columns_utf16
 );
 
+/// The calls on texts in Latin-1.
+impl Slot {
+    #[inline]
+    pub(crate) fn boundaries_latin1(&self, text: &[u8], from: usize, out: &mut [usize]) -> usize {
+        // SAFETY: above.
+        unsafe { sys::yengatomu_boundaries_latin1(&self.slot, text.as_ptr(), text.len(), from, out.as_mut_ptr(), out.len()) }
+    }
+
+    #[inline]
+    pub(crate) fn marked_boundaries_latin1(&self, text: &[u8], from: usize, out: &mut [usize], marks: &mut [u8]) -> usize {
+        // SAFETY: above.
+        unsafe {
+            sys::yengatomu_marked_boundaries_latin1(
+                &self.slot,
+                text.as_ptr(),
+                text.len(),
+                from,
+                out.as_mut_ptr(),
+                out.len(),
+                marks.as_mut_ptr(),
+                marks.len(),
+            )
+        }
+    }
+}
+
 pub(crate) fn version() -> u32 {
     // SAFETY: it takes nothing.
     unsafe { sys::yengatomu_version() }

@@ -307,6 +307,42 @@ fn filled_buffers() {
     assert!(!words.has_words() && with_thai(words).has_words());
 }
 
+/// Buffers are filled with the boundaries and marks that a text in Latin-1 has in UTF-16.
+fn fill_latin1<K: kind::Marked>(segmenter: &Segmenter<K>, text: &[u8]) {
+    let units: Vec<u16> = text.iter().copied().map(u16::from).collect();
+    for room in [1, 7, 1000] {
+        if room == 1000 || !segmenter.has_words() {
+            assert!(segmenter.boundaries(&units).eq(filled(room, |from, places| segmenter.fill_boundaries_latin1(text, from, places))));
+        }
+    }
+    let (mut places, mut marks) = (vec![0; text.len()], vec![0; text.len()]);
+    let count = segmenter.fill_marked_boundaries_latin1(text, 0, &mut places, &mut marks);
+    let found = places[..count].iter().copied().zip(marks.iter().map(|&mark| K::mark(mark)));
+    assert!(segmenter.marked_segments(&units).map(|(start, segment, mark)| (start + segment.len(), mark)).eq(found));
+}
+
+#[test]
+fn filled_buffers_of_latin1() {
+    const PARTS: [&[u8]; 10] = [b"a", b"caf\xe9", b" ", b"3.14", b"! Z", b"Mr. ", b"\xad", b"\xa0", b"\n", b"\x85"];
+    let (words, of_lines) = (WordSegmenter::new().unwrap(), lines());
+    let (thai_words, thai_lines) = (with_thai(WordSegmenter::new().unwrap()), with_thai(lines()));
+    let mut random = Random(11);
+    for parts in 0..200 {
+        let text: Vec<u8> = (0..parts).flat_map(|_| PARTS[random.below(10)]).copied().collect();
+        fill_latin1(&words, &text);
+        fill_latin1(&thai_words, &text);
+        fill_latin1(&of_lines, &text);
+        fill_latin1(&thai_lines, &text);
+    }
+    let mut places = [9; 4];
+    assert_eq!(with_abbreviations().fill_boundaries_latin1(b"\xe9! a. B", 0, &mut places), 1);
+    assert_eq!(places, [7, 9, 9, 9]);
+    assert_eq!(words.fill_marked_boundaries_latin1(b"\xe9 b c", 0, &mut places, &mut [0, 0]), 2, "as many as both have room for");
+    assert_eq!(places, [1, 2, 9, 9]);
+    assert_eq!(words.fill_boundaries_latin1(b"\xe9 b", 0, &mut []), 0);
+    assert_eq!(words.fill_boundaries_latin1(b"\xe9 b", 4, &mut places), 0);
+}
+
 #[test]
 fn marks_of_words() {
     for dictionary in [false, true] {
