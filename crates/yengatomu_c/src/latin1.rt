@@ -1,6 +1,6 @@
 //! What a segmenter says of Latin-1, for C: each byte is a code point. Places are bytes.
 
-ghost use Rattle.std.specs.Prelude.{◌≡◌, [], Contains, IfSome, None, length, min};
+ghost use Rattle.std.specs.Prelude.{◌≡◌, ◌+◌, ◌<◌, ◌^◌, [], Contains, IfSome, None, drop, length, min};
 ghost use Rattle.icu_segmenter.specs.Boundaries.{HasRestart};
 ghost use Rattle.icu_segmenter.specs.Decoding.{latin1};
 ghost use Rattle.icu_segmenter.specs.Filled.{IsFilled, TakesFirst};
