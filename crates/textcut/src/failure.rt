@@ -1,6 +1,8 @@
 //! What ends a run early, and what is said of it.
 ghost use Rattle.std.specs.Prelude.{◌≡◌};
 ghost use Rattle.textcut.specs.Failure.{failure_of, status_of, message_of, AppendsBeginning};
+ghost use Rattle.textcut.specs.declared.failure.Failure.TheVariants.{NoMemory};
+ghost use Rattle.textcut.specs.declared.failure.PrintFailure.TheVariants as printing;
 
 use std::alloc::AllocError;
 use std::io::{ErrorKind, Write};
@@ -21,7 +23,7 @@ pub enum Failure {
 }
 
 impl From<AllocError> for Failure {
-    ghost from_gives = { λ _ failure. failure ≡ Failure.NoMemory };
+    ghost from_gives = { λ _ failure. failure ≡ NoMemory };
 
     fn from(_error: AllocError) -> Failure {
         Failure::NoMemory
@@ -38,7 +40,7 @@ pub enum PrintFailure {
 }
 
 impl From<AllocError> for PrintFailure {
-    ghost from_gives = { λ _ failure. failure ≡ PrintFailure.NoMemory };
+    ghost from_gives = { λ _ failure. failure ≡ printing.NoMemory };
 
     fn from(_error: AllocError) -> PrintFailure {
         PrintFailure::NoMemory
