@@ -2,7 +2,7 @@ use Rattle.std.proofs.Common.{ap, inr, refl, subst, ◌∙◌}
 use Rattle.icu_segmenter.specs.Abbreviations.{IsRejection, abbreviations_of}
 use Rattle.icu_segmenter.specs.InLines.{AreInLines}
 use Rattle.icu_segmenter.specs.WordSets.{IsSameSet, Words, code_points_of_each}
-use Rattle.icu_segmenter.specs.declared.suppress.abbreviations.AbbreviationError.{AbbreviationError}
+use Rattle.icu_segmenter.specs.declared.suppress.AbbreviationError.{AbbreviationError}
 use Rattle.yengatomu_c.proofs.abbreviations.set_of.Goals as goal
 
 pub returns-in-Ok-try_from_words-clause-words : goal.returns-in-Ok-try_from_words-clause-words
