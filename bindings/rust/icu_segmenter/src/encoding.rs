@@ -15,7 +15,7 @@ pub trait Encoding {
         segmenter.fill_boundaries(text, from, places)
     }
 
-    /// The same with a mark for each, as many as both buffers have room for.
+    /// Writes them with a mark for each, as many as both buffers have room for.
     #[inline]
     fn fill_marked<K: Marked>(segmenter: &Segmenter<K>, text: &[Self::Unit], from: usize, places: &mut [usize], marks: &mut [u8]) -> usize {
         segmenter.fill_marked_boundaries(text, from, places, marks)
