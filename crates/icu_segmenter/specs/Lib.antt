@@ -44,6 +44,8 @@ pub use Rattle.seg_words.specs.WordRules
 pub use Rattle.seg_words.specs.Words
 pub use Rattle.seg_wrap.specs.Wrapping
 pub use Rattle.seg_wrap.specs.WrappedLines
+pub use Rattle.seg_balance.specs.Balanced
+pub use Rattle.seg_wrap.specs.Paragraphs
 pub use Rattle.seg_segments.specs.Suppression
 pub use Rattle.seg_segments.specs.InLines
 pub use Rattle.seg_segments.specs.Kept

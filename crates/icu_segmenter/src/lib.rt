@@ -56,9 +56,10 @@ pub mod memo {
 
 /// Lines of a text, wrapped to columns.
 pub mod wrap {
+    pub use seg_wrap::wrap::balanced::BalancedParagraphs;
     pub use seg_wrap::wrap::{
-        LineWrapper, WrapError, WrapIterator, WrapUtf8Iterator, WrapUtf16Iterator, WrappedLine,
-        WrappedUtf8Line, WrappedUtf16Line, utf8_columns,
+        LineWrapper, Span, WrapError, WrapIterator, WrapUtf8Iterator, WrapUtf16Iterator,
+        WrappedLine, WrappedUtf8Line, WrappedUtf16Line, utf8_columns,
     };
 }
 

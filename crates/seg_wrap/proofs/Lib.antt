@@ -9,3 +9,5 @@ pub mod Starts
 pub mod SegmentsJoined
 pub mod Given
 pub mod Hints
+pub mod Pieces
+pub mod Spans

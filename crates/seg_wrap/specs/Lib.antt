@@ -1,3 +1,5 @@
 pub mod Wrapping
 pub mod Walk
 pub mod WrappedLines
+pub mod Paragraphs
+pub mod Pieces

@@ -12,6 +12,7 @@ use Rattle.seg_wrap.specs.declared.wrap.WrappedUtf8Line.{WrappedUtf8Line}
 use Rattle.seg_wrap.specs.declared.wrap.WrapUtf8Iterator.{WrapUtf8Iterator}
 use Rattle.seg_wrap.specs.declared.wrap.utf16.WrappedUtf16Line.{WrappedUtf16Line}
 use Rattle.seg_wrap.specs.declared.wrap.utf16.WrapUtf16Iterator.{WrapUtf16Iterator}
+use Rattle.seg_wrap.specs.Paragraphs.{ParagraphsLeft}
 use Rattle.seg_wrap.specs.Walk.{measure_of}
 use Rattle.seg_wrap.specs.Wrapping.{Measure, TextLine, segments_of, text_lines, wrapped_lines}
 
@@ -23,6 +24,14 @@ wrapped_units decode measure rules limit units =
 -- the same of possibly ill-formed UTF-8
 abbrev pub wrapped_text : Measure → LineRules → ℕ → List ℕ → List TextLine
 wrapped_text measure rules limit bytes = wrapped_units utf8 measure rules limit bytes
+
+-- the paragraphs of such a text, whose lines have at most so many columns
+abbrev pub paragraphs_of : (List ℕ → Text) → Measure → LineRules → ℕ → List ℕ → ParagraphsLeft
+paragraphs_of decode measure rules limit units = record {
+  text = decode units;
+  segments = segments_of measure (decode units) (line_boundaries_of rules (decode units));
+  limit = limit;
+}
 
 -- what lines stand in, one after another
 abbrev pub joined_units : List TextLine → List ℕ

@@ -11,12 +11,14 @@ ghost use Rattle.seg_wrap.specs.Wrapping.{by_characters, by_clusters, bytes_colu
 ghost use Rattle.seg_clusters.specs.Clusters.{cluster_rules};
 ghost use Rattle.seg_lines.specs.LineBreaks.{IsByPairTable};
 
-mod breaks;
+pub mod balanced;
+pub mod breaks;
 mod extent;
 mod measure;
 mod utf16;
 mod wrapping;
 
+use crate::wrap::balanced::BalancedParagraphs;
 use crate::wrap::extent::Extent;
 use crate::wrap::measure::Measuring;
 use crate::wrap::wrapping::{Setting, Wrapping};
@@ -25,8 +27,10 @@ use seg_lines::line::{LineBreakIterator, LineSegmenterBorrowed};
 use seg_text::indices::{StrCharIndices, Utf8CharIndices};
 use seg_text::scaffold::{PotentiallyIllFormedUtf8, Utf8};
 use std::alloc::AllocError;
+use std::fmt;
 use thiserror::Error;
 pub use utf16::{WrapUtf16Iterator, WrappedUtf16Line};
+pub use wrapping::Span;
 
 /// Why there is no wrapper. Each has a number.
 #[derive(Clone, Copy, Debug, PartialEq, Eq, Error)]
@@ -48,7 +52,7 @@ pub struct LineWrapper<'data> {
 }
 
 impl<'data> LineWrapper<'data> {
-    ghost use Rattle.seg_wrap.specs.WrappedLines.{joined_units, lines_to_come, utf8_lines_to_come, wrapped_text, wrapper_measure, wrapper_rules};
+    ghost use Rattle.seg_wrap.specs.WrappedLines.{joined_units, lines_to_come, paragraphs_of, utf8_lines_to_come, wrapped_text, wrapper_measure, wrapper_rules};
 
     /// A wrapper by the breaks that a machine finds, and by the widths of characters. `NotNeo` where a pair table finds the breaks.
     pub fn new(lines: LineSegmenterBorrowed<'data>) -> Result<Self, WrapError>
@@ -116,6 +120,37 @@ impl<'data> LineWrapper<'data> {
             lines: Wrapping::new(breaks, Utf8CharIndices::new(bytes), self.setting(columns)),
         }
     }
+
+    /// The lines of a text, balanced paragraph by paragraph, each of at most these columns unless it is one segment. Takes no memory.
+    pub fn balanced_str<'s>(
+        self,
+        text: &'s str,
+        columns: u32,
+    ) -> BalancedParagraphs<'data, StrCharIndices<'s>, LineBreakIterator<'data, 's, Utf8>>
+        ensures { result ≡ paragraphs_of utf8 (wrapper_measure self.entry) (wrapper_rules self.entry) columns text.now }
+    {
+        let mut breaks = self.lines.segment_str(text);
+        let _start = breaks.next();
+        BalancedParagraphs::new(breaks, StrCharIndices::new(text), columns, self.measuring)
+    }
+
+    /// The lines of possibly ill-formed UTF-8, balanced paragraph by paragraph. What is ill-formed is as wide as the U+FFFD that it is decoded
+    /// as. Takes no memory.
+    pub fn balanced_utf8<'s>(
+        self,
+        bytes: &'s [u8],
+        columns: u32,
+    ) -> BalancedParagraphs<
+        'data,
+        Utf8CharIndices<'s>,
+        LineBreakIterator<'data, 's, PotentiallyIllFormedUtf8>,
+    >
+        ensures { result ≡ paragraphs_of utf8 (wrapper_measure self.entry) (wrapper_rules self.entry) columns bytes.now }
+    {
+        let mut breaks = self.lines.segment_utf8(bytes);
+        let _start = breaks.next();
+        BalancedParagraphs::new(breaks, Utf8CharIndices::new(bytes), columns, self.measuring)
+    }
 }
 
 /// The columns that possibly ill-formed UTF-8 takes where more follows in its line: the sum of the widths of its characters, spaces at its end
@@ -160,11 +195,17 @@ impl<'s> WrappedLine<'s> {
 }
 
 /// The lines of a text, wrapped to columns. After None it stays None.
-#[derive(Debug)]
 pub struct WrapIterator<'data, 's> {
     text: &'s str,
     lines: Wrapping<'data, StrCharIndices<'s>, LineBreakIterator<'data, 's, Utf8>>,
     ghost rest: { lines.text ≡ rest_from (start_of lines.text) (utf8 text.now) },
+}
+
+// Written out: a derived one, of all that it holds, is dear to prove.
+impl<'data, 's> fmt::Debug for WrapIterator<'data, 's> {
+    fn fmt<W: fmt::Write>(&self, f: &mut fmt::Formatter<W>) -> fmt::Result {
+        f.write_str("WrapIterator { .. }")
+    }
 }
 
 impl<'data, 's> Drop for WrapIterator<'data, 's> {
@@ -253,7 +294,6 @@ impl<'s> WrappedUtf8Line<'s> {
 }
 
 /// The lines of possibly ill-formed UTF-8, wrapped to columns. After None it stays None.
-#[derive(Debug)]
 pub struct WrapUtf8Iterator<'data, 's> {
     bytes: &'s [u8],
     lines: Wrapping<
@@ -262,6 +302,13 @@ pub struct WrapUtf8Iterator<'data, 's> {
         LineBreakIterator<'data, 's, PotentiallyIllFormedUtf8>,
     >,
     ghost rest: { lines.text ≡ rest_from (start_of lines.text) (utf8 bytes.now) },
+}
+
+// Written out: a derived one, of all that it holds, is dear to prove.
+impl<'data, 's> fmt::Debug for WrapUtf8Iterator<'data, 's> {
+    fn fmt<W: fmt::Write>(&self, f: &mut fmt::Formatter<W>) -> fmt::Result {
+        f.write_str("WrapUtf8Iterator { .. }")
+    }
 }
 
 impl<'data, 's> Drop for WrapUtf8Iterator<'data, 's> {

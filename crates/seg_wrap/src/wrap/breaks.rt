@@ -10,15 +10,15 @@ use seg_text::scaffold::{PotentiallyIllFormedUtf8, RuleBreakType, Utf8, Utf16};
 
 /// A place where a line may end.
 #[derive(Clone, Copy, Debug)]
-pub(crate) struct Break {
+pub struct Break {
     /// The place, in units.
-    pub(crate) end: usize,
+    pub end: usize,
     /// Whether the line must end there.
-    pub(crate) is_mandatory: bool,
+    pub is_mandatory: bool,
 }
 
 /// What gives the breaks of a text, in order.
-pub(crate) trait Breaks: Drop {
+pub trait Breaks: Drop {
     /// The boundaries that are still to come.
     ghost left: { Self → List Boundary };
 

@@ -8,14 +8,16 @@ ghost use Rattle.seg_lines.specs.Between.{between};
 ghost use Rattle.seg_wrap.specs.Wrapping.{rest_from};
 
 use crate::wrap::LineWrapper;
+use crate::wrap::balanced::BalancedParagraphs;
 use crate::wrap::wrapping::Wrapping;
 use seg_lines::line::LineBreakIterator;
 use seg_text::indices::Utf16Indices;
 use seg_text::scaffold::Utf16;
 use std::alloc::AllocError;
+use std::fmt;
 
 impl<'data> LineWrapper<'data> {
-    ghost use Rattle.seg_wrap.specs.WrappedLines.{joined_units, utf16_lines_to_come, wrapped_units, wrapper_measure, wrapper_rules};
+    ghost use Rattle.seg_wrap.specs.WrappedLines.{joined_units, paragraphs_of, utf16_lines_to_come, wrapped_units, wrapper_measure, wrapper_rules};
 
     /// The lines of possibly ill-formed UTF-16, each of at most these columns unless it is one segment. A surrogate that stands
     /// alone is as wide as U+FFFD, and stays as it is in the lines. Takes no memory.
@@ -29,6 +31,20 @@ impl<'data> LineWrapper<'data> {
             units,
             lines: Wrapping::new(breaks, Utf16Indices::new(units), self.setting(columns)),
         }
+    }
+
+    /// The lines of possibly ill-formed UTF-16, balanced paragraph by paragraph. A surrogate that stands alone is as wide as U+FFFD. Takes no
+    /// memory.
+    pub fn balanced_utf16<'s>(
+        self,
+        units: &'s [u16],
+        columns: u32,
+    ) -> BalancedParagraphs<'data, Utf16Indices<'s>, LineBreakIterator<'data, 's, Utf16>>
+        ensures { result ≡ paragraphs_of utf16 (wrapper_measure self.entry) (wrapper_rules self.entry) columns units.now }
+    {
+        let mut breaks = self.lines.segment_utf16(units);
+        let _start = breaks.next();
+        BalancedParagraphs::new(breaks, Utf16Indices::new(units), columns, self.measuring)
     }
 }
 
@@ -66,11 +82,17 @@ impl<'s> WrappedUtf16Line<'s> {
 }
 
 /// The lines of possibly ill-formed UTF-16, wrapped to columns. After None it stays None.
-#[derive(Debug)]
 pub struct WrapUtf16Iterator<'data, 's> {
     units: &'s [u16],
     lines: Wrapping<'data, Utf16Indices<'s>, LineBreakIterator<'data, 's, Utf16>>,
     ghost rest: { lines.text ≡ rest_from (start_of lines.text) (utf16 units.now) },
+}
+
+// Written out: a derived one, of all that it holds, is dear to prove.
+impl<'data, 's> fmt::Debug for WrapUtf16Iterator<'data, 's> {
+    fn fmt<W: fmt::Write>(&self, f: &mut fmt::Formatter<W>) -> fmt::Result {
+        f.write_str("WrapUtf16Iterator { .. }")
+    }
 }
 
 impl<'data, 's> Drop for WrapUtf16Iterator<'data, 's> {

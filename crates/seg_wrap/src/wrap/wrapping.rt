@@ -12,23 +12,23 @@ use std::marker::Model;
 
 /// A line of a wrapped text, by the places where it begins and ends.
 #[derive(Clone, Copy, Debug)]
-pub(crate) struct Span {
+pub struct Span {
     /// Where it begins, in units.
-    pub(crate) start: usize,
-    /// Where it ends, in units.
-    pub(crate) end: usize,
-    /// The columns that it takes.
-    pub(crate) columns: u128,
+    pub start: usize,
+    /// Where it ends, in units, behind its trailing white space.
+    pub end: usize,
+    /// The columns that it takes, without its trailing white space.
+    pub columns: u128,
     /// Whether a line must end there.
-    pub(crate) is_mandatory: bool,
+    pub is_mandatory: bool,
 }
 
 /// A piece of a text that ends where a line may.
 #[derive(Clone, Copy, Debug)]
-struct Piece {
-    end: usize,
-    extent: Extent,
-    is_mandatory: bool,
+pub(crate) struct Piece {
+    pub(crate) end: usize,
+    pub(crate) extent: Extent,
+    pub(crate) is_mandatory: bool,
 }
 
 /// To how many columns lines are wrapped, and how these are counted.
@@ -41,7 +41,6 @@ pub(crate) struct Setting<'data> {
 }
 
 /// The lines of a text, wrapped to so many columns.
-#[derive(Debug)]
 pub(crate) struct Wrapping<'data, I: Cursor, B: Breaks> {
     breaks: B,
     // The text from the next line on.
@@ -144,7 +143,7 @@ impl<'data, I: Cursor, B: Breaks> Wrapping<'data, I, B> {
 }
 
 /// The piece up to the next break. The cursor goes over it.
-fn next_piece<I: Cursor, B: Breaks>(
+pub(crate) fn next_piece<I: Cursor, B: Breaks>(
     breaks: &mut B,
     after: &mut I,
     measuring: Measuring<'_>,
