@@ -12,6 +12,7 @@
  *     offsets, word-offsets       a line for each segment, or for each word: where it begins and ends
  *     rooms                       how many boundaries there are, if buffers of 1, 7 and 65,536 give the same ones, with marks and without
  *     wrap COLUMNS                the wrapped lines, as END:COLUMNS
+ *     balanced COLUMNS            the balanced lines of each paragraph, as END:COLUMNS
  *     near PLACE                  the nearest boundary below and above, - for none
  *     count                       how many segments, and how many words
  */
@@ -135,6 +136,34 @@ static void print_wrapped(size_t columns) {
     puts("");
 }
 
+/* The balanced lines of the paragraph behind a place, in buffers that have room for them. */
+static list paragraph(size_t from, uint32_t columns, size_t **widths) {
+    list found = {0, 1, NULL, NULL};
+    do {
+        found.room = found.count > found.room ? found.count : found.room;
+        found.places = realloc(found.places, found.room * sizeof(size_t));
+        *widths = realloc(*widths, found.room * sizeof(size_t));
+        if (!found.places || !*widths) exit(2);
+        found.count = is_utf16 ? yengatomu_wrap_balanced_utf16(&slot, units, len, from, columns, found.places, found.room, *widths, found.room)
+                               : yengatomu_wrap_balanced(&slot, text, len, from, columns, found.places, found.room, *widths, found.room);
+    } while (found.count > found.room);
+    return found;
+}
+
+static void print_balanced(uint32_t columns) {
+    const char *space = "";
+    size_t from = 0, *widths = NULL;
+    for (;;) {
+        list found = paragraph(from, columns, &widths);
+        for (size_t i = 0; i < found.count; i++, space = " ") printf("%s%zu:%zu", space, found.places[i], widths[i]);
+        if (found.count) from = found.places[found.count - 1];
+        free(found.places);
+        if (!found.count) break;
+    }
+    free(widths);
+    printf("\n");
+}
+
 static void print_near(size_t place) {
     size_t found[] = {is_utf16 ? yengatomu_previous_utf16(&slot, units, len, place) : yengatomu_previous(&slot, text, len, place),
                       is_utf16 ? yengatomu_next_utf16(&slot, units, len, place) : yengatomu_next(&slot, text, len, place)};
@@ -238,6 +267,8 @@ static bool is_done(char *line) {
         print_rooms();
     else if (sscanf(line, "wrap %zu", &number) == 1)
         print_wrapped(number);
+    else if (sscanf(line, "balanced %zu", &number) == 1)
+        print_balanced((uint32_t)number);
     else if (sscanf(line, "near %zu", &number) == 1)
         print_near(number);
     else if (!strcmp(line, "count") && is_utf16)

@@ -36,6 +36,8 @@ static void check_empty(yengatomu_slot *slot) {
     CHECK(yengatomu_wrap_columns(slot, text, 3, 0, 1, places, 4, widths, 4) == 0);
     CHECK(yengatomu_wrap_utf16(slot, units, 3, 0, 1, places, 4) == 0);
     CHECK(yengatomu_wrap_columns_utf16(slot, units, 3, 0, 1, places, 4, widths, 4) == 0);
+    CHECK(yengatomu_wrap_balanced(slot, text, 3, 0, 1, places, 4, widths, 4) == 0);
+    CHECK(yengatomu_wrap_balanced_utf16(slot, units, 3, 0, 1, places, 4, widths, 4) == 0);
     CHECK(places[0] == 7 && widths[0] == 7 && marks[0] == 7);
     CHECK(yengatomu_next(slot, text, 3, 0) == YENGATOMU_NONE);
     CHECK(yengatomu_next_utf16(slot, units, 3, 0) == YENGATOMU_NONE);
@@ -171,6 +173,13 @@ static void check_room(yengatomu_slot *slot, const char *text) {
         CHECK(yengatomu_wrap_columns(slot, bytes_of(text), len, 0, 3, some, ROOM, widths, room) == room);
         CHECK(!memcmp(some, all, room * sizeof *all) && some[room] == SIZE_MAX / 0xFF * 0xA5 && widths[room] == SIZE_MAX / 0xFF * 0xA5);
     }
+    count = yengatomu_wrap_balanced(slot, bytes_of(text), len, 0, 3, all, ROOM, widths, ROOM);
+    for (size_t room = 0; room <= count; room++) {
+        memset(some, 0xA5, sizeof some);
+        memset(widths, 0xA5, sizeof widths);
+        CHECK(yengatomu_wrap_balanced(slot, bytes_of(text), len, 0, 3, some, ROOM, widths, room) == count);
+        CHECK(!memcmp(some, all, room * sizeof *all) && some[room] == SIZE_MAX / 0xFF * 0xA5 && widths[room] == SIZE_MAX / 0xFF * 0xA5);
+    }
 }
 
 /* An empty text has the boundary 0 alone. */
@@ -189,6 +198,8 @@ static void check_empty_text(yengatomu_slot *slot) {
     CHECK(yengatomu_wrap_columns(slot, text, 0, 0, 80, places, 1, widths, 1) == 0);
     CHECK(yengatomu_wrap_utf16(slot, units, 0, 0, 80, places, 1) == 0);
     CHECK(yengatomu_wrap_columns_utf16(slot, units, 0, 0, 80, places, 1, widths, 1) == 0);
+    CHECK(yengatomu_wrap_balanced(slot, text, 0, 0, 80, places, 1, widths, 1) == 0);
+    CHECK(yengatomu_wrap_balanced_utf16(slot, units, 0, 0, 80, places, 1, widths, 1) == 0);
     CHECK(yengatomu_next_utf16(slot, units, 0, 0) == YENGATOMU_NONE);
     CHECK(yengatomu_previous_utf16(slot, units, 0, 0) == YENGATOMU_NONE);
     CHECK(yengatomu_previous_utf16(slot, units, 0, 1) == 0);
@@ -212,6 +223,8 @@ static void try_texts(void) {
         CHECK((yengatomu_count_words(&slot, bytes_of(text), sizeof text - 1) > 0) == (kind == YENGATOMU_WORDS));
         CHECK((yengatomu_wrap(&slot, bytes_of(text), sizeof text - 1, 0, SIZE_MAX, (size_t[9]){0}, 9) == 3) == (kind == YENGATOMU_LINES));
         CHECK((yengatomu_wrap(&slot, bytes_of(text), sizeof text - 1, 0, 0, (size_t[99]){0}, 99) > 3) == (kind == YENGATOMU_LINES));
+        CHECK((yengatomu_wrap_balanced(&slot, bytes_of(text), sizeof text - 1, 0, UINT32_MAX, (size_t[9]){0}, 9, (size_t[9]){0}, 9) > 0) ==
+              (kind == YENGATOMU_LINES));
         yengatomu_close(&slot);
     }
 }

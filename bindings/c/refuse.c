@@ -1,5 +1,6 @@
-/* Refuses each growth of open, open_rules, load_dictionary, load_abbreviations and count_by_cluster in turn, alone and with all that come behind it. Each must say that it is out of memory, leave no
- * block behind, and leave the slot empty, or as it was. The other calls must ask for no memory at all.
+/* Refuses each growth of open, open_rules, load_dictionary, load_abbreviations, count_by_cluster and wrap_balanced in turn, alone and with all that
+ * come behind it. Each must say that it is out of memory, leave no block behind, and leave the slot empty, or as it was. The other calls must ask
+ * for no memory at all.
  *
  * Link it with -Wl,--wrap=NAME for malloc, calloc, realloc, aligned_alloc, posix_memalign and free. */
 #include "check.h"
@@ -90,6 +91,35 @@ static long growths_of_calls(yengatomu_slot *slot) {
     yengatomu_count_words_utf16(slot, units, UNITS);
     left = -1;
     return asked - before;
+}
+
+/* Asks for balanced lines, of whose growths that of a number is refused. Returns whether one was. */
+static bool refuse_balanced(const yengatomu_slot *slot, long number, const size_t *wanted, size_t count) {
+    size_t ends[ROOM] = {0}, widths[ROOM], found;
+    long before = live;
+    refused = 0;
+    left = number;
+    found = yengatomu_wrap_balanced(slot, (const uint8_t *)text, sizeof text - 1, 0, 5, ends, ROOM, widths, ROOM);
+    left = -1;
+    CHECK(live == before);
+    if (found == YENGATOMU_NONE)
+        CHECK(refused && !ends[0]);
+    else
+        CHECK(found == count && !memcmp(ends, wanted, count * sizeof *wanted));
+    return refused;
+}
+
+/* Balanced lines owe memory while they are found, and only of lines. */
+static void refuse_balanced_lines(void) {
+    yengatomu_slot slot = {0};
+    size_t wanted[ROOM], widths[ROOM], count;
+    long number = 0;
+    CHECK(yengatomu_open(&slot, YENGATOMU_LINES, 0, 0, false) == YENGATOMU_OK);
+    count = yengatomu_wrap_balanced(&slot, (const uint8_t *)text, sizeof text - 1, 0, 5, wanted, ROOM, widths, ROOM);
+    CHECK(count > 2 && count < ROOM);
+    while (refuse_balanced(&slot, number, wanted, count)) number++;
+    CHECK(number > 4);
+    yengatomu_close(&slot);
 }
 
 /* The boundaries of the text by what the slot holds. */
@@ -263,6 +293,7 @@ int main(void) {
     }
     refuse_all_more(YENGATOMU_SENTENCES);
     refuse_all_more(YENGATOMU_LINES);
+    refuse_balanced_lines();
     CHECK(live == before);
     return failed ? 1 : 0;
 }

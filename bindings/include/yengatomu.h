@@ -147,6 +147,17 @@ size_t yengatomu_wrap_columns(const yengatomu_slot *slot, const uint8_t *text, s
 size_t yengatomu_wrap_columns_utf16(const yengatomu_slot *slot, const uint16_t *text, size_t len, size_t from, size_t columns, size_t *ends,
                                     size_t room, size_t *widths, size_t widths_room);
 
+/* Writes where the balanced lines of the first paragraph behind from end and how many columns they take, as many as both buffers have room for,
+ * and returns how many lines it has; where that is more, call again with more room. A paragraph ends where a line must, or with the text. Go on
+ * from its last end. A balanced line takes whole segments that fit in the columns, at least one, as a wrapped one does. Of all such lines they
+ * leave the least ragged edge: the sum of the squares of the columns that all lines but the last leave free is the least. 0 where from is len or
+ * more, where the slot is empty, and of other kinds than lines. YENGATOMU_NONE when out of memory: it takes some 200 bytes for each segment of
+ * the paragraph, and frees them. */
+size_t yengatomu_wrap_balanced(const yengatomu_slot *slot, const uint8_t *text, size_t len, size_t from, uint32_t columns, size_t *ends,
+                               size_t room, size_t *widths, size_t widths_room);
+size_t yengatomu_wrap_balanced_utf16(const yengatomu_slot *slot, const uint16_t *text, size_t len, size_t from, uint32_t columns,
+                                     size_t *ends, size_t room, size_t *widths, size_t widths_room);
+
 /* How many segments the text has: one less than it has boundaries. 0 where the slot is empty. */
 size_t yengatomu_count(const yengatomu_slot *slot, const uint8_t *text, size_t len);
 size_t yengatomu_count_utf16(const yengatomu_slot *slot, const uint16_t *text, size_t len);

@@ -1,12 +1,4 @@
 pub mod Owned
-pub mod Marks
-pub mod Loaded
-pub mod Abbreviated
-pub mod Columns
 pub mod Versions
-pub mod Words
-pub mod Wrapped
-pub mod Finders
-pub mod ByRules
-pub mod Options
+pub mod Held
 pub mod Lent

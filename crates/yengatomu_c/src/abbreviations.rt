@@ -1,27 +1,13 @@
 //! Abbreviations that a caller loads.
 
-ghost use Rattle.std.specs.Prelude.{◌≡◌, ◌⊎◌, IfErr, IfOk, IfSome, false};
-ghost use Rattle.icu_segmenter.specs.Abbreviations.{abbreviations_of};
-ghost use Rattle.icu_segmenter.specs.WordSets.{IsSameSet, code_points_of_each};
-ghost use Rattle.yengatomu_c.specs.Abbreviated.{AreLoaded, CanAbbreviate, HasTaken, IsWhy};
-ghost use Rattle.yengatomu_c.specs.Finders.{LineFeedsReset, finder_in, finder_of};
+ghost use Rattle.std.specs.Prelude.{◌≡◌, IfSome, false};
+ghost use Rattle.yengatomu_c.specs.Held.{finder_in};
+ghost use Rattle.yengatomu_segmenter.specs.Abbreviated.{AreLoaded};
+ghost use Rattle.yengatomu_segmenter.specs.Finders.{LineFeedsReset};
 
-use crate::dictionary::{Refusal as NoTexts, texts_of};
-use crate::segmenter::Segmenter;
 use crate::slot::Slot;
-use icu_segmenter::suppress::{AbbreviationError, Abbreviations};
 use std::alloc::Global;
-
-/// Why no abbreviations are loaded.
-#[derive(Clone, Copy, Debug, PartialEq, Eq)]
-pub enum Refusal {
-    /// Out of memory.
-    Memory,
-    /// What is held isn't a segmenter of sentences, or has abbreviations.
-    NoSuch,
-    /// A word isn't UTF-8, or has a line feed.
-    WrongWord,
-}
+use yengatomu_segmenter::abbreviations::{Refusal, load};
 
 /// Gives a segmenter of sentences the abbreviations after which sentences go on, as whole words with their full stops, if it has none yet. 0
 /// where they are loaded, 1 when out of memory, 2 where the slot holds no sentences, or has abbreviations, 3 where a word isn't UTF-8 or has a
@@ -49,33 +35,5 @@ pub extern "C" fn yengatomu_load_abbreviations(
         Err(Refusal::Memory) => 1,
         Err(Refusal::NoSuch) => 2,
         Err(Refusal::WrongWord) => 3,
-    }
-}
-
-fn load(alloc: Global, segmenter: &mut Segmenter, words: &[&[u8]]) -> Result<(), Refusal>
-    ensures loaded { IfOk result (λ _. HasTaken words.now (finder_of segmenter.old) (finder_of segmenter.new)) }
-    ensures rejected { IfErr result (λ why. (finder_of segmenter.new ≡ finder_of segmenter.old) × IsWhy words.now (finder_of segmenter.old) why) }
-{
-    if !segmenter.takes_abbreviations() {
-        return Err(Refusal::NoSuch);
-    }
-    let abbreviations = set_of(alloc, words)?;
-    segmenter.take_abbreviations(abbreviations);
-    Ok(())
-}
-
-fn set_of(alloc: Global, words: &[&[u8]]) -> Result<Abbreviations, Refusal>
-    ensures words { IfOk result (λ abbreviations. IsSameSet (abbreviations_of abbreviations) (code_points_of_each words.now) × CanAbbreviate words.now) }
-    ensures rejected { IfErr result (λ why. (why ≡ Refusal.Memory) ⊎ ((why ≡ Refusal.WrongWord) × (CanAbbreviate words.now → ⊥))) }
-{
-    let texts = match texts_of(alloc, words) {
-        Ok(texts) => texts,
-        Err(NoTexts::Memory) => return Err(Refusal::Memory),
-        Err(_) => return Err(Refusal::WrongWord),
-    };
-    match Abbreviations::try_from_words(alloc, texts.as_slice()) {
-        Ok(abbreviations) => Ok(abbreviations),
-        Err(AbbreviationError::Memory) => Err(Refusal::Memory),
-        Err(AbbreviationError::LineFeed) => Err(Refusal::WrongWord),
     }
 }

@@ -2,13 +2,13 @@
 
 ghost use Rattle.std.specs.Prelude.{◌≡◌, Bool, Option, Some, None, true, false};
 ghost use denote.RawPtr.{Ptr};
-ghost use Rattle.yengatomu_c.specs.declared.segmenter.Segmenter.{Segmenter};
+ghost use Rattle.yengatomu_segmenter.specs.declared.segmenter.Segmenter.{Segmenter};
 ghost use Rattle.yengatomu_c.specs.Owned.{owned, held_coded, is_held};
 
 use crate::parts::Parts;
-use crate::segmenter::Segmenter;
 use std::alloc::Global;
 use std::marker::Model;
+use yengatomu_segmenter::segmenter::Segmenter;
 
 /// What owns the box, unless that is lent. It has no bytes.
 #[repr(C)]

@@ -1,17 +1,17 @@
 //! What a segmenter says of Latin-1, for C: each byte is a code point. Places are bytes.
 
-ghost use Rattle.std.specs.Prelude.{◌≡◌, ◌+◌, ◌<◌, ◌^◌, [], Contains, IfSome, None, drop, length, min};
+ghost use Rattle.std.specs.Prelude.{◌≡◌, [], Contains, IfSome, None, length, min};
 ghost use Rattle.icu_segmenter.specs.Boundaries.{HasRestart};
 ghost use Rattle.icu_segmenter.specs.Decoding.{latin1};
 ghost use Rattle.icu_segmenter.specs.Filled.{IsFilled, TakesFirst};
+ghost use Rattle.yengatomu_c.specs.Held.{finder_in};
 ghost use Rattle.yengatomu_c.specs.Lent.{IsLentBy};
-ghost use Rattle.yengatomu_c.specs.Finders.{GoesOnAt, find_by, finder_in, finder_of, marks_behind, places_behind, places_in};
+ghost use Rattle.yengatomu_segmenter.specs.Finders.{GoesOnAt, find_by, marks_behind, places_behind, places_in};
 
+use crate::Found;
 use crate::loan::Loan;
-use crate::segmenter::{Segmenter, suppressing};
 use crate::slot::Slot;
-use crate::texts::rest_of;
-use crate::{Found, buffers};
+use yengatomu_segmenter::latin1::{boundaries, marked_boundaries};
 
 /// `yengatomu_boundaries` of Latin-1.
 #[unsafe(no_mangle)]
@@ -40,21 +40,6 @@ pub extern "C" fn yengatomu_boundaries_latin1(
     }
 }
 
-fn boundaries(segmenter: &Segmenter, text: &[u8], from: usize, places: &mut [usize]) -> usize
-    ensures { IsFilled (places_behind (finder_of segmenter.now) latin1 text.now from) places.old places.new result }
-{
-    let rest = rest_of(text, from);
-    match segmenter {
-        Segmenter::Clusters(s) => buffers::fill(s.as_borrowed().segment_latin1(rest), from, places),
-        Segmenter::Words(s) => buffers::fill(s.as_borrowed().segment_latin1(rest), from, places),
-        Segmenter::Sentences(s, known) => match known.as_ref() {
-            None => buffers::fill(s.as_borrowed().segment_latin1(rest), from, places),
-            Some(a) => buffers::fill(suppressing(s, a).segment_latin1(rest), from, places),
-        },
-        Segmenter::Lines(s, _) => buffers::fill(s.as_borrowed().segment_latin1(rest), from, places),
-    }
-}
-
 /// `yengatomu_marked_boundaries` of Latin-1.
 #[unsafe(no_mangle)]
 pub extern "C" fn yengatomu_marked_boundaries_latin1(
@@ -80,37 +65,5 @@ pub extern "C" fn yengatomu_marked_boundaries_latin1(
             }
         }
         Err(loan) => Found { count: 0, loan },
-    }
-}
-
-fn marked_boundaries(
-    segmenter: &Segmenter,
-    text: &[u8],
-    from: usize,
-    places: &mut [usize],
-    marks: &mut [u8],
-) -> usize
-    ensures places { TakesFirst (min (length places.old) (length marks.old)) (places_behind (finder_of segmenter.now) latin1 text.now from) places.old places.new result }
-    ensures marks { TakesFirst (min (length places.old) (length marks.old)) (marks_behind (finder_of segmenter.now) latin1 text.now from) marks.old marks.new result }
-{
-    let rest = rest_of(text, from);
-    match segmenter {
-        Segmenter::Clusters(s) => {
-            buffers::fill_marked(s.as_borrowed().segment_latin1(rest), from, places, marks)
-        }
-        Segmenter::Words(s) => {
-            buffers::fill_marked(s.as_borrowed().segment_latin1(rest), from, places, marks)
-        }
-        Segmenter::Sentences(s, known) => match known.as_ref() {
-            None => {
-                buffers::fill_marked(s.as_borrowed().segment_latin1(rest), from, places, marks)
-            },
-            Some(a) => {
-                buffers::fill_marked(suppressing(s, a).segment_latin1(rest), from, places, marks)
-            },
-        },
-        Segmenter::Lines(s, _) => {
-            buffers::fill_marked(s.as_borrowed().segment_latin1(rest), from, places, marks)
-        }
     }
 }

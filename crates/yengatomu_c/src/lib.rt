@@ -13,40 +13,36 @@ ghost use Rattle.icu_segmenter.specs.Boundaries.{HasRestart};
 ghost use Rattle.icu_segmenter.specs.Decoding.{utf8};
 ghost use Rattle.icu_segmenter.specs.NearBoundaries.{IsNearestAbove, IsNearestBelow};
 ghost use Rattle.icu_segmenter.specs.Filled.{IsFilled, TakesFirst};
-ghost use Rattle.yengatomu_c.specs.ByRules.{IsOpenedByRules};
-ghost use Rattle.yengatomu_c.specs.Finders.{GoesOnAt, LineFeedsReset, find_by, finder_in, marks_behind, places_behind, places_in};
+ghost use Rattle.yengatomu_segmenter.specs.ByRules.{IsOpenedByRules};
+ghost use Rattle.yengatomu_c.specs.Held.{finder_in};
+ghost use Rattle.yengatomu_segmenter.specs.Finders.{GoesOnAt, LineFeedsReset, find_by, marks_behind, places_behind, places_in};
 ghost use Rattle.yengatomu_c.specs.Lent.{IsLentBy};
-ghost use Rattle.yengatomu_c.specs.Loaded.{IsLoaded, numbered_script};
-ghost use Rattle.yengatomu_c.specs.Options.{IsOpened, numbered_finder};
-ghost use Rattle.yengatomu_c.specs.Words.{word_count};
-ghost use Rattle.yengatomu_c.specs.Wrapped.{ends_from, widths_of, wrapped_behind};
+ghost use Rattle.yengatomu_segmenter.specs.Loaded.{IsLoaded, numbered_script};
+ghost use Rattle.yengatomu_segmenter.specs.Options.{IsOpened, numbered_finder};
+ghost use Rattle.yengatomu_segmenter.specs.Words.{word_count};
+ghost use Rattle.yengatomu_segmenter.specs.Wrapped.{ends_from, widths_of, wrapped_behind};
 
 mod abbreviations;
-mod buffers;
+mod balanced;
 mod columns;
-mod dictionary;
 mod handle;
 mod latin1;
 pub mod laws;
 mod loan;
 mod parts;
-mod request;
-mod rules;
-mod segmenter;
 mod slot;
-mod texts;
 mod utf16;
 mod versions;
-mod wrapped;
 
-use dictionary::Refusal;
 use icu_segmenter::provider::DataError;
 use loan::Loan;
-use request::{LineNumbers, requested};
-use rules::Complaint;
-use segmenter::Segmenter;
 use slot::Slot;
 use std::alloc::Global;
+use yengatomu_segmenter::dictionary::Refusal;
+use yengatomu_segmenter::request::{LineNumbers, requested};
+use yengatomu_segmenter::rules::Complaint;
+use yengatomu_segmenter::segmenter::Segmenter;
+use yengatomu_segmenter::{dictionary, rules, texts, wrapped};
 
 /// What a call that reads gives: a number, which is all that C sees, and the loan.
 #[repr(C)]

@@ -3,11 +3,11 @@
 ghost use Rattle.std.specs.Prelude.{◌≡◌, Option, Some, true};
 ghost use base.Fml.{Lft, Share};
 ghost use denote.RawPtr.{Ptr};
-ghost use Rattle.yengatomu_c.specs.declared.segmenter.Segmenter.{Segmenter};
+ghost use Rattle.yengatomu_segmenter.specs.declared.segmenter.Segmenter.{Segmenter};
 ghost use Rattle.yengatomu_c.specs.Owned.{loan_owns, lease_owns, lease_shares, held_coded, value_coded, share_coded, is_held};
 
-use crate::segmenter::Segmenter;
 use std::marker::Model;
+use yengatomu_segmenter::segmenter::Segmenter;
 
 /// A `&` to what a slot's box holds for the time for which it is lent, and a share of the right to end that time; of an empty slot nothing.
 /// It has no bytes, so C passes nothing for it.

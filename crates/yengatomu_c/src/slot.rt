@@ -6,9 +6,9 @@ ghost use Rattle.yengatomu_c.specs.Owned.{is_held};
 use crate::handle::Handle;
 use crate::loan::{Lease, Loan};
 use crate::parts::Parts;
-use crate::segmenter::Segmenter;
 use std::alloc::Global;
 use std::mem;
+use yengatomu_segmenter::segmenter::Segmenter;
 
 /// Zero bytes are an empty one. C reads and writes nothing of it.
 #[repr(C)]

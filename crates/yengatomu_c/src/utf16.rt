@@ -1,21 +1,21 @@
 //! What a segmenter says of possibly ill-formed UTF-16, for C. Places are 16-bit units.
 
-ghost use Rattle.std.specs.Prelude.{◌≡◌, ◌+◌, ◌<◌, ◌^◌, [], Contains, IfSome, None, drop, length, min};
+ghost use Rattle.std.specs.Prelude.{◌≡◌, ◌+◌, [], Contains, IfSome, None, length, min};
 ghost use Rattle.icu_segmenter.specs.Boundaries.{HasRestart};
 ghost use Rattle.icu_segmenter.specs.Decoding.{utf16};
 ghost use Rattle.icu_segmenter.specs.Filled.{IsFilled, TakesFirst};
+ghost use Rattle.yengatomu_c.specs.Held.{finder_in};
 ghost use Rattle.yengatomu_c.specs.Lent.{IsLentBy};
-ghost use Rattle.yengatomu_c.specs.Finders.{GoesOnAt, find_by, finder_in, finder_of, marks_behind, places_behind, places_in};
-ghost use Rattle.yengatomu_c.specs.Words.{word_count};
+ghost use Rattle.yengatomu_segmenter.specs.Finders.{GoesOnAt, find_by, marks_behind, places_behind, places_in};
+ghost use Rattle.yengatomu_segmenter.specs.Words.{word_count};
 
 mod near;
 mod wrapped;
 
+use crate::Found;
 use crate::loan::Loan;
-use crate::segmenter::{Segmenter, suppressing};
 use crate::slot::Slot;
-use crate::texts::rest_of;
-use crate::{Found, buffers};
+use yengatomu_segmenter::utf16::{boundaries, count, count_words, marked_boundaries};
 
 /// `yengatomu_boundaries` of UTF-16.
 #[unsafe(no_mangle)]
@@ -41,21 +41,6 @@ pub extern "C" fn yengatomu_boundaries_utf16(
             }
         }
         Err(loan) => Found { count: 0, loan },
-    }
-}
-
-fn boundaries(segmenter: &Segmenter, text: &[u16], from: usize, places: &mut [usize]) -> usize
-    ensures { IsFilled (places_behind (finder_of segmenter.now) utf16 text.now from) places.old places.new result }
-{
-    let rest = rest_of(text, from);
-    match segmenter {
-        Segmenter::Clusters(s) => buffers::fill(s.as_borrowed().segment_utf16(rest), from, places),
-        Segmenter::Words(s) => buffers::fill(s.as_borrowed().segment_utf16(rest), from, places),
-        Segmenter::Sentences(s, known) => match known.as_ref() {
-            None => buffers::fill(s.as_borrowed().segment_utf16(rest), from, places),
-            Some(a) => buffers::fill(suppressing(s, a).segment_utf16(rest), from, places),
-        },
-        Segmenter::Lines(s, _) => buffers::fill(s.as_borrowed().segment_utf16(rest), from, places),
     }
 }
 
@@ -87,38 +72,6 @@ pub extern "C" fn yengatomu_marked_boundaries_utf16(
     }
 }
 
-fn marked_boundaries(
-    segmenter: &Segmenter,
-    text: &[u16],
-    from: usize,
-    places: &mut [usize],
-    marks: &mut [u8],
-) -> usize
-    ensures places { TakesFirst (min (length places.old) (length marks.old)) (places_behind (finder_of segmenter.now) utf16 text.now from) places.old places.new result }
-    ensures marks { TakesFirst (min (length places.old) (length marks.old)) (marks_behind (finder_of segmenter.now) utf16 text.now from) marks.old marks.new result }
-{
-    let rest = rest_of(text, from);
-    match segmenter {
-        Segmenter::Clusters(s) => {
-            buffers::fill_marked(s.as_borrowed().segment_utf16(rest), from, places, marks)
-        }
-        Segmenter::Words(s) => {
-            buffers::fill_marked(s.as_borrowed().segment_utf16(rest), from, places, marks)
-        }
-        Segmenter::Sentences(s, known) => match known.as_ref() {
-            None => {
-                buffers::fill_marked(s.as_borrowed().segment_utf16(rest), from, places, marks)
-            },
-            Some(a) => {
-                buffers::fill_marked(suppressing(s, a).segment_utf16(rest), from, places, marks)
-            },
-        },
-        Segmenter::Lines(s, _) => {
-            buffers::fill_marked(s.as_borrowed().segment_utf16(rest), from, places, marks)
-        }
-    }
-}
-
 /// `yengatomu_count` of UTF-16.
 #[unsafe(no_mangle)]
 pub extern "C" fn yengatomu_count_utf16(slot: &Slot, loan: Loan, text: &[u16]) -> Found
@@ -139,20 +92,6 @@ pub extern "C" fn yengatomu_count_utf16(slot: &Slot, loan: Loan, text: &[u16]) -
     }
 }
 
-fn count(segmenter: &Segmenter, text: &[u16]) -> usize
-    ensures { result + 1 ≡ length (places_in (finder_of segmenter.now) utf16 text.now) }
-{
-    match segmenter {
-        Segmenter::Clusters(s) => buffers::count(s.as_borrowed().segment_utf16(text)),
-        Segmenter::Words(s) => buffers::count(s.as_borrowed().segment_utf16(text)),
-        Segmenter::Sentences(s, known) => match known.as_ref() {
-            None => buffers::count(s.as_borrowed().segment_utf16(text)),
-            Some(a) => buffers::count(suppressing(s, a).segment_utf16(text)),
-        },
-        Segmenter::Lines(s, _) => buffers::count(s.as_borrowed().segment_utf16(text)),
-    }
-}
-
 /// `yengatomu_count_words` of UTF-16.
 #[unsafe(no_mangle)]
 pub extern "C" fn yengatomu_count_words_utf16(slot: &Slot, loan: Loan, text: &[u16]) -> Found
@@ -170,14 +109,5 @@ pub extern "C" fn yengatomu_count_words_utf16(slot: &Slot, loan: Loan, text: &[u
             }
         }
         Err(loan) => Found { count: 0, loan },
-    }
-}
-
-fn count_words(segmenter: &Segmenter, text: &[u16]) -> usize
-    ensures { result ≡ word_count (finder_of segmenter.now) utf16 text.now }
-{
-    match segmenter {
-        Segmenter::Words(s) => buffers::count_words(s.as_borrowed().segment_utf16(text)),
-        Segmenter::Clusters(_) | Segmenter::Sentences(_, _) | Segmenter::Lines(_, _) => 0,
     }
 }

@@ -271,6 +271,34 @@ extern "C" {
         widths_room: usize,
     ) -> usize;
 
+    /// Writes where the balanced lines of the first paragraph behind `from` end and how many columns they take, as many as both buffers have room
+    /// for, and returns how many lines it has. Go on from the last end. 0 where `from` is `len` or more, where the slot is empty, and of other
+    /// kinds than lines. `YENGATOMU_NONE` when out of memory.
+    pub fn yengatomu_wrap_balanced(
+        slot: *const yengatomu_slot,
+        text: *const u8,
+        len: usize,
+        from: usize,
+        columns: u32,
+        ends: *mut usize,
+        room: usize,
+        widths: *mut usize,
+        widths_room: usize,
+    ) -> usize;
+
+    /// [`yengatomu_wrap_balanced`] of UTF-16; places are 16-bit units.
+    pub fn yengatomu_wrap_balanced_utf16(
+        slot: *const yengatomu_slot,
+        text: *const u16,
+        len: usize,
+        from: usize,
+        columns: u32,
+        ends: *mut usize,
+        room: usize,
+        widths: *mut usize,
+        widths_room: usize,
+    ) -> usize;
+
     /// How many segments the text has: one less than it has boundaries. 0 where the slot is empty.
     pub fn yengatomu_count(slot: *const yengatomu_slot, text: *const u8, len: usize) -> usize;
 

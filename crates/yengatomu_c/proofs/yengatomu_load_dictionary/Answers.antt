@@ -1,9 +1,9 @@
 use Rattle.std.proofs.Common.{ap, sym, ◌∙◌}
 use Rattle.std.specs.Prelude.{Some}
 use Rattle.std.specs.Option.{option_map}
-use Rattle.yengatomu_c.specs.Finders.{finder_of}
-use Rattle.yengatomu_c.specs.declared.segmenter.Segmenter.{Segmenter}
-use Rattle.yengatomu_c.proofs.Feeds.{feeds-kept}
+use Rattle.yengatomu_segmenter.specs.Finders.{finder_of}
+use Rattle.yengatomu_segmenter.specs.declared.segmenter.Segmenter.{Segmenter}
+use Rattle.yengatomu_segmenter.proofs.Feeds.{feeds-kept}
 use Rattle.yengatomu_c.proofs.yengatomu_load_dictionary.Goals as goal
 
 pub returns-in-Ok : goal.returns-in-Ok

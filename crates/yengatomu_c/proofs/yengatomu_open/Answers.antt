@@ -1,4 +1,4 @@
-use Rattle.yengatomu_c.proofs.Feeds.{feeds-reset}
+use Rattle.yengatomu_segmenter.proofs.Feeds.{feeds-reset}
 use Rattle.yengatomu_c.proofs.yengatomu_open.Goals as goal
 
 pub returns-in-Ok-clause-feeds : goal.returns-in-Ok-clause-feeds

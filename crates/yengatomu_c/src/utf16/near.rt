@@ -3,14 +3,14 @@
 ghost use Rattle.std.specs.Prelude.{◌≡◌, ◌-◌, ◌^◌, ℕ, IfSome, None, Option, unwrap_or};
 ghost use Rattle.icu_segmenter.specs.Decoding.{utf16};
 ghost use Rattle.icu_segmenter.specs.NearBoundaries.{IsNearestAbove, IsNearestBelow};
+ghost use Rattle.yengatomu_c.specs.Held.{finder_in};
 ghost use Rattle.yengatomu_c.specs.Lent.{IsLentBy};
-ghost use Rattle.yengatomu_c.specs.Finders.{finder_in, finder_of, places_in};
+ghost use Rattle.yengatomu_segmenter.specs.Finders.{places_in};
 
 use crate::loan::Loan;
-use crate::segmenter::{Segmenter, suppressing};
 use crate::slot::Slot;
 use crate::{Found, NONE};
-use icu_segmenter::cursor::BoundaryCursor;
+use yengatomu_segmenter::utf16::{next, previous};
 
 /// `yengatomu_next` of UTF-16.
 #[unsafe(no_mangle)]
@@ -29,24 +29,6 @@ pub extern "C" fn yengatomu_next_utf16(slot: &Slot, loan: Loan, text: &[u16], pl
             }
         }
         Err(loan) => Found { count: NONE, loan },
-    }
-}
-
-fn next(segmenter: &Segmenter, text: &[u16], place: usize) -> Option<usize>
-    ensures nearest { IsNearestAbove (places_in (finder_of segmenter.now) utf16 text.now) place result }
-{
-    match segmenter {
-        Segmenter::Clusters(s) => BoundaryCursor::of_utf16(s.as_borrowed(), text).next_boundary(
-            place,
-        ),
-        Segmenter::Words(s) => BoundaryCursor::of_utf16(s.as_borrowed(), text).next_boundary(place),
-        Segmenter::Sentences(s, known) => match known.as_ref() {
-            None => BoundaryCursor::of_utf16(s.as_borrowed(), text).next_boundary(place),
-            Some(a) => BoundaryCursor::of_utf16(suppressing(s, a), text).next_boundary(place),
-        },
-        Segmenter::Lines(s, _) => BoundaryCursor::of_utf16(s.as_borrowed(), text).next_boundary(
-            place,
-        ),
     }
 }
 
@@ -72,25 +54,5 @@ pub extern "C" fn yengatomu_previous_utf16(
             }
         }
         Err(loan) => Found { count: NONE, loan },
-    }
-}
-
-fn previous(segmenter: &Segmenter, text: &[u16], place: usize) -> Option<usize>
-    ensures nearest { IsNearestBelow (places_in (finder_of segmenter.now) utf16 text.now) place result }
-{
-    match segmenter {
-        Segmenter::Clusters(s) => BoundaryCursor::of_utf16(s.as_borrowed(), text).previous_boundary(
-            place,
-        ),
-        Segmenter::Words(s) => BoundaryCursor::of_utf16(s.as_borrowed(), text).previous_boundary(
-            place,
-        ),
-        Segmenter::Sentences(s, known) => match known.as_ref() {
-            None => BoundaryCursor::of_utf16(s.as_borrowed(), text).previous_boundary(place),
-            Some(a) => BoundaryCursor::of_utf16(suppressing(s, a), text).previous_boundary(place),
-        },
-        Segmenter::Lines(s, _) => BoundaryCursor::of_utf16(s.as_borrowed(), text).previous_boundary(
-            place,
-        ),
     }
 }

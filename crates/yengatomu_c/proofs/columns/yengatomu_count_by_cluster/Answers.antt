@@ -1,9 +1,9 @@
 use Rattle.std.proofs.Common.{ap, sym, ◌∙◌}
 use Rattle.std.specs.Prelude.{Some}
 use Rattle.std.specs.Option.{option_map}
-use Rattle.yengatomu_c.specs.Finders.{Finder, finder_of}
-use Rattle.yengatomu_c.specs.declared.segmenter.Segmenter.{Segmenter}
-use Rattle.yengatomu_c.proofs.Feeds.{feeds-counted, restart-counted}
+use Rattle.yengatomu_segmenter.specs.Finders.{Finder, finder_of}
+use Rattle.yengatomu_segmenter.specs.declared.segmenter.Segmenter.{Segmenter}
+use Rattle.yengatomu_segmenter.proofs.Feeds.{feeds-counted, restart-counted}
 use Rattle.yengatomu_c.proofs.columns.yengatomu_count_by_cluster.Goals as goal
 
 pub returns-in-Ok : goal.returns-in-Ok

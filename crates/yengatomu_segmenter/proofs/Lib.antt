@@ -1,0 +1,7 @@
+pub mod GoingOn
+pub mod Feeds
+mod Counted
+mod Lines
+mod Marked
+mod ReadWords
+mod Spans

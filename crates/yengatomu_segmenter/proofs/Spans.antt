@@ -1,0 +1,41 @@
+-- Balanced lines stay in their text, and are written one by one.
+use Rattle.std.proofs.Common.{◌≡◌, ℕ, ◌+◌, ◌-◌, ◌<◌, ◌≤◌, ◌^◌, List, [], ◌∷◌, length, drop, get_or, map, suc, zero, refl, sym, ap, ◌∙◌, subst, arith}
+use Rattle.std.specs.List.{All}
+use Rattle.std.proofs.lemmas.List.Elements.{All-cons}
+use Rattle.icu_segmenter.specs.Items.{IsRising, Text, rest_after, start_of}
+use Rattle.icu_segmenter.specs.Paragraphs.{GivesParagraph, ParagraphsLeft, spans_of}
+use Rattle.icu_segmenter.specs.Wrapping.{Line}
+use Rattle.seg_text.proofs.Places.{IsRising-drop}
+use Rattle.seg_wrap.proofs.Places.{place-within}
+use Rattle.seg_wrap.proofs.Texts.{IsTextOf}
+use Rattle.seg_wrap.specs.declared.wrap.wrapping.Span.{Span}
+
+spans-within : (text : Text) (lines : List Line) → IsRising text.items text.end → All (λ (span : Span). span.end ≤ text.end) (spans_of text lines)
+unfolding spans_of
+spans-within text [] rises = λ k default below. absurd (omega (arith, below))
+spans-within text (line ∷ lines) rises =
+    let on = IsRising-drop text.items text.end (length line.characters) rises in
+    All-cons (λ (span : Span). span.end ≤ text.end) _ _ (place-within (rest_after (length line.characters) text).items text.end on)
+    (spans-within (rest_after (length line.characters) text) lines on)
+
+-- lines of the units behind a place end at places that fit
+pub lines-fit : (units : List ℕ) (from : ℕ) (text : Text) (before after : ParagraphsLeft) (spans : List Span) → IsTextOf units text → before.text ≡ text
+    → from + length units < 2 ^ 64 → GivesParagraph before spans after → All (λ (span : Span). from + span.end < 2 ^ 64) spans
+lines-fit units from text before after spans is same fits gives k default below =
+    let within : All (λ (span : Span). span.end ≤ text.end) spans
+    = subst (λ (found : List Span). All (λ (span : Span). span.end ≤ text.end) found) (sym (gives.stand ∙ ap (λ (t : Text). spans_of t gives.lines) same)) (spans-within text gives.lines is.rises) in
+    omega (arith, within k default below, is.end, fits)
+
+pub nothing-fits : (from : ℕ) → All (λ (span : Span). from + span.end < 2 ^ 64) []
+nothing-fits from = λ k default below. absurd (omega (arith, below))
+
+-- the next of them
+pub next-of : {X : Type 0} (f : Span → X) (spans : List Span) (index : ℕ) (default : Span) → index < length spans
+    → drop index (map f spans) ≡ f (get_or spans index default) ∷ drop (index + 1) (map f spans)
+next-of f [] index default below = absurd (omega (arith, below))
+next-of f (span ∷ spans) zero default below = refl
+next-of f (span ∷ spans) (suc index) default below =
+    next-of f spans index default (omega (arith, below)) ∙ ap (λ (n : ℕ). f (get_or spans index default) ∷ drop n (map f (span ∷ spans))) one
+  where
+    one : suc (index + 1) ≡ suc index + 1
+    one = omega (arith)

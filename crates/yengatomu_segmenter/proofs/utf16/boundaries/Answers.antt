@@ -1,0 +1,22 @@
+use Rattle.std.proofs.Common.{ℕ, ◌+◌, List, ap₂, map, subst, ◌∙◌}
+use Rattle.std.specs.Prelude.{drop}
+use Rattle.icu_segmenter.specs.Boundary.{Boundary}
+use Rattle.icu_segmenter.specs.Boundaries.{boundaries_in, offsets}
+use Rattle.icu_segmenter.specs.Decoding.{utf16}
+use Rattle.icu_segmenter.specs.WordRules.{WordRules, word_boundaries_of}
+use Rattle.icu_segmenter.specs.Filled.{IsFilled}
+use Rattle.yengatomu_segmenter.proofs.utf16.boundaries.Goals as goal
+
+pub returns-in-Words : goal.returns-in-Words
+returns-in-Words c =
+    rw c.in-Words.is
+    (subst (λ (found : List Boundary). IsFilled (map (λ place. c.args.from + place) (offsets (drop 1 found))) c.args.places.now c.fill-in-Words.new.places c.fill-in-Words.result)
+    (c.segment_utf16-in-Words.ensures.boundaries ∙ ap₂ (λ (rules : WordRules) (units : List ℕ). word_boundaries_of rules (utf16 units)) c.as_borrowed-in-Words.ensures c.rest_of-rest.ensures.rest)
+    c.fill-in-Words.ensures)
+
+pub returns-in-Some : goal.returns-in-Some
+returns-in-Some c =
+    rw (c.in-Sentences.is, ← c.in-Some.ensures.value)
+    (subst (λ (found : List Boundary). IsFilled (map (λ place. c.args.from + place) (offsets (drop 1 found))) c.args.places.now c.fill-in-Some.new.places c.fill-in-Some.result)
+    (c.segment_utf16-in-Some.ensures.boundaries ∙ ap₂ (λ (find : List ℕ → List Boundary) (units : List ℕ). boundaries_in find (utf16 units)) c.suppressing.ensures c.rest_of-rest.ensures.rest)
+    c.fill-in-Some.ensures)

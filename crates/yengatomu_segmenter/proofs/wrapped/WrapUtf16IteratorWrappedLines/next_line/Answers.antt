@@ -1,0 +1,6 @@
+use Rattle.std.proofs.Common.{ap, length}
+use Rattle.icu_segmenter.specs.WrappedLines.{utf16_line_in}
+use Rattle.yengatomu_segmenter.proofs.wrapped.WrapUtf16IteratorWrappedLines.next_line.Goals as goal
+
+pub returns : goal.returns
+returns c = (utf16_line_in c.in_ok-line.line, (c.in_ok-line.ensures.steps, (ap length c.units.ensures, c.columns.ensures)))

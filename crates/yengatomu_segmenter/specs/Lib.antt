@@ -1,0 +1,10 @@
+pub mod Marks
+pub mod Loaded
+pub mod Abbreviated
+pub mod Columns
+pub mod Words
+pub mod Wrapped
+pub mod Finders
+pub mod ByRules
+pub mod Options
+pub mod Balanced
