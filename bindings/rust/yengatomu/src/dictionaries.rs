@@ -14,9 +14,9 @@ const LISTS: [(&str, Script); 5] = [
 ];
 const MARK: char = '\u{feff}';
 
-/// Words without the white space around them, but for blank ones.
-pub(crate) fn listed<W: AsRef<[u8]>>(words: &[W]) -> Result<Vec<&str>, Error> {
-    let mut found = Vec::with_capacity(words.len());
+/// Words without the white space around them, a line each, but for blank ones.
+pub(crate) fn listed<W: AsRef<[u8]>>(words: &[W]) -> Result<String, Error> {
+    let mut found = String::with_capacity(words.iter().map(|word| word.as_ref().len() + 1).sum());
     for (number, word) in words.iter().enumerate() {
         let word = std::str::from_utf8(word.as_ref()).map_err(|_| Error::NotUtf8)?;
         let word = if number == 0 { word.trim_start_matches(MARK) } else { word }.trim();
@@ -24,7 +24,8 @@ pub(crate) fn listed<W: AsRef<[u8]>>(words: &[W]) -> Result<Vec<&str>, Error> {
             return Err(Error::LineFeed);
         }
         if !word.is_empty() {
-            found.push(word);
+            found.push_str(word);
+            found.push('\n');
         }
     }
     Ok(found)

@@ -21,7 +21,7 @@ impl<K: Kind> Segmenter<K> {
     /// ```
     #[inline]
     pub fn fill_boundaries<U: Unit>(&self, text: &[U], from: usize, places: &mut [usize]) -> usize {
-        Calls::boundaries(&self.slot, text, from, places)
+        Calls::boundaries(self.slot(), text, from, places)
     }
 
     /// [`fill_boundaries`](Self::fill_boundaries) of a text in Latin-1: each byte is a code point, and places are bytes.
@@ -35,14 +35,14 @@ impl<K: Kind> Segmenter<K> {
     /// ```
     #[inline]
     pub fn fill_boundaries_latin1(&self, text: &[u8], from: usize, places: &mut [usize]) -> usize {
-        self.slot.boundaries_latin1(text, from, places)
+        self.slot().boundaries_latin1(text, from, places)
     }
 
     /// Whether it has a dictionary or abbreviations: what they look at may begin before a boundary, so the boundaries of a text go on only from
     /// behind a line feed.
     #[must_use]
     pub fn has_words(&self) -> bool {
-        self.slot.has_words()
+        self.slot().has_words()
     }
 }
 
@@ -62,7 +62,7 @@ impl<K: Marked> Segmenter<K> {
     /// ```
     #[inline]
     pub fn fill_marked_boundaries<U: Unit>(&self, text: &[U], from: usize, places: &mut [usize], marks: &mut [u8]) -> usize {
-        Calls::marked_boundaries(&self.slot, text, from, places, marks)
+        Calls::marked_boundaries(self.slot(), text, from, places, marks)
     }
 
     /// [`fill_marked_boundaries`](Self::fill_marked_boundaries) of a text in Latin-1: each byte is a code point, and places are bytes.
@@ -80,6 +80,6 @@ impl<K: Marked> Segmenter<K> {
     /// ```
     #[inline]
     pub fn fill_marked_boundaries_latin1(&self, text: &[u8], from: usize, places: &mut [usize], marks: &mut [u8]) -> usize {
-        self.slot.marked_boundaries_latin1(text, from, places, marks)
+        self.slot().marked_boundaries_latin1(text, from, places, marks)
     }
 }

@@ -54,7 +54,8 @@
 //! });
 //! ```
 //!
-//! What changes a segmenter, as [`load_dictionary`](Segmenter::load_dictionary), takes `&mut self`, so it must be done before others use it.
+//! What changes a segmenter, as [`load_dictionary`](Segmenter::load_dictionary), takes `&mut self`, so it must be done before others use it, or to a
+//! clone.
 //!
 //! ```compile_fail,E0596
 //! # use std::sync::LazyLock;
@@ -76,8 +77,10 @@
 use std::fmt;
 use std::marker::PhantomData;
 use std::path::Path;
+use std::sync::Arc;
 
 use crate::feed::{Ends, Feed, Marks, Pieces, Wraps};
+use crate::held::{Change, Held, Origin};
 use crate::iter::{Boundaries, Lines, MarkedSegments, SegmentIndices, Segments, Words};
 use crate::kind::{Kind, Marked};
 use crate::raw::{Calls, Slot};
@@ -86,6 +89,7 @@ mod buffer;
 mod dictionaries;
 mod feed;
 mod fill;
+mod held;
 pub mod iter;
 pub mod kind;
 mod options;
@@ -110,24 +114,22 @@ pub use text::{Slice, Text, Unit};
 ///
 /// `new` reads Unicode's data anew, which takes about a millisecond (the example `open` measures it), so make a segmenter once and keep it.
 ///
-/// There is no `Clone`: the library has no call that copies what a segmenter holds, and to make it anew would take as long as `new` and the
-/// dictionaries did, and may fail. All calls that segment take `&self`, so an [`Arc`](std::sync::Arc) shares a segmenter, between threads too, and its
-/// clones take no time:
+/// A clone shares what the segmenter holds, so it takes no time and no memory to speak of, and can't fail. What changes a segmenter changes this one
+/// alone, and its clones stay as they were:
 ///
 /// ```
-/// use std::sync::Arc;
-/// use yengatomu::WordSegmenter;
+/// use yengatomu::{Script, WordSegmenter};
 ///
-/// #[derive(Clone)]
-/// struct Index {
-///     words: Arc<WordSegmenter>,
-/// }
-///
-/// let index = Index { words: Arc::new(WordSegmenter::new().unwrap()) };
-/// assert_eq!(index.clone().words.count_words("to be"), 2);
+/// let words = WordSegmenter::new().unwrap();
+/// let mut thai = words.clone();
+/// thai.load_dictionary(&["ภาษา", "ไทย"], Script::Thai).unwrap();
+/// assert_eq!((thai.count_words("ภาษาไทย"), words.count_words("ภาษาไทย")), (2, 7));
 /// ```
+///
+/// To change a segmenter that shares what it holds with a clone takes as long as to make it anew, by `new` and with all that was loaded before, of
+/// which the words are kept, and as much memory again. So load first, and clone then.
 pub struct Segmenter<K: Kind> {
-    slot: Slot,
+    held: Arc<Held>,
     // (it holds no `K`, so it is `Send` and `Sync` for any)
     kind: PhantomData<fn() -> K>,
 }
@@ -186,7 +188,7 @@ impl SentenceSegmenter {
     /// [`Error::OutOfMemory`]; [`Error::NotUtf8`] where an abbreviation isn't UTF-8; [`Error::LineFeed`] where one has a line feed in it;
     /// [`Error::HasAbbreviations`] where the segmenter has taken some before. It is then as before.
     pub fn load_abbreviations<W: AsRef<[u8]>>(&mut self, words: &[W]) -> Result<(), Error> {
-        self.slot.load_abbreviations(&dictionaries::listed(words)?)
+        self.change(Change::Abbreviations(dictionaries::listed(words)?))
     }
 
     /// Takes the abbreviations of a language, as `en`: those of `abbreviations-en.txt` of a folder, as `tools/dictionaries` of the repository writes
@@ -237,7 +239,7 @@ impl WordSegmenter {
     /// ```
     #[inline]
     pub fn words<'t, T: ?Sized + Text>(&self, text: &'t T) -> Words<'_, 't, T::Slice> {
-        Words { pieces: Pieces::new(Marks { slot: &self.slot, text: text.as_slice() }) }
+        Words { pieces: Pieces::new(Marks { slot: self.slot(), text: text.as_slice() }) }
     }
 
     /// How many words a text has: as many as [`words`](Self::words) gives.
@@ -248,7 +250,7 @@ impl WordSegmenter {
     /// assert_eq!(words.count_words("I can't pay 3.14!"), 4);
     /// ```
     pub fn count_words<T: ?Sized + Text>(&self, text: &T) -> usize {
-        Calls::count_words(&self.slot, text.as_slice().units())
+        Calls::count_words(self.slot(), text.as_slice().units())
     }
 }
 
@@ -287,7 +289,7 @@ impl LineSegmenter {
     ///
     /// [`Error::OutOfMemory`]: the segmenter is then as before.
     pub fn count_by_cluster(&mut self) -> Result<(), Error> {
-        self.slot.count_by_cluster()
+        self.change(Change::CountByCluster)
     }
 
     /// Wraps a text to columns: the lines, each with its place and the columns that it takes.
@@ -325,7 +327,7 @@ impl LineSegmenter {
     /// ```
     #[inline]
     pub fn wrap<'t, T: ?Sized + Text>(&self, text: &'t T, columns: usize) -> Lines<'_, 't, T::Slice> {
-        Lines::new(Wraps { slot: &self.slot, text: text.as_slice(), columns })
+        Lines::new(Wraps { slot: self.slot(), text: text.as_slice(), columns })
     }
 }
 
@@ -353,7 +355,7 @@ impl RuleSegmenter {
     ///
     /// [`Error::OutOfMemory`]; [`Error::WrongRules`] where a line is wrong; [`Error::NoMachine`] where no machine is found.
     pub fn by_rules(rules: &str) -> Result<Self, Error> {
-        Ok(Self { slot: Slot::open_rules(rules)?, kind: PhantomData })
+        Self::holding(Origin::Rules(rules.into()))
     }
 }
 
@@ -371,7 +373,7 @@ impl<K: Marked> Segmenter<K> {
     /// ```
     #[inline]
     pub fn marked_segments<'t, T: ?Sized + Text>(&self, text: &'t T) -> MarkedSegments<'_, 't, K, T::Slice> {
-        MarkedSegments { pieces: Pieces::new(Marks { slot: &self.slot, text: text.as_slice() }), kind: PhantomData }
+        MarkedSegments { pieces: Pieces::new(Marks { slot: self.slot(), text: text.as_slice() }), kind: PhantomData }
     }
 
     /// Takes a dictionary: the words of a script that is written without spaces, in any order. Text of that script is then cut into the
@@ -396,7 +398,7 @@ impl<K: Marked> Segmenter<K> {
     /// [`Error::OutOfMemory`]; [`Error::NotUtf8`] where a word isn't UTF-8; [`Error::LineFeed`] where a word has a line feed in it, as the text of a
     /// whole file. The segmenter is then as before.
     pub fn load_dictionary<W: AsRef<[u8]>>(&mut self, words: &[W], script: Script) -> Result<(), Error> {
-        self.slot.load_dictionary(&dictionaries::listed(words)?, script)
+        self.change(Change::Dictionary(dictionaries::listed(words)?, script))
     }
 
     /// Takes the dictionaries of a folder: `thai.txt`, `lao.txt`, `khmer.txt`, `myanmar.txt` and, of words, `cj.txt`, as many as there are. They
@@ -429,7 +431,20 @@ impl<K: Marked> Segmenter<K> {
 
 impl<K: Kind> Segmenter<K> {
     fn open(options: LineOptions) -> Result<Self, Error> {
-        Ok(Self { slot: Slot::open(kind::number::<K>(), options)?, kind: PhantomData })
+        Self::holding(Origin::Data { kind: kind::number::<K>(), options })
+    }
+
+    fn holding(origin: Origin) -> Result<Self, Error> {
+        Ok(Self { held: Arc::new(Held::open(origin)?), kind: PhantomData })
+    }
+
+    #[inline]
+    fn slot(&self) -> &Slot {
+        self.held.slot()
+    }
+
+    fn change(&mut self, change: Change) -> Result<(), Error> {
+        Held::change(&mut self.held, change)
     }
 
     /// The boundaries of a text: 0 first, its length last.
@@ -443,7 +458,7 @@ impl<K: Kind> Segmenter<K> {
     /// ```
     #[inline]
     pub fn boundaries<'t, T: ?Sized + Text>(&self, text: &'t T) -> Boundaries<'_, 't, T::Slice> {
-        Boundaries { feed: Feed::new(Ends { slot: &self.slot, text: text.as_slice() }), is_begun: false }
+        Boundaries { feed: Feed::new(Ends { slot: self.slot(), text: text.as_slice() }), is_begun: false }
     }
 
     /// The segments of a text, from the first to the last or back. Together they are the text.
@@ -456,7 +471,7 @@ impl<K: Kind> Segmenter<K> {
     /// ```
     #[inline]
     pub fn segments<'t, T: ?Sized + Text>(&self, text: &'t T) -> Segments<'_, 't, T::Slice> {
-        Segments { pieces: Pieces::new(Ends { slot: &self.slot, text: text.as_slice() }) }
+        Segments { pieces: Pieces::new(Ends { slot: self.slot(), text: text.as_slice() }) }
     }
 
     /// The segments of a text, each with the place where it begins.
@@ -474,7 +489,7 @@ impl<K: Kind> Segmenter<K> {
     /// ```
     #[inline]
     pub fn segment_indices<'t, T: ?Sized + Text>(&self, text: &'t T) -> SegmentIndices<'_, 't, T::Slice> {
-        SegmentIndices { pieces: Pieces::new(Ends { slot: &self.slot, text: text.as_slice() }) }
+        SegmentIndices { pieces: Pieces::new(Ends { slot: self.slot(), text: text.as_slice() }) }
     }
 
     /// How many segments a text has.
@@ -485,7 +500,7 @@ impl<K: Kind> Segmenter<K> {
     /// assert_eq!(graphemes.count("ae\u{301}"), 2);
     /// ```
     pub fn count<T: ?Sized + Text>(&self, text: &T) -> usize {
-        Calls::count(&self.slot, text.as_slice().units())
+        Calls::count(self.slot(), text.as_slice().units())
     }
 
     /// The nearest boundary above a place, as an arrow key moves a cursor. The place may be any number; at the text's end and past it the
@@ -500,7 +515,7 @@ impl<K: Kind> Segmenter<K> {
     /// assert_eq!(graphemes.next_boundary("ae\u{301}", 4), None);
     /// ```
     pub fn next_boundary<T: ?Sized + Text>(&self, text: &T, place: usize) -> Option<usize> {
-        Calls::next(&self.slot, text.as_slice().units(), place)
+        Calls::next(self.slot(), text.as_slice().units(), place)
     }
 
     /// The nearest boundary below a place. The place may be any number; at 0 the answer is None.
@@ -512,7 +527,7 @@ impl<K: Kind> Segmenter<K> {
     /// assert_eq!(graphemes.previous_boundary("ae\u{301}", 0), None);
     /// ```
     pub fn previous_boundary<T: ?Sized + Text>(&self, text: &T, place: usize) -> Option<usize> {
-        Calls::previous(&self.slot, text.as_slice().units(), place)
+        Calls::previous(self.slot(), text.as_slice().units(), place)
     }
 
     /// Whether a place is a boundary.
@@ -538,9 +553,16 @@ impl<K: Kind> Segmenter<K> {
     }
 }
 
+// A derived one would ask that K is Clone.
+impl<K: Kind> Clone for Segmenter<K> {
+    fn clone(&self) -> Self {
+        Self { held: Arc::clone(&self.held), kind: PhantomData }
+    }
+}
+
 impl<K: Kind> fmt::Debug for Segmenter<K> {
     fn fmt(&self, f: &mut fmt::Formatter<'_>) -> fmt::Result {
-        f.debug_struct("Segmenter").field("kind", &kind::name::<K>()).field("has_words", &self.slot.has_words()).finish_non_exhaustive()
+        f.debug_struct("Segmenter").field("kind", &kind::name::<K>()).field("has_words", &self.slot().has_words()).finish_non_exhaustive()
     }
 }
 

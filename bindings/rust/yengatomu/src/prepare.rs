@@ -79,7 +79,7 @@ impl LineSegmenter {
 
     /// The columns of a text in the middle of a line: those of its lines, with the spaces at their ends.
     fn width<S: ?Sized + Slice>(&self, text: &S) -> usize {
-        Lines::new(Wraps { slot: &self.slot, text, columns: usize::MAX })
+        Lines::new(Wraps { slot: self.slot(), text, columns: usize::MAX })
             .map(|line| {
                 let units = line.text.units();
                 let trailing = units.iter().rev().take_while(|unit| is_white_space(*unit));

@@ -31,9 +31,9 @@ fn done(result: u32) -> Result<(), Error> {
     }
 }
 
-/// Words as the library takes them: where each begins, and its length.
-fn words_of(words: &[&str]) -> Vec<sys::yengatomu_word> {
-    words.iter().map(|word| sys::yengatomu_word { bytes: word.as_ptr(), len: word.len() }).collect()
+/// Words, a line each, as the library takes them: where each begins, and its length.
+fn words_of(words: &str) -> Vec<sys::yengatomu_word> {
+    words.lines().map(|word| sys::yengatomu_word { bytes: word.as_ptr(), len: word.len() }).collect()
 }
 
 impl Slot {
@@ -55,7 +55,7 @@ impl Slot {
         }
     }
 
-    pub(crate) fn load_dictionary(&mut self, words: &[&str], script: Script) -> Result<(), Error> {
+    pub(crate) fn load_dictionary(&mut self, words: &str, script: Script) -> Result<(), Error> {
         let words = words_of(words);
         // SAFETY: above; the words are borrowed until the call returns, which keeps no pointer to them.
         done(unsafe { sys::yengatomu_load_dictionary(&mut self.slot, words.as_ptr(), words.len(), script as u32) })?;
@@ -63,7 +63,7 @@ impl Slot {
         Ok(())
     }
 
-    pub(crate) fn load_abbreviations(&mut self, words: &[&str]) -> Result<(), Error> {
+    pub(crate) fn load_abbreviations(&mut self, words: &str) -> Result<(), Error> {
         let words = words_of(words);
         // SAFETY: above; the words are borrowed until the call returns, which keeps no pointer to them.
         match unsafe { sys::yengatomu_load_abbreviations(&mut self.slot, words.as_ptr(), words.len()) } {
