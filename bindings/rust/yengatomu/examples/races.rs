@@ -1,7 +1,8 @@
 //! Ten threads at once find by one segmenter what one thread found before: cargo build --example races, then
 //! valgrind --tool=helgrind target/debug/examples/races FILE.
 //!
-//! By a segmenter of each kind and by rules, with and without words. The file is a text of UTF-8 that has ภาษา, 蜜蜂 and "biển." in it.
+//! By a segmenter of each kind and by rules, with and without words, and by clones, which each thread makes and drops. The file is a text of UTF-8 that
+//! has ภาษา, 蜜蜂 and "biển." in it.
 use std::{env, fs, io, thread};
 
 use yengatomu::kind::Kind;
@@ -38,7 +39,7 @@ fn main() -> io::Result<()> {
     let out_of_memory = "out of memory";
 
     let graphemes = GraphemeSegmenter::new().expect(out_of_memory);
-    alike(|| found(&graphemes, &text, &units));
+    alike(|| found(&graphemes.clone(), &text, &units));
     let rules = RuleSegmenter::by_rules("A = [a]\nA × A\n÷").expect("the rules are right");
     alike(|| found(&rules, &text, &units));
 
