@@ -478,21 +478,32 @@ def expanded(text: AnyStr, columns: int) -> AnyStr:
 
 
 def _fields(text: AnyStr, tab: AnyStr, line_feed: AnyStr, space: AnyStr, columns: int) -> Iterator[AnyStr]:
-    """Yields what stands between tabs and line feeds, each with the line feed, or with spaces for the tab.
-
-    A field has the columns that it takes as a line, with the spaces at its end. Where other characters end a line in it, it has those of all these lines.
-    """
-    columns, white = min(columns, sys.maxsize), white_of(text)
-    place = width = 0
-    for line, counted in kept(Kind.LINES).wrapped(text.replace(tab, line_feed), _library.NONE):
-        place += len(line)
-        width += counted + line[len(line.rstrip(white)) :].count(space)
-        if not line.endswith(line_feed):
-            yield line
+    """Yields what stands between tabs and line feeds, each with the line feed, or with spaces for the tab."""
+    columns, place = min(columns, sys.maxsize), 0
+    for row, width in rows(text.replace(tab, line_feed)):
+        place += len(row)
+        if not row.endswith(line_feed):
+            yield row
             continue
-        yield line[:-1]
+        yield row[:-1]
         yield line_feed if text[place - 1 : place] == line_feed else space * (columns - width % columns)
-        width = 0
+
+
+def rows(text: AnyStr, by_cluster: bool = False) -> Iterator[Tuple[AnyStr, int]]:
+    """Yields what stands up to each line feed, with the columns that it takes, those of spaces at its end too.
+
+    Where other characters end a line in it, it has the columns of all these lines.
+    """
+    lines = kept(Kind.LINES, None, True) if by_cluster else kept(Kind.LINES)
+    white = white_of(text)
+    space, line_feed = white[:1], white[1:2]
+    start = end = width = 0
+    for line, counted in lines.wrapped(text, _library.NONE):
+        end += len(line)
+        width += counted + line[len(line.rstrip(white)) :].count(space)
+        if line.endswith(line_feed) or end == len(text):
+            yield text[start:end], width
+            start, width = end, 0
 
 
 @functools.lru_cache(maxsize=None)
