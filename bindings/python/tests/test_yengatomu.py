@@ -236,7 +236,8 @@ class Examples(unittest.TestCase):
         """What there is for callers, and nothing else: in the module, and by `from yengatomu import *`."""
         wanted = {*options.__all__, "Segmenter", "boundaries", "count_words", "expand_tabs", "graphemes", "join_lines", "lines", "options"}
         wanted |= {"sentences", "unicode_version", "version", "word_spans", "words", "wrap"}
-        self.assertEqual({it for it in dir(yengatomu) if not it.startswith("_")}, wanted)
+        # (the module textwrap is there once something imports it)
+        self.assertEqual({it for it in dir(yengatomu) if not it.startswith("_")} - {"textwrap"}, wanted)
 
     def test_help(self):
         shown = pydoc.plain(pydoc.render_doc(yengatomu)).splitlines()

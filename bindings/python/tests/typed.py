@@ -4,7 +4,7 @@ from pathlib import Path
 from typing import Iterator, List, Optional, Tuple, Union
 
 import yengatomu
-from yengatomu import Kind, Script, Segmenter, Strictness, WordBreak, WordType, options
+from yengatomu import Kind, Script, Segmenter, Strictness, WordBreak, WordType, options, textwrap
 
 Span = Tuple[int, int, WordType]
 
@@ -32,9 +32,13 @@ pairs: Iterator[Tuple[int, int]] = words.spans(b"a")
 wrapped: Iterator[Tuple[bytes, int]] = lines.wrapped(b"a", 1, break_words=True)
 near: Optional[int] = words.next("a", 0) or words.previous(b"a", 0)
 kind: Kind = Segmenter.by_rules("÷").kind
+rows: List[str] = textwrap.wrap("a", 9, max_lines=2, segmenter=lines) + textwrap.TextWrapper(9, segmenter=lines).wrap("a")
+filled: str = textwrap.fill("a") + textwrap.shorten("a", 9, placeholder="..") + textwrap.dedent("a") + textwrap.indent("a", "b")
 
 yengatomu.words(1)  # type: ignore[type-var]
 yengatomu.words(["a"])  # type: ignore[type-var]
 yengatomu.boundaries("a")  # type: ignore[call-arg]
 Segmenter("words")  # type: ignore[arg-type]
 Segmenter(Kind.LINES, strict=True)  # type: ignore[call-arg]
+textwrap.TextWrapper(columns=9)  # type: ignore[call-arg]
+textwrap.wrap(b"a")  # type: ignore[arg-type]
