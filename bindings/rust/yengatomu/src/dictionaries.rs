@@ -14,21 +14,23 @@ const LISTS: [(&str, Script); 5] = [
 ];
 const MARK: char = '\u{feff}';
 
-/// Words without the white space around them, a line each, but for blank ones.
+/// The words of a list: its lines without the white space around them, but for blank ones.
+pub(crate) fn words_in(list: &str) -> impl Iterator<Item = &str> {
+    list.trim_start_matches(MARK).lines().map(str::trim).filter(|word| !word.is_empty())
+}
+
+/// A list of these words.
 pub(crate) fn listed<W: AsRef<[u8]>>(words: &[W]) -> Result<String, Error> {
-    let mut found = String::with_capacity(words.iter().map(|word| word.as_ref().len() + 1).sum());
-    for (number, word) in words.iter().enumerate() {
+    let mut list = String::with_capacity(words.iter().map(|word| word.as_ref().len() + 1).sum());
+    for word in words {
         let word = std::str::from_utf8(word.as_ref()).map_err(|_| Error::NotUtf8)?;
-        let word = if number == 0 { word.trim_start_matches(MARK) } else { word }.trim();
-        if word.contains('\n') {
+        if word.trim().contains('\n') {
             return Err(Error::LineFeed);
         }
-        if !word.is_empty() {
-            found.push_str(word);
-            found.push('\n');
-        }
+        list.push_str(word);
+        list.push('\n');
     }
-    Ok(found)
+    Ok(list)
 }
 
 /// The texts of the lists in a folder, each with its script; of lines without that of Chinese and Japanese, of which they take none.

@@ -11,7 +11,7 @@ pub(crate) enum Origin {
     Rules(Box<str>),
 }
 
-/// What changes a slot. Words are a line each, as [`listed`](crate::dictionaries::listed) gives them.
+/// What changes a slot. Words stand in lists, which [`words_in`](crate::dictionaries::words_in) reads.
 pub(crate) enum Change {
     Dictionary(String, Script),
     Abbreviations(String),
@@ -37,8 +37,8 @@ impl Origin {
 impl Change {
     fn make(&self, slot: &mut Slot) -> Result<(), Error> {
         match self {
-            Self::Dictionary(words, script) => slot.load_dictionary(words, *script),
-            Self::Abbreviations(words) => slot.load_abbreviations(words),
+            Self::Dictionary(list, script) => slot.load_dictionary(list, *script),
+            Self::Abbreviations(list) => slot.load_abbreviations(list),
             Self::CountByCluster => slot.count_by_cluster(),
         }
     }

@@ -209,8 +209,7 @@ impl SentenceSegmenter {
     /// [`DictionaryError`] with the list where that isn't there or can't be read, isn't UTF-8 or has no words; and as
     /// [`load_abbreviations`](Self::load_abbreviations). The segmenter is then as before.
     pub fn load_language(&mut self, folder: impl AsRef<Path>, language: &str) -> Result<(), DictionaryError> {
-        let text = dictionaries::abbreviations_in(folder.as_ref(), language)?;
-        Ok(self.load_abbreviations(&text.lines().collect::<Vec<_>>())?)
+        Ok(self.change(Change::Abbreviations(dictionaries::abbreviations_in(folder.as_ref(), language)?))?)
     }
 }
 
@@ -421,8 +420,8 @@ impl<K: Marked> Segmenter<K> {
     pub fn load_dictionaries(&mut self, folder: impl AsRef<Path>) -> Result<Vec<Script>, DictionaryError> {
         let lists = dictionaries::lists_in(folder.as_ref(), kind::number::<K>() == kind::number::<kind::Line>())?;
         let mut loaded = Vec::new();
-        for (text, script) in lists {
-            self.load_dictionary(&text.lines().collect::<Vec<_>>(), script)?;
+        for (list, script) in lists {
+            self.change(Change::Dictionary(list, script))?;
             loaded.push(script);
         }
         Ok(loaded)

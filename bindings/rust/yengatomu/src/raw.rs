@@ -1,6 +1,7 @@
 //! The calls of the C library, made safe. All unsafe code of this crate is here.
 use yengatomu_sys as sys;
 
+use crate::dictionaries::words_in;
 use crate::{Error, LineOptions, Script};
 
 /// A slot that holds a segmenter.
@@ -31,9 +32,9 @@ fn done(result: u32) -> Result<(), Error> {
     }
 }
 
-/// Words, a line each, as the library takes them: where each begins, and its length.
-fn words_of(words: &str) -> Vec<sys::yengatomu_word> {
-    words.lines().map(|word| sys::yengatomu_word { bytes: word.as_ptr(), len: word.len() }).collect()
+/// The words of a list as the library takes them: where each begins, and its length.
+fn words_of(list: &str) -> Vec<sys::yengatomu_word> {
+    words_in(list).map(|word| sys::yengatomu_word { bytes: word.as_ptr(), len: word.len() }).collect()
 }
 
 impl Slot {
@@ -55,16 +56,16 @@ impl Slot {
         }
     }
 
-    pub(crate) fn load_dictionary(&mut self, words: &str, script: Script) -> Result<(), Error> {
-        let words = words_of(words);
+    pub(crate) fn load_dictionary(&mut self, list: &str, script: Script) -> Result<(), Error> {
+        let words = words_of(list);
         // SAFETY: above; the words are borrowed until the call returns, which keeps no pointer to them.
         done(unsafe { sys::yengatomu_load_dictionary(&mut self.slot, words.as_ptr(), words.len(), script as u32) })?;
         self.has_words = true;
         Ok(())
     }
 
-    pub(crate) fn load_abbreviations(&mut self, words: &str) -> Result<(), Error> {
-        let words = words_of(words);
+    pub(crate) fn load_abbreviations(&mut self, list: &str) -> Result<(), Error> {
+        let words = words_of(list);
         // SAFETY: above; the words are borrowed until the call returns, which keeps no pointer to them.
         match unsafe { sys::yengatomu_load_abbreviations(&mut self.slot, words.as_ptr(), words.len()) } {
             sys::YENGATOMU_NO_SUCH => return Err(Error::HasAbbreviations),
