@@ -70,16 +70,24 @@ def lines(text: _t.AnyStr) -> _t.List[_t.AnyStr]:
 
 
 def wrap(
-    text: _t.AnyStr, columns: int, *, tabs: _t.Optional[int] = 8, join: bool = False, break_words: bool = False, by_cluster: bool = False
+    text: _t.AnyStr,
+    columns: int,
+    *,
+    tabs: _t.Optional[int] = 8,
+    join: bool = False,
+    break_words: bool = False,
+    by_cluster: bool = False,
+    balanced: bool = False,
 ) -> _t.List[_t.AnyStr]:
     """Returns the lines that it is wrapped to, as by `Segmenter.wrap`, first by `expand_tabs` (with `tabs` columns; not if None), then, if asked, by `join_lines`.
 
-    `by_cluster` counts columns by cluster, as a `Segmenter` with that option does; but tabs are expanded by character.
+    `by_cluster` counts columns by cluster, as a `Segmenter` with that option does; but tabs are expanded by character. `balanced` leaves the least ragged
+    edge of all lines that fit.
     """
     if tabs is not None:
         text = _segmenter.expanded(text, _segmenter.size(tabs, "tabs", 1))
     lines = _of(Kind.LINES, None, True) if by_cluster else _of(Kind.LINES)
-    return list(lines.wrap(_texts.joined(text) if join else text, columns, break_words=break_words))
+    return list(lines.wrap(_texts.joined(text) if join else text, columns, break_words=break_words, balanced=balanced))
 
 
 def join_lines(text: _t.AnyStr) -> _t.AnyStr:

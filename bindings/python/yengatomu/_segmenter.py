@@ -22,12 +22,15 @@ _Chunk = Tuple[List[int], List[int], "array[int]"]
 
 # How many boundaries a call finds.
 ROOM = 4096
+# The most columns that balanced lines may have.
+_WIDEST = 2**32 - 1
 # The longest text whose units are kept for the next question about places in it.
 KEPT = 1_000_000
 # Calls by whether the text is in UTF-16.
 _BOUNDARIES = _library.boundaries, _library.boundaries_utf16
 _MARKED_BOUNDARIES = _library.marked_boundaries, _library.marked_boundaries_utf16
 _WRAP_COLUMNS = _library.wrap_columns, _library.wrap_columns_utf16
+_WRAP_BALANCED = _library.wrap_balanced, _library.wrap_balanced_utf16
 _COUNT = _library.count, _library.count_utf16
 _COUNT_WORDS = _library.count_words, _library.count_words_utf16
 _NEXT = _library.next_boundary, _library.next_boundary_utf16
@@ -317,29 +320,47 @@ class Segmenter:
         """Returns the nearest boundary below a place, which may be past the end. None where there is none. As `next` otherwise."""
         return self._near(_PREVIOUS, text, place)
 
-    def wrap(self, text: AnyStr, columns: int, *, break_words: bool = False) -> Iterator[AnyStr]:
+    def wrap(self, text: AnyStr, columns: int, *, break_words: bool = False, balanced: bool = False) -> Iterator[AnyStr]:
         """Returns the lines that a text is wrapped to, without the spaces, line feeds and carriage returns at their ends.
 
         A line takes as many segments as fit in the columns, at least one, and ends where it must. Wide characters take two columns, and marks none; of a
         segmenter with `by_cluster` each cluster takes the width of its characters together, as a family of emoji two.
-        `break_words` breaks what is wider than the columns between clusters. ValueError of another kind than LINES, and where `columns` is below 1.
+        `break_words` breaks what is wider than the columns between clusters. `balanced` moves segments to later lines, so that of all such lines these
+        leave the least ragged edge. ValueError of another kind than LINES, and where `columns` is below 1.
         """
         white = white_of(text)
-        return (line.rstrip(white) for line, _ in self.wrapped(text, columns, break_words=break_words))
+        return (line.rstrip(white) for line, _ in self.wrapped(text, columns, break_words=break_words, balanced=balanced))
 
-    def wrapped(self, text: AnyStr, columns: int, *, break_words: bool = False) -> Iterator[Tuple[AnyStr, int]]:
+    def wrapped(self, text: AnyStr, columns: int, *, break_words: bool = False, balanced: bool = False) -> Iterator[Tuple[AnyStr, int]]:
         """Returns the same lines, whole, each with how many columns it takes without what `wrap` leaves out."""
         self._must_be(Kind.LINES)
         most = size(columns, "columns", 1)
-        lines = self._lines(text, units_of(text), most)
+        it = units_of(text)
+        found = self._paragraphs(it, min(most, _WIDEST)) if balanced else self._found(_WRAP_COLUMNS[it[2]], it, "Q", most)
+        lines = self._lines(text, it, found)
         return _broken(lines, most, self._by_cluster) if break_words else lines
 
-    def _lines(self, text: AnyStr, it: Units, columns: int) -> Iterator[Tuple[AnyStr, int]]:
+    def _lines(self, text: AnyStr, it: Units, found: Iterator[Tuple["array[int]", "array[int]"]]) -> Iterator[Tuple[AnyStr, int]]:
         start = 0
-        for places, widths in self._found(_WRAP_COLUMNS[it[2]], it, "Q", columns):
+        for places, widths in found:
             for end, width in zip(indices(it[3], places), widths):
                 yield text[start:end], width
                 start = end
+
+    def _paragraphs(self, it: Units, columns: int) -> Iterator[Tuple["array[int]", "array[int]"]]:
+        """Yields where the balanced lines of each paragraph end, and how many columns they take."""
+        slot, room, start = self._slot, 64, 0
+        while start < it[1]:
+            ends, widths = array("Q", bytes(8 * room)), array("Q", bytes(8 * room))
+            buffers = ends.buffer_info()[0], room, widths.buffer_info()[0], room
+            count = _WRAP_BALANCED[it[2]](slot.here, it[0], it[1], start, columns, *buffers)
+            if count == _library.NONE:
+                raise MemoryError
+            if count > room:
+                room = count
+                continue
+            start = ends[count - 1]
+            yield ends[:count], widths[:count]
 
     def _must_be(self, kind: Kind) -> None:
         if self._kind is not kind:

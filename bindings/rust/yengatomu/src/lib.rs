@@ -85,6 +85,7 @@ use crate::iter::{Boundaries, Lines, MarkedSegments, SegmentIndices, Segments, W
 use crate::kind::{Kind, Marked};
 use crate::raw::{Calls, Slot};
 
+mod balanced;
 mod buffer;
 mod dictionaries;
 mod feed;
@@ -327,6 +328,32 @@ impl LineSegmenter {
     #[inline]
     pub fn wrap<'t, T: ?Sized + Text>(&self, text: &'t T, columns: usize) -> Lines<'_, 't, T::Slice> {
         Lines::new(Wraps { slot: self.slot(), text: text.as_slice(), columns })
+    }
+
+    /// Wraps a text to columns so that its lines are balanced: of all lines with whole segments and room in the columns, those that leave the least
+    /// ragged edge.
+    ///
+    /// A line of several segments has at most the columns, and a line ends where it must, as by [`wrap`](Self::wrap). There a paragraph ends. The lines
+    /// are those for which the squares of the columns that all lines but a paragraph's last leave free have the least sum.
+    ///
+    /// ```
+    /// use yengatomu::{LineOptions, LineSegmenter};
+    ///
+    /// let lines = LineSegmenter::new(LineOptions::default()).unwrap();
+    /// let text = "aaa bb cc ddddd";
+    /// let first_fit: Vec<_> = lines.wrap(text, 6).map(|line| line.text).collect();
+    /// assert_eq!(first_fit, ["aaa bb ", "cc ", "ddddd"]);
+    /// let balanced: Vec<_> = lines.wrap_balanced(text, 6).unwrap().into_iter().map(|line| line.text).collect();
+    /// assert_eq!(balanced, ["aaa ", "bb cc ", "ddddd"]);
+    /// ```
+    ///
+    /// It takes some 200 bytes for each segment of the longest paragraph, and gives them back.
+    ///
+    /// # Errors
+    ///
+    /// [`Error::OutOfMemory`].
+    pub fn wrap_balanced<'t, T: ?Sized + Text>(&self, text: &'t T, columns: u32) -> Result<Vec<Line<'t, T::Slice>>, Error> {
+        balanced::lines(self.slot(), text.as_slice(), columns)
     }
 }
 

@@ -102,6 +102,8 @@ pub(crate) trait Calls: Sized {
     fn next(slot: &Slot, text: &[Self], place: usize) -> Option<usize>;
     fn previous(slot: &Slot, text: &[Self], place: usize) -> Option<usize>;
     fn wrap(slot: &Slot, text: &[Self], from: usize, columns: usize, ends: &mut [usize], widths: &mut [usize]) -> usize;
+    /// How many balanced lines the paragraph has; None when out of memory.
+    fn wrap_balanced(slot: &Slot, text: &[Self], from: usize, columns: u32, ends: &mut [usize], widths: &mut [usize]) -> Option<usize>;
 }
 
 /// The place that a call returns, if there is one.
@@ -110,7 +112,7 @@ fn place(found: usize) -> Option<usize> {
 }
 
 macro_rules! calls {
-    ($unit:ty: $boundaries:ident, $marked_boundaries:ident, $count:ident, $count_words:ident, $next:ident, $previous:ident, $wrap:ident) => {
+    ($unit:ty: $boundaries:ident, $marked_boundaries:ident, $count:ident, $count_words:ident, $next:ident, $previous:ident, $wrap:ident, $wrap_balanced:ident) => {
         impl Calls for $unit {
             #[inline]
             fn boundaries(slot: &Slot, text: &[Self], from: usize, out: &mut [usize]) -> usize {
@@ -171,6 +173,23 @@ macro_rules! calls {
                     )
                 }
             }
+
+            fn wrap_balanced(slot: &Slot, text: &[Self], from: usize, columns: u32, ends: &mut [usize], widths: &mut [usize]) -> Option<usize> {
+                // SAFETY: above.
+                place(unsafe {
+                    sys::$wrap_balanced(
+                        &slot.slot,
+                        text.as_ptr(),
+                        text.len(),
+                        from,
+                        columns,
+                        ends.as_mut_ptr(),
+                        ends.len(),
+                        widths.as_mut_ptr(),
+                        widths.len(),
+                    )
+                })
+            }
         }
     };
 }
@@ -182,7 +201,8 @@ calls!(
     yengatomu_count_words,
     yengatomu_next,
     yengatomu_previous,
-    yengatomu_wrap_columns
+    yengatomu_wrap_columns,
+    yengatomu_wrap_balanced
 );
 calls!(
     u16: yengatomu_boundaries_utf16,
@@ -191,7 +211,8 @@ calls!(
     yengatomu_count_words_utf16,
     yengatomu_next_utf16,
     yengatomu_previous_utf16,
-    yengatomu_wrap_columns_utf16
+    yengatomu_wrap_columns_utf16,
+    yengatomu_wrap_balanced_utf16
 );
 
 /// The calls on texts in Latin-1.
