@@ -1,5 +1,6 @@
 """Tests of yengatomu.textwrap: the standard library's own tests of its textwrap, and what differs from that."""
 
+import doctest
 import importlib.util
 import inspect
 import itertools
@@ -113,6 +114,9 @@ class Standard(unittest.TestCase):
 
 
 class Columns(unittest.TestCase):
+    def test_examples(self):
+        self.assertEqual(doctest.testmod(textwrap), (0, 3))
+
     def test_wide(self):
         self.assertEqual(wrap("東京に行きます。ありがとう。", 10), ["東京に行き", "ます。あり", "がとう。"])
         self.assertEqual(wrap("東京に行きます。ありがとう。", 11), ["東京に行き", "ます。あり", "がとう。"])
