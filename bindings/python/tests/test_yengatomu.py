@@ -86,6 +86,21 @@ class Examples(unittest.TestCase):
         self.assertEqual(yengatomu.wrap(text, 30), wanted)
         self.assertEqual([columns for _, columns in Segmenter(Kind.LINES).wrapped(text, 30)], [28, 29, 12, 30, 16])
 
+    def test_balanced(self):
+        text = "aaa bb cc ddddd\naaa bb cc ddddd"
+        self.assertEqual(yengatomu.wrap(text, 6), ["aaa bb", "cc", "ddddd"] * 2)
+        self.assertEqual(yengatomu.wrap(text, 6, balanced=True), ["aaa", "bb cc", "ddddd"] * 2)
+        self.assertEqual(yengatomu.wrap(text.encode(), 6, balanced=True), [b"aaa", b"bb cc", b"ddddd"] * 2)
+        self.assertEqual(yengatomu.wrap(text.replace("b", "ü"), 6, balanced=True), ["aaa", "üü cc", "ddddd"] * 2)
+        self.assertEqual(yengatomu.wrap("aaaaaaa b", 3, balanced=True, break_words=True), ["aaa", "aaa", "a", "b"])
+        self.assertEqual(yengatomu.wrap("", 6, balanced=True), [])
+        # (more lines in a paragraph than the first call has room for, with pairs of UTF-16)
+        many = "word 👩 of " * 300
+        lines = list(Segmenter(Kind.LINES).wrapped(many, 20, balanced=True))
+        self.assertEqual("".join(line for line, _ in lines), many)
+        self.assertTrue(all(columns <= 20 for _, columns in lines))
+        self.assertGreater(len(lines), 64)
+
     def test_broken_words(self):
         lines = Segmenter(Kind.LINES)
         self.assertEqual(yengatomu.wrap("an elephant e\u0301e\u0301 ", 3, break_words=True), ["an", "ele", "pha", "nt", "e\u0301e\u0301"])
