@@ -115,7 +115,7 @@ fn of_crate() -> Calls {
 #[test]
 fn calls() {
     let stated = of_header();
-    assert_eq!(stated.len(), 26);
+    assert_eq!(stated.len(), 28);
     assert_eq!(of_crate(), stated);
 }
 

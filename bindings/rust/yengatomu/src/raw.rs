@@ -174,7 +174,14 @@ macro_rules! calls {
                 }
             }
 
-            fn wrap_balanced(slot: &Slot, text: &[Self], from: usize, columns: u32, ends: &mut [usize], widths: &mut [usize]) -> Option<usize> {
+            fn wrap_balanced(
+                slot: &Slot,
+                text: &[Self],
+                from: usize,
+                columns: u32,
+                ends: &mut [usize],
+                widths: &mut [usize],
+            ) -> Option<usize> {
                 // SAFETY: above.
                 place(unsafe {
                     sys::$wrap_balanced(

@@ -804,3 +804,21 @@ fn slices() {
     same(b"a \xff".as_slice(), &[b"a", b" ", b"\xff"]);
     same([0x61, 0x20, 0xd800u16].as_slice(), &[&[0x61], &[0x20], &[0xd800]]);
 }
+
+#[test]
+fn balanced_lines() {
+    let lines = LineSegmenter::new(LineOptions::default()).unwrap();
+    let text = "aaa bb cc ddddd\naaa bb cc ddddd";
+    let wanted = ["aaa ", "bb cc ", "ddddd\n", "aaa ", "bb cc ", "ddddd"];
+    let found = lines.wrap_balanced(text, 6).unwrap();
+    assert!(found.iter().map(|line| line.text).eq(wanted));
+    assert!(found.iter().map(|line| line.columns).eq([3, 5, 5, 3, 5, 5]));
+    let units: Vec<u16> = text.encode_utf16().collect();
+    assert!(lines.wrap_balanced(&units[..], 6).unwrap().iter().map(|line| line.start).eq(found.iter().map(|line| line.start)));
+    assert!(lines.wrap_balanced("", 6).unwrap().is_empty());
+    // (more lines in a paragraph than the first call has room for)
+    let many = "word of ".repeat(400);
+    let found = lines.wrap_balanced(&many, 20).unwrap();
+    assert!(found.len() > 64 && found.iter().all(|line| line.columns <= 20));
+    assert_eq!(found.iter().map(|line| line.text).collect::<String>(), many);
+}
