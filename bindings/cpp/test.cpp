@@ -175,6 +175,25 @@ static void check_words_loaded(const std::string &folder) {
     CHECK(!lines.segments("a\nb").begin()->text.empty() && lines.segments("a\nb").begin()->must_break);
 }
 
+// Balanced lines, also of a paragraph that has more than one call has room for.
+static void check_balanced() {
+    const line_segmenter lines;
+    std::string text = "aaa bb cc ddddd\naaa bb cc ddddd", many;
+    size_t at = 0;
+    for (const auto &[line, begin, columns] : lines.wrap_balanced(text, 6)) {
+        const std::string_view wanted[] = {"aaa ", "bb cc ", "ddddd\n", "aaa ", "bb cc ", "ddddd"};
+        CHECK(at < 6 && line == wanted[at++] && line.data() == text.data() + begin && columns == line.find_last_not_of(" \n") + 1);
+    }
+    CHECK(at == 6 && lines.wrap_balanced(in_utf16(text), 6).size() == 6 && lines.wrap_balanced(std::string_view(), 6).empty());
+    while (many.size() < 4000) many += "word of ";
+    const auto found = lines.wrap_balanced(many, 20);
+    CHECK(found.size() > 64 && found.back().begin + found.back().text.size() == many.size());
+    refused = true;
+    const std::string_view said = thrown([&] { lines.wrap_balanced(text, 6); });
+    refused = false;
+    CHECK(said == "bad_alloc");
+}
+
 static void check_moves() {
     word_segmenter one, other(std::move(one));
     CHECK(one.count("a b") == 0 && one.segments("a b").begin() == one.segments("a b").end() && !one.next("a", 0));
@@ -215,6 +234,7 @@ int main(int count, char **arguments) {
     std::ofstream(folder + "/abbreviations-en.txt") << "! Mr.\n";
     check_texts(folder);
     check_words_loaded(folder);
+    check_balanced();
     check_moves();
     check_refused();
     check_threads();

@@ -82,6 +82,21 @@ template <class Char, auto Call> struct wrap {
     }
     wrapped_line<Char> made(size_t begin, size_t end, more width) const { return {it.text.substr(begin, end - begin), begin, width}; }
 };
+// The balanced lines of a text, paragraph by paragraph.
+template <auto Call, class Char> std::vector<wrapped_line<Char>> balanced(const yengatomu_slot *slot, std::basic_string_view<Char> text, std::uint32_t columns) {
+    std::vector<wrapped_line<Char>> lines;
+    std::vector<size_t> ends(64), widths(64);
+    for (size_t from = 0;;) {
+        const size_t count = Call(slot, units(text), text.size(), from, columns, ends.data(), ends.size(), widths.data(), widths.size());
+        if (count == YENGATOMU_NONE) throw std::bad_alloc();
+        if (!count) return lines;
+        if (count > ends.size()) {
+            ends.resize(count), widths.resize(count);
+            continue;
+        }
+        for (size_t i = 0; i < count; from = ends[i++]) lines.push_back({text.substr(from, ends[i] - from), from, widths[i]});
+    }
+}
 using wrap_utf8 = wrap<char, yengatomu_wrap_columns>;
 using wrap_utf16 = wrap<char16_t, yengatomu_wrap_columns_utf16>;
 } // namespace detail
@@ -195,6 +210,9 @@ struct line_segmenter : segmenter<kind::lines> {
     auto wrap(std::string_view text, size_t columns) const & { return pieces(detail::wrap_utf8{{&slot, has_words, text}, columns}); }
     auto wrap(std::u16string_view text, size_t columns) const & { return pieces(detail::wrap_utf16{{&slot, has_words, text}, columns}); }
     template <class Text> void wrap(const Text &, size_t) && = delete;
+    /// Its lines balanced: of all lines that fit, those with the least ragged edge. They borrow the text alone. std::bad_alloc when out of memory.
+    auto wrap_balanced(std::string_view text, std::uint32_t columns) const { return detail::balanced<yengatomu_wrap_balanced>(&slot, text, columns); }
+    auto wrap_balanced(std::u16string_view text, std::uint32_t columns) const { return detail::balanced<yengatomu_wrap_balanced_utf16>(&slot, text, columns); }
 };
 } // namespace yengatomu
 #endif
