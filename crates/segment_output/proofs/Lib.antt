@@ -2,11 +2,12 @@ pub mod BareLines
 pub mod BareObjects
 pub mod Gathered
 pub mod JoinedCuts
+pub mod KeptDigits
 pub mod LineEnds
 pub mod MarkedPlaces
-pub mod Pieces
 pub mod Prepared
 pub mod Printed
+pub mod PutPieces
 pub mod Segments
 pub mod ShownLines
 pub mod ShownWide

@@ -10,7 +10,7 @@ ghost use Rattle.segment_output.specs.declared.marks.Mark.{Mark};
 ghost use Rattle.segment_output.specs.declared.output.Style.TheVariants.{Json};
 
 use crate::marks::Mark;
-use crate::object_pieces::{Copied, text_between};
+use crate::object_pieces::{Copied, copied_from};
 use crate::output::{Part, Segment, later, one_more, push_line};
 use crate::page::Page;
 use segment_text::bare::{BareStretch, bare_stretch_after};
@@ -88,7 +88,8 @@ fn put_short(part: Part<'_>, segment: Segment, stretch: BareStretch<'_>, page: &
     let Ok(end) = later(part.before, segment.end) else {
         return false;
     };
-    page.put_object(text, start, end, segment.mark)
+    let mark = segment.mark;
+    page.put_object(text, Segment { start, end, mark })
 }
 
 // What stands between two places, where that is in the stretch.
@@ -102,10 +103,11 @@ fn bare_text<'t>(
     requires { IsBareStretch text.now stretch }
     ensures { IfSome result (λ copied. ((copied.len ≤ length copied.bytes.now) × ((length copied.bytes.now ≤ 256) × (take copied.len copied.bytes.now ≡ slice_range text.now start end))) × AreBare (slice_range text.now start end)) }
 {
-    let from = start.checked_sub(stretch.from)?;
-    let to = end.checked_sub(stretch.from)?;
-    let _bare = stretch.text.get(from..to)?;
-    text_between(text, start, end)
+    if start < stretch.from || end < stretch.from {
+        return None;
+    }
+    let _bare = stretch.text.get(start - stretch.from..end - stretch.from)?;
+    copied_from(text, start, end - start)
 }
 
 // Adds the object of a segment that doesn't stand in the stretch, or has no room on the page, and finds the next stretch.

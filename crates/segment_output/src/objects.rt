@@ -93,16 +93,16 @@ fn push_opening(file: Option<&str>, lines: &mut Vec<u8>) -> Result<(), AllocErro
 #[inline(always)]
 pub fn ending(mark: Mark) -> (&'static [u8], usize)
     ensures short { result.1 ≤ length result.0.now }
-    ensures most { length result.0.now ≡ 20 }
+    ensures most { length result.0.now ≡ 32 }
     ensures value { take result.1 result.0.now ≡ print_from true (mark_tokens mark ++ end_object ∷ []) ++ 10 ∷ [] }
 {
     match mark {
-        Mark::Unmarked => (b"}\n                  ", 2),
+        Mark::Unmarked => (b"}\n                              ", 2),
         Mark::Word(kind) => word_ending(kind),
-        Mark::Line(true) => (b",\"mandatory\":true}\n ", 19),
-        Mark::Line(false) => (b",\"mandatory\":false}\n", 20),
-        Mark::Rule(true) => (b",\"status\":1}\n       ", 13),
-        Mark::Rule(false) => (b",\"status\":0}\n       ", 13),
+        Mark::Line(true) => (b",\"mandatory\":true}\n             ", 19),
+        Mark::Line(false) => (b",\"mandatory\":false}\n            ", 20),
+        Mark::Rule(true) => (b",\"status\":1}\n                   ", 13),
+        Mark::Rule(false) => (b",\"status\":0}\n                   ", 13),
     }
 }
 
@@ -110,13 +110,13 @@ pub fn ending(mark: Mark) -> (&'static [u8], usize)
 #[inline(always)]
 fn word_ending(kind: WordType) -> (&'static [u8], usize)
     ensures short { result.1 ≤ length result.0.now }
-    ensures most { length result.0.now ≡ 20 }
+    ensures most { length result.0.now ≡ 32 }
     ensures value { take result.1 result.0.now ≡ print_from true (mark_tokens (Word kind) ++ end_object ∷ []) ++ 10 ∷ [] }
 {
     match kind {
-        WordType::None => (b",\"type\":\"none\"}\n    ", 16),
-        WordType::Number => (b",\"type\":\"number\"}\n  ", 18),
-        WordType::Letter => (b",\"type\":\"letter\"}\n  ", 18),
+        WordType::None => (b",\"type\":\"none\"}\n                ", 16),
+        WordType::Number => (b",\"type\":\"number\"}\n              ", 18),
+        WordType::Letter => (b",\"type\":\"letter\"}\n              ", 18),
     }
 }
 

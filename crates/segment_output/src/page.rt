@@ -5,8 +5,9 @@ ghost use Rattle.json.specs.Print.{print};
 ghost use Rattle.segment_text.specs.Bare.{AreBare};
 ghost use Rattle.segment_output.specs.Output.{object_of};
 
-use crate::marks::Mark;
+use crate::digits::Digits;
 use crate::object_pieces::{Copied, OBJECT_LEN, put_pieces};
+use crate::output::Segment;
 use std::alloc::{AllocError, Global};
 use std::io;
 use std::io::Write;
@@ -20,6 +21,7 @@ const PAGE_LEN: usize = 65536;
 pub struct Page {
     bytes: Vec<u8>,
     used: usize,
+    digits: Digits,
 }
 
 impl Model for Page {
@@ -39,15 +41,19 @@ impl Page {
     {
         let mut bytes = Vec::new(alloc);
         bytes.resize(PAGE_LEN, 0)?;
-        Ok(Page { bytes, used: 0 })
+        Ok(Page {
+            bytes,
+            used: 0,
+            digits: Digits::new(),
+        })
     }
 
     /// Adds the object of a segment, in which no file is named, and a line feed, where there is room for it.
     #[inline(always)]
-    pub fn put_object(&mut self, text: Copied<'_>, start: usize, end: usize, mark: Mark) -> bool
+    pub fn put_object(&mut self, text: Copied<'_>, segment: Segment) -> bool
         requires short { (text.len ≤ length text.bytes.now) × (length text.bytes.now ≤ 256) }
         requires bare { AreBare (take text.len text.bytes.now) }
-        ensures added { IsTrue result → self.new ≡ self.old ++ (print (object_of None (take text.entry.len text.entry.bytes.now) (record { from = start; to = end; mark = mark })) ++ 10 ∷ []) }
+        ensures added { IsTrue result → self.new ≡ self.old ++ (print (object_of None (take text.entry.len text.entry.bytes.now) (record { from = segment.start; to = segment.end; mark = segment.mark })) ++ 10 ∷ []) }
         ensures full { result ≡ false → self.new ≡ self.old }
     {
         let used = self.used;
@@ -56,9 +62,8 @@ impl Page {
         }
         let len = put_pieces(
             text,
-            start,
-            end,
-            mark,
+            segment,
+            &mut self.digits,
             &mut self.bytes[used..used + OBJECT_LEN],
         );
         self.used = used + len;
