@@ -2,12 +2,10 @@ pub mod BareLines
 pub mod BareObjects
 pub mod Gathered
 pub mod JoinedCuts
-pub mod KeptDigits
 pub mod LineEnds
 pub mod MarkedPlaces
 pub mod Prepared
 pub mod Printed
-pub mod PutPieces
 pub mod Segments
 pub mod ShownLines
 pub mod ShownWide

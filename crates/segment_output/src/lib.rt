@@ -2,7 +2,6 @@
 //! and its wrapped lines.
 #![tactic(auto)]
 
-mod digits;
 pub mod fault;
 mod machine_lines;
 pub mod marks;
@@ -12,7 +11,6 @@ mod objects;
 pub mod output;
 mod page;
 pub mod parts;
-mod pieces;
 pub mod segmenter;
 mod stretch;
 pub mod vocabulary;

@@ -4,10 +4,10 @@ ghost use Rattle.json.specs.Print.{print};
 ghost use Rattle.segment_text.specs.Bare.{AreBare};
 ghost use Rattle.segment_output.specs.Output.{object_of};
 
-use crate::digits::Digits;
 use crate::objects::ending;
 use crate::output::Segment;
-use crate::pieces::put;
+use segment_text::digits::Digits;
+use segment_text::pieces::put;
 
 // So many bytes of a text are copied at once, where it is a short one.
 const SHORT_LEN: usize = 16;

@@ -1,9 +1,12 @@
-//! Texts that are not cut: how large they are, tabs as spaces, lines that are joined to paragraphs or trimmed, escapes, and what needs none.
+//! Texts that are not cut: how large they are, tabs as spaces, lines that are joined to paragraphs or trimmed, escapes, what needs none, and
+//! pieces and numbers that are put into a buffer.
 #![tactic(auto)]
 
 pub mod bare;
+pub mod digits;
 pub mod escapes;
 pub mod joined;
+pub mod pieces;
 pub mod preparation;
 pub mod size;
 pub mod tabs;

@@ -1,4 +1,4 @@
-use Rattle.segment_output.proofs.PutPieces.{put-piece}
+use Rattle.segment_text.proofs.PutPieces.{put-piece}
 use Rattle.segment_output.proofs.object_pieces.put_text.Goals as goal
 
 pub returns-else-text-eq-SHORT_LEN-clause-pieces : goal.returns-else-text-eq-SHORT_LEN-clause-pieces

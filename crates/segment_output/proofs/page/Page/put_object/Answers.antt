@@ -1,7 +1,7 @@
 -- What is put behind the lines stands there.
 use Rattle.std.proofs.Common.{◌≡◌, ◌+◌, ◌-◌, ◌≤◌, List, ℕ, ◌++◌, refl, ap, ◌∙◌, take, length, rules}
 use Rattle.std.proofs.lemmas.List.{with_items_is}
-use Rattle.segment_output.proofs.PutPieces.{put-piece}
+use Rattle.segment_text.proofs.PutPieces.{put-piece}
 use Rattle.segment_output.proofs.page.Page.put_object.Goals as goal
 
 pub returns-clause-added : goal.returns-clause-added

@@ -2,8 +2,8 @@
 use Rattle.std.proofs.Common.{◌≡◌, ℕ, List, ◌+◌, ◌-◌, ap, ◌∙◌, arith, rules, decimal, drop, length, take}
 use Rattle.std.proofs.lemmas.Fmt.{length-decimal-le}
 use Rattle.itoa.proofs.Decimal.{length_four}
-use Rattle.segment_output.proofs.KeptDigits.{kept-digits}
-use Rattle.segment_output.proofs.digits.Digits.put_far.Goals as goal
+use Rattle.segment_text.proofs.KeptDigits.{kept-digits}
+use Rattle.segment_text.proofs.digits.Digits.put_far.Goals as goal
 
 pub write_digits-start-requires : goal.write_digits-start-requires
 write_digits-start-requires c = search (rules, length-decimal-le 20)

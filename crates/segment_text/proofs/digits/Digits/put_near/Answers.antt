@@ -1,8 +1,8 @@
 -- The digits that are kept, and two pairs.
 use Rattle.std.proofs.Common.{ℕ, List, ◌/◌, ◌%◌, ◌++◌, ap, sym, ◌∙◌, take}
 use Rattle.itoa.proofs.Decimal.{pair}
-use Rattle.segment_output.proofs.KeptDigits.{near-digits, pieces}
-use Rattle.segment_output.proofs.digits.Digits.put_near.Goals as goal
+use Rattle.segment_text.proofs.KeptDigits.{near-digits, pieces}
+use Rattle.segment_text.proofs.digits.Digits.put_near.Goals as goal
 
 pub returns-clause-pieces : goal.returns-clause-pieces
 returns-clause-pieces c =

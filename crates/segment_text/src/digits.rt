@@ -4,7 +4,7 @@ ghost use Rattle.std.specs.Prelude.{◌≡◌, ◌+◌, ◌*◌, ◌/◌, ◌%�
 use crate::pieces::put;
 use std::marker::Model;
 
-// Numbers are near one another where all their digits but the last four are the same: so many are.
+// So many numbers have the same digits before their last four, and are near one another.
 const NEAR: usize = 10_000;
 
 // So many digits come before the last four at most.
@@ -13,14 +13,17 @@ const KEPT_LEN: usize = 16;
 // The longest number has 20 digits.
 const DIGITS_LEN: usize = 20;
 
+// So many bytes are put at once, the digits of any number among them.
+const PIECE_LEN: usize = 32;
+
 // All pairs of digits.
 static PAIRS: [u8; 200] =
     *b"00010203040506070809101112131415161718192021222324252627282930313233343536373839404142434445464748495051525354555657585960616263646566676869707172737475767778798081828384858687888990919293949596979899";
 
-/// The digits of a number but the last four, which are kept for the numbers near it.
+/// The digits of a number but the last four, kept for the numbers near it, of which they are also the digits but the last four.
 #[derive(Debug, Drop)]
 pub struct Digits {
-    // The least number that begins with them.
+    // The least number with these digits before its last four.
     from: usize,
     digits: [u8; KEPT_LEN],
     len: usize,
@@ -37,7 +40,7 @@ impl Model for Digits {
 }
 
 impl Digits {
-    /// Those of the least number that has some.
+    /// Keeps the digit that the numbers from 10,000 to 19,999 have before their last four.
     pub fn new() -> Self {
         Digits {
             from: NEAR,
@@ -46,7 +49,8 @@ impl Digits {
         }
     }
 
-    /// Puts a number at a place of a buffer, and returns where it ends. Of one that isn't near the others the digits are kept.
+    /// Puts a number in decimal at a place of a buffer, and returns where it ends. What stands there behind it may change. Of a number that has
+    /// other digits before its last four than those that are kept, these are kept then.
     #[inline(always)]
     pub fn put_number(&mut self, number: usize, at: usize, object: &mut [u8]) -> usize
         requires { at + 32 ≤ length object.old }
@@ -78,12 +82,12 @@ impl Digits {
         ensures len { length object.new ≡ length object.old }
         ensures pieces { take result object.new ≡ take at object.old ++ decimal (self.now + rest) }
     {
-        let at = put::<16>(&self.digits, self.len, at, object);
+        let at = put::<KEPT_LEN>(&self.digits, self.len, at, object);
         let at = put_pair(rest / 100, at, object);
         put_pair(rest % 100, at, object)
     }
 
-    // Puts any number, and keeps its digits.
+    // Puts any number, and keeps its digits but the last four, if it has more.
     #[cold]
     #[inline(never)]
     fn put_far(&mut self, number: usize, at: usize, object: &mut [u8]) -> usize
@@ -92,7 +96,7 @@ impl Digits {
         ensures len { length object.new ≡ length object.old }
         ensures pieces { take result object.new ≡ take at object.old ++ decimal number }
     {
-        let mut digits = [0; DIGITS_LEN + 32];
+        let mut digits = [0; DIGITS_LEN + PIECE_LEN];
         let start = itoa::write_digits(number as u64, &mut digits, DIGITS_LEN);
         let len = DIGITS_LEN - start;
         if number >= NEAR {
@@ -101,7 +105,7 @@ impl Digits {
             self.digits
                 .copy_from_slice(&digits[start..start + KEPT_LEN]);
         }
-        put::<32>(&digits[start..start + 32], len, at, object)
+        put::<PIECE_LEN>(&digits[start..start + PIECE_LEN], len, at, object)
     }
 }
 

@@ -2,7 +2,7 @@
 use Rattle.std.proofs.Common.{◌≡◌, ℕ, zero, suc, ◌+◌, ◌-◌, ◌*◌, ◌/◌, ◌%◌, ◌^◌, ◌<◌, ◌≤◌, Bool, true, ◌&&◌, T, eqb, List, ◌++◌, get_or, length, take, decimal, refl, sym, ap, ◌∙◌, inl, inr, arith, eq-zero-or-pos, eqb→eq, append_assoc, take-take}
 use Rattle.std.proofs.Math.Seq.{take-append_seam}
 use Rattle.itoa.proofs.Decimal.{decimal_four, length_four, pair}
-use Rattle.segment_output.specs.declared.digits.TheConstants.{PAIRS}
+use Rattle.segment_text.specs.declared.digits.TheConstants.{PAIRS}
 use lib.Ieee.Fits.{and_l, and_r}
 
 abbrev are_pairs : ℕ → Bool

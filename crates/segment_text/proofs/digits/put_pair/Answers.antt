@@ -1,8 +1,8 @@
 -- The two bytes are those of the table.
 use Rattle.std.proofs.Common.{◌+◌, ◌/◌, ◌%◌}
-use Rattle.segment_output.proofs.KeptDigits.{pair-at}
-use Rattle.segment_output.proofs.PutPieces.{put-two}
-use Rattle.segment_output.proofs.digits.put_pair.Goals as goal
+use Rattle.segment_text.proofs.KeptDigits.{pair-at}
+use Rattle.segment_text.proofs.PutPieces.{put-two}
+use Rattle.segment_text.proofs.digits.put_pair.Goals as goal
 
 pub returns-clause-pieces : goal.returns-clause-pieces
 returns-clause-pieces c =
