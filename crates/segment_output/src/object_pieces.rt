@@ -1,5 +1,5 @@
 //! Objects of texts that aren't long, of pieces that are copied to where they belong.
-ghost use Rattle.std.specs.Prelude.{◌≡◌, ◌+◌, ◌≤◌, ◌++◌, ◌∷◌, [], None, length, take, decimal, slice_range, IfSome};
+ghost use Rattle.std.specs.Prelude.{◌≡◌, ◌+◌, ◌≤◌, ◌++◌, ◌∷◌, [], None, length, take, slice_range, IfSome};
 ghost use Rattle.json.specs.Print.{print};
 ghost use Rattle.segment_text.specs.Bare.{AreBare};
 ghost use Rattle.segment_output.specs.Output.{object_of};
