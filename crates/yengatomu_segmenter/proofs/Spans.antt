@@ -1,6 +1,7 @@
 -- Balanced lines stay in their text, and are written one by one.
 use Rattle.std.proofs.Common.{◌≡◌, ℕ, ◌+◌, ◌-◌, ◌<◌, ◌≤◌, ◌^◌, List, [], ◌∷◌, length, drop, get_or, map, suc, zero, refl, sym, ap, ◌∙◌, subst, arith}
 use Rattle.std.specs.List.{All}
+use Rattle.std.specs.Prelude.{IfOk, Result, Ok, Err}
 use Rattle.std.proofs.lemmas.List.Elements.{All-cons}
 use Rattle.icu_segmenter.specs.Items.{IsRising, Text, rest_after, start_of}
 use Rattle.icu_segmenter.specs.Paragraphs.{GivesParagraph, ParagraphsLeft, spans_of}
@@ -19,9 +20,9 @@ spans-within text (line ∷ lines) rises =
     (spans-within (rest_after (length line.characters) text) lines on)
 
 -- lines of the units behind a place end at places that fit
-pub lines-fit : (units : List ℕ) (from : ℕ) (text : Text) (before after : ParagraphsLeft) (spans : List Span) → IsTextOf units text → before.text ≡ text
+pub fit-of : (units : List ℕ) (from : ℕ) (text : Text) (before after : ParagraphsLeft) (spans : List Span) → IsTextOf units text → before.text ≡ text
     → from + length units < 2 ^ 64 → GivesParagraph before spans after → All (λ (span : Span). from + span.end < 2 ^ 64) spans
-lines-fit units from text before after spans is same fits gives k default below =
+fit-of units from text before after spans is same fits gives k default below =
     let within : All (λ (span : Span). span.end ≤ text.end) spans
     = subst (λ (found : List Span). All (λ (span : Span). span.end ≤ text.end) found) (sym (gives.stand ∙ ap (λ (t : Text). spans_of t gives.lines) same)) (spans-within text gives.lines is.rises) in
     omega (arith, within k default below, is.end, fits)
@@ -39,3 +40,11 @@ next-of f (span ∷ spans) (suc index) default below =
   where
     one : suc (index + 1) ≡ suc index + 1
     one = omega (arith)
+
+-- what is given is given of the paragraphs that were asked for
+pub ok-given : {T E : Type 0} (P Q : T → Type 0) (result : Result T E) → ((found : T) → P found → Q found) → IfOk result P → IfOk result Q
+ok-given P Q (Ok found) on given = on found given
+ok-given P Q (Err error) on given = given
+
+pub given-of : (before wanted after : ParagraphsLeft) (spans : List Span) → before ≡ wanted → GivesParagraph before spans after → GivesParagraph wanted spans after
+given-of before wanted after spans same gives = subst (λ (left : ParagraphsLeft). GivesParagraph left spans after) same gives
