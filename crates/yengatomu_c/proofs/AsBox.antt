@@ -6,8 +6,8 @@ use Rattle.std_alloc.proofs.BoxSteps.Form.{Bx}
 use Rattle.std_heap.specs.contracts.Global as Heap
 use Rattle.std_heap.specs.contracts.GlobalAllocator.TheImpl.{ghosts, dict}
 use Rattle.std_heap.proofs.Global.TheLaws as heap
-use Rattle.yengatomu_c.specs.contracts.segmenter.Segmenter as Seg
-use Rattle.yengatomu_c.proofs.segmenter.Segmenter.TheLaws as seg
+use Rattle.yengatomu_segmenter.specs.contracts.segmenter.Segmenter as Seg
+use Rattle.yengatomu_segmenter.proofs.segmenter.Segmenter.TheLaws as seg
 use Rattle.yengatomu_c.specs.contracts.parts.Parts as Parts
 use Rattle.yengatomu_c.specs.contracts.handle.Handle as Handle
 

@@ -18,8 +18,8 @@ use Rattle.std.specs.Global.{Global}
 use Rattle.std.specs.Prelude.{true, false, Some}
 use Rattle.std_heap.specs.contracts.GlobalAllocator.TheImpl.{ghosts}
 use Rattle.yengatomu_c.specs.Owned.{owned, loan_owns}
-use Rattle.yengatomu_c.specs.contracts.segmenter.Segmenter.{the_row as T}
-use Rattle.yengatomu_c.proofs.segmenter.Segmenter.TheLaws.{the_row_laws as L}
+use Rattle.yengatomu_segmenter.specs.contracts.segmenter.Segmenter.{the_row as T}
+use Rattle.yengatomu_segmenter.proofs.segmenter.Segmenter.TheLaws.{the_row_laws as L}
 
 -- what the lender keeps: the box comes back when the lifetime has ended, with the right to free its block
 abbrev pub debt : Global → Ptr → T.Denot → ℕ → Fml

@@ -9,7 +9,7 @@ use Rattle.std.specs.Box.Ownership.{box_owns}
 use Rattle.std.specs.Coded.{coded_option}
 use Rattle.std.specs.Global.{Global}
 use Rattle.std_heap.specs.contracts.GlobalAllocator.TheImpl.{ghosts}
-use Rattle.yengatomu_c.specs.contracts.segmenter.Segmenter.{the_row}
+use Rattle.yengatomu_segmenter.specs.contracts.segmenter.Segmenter.{the_row}
 
 -- nothing, where there is no box or it is lent; else the box
 abbrev pub owned : Global → Ptr → Bool → Option the_row.Denot → Fml

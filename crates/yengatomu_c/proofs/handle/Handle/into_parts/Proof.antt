@@ -32,7 +32,7 @@ use Rattle.std.proofs.alloc.Calls.{token, handle_tells, Goes-blank}
 use Rattle.std_alloc.proofs.BoxSteps.Form.{R, P}
 use Rattle.std_heap.specs.contracts.Global as Heap
 use Rattle.yengatomu_c.specs.Owned.{owned, is_held}
-use Rattle.yengatomu_c.specs.contracts.segmenter.Segmenter as Seg
+use Rattle.yengatomu_segmenter.specs.contracts.segmenter.Segmenter as Seg
 use Rattle.yengatomu_c.specs.contracts.handle.Handle as Handle
 use Rattle.yengatomu_c.specs.contracts.handle.Holds as Holds
 use Rattle.yengatomu_c.proofs.AsBox.{E, FromHandle as From}

@@ -12,8 +12,8 @@ use Rattle.std.specs.Prelude.{Bool, true, false, Option, Some, None}
 use Rattle.std_alloc.proofs.SendSync.{quiet, lies}
 use Rattle.std_heap.proofs.Global.TheSendSync as handle
 use Rattle.yengatomu_c.specs.Owned.{owned}
-use Rattle.yengatomu_c.specs.contracts.segmenter.Segmenter as Seg
-use Rattle.yengatomu_c.proofs.segmenter.Segmenter.TheSendSync.{the_send as seg}
+use Rattle.yengatomu_segmenter.specs.contracts.segmenter.Segmenter as Seg
+use Rattle.yengatomu_segmenter.proofs.segmenter.Segmenter.TheSendSync.{the_send as seg}
 use Rattle.yengatomu_c.specs.contracts.handle.Holds.{the_row, the_type}
 
 keyless : (alloc : Global) (at : Ptr) (lent : Bool) (o : Option Seg.the_row.Denot) → Keyless (owned alloc at lent o)

@@ -16,8 +16,8 @@ use types.Logic.{Logic, sem, lfts}
 use types.Na.{before-Incl, before_lent}
 use types.Tokens.{bor_fracture}
 use Rattle.yengatomu_c.specs.Owned.{lease_owns, lease_shares}
-use Rattle.yengatomu_c.specs.contracts.segmenter.Segmenter.{the_row as T}
-use Rattle.yengatomu_c.proofs.segmenter.Segmenter.TheLaws.{the_row_laws as L}
+use Rattle.yengatomu_segmenter.specs.contracts.segmenter.Segmenter.{the_row as T}
+use Rattle.yengatomu_segmenter.proofs.segmenter.Segmenter.TheLaws.{the_row_laws as L}
 use Rattle.yengatomu_c.specs.contracts.loan.Lease as C
 use Rattle.yengatomu_c.proofs.loan.Lease.TheLaw.Statement.{statement}
 

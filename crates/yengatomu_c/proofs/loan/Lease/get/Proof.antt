@@ -33,7 +33,7 @@ use denote.Triple.Walked.{says, Stays, stay_none_ref, walk_of, ends_at, walked, 
 use contract.Running.{tables, tables_of}
 use denote.Triple.Table.{entered}
 use Rattle.std_alloc.proofs.Words.{pointer_in, pointer_out}
-use Rattle.yengatomu_c.specs.contracts.segmenter.Segmenter as Seg
+use Rattle.yengatomu_segmenter.specs.contracts.segmenter.Segmenter as Seg
 use Rattle.yengatomu_c.specs.contracts.loan.Lease as Lease
 use Rattle.yengatomu_c.proofs.loan.Lease.TheLaws as lease
 use Rattle.yengatomu_c.specs.contracts.loan.Lease.get as F

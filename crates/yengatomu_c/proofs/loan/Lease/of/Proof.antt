@@ -30,7 +30,7 @@ use denote.Triple.Table.{entered}
 use denote.Triple.Walked.{says, Stays, stay_dropped, walk_of, ends_at, Goes-dropped, walk_Meets}
 use Rattle.std.specs.Prelude.{Option, Some, None}
 use Rattle.yengatomu_c.specs.Owned.{is_held, lease_owns, loan_owns}
-use Rattle.yengatomu_c.specs.contracts.segmenter.Segmenter as Seg
+use Rattle.yengatomu_segmenter.specs.contracts.segmenter.Segmenter as Seg
 use Rattle.yengatomu_c.specs.contracts.loan.Loan as Loan
 use Rattle.yengatomu_c.specs.contracts.loan.Lease as Lease
 use Rattle.yengatomu_c.proofs.Shapes.{Ptr-Good, none, one, none_had, one_made}

@@ -8,8 +8,8 @@ use denote.Param.Send.{IsSend, AllSend, owning_send, struct_send}
 use Rattle.std.specs.Prelude.{Option, Some, None}
 use Rattle.std_alloc.proofs.SendSync.{quiet, seen}
 use Rattle.yengatomu_c.specs.Owned.{loan_owns}
-use Rattle.yengatomu_c.specs.contracts.segmenter.Segmenter as Seg
-use Rattle.yengatomu_c.proofs.segmenter.Segmenter.TheSendSync.{the_sync as seg}
+use Rattle.yengatomu_segmenter.specs.contracts.segmenter.Segmenter as Seg
+use Rattle.yengatomu_segmenter.proofs.segmenter.Segmenter.TheSendSync.{the_sync as seg}
 use Rattle.yengatomu_c.specs.contracts.loan.Loan.{the_row, the_type}
 
 keyless : (at : Ptr) (o : Option Seg.the_row.Denot) (life : Lft) (share : Share) → Keyless (loan_owns at o life share)
