@@ -39,19 +39,22 @@ def found(segmenter, text):
 def are_alike(segmenter, text, writes):
     """Returns whether ten threads find what one did."""
     wanted, same, ready = found(segmenter, text), [], threading.Barrier(THREADS)
+    # (a race is reported only where one thread writes while another reads, so they write often)
+    rounds = 20 if writes else 1
 
     def ask():
         ready.wait()
-        if writes:
-            ctypes.memset(segmenter._slot.here, 1, 1)
-        same.append(found(segmenter, text) == wanted)
+        for _ in range(rounds):
+            if writes:
+                ctypes.memset(segmenter._slot.here, 1, 1)
+            same.append(found(segmenter, text) == wanted)
 
     threads = [threading.Thread(target=ask) for _ in range(THREADS)]
     for it in threads:
         it.start()
     for it in threads:
         it.join()
-    return same == [True] * THREADS
+    return same == [True] * THREADS * rounds
 
 
 def main(path, writes=""):
