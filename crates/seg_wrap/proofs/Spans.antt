@@ -1,8 +1,8 @@
 -- Where balanced lines stand.
 use Rattle.std.proofs.Common.{◌≡◌, ℕ, ◌+◌, ◌-◌, ◌<◌, ◌≤◌, Bool, true, false, List, [], ◌∷◌, ◌++◌, length, take, drop, map, get_or, zero, suc, refl, sym, ap, ◌∙◌, subst, arith}
 use Rattle.std.specs.Prelude.{if◌then◌else◌, ◌&&◌}
-use Rattle.std.specs.List.{All, list_all}
-use Rattle.std.proofs.lemmas.List.{append-nil, append_assoc, drop-drop, drop-map, drop_all, get_or-drop, length-append, length-drop, length-map, take-map}
+use Rattle.std.specs.List.{list_all}
+use Rattle.std.proofs.lemmas.List.{append-nil, append_assoc, drop-drop, drop-map, drop_all, get_or-drop, length-append, length-drop, take-map}
 use Rattle.std.proofs.lemmas.List.Elements.{All-cons}
 use Rattle.std.proofs.lemmas.List.Folds.{list_all-append}
 use Rattle.seg_balance.specs.declared.balance.BalancedLine.{BalancedLine}
@@ -16,7 +16,7 @@ use Rattle.seg_wrap.specs.declared.wrap.wrapping.Span.{Span}
 use Rattle.seg_wrap.specs.Paragraphs.{GivesParagraph, first_paragraph, joined, lines_with, measured, spans_of}
 use Rattle.seg_wrap.specs.Pieces.{ArePieces, EndWithPieces, IsParagraph, last_of, measured_piece, rest_behind, segments_at, spans_at}
 use Rattle.seg_wrap.specs.Walk.{segment_at}
-use Rattle.seg_wrap.specs.Wrapping.{Cell, Line, Measure, Segment, are_trailing, characters_before, columns_of, line_of, rest_from, segments_from, total_of}
+use Rattle.seg_wrap.specs.Wrapping.{Cell, Line, Measure, Segment, are_trailing, characters_before, columns_of, rest_from, segments_from, total_of}
 use Rattle.seg_wrap.proofs.Extents.{columns-append, columns-most}
 use Rattle.seg_wrap.proofs.Pieces.{pieces-measured}
 use Rattle.seg_wrap.proofs.Places.{rest-of-characters}

@@ -1,5 +1,5 @@
 -- Lines of a text, balanced paragraph by paragraph.
-use Rattle.std.specs.Prelude.{ℕ, ◌-◌, Bool, false, List, [], ◌∷◌, drop, take, length, map, if◌then◌else◌, ◌≡◌}
+use Rattle.std.specs.Prelude.{ℕ, ◌-◌, false, List, [], ◌∷◌, drop, take, length, map, if◌then◌else◌, ◌≡◌}
 use Rattle.seg_balance.specs.declared.balance.MeasuredSegment.{MeasuredSegment}
 use Rattle.seg_balance.specs.Balanced.{AreBalanced}
 use Rattle.seg_text.specs.Items.{Text, rest_after, start_of}

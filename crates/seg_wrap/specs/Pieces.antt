@@ -1,11 +1,10 @@
 -- Pieces of a text that were read, one after another.
-use Rattle.std.specs.Prelude.{ℕ, ◌-◌, ◌<◌, ◌≤◌, false, List, [], ◌∷◌, get_or, length, map, ◌≡◌}
+use Rattle.std.specs.Prelude.{ℕ, ◌-◌, ◌<◌, ◌≤◌, false, List, [], ◌∷◌, get_or, length, ◌≡◌}
 use Rattle.std.specs.List.{All}
 use Rattle.seg_balance.specs.declared.balance.BalancedLine.{BalancedLine}
 use Rattle.seg_balance.specs.declared.balance.MeasuredSegment.{MeasuredSegment}
 use Rattle.seg_text.specs.declared.boundary.Boundary.{Boundary}
 use Rattle.seg_text.specs.Items.{Text}
-use Rattle.seg_wrap.specs.declared.wrap.extent.Extent.{Extent}
 use Rattle.seg_wrap.specs.declared.wrap.wrapping.Piece.{Piece}
 use Rattle.seg_wrap.specs.declared.wrap.wrapping.Span.{Span}
 use Rattle.seg_wrap.specs.Paragraphs.{behind_paragraph, first_paragraph}

@@ -1,5 +1,5 @@
 -- Lines of a text, wrapped to so many columns.
-use Rattle.std.specs.Prelude.{ℕ, ◌+◌, ◌-◌, ◌==◌, ◌||◌, nat_lt, Bool, false, List, [], ◌∷◌, ◌++◌, drop, take, length, if◌then◌else◌, ◌≡◌, ◌<◌, ◌≤◌, map, encode_utf8_all}
+use Rattle.std.specs.Prelude.{ℕ, ◌+◌, ◌==◌, ◌||◌, nat_lt, Bool, false, List, [], ◌∷◌, ◌++◌, drop, take, length, if◌then◌else◌, ◌≡◌, ◌<◌, ◌≤◌, map, encode_utf8_all}
 use Rattle.std.specs.List.{list_all, prefix_len}
 use Rattle.std.specs.Option.{unwrap_or}
 use Rattle.unicode_width.specs.Width.{char_width, str_width}

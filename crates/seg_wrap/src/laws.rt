@@ -1,11 +1,19 @@
 //! Laws of wrapped lines.
 
-ghost use Rattle.std.specs.Prelude.{ℕ, List};
-ghost use Rattle.seg_wrap.specs.Wrapping.{Segment, HasOneWrapping};
+ghost use Rattle.std.specs.Prelude.{◌≡◌, ℕ, List, map};
+ghost use Rattle.seg_balance.specs.Balanced.{line_columns};
+ghost use Rattle.seg_wrap.specs.Paragraphs.{joined, measured};
+ghost use Rattle.seg_wrap.specs.Wrapping.{Segment, HasOneWrapping, columns_of};
 
 /// Law: the wrapped lines are the one list of lines in which each line is one or more whole segments and together they
 /// are all; a line ends at each segment that is mandatory; a line of more than one segment has at most
 /// the columns; and a line that ends anywhere else than there and at the end of the text would have more with the next segment.
 pub fn wrapped_lines_are_one()
     ensures { (limit : ℕ) (segments : List Segment) → HasOneWrapping limit segments }
+{}
+
+/// Law: balanced lines are chosen by the columns that wrapped lines have: a line of measured segments has those of all its cells, without
+/// trailing white space.
+pub fn balanced_lines_are_measured()
+    ensures { (segments : List Segment) → line_columns (map measured segments) ≡ columns_of (joined segments).cells }
 {}

@@ -11,7 +11,7 @@ use Rattle.yengatomu_segmenter.specs.Finders.{Finder}
 use Rattle.yengatomu_segmenter.specs.Finders.Finder.{Clusters, Words, Sentences, Lines}
 use Rattle.yengatomu_segmenter.specs.Wrapped.{measure_by}
 
--- lines that are found by a machine are given so; by a pair table there are none
+-- what is given of lines that are found by a machine; by a pair table there are none
 abbrev pub IfByMachine : LineFinder → List Span → Type 0 → Type 0
 IfByMachine ByClusters spans Given = Given
 IfByMachine ByPlaces spans Given = spans ≡ []
@@ -47,7 +47,7 @@ pub record TakeLines (from : ℕ) (spans : List Span) (written : Written) (count
   pub ends : TakesFirst (min (length written.ends_before) (length written.widths_before)) (span_ends from spans) written.ends_before written.ends count
   pub widths : TakesFirst (min (length written.ends_before) (length written.widths_before)) (span_widths spans) written.widths_before written.widths count
 
--- a paragraph has so many lines, of which the first were written; or the number says that memory lacked, and nothing was
+-- a paragraph has so many lines, of which the first were written; or the number says that there is none, since it is out of memory, and nothing was written
 abbrev pub GivesLines : (List Span → Type 0) → ℕ → Written → ℕ → Type 0
 GivesLines AreLines from written count =
     ((count ≡ 2 ^ 64 - 1) × ((written.ends ≡ written.ends_before) × (written.widths ≡ written.widths_before)))
