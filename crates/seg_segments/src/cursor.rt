@@ -19,12 +19,12 @@ ghost use Rattle.seg_segments.specs.NearBoundaries.{IsNearestAbove, IsNearestBel
 mod clusters;
 mod line_starts;
 mod lines;
-mod nearest;
 mod sentences;
 mod suppressed;
 mod texts;
 mod words;
 
+use crate::segments::BreakIterator;
 use line_starts::line_start;
 use std::marker::Model;
 pub use texts::CursorText;
@@ -43,19 +43,50 @@ pub trait Segmenter: Drop {
 
 /// A segmenter of texts of one form: of `&[u8]`, possibly ill-formed UTF-8, or of `&[u16]`, possibly ill-formed UTF-16.
 pub trait SegmenterOf<T: CursorText>: Segmenter {
+    /// An iterator over the boundaries of a text.
+    type Breaks: BreakIterator;
+
+    /// The boundaries of a text. Takes no memory.
+    fn segment(&self, text: T) -> Self::Breaks
+        ensures boundaries { Self.Breaks.left result ≡ boundaries_of_units T.decode (Self.find self.now) (T.units text) }
+        ensures cover { IsCover 0 (length (T.units text)) (boundaries_of_units T.decode (Self.find self.now) (T.units text)) };
+
     /// The first boundary of a text is at its start, and the last at its end. Takes no memory.
-    fn cover(&self, text: T)
-        ensures { IsCover 0 (length (T.units text)) (boundaries_of_units T.decode (Self.find self.now) (T.units text)) };
+    final fn cover(&self, text: T)
+        ensures { IsCover 0 (length (T.units text)) (boundaries_of_units T.decode (Self.find self.now) (T.units text)) }
+    {
+        let _ = self.segment(text);
+    }
 
     /// The nearest boundary of a text above a place, if there is one. Takes no memory.
-    fn nearest_above(&self, text: T, place: usize) -> Option<usize>
+    final fn nearest_above(&self, text: T, place: usize) -> Option<usize>
         ensures nearest { IsNearestAbove (places_of_units T.decode (Self.find self.now) (T.units text)) place result }
-        ensures within { IfSome result (λ found. found ≤ length (T.units text)) };
+        ensures within { IfSome result (λ found. found ≤ length (T.units text)) }
+    {
+        let mut breaks = self.segment(text);
+        while let Some((found, _)) = breaks.next_break() {
+            if found > place {
+                return Some(found);
+            }
+        }
+        None
+    }
 
     /// The nearest boundary below it, if there is one.
-    fn nearest_below(&self, text: T, place: usize) -> Option<usize>
+    final fn nearest_below(&self, text: T, place: usize) -> Option<usize>
         ensures nearest { IsNearestBelow (places_of_units T.decode (Self.find self.now) (T.units text)) place result }
-        ensures within { IfSome result (λ found. found ≤ length (T.units text)) };
+        ensures within { IfSome result (λ found. found ≤ length (T.units text)) }
+    {
+        let mut breaks = self.segment(text);
+        let mut nearest = None;
+        while let Some((found, _)) = breaks.next_break() {
+            if found >= place {
+                break;
+            }
+            nearest = Some(found);
+        }
+        nearest
+    }
 }
 
 /// A text with the segmenter that finds its boundaries: it answers which are near a place. Places are units from the start: bytes of

@@ -2,11 +2,12 @@
 
 ghost use Rattle.seg_segments.specs.Suppressing.{suppressing_finder};
 
-use crate::cursor::nearest::{nearest_above, nearest_below};
 use crate::cursor::{Segmenter, SegmenterOf};
-use crate::segments::BreakIterator;
-use crate::suppress::SuppressingSegmenter;
 use crate::suppress::laws::parts_behind_line_feeds;
+use crate::suppress::{SuppressedBreaks, SuppressingSegmenter};
+use seg_clusters::sentence::SentenceBreakIterator;
+use seg_text::indices::{Utf8CharIndices, Utf16Indices};
+use seg_text::scaffold::{PotentiallyIllFormedUtf8, Utf16};
 
 impl<'data> Segmenter for SuppressingSegmenter<'data> {
     ghost find = { λ segmenter. suppressing_finder segmenter };
@@ -18,32 +19,21 @@ impl<'data> Segmenter for SuppressingSegmenter<'data> {
 }
 
 impl<'data, 's> SegmenterOf<&'s [u8]> for SuppressingSegmenter<'data> {
-    fn cover(&self, text: &'s [u8]) {
-        let_go(self.segment_utf8(text));
-    }
+    type Breaks = SuppressedBreaks<
+        'data,
+        SentenceBreakIterator<'data, 's, PotentiallyIllFormedUtf8>,
+        Utf8CharIndices<'s>,
+    >;
 
-    fn nearest_above(&self, text: &'s [u8], place: usize) -> Option<usize> {
-        nearest_above(self.segment_utf8(text), place)
-    }
-
-    fn nearest_below(&self, text: &'s [u8], place: usize) -> Option<usize> {
-        nearest_below(self.segment_utf8(text), place)
+    fn segment(&self, text: &'s [u8]) -> Self::Breaks {
+        self.segment_utf8(text)
     }
 }
 
 impl<'data, 's> SegmenterOf<&'s [u16]> for SuppressingSegmenter<'data> {
-    fn cover(&self, text: &'s [u16]) {
-        let_go(self.segment_utf16(text));
-    }
+    type Breaks = SuppressedBreaks<'data, SentenceBreakIterator<'data, 's, Utf16>, Utf16Indices<'s>>;
 
-    fn nearest_above(&self, text: &'s [u16], place: usize) -> Option<usize> {
-        nearest_above(self.segment_utf16(text), place)
-    }
-
-    fn nearest_below(&self, text: &'s [u16], place: usize) -> Option<usize> {
-        nearest_below(self.segment_utf16(text), place)
+    fn segment(&self, text: &'s [u16]) -> Self::Breaks {
+        self.segment_utf16(text)
     }
 }
-
-// Drops an iterator. Of the boundaries that abbreviations leave, that is proved in generic code alone.
-fn let_go<B: BreakIterator>(_breaks: B) {}

@@ -3,10 +3,10 @@
 ghost use Rattle.seg_words.specs.Words.{word_rules};
 ghost use Rattle.seg_words.specs.WordRules.{word_boundaries_by};
 
-use crate::cursor::nearest::{nearest_above, nearest_below};
 use crate::cursor::{Segmenter, SegmenterOf};
 use seg_words::laws::parts_behind_resets;
-use seg_words::word::WordSegmenterBorrowed;
+use seg_words::word::{WordBreakIterator, WordSegmenterBorrowed};
+use seg_text::scaffold::{PotentiallyIllFormedUtf8, Utf16};
 
 impl<'data> Segmenter for WordSegmenterBorrowed<'data> {
     ghost find = { λ segmenter. word_boundaries_by (word_rules segmenter) };
@@ -18,29 +18,17 @@ impl<'data> Segmenter for WordSegmenterBorrowed<'data> {
 }
 
 impl<'data, 's> SegmenterOf<&'s [u8]> for WordSegmenterBorrowed<'data> {
-    fn cover(&self, text: &'s [u8]) {
-        let _ = self.segment_utf8(text);
-    }
+    type Breaks = WordBreakIterator<'data, 's, PotentiallyIllFormedUtf8>;
 
-    fn nearest_above(&self, text: &'s [u8], place: usize) -> Option<usize> {
-        nearest_above(self.segment_utf8(text), place)
-    }
-
-    fn nearest_below(&self, text: &'s [u8], place: usize) -> Option<usize> {
-        nearest_below(self.segment_utf8(text), place)
+    fn segment(&self, text: &'s [u8]) -> Self::Breaks {
+        self.segment_utf8(text)
     }
 }
 
 impl<'data, 's> SegmenterOf<&'s [u16]> for WordSegmenterBorrowed<'data> {
-    fn cover(&self, text: &'s [u16]) {
-        let _ = self.segment_utf16(text);
-    }
+    type Breaks = WordBreakIterator<'data, 's, Utf16>;
 
-    fn nearest_above(&self, text: &'s [u16], place: usize) -> Option<usize> {
-        nearest_above(self.segment_utf16(text), place)
-    }
-
-    fn nearest_below(&self, text: &'s [u16], place: usize) -> Option<usize> {
-        nearest_below(self.segment_utf16(text), place)
+    fn segment(&self, text: &'s [u16]) -> Self::Breaks {
+        self.segment_utf16(text)
     }
 }
