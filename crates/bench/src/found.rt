@@ -3,10 +3,9 @@
 //!
 //! Each iterator is asked twice more after its end. What comes then, which is to be nothing, stands among the boundaries.
 
-use icu_segmenter::iterators::WordBreakIteratorWithWordType;
 use icu_segmenter::options::WordType;
-use icu_segmenter::scaffold::RuleBreakType;
-use icu_segmenter::segments::BreakIterator;
+use icu_segmenter::segments::{BreakIterator, Source};
+use seg_words::word::WordBreakIteratorWithWordType;
 use std::alloc::{AllocError, Global};
 
 /// Boundaries: the place and the mark of each.
@@ -72,9 +71,9 @@ fn push_wrong_if(found: &mut Found, is_wrong: bool) -> Result<(), AllocError> {
 }
 
 /// The boundaries of words that come with their types. Fails only when out of memory.
-pub fn found_words<'s, Y: RuleBreakType<'s>>(
+pub fn found_words<I: Source>(
     alloc: Global,
-    mut words: WordBreakIteratorWithWordType<'_, 's, Y>,
+    mut words: WordBreakIteratorWithWordType<'_, I>,
 ) -> Result<Found, AllocError> {
     let mut found = Vec::new(alloc);
     while let Some((place, word_type)) = words.next() {

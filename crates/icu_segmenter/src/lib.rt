@@ -33,12 +33,38 @@ pub mod complex {
     };
 }
 
-/// The iterators that the `segment_` calls give.
+/// The iterators that the `segment_` calls give, by the encoding `Y` of the text.
 pub mod iterators {
-    pub use seg_clusters::grapheme::GraphemeClusterBreakIterator;
-    pub use seg_clusters::sentence::SentenceBreakIterator;
-    pub use seg_lines::line::LineBreakIterator;
-    pub use seg_words::word::{WordBreakIterator, WordBreakIteratorWithWordType};
+    use seg_text::scaffold::RuleBreakType;
+
+    /// The boundaries of the grapheme clusters of a text in the encoding `Y`.
+    pub type GraphemeClusterBreakIterator<'data, 's, Y> =
+        seg_clusters::grapheme::GraphemeClusterBreakIterator<
+            'data,
+            <Y as RuleBreakType<'s>>::IterAttr,
+        >;
+
+    /// The boundaries of the words of a text in the encoding `Y`.
+    pub type WordBreakIterator<'data, 's, Y> = seg_words::word::WordBreakIterator<
+        'data,
+        <Y as RuleBreakType<'s>>::IterAttr,
+    >;
+
+    /// The boundaries of the words of a text in the encoding `Y`, each with the type of what ends there.
+    pub type WordBreakIteratorWithWordType<'data, 's, Y> =
+        seg_words::word::WordBreakIteratorWithWordType<'data, <Y as RuleBreakType<'s>>::IterAttr>;
+
+    /// The boundaries of the sentences of a text in the encoding `Y`.
+    pub type SentenceBreakIterator<'data, 's, Y> = seg_clusters::sentence::SentenceBreakIterator<
+        'data,
+        <Y as RuleBreakType<'s>>::IterAttr,
+    >;
+
+    /// The boundaries of the lines of a text in the encoding `Y`.
+    pub type LineBreakIterator<'data, 's, Y> = seg_lines::line::LineBreakIterator<
+        'data,
+        <Y as RuleBreakType<'s>>::IterAttr,
+    >;
 }
 
 /// The boundaries of a text by a machine, where no configuration is looked up twice: what `with_memo` of the iterators gives.

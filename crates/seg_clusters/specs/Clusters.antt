@@ -18,17 +18,17 @@ abbrev pub owned_cluster_rules : GraphemeClusterSegmenter → Rules
 owned_cluster_rules segmenter = owned_rules segmenter.engine
 
 -- the boundaries that an iterator has still to give, and their places
-abbrev pub clusters_left : {Y C I : Type 0} → GraphemeClusterBreakIterator Y C I → List Boundary
+abbrev pub clusters_left : {I : Type 0} → GraphemeClusterBreakIterator I → List Boundary
 clusters_left iterator = iterator.boundaries.left
 
-abbrev pub clusters_places : {Y C I : Type 0} → GraphemeClusterBreakIterator Y C I → List ℕ
+abbrev pub clusters_places : {I : Type 0} → GraphemeClusterBreakIterator I → List ℕ
 clusters_places iterator = offsets (clusters_left iterator)
 
 -- what an iterator finds boundaries by, and the cursor at the start of its text
-abbrev pub cluster_finder : {Y C I : Type 0} → GraphemeClusterBreakIterator Y C I → Rules
+abbrev pub cluster_finder : {I : Type 0} → GraphemeClusterBreakIterator I → Rules
 cluster_finder iterator = rules_of iterator.engine
 
-abbrev pub clusters_source : {Y C I : Type 0} → GraphemeClusterBreakIterator Y C I → I
+abbrev pub clusters_source : {I : Type 0} → GraphemeClusterBreakIterator I → I
 clusters_source iterator = iterator.whole
 
 -- What is seen of the segmenters of sentences.
@@ -41,15 +41,15 @@ abbrev pub owned_sentence_rules : SentenceSegmenter → Rules
 owned_sentence_rules segmenter = owned_rules segmenter.engine
 
 -- the boundaries that an iterator has still to give, and their places
-abbrev pub sentences_left : {Y C I : Type 0} → SentenceBreakIterator Y C I → List Boundary
+abbrev pub sentences_left : {I : Type 0} → SentenceBreakIterator I → List Boundary
 sentences_left iterator = iterator.boundaries.left
 
-abbrev pub sentences_places : {Y C I : Type 0} → SentenceBreakIterator Y C I → List ℕ
+abbrev pub sentences_places : {I : Type 0} → SentenceBreakIterator I → List ℕ
 sentences_places iterator = offsets (sentences_left iterator)
 
 -- what an iterator finds boundaries by, and the cursor at the start of its text
-abbrev pub sentence_finder : {Y C I : Type 0} → SentenceBreakIterator Y C I → Rules
+abbrev pub sentence_finder : {I : Type 0} → SentenceBreakIterator I → Rules
 sentence_finder iterator = rules_of iterator.engine
 
-abbrev pub sentences_source : {Y C I : Type 0} → SentenceBreakIterator Y C I → I
+abbrev pub sentences_source : {I : Type 0} → SentenceBreakIterator I → I
 sentences_source iterator = iterator.whole

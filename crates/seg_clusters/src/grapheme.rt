@@ -21,42 +21,38 @@ use seg_pairs::pair_data::{PairData, PairDataBorrowed};
 use seg_pairs::provider::RuleBreakData;
 use seg_text::cursor::Cursor;
 use seg_text::indices::{Latin1Indices, StrCharIndices, Utf8CharIndices, Utf16Indices};
-use seg_text::scaffold::{Latin1, PotentiallyIllFormedUtf8, RuleBreakType, Utf8, Utf16};
 use std::alloc::{AllocError, Global};
 use std::fmt::Debug;
-use std::marker::PhantomData;
 
 /// The boundaries of grapheme clusters in a text, as places: bytes in str, UTF-8 and Latin-1,
 /// 16-bit units in UTF-16.
 ///
 /// First 0, then the end of each cluster; the last is the text's length. After None it stays None.
-#[derive_where(Debug; Y::IterAttr: Debug)]
-pub struct GraphemeClusterBreakIterator<'data, 's, Y: RuleBreakType<'s>> {
-    boundaries: Boundaries<'data, Y::IterAttr>,
+#[derive_where(Debug; I: Debug)]
+pub struct GraphemeClusterBreakIterator<'data, I: Cursor> {
+    boundaries: Boundaries<'data, I>,
     engine: Engine<'data>,
-    whole: Y::IterAttr,
-    text: PhantomData<&'s ()>,
+    whole: I,
 }
 
-impl<'data, 's, Y: RuleBreakType<'s>> Drop for GraphemeClusterBreakIterator<'data, 's, Y> {
+impl<'data, I: Cursor> Drop for GraphemeClusterBreakIterator<'data, I> {
     fn drop(self) {
         let GraphemeClusterBreakIterator {
             boundaries: _,
             engine: _,
             whole: _,
-            text: _,
         } = self;
     }
 }
 
-impl<'data, 's, Y: RuleBreakType<'s>> GraphemeClusterBreakIterator<'data, 's, Y> {
+impl<'data, I: Cursor> GraphemeClusterBreakIterator<'data, I> {
     ghost use Rattle.seg_clusters.specs.Clusters.{cluster_finder, clusters_source};
 
     /// A cursor at the start of the whole text, whatever was given of its boundaries. Takes no memory.
-    pub fn source(&self) -> Y::IterAttr
+    pub fn source(&self) -> I
         ensures { result ≡ clusters_source self.now }
     {
-        Y::fork(&self.whole)
+        self.whole.fork()
     }
 
     /// The boundaries of the whole text, whatever was given of them, where no configuration of the machine is looked up
@@ -65,16 +61,16 @@ impl<'data, 's, Y: RuleBreakType<'s>> GraphemeClusterBreakIterator<'data, 's, Y>
     pub fn with_memo(
         &self,
         alloc: Global,
-    ) -> Result<MemoBreakIterator<'data, Y::IterAttr, CountedTransitions<'data>>, MemoError>
-        ensures made { IfOk result (IsNewMemo (machine_in (cluster_finder self.now)) (Y.IterAttr.text (clusters_source self.now))
-            (boundaries_of (cluster_finder self.now) (Y.IterAttr.text (clusters_source self.now)))) }
-        ensures rejected { IfErr result (IsMemoRefusal (machine_in (cluster_finder self.now)) ⊥ (Y.IterAttr.text (clusters_source self.now))) }
+    ) -> Result<MemoBreakIterator<'data, I, CountedTransitions<'data>>, MemoError>
+        ensures made { IfOk result (IsNewMemo (machine_in (cluster_finder self.now)) (I.text (clusters_source self.now))
+            (boundaries_of (cluster_finder self.now) (I.text (clusters_source self.now)))) }
+        ensures rejected { IfErr result (IsMemoRefusal (machine_in (cluster_finder self.now)) ⊥ (I.text (clusters_source self.now))) }
     {
-        self.engine.memoised(alloc, Y::fork(&self.whole))
+        self.engine.memoised(alloc, self.whole.fork())
     }
 }
 
-impl<'data, 's, Y: RuleBreakType<'s>> Clone for GraphemeClusterBreakIterator<'data, 's, Y> {
+impl<'data, I: Cursor> Clone for GraphemeClusterBreakIterator<'data, I> {
     ghost use Rattle.std.specs.Prelude.{⊤};
 
     ghost is_clone = { λ s r. r ≡ s };
@@ -85,13 +81,12 @@ impl<'data, 's, Y: RuleBreakType<'s>> Clone for GraphemeClusterBreakIterator<'da
         Ok(GraphemeClusterBreakIterator {
             boundaries: self.boundaries.fork(),
             engine: self.engine,
-            whole: Y::fork(&self.whole),
-            text: PhantomData,
+            whole: self.whole.fork(),
         })
     }
 }
 
-impl<'data, 's, Y: RuleBreakType<'s>> Iterator for GraphemeClusterBreakIterator<'data, 's, Y> {
+impl<'data, I: Cursor> Iterator for GraphemeClusterBreakIterator<'data, I> {
     ghost use Rattle.std.specs.Prelude.{⊤};
     ghost use Rattle.std.specs.Iterator.{MakesProgress};
     ghost use Rattle.seg_clusters.specs.Clusters.{cluster_finder, clusters_places, clusters_source};
@@ -230,13 +225,29 @@ impl<'data> GraphemeClusterSegmenterBorrowed<'data> {
         self.engine.resets_after(code_point)
     }
 
+    /// The boundaries of the clusters of what a cursor has still to read, as places in the text's units. Takes no memory.
+    pub fn segment<I: Cursor>(self, text: I) -> GraphemeClusterBreakIterator<'data, I>
+        ensures boundaries { clusters_left result ≡ boundaries_of (cluster_rules self.entry) (I.text text) }
+        ensures source { (cluster_finder result ≡ cluster_rules self.entry) × (clusters_source result ≡ text) }
+        ensures cover { IsCover (start_of (I.text text)) (I.text text).end (clusters_left result) }
+    {
+        GraphemeClusterBreakIterator {
+            boundaries: self.engine.boundaries(text.fork()),
+            engine: self.engine,
+            whole: text,
+        }
+    }
+
     /// The boundaries of the clusters of a `str`, in bytes: those of its bytes as UTF-8. Takes no memory.
-    pub fn segment_str<'s>(self, input: &'s str) -> GraphemeClusterBreakIterator<'data, 's, Utf8>
+    pub fn segment_str<'s>(
+        self,
+        input: &'s str,
+    ) -> GraphemeClusterBreakIterator<'data, StrCharIndices<'s>>
         ensures boundaries { clusters_left result ≡ boundaries_of (cluster_rules self.entry) (utf8 input.now) }
         ensures source { (cluster_finder result ≡ cluster_rules self.entry) × (clusters_source result ≡ record { place = 0; units = input.now }) }
         ensures cover { IsCover 0 (length input.now) (clusters_left result) }
     {
-        segment(self.engine, StrCharIndices::new(input))
+        self.segment(StrCharIndices::new(input))
     }
 
     /// The boundaries of the clusters of possibly ill-formed UTF-8, in bytes. Each longest beginning of a
@@ -244,24 +255,24 @@ impl<'data> GraphemeClusterSegmenterBorrowed<'data> {
     pub fn segment_utf8<'s>(
         self,
         input: &'s [u8],
-    ) -> GraphemeClusterBreakIterator<'data, 's, PotentiallyIllFormedUtf8>
+    ) -> GraphemeClusterBreakIterator<'data, Utf8CharIndices<'s>>
         ensures boundaries { clusters_left result ≡ boundaries_of (cluster_rules self.entry) (utf8 input.now) }
         ensures source { (cluster_finder result ≡ cluster_rules self.entry) × (clusters_source result ≡ record { place = 0; units = input.now }) }
         ensures cover { IsCover 0 (length input.now) (clusters_left result) }
     {
-        segment(self.engine, Utf8CharIndices::new(input))
+        self.segment(Utf8CharIndices::new(input))
     }
 
     /// The boundaries of the clusters of Latin-1, in bytes. Takes no memory.
     pub fn segment_latin1<'s>(
         self,
         input: &'s [u8],
-    ) -> GraphemeClusterBreakIterator<'data, 's, Latin1>
+    ) -> GraphemeClusterBreakIterator<'data, Latin1Indices<'s>>
         ensures boundaries { clusters_left result ≡ boundaries_of (cluster_rules self.entry) (latin1 input.now) }
         ensures source { (cluster_finder result ≡ cluster_rules self.entry) × (clusters_source result ≡ record { place = 0; units = input.now }) }
         ensures cover { IsCover 0 (length input.now) (clusters_left result) }
     {
-        segment(self.engine, Latin1Indices::new(input))
+        self.segment(Latin1Indices::new(input))
     }
 
     /// The boundaries of the clusters of possibly ill-formed UTF-16, in 16-bit units. A surrogate that stands alone
@@ -269,28 +280,11 @@ impl<'data> GraphemeClusterSegmenterBorrowed<'data> {
     pub fn segment_utf16<'s>(
         self,
         input: &'s [u16],
-    ) -> GraphemeClusterBreakIterator<'data, 's, Utf16>
+    ) -> GraphemeClusterBreakIterator<'data, Utf16Indices<'s>>
         ensures boundaries { clusters_left result ≡ boundaries_of (cluster_rules self.entry) (utf16 input.now) }
         ensures source { (cluster_finder result ≡ cluster_rules self.entry) × (clusters_source result ≡ record { place = 0; units = input.now }) }
         ensures cover { IsCover 0 (length input.now) (clusters_left result) }
     {
-        segment(self.engine, Utf16Indices::new(input))
-    }
-}
-
-/// The clusters of what is left of a text.
-fn segment<'data, 's, Y: RuleBreakType<'s>>(
-    engine: Engine<'data>,
-    text: Y::IterAttr,
-) -> GraphemeClusterBreakIterator<'data, 's, Y>
-    ensures boundaries { result.boundaries.left ≡ boundaries_of (rules_of engine.entry) (Y.IterAttr.text text) }
-    ensures source { (rules_of result.engine ≡ rules_of engine.entry) × (result.whole ≡ text) }
-    ensures cover { IsCover (start_of (Y.IterAttr.text text)) (Y.IterAttr.text text).end result.boundaries.left }
-{
-    GraphemeClusterBreakIterator {
-        boundaries: engine.boundaries(Y::fork(&text)),
-        engine,
-        whole: text,
-        text: PhantomData,
+        self.segment(Utf16Indices::new(input))
     }
 }

@@ -25,10 +25,8 @@ use seg_pairs::pair_data::{PairData, PairDataBorrowed};
 use seg_pairs::provider::{RuleBreakData, RuleBreakDataOverride};
 use seg_text::cursor::Cursor;
 use seg_text::indices::{Latin1Indices, StrCharIndices, Utf8CharIndices, Utf16Indices};
-use seg_text::scaffold::{Latin1, PotentiallyIllFormedUtf8, RuleBreakType, Utf8, Utf16};
 use std::alloc::{AllocError, Global};
 use std::fmt::Debug;
-use std::marker::PhantomData;
 
 /// The options of sentences that no language changes: none today.
 #[derive(Clone, Copy, Debug, Default, PartialEq, Eq)]
@@ -48,33 +46,31 @@ pub struct SentenceBreakOptions<'a> {
 /// 16-bit units in UTF-16.
 ///
 /// First 0, then the end of each sentence; the last is the text's length. After None it stays None.
-#[derive_where(Debug; Y::IterAttr: Debug)]
-pub struct SentenceBreakIterator<'data, 's, Y: RuleBreakType<'s>> {
-    boundaries: Boundaries<'data, Y::IterAttr>,
+#[derive_where(Debug; I: Debug)]
+pub struct SentenceBreakIterator<'data, I: Cursor> {
+    boundaries: Boundaries<'data, I>,
     engine: Engine<'data>,
-    whole: Y::IterAttr,
-    text: PhantomData<&'s ()>,
+    whole: I,
 }
 
-impl<'data, 's, Y: RuleBreakType<'s>> Drop for SentenceBreakIterator<'data, 's, Y> {
+impl<'data, I: Cursor> Drop for SentenceBreakIterator<'data, I> {
     fn drop(self) {
         let SentenceBreakIterator {
             boundaries: _,
             engine: _,
             whole: _,
-            text: _,
         } = self;
     }
 }
 
-impl<'data, 's, Y: RuleBreakType<'s>> SentenceBreakIterator<'data, 's, Y> {
+impl<'data, I: Cursor> SentenceBreakIterator<'data, I> {
     ghost use Rattle.seg_clusters.specs.Clusters.{sentence_finder, sentences_source};
 
     /// A cursor at the start of the whole text, whatever was given of its boundaries. Takes no memory.
-    pub fn source(&self) -> Y::IterAttr
+    pub fn source(&self) -> I
         ensures { result ≡ sentences_source self.now }
     {
-        Y::fork(&self.whole)
+        self.whole.fork()
     }
 
     /// The boundaries of the whole text, whatever was given of them, where no configuration of the machine is looked up
@@ -83,16 +79,16 @@ impl<'data, 's, Y: RuleBreakType<'s>> SentenceBreakIterator<'data, 's, Y> {
     pub fn with_memo(
         &self,
         alloc: Global,
-    ) -> Result<MemoBreakIterator<'data, Y::IterAttr, CountedTransitions<'data>>, MemoError>
-        ensures made { IfOk result (IsNewMemo (machine_in (sentence_finder self.now)) (Y.IterAttr.text (sentences_source self.now))
-            (boundaries_of (sentence_finder self.now) (Y.IterAttr.text (sentences_source self.now)))) }
-        ensures rejected { IfErr result (IsMemoRefusal (machine_in (sentence_finder self.now)) ⊥ (Y.IterAttr.text (sentences_source self.now))) }
+    ) -> Result<MemoBreakIterator<'data, I, CountedTransitions<'data>>, MemoError>
+        ensures made { IfOk result (IsNewMemo (machine_in (sentence_finder self.now)) (I.text (sentences_source self.now))
+            (boundaries_of (sentence_finder self.now) (I.text (sentences_source self.now)))) }
+        ensures rejected { IfErr result (IsMemoRefusal (machine_in (sentence_finder self.now)) ⊥ (I.text (sentences_source self.now))) }
     {
-        self.engine.memoised(alloc, Y::fork(&self.whole))
+        self.engine.memoised(alloc, self.whole.fork())
     }
 }
 
-impl<'data, 's, Y: RuleBreakType<'s>> Clone for SentenceBreakIterator<'data, 's, Y> {
+impl<'data, I: Cursor> Clone for SentenceBreakIterator<'data, I> {
     ghost use Rattle.std.specs.Prelude.{⊤};
 
     ghost is_clone = { λ s r. r ≡ s };
@@ -103,13 +99,12 @@ impl<'data, 's, Y: RuleBreakType<'s>> Clone for SentenceBreakIterator<'data, 's,
         Ok(SentenceBreakIterator {
             boundaries: self.boundaries.fork(),
             engine: self.engine,
-            whole: Y::fork(&self.whole),
-            text: PhantomData,
+            whole: self.whole.fork(),
         })
     }
 }
 
-impl<'data, 's, Y: RuleBreakType<'s>> Iterator for SentenceBreakIterator<'data, 's, Y> {
+impl<'data, I: Cursor> Iterator for SentenceBreakIterator<'data, I> {
     ghost use Rattle.std.specs.Prelude.{⊤};
     ghost use Rattle.std.specs.Iterator.{MakesProgress};
     ghost use Rattle.seg_clusters.specs.Clusters.{sentence_finder, sentences_places, sentences_source};
@@ -259,13 +254,26 @@ impl<'data> SentenceSegmenterBorrowed<'data> {
         self.engine.resets_after(code_point)
     }
 
+    /// The boundaries of the sentences of what a cursor has still to read, as places in the text's units. Takes no memory.
+    pub fn segment<I: Cursor>(self, text: I) -> SentenceBreakIterator<'data, I>
+        ensures boundaries { sentences_left result ≡ boundaries_of (sentence_rules self.entry) (I.text text) }
+        ensures source { (sentence_finder result ≡ sentence_rules self.entry) × (sentences_source result ≡ text) }
+        ensures cover { IsCover (start_of (I.text text)) (I.text text).end (sentences_left result) }
+    {
+        SentenceBreakIterator {
+            boundaries: self.engine.boundaries(text.fork()),
+            engine: self.engine,
+            whole: text,
+        }
+    }
+
     /// The boundaries of the sentences of a `str`, in bytes: those of its bytes as UTF-8. Takes no memory.
-    pub fn segment_str<'s>(self, input: &'s str) -> SentenceBreakIterator<'data, 's, Utf8>
+    pub fn segment_str<'s>(self, input: &'s str) -> SentenceBreakIterator<'data, StrCharIndices<'s>>
         ensures boundaries { sentences_left result ≡ boundaries_of (sentence_rules self.entry) (utf8 input.now) }
         ensures source { (sentence_finder result ≡ sentence_rules self.entry) × (sentences_source result ≡ record { place = 0; units = input.now }) }
         ensures cover { IsCover 0 (length input.now) (sentences_left result) }
     {
-        segment(self.engine, StrCharIndices::new(input))
+        self.segment(StrCharIndices::new(input))
     }
 
     /// The boundaries of the sentences of possibly ill-formed UTF-8, in bytes. Each longest beginning of a
@@ -273,47 +281,36 @@ impl<'data> SentenceSegmenterBorrowed<'data> {
     pub fn segment_utf8<'s>(
         self,
         input: &'s [u8],
-    ) -> SentenceBreakIterator<'data, 's, PotentiallyIllFormedUtf8>
+    ) -> SentenceBreakIterator<'data, Utf8CharIndices<'s>>
         ensures boundaries { sentences_left result ≡ boundaries_of (sentence_rules self.entry) (utf8 input.now) }
         ensures source { (sentence_finder result ≡ sentence_rules self.entry) × (sentences_source result ≡ record { place = 0; units = input.now }) }
         ensures cover { IsCover 0 (length input.now) (sentences_left result) }
     {
-        segment(self.engine, Utf8CharIndices::new(input))
+        self.segment(Utf8CharIndices::new(input))
     }
 
     /// The boundaries of the sentences of Latin-1, in bytes. Takes no memory.
-    pub fn segment_latin1<'s>(self, input: &'s [u8]) -> SentenceBreakIterator<'data, 's, Latin1>
+    pub fn segment_latin1<'s>(
+        self,
+        input: &'s [u8],
+    ) -> SentenceBreakIterator<'data, Latin1Indices<'s>>
         ensures boundaries { sentences_left result ≡ boundaries_of (sentence_rules self.entry) (latin1 input.now) }
         ensures source { (sentence_finder result ≡ sentence_rules self.entry) × (sentences_source result ≡ record { place = 0; units = input.now }) }
         ensures cover { IsCover 0 (length input.now) (sentences_left result) }
     {
-        segment(self.engine, Latin1Indices::new(input))
+        self.segment(Latin1Indices::new(input))
     }
 
     /// The boundaries of the sentences of possibly ill-formed UTF-16, in 16-bit units. A surrogate that stands alone
     /// counts as itself. Takes no memory.
-    pub fn segment_utf16<'s>(self, input: &'s [u16]) -> SentenceBreakIterator<'data, 's, Utf16>
+    pub fn segment_utf16<'s>(
+        self,
+        input: &'s [u16],
+    ) -> SentenceBreakIterator<'data, Utf16Indices<'s>>
         ensures boundaries { sentences_left result ≡ boundaries_of (sentence_rules self.entry) (utf16 input.now) }
         ensures source { (sentence_finder result ≡ sentence_rules self.entry) × (sentences_source result ≡ record { place = 0; units = input.now }) }
         ensures cover { IsCover 0 (length input.now) (sentences_left result) }
     {
-        segment(self.engine, Utf16Indices::new(input))
-    }
-}
-
-/// The sentences of what is left of a text.
-fn segment<'data, 's, Y: RuleBreakType<'s>>(
-    engine: Engine<'data>,
-    text: Y::IterAttr,
-) -> SentenceBreakIterator<'data, 's, Y>
-    ensures boundaries { result.boundaries.left ≡ boundaries_of (rules_of engine.entry) (Y.IterAttr.text text) }
-    ensures source { (rules_of result.engine ≡ rules_of engine.entry) × (result.whole ≡ text) }
-    ensures cover { IsCover (start_of (Y.IterAttr.text text)) (Y.IterAttr.text text).end result.boundaries.left }
-{
-    SentenceBreakIterator {
-        boundaries: engine.boundaries(Y::fork(&text)),
-        engine,
-        whole: text,
-        text: PhantomData,
+        self.segment(Utf16Indices::new(input))
     }
 }

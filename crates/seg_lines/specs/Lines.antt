@@ -84,21 +84,21 @@ owned_line_rules segmenter = record {
 }
 
 -- the boundaries that an iterator has still to give, and their places
-abbrev pub lines_left : {Y C I : Type 0} → LineBreakIterator Y C I → List Boundary
+abbrev pub lines_left : {I : Type 0} → LineBreakIterator I → List Boundary
 lines_left iterator = iterator.boundaries.left
 
-abbrev pub line_places : {Y C I : Type 0} → LineBreakIterator Y C I → List ℕ
+abbrev pub line_places : {I : Type 0} → LineBreakIterator I → List ℕ
 line_places iterator = offsets (lines_left iterator)
 
 -- is the boundary that was given last mandatory: a break is where its status is 1
-abbrev pub is_mandatory : {Y C I : Type 0} → LineBreakIterator Y C I → Bool
+abbrev pub is_mandatory : {I : Type 0} → LineBreakIterator I → Bool
 is_mandatory iterator = iterator.boundaries.status == 1
 
 -- what an iterator finds boundaries by, and the cursor at the start of its text
-abbrev pub line_finder : {Y C I : Type 0} → LineBreakIterator Y C I → LineRules
+abbrev pub line_finder : {I : Type 0} → LineBreakIterator I → LineRules
 line_finder iterator = line_rules iterator.segmenter
 
-abbrev pub lines_source : {Y C I : Type 0} → LineBreakIterator Y C I → I
+abbrev pub lines_source : {I : Type 0} → LineBreakIterator I → I
 lines_source iterator = iterator.whole
 
 -- What each engine of lines has still to give.

@@ -22,7 +22,7 @@ use crate::line::{LineBreakIterator, LineSegmenterBorrowed};
 use seg_clusters::laws::grapheme;
 use seg_line_rules::laws;
 use seg_line_turns::laws as turn_laws;
-use seg_text::scaffold::{PotentiallyIllFormedUtf8, Utf16};
+use seg_text::indices::{Utf8CharIndices, Utf16Indices};
 
 /// Law: a list of code points has exactly one list of boundaries, in code points. Where clusters are found, the first is at
 /// its start, and each other one comes from the first stretch of what is left; so it is by a pair table of lines, and by the engine 17 from the first
@@ -44,8 +44,8 @@ pub fn equal_code_points<'data, 's>(
     one: &'s [u8],
     other: &'s [u16],
 ) -> (
-    LineBreakIterator<'data, 's, PotentiallyIllFormedUtf8>,
-    LineBreakIterator<'data, 's, Utf16>,
+    LineBreakIterator<'data, Utf8CharIndices<'s>>,
+    LineBreakIterator<'data, Utf16Indices<'s>>,
 )
     ensures one { lines_left result.0 ≡ line_boundaries_of (line_rules segmenter.entry) (utf8 one.now) }
     ensures other { lines_left result.1 ≡ line_boundaries_of (line_rules segmenter.entry) (utf16 other.now) }

@@ -43,35 +43,31 @@ use seg_pairs::provider::RuleBreakData;
 use seg_text::cursor::Cursor;
 use seg_text::indices::{Latin1Indices, StrCharIndices, Utf8CharIndices, Utf16Indices};
 use seg_text::reach::HintedBoundaries;
-use seg_text::scaffold::{Latin1, PotentiallyIllFormedUtf8, RuleBreakType, Utf8, Utf16};
 use std::alloc::{AllocError, Global};
 use std::fmt::Debug;
-use std::marker::PhantomData;
 
 /// The boundaries of lines in a text, as places: bytes in str, UTF-8 and Latin-1,
 /// 16-bit units in UTF-16.
 ///
 /// First 0, then each place where a line may be broken; the last is the text's length. After None it stays None.
-#[derive_where(Debug; Y::IterAttr: Debug)]
-pub struct LineBreakIterator<'data, 's, Y: RuleBreakType<'s>> {
-    boundaries: HintedBoundaries<LineBoundaries<'data, Y::IterAttr>>,
+#[derive_where(Debug; I: Debug)]
+pub struct LineBreakIterator<'data, I: Cursor> {
+    boundaries: HintedBoundaries<LineBoundaries<'data, I>>,
     segmenter: LineSegmenterBorrowed<'data>,
-    whole: Y::IterAttr,
-    text: PhantomData<&'s ()>,
+    whole: I,
 }
 
-impl<'data, 's, Y: RuleBreakType<'s>> Drop for LineBreakIterator<'data, 's, Y> {
+impl<'data, I: Cursor> Drop for LineBreakIterator<'data, I> {
     fn drop(self) {
         let LineBreakIterator {
             boundaries: _,
             segmenter: _,
             whole: _,
-            text: _,
         } = self;
     }
 }
 
-impl<'data, 's, Y: RuleBreakType<'s>> LineBreakIterator<'data, 's, Y> {
+impl<'data, I: Cursor> LineBreakIterator<'data, I> {
     ghost use Rattle.seg_lines.specs.Lines.{is_mandatory, line_finder, lines_source};
 
     /// Whether the line must be broken at the boundary that was given last: the status of that
@@ -83,10 +79,10 @@ impl<'data, 's, Y: RuleBreakType<'s>> LineBreakIterator<'data, 's, Y> {
     }
 
     /// A cursor at the start of the whole text, whatever was given of its boundaries. Takes no memory.
-    pub fn source(&self) -> Y::IterAttr
+    pub fn source(&self) -> I
         ensures { result ≡ lines_source self.now }
     {
-        Y::fork(&self.whole)
+        self.whole.fork()
     }
 
     /// The boundaries of the whole text, whatever was given of them, where no configuration of the machine is looked up
@@ -97,18 +93,18 @@ impl<'data, 's, Y: RuleBreakType<'s>> LineBreakIterator<'data, 's, Y> {
     pub fn with_memo(
         &self,
         alloc: Global,
-    ) -> Result<MemoBreakIterator<'data, Y::IterAttr, CountedTransitions<'data>>, MemoError>
+    ) -> Result<MemoBreakIterator<'data, I, CountedTransitions<'data>>, MemoError>
         ensures words { IfOk result (λ _. (line_finder self.now).payloads.words ≡ no_words) }
-        ensures made { IfOk result (IsNewMemo (machine_of_lines (line_finder self.now)) (Y.IterAttr.text (lines_source self.now))
-            (line_boundaries_of (line_finder self.now) (Y.IterAttr.text (lines_source self.now)))) }
-        ensures rejected { IfErr result (IsMemoRefusal (machine_of_lines (line_finder self.now)) ((line_finder self.now).payloads.words ≢ no_words) (Y.IterAttr.text (lines_source self.now))) }
+        ensures made { IfOk result (IsNewMemo (machine_of_lines (line_finder self.now)) (I.text (lines_source self.now))
+            (line_boundaries_of (line_finder self.now) (I.text (lines_source self.now)))) }
+        ensures rejected { IfErr result (IsMemoRefusal (machine_of_lines (line_finder self.now)) ((line_finder self.now).payloads.words ≢ no_words) (I.text (lines_source self.now))) }
     {
-        let text = Y::fork(&self.whole);
+        let text = self.whole.fork();
         memoised(alloc, self.segmenter.finder, self.segmenter.payloads, text)
     }
 }
 
-impl<'data, 's, Y: RuleBreakType<'s>> Clone for LineBreakIterator<'data, 's, Y> {
+impl<'data, I: Cursor> Clone for LineBreakIterator<'data, I> {
     ghost use Rattle.std.specs.Prelude.{⊤};
 
     ghost is_clone = { λ s r. r ≡ s };
@@ -119,13 +115,12 @@ impl<'data, 's, Y: RuleBreakType<'s>> Clone for LineBreakIterator<'data, 's, Y> 
         Ok(LineBreakIterator {
             boundaries: self.boundaries.fork(),
             segmenter: self.segmenter,
-            whole: Y::fork(&self.whole),
-            text: PhantomData,
+            whole: self.whole.fork(),
         })
     }
 }
 
-impl<'data, 's, Y: RuleBreakType<'s>> Iterator for LineBreakIterator<'data, 's, Y> {
+impl<'data, I: Cursor> Iterator for LineBreakIterator<'data, I> {
     ghost use Rattle.std.specs.Prelude.{⊤};
     ghost use Rattle.std.specs.Iterator.{MakesProgress};
     ghost use Rattle.seg_text.specs.Boundaries.{GivesNext};
@@ -427,66 +422,59 @@ impl<'data> LineSegmenterBorrowed<'data> {
         }
     }
 
+    /// The boundaries of the lines of what a cursor has still to read, each with whether it is mandatory, as places in the text's units. Takes no memory.
+    pub fn segment<I: Cursor>(self, text: I) -> LineBreakIterator<'data, I>
+        ensures boundaries { lines_left result ≡ line_boundaries_of (line_rules self.entry) (I.text text) }
+        ensures source { (line_finder result ≡ line_rules self.entry) × (lines_source result ≡ text) }
+        ensures cover { IsCover (start_of (I.text text)) (I.text text).end (lines_left result) }
+        ensures mark { is_mandatory result ≡ false }
+    {
+        LineBreakIterator {
+            boundaries: boundaries(self.finder, self.payloads, text.fork()),
+            segmenter: self,
+            whole: text,
+        }
+    }
+
     /// The boundaries of the lines of a `str`, in bytes: those of its bytes as UTF-8, each with whether it is mandatory. Takes no memory.
-    pub fn segment_str<'s>(self, input: &'s str) -> LineBreakIterator<'data, 's, Utf8>
+    pub fn segment_str<'s>(self, input: &'s str) -> LineBreakIterator<'data, StrCharIndices<'s>>
         ensures boundaries { lines_left result ≡ line_boundaries_of (line_rules self.entry) (utf8 input.now) }
         ensures source { (line_finder result ≡ line_rules self.entry) × (lines_source result ≡ record { place = 0; units = input.now }) }
         ensures cover { IsCover 0 (length input.now) (lines_left result) }
         ensures mark { is_mandatory result ≡ false }
     {
-        segment(self, StrCharIndices::new(input))
+        self.segment(StrCharIndices::new(input))
     }
 
     /// The boundaries of the lines of possibly ill-formed UTF-8, in bytes. Each longest beginning of a
     /// well-formed sequence that isn't one counts as U+FFFD (Unicode Table 3-7). Takes no memory.
-    pub fn segment_utf8<'s>(
-        self,
-        input: &'s [u8],
-    ) -> LineBreakIterator<'data, 's, PotentiallyIllFormedUtf8>
+    pub fn segment_utf8<'s>(self, input: &'s [u8]) -> LineBreakIterator<'data, Utf8CharIndices<'s>>
         ensures boundaries { lines_left result ≡ line_boundaries_of (line_rules self.entry) (utf8 input.now) }
         ensures source { (line_finder result ≡ line_rules self.entry) × (lines_source result ≡ record { place = 0; units = input.now }) }
         ensures cover { IsCover 0 (length input.now) (lines_left result) }
         ensures mark { is_mandatory result ≡ false }
     {
-        segment(self, Utf8CharIndices::new(input))
+        self.segment(Utf8CharIndices::new(input))
     }
 
     /// The boundaries of the lines of Latin-1, in bytes. Takes no memory.
-    pub fn segment_latin1<'s>(self, input: &'s [u8]) -> LineBreakIterator<'data, 's, Latin1>
+    pub fn segment_latin1<'s>(self, input: &'s [u8]) -> LineBreakIterator<'data, Latin1Indices<'s>>
         ensures boundaries { lines_left result ≡ line_boundaries_of (line_rules self.entry) (latin1 input.now) }
         ensures source { (line_finder result ≡ line_rules self.entry) × (lines_source result ≡ record { place = 0; units = input.now }) }
         ensures cover { IsCover 0 (length input.now) (lines_left result) }
         ensures mark { is_mandatory result ≡ false }
     {
-        segment(self, Latin1Indices::new(input))
+        self.segment(Latin1Indices::new(input))
     }
 
     /// The boundaries of the lines of possibly ill-formed UTF-16, in 16-bit units. A surrogate that stands alone
     /// counts as itself. Takes no memory.
-    pub fn segment_utf16<'s>(self, input: &'s [u16]) -> LineBreakIterator<'data, 's, Utf16>
+    pub fn segment_utf16<'s>(self, input: &'s [u16]) -> LineBreakIterator<'data, Utf16Indices<'s>>
         ensures boundaries { lines_left result ≡ line_boundaries_of (line_rules self.entry) (utf16 input.now) }
         ensures source { (line_finder result ≡ line_rules self.entry) × (lines_source result ≡ record { place = 0; units = input.now }) }
         ensures cover { IsCover 0 (length input.now) (lines_left result) }
         ensures mark { is_mandatory result ≡ false }
     {
-        segment(self, Utf16Indices::new(input))
-    }
-}
-
-/// The lines of what is left of a text.
-fn segment<'data, 's, Y: RuleBreakType<'s>>(
-    segmenter: LineSegmenterBorrowed<'data>,
-    text: Y::IterAttr,
-) -> LineBreakIterator<'data, 's, Y>
-    ensures boundaries { result.boundaries.left ≡ line_boundaries_of (line_rules segmenter.entry) (Y.IterAttr.text text) }
-    ensures source { (line_rules result.segmenter ≡ line_rules segmenter.entry) × (result.whole ≡ text) }
-    ensures cover { IsCover (start_of (Y.IterAttr.text text)) (Y.IterAttr.text text).end result.boundaries.left }
-    ensures status { result.boundaries.status ≡ 0 }
-{
-    LineBreakIterator {
-        boundaries: boundaries(segmenter.finder, segmenter.payloads, Y::fork(&text)),
-        segmenter,
-        whole: text,
-        text: PhantomData,
+        self.segment(Utf16Indices::new(input))
     }
 }

@@ -8,6 +8,7 @@ pub mod Given
 pub mod Filling
 mod Suppressing
 mod Sources
+mod Beginnings
 mod Reading
 mod Texts
 mod Feeds

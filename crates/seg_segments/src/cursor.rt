@@ -11,7 +11,7 @@
 
 ghost use Rattle.std.specs.Prelude.{◌≡◌, ◌↔◌, ◌<◌, ◌≤◌, ◌+◌, ◌^◌, ℕ, IsTrue, IfSome, List, Contains, length};
 ghost use Rattle.seg_text.specs.declared.boundary.Boundary.{Boundary};
-ghost use Rattle.seg_text.specs.Boundaries.{IsCover};
+ghost use Rattle.seg_text.specs.Boundaries.{boundaries_in, IsCover};
 ghost use Rattle.seg_text.specs.Decoding.{utf8, utf16};
 ghost use Rattle.seg_clusters.specs.Rules.{PartsBehind};
 ghost use Rattle.seg_segments.specs.NearBoundaries.{IsNearestAbove, IsNearestBelow, IsPart, boundaries_of_units, boundary_places, line_feed, places_of_units};
@@ -24,8 +24,9 @@ mod suppressed;
 mod texts;
 mod words;
 
-use crate::segments::BreakIterator;
+use crate::segments::{BreakIterator, Source};
 use line_starts::line_start;
+use seg_text::indices::{Utf8CharIndices, Utf16Indices};
 use std::marker::Model;
 pub use texts::CursorText;
 
@@ -41,29 +42,31 @@ pub trait Segmenter: Drop {
         ensures utf16 { IsTrue result → PartsBehind (boundaries_of_units utf16 (find self.now)) line_feed };
 }
 
-/// A segmenter of texts of one form: of `&[u8]`, possibly ill-formed UTF-8, or of `&[u16]`, possibly ill-formed UTF-16.
-pub trait SegmenterOf<T: CursorText>: Segmenter {
+/// A segmenter of texts in one encoding: that which the cursor reads.
+pub trait SegmenterOf<I: Source>: Segmenter {
     /// An iterator over the boundaries of a text.
     type Breaks: BreakIterator;
 
     /// The boundaries of a text. Takes no memory.
-    fn segment(&self, text: T) -> Self::Breaks
-        ensures boundaries { Self.Breaks.left result ≡ boundaries_of_units T.decode (Self.find self.now) (T.units text) }
-        ensures cover { IsCover 0 (length (T.units text)) (boundaries_of_units T.decode (Self.find self.now) (T.units text)) };
+    fn breaks(&self, text: I::Units) -> Self::Breaks
+        ensures boundaries { Self.Breaks.left result ≡ boundaries_of_units I.decode (Self.find self.now) (I.Units.units text) }
+        ensures cover { IsCover 0 (length (I.Units.units text)) (Self.Breaks.left result) }
+        ensures whole { Self.Breaks.whole result ≡ I.Units.units text }
+        ensures found { Self.Breaks.left result ≡ boundaries_in (Self.Breaks.find result) (Self.Breaks.decode (Self.Breaks.whole result)) };
 
     /// The first boundary of a text is at its start, and the last at its end. Takes no memory.
-    final fn cover(&self, text: T)
-        ensures { IsCover 0 (length (T.units text)) (boundaries_of_units T.decode (Self.find self.now) (T.units text)) }
+    final fn cover(&self, text: I::Units)
+        ensures { IsCover 0 (length (I.Units.units text)) (boundaries_of_units I.decode (Self.find self.now) (I.Units.units text)) }
     {
-        let _ = self.segment(text);
+        let _ = self.breaks(text);
     }
 
     /// The nearest boundary of a text above a place, if there is one. Takes no memory.
-    final fn nearest_above(&self, text: T, place: usize) -> Option<usize>
-        ensures nearest { IsNearestAbove (places_of_units T.decode (Self.find self.now) (T.units text)) place result }
-        ensures within { IfSome result (λ found. found ≤ length (T.units text)) }
+    final fn nearest_above(&self, text: I::Units, place: usize) -> Option<usize>
+        ensures nearest { IsNearestAbove (places_of_units I.decode (Self.find self.now) (I.Units.units text)) place result }
+        ensures within { IfSome result (λ found. found ≤ length (I.Units.units text)) }
     {
-        let mut breaks = self.segment(text);
+        let mut breaks = self.breaks(text);
         while let Some((found, _)) = breaks.next_break() {
             if found > place {
                 return Some(found);
@@ -73,11 +76,11 @@ pub trait SegmenterOf<T: CursorText>: Segmenter {
     }
 
     /// The nearest boundary below it, if there is one.
-    final fn nearest_below(&self, text: T, place: usize) -> Option<usize>
-        ensures nearest { IsNearestBelow (places_of_units T.decode (Self.find self.now) (T.units text)) place result }
-        ensures within { IfSome result (λ found. found ≤ length (T.units text)) }
+    final fn nearest_below(&self, text: I::Units, place: usize) -> Option<usize>
+        ensures nearest { IsNearestBelow (places_of_units I.decode (Self.find self.now) (I.Units.units text)) place result }
+        ensures within { IfSome result (λ found. found ≤ length (I.Units.units text)) }
     {
-        let mut breaks = self.segment(text);
+        let mut breaks = self.breaks(text);
         let mut nearest = None;
         while let Some((found, _)) = breaks.next_break() {
             if found >= place {
@@ -95,13 +98,13 @@ pub trait SegmenterOf<T: CursorText>: Segmenter {
 /// An answer takes no memory. Where the segmenter's rules part texts behind line feeds, it takes as long as finding the boundaries
 /// from the start of the place's line up to the one above the place; by other rules, from the start of the text.
 #[derive(Drop)]
-pub struct BoundaryCursor<T: CursorText, S: SegmenterOf<T>> {
+pub struct BoundaryCursor<T: CursorText, S: SegmenterOf<T::Source>> {
     segmenter: S,
     text: T,
     has_parts: bool,
 }
 
-impl<T: CursorText, S: SegmenterOf<T>> Model for BoundaryCursor<T, S> {
+impl<T: CursorText, S: SegmenterOf<T::Source>> Model for BoundaryCursor<T, S> {
     ghost use Rattle.std.specs.Prelude.{ℕ, List, IsTrue, length};
     ghost use Rattle.seg_text.specs.Boundaries.{IsCover};
     ghost use Rattle.seg_clusters.specs.Rules.{PartsBehind};
@@ -109,13 +112,13 @@ impl<T: CursorText, S: SegmenterOf<T>> Model for BoundaryCursor<T, S> {
 
     ghost Value = { List ℕ };
 
-    ghost view = { λ s. places_of_units T.decode (S.find s.segmenter) (T.units s.text) };
+    ghost view = { λ s. places_of_units T.Source.decode (S.find s.segmenter) (T.units s.text) };
 
-    ghost invariant = { λ s. IsCover 0 (length (T.units s.text)) (boundaries_of_units T.decode (S.find s.segmenter) (T.units s.text))
-        × (IsTrue s.has_parts → PartsBehind (boundaries_of_units T.decode (S.find s.segmenter)) line_feed) };
+    ghost invariant = { λ s. IsCover 0 (length (T.units s.text)) (boundaries_of_units T.Source.decode (S.find s.segmenter) (T.units s.text))
+        × (IsTrue s.has_parts → PartsBehind (boundaries_of_units T.Source.decode (S.find s.segmenter)) line_feed) };
 }
 
-impl<'s, S: SegmenterOf<&'s [u8]>> BoundaryCursor<&'s [u8], S> {
+impl<'s, S: SegmenterOf<Utf8CharIndices<'s>>> BoundaryCursor<&'s [u8], S> {
     /// A cursor over a `str`. Takes no memory.
     pub fn new(segmenter: S, text: &'s str) -> Self
         ensures { result ≡ boundary_places (S.find segmenter) text.now }
@@ -127,30 +130,32 @@ impl<'s, S: SegmenterOf<&'s [u8]>> BoundaryCursor<&'s [u8], S> {
     pub fn of_utf8(segmenter: S, text: &'s [u8]) -> Self
         ensures { result ≡ boundary_places (S.find segmenter) text.now }
     {
-        segmenter.cover(text);
-        BoundaryCursor {
-            has_parts: segmenter.parts_behind_line_feeds(),
-            segmenter,
-            text,
-        }
+        BoundaryCursor::over(segmenter, text)
     }
 }
 
-impl<'s, S: SegmenterOf<&'s [u16]>> BoundaryCursor<&'s [u16], S> {
+impl<'s, S: SegmenterOf<Utf16Indices<'s>>> BoundaryCursor<&'s [u16], S> {
     /// A cursor over possibly ill-formed UTF-16. Takes no memory.
     pub fn of_utf16(segmenter: S, units: &'s [u16]) -> Self
         ensures { result ≡ places_of_units utf16 (S.find segmenter) units.now }
     {
-        segmenter.cover(units);
-        BoundaryCursor {
-            has_parts: segmenter.parts_behind_line_feeds(),
-            segmenter,
-            text: units,
-        }
+        BoundaryCursor::over(segmenter, units)
     }
 }
 
-impl<T: CursorText, S: SegmenterOf<T>> BoundaryCursor<T, S> {
+impl<T: CursorText, S: SegmenterOf<T::Source>> BoundaryCursor<T, S> {
+    /// A cursor over a text in either form. Takes no memory.
+    pub fn over(segmenter: S, text: T) -> Self
+        ensures { result ≡ places_of_units T.Source.decode (S.find segmenter) (T.units text) }
+    {
+        segmenter.cover(text);
+        BoundaryCursor {
+            has_parts: T::has_parts(&segmenter),
+            segmenter,
+            text,
+        }
+    }
+
     /// Whether a boundary is at the place. There is none inside a character, nor past the end.
     pub fn is_boundary(&self, place: usize) -> bool
         ensures { IsTrue result ↔ Contains self.now place }
@@ -182,17 +187,17 @@ impl<T: CursorText, S: SegmenterOf<T>> BoundaryCursor<T, S> {
 }
 
 /// The part of a text from the last start of a line up to a place on, or the whole text: where it begins, and its units.
-fn part_at<T: CursorText, S: SegmenterOf<T>>(
+fn part_at<T: CursorText, S: SegmenterOf<T::Source>>(
     segmenter: &S,
     text: T,
     has_parts: bool,
     place: usize,
 ) -> (usize, T)
-    requires cover { IsCover 0 (length (T.units text)) (boundaries_of_units T.decode (S.find segmenter.now) (T.units text)) }
-    requires parts { IsTrue has_parts → PartsBehind (boundaries_of_units T.decode (S.find segmenter.now)) line_feed }
+    requires cover { IsCover 0 (length (T.units text)) (boundaries_of_units T.Source.decode (S.find segmenter.now) (T.units text)) }
+    requires parts { IsTrue has_parts → PartsBehind (boundaries_of_units T.Source.decode (S.find segmenter.now)) line_feed }
     ensures order { result.0 ≤ place }
     ensures fits { result.0 + length (T.units result.1) < 2 ^ 64 }
-    ensures part { IsPart (places_of_units T.decode (S.find segmenter.now) (T.units text)) result.0 (places_of_units T.decode (S.find segmenter.now) (T.units result.1)) }
+    ensures part { IsPart (places_of_units T.Source.decode (S.find segmenter.now) (T.units text)) result.0 (places_of_units T.Source.decode (S.find segmenter.now) (T.units result.1)) }
 {
     // So each place in the text is a number of this type.
     let _end = text.len();

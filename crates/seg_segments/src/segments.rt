@@ -22,10 +22,12 @@ ghost use Rattle.seg_segments.specs.SegmentsLeft.{indices_left, segments_left, w
 mod cluster_breaks;
 mod line_breaks;
 mod sentence_breaks;
+mod source;
 mod units;
 mod word_breaks;
 
 use seg_words::word::WordType;
+pub use source::Source;
 use std::alloc::AllocError;
 use std::fmt::Debug;
 use std::marker::Model;

@@ -56,28 +56,28 @@ owned_word_rules segmenter = record {
 }
 
 -- the boundaries that an iterator has still to give, and their places
-abbrev pub words_left : {Y C I : Type 0} → WordBreakIterator Y C I → List Boundary
+abbrev pub words_left : {I : Type 0} → WordBreakIterator I → List Boundary
 words_left iterator = iterator.boundaries.left
 
-abbrev pub word_places : {Y C I : Type 0} → WordBreakIterator Y C I → List ℕ
+abbrev pub word_places : {I : Type 0} → WordBreakIterator I → List ℕ
 word_places iterator = offsets (words_left iterator)
 
 -- the type of what ends at the boundary that was given last
-abbrev pub word_type : {Y C I : Type 0} → WordBreakIterator Y C I → WordType
+abbrev pub word_type : {I : Type 0} → WordBreakIterator I → WordType
 word_type iterator = type_of iterator.boundaries.status
 
 -- boundaries as their places, each with the type of what ends there
 abbrev pub with_types : List Boundary → List (ℕ × WordType)
 with_types boundaries = map (λ (boundary : Boundary). (boundary.offset, type_of boundary.status)) boundaries
 
-abbrev pub typed_places : {Y C I : Type 0} → WordBreakIteratorWithWordType Y C I → List (ℕ × WordType)
+abbrev pub typed_places : {I : Type 0} → WordBreakIteratorWithWordType I → List (ℕ × WordType)
 typed_places iterator = with_types (words_left iterator.words)
 
 -- what an iterator finds boundaries by, and the cursor at the start of its text
-abbrev pub word_finder : {Y C I : Type 0} → WordBreakIterator Y C I → WordRules
+abbrev pub word_finder : {I : Type 0} → WordBreakIterator I → WordRules
 word_finder iterator = word_rules iterator.segmenter
 
-abbrev pub words_source : {Y C I : Type 0} → WordBreakIterator Y C I → I
+abbrev pub words_source : {I : Type 0} → WordBreakIterator I → I
 words_source iterator = iterator.whole
 
 -- What either engine of words has still to give.

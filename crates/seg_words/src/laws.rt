@@ -12,7 +12,7 @@ ghost use Rattle.seg_words.specs.Words.{word_rules, words_left};
 
 use crate::word::{WordBreakIterator, WordSegmenterBorrowed, WordType};
 use seg_clusters::engine::Engine;
-use seg_text::scaffold::{PotentiallyIllFormedUtf8, Utf16};
+use seg_text::indices::{Utf8CharIndices, Utf16Indices};
 
 /// Law: a list of code points has exactly one list of boundaries, in code points: the first is at its start, and the
 /// others come from the first stretch of what is left, again and again. Such a stretch is the machine's pick, what the verdict
@@ -30,8 +30,8 @@ pub fn equal_code_points<'data, 's>(
     one: &'s [u8],
     other: &'s [u16],
 ) -> (
-    WordBreakIterator<'data, 's, PotentiallyIllFormedUtf8>,
-    WordBreakIterator<'data, 's, Utf16>,
+    WordBreakIterator<'data, Utf8CharIndices<'s>>,
+    WordBreakIterator<'data, Utf16Indices<'s>>,
 )
     ensures one { words_left result.0 ≡ word_boundaries_of (word_rules segmenter.entry) (utf8 one.now) }
     ensures other { words_left result.1 ≡ word_boundaries_of (word_rules segmenter.entry) (utf16 other.now) }

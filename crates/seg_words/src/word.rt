@@ -31,10 +31,8 @@ use seg_pairs::provider::{RuleBreakData, RuleBreakDataOverride};
 use seg_text::cursor::Cursor;
 use seg_text::indices::{Latin1Indices, StrCharIndices, Utf8CharIndices, Utf16Indices};
 use seg_text::reach::HintedBoundaries;
-use seg_text::scaffold::{Latin1, PotentiallyIllFormedUtf8, RuleBreakType, Utf8, Utf16};
 use std::alloc::{AllocError, Global};
 use std::fmt::Debug;
-use std::marker::PhantomData;
 
 /// The options of words that no language changes: none today.
 #[derive(Clone, Copy, Debug, Default, PartialEq, Eq)]
@@ -89,26 +87,24 @@ fn type_of(status: u8) -> WordType
 ///
 /// First 0, then each place where a word, or what stands between words, ends; the last is the text's length. After None
 /// it stays None.
-#[derive_where(Debug; Y::IterAttr: Debug)]
-pub struct WordBreakIterator<'data, 's, Y: RuleBreakType<'s>> {
-    boundaries: HintedBoundaries<WordBoundaries<'data, Y::IterAttr>>,
+#[derive_where(Debug; I: Debug)]
+pub struct WordBreakIterator<'data, I: Cursor> {
+    boundaries: HintedBoundaries<WordBoundaries<'data, I>>,
     segmenter: WordSegmenterBorrowed<'data>,
-    whole: Y::IterAttr,
-    text: PhantomData<&'s ()>,
+    whole: I,
 }
 
-impl<'data, 's, Y: RuleBreakType<'s>> Drop for WordBreakIterator<'data, 's, Y> {
+impl<'data, I: Cursor> Drop for WordBreakIterator<'data, I> {
     fn drop(self) {
         let WordBreakIterator {
             boundaries: _,
             segmenter: _,
             whole: _,
-            text: _,
         } = self;
     }
 }
 
-impl<'data, 's, Y: RuleBreakType<'s>> WordBreakIterator<'data, 's, Y> {
+impl<'data, I: Cursor> WordBreakIterator<'data, I> {
     ghost use Rattle.seg_words.specs.Words.{with_types, word_finder, word_type, words_left, words_source, typed_places};
 
     /// The type of what ends at the boundary that was given last: that of its status. `None` before the first `next`, at
@@ -127,17 +123,17 @@ impl<'data, 's, Y: RuleBreakType<'s>> WordBreakIterator<'data, 's, Y> {
     }
 
     /// The boundaries that are left, each with the type of what ends there.
-    pub fn iter_with_word_type(self) -> WordBreakIteratorWithWordType<'data, 's, Y>
+    pub fn iter_with_word_type(self) -> WordBreakIteratorWithWordType<'data, I>
         ensures { typed_places result ≡ with_types (words_left self.entry) }
     {
         WordBreakIteratorWithWordType { words: self }
     }
 
     /// A cursor at the start of the whole text, whatever was given of its boundaries. Takes no memory.
-    pub fn source(&self) -> Y::IterAttr
+    pub fn source(&self) -> I
         ensures { result ≡ words_source self.now }
     {
-        Y::fork(&self.whole)
+        self.whole.fork()
     }
 
     /// The boundaries of the whole text, whatever was given of them, where no configuration of the machine is looked up
@@ -147,13 +143,13 @@ impl<'data, 's, Y: RuleBreakType<'s>> WordBreakIterator<'data, 's, Y> {
     pub fn with_memo(
         &self,
         alloc: Global,
-    ) -> Result<MemoBreakIterator<'data, Y::IterAttr, CountedTransitions<'data>>, MemoError>
+    ) -> Result<MemoBreakIterator<'data, I, CountedTransitions<'data>>, MemoError>
         ensures words { IfOk result (λ _. (word_finder self.now).payloads.words ≡ no_words) }
-        ensures made { IfOk result (IsNewMemo (machine_in (word_finder self.now).rules) (Y.IterAttr.text (words_source self.now))
-            (word_boundaries_of (word_finder self.now) (Y.IterAttr.text (words_source self.now)))) }
-        ensures rejected { IfErr result (IsMemoRefusal (machine_in (word_finder self.now).rules) ((word_finder self.now).payloads.words ≢ no_words) (Y.IterAttr.text (words_source self.now))) }
+        ensures made { IfOk result (IsNewMemo (machine_in (word_finder self.now).rules) (I.text (words_source self.now))
+            (word_boundaries_of (word_finder self.now) (I.text (words_source self.now)))) }
+        ensures rejected { IfErr result (IsMemoRefusal (machine_in (word_finder self.now).rules) ((word_finder self.now).payloads.words ≢ no_words) (I.text (words_source self.now))) }
     {
-        let text = Y::fork(&self.whole);
+        let text = self.whole.fork();
         self.segmenter
             .payloads
             .memoised(alloc, self.segmenter.engine, text)
@@ -166,13 +162,12 @@ impl<'data, 's, Y: RuleBreakType<'s>> WordBreakIterator<'data, 's, Y> {
         WordBreakIterator {
             boundaries: self.boundaries.fork(),
             segmenter: self.segmenter,
-            whole: Y::fork(&self.whole),
-            text: PhantomData,
+            whole: self.whole.fork(),
         }
     }
 }
 
-impl<'data, 's, Y: RuleBreakType<'s>> Clone for WordBreakIterator<'data, 's, Y> {
+impl<'data, I: Cursor> Clone for WordBreakIterator<'data, I> {
     ghost use Rattle.std.specs.Prelude.{⊤};
 
     ghost is_clone = { λ s r. r ≡ s };
@@ -184,7 +179,7 @@ impl<'data, 's, Y: RuleBreakType<'s>> Clone for WordBreakIterator<'data, 's, Y> 
     }
 }
 
-impl<'data, 's, Y: RuleBreakType<'s>> Iterator for WordBreakIterator<'data, 's, Y> {
+impl<'data, I: Cursor> Iterator for WordBreakIterator<'data, I> {
     ghost use Rattle.std.specs.Prelude.{⊤};
     ghost use Rattle.std.specs.Iterator.{MakesProgress};
     ghost use Rattle.seg_text.specs.Boundaries.{GivesNext};
@@ -212,18 +207,18 @@ impl<'data, 's, Y: RuleBreakType<'s>> Iterator for WordBreakIterator<'data, 's, 
 }
 
 /// The boundaries of words in a text, each as its place and the type of what ends there.
-#[derive_where(Debug; Y::IterAttr: Debug)]
-pub struct WordBreakIteratorWithWordType<'data, 's, Y: RuleBreakType<'s>> {
-    words: WordBreakIterator<'data, 's, Y>,
+#[derive_where(Debug; I: Debug)]
+pub struct WordBreakIteratorWithWordType<'data, I: Cursor> {
+    words: WordBreakIterator<'data, I>,
 }
 
-impl<'data, 's, Y: RuleBreakType<'s>> Drop for WordBreakIteratorWithWordType<'data, 's, Y> {
+impl<'data, I: Cursor> Drop for WordBreakIteratorWithWordType<'data, I> {
     fn drop(self) {
         let WordBreakIteratorWithWordType { words: _ } = self;
     }
 }
 
-impl<'data, 's, Y: RuleBreakType<'s>> Clone for WordBreakIteratorWithWordType<'data, 's, Y> {
+impl<'data, I: Cursor> Clone for WordBreakIteratorWithWordType<'data, I> {
     ghost use Rattle.std.specs.Prelude.{⊤};
 
     ghost is_clone = { λ s r. r ≡ s };
@@ -237,7 +232,7 @@ impl<'data, 's, Y: RuleBreakType<'s>> Clone for WordBreakIteratorWithWordType<'d
     }
 }
 
-impl<'data, 's, Y: RuleBreakType<'s>> Iterator for WordBreakIteratorWithWordType<'data, 's, Y> {
+impl<'data, I: Cursor> Iterator for WordBreakIteratorWithWordType<'data, I> {
     ghost use Rattle.seg_words.specs.Words.{typed_places};
 
     type Item = (usize, WordType);
@@ -470,66 +465,59 @@ impl<'data> WordSegmenterBorrowed<'data> {
         }
     }
 
+    /// The boundaries of the words of what a cursor has still to read, each with its type, as places in the text's units. Takes no memory.
+    pub fn segment<I: Cursor>(self, text: I) -> WordBreakIterator<'data, I>
+        ensures boundaries { words_left result ≡ word_boundaries_of (word_rules self.entry) (I.text text) }
+        ensures source { (word_finder result ≡ word_rules self.entry) × (words_source result ≡ text) }
+        ensures cover { IsCover (start_of (I.text text)) (I.text text).end (words_left result) }
+        ensures kind { word_type result ≡ NoWord }
+    {
+        WordBreakIterator {
+            boundaries: boundaries(self.engine, self.payloads, text.fork()),
+            segmenter: self,
+            whole: text,
+        }
+    }
+
     /// The boundaries of the words of a `str`, in bytes: those of its bytes as UTF-8, each with its type. Takes no memory.
-    pub fn segment_str<'s>(self, input: &'s str) -> WordBreakIterator<'data, 's, Utf8>
+    pub fn segment_str<'s>(self, input: &'s str) -> WordBreakIterator<'data, StrCharIndices<'s>>
         ensures boundaries { words_left result ≡ word_boundaries_of (word_rules self.entry) (utf8 input.now) }
         ensures source { (word_finder result ≡ word_rules self.entry) × (words_source result ≡ record { place = 0; units = input.now }) }
         ensures cover { IsCover 0 (length input.now) (words_left result) }
         ensures kind { word_type result ≡ NoWord }
     {
-        segment(self, StrCharIndices::new(input))
+        self.segment(StrCharIndices::new(input))
     }
 
     /// The boundaries of the words of possibly ill-formed UTF-8, in bytes. Each longest beginning of a
     /// well-formed sequence that isn't one counts as U+FFFD (Unicode Table 3-7). Takes no memory.
-    pub fn segment_utf8<'s>(
-        self,
-        input: &'s [u8],
-    ) -> WordBreakIterator<'data, 's, PotentiallyIllFormedUtf8>
+    pub fn segment_utf8<'s>(self, input: &'s [u8]) -> WordBreakIterator<'data, Utf8CharIndices<'s>>
         ensures boundaries { words_left result ≡ word_boundaries_of (word_rules self.entry) (utf8 input.now) }
         ensures source { (word_finder result ≡ word_rules self.entry) × (words_source result ≡ record { place = 0; units = input.now }) }
         ensures cover { IsCover 0 (length input.now) (words_left result) }
         ensures kind { word_type result ≡ NoWord }
     {
-        segment(self, Utf8CharIndices::new(input))
+        self.segment(Utf8CharIndices::new(input))
     }
 
     /// The boundaries of the words of Latin-1, in bytes. Takes no memory.
-    pub fn segment_latin1<'s>(self, input: &'s [u8]) -> WordBreakIterator<'data, 's, Latin1>
+    pub fn segment_latin1<'s>(self, input: &'s [u8]) -> WordBreakIterator<'data, Latin1Indices<'s>>
         ensures boundaries { words_left result ≡ word_boundaries_of (word_rules self.entry) (latin1 input.now) }
         ensures source { (word_finder result ≡ word_rules self.entry) × (words_source result ≡ record { place = 0; units = input.now }) }
         ensures cover { IsCover 0 (length input.now) (words_left result) }
         ensures kind { word_type result ≡ NoWord }
     {
-        segment(self, Latin1Indices::new(input))
+        self.segment(Latin1Indices::new(input))
     }
 
     /// The boundaries of the words of possibly ill-formed UTF-16, in 16-bit units. A surrogate that stands alone
     /// counts as itself. Takes no memory.
-    pub fn segment_utf16<'s>(self, input: &'s [u16]) -> WordBreakIterator<'data, 's, Utf16>
+    pub fn segment_utf16<'s>(self, input: &'s [u16]) -> WordBreakIterator<'data, Utf16Indices<'s>>
         ensures boundaries { words_left result ≡ word_boundaries_of (word_rules self.entry) (utf16 input.now) }
         ensures source { (word_finder result ≡ word_rules self.entry) × (words_source result ≡ record { place = 0; units = input.now }) }
         ensures cover { IsCover 0 (length input.now) (words_left result) }
         ensures kind { word_type result ≡ NoWord }
     {
-        segment(self, Utf16Indices::new(input))
-    }
-}
-
-/// The words of what is left of a text.
-fn segment<'data, 's, Y: RuleBreakType<'s>>(
-    segmenter: WordSegmenterBorrowed<'data>,
-    text: Y::IterAttr,
-) -> WordBreakIterator<'data, 's, Y>
-    ensures boundaries { result.boundaries.left ≡ word_boundaries_of (word_rules segmenter.entry) (Y.IterAttr.text text) }
-    ensures source { (word_rules result.segmenter ≡ word_rules segmenter.entry) × (result.whole ≡ text) }
-    ensures cover { IsCover (start_of (Y.IterAttr.text text)) (Y.IterAttr.text text).end result.boundaries.left }
-    ensures status { result.boundaries.status ≡ 0 }
-{
-    WordBreakIterator {
-        boundaries: boundaries(segmenter.engine, segmenter.payloads, Y::fork(&text)),
-        segmenter,
-        whole: text,
-        text: PhantomData,
+        self.segment(Utf16Indices::new(input))
     }
 }

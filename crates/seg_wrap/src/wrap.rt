@@ -25,7 +25,6 @@ use crate::wrap::wrapping::{Setting, Wrapping};
 use seg_clusters::grapheme::GraphemeClusterSegmenterBorrowed;
 use seg_lines::line::{LineBreakIterator, LineSegmenterBorrowed};
 use seg_text::indices::{StrCharIndices, Utf8CharIndices};
-use seg_text::scaffold::{PotentiallyIllFormedUtf8, Utf8};
 use std::alloc::AllocError;
 use std::fmt;
 use thiserror::Error;
@@ -126,7 +125,7 @@ impl<'data> LineWrapper<'data> {
         self,
         text: &'s str,
         columns: u32,
-    ) -> BalancedParagraphs<'data, StrCharIndices<'s>, LineBreakIterator<'data, 's, Utf8>>
+    ) -> BalancedParagraphs<'data, StrCharIndices<'s>, LineBreakIterator<'data, StrCharIndices<'s>>>
         ensures { result ≡ paragraphs_of utf8 (wrapper_measure self.entry) (wrapper_rules self.entry) columns text.now }
     {
         let mut breaks = self.lines.segment_str(text);
@@ -143,7 +142,7 @@ impl<'data> LineWrapper<'data> {
     ) -> BalancedParagraphs<
         'data,
         Utf8CharIndices<'s>,
-        LineBreakIterator<'data, 's, PotentiallyIllFormedUtf8>,
+        LineBreakIterator<'data, Utf8CharIndices<'s>>,
     >
         ensures { result ≡ paragraphs_of utf8 (wrapper_measure self.entry) (wrapper_rules self.entry) columns bytes.now }
     {
@@ -197,7 +196,7 @@ impl<'s> WrappedLine<'s> {
 /// The lines of a text, wrapped to columns. After None it stays None.
 pub struct WrapIterator<'data, 's> {
     text: &'s str,
-    lines: Wrapping<'data, StrCharIndices<'s>, LineBreakIterator<'data, 's, Utf8>>,
+    lines: Wrapping<'data, StrCharIndices<'s>, LineBreakIterator<'data, StrCharIndices<'s>>>,
     ghost rest: { lines.text ≡ rest_from (start_of lines.text) (utf8 text.now) },
 }
 
@@ -296,11 +295,7 @@ impl<'s> WrappedUtf8Line<'s> {
 /// The lines of possibly ill-formed UTF-8, wrapped to columns. After None it stays None.
 pub struct WrapUtf8Iterator<'data, 's> {
     bytes: &'s [u8],
-    lines: Wrapping<
-        'data,
-        Utf8CharIndices<'s>,
-        LineBreakIterator<'data, 's, PotentiallyIllFormedUtf8>,
-    >,
+    lines: Wrapping<'data, Utf8CharIndices<'s>, LineBreakIterator<'data, Utf8CharIndices<'s>>>,
     ghost rest: { lines.text ≡ rest_from (start_of lines.text) (utf8 bytes.now) },
 }
 

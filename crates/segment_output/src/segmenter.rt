@@ -7,7 +7,8 @@ ghost use Rattle.icu_segmenter.specs.Abbreviations.{abbreviations_of};
 ghost use Rattle.icu_segmenter.specs.Boundaries.{IsCover};
 ghost use Rattle.icu_segmenter.specs.Clusters.{owned_cluster_rules, owned_sentence_rules};
 ghost use Rattle.icu_segmenter.specs.Lines.{line_rules, owned_line_rules};
-ghost use Rattle.icu_segmenter.specs.NearBoundaries.{line_feed};
+ghost use Rattle.icu_segmenter.specs.Decoding.{utf8};
+ghost use Rattle.icu_segmenter.specs.NearBoundaries.{boundaries_of_units, line_feed};
 ghost use Rattle.icu_segmenter.specs.Rules.{PartsBehind};
 ghost use Rattle.icu_segmenter.specs.ScriptWords.{script_words};
 ghost use Rattle.icu_segmenter.specs.Suppressing.{suppressing_finder};
@@ -20,6 +21,7 @@ use crate::marks::{Bare, HasMark, Marked, Ruled};
 use crate::output::{Part, print_segments};
 use crate::vocabulary::Vocabulary;
 use icu_segmenter::cursor::{Segmenter as Cursor, SegmenterOf};
+use icu_segmenter::indices::Utf8CharIndices;
 use icu_segmenter::options::{LineBreakOptions, LineBreakStrictness};
 use icu_segmenter::provider::{
     DataError, Dictionaries, LineTailoringsBorrowed, SegmenterStateMachine,
@@ -197,16 +199,23 @@ impl Segmenter {
         ensures { IsCover 0 (length text.now) (boundaries_by self.now text.now) }
     {
         match self {
-            Segmenter::Clusters(clusters) => clusters.as_borrowed().cover(text),
-            Segmenter::Words(words, _) => words.as_borrowed().cover(text),
-            Segmenter::Sentences(sentences) => sentences.as_borrowed().cover(text),
+            Segmenter::Clusters(clusters) => cover(clusters.as_borrowed(), text),
+            Segmenter::Words(words, _) => cover(words.as_borrowed(), text),
+            Segmenter::Sentences(sentences) => cover(sentences.as_borrowed(), text),
             Segmenter::Suppressing(sentences, abbreviations) => {
                 let_go(suppressing(sentences, abbreviations).segment_utf8(text))
             }
-            Segmenter::Lines(lines) => lines.as_borrowed().cover(text),
-            Segmenter::Ruled(machine, _) => anywhere(machine).cover(text),
+            Segmenter::Lines(lines) => cover(lines.as_borrowed(), text),
+            Segmenter::Ruled(machine, _) => cover(anywhere(machine), text),
         }
     }
+}
+
+// The first boundary of possibly ill-formed UTF-8 is at its start, and the last at its end.
+fn cover<'s, S: SegmenterOf<Utf8CharIndices<'s>>>(segmenter: S, text: &'s [u8])
+    ensures { IsCover 0 (length text.now) (boundaries_of_units utf8 (S.find segmenter) text.now) }
+{
+    segmenter.cover(text);
 }
 
 // What finds sentences, which go on after these abbreviations.

@@ -9,7 +9,7 @@ ghost use Rattle.seg_clusters.specs.Clusters.{cluster_rules, clusters_left};
 
 use crate::grapheme::{GraphemeClusterBreakIterator, GraphemeClusterSegmenterBorrowed};
 use crate::laws::engine;
-use seg_text::scaffold::{PotentiallyIllFormedUtf8, Utf8, Utf16};
+use seg_text::indices::{StrCharIndices, Utf8CharIndices, Utf16Indices};
 
 /// Law: a list of code points has exactly one list of boundaries, in code points: the first is at its start, and each
 /// other one comes from the first stretch of what is left. Such a stretch is the machine's pick, or what the verdict of the
@@ -27,8 +27,8 @@ pub fn equal_code_points<'data, 's>(
     one: &'s [u8],
     other: &'s [u16],
 ) -> (
-    GraphemeClusterBreakIterator<'data, 's, PotentiallyIllFormedUtf8>,
-    GraphemeClusterBreakIterator<'data, 's, Utf16>,
+    GraphemeClusterBreakIterator<'data, Utf8CharIndices<'s>>,
+    GraphemeClusterBreakIterator<'data, Utf16Indices<'s>>,
 )
     ensures one { clusters_left result.0 ≡ boundaries_of (cluster_rules segmenter.entry) (utf8 one.now) }
     ensures other { clusters_left result.1 ≡ boundaries_of (cluster_rules segmenter.entry) (utf16 other.now) }
@@ -69,8 +69,8 @@ pub fn str_and_its_bytes<'data, 's>(
     segmenter: GraphemeClusterSegmenterBorrowed<'data>,
     text: &'s str,
 ) -> (
-    GraphemeClusterBreakIterator<'data, 's, Utf8>,
-    GraphemeClusterBreakIterator<'data, 's, PotentiallyIllFormedUtf8>,
+    GraphemeClusterBreakIterator<'data, StrCharIndices<'s>>,
+    GraphemeClusterBreakIterator<'data, Utf8CharIndices<'s>>,
 )
     ensures one { clusters_left result.0 ≡ clusters_left result.1 }
     ensures boundaries { clusters_left result.0 ≡ boundaries_of (cluster_rules segmenter.entry) (utf8 text.now) }

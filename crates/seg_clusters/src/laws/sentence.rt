@@ -9,7 +9,7 @@ ghost use Rattle.seg_clusters.specs.Clusters.{sentence_rules, sentences_left};
 
 use crate::laws::engine;
 use crate::sentence::{SentenceBreakIterator, SentenceSegmenterBorrowed};
-use seg_text::scaffold::{PotentiallyIllFormedUtf8, Utf16};
+use seg_text::indices::{Utf8CharIndices, Utf16Indices};
 
 /// Law: a list of code points has exactly one list of boundaries, in code points: the first is at its start, and each
 /// other one comes from the first stretch of what is left. Such a stretch is the machine's pick, or what the verdict of the
@@ -27,8 +27,8 @@ pub fn equal_code_points<'data, 's>(
     one: &'s [u8],
     other: &'s [u16],
 ) -> (
-    SentenceBreakIterator<'data, 's, PotentiallyIllFormedUtf8>,
-    SentenceBreakIterator<'data, 's, Utf16>,
+    SentenceBreakIterator<'data, Utf8CharIndices<'s>>,
+    SentenceBreakIterator<'data, Utf16Indices<'s>>,
 )
     ensures one { sentences_left result.0 ≡ boundaries_of (sentence_rules segmenter.entry) (utf8 one.now) }
     ensures other { sentences_left result.1 ≡ boundaries_of (sentence_rules segmenter.entry) (utf16 other.now) }

@@ -4,9 +4,9 @@ ghost use Rattle.seg_clusters.specs.Clusters.{cluster_rules};
 ghost use Rattle.seg_clusters.specs.Rules.{boundaries_by};
 
 use crate::cursor::{Segmenter, SegmenterOf};
+use crate::segments::Source;
 use seg_clusters::grapheme::{GraphemeClusterBreakIterator, GraphemeClusterSegmenterBorrowed};
 use seg_clusters::laws::grapheme::parts_behind_resets;
-use seg_text::scaffold::{PotentiallyIllFormedUtf8, Utf16};
 
 impl<'data> Segmenter for GraphemeClusterSegmenterBorrowed<'data> {
     ghost find = { λ segmenter. boundaries_by (cluster_rules segmenter) };
@@ -17,18 +17,10 @@ impl<'data> Segmenter for GraphemeClusterSegmenterBorrowed<'data> {
     }
 }
 
-impl<'data, 's> SegmenterOf<&'s [u8]> for GraphemeClusterSegmenterBorrowed<'data> {
-    type Breaks = GraphemeClusterBreakIterator<'data, 's, PotentiallyIllFormedUtf8>;
+impl<'data, I: Source> SegmenterOf<I> for GraphemeClusterSegmenterBorrowed<'data> {
+    type Breaks = GraphemeClusterBreakIterator<'data, I>;
 
-    fn segment(&self, text: &'s [u8]) -> Self::Breaks {
-        self.segment_utf8(text)
-    }
-}
-
-impl<'data, 's> SegmenterOf<&'s [u16]> for GraphemeClusterSegmenterBorrowed<'data> {
-    type Breaks = GraphemeClusterBreakIterator<'data, 's, Utf16>;
-
-    fn segment(&self, text: &'s [u16]) -> Self::Breaks {
-        self.segment_utf16(text)
+    fn breaks(&self, text: I::Units) -> GraphemeClusterBreakIterator<'data, I> {
+        self.segment(I::of(text))
     }
 }

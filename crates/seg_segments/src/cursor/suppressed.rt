@@ -3,11 +3,10 @@
 ghost use Rattle.seg_segments.specs.Suppressing.{suppressing_finder};
 
 use crate::cursor::{Segmenter, SegmenterOf};
+use crate::segments::Source;
 use crate::suppress::laws::parts_behind_line_feeds;
 use crate::suppress::{SuppressedBreaks, SuppressingSegmenter};
 use seg_clusters::sentence::SentenceBreakIterator;
-use seg_text::indices::{Utf8CharIndices, Utf16Indices};
-use seg_text::scaffold::{PotentiallyIllFormedUtf8, Utf16};
 
 impl<'data> Segmenter for SuppressingSegmenter<'data> {
     ghost find = { λ segmenter. suppressing_finder segmenter };
@@ -18,22 +17,10 @@ impl<'data> Segmenter for SuppressingSegmenter<'data> {
     }
 }
 
-impl<'data, 's> SegmenterOf<&'s [u8]> for SuppressingSegmenter<'data> {
-    type Breaks = SuppressedBreaks<
-        'data,
-        SentenceBreakIterator<'data, 's, PotentiallyIllFormedUtf8>,
-        Utf8CharIndices<'s>,
-    >;
+impl<'data, I: Source> SegmenterOf<I> for SuppressingSegmenter<'data> {
+    type Breaks = SuppressedBreaks<'data, SentenceBreakIterator<'data, I>, I>;
 
-    fn segment(&self, text: &'s [u8]) -> Self::Breaks {
-        self.segment_utf8(text)
-    }
-}
-
-impl<'data, 's> SegmenterOf<&'s [u16]> for SuppressingSegmenter<'data> {
-    type Breaks = SuppressedBreaks<'data, SentenceBreakIterator<'data, 's, Utf16>, Utf16Indices<'s>>;
-
-    fn segment(&self, text: &'s [u16]) -> Self::Breaks {
-        self.segment_utf16(text)
+    fn breaks(&self, text: I::Units) -> Self::Breaks {
+        self.segment::<I>(text)
     }
 }

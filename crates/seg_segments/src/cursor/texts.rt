@@ -1,15 +1,23 @@
 //! The texts that cursors take: str, UTF-8 and UTF-16, split at a place.
 
-ghost use Rattle.std.specs.Prelude.{◌≡◌, ◌==◌, ◌<◌, ◌≤◌, List, ℕ, drop, length, slice_index, take};
+ghost use Rattle.std.specs.Prelude.{◌≡◌, ◌==◌, ◌<◌, ◌≤◌, IsTrue, drop, length, slice_index, take};
 ghost use Rattle.seg_text.specs.Decoding.{utf8, utf16};
-ghost use Rattle.seg_text.specs.Items.{Text};
+ghost use Rattle.seg_clusters.specs.Rules.{PartsBehind};
+ghost use Rattle.seg_segments.specs.NearBoundaries.{boundaries_of_units, line_feed};
 
-use crate::segments::Units;
+use crate::cursor::Segmenter;
+use crate::segments::{Source, Units};
+use seg_text::indices::{Utf8CharIndices, Utf16Indices};
 
 /// A text as cursors take it: possibly ill-formed UTF-8 or UTF-16. A line feed is one unit in it.
 pub trait CursorText: Units {
-    /// The text that stands in some units.
-    ghost decode: { List ℕ → Text };
+    /// What reads its items.
+    type Source: Source<Units = Self>;
+
+    /// Whether each text of this form may be split after its line feeds, so that each part has the boundaries that a segmenter finds
+    /// in it alone. If `false`, nothing is said.
+    fn has_parts<S: Segmenter>(segmenter: &S) -> bool
+        ensures { IsTrue result → PartsBehind (boundaries_of_units Self.Source.decode (S.find segmenter.now)) line_feed };
 
     /// Whether the unit at an index is a line feed.
     fn has_line_feed_at(self, index: usize) -> bool
@@ -24,7 +32,13 @@ pub trait CursorText: Units {
 }
 
 impl<'s> CursorText for &'s [u8] {
-    ghost decode = { utf8 };
+    type Source = Utf8CharIndices<'s>;
+
+    fn has_parts<S: Segmenter>(segmenter: &S) -> bool
+        ensures { IsTrue result → PartsBehind (boundaries_of_units utf8 (S.find segmenter.now)) line_feed }
+    {
+        segmenter.parts_behind_line_feeds()
+    }
 
     fn has_line_feed_at(self, index: usize) -> bool {
         self[index] == 0x0A
@@ -36,7 +50,13 @@ impl<'s> CursorText for &'s [u8] {
 }
 
 impl<'s> CursorText for &'s [u16] {
-    ghost decode = { utf16 };
+    type Source = Utf16Indices<'s>;
+
+    fn has_parts<S: Segmenter>(segmenter: &S) -> bool
+        ensures { IsTrue result → PartsBehind (boundaries_of_units utf16 (S.find segmenter.now)) line_feed }
+    {
+        segmenter.parts_behind_line_feeds()
+    }
 
     fn has_line_feed_at(self, index: usize) -> bool {
         self[index] == 0x0A

@@ -4,9 +4,9 @@ ghost use Rattle.seg_words.specs.Words.{word_rules};
 ghost use Rattle.seg_words.specs.WordRules.{word_boundaries_by};
 
 use crate::cursor::{Segmenter, SegmenterOf};
+use crate::segments::Source;
 use seg_words::laws::parts_behind_resets;
 use seg_words::word::{WordBreakIterator, WordSegmenterBorrowed};
-use seg_text::scaffold::{PotentiallyIllFormedUtf8, Utf16};
 
 impl<'data> Segmenter for WordSegmenterBorrowed<'data> {
     ghost find = { λ segmenter. word_boundaries_by (word_rules segmenter) };
@@ -17,18 +17,10 @@ impl<'data> Segmenter for WordSegmenterBorrowed<'data> {
     }
 }
 
-impl<'data, 's> SegmenterOf<&'s [u8]> for WordSegmenterBorrowed<'data> {
-    type Breaks = WordBreakIterator<'data, 's, PotentiallyIllFormedUtf8>;
+impl<'data, I: Source> SegmenterOf<I> for WordSegmenterBorrowed<'data> {
+    type Breaks = WordBreakIterator<'data, I>;
 
-    fn segment(&self, text: &'s [u8]) -> Self::Breaks {
-        self.segment_utf8(text)
-    }
-}
-
-impl<'data, 's> SegmenterOf<&'s [u16]> for WordSegmenterBorrowed<'data> {
-    type Breaks = WordBreakIterator<'data, 's, Utf16>;
-
-    fn segment(&self, text: &'s [u16]) -> Self::Breaks {
-        self.segment_utf16(text)
+    fn breaks(&self, text: I::Units) -> WordBreakIterator<'data, I> {
+        self.segment(I::of(text))
     }
 }

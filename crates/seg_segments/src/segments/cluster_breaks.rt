@@ -1,28 +1,14 @@
 //! The boundaries of clusters.
 
-ghost use Rattle.std.specs.Iterator.{YieldsFirst};
-ghost use Rattle.seg_text.specs.Decoding.{latin1, utf8, utf16};
 ghost use Rattle.seg_clusters.specs.Rules.{boundaries_by};
 ghost use Rattle.seg_clusters.specs.Clusters.{cluster_finder, clusters_left, clusters_source};
-ghost use Rattle.seg_segments.specs.TextSegments.{marked, nothing};
+ghost use Rattle.seg_segments.specs.TextSegments.{nothing};
 
-use crate::segments::{BreakIterator, copy_of};
+use crate::segments::{BreakIterator, Source, copy_of};
 use seg_clusters::grapheme::GraphemeClusterBreakIterator;
-use seg_text::scaffold::{Latin1, PotentiallyIllFormedUtf8, RuleBreakType, Utf8, Utf16};
 
-// The next boundary of clusters, of which nothing is said.
-#[inline(always)]
-fn next_cluster<'s, Y: RuleBreakType<'s>>(
-    clusters: &mut GraphemeClusterBreakIterator<'_, 's, Y>,
-) -> Option<(usize, ())>
-    ensures { YieldsFirst (λ s. marked nothing (clusters_left s)) clusters.old result clusters.new }
-{
-    let place = clusters.next()?;
-    Some((place, ()))
-}
-
-impl<'data, 's> BreakIterator for GraphemeClusterBreakIterator<'data, 's, Utf8> {
-    type Units = &'s str;
+impl<'data, I: Source> BreakIterator for GraphemeClusterBreakIterator<'data, I> {
+    type Units = I::Units;
 
     type Mark = ();
 
@@ -32,113 +18,20 @@ impl<'data, 's> BreakIterator for GraphemeClusterBreakIterator<'data, 's, Utf8> 
 
     ghost find = { λ clusters. boundaries_by (cluster_finder clusters) };
 
-    ghost whole = { λ clusters. (clusters_source clusters).units };
+    ghost whole = { λ clusters. I.units (clusters_source clusters) };
 
-    ghost decode = { utf8 };
+    ghost decode = { I.decode };
 
-    ghost places = { λ _ _ place. place };
+    ghost places = { I.places };
 
-    fn text(&self) -> &'s str {
-        self.source().as_str()
+    fn text(&self) -> I::Units {
+        self.source().rest()
     }
 
     #[inline(always)]
     fn next_break(&mut self) -> Option<(usize, ())> {
-        next_cluster(self)
-    }
-
-    fn fork(&self) -> Self {
-        copy_of(self)
-    }
-}
-
-impl<'data, 's> BreakIterator
-    for GraphemeClusterBreakIterator<'data, 's, PotentiallyIllFormedUtf8> {
-    type Units = &'s [u8];
-
-    type Mark = ();
-
-    ghost mark = { nothing };
-
-    ghost left = { λ clusters. clusters_left clusters };
-
-    ghost find = { λ clusters. boundaries_by (cluster_finder clusters) };
-
-    ghost whole = { λ clusters. (clusters_source clusters).units };
-
-    ghost decode = { utf8 };
-
-    ghost places = { λ _ _ _. tt };
-
-    fn text(&self) -> &'s [u8] {
-        self.source().as_slice()
-    }
-
-    #[inline(always)]
-    fn next_break(&mut self) -> Option<(usize, ())> {
-        next_cluster(self)
-    }
-
-    fn fork(&self) -> Self {
-        copy_of(self)
-    }
-}
-
-impl<'data, 's> BreakIterator for GraphemeClusterBreakIterator<'data, 's, Latin1> {
-    type Units = &'s [u8];
-
-    type Mark = ();
-
-    ghost mark = { nothing };
-
-    ghost left = { λ clusters. clusters_left clusters };
-
-    ghost find = { λ clusters. boundaries_by (cluster_finder clusters) };
-
-    ghost whole = { λ clusters. (clusters_source clusters).units };
-
-    ghost decode = { latin1 };
-
-    ghost places = { λ _ _ _. tt };
-
-    fn text(&self) -> &'s [u8] {
-        self.source().as_slice()
-    }
-
-    #[inline(always)]
-    fn next_break(&mut self) -> Option<(usize, ())> {
-        next_cluster(self)
-    }
-
-    fn fork(&self) -> Self {
-        copy_of(self)
-    }
-}
-
-impl<'data, 's> BreakIterator for GraphemeClusterBreakIterator<'data, 's, Utf16> {
-    type Units = &'s [u16];
-
-    type Mark = ();
-
-    ghost mark = { nothing };
-
-    ghost left = { λ clusters. clusters_left clusters };
-
-    ghost find = { λ clusters. boundaries_by (cluster_finder clusters) };
-
-    ghost whole = { λ clusters. (clusters_source clusters).units };
-
-    ghost decode = { utf16 };
-
-    ghost places = { λ _ _ _. tt };
-
-    fn text(&self) -> &'s [u16] {
-        self.source().as_slice()
-    }
-
-    #[inline(always)]
-    fn next_break(&mut self) -> Option<(usize, ())> {
-        next_cluster(self)
+        let place = self.next()?;
+        Some((place, ()))
     }
 
     fn fork(&self) -> Self {

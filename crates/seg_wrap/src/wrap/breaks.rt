@@ -6,7 +6,7 @@ ghost use Rattle.seg_text.specs.declared.boundary.Boundary.{Boundary};
 ghost use Rattle.seg_wrap.specs.Walk.{ReadsBreak};
 
 use seg_lines::line::LineBreakIterator;
-use seg_text::scaffold::{PotentiallyIllFormedUtf8, RuleBreakType, Utf8, Utf16};
+use seg_text::cursor::Cursor;
 
 /// A place where a line may end.
 #[derive(Clone, Copy, Debug)]
@@ -31,61 +31,19 @@ pub trait Breaks: Drop {
         ensures { left result ≡ left self.now };
 }
 
-// The next break of a text in any encoding.
-fn next_line_break<'s, Y: RuleBreakType<'s>>(
-    lines: &mut LineBreakIterator<'_, 's, Y>,
-) -> Option<Break>
-    ensures { ReadsBreak (lines_left lines.old) result (lines_left lines.new) }
-{
-    let end = lines.next()?;
-    let is_mandatory = lines.is_mandatory();
-    Some(Break { end, is_mandatory })
-}
-
-// What is left of the lines, once more.
-fn copy_of<'data, 's, Y: RuleBreakType<'s>>(
-    lines: &LineBreakIterator<'data, 's, Y>,
-) -> LineBreakIterator<'data, 's, Y>
-    ensures { result ≡ lines.now }
-{
-    let Ok(copy) = lines.clone() else {
-        unreachable!()
-    };
-    copy
-}
-
-impl<'data, 's> Breaks for LineBreakIterator<'data, 's, Utf8> {
+impl<'data, I: Cursor> Breaks for LineBreakIterator<'data, I> {
     ghost left = { λ lines. lines_left lines };
 
     fn next_break(&mut self) -> Option<Break> {
-        next_line_break(self)
+        let end = self.next()?;
+        let is_mandatory = self.is_mandatory();
+        Some(Break { end, is_mandatory })
     }
 
     fn fork(&self) -> Self {
-        copy_of(self)
-    }
-}
-
-impl<'data, 's> Breaks for LineBreakIterator<'data, 's, PotentiallyIllFormedUtf8> {
-    ghost left = { λ lines. lines_left lines };
-
-    fn next_break(&mut self) -> Option<Break> {
-        next_line_break(self)
-    }
-
-    fn fork(&self) -> Self {
-        copy_of(self)
-    }
-}
-
-impl<'data, 's> Breaks for LineBreakIterator<'data, 's, Utf16> {
-    ghost left = { λ lines. lines_left lines };
-
-    fn next_break(&mut self) -> Option<Break> {
-        next_line_break(self)
-    }
-
-    fn fork(&self) -> Self {
-        copy_of(self)
+        let Ok(copy) = self.clone() else {
+            unreachable!()
+        };
+        copy
     }
 }

@@ -12,7 +12,6 @@ use crate::wrap::balanced::BalancedParagraphs;
 use crate::wrap::wrapping::Wrapping;
 use seg_lines::line::LineBreakIterator;
 use seg_text::indices::Utf16Indices;
-use seg_text::scaffold::Utf16;
 use std::alloc::AllocError;
 use std::fmt;
 
@@ -39,7 +38,7 @@ impl<'data> LineWrapper<'data> {
         self,
         units: &'s [u16],
         columns: u32,
-    ) -> BalancedParagraphs<'data, Utf16Indices<'s>, LineBreakIterator<'data, 's, Utf16>>
+    ) -> BalancedParagraphs<'data, Utf16Indices<'s>, LineBreakIterator<'data, Utf16Indices<'s>>>
         ensures { result ≡ paragraphs_of utf16 (wrapper_measure self.entry) (wrapper_rules self.entry) columns units.now }
     {
         let mut breaks = self.lines.segment_utf16(units);
@@ -84,7 +83,7 @@ impl<'s> WrappedUtf16Line<'s> {
 /// The lines of possibly ill-formed UTF-16, wrapped to columns. After None it stays None.
 pub struct WrapUtf16Iterator<'data, 's> {
     units: &'s [u16],
-    lines: Wrapping<'data, Utf16Indices<'s>, LineBreakIterator<'data, 's, Utf16>>,
+    lines: Wrapping<'data, Utf16Indices<'s>, LineBreakIterator<'data, Utf16Indices<'s>>>,
     ghost rest: { lines.text ≡ rest_from (start_of lines.text) (utf16 units.now) },
 }
 

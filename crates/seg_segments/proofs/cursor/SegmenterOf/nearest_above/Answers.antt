@@ -4,7 +4,7 @@ use Rattle.seg_segments.proofs.Nearest.{above-ended, above-found, above-passed, 
 use Rattle.seg_segments.proofs.cursor.SegmenterOf.nearest_above.Goals as goal
 
 pub loop-found-init : goal.loop-found-init
-loop-found-init g c = record { ascends = rw c.segment-breaks.ensures.boundaries (ascends _ _ _ c.segment-breaks.ensures.cover); nearest = λ nearest is. rw (← c.segment-breaks.ensures.boundaries) is }
+loop-found-init g c = record { ascends = ascends _ _ _ c.breaks-breaks.ensures.cover; nearest = λ nearest is. rw (← c.breaks-breaks.ensures.boundaries) is }
 
 pub returns-then-found-place-clause-nearest : goal.returns-then-found-place-clause-nearest
 returns-then-found-place-clause-nearest g c =

@@ -4,7 +4,7 @@ use Rattle.seg_segments.proofs.cursor.SegmenterOf.nearest_below.Goals as goal
 use Rattle.seg_segments.proofs.cursor.SegmenterOf.nearest_below.Goals.{in-Some+then-found-place, in_default}
 
 pub loop-found-init : goal.loop-found-init
-loop-found-init g c = record { ascends = rw c.segment-breaks.ensures.boundaries (ascends _ _ _ c.segment-breaks.ensures.cover); below = tt; nearest = λ nearest is. rw (← c.segment-breaks.ensures.boundaries) is }
+loop-found-init g c = record { ascends = ascends _ _ _ c.breaks-breaks.ensures.cover; below = tt; nearest = λ nearest is. rw (← c.breaks-breaks.ensures.boundaries) is }
 
 pub loop-found-preserved : goal.loop-found-preserved
 loop-found-preserved g c = record {
