@@ -11,7 +11,8 @@ ghost use Rattle.yengatomu_segmenter.specs.Finders.{GoesOnAt, find_by, marks_beh
 use crate::Found;
 use crate::loan::Loan;
 use crate::slot::Slot;
-use yengatomu_segmenter::latin1::{boundaries, marked_boundaries};
+use icu_segmenter::indices::Latin1Indices;
+use yengatomu_segmenter::texts::{boundaries, marked_boundaries};
 
 /// `yengatomu_boundaries` of Latin-1.
 #[unsafe(no_mangle)]
@@ -30,7 +31,7 @@ pub extern "C" fn yengatomu_boundaries_latin1(
 {
     match slot.lend(loan) {
         Ok(lease) => {
-            let written = boundaries(lease.get(), text, from, places);
+            let written = boundaries::<Latin1Indices<'_>>(lease.get(), text, from, places);
             Found {
                 count: written,
                 loan: lease.back(),
@@ -58,7 +59,13 @@ pub extern "C" fn yengatomu_marked_boundaries_latin1(
 {
     match slot.lend(loan) {
         Ok(lease) => {
-            let written = marked_boundaries(lease.get(), text, from, places, marks);
+            let written = marked_boundaries::<Latin1Indices<'_>>(
+                lease.get(),
+                text,
+                from,
+                places,
+                marks,
+            );
             Found {
                 count: written,
                 loan: lease.back(),

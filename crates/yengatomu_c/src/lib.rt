@@ -34,6 +34,7 @@ mod slot;
 mod utf16;
 mod versions;
 
+use icu_segmenter::indices::Utf8CharIndices;
 use icu_segmenter::provider::DataError;
 use loan::Loan;
 use slot::Slot;
@@ -156,7 +157,7 @@ pub extern "C" fn yengatomu_boundaries(
 {
     match slot.lend(loan) {
         Ok(lease) => {
-            let written = texts::boundaries(lease.get(), text, from, places);
+            let written = texts::boundaries::<Utf8CharIndices<'_>>(lease.get(), text, from, places);
             Found {
                 count: written,
                 loan: lease.back(),
@@ -185,7 +186,13 @@ pub extern "C" fn yengatomu_marked_boundaries(
 {
     match slot.lend(loan) {
         Ok(lease) => {
-            let written = texts::marked_boundaries(lease.get(), text, from, places, marks);
+            let written = texts::marked_boundaries::<Utf8CharIndices<'_>>(
+                lease.get(),
+                text,
+                from,
+                places,
+                marks,
+            );
             Found {
                 count: written,
                 loan: lease.back(),
@@ -303,7 +310,7 @@ pub extern "C" fn yengatomu_count(slot: &Slot, loan: Loan, text: &[u8]) -> Found
 {
     match slot.lend(loan) {
         Ok(lease) => {
-            let count = texts::count(lease.get(), text);
+            let count = texts::count::<Utf8CharIndices<'_>>(lease.get(), text);
             Found {
                 count,
                 loan: lease.back(),
@@ -323,7 +330,7 @@ pub extern "C" fn yengatomu_count_words(slot: &Slot, loan: Loan, text: &[u8]) ->
 {
     match slot.lend(loan) {
         Ok(lease) => {
-            let count = texts::count_words(lease.get(), text);
+            let count = texts::count_words::<Utf8CharIndices<'_>>(lease.get(), text);
             Found {
                 count,
                 loan: lease.back(),

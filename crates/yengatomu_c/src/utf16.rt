@@ -15,7 +15,8 @@ mod wrapped;
 use crate::Found;
 use crate::loan::Loan;
 use crate::slot::Slot;
-use yengatomu_segmenter::utf16::{boundaries, count, count_words, marked_boundaries};
+use icu_segmenter::indices::Utf16Indices;
+use yengatomu_segmenter::texts::{boundaries, count, count_words, marked_boundaries};
 
 /// `yengatomu_boundaries` of UTF-16.
 #[unsafe(no_mangle)]
@@ -34,7 +35,7 @@ pub extern "C" fn yengatomu_boundaries_utf16(
 {
     match slot.lend(loan) {
         Ok(lease) => {
-            let written = boundaries(lease.get(), text, from, places);
+            let written = boundaries::<Utf16Indices<'_>>(lease.get(), text, from, places);
             Found {
                 count: written,
                 loan: lease.back(),
@@ -62,7 +63,13 @@ pub extern "C" fn yengatomu_marked_boundaries_utf16(
 {
     match slot.lend(loan) {
         Ok(lease) => {
-            let written = marked_boundaries(lease.get(), text, from, places, marks);
+            let written = marked_boundaries::<Utf16Indices<'_>>(
+                lease.get(),
+                text,
+                from,
+                places,
+                marks,
+            );
             Found {
                 count: written,
                 loan: lease.back(),
@@ -82,7 +89,7 @@ pub extern "C" fn yengatomu_count_utf16(slot: &Slot, loan: Loan, text: &[u16]) -
 {
     match slot.lend(loan) {
         Ok(lease) => {
-            let count = count(lease.get(), text);
+            let count = count::<Utf16Indices<'_>>(lease.get(), text);
             Found {
                 count,
                 loan: lease.back(),
@@ -102,7 +109,7 @@ pub extern "C" fn yengatomu_count_words_utf16(slot: &Slot, loan: Loan, text: &[u
 {
     match slot.lend(loan) {
         Ok(lease) => {
-            let count = count_words(lease.get(), text);
+            let count = count_words::<Utf16Indices<'_>>(lease.get(), text);
             Found {
                 count,
                 loan: lease.back(),

@@ -9,8 +9,9 @@ ghost use Rattle.yengatomu_segmenter.specs.Finders.{GoesOnAt, LineFeedsReset, fi
 
 use crate::segmenter::{Segmenter, suppressing};
 use icu_segmenter::cursor::SegmenterOf;
+use icu_segmenter::indices::{Latin1Indices, Utf8CharIndices, Utf16Indices};
 use icu_segmenter::laws;
-use icu_segmenter::segments::BreakIterator;
+use icu_segmenter::segments::Source;
 use icu_segmenter::suppress::laws::parts_behind_line_feeds;
 
 /// Law: where line feeds reset, the boundaries of a text may go on from wherever a line begins.
@@ -18,8 +19,8 @@ pub fn goes_on(segmenter: &Segmenter, text: &[u8], from: usize)
     ensures { LineFeedsReset (finder_of segmenter.now) → BeginsLine text.now from → GoesOnAt (finder_of segmenter.now) utf8 text.now from }
 {
     parts(segmenter);
-    cover(segmenter, text);
-    cover(segmenter, front_of(text, from));
+    cover::<Utf8CharIndices<'_>>(segmenter, text);
+    cover::<Utf8CharIndices<'_>>(segmenter, front_of(text, from));
 }
 
 /// Law: so they may in UTF-16.
@@ -27,8 +28,8 @@ pub fn goes_on_utf16(segmenter: &Segmenter, text: &[u16], from: usize)
     ensures { LineFeedsReset (finder_of segmenter.now) → BeginsLine text.now from → GoesOnAt (finder_of segmenter.now) utf16 text.now from }
 {
     parts(segmenter);
-    cover_utf16(segmenter, text);
-    cover_utf16(segmenter, front_of(text, from));
+    cover::<Utf16Indices<'_>>(segmenter, text);
+    cover::<Utf16Indices<'_>>(segmenter, front_of(text, from));
 }
 
 /// Law: so they may in Latin-1.
@@ -36,8 +37,8 @@ pub fn goes_on_latin1(segmenter: &Segmenter, text: &[u8], from: usize)
     ensures { LineFeedsReset (finder_of segmenter.now) → BeginsLine text.now from → GoesOnAt (finder_of segmenter.now) latin1 text.now from }
 {
     parts(segmenter);
-    cover_latin1(segmenter, text);
-    cover_latin1(segmenter, front_of(text, from));
+    cover::<Latin1Indices<'_>>(segmenter, text);
+    cover::<Latin1Indices<'_>>(segmenter, front_of(text, from));
 }
 
 // Law: where line feeds reset, texts may be split after them.
@@ -56,74 +57,19 @@ fn parts(segmenter: &Segmenter)
 }
 
 // Law: the first boundary is at the start, and the last at the end.
-fn cover(segmenter: &Segmenter, text: &[u8])
-    ensures { IsCover 0 (length text.now) (boundaries_in (find_by (finder_of segmenter.now)) (utf8 text.now)) }
+fn cover<I: Source>(segmenter: &Segmenter, text: I::Units)
+    ensures { IsCover 0 (length (I.Units.units text)) (boundaries_in (find_by (finder_of segmenter.now)) (I.decode (I.Units.units text))) }
 {
     match segmenter {
-        Segmenter::Clusters(s) => {
-            let _ = s.as_borrowed().segment_utf8(text);
-        }
-        Segmenter::Words(s) => {
-            let _ = s.as_borrowed().segment_utf8(text);
-        }
+        Segmenter::Clusters(s) => SegmenterOf::<I>::cover(&s.as_borrowed(), text),
+        Segmenter::Words(s) => SegmenterOf::<I>::cover(&s.as_borrowed(), text),
         Segmenter::Sentences(s, known) => match known.as_ref() {
-            None => {
-                let _ = s.as_borrowed().segment_utf8(text);
-            },
-            Some(a) => suppressing(s, a).cover(text),
+            None => SegmenterOf::<I>::cover(&s.as_borrowed(), text),
+            Some(a) => SegmenterOf::<I>::cover(&suppressing(s, a), text),
         },
-        Segmenter::Lines(s, _) => {
-            let _ = s.as_borrowed().segment_utf8(text);
-        }
+        Segmenter::Lines(s, _) => SegmenterOf::<I>::cover(&s.as_borrowed(), text),
     }
 }
-
-fn cover_utf16(segmenter: &Segmenter, text: &[u16])
-    ensures { IsCover 0 (length text.now) (boundaries_in (find_by (finder_of segmenter.now)) (utf16 text.now)) }
-{
-    match segmenter {
-        Segmenter::Clusters(s) => {
-            let _ = s.as_borrowed().segment_utf16(text);
-        }
-        Segmenter::Words(s) => {
-            let _ = s.as_borrowed().segment_utf16(text);
-        }
-        Segmenter::Sentences(s, known) => match known.as_ref() {
-            None => {
-                let _ = s.as_borrowed().segment_utf16(text);
-            },
-            Some(a) => suppressing(s, a).cover(text),
-        },
-        Segmenter::Lines(s, _) => {
-            let _ = s.as_borrowed().segment_utf16(text);
-        }
-    }
-}
-
-fn cover_latin1(segmenter: &Segmenter, text: &[u8])
-    ensures { IsCover 0 (length text.now) (boundaries_in (find_by (finder_of segmenter.now)) (latin1 text.now)) }
-{
-    match segmenter {
-        Segmenter::Clusters(s) => {
-            let _ = s.as_borrowed().segment_latin1(text);
-        }
-        Segmenter::Words(s) => {
-            let _ = s.as_borrowed().segment_latin1(text);
-        }
-        Segmenter::Sentences(s, known) => match known.as_ref() {
-            None => {
-                let _ = s.as_borrowed().segment_latin1(text);
-            },
-            Some(a) => let_go(suppressing(s, a).segment_latin1(text)),
-        },
-        Segmenter::Lines(s, _) => {
-            let _ = s.as_borrowed().segment_latin1(text);
-        }
-    }
-}
-
-// Drops an iterator. Of the boundaries that abbreviations leave, that is proved in generic code alone.
-fn let_go<B: BreakIterator>(_breaks: B) {}
 
 // The first units, or all where there are fewer.
 fn front_of<T>(units: &[T], count: usize) -> &[T]

@@ -1,7 +1,7 @@
-//! What a segmenter says of possibly ill-formed UTF-8.
+//! What a segmenter says of a text, in the encoding of the cursor that reads it: possibly ill-formed UTF-8 by `Utf8CharIndices`, possibly
+//! ill-formed UTF-16 by `Utf16Indices`, and Latin-1 by `Latin1Indices`. Places are units of the text.
 
 ghost use Rattle.std.specs.Prelude.{◌≡◌, ◌+◌, ◌<◌, ◌^◌, drop, length, min};
-ghost use Rattle.icu_segmenter.specs.Decoding.{utf8};
 ghost use Rattle.icu_segmenter.specs.NearBoundaries.{IsNearestAbove, IsNearestBelow};
 ghost use Rattle.icu_segmenter.specs.Filled.{IsFilled, TakesFirst};
 ghost use Rattle.yengatomu_segmenter.specs.Finders.{finder_of, marks_behind, places_behind, places_in};
@@ -9,129 +9,119 @@ ghost use Rattle.yengatomu_segmenter.specs.Words.{word_count};
 
 use crate::buffers;
 use crate::segmenter::{Segmenter, suppressing};
-use icu_segmenter::cursor::BoundaryCursor;
+use icu_segmenter::cursor::{BoundaryCursor, CursorText, SegmenterOf};
+use icu_segmenter::segments::{Source, Units};
 
-/// What is left of some units from a place on: nothing where it is past their end.
-pub fn rest_of<T>(units: &[T], from: usize) -> &[T]
-    ensures rest { result.now ≡ drop from units.now }
-    ensures fits { from + length result.now < 2 ^ 64 }
+// Asks the segmenter that is held, of whatever kind it is.
+macro_rules! by_kind {
+    ($segmenter:expr, $held:ident => $answer:expr) => {
+        match $segmenter {
+            Segmenter::Clusters(s) => {
+                let $held = s.as_borrowed();
+                $answer
+            }
+            Segmenter::Words(s) => {
+                let $held = s.as_borrowed();
+                $answer
+            }
+            Segmenter::Sentences(s, known) => match known.as_ref() {
+                None => {
+                    let $held = s.as_borrowed();
+                    $answer
+                }
+                Some(a) => {
+                    let $held = suppressing(s, a);
+                    $answer
+                }
+            },
+            Segmenter::Lines(s, _) => {
+                let $held = s.as_borrowed();
+                $answer
+            }
+        }
+    };
+}
+
+/// What is left of a text from a place on: nothing where it is past the end.
+pub fn rest_of<T: CursorText>(text: T, from: usize) -> T
+    ensures rest { T.units result ≡ drop from (T.units text) }
+    ensures fits { from + length (T.units result) < 2 ^ 64 }
 {
-    match units.get(from..) {
-        Some(rest) => rest,
-        None => &[],
-    }
+    let (_, rest) = text.parts_at(from.min(text.len()));
+    rest
 }
 
 /// Writes the first boundaries behind a place, as many as there is room for, and returns how many.
-pub fn boundaries(segmenter: &Segmenter, text: &[u8], from: usize, places: &mut [usize]) -> usize
-    ensures { IsFilled (places_behind (finder_of segmenter.now) utf8 text.now from) places.old places.new result }
+pub fn boundaries<I: Source>(
+    segmenter: &Segmenter,
+    text: I::Units,
+    from: usize,
+    places: &mut [usize],
+) -> usize
+where
+    I::Units: CursorText,
+    ensures { IsFilled (places_behind (finder_of segmenter.now) I.decode (I.Units.units text) from) places.old places.new result }
 {
     let rest = rest_of(text, from);
-    match segmenter {
-        Segmenter::Clusters(s) => buffers::fill(s.as_borrowed().segment_utf8(rest), from, places),
-        Segmenter::Words(s) => buffers::fill(s.as_borrowed().segment_utf8(rest), from, places),
-        Segmenter::Sentences(s, known) => match known.as_ref() {
-            None => buffers::fill(s.as_borrowed().segment_utf8(rest), from, places),
-            Some(a) => buffers::fill(suppressing(s, a).segment_utf8(rest), from, places),
-        },
-        Segmenter::Lines(s, _) => buffers::fill(s.as_borrowed().segment_utf8(rest), from, places),
-    }
+    by_kind!(segmenter, held => {
+        let found = SegmenterOf::<I>::breaks(&held, rest);
+        buffers::fill(found, from, places)
+    })
 }
 
 /// Writes the first boundaries behind a place with their marks, as many as both buffers have room for, and returns how many.
-pub fn marked_boundaries(
+pub fn marked_boundaries<I: Source>(
     segmenter: &Segmenter,
-    text: &[u8],
+    text: I::Units,
     from: usize,
     places: &mut [usize],
     marks: &mut [u8],
 ) -> usize
-    ensures places { TakesFirst (min (length places.old) (length marks.old)) (places_behind (finder_of segmenter.now) utf8 text.now from) places.old places.new result }
-    ensures marks { TakesFirst (min (length places.old) (length marks.old)) (marks_behind (finder_of segmenter.now) utf8 text.now from) marks.old marks.new result }
+where
+    I::Units: CursorText,
+    ensures places { TakesFirst (min (length places.old) (length marks.old)) (places_behind (finder_of segmenter.now) I.decode (I.Units.units text) from) places.old places.new result }
+    ensures marks { TakesFirst (min (length places.old) (length marks.old)) (marks_behind (finder_of segmenter.now) I.decode (I.Units.units text) from) marks.old marks.new result }
 {
     let rest = rest_of(text, from);
+    by_kind!(segmenter, held => {
+        let found = SegmenterOf::<I>::breaks(&held, rest);
+        buffers::fill_marked(found, from, places, marks)
+    })
+}
+
+/// How many segments the text has.
+pub fn count<I: Source>(segmenter: &Segmenter, text: I::Units) -> usize
+    ensures { result + 1 ≡ length (places_in (finder_of segmenter.now) I.decode (I.Units.units text)) }
+{
+    // So there are fewer units than 2 ^ 64.
+    let _end = text.len();
+    by_kind!(segmenter, held => buffers::count(SegmenterOf::<I>::breaks(&held, text)))
+}
+
+/// How many words the text has: none by other kinds.
+pub fn count_words<I: Source>(segmenter: &Segmenter, text: I::Units) -> usize
+    ensures { result ≡ word_count (finder_of segmenter.now) I.decode (I.Units.units text) }
+{
+    // So there are fewer units than 2 ^ 64.
+    let _end = text.len();
     match segmenter {
-        Segmenter::Clusters(s) => {
-            buffers::fill_marked(s.as_borrowed().segment_utf8(rest), from, places, marks)
-        }
         Segmenter::Words(s) => {
-            buffers::fill_marked(s.as_borrowed().segment_utf8(rest), from, places, marks)
+            buffers::count_words(SegmenterOf::<I>::breaks(&s.as_borrowed(), text))
         }
-        Segmenter::Sentences(s, known) => match known.as_ref() {
-            None => {
-                buffers::fill_marked(s.as_borrowed().segment_utf8(rest), from, places, marks)
-            },
-            Some(a) => {
-                buffers::fill_marked(suppressing(s, a).segment_utf8(rest), from, places, marks)
-            },
-        },
-        Segmenter::Lines(s, _) => {
-            buffers::fill_marked(s.as_borrowed().segment_utf8(rest), from, places, marks)
-        }
+        Segmenter::Clusters(_) | Segmenter::Sentences(_, _) | Segmenter::Lines(_, _) => 0,
     }
 }
 
 /// The nearest boundary above a place.
-pub fn next(segmenter: &Segmenter, text: &[u8], place: usize) -> Option<usize>
-    ensures nearest { IsNearestAbove (places_in (finder_of segmenter.now) utf8 text.now) place result }
+pub fn next<T: CursorText>(segmenter: &Segmenter, text: T, place: usize) -> Option<usize>
+    ensures nearest { IsNearestAbove (places_in (finder_of segmenter.now) T.Source.decode (T.units text)) place result }
 {
-    match segmenter {
-        Segmenter::Clusters(s) => BoundaryCursor::of_utf8(s.as_borrowed(), text).next_boundary(
-            place,
-        ),
-        Segmenter::Words(s) => BoundaryCursor::of_utf8(s.as_borrowed(), text).next_boundary(place),
-        Segmenter::Sentences(s, known) => match known.as_ref() {
-            None => BoundaryCursor::of_utf8(s.as_borrowed(), text).next_boundary(place),
-            Some(a) => BoundaryCursor::of_utf8(suppressing(s, a), text).next_boundary(place),
-        },
-        Segmenter::Lines(s, _) => BoundaryCursor::of_utf8(s.as_borrowed(), text).next_boundary(
-            place,
-        ),
-    }
+    by_kind!(segmenter, held => BoundaryCursor::over(held, text).next_boundary(place))
 }
 
 /// The nearest boundary below a place.
-pub fn previous(segmenter: &Segmenter, text: &[u8], place: usize) -> Option<usize>
-    ensures nearest { IsNearestBelow (places_in (finder_of segmenter.now) utf8 text.now) place result }
+pub fn previous<T: CursorText>(segmenter: &Segmenter, text: T, place: usize) -> Option<usize>
+    ensures nearest { IsNearestBelow (places_in (finder_of segmenter.now) T.Source.decode (T.units text)) place result }
 {
-    match segmenter {
-        Segmenter::Clusters(s) => BoundaryCursor::of_utf8(s.as_borrowed(), text).previous_boundary(
-            place,
-        ),
-        Segmenter::Words(s) => BoundaryCursor::of_utf8(s.as_borrowed(), text).previous_boundary(
-            place,
-        ),
-        Segmenter::Sentences(s, known) => match known.as_ref() {
-            None => BoundaryCursor::of_utf8(s.as_borrowed(), text).previous_boundary(place),
-            Some(a) => BoundaryCursor::of_utf8(suppressing(s, a), text).previous_boundary(place),
-        },
-        Segmenter::Lines(s, _) => BoundaryCursor::of_utf8(s.as_borrowed(), text).previous_boundary(
-            place,
-        ),
-    }
-}
-
-/// How many segments the text has.
-pub fn count(segmenter: &Segmenter, text: &[u8]) -> usize
-    ensures { result + 1 ≡ length (places_in (finder_of segmenter.now) utf8 text.now) }
-{
-    match segmenter {
-        Segmenter::Clusters(s) => buffers::count(s.as_borrowed().segment_utf8(text)),
-        Segmenter::Words(s) => buffers::count(s.as_borrowed().segment_utf8(text)),
-        Segmenter::Sentences(s, known) => match known.as_ref() {
-            None => buffers::count(s.as_borrowed().segment_utf8(text)),
-            Some(a) => buffers::count(suppressing(s, a).segment_utf8(text)),
-        },
-        Segmenter::Lines(s, _) => buffers::count(s.as_borrowed().segment_utf8(text)),
-    }
-}
-
-/// How many words the text has: none by other kinds.
-pub fn count_words(segmenter: &Segmenter, text: &[u8]) -> usize
-    ensures { result ≡ word_count (finder_of segmenter.now) utf8 text.now }
-{
-    match segmenter {
-        Segmenter::Words(s) => buffers::count_words(s.as_borrowed().segment_utf8(text)),
-        Segmenter::Clusters(_) | Segmenter::Sentences(_, _) | Segmenter::Lines(_, _) => 0,
-    }
+    by_kind!(segmenter, held => BoundaryCursor::over(held, text).previous_boundary(place))
 }

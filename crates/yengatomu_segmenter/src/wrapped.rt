@@ -1,7 +1,7 @@
 //! Where wrapped lines end, and how wide they are.
 
 ghost use Rattle.std.specs.Prelude.{◌≡◌, ◌+◌, ◌<◌, ◌^◌, ℕ, List, [], MatchOption, drop, length, min};
-ghost use Rattle.icu_segmenter.specs.Decoding.{utf8};
+ghost use Rattle.icu_segmenter.specs.Decoding.{utf8, utf16};
 ghost use Rattle.icu_segmenter.specs.Items.{Text};
 ghost use Rattle.icu_segmenter.specs.Wrapping.{TextLine};
 ghost use Rattle.icu_segmenter.specs.Paragraphs.{GivesParagraph, ParagraphsLeft};
@@ -75,6 +75,43 @@ pub fn ends_and_widths(
     match wrapper_of(segmenter) {
         Some(wrapper) => {
             let lines = wrapper.wrap_utf8(rest_of(text, from), columns);
+            fill_both(lines, from, ends, widths)
+        }
+        None => 0,
+    }
+}
+
+/// Writes where the first lines of UTF-16 behind a place end, as many as there is room for, and returns how many.
+pub fn ends_utf16(
+    segmenter: &Segmenter,
+    text: &[u16],
+    from: usize,
+    columns: usize,
+    ends: &mut [usize],
+) -> usize
+    ensures { IsFilled (ends_from from (wrapped_behind (finder_of segmenter.now) utf16 columns text.now from)) ends.old ends.new result }
+{
+    match wrapper_of(segmenter) {
+        Some(wrapper) => fill(wrapper.wrap_utf16(rest_of(text, from), columns), from, ends),
+        None => 0,
+    }
+}
+
+/// Writes where the first lines of UTF-16 behind a place end and how wide they are, as many as both buffers have room for, and returns how many.
+pub fn ends_and_widths_utf16(
+    segmenter: &Segmenter,
+    text: &[u16],
+    from: usize,
+    columns: usize,
+    ends: &mut [usize],
+    widths: &mut [usize],
+) -> usize
+    ensures lines { TakesFirst (min (length ends.old) (length widths.old)) (ends_from from (wrapped_behind (finder_of segmenter.now) utf16 columns text.now from)) ends.old ends.new result }
+    ensures widths { TakesFirst (min (length ends.old) (length widths.old)) (widths_of (wrapped_behind (finder_of segmenter.now) utf16 columns text.now from)) widths.old widths.new result }
+{
+    match wrapper_of(segmenter) {
+        Some(wrapper) => {
+            let lines = wrapper.wrap_utf16(rest_of(text, from), columns);
             fill_both(lines, from, ends, widths)
         }
         None => 0,

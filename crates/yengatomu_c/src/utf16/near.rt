@@ -10,7 +10,7 @@ ghost use Rattle.yengatomu_segmenter.specs.Finders.{places_in};
 use crate::loan::Loan;
 use crate::slot::Slot;
 use crate::{Found, NONE};
-use yengatomu_segmenter::utf16::{next, previous};
+use yengatomu_segmenter::texts::{next, previous};
 
 /// `yengatomu_next` of UTF-16.
 #[unsafe(no_mangle)]

@@ -10,7 +10,7 @@ ghost use Rattle.yengatomu_segmenter.specs.Wrapped.{ends_from, widths_of, wrappe
 use crate::Found;
 use crate::loan::Loan;
 use crate::slot::Slot;
-use yengatomu_segmenter::utf16::{line_ends, line_ends_and_widths};
+use yengatomu_segmenter::wrapped::{ends_and_widths_utf16, ends_utf16};
 
 /// `yengatomu_wrap` of UTF-16.
 #[unsafe(no_mangle)]
@@ -29,7 +29,7 @@ pub extern "C" fn yengatomu_wrap_utf16(
 {
     match slot.lend(loan) {
         Ok(lease) => {
-            let written = line_ends(lease.get(), text, from, columns, ends);
+            let written = ends_utf16(lease.get(), text, from, columns, ends);
             Found {
                 count: written,
                 loan: lease.back(),
@@ -58,7 +58,7 @@ pub extern "C" fn yengatomu_wrap_columns_utf16(
 {
     match slot.lend(loan) {
         Ok(lease) => {
-            let written = line_ends_and_widths(lease.get(), text, from, columns, ends, widths);
+            let written = ends_and_widths_utf16(lease.get(), text, from, columns, ends, widths);
             Found {
                 count: written,
                 loan: lease.back(),

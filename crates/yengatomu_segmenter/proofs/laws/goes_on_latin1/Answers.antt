@@ -8,5 +8,5 @@ use Rattle.yengatomu_segmenter.proofs.laws.goes_on_latin1.Goals as goal
 
 pub returns : goal.returns
 returns c reset begins =
-    behind-feeds (find_by (finder_of c.args.segmenter.now)) latin1 (feeds-latin1 (find_by (finder_of c.args.segmenter.now)) (c.parts.ensures reset)) c.args.text.now c.args.from begins c.cover_latin1.ensures
-    (subst (λ (units : List ℕ). IsCover 0 (length units) (boundaries_in (find_by (finder_of c.args.segmenter.now)) (latin1 units))) c.front_of.ensures c.cover_latin1-2.ensures)
+    behind-feeds (find_by (finder_of c.args.segmenter.now)) latin1 (feeds-latin1 (find_by (finder_of c.args.segmenter.now)) (c.parts.ensures reset)) c.args.text.now c.args.from begins c.cover.ensures
+    (subst (λ (units : List ℕ). IsCover 0 (length units) (boundaries_in (find_by (finder_of c.args.segmenter.now)) (latin1 units))) c.front_of.ensures c.cover-2.ensures)

@@ -8,5 +8,5 @@ use Rattle.yengatomu_segmenter.proofs.laws.goes_on_utf16.Goals as goal
 
 pub returns : goal.returns
 returns c reset begins =
-    behind-feeds (find_by (finder_of c.args.segmenter.now)) utf16 (feeds-utf16 (find_by (finder_of c.args.segmenter.now)) (c.parts.ensures reset)) c.args.text.now c.args.from begins c.cover_utf16.ensures
-    (subst (λ (units : List ℕ). IsCover 0 (length units) (boundaries_in (find_by (finder_of c.args.segmenter.now)) (utf16 units))) c.front_of.ensures c.cover_utf16-2.ensures)
+    behind-feeds (find_by (finder_of c.args.segmenter.now)) utf16 (feeds-utf16 (find_by (finder_of c.args.segmenter.now)) (c.parts.ensures reset)) c.args.text.now c.args.from begins c.cover.ensures
+    (subst (λ (units : List ℕ). IsCover 0 (length units) (boundaries_in (find_by (finder_of c.args.segmenter.now)) (utf16 units))) c.front_of.ensures c.cover-2.ensures)
