@@ -1,5 +1,5 @@
 #!/usr/bin/env python3
-"""search.py: the tables of docs/GUIDE.md, 'Search': how fast SQLite and PostgreSQL index pages, how large the index is, and which words are found.
+"""search.py: the tables of bindings/sqlite/README.md, 'Beside other tokenizers': how fast SQLite and PostgreSQL index pages, how large the index is, and which words are found.
 
     tools/beside/search.py [TREE]
 
